@@ -4,34 +4,25 @@ use Rattle.tl_coherence.proofs.bound.Imports.{is_moving, AbstractState, kind_tak
 use Rattle.tl_coherence.proofs.bound.Imports.{packet, packets_on, message_of_kind, stepped, System, Kind, Request}
 use Rattle.tl_coherence.proofs.bound.Imports.{Acquire, Probe, ProbeAck, Release, Answer, Grant, ReleaseAck, GrantAck}
 use Rattle.tl_coherence.proofs.bound.Imports.{Packet, SimulationRelation, is_caching}
-use Rattle.std.proofs.Common.{◌≡◌, ℕ, ◌+◌, ◌-◌, ◌<◌, ◌≤◌, Bool, true, false, List, ◌∷◌, refl, sym, ap, subst}
-use Rattle.std.proofs.Common.{arith}
+use Rattle.std.proofs.Common.{◌≡◌, ℕ, ◌+◌, ◌-◌, ◌<◌, ◌≤◌, Bool, true, false, List, ◌∷◌, refl, sym, ap, subst, arith}
 use Rattle.std.specs.Prelude.{◌/◌, length, Some}
 use Rattle.tl_client.specs.statement.Endpoint.{EndConfig}
-use Rattle.tl_coherence.specs.refinement.AbstractStep.{abstract_step}
-use Rattle.tl_coherence.specs.statement.System.{terms_at}
-use Rattle.tl_coherence.proofs.bound.Beginnings.{none-more}
-use Rattle.tl_coherence.proofs.rank.RankDecreases.{stays}
-use Rattle.tl_coherence.proofs.simulation.FollowCases.{IsDelivery}
-use Rattle.tl_coherence.proofs.protocol.FollowKept.{IsReady}
-use Rattle.tl_coherence.proofs.queues.FirstToken.{IsFirst, first-token}
+use Rattle.tl_coherence.specs.{refinement.AbstractStep.abstract_step, statement.System.terms_at}
+use Rattle.tl_coherence.proofs.{bound.Beginnings.none-more, rank.RankDecreases.stays, simulation.FollowCases.IsDelivery}
+use Rattle.tl_coherence.proofs.{protocol.FollowKept.IsReady, queues.FirstToken.IsFirst, queues.FirstToken.first-token}
+use Rattle.tl_coherence.proofs.{deliveries.InvariantKept.ready-delivered, deliveries.Matching.matched-event}
+use Rattle.tl_coherence.proofs.{outstanding.Outstanding.first-moved, bound.RankOfLog.owed, bound.RankOfLog.owed-begun}
+use Rattle.tl_coherence.proofs.{bound.RankAfter.IsKeptAfter, bound.RankAfter.kept-matched}
+use Rattle.tl_coherence.proofs.{bound.RankOfReports.report-owed, bound.RankOfRequests.request-owed}
+use Rattle.tl_coherence.proofs.{rank.BeatsRemainingSums.answer_to, manager.UnwaitedRequests.next_tracker}
+use Rattle.tl_coherence.proofs.{queues.QuiescentQueues.client_below}
 use Rattle.tl_coherence.proofs.bound.PartialMessages.{grown-moved, grown-received, grown-begun}
 use Rattle.tl_coherence.proofs.deliveries.DeliverDAfter.{followed-moving, followed-still}
 use Rattle.tl_coherence.proofs.deliveries.DeliverDUnmoved.{IsUnmoved, unmoved}
-use Rattle.tl_coherence.proofs.deliveries.InvariantKept.{ready-delivered}
 use Rattle.tl_coherence.proofs.protocol.BeatsRemaining.{beats_left, taken_of, is_front}
-use Rattle.tl_coherence.proofs.deliveries.Matching.{matched-event}
-use Rattle.tl_coherence.proofs.outstanding.Outstanding.{first-moved}
-use Rattle.tl_coherence.proofs.bound.RankOfLog.{owed, owed-begun}
-use Rattle.tl_coherence.proofs.bound.RankAfter.{IsKeptAfter, kept-matched}
 use Rattle.tl_coherence.proofs.bound.RankByKind.{probe-owed, release-owed, answer-owed, release_ack-owed}
 use Rattle.tl_coherence.proofs.bound.RankByKind.{grant_ack-owed, grant-owed, acquire-owed}
-use Rattle.tl_coherence.proofs.bound.RankOfReports.{report-owed}
-use Rattle.tl_coherence.proofs.bound.RankOfRequests.{request-owed}
 use Rattle.tl_coherence.proofs.simulation.Popped.{unfinished_at, IsReceived, kind_channel}
-use Rattle.tl_coherence.proofs.rank.BeatsRemainingSums.{answer_to}
-use Rattle.tl_coherence.proofs.manager.UnwaitedRequests.{next_tracker}
-use Rattle.tl_coherence.proofs.queues.QuiescentQueues.{client_below}
 
 module _ {w : ℕ} (config : Config) (log : Log w) (h : AbstractState w) (width : IsWidth w)
     (matched : SimulationRelation config log h.mail h.request h.state (system_after config log)) where

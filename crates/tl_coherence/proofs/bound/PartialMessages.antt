@@ -10,15 +10,12 @@ use Rattle.tl_manager.specs.statement.Offer as manager_offer
 use Rattle.tl_manager.specs.statement.Reaction.{reaction}
 use Rattle.tl_coherence.specs.statement.Step.{Step, is_to_client}
 use Rattle.tl_coherence.specs.statement.System.{same_channel, terms_at}
-use Rattle.tl_coherence.proofs.bound.Beginnings.{IsBegun}
-use Rattle.tl_coherence.proofs.links.FifoOfChannels.{on_it}
-use Rattle.tl_coherence.proofs.links.HeadsOfLinks.{first-of}
+use Rattle.tl_coherence.proofs.{bound.Beginnings.IsBegun, links.FifoOfChannels.on_it, links.HeadsOfLinks.first-of}
+use Rattle.tl_coherence.proofs.{queues.Tokens.same_number, queues.Steps.same_channel-refl}
 use Rattle.tl_coherence.proofs.queues.Landed.{IsOn, landed-client, rests-manager, rests-ended}
 use Rattle.tl_coherence.proofs.deliveries.ManagersAfter.{IsAtManager, at-manager}
 use Rattle.tl_coherence.proofs.simulation.Moved.{IsTakenByClient, client-moves, client-heard}
 use Rattle.tl_coherence.proofs.simulation.Popped.{unfinished_at, IsReceived, elsewhere}
-use Rattle.tl_coherence.proofs.queues.Tokens.{same_number}
-use Rattle.tl_coherence.proofs.queues.Steps.{same_channel-refl}
 
 -- The receiver of channel ch of client c's link has this beat too, and the others have what they had.
 abbrev pub IsGrown : {w : ℕ} → ℕ → Channel → Beat w → System w → System w → Type 0

@@ -4,16 +4,13 @@ use Rattle.tl_coherence.proofs.bound.Imports.{system_after, rank, State, AccessM
 use Rattle.tl_coherence.proofs.bound.Imports.{SimulationRelation, is_caching}
 use Rattle.std.proofs.Common.{◌≡◌, ℕ, ◌+◌, ◌*◌, ◌/◌, ◌<◌, ◌≤◌, Bool, true, false, List, ◌∷◌, refl, sym, ◌∙◌, arith, ◌⊎◌}
 use Rattle.std.proofs.Common.{inl, inr}
-use Rattle.std.specs.Prelude.{◌==◌, length}
-use Rattle.std.proofs.lemmas.Bool.{cases_eq}
+use Rattle.std.{specs.Prelude.◌==◌, specs.Prelude.length, proofs.lemmas.Bool.cases_eq}
 use Rattle.tl_coherence.specs.bound.Rank.{open_requests, open_releases}
-use Rattle.tl_coherence.proofs.bound.Beginnings.{IsBegun, beat-falls}
-use Rattle.tl_coherence.proofs.queues.FirstToken.{IsFirst, first-token}
-use Rattle.tl_coherence.proofs.protocol.BeatsRemaining.{beats_left}
-use Rattle.tl_coherence.proofs.simulation.Popped.{unfinished_at, are-clients}
+use Rattle.tl_coherence.proofs.{bound.Beginnings.IsBegun, bound.Beginnings.beat-falls, queues.FirstToken.IsFirst}
+use Rattle.tl_coherence.proofs.{queues.FirstToken.first-token, protocol.BeatsRemaining.beats_left}
+use Rattle.tl_coherence.proofs.{simulation.Popped.unfinished_at, simulation.Popped.are-clients}
+use Rattle.tl_coherence.proofs.{queues.Tokens.same_number, rank.Weights.IsLeft, rank.Weights.potential-few}
 use Rattle.tl_coherence.proofs.rank.BeatsRemainingSums.{answer_to, is-left, wide-block}
-use Rattle.tl_coherence.proofs.queues.Tokens.{same_number}
-use Rattle.tl_coherence.proofs.rank.Weights.{IsLeft, potential-few}
 
 abbrev pub owed : {w : ℕ} → Config → AccessMessages w → State (List ℕ) → System w → ℕ
 owed {w} config mail s sys = rank config (64 / w) (beats_left mail s (unfinished_at sys)) (answer_to mail) s

@@ -1,39 +1,30 @@
 -- What is owed in a world falls as the last beat of a report is taken.
 use Rattle.tl_coherence.proofs.bound.Imports.{IsWidth, Message, MessageA, Config, Report, AbstractState, kind_taken}
 use Rattle.tl_coherence.proofs.bound.Imports.{IsInvariant, Log, system_after, ProbeAnswered, Service, Free, Waits}
-use Rattle.tl_coherence.proofs.bound.Imports.{GrantSent, GrantTaken, Block, packet, view, ended_block}
-use Rattle.tl_coherence.proofs.bound.Imports.{report_taken, System, ProbeAck, Packet, SimulationRelation, is_caching}
+use Rattle.tl_coherence.proofs.bound.Imports.{GrantSent, GrantTaken, Block, packet, view, ended_block, report_taken}
+use Rattle.tl_coherence.proofs.bound.Imports.{System, ProbeAck, Packet, SimulationRelation, is_caching, Channel}
 use Rattle.std.proofs.Common.{◌≡◌, ℕ, ◌+◌, ◌<◌, ◌≤◌, Bool, true, false, List, ◌∷◌, refl, subst}
 use Rattle.std.specs.Prelude.{◌==◌, if◌then◌else◌, length}
-use Rattle.tl_beat.specs.declared.channel.Channel.TheVariants as channel
 use Rattle.tl_coherence.specs.refinement.AbstractStep.{last_taken, granted_after, performs, answers, some_below}
 use Rattle.tl_coherence.specs.refinement.AbstractStep.{with_state}
-use Rattle.tl_coherence.specs.protocol.Invariant.{IsWell}
+use Rattle.tl_coherence.specs.{protocol.Invariant.IsWell, protocol.PhaseSteps.is_granted_data}
+use Rattle.tl_coherence.specs.{refinement.PacketMessages.report_told, refinement.SourceRelation.IsFor}
 use Rattle.tl_coherence.specs.protocol.Phase.{AcquirePhase, NoAcquire, AcquireOpen}
-use Rattle.tl_coherence.specs.protocol.PhaseSteps.{is_granted_data}
 use Rattle.tl_coherence.specs.protocol.Protocol as protocol
-use Rattle.tl_coherence.specs.refinement.PacketMessages.{report_told}
-use Rattle.tl_coherence.specs.refinement.SourceRelation.{IsFor}
-use Rattle.tl_coherence.proofs.deliveries.LandedReports.{ended-bytes}
-use Rattle.tl_coherence.proofs.deliveries.CarriedRequests.{answer_on_d}
-use Rattle.tl_coherence.proofs.manager.Choices.{plain-past}
-use Rattle.tl_coherence.proofs.bound.EventDecreases.{shown-first}
+use Rattle.tl_coherence.proofs.{deliveries.LandedReports.ended-bytes, deliveries.CarriedRequests.answer_on_d}
+use Rattle.tl_coherence.proofs.{manager.Choices.plain-past, bound.EventDecreases.shown-first}
+use Rattle.tl_coherence.proofs.{protocol.RequestsKept.settled_all, manager.ManagerAfter.others_probed}
+use Rattle.tl_coherence.proofs.{deliveries.LastReportDelivered.seen_apart, manager.ManagerSettles.gift_after}
+use Rattle.tl_coherence.proofs.{bound.RankOfLog.owed, simulation.Popped.IsReceived, queues.Tokens.same_number}
+use Rattle.tl_coherence.proofs.{queues.Tokens.set-same, rank.RankParts.serving-use}
 use Rattle.tl_coherence.proofs.queues.Facts.{answered_other, is_other, own_wants}
-use Rattle.tl_coherence.proofs.protocol.RequestsKept.{settled_all}
-use Rattle.tl_coherence.proofs.manager.ManagerAfter.{others_probed}
-use Rattle.tl_coherence.proofs.deliveries.LastReportDelivered.{seen_apart}
-use Rattle.tl_coherence.proofs.manager.ManagerSettles.{gift_after}
-use Rattle.tl_coherence.proofs.bound.RankOfLog.{owed}
 use Rattle.tl_coherence.proofs.bound.RankAfter.{IsKeptAfter, report_taken-owed, report_answers-owed, report_grants-owed}
-use Rattle.tl_coherence.proofs.simulation.Popped.{IsReceived}
-use Rattle.tl_coherence.proofs.queues.Tokens.{same_number, set-same}
 use Rattle.tl_coherence.proofs.protocol.BothParts.{answered-is, taken-unseen, granted-unseen}
-use Rattle.tl_coherence.proofs.rank.RankParts.{serving-use}
 
 pub report-owed : {w : ℕ} (config : Config) (log : Log w) (h : AbstractState w) (sys' : System w) (tracker c n : ℕ)
     (rest : List Packet) → IsWidth w
     → SimulationRelation config log h.mail h.request h.state (system_after config log) → c < length config.clients.items
-    → (h.state.link c).c ≡ packet ProbeAck n ∷ rest → IsReceived c channel.C (system_after config log) sys'
+    → (h.state.link c).c ≡ packet ProbeAck n ∷ rest → IsReceived c Channel.C (system_after config log) sys'
     → IsKeptAfter config (kind_taken config tracker c ProbeAck n rest h).mail
     (kind_taken config tracker c ProbeAck n rest h).state
     → owed config (kind_taken config tracker c ProbeAck n rest h).mail
@@ -61,7 +52,7 @@ report-owed {w} config log h sys' tracker c n rest width matched lt first receiv
     Kept z = IsKeptAfter config z.mail z.state
 
     answered : (b.pair c).probing ≡ ProbeAnswered r
-    answered = answered-is (b.pair c).probing (shown-first (is_caching config) channel.C c ProbeAck n rest h.state inv
+    answered = answered-is (b.pair c).probing (shown-first (is_caching config) Channel.C c ProbeAck n rest h.state inv
         refl first)
 
     seen : is_other (view b.service c) ≡ true

@@ -10,26 +10,23 @@ use Rattle.std.proofs.Common.{◌≡◌, ℕ, zero, suc, ◌+◌, ◌<◌, ◌�
 use Rattle.std.proofs.Common.{inl, inr}
 use Rattle.std.specs.Prelude.{if◌then◌else◌, length}
 use Rattle.std.proofs.lemmas.Bool.{cases_eq, ne_eqb}
-use Rattle.tl_params.specs.declared.perm.Perm.TheVariants as perm
 use Rattle.tl_params.specs.statement.Param.{report_at}
 use Rattle.tl_rules.specs.statement.Conformance.{same_perm}
-use Rattle.tl_coherence.specs.protocol.Invariant.{serves_of, is_serving}
+use Rattle.tl_coherence.specs.{protocol.Invariant.serves_of, protocol.Invariant.is_serving, bound.Rank.total}
+use Rattle.tl_coherence.specs.{protocol.Protocol.reported_block}
 use Rattle.tl_coherence.specs.protocol.PhaseSteps.{after_probe, after_report, after_grant_sent}
-use Rattle.tl_coherence.specs.bound.Rank.{total}
-use Rattle.tl_coherence.specs.protocol.Protocol.{reported_block}
-use Rattle.tl_coherence.proofs.queues.Channels.{IsShowing}
+use Rattle.tl_coherence.proofs.{queues.Channels.IsShowing, protocol.BeatsRemaining.IsPopped}
+use Rattle.tl_coherence.proofs.{protocol.BeatsRemaining.beats_left, rank.Weights.IsLeft}
 use Rattle.tl_coherence.proofs.rank.Frames.{IsBlockNoMore, let-stays, unserved-stays}
-use Rattle.tl_coherence.proofs.protocol.BeatsRemaining.{IsPopped, beats_left}
 use Rattle.tl_coherence.proofs.rank.RankParts.{AreClients, pair-falls, request-falls}
 use Rattle.tl_coherence.proofs.queues.Tokens.{same_number, set-same, set-other, set-part}
-use Rattle.tl_coherence.proofs.rank.Weights.{IsLeft}
 
 -- ---- one client's pair
 
 probed-less : (size l l' : ℕ) (recorded : Perm) (k : Cap) (r : Report)
-    → (same_perm recorded perm.Trunk ≡ false → l' ≤ 1) → l' ≤ size
+    → (same_perm recorded Perm.Trunk ≡ false → l' ≤ 1) → l' ≤ size
     → probing_weight size l' recorded (ProbeAnswered r) + 1 ≤ probing_weight size l recorded (ProbeSent k)
-probed-less size l l' recorded k r one few = go (same_perm recorded perm.Trunk) one
+probed-less size l l' recorded k r one few = go (same_perm recorded Perm.Trunk) one
   where
     go : (b : Bool) → (b ≡ false → l' ≤ 1) → l' + 1 ≤ 1 + (if b then size else 1)
     go true h = omega (arith, few)
@@ -122,7 +119,7 @@ module _ {w : ℕ} (config : Config) (caching : ℕ → Bool) (n : ℕ) (moves :
       is_pair = own_at (after_probe k was) pairs
 
       less : (p : ClientBlock) → p ≡ after_probe k was
-          → (is_unprobed p.probing ≡ false → same_perm p.recorded perm.Trunk ≡ false → left' c ProbeAck n ≤ 1)
+          → (is_unprobed p.probing ≡ false → same_perm p.recorded Perm.Trunk ≡ false → left' c ProbeAck n ≤ 1)
           → pair_weight size left' n c p + 1 ≤ pair_weight size left n c ((s.block n).pair c)
       less p e reports =
           rw (e, sent) (probed-less size (left c ProbeAck n) (left' c ProbeAck n) was.recorded k

@@ -10,17 +10,15 @@ use Rattle.std.proofs.lemmas.Bool.{cases_eq, ne_eqb}
 use Rattle.tl_coherence.specs.protocol.Phase.{Idle}
 use Rattle.tl_coherence.specs.protocol.PhaseSteps.{after_served, after_grant_sent}
 use Rattle.tl_coherence.specs.protocol.Protocol.{performed_block, served_block, served_pair}
-use Rattle.tl_coherence.proofs.queues.Channels.{IsShowing}
+use Rattle.tl_coherence.proofs.{queues.Channels.IsShowing, protocol.BeatsRemaining.IsPopped}
+use Rattle.tl_coherence.proofs.{protocol.BeatsRemaining.beats_left, rank.RankParts.AreClients}
+use Rattle.tl_coherence.proofs.{rank.RankParts.request-falls, protocol.QuiescentProtocol.serves_another}
+use Rattle.tl_coherence.proofs.{queues.Sums.total-le, queues.Tokens.same_number, queues.Tokens.set-part}
+use Rattle.tl_coherence.proofs.{queues.Facts.is_other}
 use Rattle.tl_coherence.proofs.rank.Frames.{IsBlockNoMore, acquire-stays, let-stays, pair-stays, unserved-stays}
 use Rattle.tl_coherence.proofs.rank.Frames.{wants-used}
-use Rattle.tl_coherence.proofs.protocol.BeatsRemaining.{IsPopped, beats_left}
-use Rattle.tl_coherence.proofs.rank.RankParts.{AreClients, request-falls}
 use Rattle.tl_coherence.proofs.bound.ReportDecreases.{is_for_access, nobody-serving}
-use Rattle.tl_coherence.proofs.protocol.QuiescentProtocol.{serves_another}
-use Rattle.tl_coherence.proofs.queues.Sums.{total-le}
-use Rattle.tl_coherence.proofs.queues.Tokens.{same_number, set-part}
 use Rattle.tl_coherence.proofs.rank.Weights.{IsLeft, probes-few, probes-fewer}
-use Rattle.tl_coherence.proofs.queues.Facts.{is_other}
 
 -- a client whose own Acquire is in service isn't probed for it
 owner_quiet : (caching : ℕ → Bool) (s : State (List ℕ)) (n r : ℕ) → IsInvariant caching s

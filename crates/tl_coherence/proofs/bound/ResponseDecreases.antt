@@ -9,35 +9,31 @@ use Rattle.tl_coherence.proofs.bound.Imports.{AccessMessages, Acquire, Grant, Pr
 use Rattle.std.proofs.Common.{◌≡◌, ℕ, ◌+◌, ◌<◌, ◌≤◌, Bool, true, false, List, refl, sym, ◌∙◌, ap, arith, ◌⊎◌, inl, inr}
 use Rattle.std.specs.Prelude.{◌==◌, if◌then◌else◌, Some, None, length}
 use Rattle.std.proofs.lemmas.Bool.{cases_eq, ne_eqb, eqb-true}
-use Rattle.tl_params.specs.declared.param.Prune.TheVariants as prune
-use Rattle.tl_params.specs.declared.perm.Perm.TheVariants as perm
 use Rattle.tl_params.specs.statement.Param.{prune_right}
 use Rattle.tl_rules.specs.statement.Conformance.{same_perm}
 use Rattle.tl_coherence.specs.protocol.Invariant.{acquires_of, acquires_with}
 use Rattle.tl_coherence.specs.protocol.Phase.{Acknowledging, GrantedOther}
 use Rattle.tl_coherence.specs.protocol.PhaseSteps.{after_release_taken, after_release_ack, after_grant}
 use Rattle.tl_coherence.specs.protocol.Protocol.{let_go_block, freed_block}
-use Rattle.tl_coherence.proofs.queues.Channels.{IsShowing}
-use Rattle.tl_coherence.proofs.rank.RankDecreases.{owed_use, owed_use'}
+use Rattle.tl_coherence.proofs.{queues.Channels.IsShowing, rank.RankDecreases.owed_use, rank.RankDecreases.owed_use'}
+use Rattle.tl_coherence.proofs.{queues.Phases.and_right, queues.Sums.total-le}
 use Rattle.tl_coherence.proofs.rank.Frames.{IsBlockNoMore, acquire-stays, let-stays, pair-stays, unserved-stays}
 use Rattle.tl_coherence.proofs.rank.Frames.{wants-used, report-here}
 use Rattle.tl_coherence.proofs.protocol.BeatsRemaining.{IsPopped, beats_left, left-same}
 use Rattle.tl_coherence.proofs.rank.RankParts.{AreClients, request-falls, release-falls, acknowledged-falls}
 use Rattle.tl_coherence.proofs.rank.RankParts.{granted-falls, block-same}
-use Rattle.tl_coherence.proofs.queues.Phases.{and_right}
 use Rattle.tl_coherence.proofs.bound.ReportDecreases.{nobody-serving, is_for_access}
-use Rattle.tl_coherence.proofs.queues.Sums.{total-le}
 use Rattle.tl_coherence.proofs.queues.Tokens.{same_number, set-same, set-other, set-part}
 
 -- who has released is no longer recorded as the writer
-pruned : (r : Prune) → same_perm (prune_right r) perm.Trunk ≡ false
-pruned prune.TtoB = refl
+pruned : (r : Prune) → same_perm (prune_right r) Perm.Trunk ≡ false
+pruned Prune.TtoB = refl
 pruned r = refl
 
 pruned-weight : (size l l' : ℕ) (recorded : Perm) (r : Prune) (x : ProbePhase) → 1 ≤ size → ((a : ℕ) → l' ≤ l)
     → probing_weight size l' (prune_right r) x ≤ probing_weight size l recorded x
 pruned-weight size l l' recorded r NoProbe some le = omega arith
-pruned-weight size l l' recorded r (ProbeSent k) some le = rw (pruned r) (go (same_perm recorded perm.Trunk))
+pruned-weight size l l' recorded r (ProbeSent k) some le = rw (pruned r) (go (same_perm recorded Perm.Trunk))
   where
     go : (b : Bool) → 2 ≤ 1 + (if b then size else 1)
     go true = omega (arith, some)

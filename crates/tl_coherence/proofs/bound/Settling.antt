@@ -5,25 +5,18 @@ use Rattle.std.proofs.Common.{◌≡◌, ℕ, zero, suc, ◌+◌, ◌≤◌, Boo
 use Rattle.std.proofs.Common.{refl, sym, ◌∙◌, ap, subst, arith}
 use Rattle.std.specs.Prelude.{All, if◌then◌else◌, filter}
 use Rattle.std.proofs.lemmas.List.Elements.{All-head, All-tail}
-use Rattle.tl_manager.proofs.blocks.Placing.{limits}
-use Rattle.tl_coherence.specs.declared.event.Event.{Event}
-use Rattle.tl_coherence.specs.declared.event.Event.TheVariants.{Ask}
-use Rattle.tl_coherence.specs.declared.event.Outcome.{Outcome}
+use Rattle.tl_manager.{proofs.blocks.Placing.limits, specs.laws.Pending.one_if}
+use Rattle.tl_coherence.specs.{declared.event.Event.Event, declared.event.Event.TheVariants.Ask}
+use Rattle.tl_coherence.specs.{declared.event.Outcome.Outcome, statement.Headline.AreTyped, statement.Headline.IsGiven}
+use Rattle.tl_coherence.specs.{statement.Load.load, statement.Log.IsLog}
 use Rattle.tl_coherence.specs.statement.Draining.{is_delivery, beats_moved, IsDrained}
-use Rattle.tl_coherence.specs.statement.Headline.{AreTyped, IsGiven}
-use Rattle.tl_coherence.specs.statement.Load.{load}
-use Rattle.tl_coherence.specs.statement.Log.{IsLog}
 use Rattle.tl_coherence.specs.statement.Movable.{next_delivery, drained, with_delivery}
-use Rattle.tl_manager.specs.laws.Pending.{one_if}
-use Rattle.tl_coherence.proofs.outstanding.Counted.{load-open}
-use Rattle.tl_coherence.proofs.links.FromInvariant.{matched-given, stalls}
+use Rattle.tl_coherence.proofs.{outstanding.Counted.load-open, links.FromInvariant.matched-given}
+use Rattle.tl_coherence.proofs.{links.FromInvariant.stalls, deliveries.Matching.shadow}
+use Rattle.tl_coherence.proofs.{outstanding.Movement.none-outstanding, bound.RankOfLog.owed, bound.RankOfLog.owed-few}
+use Rattle.tl_coherence.proofs.{outstanding.Progress.counted, outstanding.Progress.moving, links.Stalling.movable-moves}
+use Rattle.tl_coherence.proofs.{queues.QuiescentQueues.next-movable}
 use Rattle.tl_coherence.proofs.bound.DeliveriesDecrease.{moving-owed, still-owed}
-use Rattle.tl_coherence.proofs.deliveries.Matching.{shadow}
-use Rattle.tl_coherence.proofs.outstanding.Movement.{none-outstanding}
-use Rattle.tl_coherence.proofs.bound.RankOfLog.{owed, owed-few}
-use Rattle.tl_coherence.proofs.outstanding.Progress.{counted, moving}
-use Rattle.tl_coherence.proofs.links.Stalling.{movable-moves}
-use Rattle.tl_coherence.proofs.queues.QuiescentQueues.{next-movable}
 
 -- ---- what is owed after a log
 

@@ -12,27 +12,19 @@ use Rattle.tl_coherence.proofs.client.Imports.{Request, Acquire, Probe, ProbeAck
 use Rattle.tl_coherence.proofs.client.Imports.{GrantAck, Packet, set_at, SimulationRelation}
 use Rattle.std.proofs.Common.{◌≡◌, subst, ℕ, Bool, true, false, not, ◌&&◌, List, ◌∷◌, Option, Some, None, length, refl}
 use Rattle.std.proofs.Common.{sym, ◌∙◌, ap, ◌⊎◌, inl, inr}
-use Rattle.std.specs.Prelude.{◌==◌, ◌%◌, if◌then◌else◌}
-use Rattle.std.proofs.lemmas.Bool.{cases_eq}
+use Rattle.std.{specs.Prelude.◌==◌, specs.Prelude.◌%◌, specs.Prelude.if◌then◌else◌, proofs.lemmas.Bool.cases_eq}
 use Rattle.tl_beat.specs.declared.opcode.OpA.{OpA}
-use Rattle.tl_beat.specs.declared.opcode.OpA.TheVariants as a
-use Rattle.tl_beat.specs.declared.opcode.OpD.TheVariants as opd
-use Rattle.tl_burst.specs.declared.message.Message.TheVariants as message
 use Rattle.tl_rules.specs.statement.Effect as memory
 use Rattle.tl_rules.specs.statement.Effect.{Memory, effect, answer_of, as_payload, bytes_from, byte_count}
-use Rattle.tl_client.specs.declared.operation.Op.TheVariants as op
-use Rattle.tl_client.specs.declared.reply.Reply.TheVariants as reply
 use Rattle.tl_client.specs.statement.Send.{access}
 use Rattle.tl_manager.specs.statement.Handing.{access_answer, no_payload}
 use Rattle.tl_manager.specs.statement.Service.{is_access_answer}
 use Rattle.tl_coherence.specs.refinement.AbstractStep as follow
-use Rattle.tl_coherence.specs.refinement.AbstractStep.{bytes_at}
-use Rattle.tl_coherence.specs.protocol.Protocol.{written}
-use Rattle.tl_coherence.specs.refinement.SourceRelation.{IsFor}
+use Rattle.tl_coherence.specs.{refinement.AbstractStep.bytes_at, protocol.Protocol.written}
+use Rattle.tl_coherence.specs.{refinement.SourceRelation.IsFor}
 use Rattle.tl_coherence.specs.refinement.SimulationRelation.{IsAnswer, IsAnswered, IsServedWith}
-use Rattle.tl_coherence.proofs.client.Aside.{set_at-else, set_at-other}
-use Rattle.tl_coherence.proofs.protocol.Heads.{asked-first}
-use Rattle.tl_coherence.proofs.queues.Tokens.{set_at-same}
+use Rattle.tl_coherence.proofs.{client.Aside.set_at-else, client.Aside.set_at-other, protocol.Heads.asked-first}
+use Rattle.tl_coherence.proofs.{queues.Tokens.set_at-same}
 
 abbrev pub AreAnswered : {w : ℕ} → AccessMessages w → State (List ℕ) → Type 0
 AreAnswered mail s = (c source : ℕ) → IsAnswered source (mail.request c source) (mail.answer c source) (s.uses c source)
@@ -41,7 +33,7 @@ AreAnswered mail s = (c source : ℕ) → IsAnswered source (mail.request c sour
 
 -- the message is an answer to a request of this opcode, with the source and size of m
 IsAnswerTo : {w : ℕ} → OpA → MessageA w → Message w → Type 0
-IsAnswerTo {w} o m y = (x : MessageD w) × (y ≡ message.D x) × (is_access_answer x.opcode ≡ true)
+IsAnswerTo {w} o m y = (x : MessageD w) × (y ≡ Message.D x) × (is_access_answer x.opcode ≡ true)
     × (answers x.opcode o ≡ true) × (x.source ≡ m.source) × (x.size ≡ m.size)
 
 abbrev pub answer_message : {w : ℕ} → OpD → List ℕ → MessageA w → MessageD w
@@ -59,45 +51,45 @@ answer_message opcode payload m = record {
 }
 
 answer_kind : {w : ℕ} (o : OpA) (m : MessageA w) (f : Memory) → is_acquire o ≡ false
-    → IsAnswerTo o m (access_answer m (answer_of (message.A m) (memory.access_result o m f)))
+    → IsAnswerTo o m (access_answer m (answer_of (Message.A m) (memory.access_result o m f)))
 unfolding IsAnswerTo
-answer_kind a.PutFullData m f e = (answer_message opd.AccessAck no_payload m, refl, refl, refl, refl, refl)
-answer_kind a.PutPartialData m f e = (answer_message opd.AccessAck no_payload m, refl, refl, refl, refl, refl)
-answer_kind {w} a.ArithmeticData m f e = (
-  answer_message opd.AccessAckData (as_payload (m.address % w) (bytes_from f m.address (byte_count m))) m,
+answer_kind OpA.PutFullData m f e = (answer_message OpD.AccessAck no_payload m, refl, refl, refl, refl, refl)
+answer_kind OpA.PutPartialData m f e = (answer_message OpD.AccessAck no_payload m, refl, refl, refl, refl, refl)
+answer_kind {w} OpA.ArithmeticData m f e = (
+  answer_message OpD.AccessAckData (as_payload (m.address % w) (bytes_from f m.address (byte_count m))) m,
   refl,
   refl,
   refl,
   refl,
   refl,
 )
-answer_kind {w} a.LogicalData m f e = (
-  answer_message opd.AccessAckData (as_payload (m.address % w) (bytes_from f m.address (byte_count m))) m,
+answer_kind {w} OpA.LogicalData m f e = (
+  answer_message OpD.AccessAckData (as_payload (m.address % w) (bytes_from f m.address (byte_count m))) m,
   refl,
   refl,
   refl,
   refl,
   refl,
 )
-answer_kind {w} a.Get m f e = (
-  answer_message opd.AccessAckData (as_payload (m.address % w) (bytes_from f m.address (byte_count m))) m,
+answer_kind {w} OpA.Get m f e = (
+  answer_message OpD.AccessAckData (as_payload (m.address % w) (bytes_from f m.address (byte_count m))) m,
   refl,
   refl,
   refl,
   refl,
   refl,
 )
-answer_kind a.Intent m f e = (answer_message opd.HintAck no_payload m, refl, refl, refl, refl, refl)
-answer_kind a.AcquireBlock m f e = absurd cc
-answer_kind a.AcquirePerm m f e = absurd cc
+answer_kind OpA.Intent m f e = (answer_message OpD.HintAck no_payload m, refl, refl, refl, refl, refl)
+answer_kind OpA.AcquireBlock m f e = absurd cc
+answer_kind OpA.AcquirePerm m f e = absurd cc
 
 -- what the manager answers to an access, whatever the bytes of its block
 pub answers-access : {w : ℕ} (source : ℕ) (m : MessageA w) (bytes : List ℕ) → is_acquire m.opcode ≡ false
-    → m.source ≡ source → IsAnswer source (message.A m) (follow.answers m bytes)
+    → m.source ≡ source → IsAnswer source (Message.A m) (follow.answers m bytes)
 unfolding effect IsAnswerTo
 answers-access {w} source m bytes access from =
     let is = answer_kind m.opcode m (bytes_at (block_at m.address) bytes) access in
-    subst (λ (y : Message w). IsAnswer source (message.A m) y) (sym is.1) (is.2, is.3, is.4 ∙ from, is.5)
+    subst (λ (y : Message w). IsAnswer source (Message.A m) y) (sym is.1) (is.2, is.3, is.4 ∙ from, is.5)
 
 -- ---- one source
 
@@ -178,32 +170,32 @@ AreAnsweredIn h = AreAnswered h.mail h.state
 
 pub answered-asked : {w : ℕ} (c : ℕ) (o : Op w) (r : Reply) (h : AbstractState w) → AreAnswered h.mail h.state
     → AreAnswered (asked c o r h).mail (asked c o r h).state
-answered-asked c (op.Load address size) r h all = all
-answered-asked c (op.Store address size value) reply.Stored h all = all
-answered-asked c (op.Store address size value) (reply.Value v) h all = all
-answered-asked c (op.Store address size value) reply.Miss h all = all
-answered-asked c (op.Store address size value) (reply.Started source) h all = all
-answered-asked c (op.Store address size value) (reply.Busy why) h all = all
-answered-asked c (op.Acquire n g) (reply.Started source) h all = answered-used c source (Acquires n) h.mail h.state
-    (asked c (op.Acquire n g) (reply.Started source) h).state refl refl all
-answered-asked c (op.Acquire n g) (reply.Value v) h all = all
-answered-asked c (op.Acquire n g) reply.Stored h all = all
-answered-asked c (op.Acquire n g) reply.Miss h all = all
-answered-asked c (op.Acquire n g) (reply.Busy why) h all = all
-answered-asked c (op.AcquireWhole n bytes) (reply.Started source) h all =
-    answered-used c source (Acquires n) h.mail h.state (asked c (op.AcquireWhole n bytes) (reply.Started source)
+answered-asked c (Op.Load address size) r h all = all
+answered-asked c (Op.Store address size value) Reply.Stored h all = all
+answered-asked c (Op.Store address size value) (Reply.Value v) h all = all
+answered-asked c (Op.Store address size value) Reply.Miss h all = all
+answered-asked c (Op.Store address size value) (Reply.Started source) h all = all
+answered-asked c (Op.Store address size value) (Reply.Busy why) h all = all
+answered-asked c (Op.Acquire n g) (Reply.Started source) h all = answered-used c source (Acquires n) h.mail h.state
+    (asked c (Op.Acquire n g) (Reply.Started source) h).state refl refl all
+answered-asked c (Op.Acquire n g) (Reply.Value v) h all = all
+answered-asked c (Op.Acquire n g) Reply.Stored h all = all
+answered-asked c (Op.Acquire n g) Reply.Miss h all = all
+answered-asked c (Op.Acquire n g) (Reply.Busy why) h all = all
+answered-asked c (Op.AcquireWhole n bytes) (Reply.Started source) h all =
+    answered-used c source (Acquires n) h.mail h.state (asked c (Op.AcquireWhole n bytes) (Reply.Started source)
     h).state refl refl all
-answered-asked c (op.AcquireWhole n bytes) (reply.Value v) h all = all
-answered-asked c (op.AcquireWhole n bytes) reply.Stored h all = all
-answered-asked c (op.AcquireWhole n bytes) reply.Miss h all = all
-answered-asked c (op.AcquireWhole n bytes) (reply.Busy why) h all = all
-answered-asked c (op.Release n r) (reply.Started source) h all = all
-answered-asked c (op.Release n r) (reply.Value v) h all = all
-answered-asked c (op.Release n r) reply.Stored h all = all
-answered-asked c (op.Release n r) reply.Miss h all = all
-answered-asked c (op.Release n r) (reply.Busy why) h all = all
-answered-asked {w} c (op.Access (message.A m)) (reply.Started source) h all =
-    let h' : AbstractState w = asked c (op.Access (message.A m)) (reply.Started source) h in
+answered-asked c (Op.AcquireWhole n bytes) (Reply.Value v) h all = all
+answered-asked c (Op.AcquireWhole n bytes) Reply.Stored h all = all
+answered-asked c (Op.AcquireWhole n bytes) Reply.Miss h all = all
+answered-asked c (Op.AcquireWhole n bytes) (Reply.Busy why) h all = all
+answered-asked c (Op.Release n r) (Reply.Started source) h all = all
+answered-asked c (Op.Release n r) (Reply.Value v) h all = all
+answered-asked c (Op.Release n r) Reply.Stored h all = all
+answered-asked c (Op.Release n r) Reply.Miss h all = all
+answered-asked c (Op.Release n r) (Reply.Busy why) h all = all
+answered-asked {w} c (Op.Access (Message.A m)) (Reply.Started source) h all =
+    let h' : AbstractState w = asked c (Op.Access (Message.A m)) (Reply.Started source) h in
     answered-at c source h.mail h'.mail h.state h'.state
     (λ d i other. (
       set_at-apart c source (access source m) h.mail.request d i other,
@@ -213,21 +205,21 @@ answered-asked {w} c (op.Access (message.A m)) (reply.Started source) h all =
     ))
     (unanswered source (h'.mail.request c source) (h'.mail.answer c source) (h'.state.uses c source)
     (ap is_unanswered (set_at-same c source Asked h.state.uses))) all
-answered-asked c (op.Access (message.A m)) (reply.Value v) h all = all
-answered-asked c (op.Access (message.A m)) reply.Stored h all = all
-answered-asked c (op.Access (message.A m)) reply.Miss h all = all
-answered-asked c (op.Access (message.A m)) (reply.Busy why) h all = all
-answered-asked c (op.Access (message.B m)) r h all = all
-answered-asked c (op.Access (message.C m)) r h all = all
-answered-asked c (op.Access (message.D m)) r h all = all
-answered-asked c (op.Access (message.E m)) r h all = all
+answered-asked c (Op.Access (Message.A m)) (Reply.Value v) h all = all
+answered-asked c (Op.Access (Message.A m)) Reply.Stored h all = all
+answered-asked c (Op.Access (Message.A m)) Reply.Miss h all = all
+answered-asked c (Op.Access (Message.A m)) (Reply.Busy why) h all = all
+answered-asked c (Op.Access (Message.B m)) r h all = all
+answered-asked c (Op.Access (Message.C m)) r h all = all
+answered-asked c (Op.Access (Message.D m)) r h all = all
+answered-asked c (Op.Access (Message.E m)) r h all = all
 
 -- ---- messages that are taken
 
 answered_request : {w : ℕ} (clients c source tracker : ℕ) (m : MessageA w) (rest : List Packet) (h : AbstractState w)
-    → h.mail.request c source ≡ message.A m
+    → h.mail.request c source ≡ Message.A m
     → is_acquire m.opcode ≡ false → m.source ≡ source → AreAnsweredIn h
-    → AreAnsweredIn (request_taken clients c source (message.A m) tracker rest h)
+    → AreAnsweredIn (request_taken clients c source (Message.A m) tracker rest h)
 answered_request {w} clients c source tracker m rest h is access from all =
     go (probes_some clients c false (cap_probed m.opcode m.param) (h.state.block n).pair) (cap_probed m.opcode m.param)
   where

@@ -9,8 +9,7 @@ use Rattle.tl_coherence.proofs.client.Imports.{report_taken, ended_block, grante
 use Rattle.tl_coherence.proofs.client.Imports.{grant_taken, let_go_block, freed_block, AccessMessages, Packet, set}
 use Rattle.tl_coherence.proofs.client.Imports.{set_at}
 use Rattle.std.proofs.Common.{◌≡◌, ℕ, Bool, true, false, List, Some, None, refl, sym, ◌∙◌, ap, inl, inr}
-use Rattle.std.specs.Prelude.{◌==◌, ◌&&◌, if◌then◌else◌}
-use Rattle.std.proofs.lemmas.Bool.{eqb-true}
+use Rattle.std.{specs.Prelude.◌==◌, specs.Prelude.◌&&◌, specs.Prelude.if◌then◌else◌, proofs.lemmas.Bool.eqb-true}
 use Rattle.tl_params.specs.declared.param.Prune.{Prune}
 use Rattle.tl_coherence.specs.protocol.PhaseSteps.{after_served, after_grant_sent, after_grant}
 use Rattle.tl_coherence.specs.protocol.Protocol.{access_asked, acquire_asked, release_asked, block_stored}

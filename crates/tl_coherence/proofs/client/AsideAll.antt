@@ -6,31 +6,23 @@ use Rattle.tl_coherence.proofs.client.Imports.{probes_some, some_below, access_t
 use Rattle.tl_coherence.proofs.client.Imports.{acquire_taken, granted_after, last_taken, ack_taken, is_whole}
 use Rattle.tl_coherence.proofs.client.Imports.{taken_by_client, kind_taken, cap_asked, IsInvariant, AcquirePhase}
 use Rattle.tl_coherence.proofs.client.Imports.{NoAcquire, AcquireOpen, is_unprobed, is_granted_data, after_report}
-use Rattle.tl_coherence.proofs.client.Imports.{Service, Waits, GrantSent, Block, SourceState}
-use Rattle.tl_coherence.proofs.client.Imports.{Asked, InService, packet, on, is_probed}
-use Rattle.tl_coherence.proofs.client.Imports.{acquire_served, acquire_granted, report_taken, cap_sent, report_told}
-use Rattle.tl_coherence.proofs.client.Imports.{prune_told, Kind, Request, Acquire, Probe, ProbeAck, Release, Answer}
-use Rattle.tl_coherence.proofs.client.Imports.{Grant, ReleaseAck, GrantAck, Packet, set, set_at}
+use Rattle.tl_coherence.proofs.client.Imports.{Service, Waits, GrantSent, Block, SourceState, Asked, InService, packet}
+use Rattle.tl_coherence.proofs.client.Imports.{on, is_probed, acquire_served, acquire_granted, report_taken, cap_sent}
+use Rattle.tl_coherence.proofs.client.Imports.{report_told, prune_told, Kind, Request, Acquire, Probe, ProbeAck}
+use Rattle.tl_coherence.proofs.client.Imports.{Release, Answer, Grant, ReleaseAck, GrantAck, Packet, set, set_at}
 use Rattle.std.proofs.Common.{◌≡◌, ℕ, Bool, true, false, not, List, ◌∷◌, Option, Some, length, refl, ◌∙◌, ap, inl}
-use Rattle.std.proofs.lemmas.Bool.{and_from}
-use Rattle.std.specs.Prelude.{◌==◌, ◌&&◌, if◌then◌else◌}
-use Rattle.tl_burst.specs.declared.message.Message.TheVariants as message
-use Rattle.tl_client.specs.declared.operation.Op.TheVariants as op
-use Rattle.tl_client.specs.declared.reply.Reply.TheVariants as reply
+use Rattle.std.{proofs.lemmas.Bool.and_from, specs.Prelude.◌==◌, specs.Prelude.◌&&◌, specs.Prelude.if◌then◌else◌}
 use Rattle.tl_client.specs.statement.Send.{access}
-use Rattle.tl_coherence.specs.refinement.AbstractStep.{answers}
+use Rattle.tl_coherence.specs.{refinement.AbstractStep.answers, protocol.Protocol.written, protocol.Tokens.shown}
 use Rattle.tl_coherence.specs.protocol.Invariant.{is_asked, serves_of, is_serving}
-use Rattle.tl_coherence.specs.protocol.Protocol.{written}
-use Rattle.tl_coherence.specs.protocol.Tokens.{shown}
 use Rattle.tl_coherence.proofs.client.Aside.{aside-access_asked, aside-acquire_asked, aside-release_asked}
 use Rattle.tl_coherence.proofs.client.Aside.{aside-block_stored, aside-access_answered, aside-acquire_granted}
 use Rattle.tl_coherence.proofs.client.Aside.{aside-acquire_served, aside-access_served, aside-probe_taken}
 use Rattle.tl_coherence.proofs.client.Aside.{aside-report_taken, aside-report_answers, aside-report_grants}
 use Rattle.tl_coherence.proofs.client.Aside.{aside-release_taken, aside-answer_taken, aside-grant_taken}
 use Rattle.tl_coherence.proofs.client.Aside.{aside-release_ack_taken, aside-grant_ack_taken}
-use Rattle.tl_coherence.proofs.client.ClientEnd.{is_access, IsAside}
-use Rattle.tl_coherence.proofs.queues.Tokens.{same_number, holds-first}
-use Rattle.tl_coherence.proofs.protocol.BothParts.{releasing-open}
+use Rattle.tl_coherence.proofs.{client.ClientEnd.is_access, client.ClientEnd.IsAside, queues.Tokens.same_number}
+use Rattle.tl_coherence.proofs.{queues.Tokens.holds-first, protocol.BothParts.releasing-open}
 
 -- the client's end is left alone
 abbrev pub Leaves : {w : ℕ} → ℕ → AbstractState w → AbstractState w → Type 0
@@ -58,7 +50,7 @@ asked_access u e = absurd cc
 leaves-request : {w : ℕ} (clients c source tracker : ℕ) (m : Message w) (rest : List Packet) (h : AbstractState w)
     (d : ℕ) → is_access (h.state.uses c source) ≡ true
     → Leaves d h (request_taken clients c source m tracker rest h)
-leaves-request {w} clients c source tracker (message.A m) rest h d access =
+leaves-request {w} clients c source tracker (Message.A m) rest h d access =
     go (probes_some clients c false (cap_probed m.opcode m.param) (h.state.block (block_at m.address)).pair)
     (cap_probed m.opcode m.param)
   where
@@ -71,10 +63,10 @@ leaves-request {w} clients c source tracker (message.A m) rest h d access =
     go : (p : Bool) (o : Option Cap) → Leaves d h (access_taken c source m tracker p o rest h)
     go true (Some k) = aside-access_served c n source tracker d k rest h.mail h.state access
     go p o = aside-access_answered c n source d (performs m) rest h.mail answered h.state access
-leaves-request clients c source tracker (message.B m) rest h d access = leaves-none d h
-leaves-request clients c source tracker (message.C m) rest h d access = leaves-none d h
-leaves-request clients c source tracker (message.D m) rest h d access = leaves-none d h
-leaves-request clients c source tracker (message.E m) rest h d access = leaves-none d h
+leaves-request clients c source tracker (Message.B m) rest h d access = leaves-none d h
+leaves-request clients c source tracker (Message.C m) rest h d access = leaves-none d h
+leaves-request clients c source tracker (Message.D m) rest h d access = leaves-none d h
+leaves-request clients c source tracker (Message.E m) rest h d access = leaves-none d h
 
 leaves-acquire : {w : ℕ} (clients : ℕ) (p : Profile) (c n tracker : ℕ) (a : AcquirePhase) (rest : List Packet)
     (h : AbstractState w) (d : ℕ) → Leaves d h (acquire_taken clients p c n a tracker rest h)
@@ -193,14 +185,14 @@ leaves-at_client config tracker c k n rest h d for ne = absurd cc
 
 pub leaves-asked : {w : ℕ} (c : ℕ) (o : Op w) (r : Reply) (h : AbstractState w) (d : ℕ) → (d ≡ c → ⊥)
     → Leaves d h (asked c o r h)
-leaves-asked c (op.Store address size value) reply.Stored h d ne =
+leaves-asked c (Op.Store address size value) Reply.Stored h d ne =
     aside-block_stored c (block_at address) d
     (copy_stored address size value ((h.state.block (block_at address)).copy c)) h.mail h.state ne
-leaves-asked c (op.Acquire n g) (reply.Started source) h d ne =
+leaves-asked c (Op.Acquire n g) (Reply.Started source) h d ne =
     aside-acquire_asked c n source d false g ((h.state.block n).waiting c) h.mail h.state ne
-leaves-asked c (op.AcquireWhole n bytes) (reply.Started source) h d ne =
+leaves-asked c (Op.AcquireWhole n bytes) (Reply.Started source) h d ne =
     aside-acquire_asked c n source d true (whole_grow ((h.state.block n).pair c).held) bytes h.mail h.state ne
-leaves-asked c (op.Release n p) (reply.Started source) h d ne = aside-release_asked c n source d p h.mail h.state ne
-leaves-asked c (op.Access (message.A m)) (reply.Started source) h d ne =
+leaves-asked c (Op.Release n p) (Reply.Started source) h d ne = aside-release_asked c n source d p h.mail h.state ne
+leaves-asked c (Op.Access (Message.A m)) (Reply.Started source) h d ne =
     aside-access_asked c source d (access source m) h.mail h.state ne
 leaves-asked c o r h d ne = leaves-none d h

@@ -2,52 +2,43 @@
 use Rattle.tl_coherence.proofs.client.Imports.{Message, MessageA, Config, RequestSource, ReleaseSource, AcquireOf}
 use Rattle.tl_coherence.proofs.client.Imports.{ReleaseOf, Level, Perm, block_at, pending, same_perm, Op, EndConfig}
 use Rattle.tl_coherence.proofs.client.Imports.{Endpoint, held_at, level_of, AbstractState, Log, AcquirePhase, NoAcquire}
-use Rattle.tl_coherence.proofs.client.Imports.{AcquireOpen, State, SourceState, SourceFree, Asked, Replied}
-use Rattle.tl_coherence.proofs.client.Imports.{Acquires, AccessMessages, acquire_of, block_message, System, terms_at}
-use Rattle.tl_coherence.proofs.client.Imports.{Acquire, SimulationRelation, is_caching, asked_by}
+use Rattle.tl_coherence.proofs.client.Imports.{AcquireOpen, State, SourceState, SourceFree, Asked, Replied, Acquires}
+use Rattle.tl_coherence.proofs.client.Imports.{AccessMessages, acquire_of, block_message, System, terms_at, Acquire}
+use Rattle.tl_coherence.proofs.client.Imports.{SimulationRelation, is_caching, asked_by, Reply}
 use Rattle.std.proofs.Common.{◌≡◌, ℕ, Bool, true, false, List, Option, Some, None, refl, sym, ◌∙◌, ap}
-use Rattle.std.specs.Prelude.{is_some}
-use Rattle.std.proofs.lemmas.Bool.{or_parts, not-false}
-use Rattle.tl_burst.specs.declared.message.Message.TheVariants as message
-use Rattle.tl_params.specs.declared.level.Level.TheVariants as level
-use Rattle.tl_params.specs.declared.perm.Perm.TheVariants as perm
+use Rattle.std.{specs.Prelude.is_some, proofs.lemmas.Bool.or_parts, proofs.lemmas.Bool.not-false}
 use Rattle.tl_params.specs.statement.Param.{grow_left, prune_left}
 use Rattle.tl_rules.specs.statement.Legality.{has_transfers}
-use Rattle.tl_client.specs.declared.busy.Busy.{Busy}
-use Rattle.tl_client.specs.declared.operation.Op.TheVariants as op
-use Rattle.tl_client.specs.declared.reply.Reply.TheVariants as reply
+use Rattle.tl_client.{specs.declared.busy.Busy.Busy, proofs.endpoint.Cases.NotBusy, proofs.endpoint.Cases.asked-cases}
+use Rattle.tl_client.{proofs.pending.Free.least_free-some}
 use Rattle.tl_client.specs.statement.Ask as ask
 use Rattle.tl_client.specs.statement.Ask.{done, store, free_request, free_release, source_or_0}
-use Rattle.tl_client.proofs.endpoint.Cases.{NotBusy, asked-cases}
-use Rattle.tl_client.proofs.pending.Free.{least_free-some}
 use Rattle.tl_coherence.specs.refinement.SimulationRelation.{IsSourced, IsAnswered, IsAnswer, is_c, asked_for}
 use Rattle.tl_coherence.specs.refinement.SimulationRelation.{block_used, first_of, request_source}
-use Rattle.tl_coherence.proofs.client.ClientDelivered.{shadow_of}
-use Rattle.tl_coherence.proofs.client.ClientEnd.{IsEnd, end-matched}
-use Rattle.tl_coherence.proofs.client.ClientTakes.{terms-are}
-use Rattle.tl_coherence.proofs.protocol.FollowKept.{IsAskable}
-use Rattle.tl_coherence.proofs.protocol.BothParts.{calm-is, kept-letting}
+use Rattle.tl_coherence.proofs.{client.ClientDelivered.shadow_of, client.ClientEnd.IsEnd, client.ClientEnd.end-matched}
+use Rattle.tl_coherence.proofs.{client.ClientTakes.terms-are, protocol.FollowKept.IsAskable, protocol.BothParts.calm-is}
+use Rattle.tl_coherence.proofs.{protocol.BothParts.kept-letting}
 
 -- ---- sources that are free
 
 -- the request of a use that isn't an Acquire is one
 is_request : {w : ℕ} → Message w → Bool
-is_request (message.A m) = true
+is_request (Message.A m) = true
 is_request _ = false
 
 sourced_request : {w : ℕ} (m : Message w) (source : ℕ) → request_source m ≡ Some source → is_request m ≡ true
 unfolding is_request
-sourced_request (message.A m) source e = refl
+sourced_request (Message.A m) source e = refl
 sourced_request m source e = absurd cc
 
 answered_request : {w : ℕ} (source : ℕ) (m x : Message w) → IsAnswer source m x → is_request m ≡ true
 unfolding is_request
-answered_request source (message.A m) x is = refl
+answered_request source (Message.A m) x is = refl
 answered_request source m x is = absurd is
 
 asks_something : {w : ℕ} (m : Message w) → is_request m ≡ true → is_some (first_of m) ≡ true
 unfolding is_request
-asks_something (message.A m) e = refl
+asks_something (Message.A m) e = refl
 asks_something m e = absurd cc
 
 pub acquires_something : (w : ℕ) (a : AcquirePhase) (source n : ℕ)
@@ -86,31 +77,31 @@ no_let (Some n) e = absurd cc
 
 pub caches : (config : Config) (c : ℕ) (l : Level) → level_of config c ≡ Some l → has_transfers l ≡ true
     → is_caching config c ≡ true
-caches config c level.C at transfers = ap is_c at
+caches config c Level.C at transfers = ap is_c at
 caches config c l at transfers = absurd cc
 
 pub swap_perms : (p q : Perm) → same_perm p q ≡ same_perm q p
-swap_perms perm.None perm.None = refl
-swap_perms perm.None perm.Branch = refl
-swap_perms perm.None perm.Trunk = refl
-swap_perms perm.Branch perm.None = refl
-swap_perms perm.Branch perm.Branch = refl
-swap_perms perm.Branch perm.Trunk = refl
-swap_perms perm.Trunk perm.None = refl
-swap_perms perm.Trunk perm.Branch = refl
-swap_perms perm.Trunk perm.Trunk = refl
+swap_perms Perm.None Perm.None = refl
+swap_perms Perm.None Perm.Branch = refl
+swap_perms Perm.None Perm.Trunk = refl
+swap_perms Perm.Branch Perm.None = refl
+swap_perms Perm.Branch Perm.Branch = refl
+swap_perms Perm.Branch Perm.Trunk = refl
+swap_perms Perm.Trunk Perm.None = refl
+swap_perms Perm.Trunk Perm.Branch = refl
+swap_perms Perm.Trunk Perm.Trunk = refl
 
 -- ---- what is started
 
 busy_may : {w : ℕ} (caching : ℕ → Bool) (c : ℕ) (o : Op w) (b : Busy) (h : AbstractState w)
-    → IsAskable caching c o (reply.Busy b) h
-busy_may caching c (op.Load address size) b h = tt
+    → IsAskable caching c o (Reply.Busy b) h
+busy_may caching c (Op.Load address size) b h = tt
 busy_may caching c o b h = tt
 
 store_may : {w : ℕ} (caching : ℕ → Bool) (c address size value : ℕ) (p : Perm) (e : Endpoint w) (h : AbstractState w)
     → p ≡ ((h.state.block (block_at address)).pair c).held
-    → IsAskable caching c (op.Store address size value) (store address size value p e).reply h
-store_may caching c address size value perm.Trunk e h is = rw (sym is) refl
+    → IsAskable caching c (Op.Store address size value) (store address size value p e).reply h
+store_may caching c address size value Perm.Trunk e h is = rw (sym is) refl
 store_may caching c address size value p e h is = tt
 
 -- what is given of a client that is asked
@@ -127,9 +118,9 @@ free_use config c source terms h e at free = at.closes source (sym (at.end.opene
 done_may : {w : ℕ} (config : Config) (c : ℕ) (terms : EndConfig) (o : Op w) (h : AbstractState w) (e : Endpoint w)
     → IsAt config c terms h e → NotBusy terms o e
     → IsAskable (is_caching config) c o (done terms o e).reply h
-done_may config c terms (op.Store address size value) h e at free = store_may (is_caching config) c address size value
+done_may config c terms (Op.Store address size value) h e at free = store_may (is_caching config) c address size value
     (held_at e (block_at address)) e h (at.end.known.held_is (block_at address))
-done_may config c terms (op.Acquire n g) h e at free =
+done_may config c terms (Op.Acquire n g) h e at free =
     let idle = or_parts (pending (AcquireOf n) e.past) (pending (ReleaseOf n) e.past) free.b2 in (
       caches config c terms.level at.level_is (not-false (has_transfers terms.level) free.b4),
       free_use config c (source_or_0 (free_request terms e.past)) terms h e at
@@ -139,16 +130,16 @@ done_may config c terms (op.Acquire n g) h e at free =
       ap (same_perm (grow_left g)) (sym (at.end.known.held_is n)) ∙ not-false (same_perm (grow_left g) (held_at e n))
           free.b3,
     )
-done_may config c terms (op.AcquireWhole n bytes) h e at free =
+done_may config c terms (Op.AcquireWhole n bytes) h e at free =
     let idle = or_parts (pending (AcquireOf n) e.past) (pending (ReleaseOf n) e.past) free.b2 in (
       caches config c terms.level at.level_is (not-false (has_transfers terms.level) free.b4),
       free_use config c (source_or_0 (free_request terms e.past)) terms h e at
           (least_free-some (λ s. pending (RequestSource s) e.past) 0 terms.sources free.b1).0,
       calm-is ((h.state.block n).pair c).acquiring (sym (at.end.known.acquires n) ∙ idle.0),
       kept-letting ((h.state.block n).pair c).letting (sym (at.end.known.releases n) ∙ idle.1),
-      ap (same_perm perm.Trunk) (sym (at.end.known.held_is n)) ∙ free.b3,
+      ap (same_perm Perm.Trunk) (sym (at.end.known.held_is n)) ∙ free.b3,
     )
-done_may config c terms (op.Release n r) h e at free =
+done_may config c terms (Op.Release n r) h e at free =
     let idle = or_parts (pending (AcquireOf n) e.past) (pending (ReleaseOf n) e.past) free.b2 in
     let source = source_or_0 (free_release terms e.past) in (
       caches config c terms.level at.level_is (not-false (has_transfers terms.level) free.b4),
@@ -161,7 +152,7 @@ done_may config c terms (op.Release n r) h e at free =
           (sym (at.end.known.held_is n))
           ∙ not-false (same_perm (prune_left r) (held_at e n)) free.b3,
     )
-done_may config c terms (op.Access (message.A m)) h e at free =
+done_may config c terms (Op.Access (Message.A m)) h e at free =
     free_use config c (source_or_0 (free_request terms e.past)) terms h e at
     (least_free-some (λ s. pending (RequestSource s) e.past) 0 terms.sources free.b1).0
 done_may config c terms o h e at free = tt

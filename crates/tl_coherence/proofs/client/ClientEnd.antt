@@ -2,18 +2,14 @@
 use Rattle.tl_coherence.proofs.client.Imports.{Beat, BeatA, Message, MessageA, a_beat_of, History, unfinished, Config}
 use Rattle.tl_coherence.proofs.client.Imports.{Grow, RequestSource, AcquireOf, ReleaseOf, is_grant, held, pending}
 use Rattle.tl_coherence.proofs.client.Imports.{request_of, same_perm, Endpoint, open_beat, acquisition, acquire_opcode}
-use Rattle.tl_coherence.proofs.client.Imports.{ClientRelation, Log, AcquireOpen, is_unreleased, Block}
-use Rattle.tl_coherence.proofs.client.Imports.{State, SourceState, SourceFree, Asked, InService, Replied, Acquires}
-use Rattle.tl_coherence.proofs.client.Imports.{is_wanting, AccessMessages, acquire_of, block_message}
-use Rattle.tl_coherence.proofs.client.Imports.{OpenSourceRelation, System, Acquire, set, SimulationRelation, asked_by}
-use Rattle.tl_coherence.proofs.client.Imports.{is_whole}
+use Rattle.tl_coherence.proofs.client.Imports.{ClientRelation, Log, AcquireOpen, is_unreleased, Block, State}
+use Rattle.tl_coherence.proofs.client.Imports.{SourceState, SourceFree, Asked, InService, Replied, Acquires, is_wanting}
+use Rattle.tl_coherence.proofs.client.Imports.{AccessMessages, acquire_of, block_message, OpenSourceRelation, System}
+use Rattle.tl_coherence.proofs.client.Imports.{Acquire, set, SimulationRelation, asked_by, is_whole, Perm}
 use Rattle.std.proofs.Common.{◌≡◌, ℕ, Bool, true, false, not, cond, List, [], ◌∷◌, Option, Some, None, refl, sym, ◌∙◌}
 use Rattle.std.proofs.Common.{ap, ◌⊎◌, inl, inr}
 use Rattle.std.specs.Prelude.{◌&&◌, ◌==◌, if◌then◌else◌}
-use Rattle.tl_beat.specs.declared.beat.Beat.TheVariants as beat
-use Rattle.tl_beat.specs.declared.channel.Channel.TheVariants as channel
-use Rattle.tl_burst.specs.declared.message.Message.TheVariants as message
-use Rattle.tl_params.specs.declared.perm.Perm.TheVariants as perm
+use Rattle.tl_beat.specs.declared.channel.Channel.{Channel}
 use Rattle.tl_rules.specs.statement.History.{asks_for}
 use Rattle.tl_client.specs.laws.Accounted as accounted
 use Rattle.tl_client.specs.laws.Accounted.{IsAccounted}
@@ -26,11 +22,11 @@ use Rattle.tl_coherence.specs.refinement.SimulationRelation.{asked_for, first_of
 
 -- The end of client c: `asked` is the first beat of the open request of each source.
 pub record IsEnd {w : ℕ} (asked : ℕ → Option (BeatA w)) (c : ℕ) (s : State (List ℕ)) (e : Endpoint w) : Type 0 where
-  pub known : ClientRelation asked (unfinished channel.D e.past) c s e.past
+  pub known : ClientRelation asked (unfinished Channel.D e.past) c s e.past
   pub opened : OpenSourceRelation asked c s e.past
   pub kept : client.IsEndpointInvariant e
   pub accounted : IsAccounted e.past
-  pub copies : (n : ℕ) → same_perm ((s.block n).pair c).held perm.None ≡ false → e.copies n ≡ Some ((s.block n).copy c)
+  pub copies : (n : ℕ) → same_perm ((s.block n).pair c).held Perm.None ≡ false → e.copies n ≡ Some ((s.block n).copy c)
   pub waiting : (n : ℕ) → is_whole ((s.block n).pair c).acquiring ≡ true → e.waiting n ≡ Some ((s.block n).waiting c)
   pub live : e.closed ≡ false
 
@@ -67,11 +63,11 @@ coming_is : {w : ℕ} (asked : ℕ → Option (BeatA w)) (n : ℕ) (rest : List 
     → ((source : ℕ) → open_beat source t ≡ asked source)
     → accounted.comes_granting n rest t ≡ comes_granting n asked rest
 coming_is asked n [] t granting opens = refl
-coming_is asked n (beat.A x ∷ rest) t granting opens = refl
-coming_is asked n (beat.B x ∷ rest) t granting opens = refl
-coming_is asked n (beat.C x ∷ rest) t granting opens = refl
-coming_is asked n (beat.E x ∷ rest) t granting opens = refl
-coming_is {w} asked n (beat.D x ∷ rest) t granting opens = go (is_grant x.opcode) refl
+coming_is asked n (Beat.A x ∷ rest) t granting opens = refl
+coming_is asked n (Beat.B x ∷ rest) t granting opens = refl
+coming_is asked n (Beat.C x ∷ rest) t granting opens = refl
+coming_is asked n (Beat.E x ∷ rest) t granting opens = refl
+coming_is {w} asked n (Beat.D x ∷ rest) t granting opens = go (is_grant x.opcode) refl
   where
     go : (b : Bool) → is_grant x.opcode ≡ b
         → (b && asks_for n (request_of x.source t)) ≡ (b && asks_for n (asked x.source))
@@ -83,7 +79,7 @@ pub known-kept : {w : ℕ} (asked : ℕ → Option (BeatA w)) (c : ℕ) (s : Sta
     → ((n : ℕ) → held n e.past ≡ ((s.block n).pair c).held)
     → ((n : ℕ) → pending (AcquireOf n) e.past ≡ is_wanting ((s.block n).pair c).acquiring)
     → ((n : ℕ) → pending (ReleaseOf n) e.past ≡ not (is_unreleased ((s.block n).pair c).letting))
-    → ((source : ℕ) → open_beat source e.past ≡ asked source) → ClientRelation asked (unfinished channel.D e.past) c s
+    → ((source : ℕ) → open_beat source e.past ≡ asked source) → ClientRelation asked (unfinished Channel.D e.past) c s
     e.past
 known-kept asked c s e well held_is acquires releases opens = record {
   held_is = held_is;
@@ -93,7 +89,7 @@ known-kept asked c s e well held_is acquires releases opens = record {
   opens = opens;
   rest_is = refl;
   sinks = well.accounted.acked.sinks;
-  grants = λ n. well.accounted.acked.acks n ∙ coming_is asked n (unfinished channel.D e.past) e.past well.kept.granting
+  grants = λ n. well.accounted.acked.acks n ∙ coming_is asked n (unfinished Channel.D e.past) e.past well.kept.granting
       opens;
 }
 
@@ -110,7 +106,7 @@ pub record IsSame {w : ℕ} (c : ℕ) (asked asked' : ℕ → Option (BeatA w)) 
 pub comes-same : {w : ℕ} (asked asked' : ℕ → Option (BeatA w)) (n : ℕ) (rest : List (Beat w))
     → ((source : ℕ) → asked' source ≡ asked source)
     → comes_granting n asked' rest ≡ comes_granting n asked rest
-comes-same asked asked' n (beat.D x ∷ rest) same = rw (same x.source) refl
+comes-same asked asked' n (Beat.D x ∷ rest) same = rw (same x.source) refl
 comes-same asked asked' n rest same = refl
 
 pub known-same : {w : ℕ} (c : ℕ) (asked asked' : ℕ → Option (BeatA w)) (rest : List (Beat w)) (s s' : State (List ℕ))
@@ -145,7 +141,7 @@ pub record IsSameCopy (c : ℕ) (s s' : State (List ℕ)) : Type 0 where
 pub end-same : {w : ℕ} (c : ℕ) (asked asked' : ℕ → Option (BeatA w)) (s s' : State (List ℕ)) (e : Endpoint w)
     → IsSame c asked asked' s s' → IsSameCopy c s s' → IsEnd asked c s e → IsEnd asked' c s' e
 end-same c asked asked' s s' e same bytes end = record {
-  known = known-same c asked asked' (unfinished channel.D e.past) s s' e.past same end.known;
+  known = known-same c asked asked' (unfinished Channel.D e.past) s s' e.past same end.known;
   opened = opened-same c asked asked' s s' e.past same end.opened;
   kept = end.kept;
   accounted = end.accounted;
@@ -199,7 +195,8 @@ asks-same {w} c source mail mail' s s' request (inr both) a b =
       access_asks (s'.uses c source) (mail'.request c source) both.1
           (block_message Acquire c (block_used (s'.uses c source)) (s'.block (block_used (s'.uses c source)))),
       request,
-      access_asks (s.uses c source) (mail.request c source) both.0 (block_message Acquire c (block_used (s.uses c source))
+      access_asks (s.uses c source) (mail.request c source) both.0
+          (block_message Acquire c (block_used (s.uses c source))
           (s.block (block_used (s.uses c source)))),
     )
 
@@ -210,7 +207,7 @@ asks-closed {w} c source mail s used = ap (λ (u : SourceState). asked_with u (m
 
 pub asks-access : {w : ℕ} (c source : ℕ) (m : MessageA w) (mail : AccessMessages w) (s : State (List ℕ))
     → is_access (s.uses c source) ≡ true
-    → mail.request c source ≡ message.A m → asked_by mail s c source ≡ Some (a_beat_of m 0)
+    → mail.request c source ≡ Message.A m → asked_by mail s c source ≡ Some (a_beat_of m 0)
 asks-access {w} c source m mail s used request =
     access_asks (s.uses c source) (mail.request c source) used (block_message Acquire c (block_used (s.uses c source))
     (s.block (block_used (s.uses c source)))) ∙ ap first_of request

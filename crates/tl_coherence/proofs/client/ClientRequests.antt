@@ -1,27 +1,20 @@
 -- A client's end after it was asked for an access or an Acquire.
-use Rattle.tl_coherence.proofs.client.Imports.{IsWidth, BeatA, MessageA, a_beat_of}
-use Rattle.tl_coherence.proofs.client.Imports.{AcquireOf, Grow, Perm, block_at, is_acquire}
-use Rattle.tl_coherence.proofs.client.Imports.{pending, same_perm}
-use Rattle.tl_coherence.proofs.client.Imports.{Endpoint, sending, acquisition, same_block}
-use Rattle.tl_coherence.proofs.client.Imports.{acquire_opcode, ClientBlock, AcquireOpen, is_unreleased}
+use Rattle.tl_coherence.proofs.client.Imports.{IsWidth, BeatA, MessageA, a_beat_of, AcquireOf, Grow, Perm, block_at}
+use Rattle.tl_coherence.proofs.client.Imports.{is_acquire, pending, same_perm, Endpoint, sending, acquisition}
+use Rattle.tl_coherence.proofs.client.Imports.{same_block, acquire_opcode, ClientBlock, AcquireOpen, is_unreleased}
 use Rattle.tl_coherence.proofs.client.Imports.{after_acquire, Block, State, Asked, Acquires, is_wanting}
-use Rattle.tl_coherence.proofs.client.Imports.{acquiring_block, AccessMessages, set_at}
-use Rattle.tl_coherence.proofs.client.Imports.{asked_by, is_whole}
-use Rattle.std.proofs.Common.{◌≡◌, ℕ, Bool, true, false, ◌&&◌, cond, List, Option, Some, refl, sym}
-use Rattle.std.proofs.Common.{◌∙◌, ap, ◌⊎◌, inl, inr}
-use Rattle.std.specs.Prelude.{◌==◌, ◌*◌}
-use Rattle.std.proofs.lemmas.Bool.{cases_eq, ne_eqb}
-use Rattle.tl_burst.specs.declared.message.Message.TheVariants as message
-use Rattle.tl_params.specs.declared.perm.Perm.TheVariants as perm
+use Rattle.tl_coherence.proofs.client.Imports.{acquiring_block, AccessMessages, set_at, asked_by, is_whole, Message}
+use Rattle.std.proofs.Common.{◌≡◌, ℕ, Bool, true, false, ◌&&◌, cond, List, Option, Some, refl, sym, ◌∙◌, ap, ◌⊎◌, inl}
+use Rattle.std.proofs.Common.{inr}
+use Rattle.std.{specs.Prelude.◌==◌, specs.Prelude.◌*◌, proofs.lemmas.Bool.cases_eq, proofs.lemmas.Bool.ne_eqb}
 use Rattle.tl_client.proofs.endpoint.HeldAfter.{swapped}
 use Rattle.tl_coherence.specs.protocol.Invariant.{acquires_of, AreNamed}
 use Rattle.tl_coherence.specs.protocol.Protocol.{access_asked, acquire_asked}
-use Rattle.tl_coherence.proofs.client.Aside.{set_at-else}
-use Rattle.tl_coherence.proofs.client.ClientEnd.{is_access, IsWellKept, IsEnd}
-use Rattle.tl_coherence.proofs.client.ClientEnd.{asks-same, asks-access, asks-acquire, column}
+use Rattle.tl_coherence.proofs.{client.Aside.set_at-else, queues.Codes.acquires-so}
+use Rattle.tl_coherence.proofs.client.ClientEnd.{is_access, IsWellKept, IsEnd, asks-same, asks-access, asks-acquire}
+use Rattle.tl_coherence.proofs.client.ClientEnd.{column}
 use Rattle.tl_coherence.proofs.client.ClientSent.{IsRequested, known-requested, opened-requested}
 use Rattle.tl_coherence.proofs.queues.Tokens.{same_number, set-same, set-other, set-part, set_at-same}
-use Rattle.tl_coherence.proofs.queues.Codes.{acquires-so}
 
 -- a condition that is known
 pub chosen : {X : Type 0} (b : Bool) (x y : X) → b ≡ true → cond b x y ≡ x
@@ -34,30 +27,30 @@ passed b x y e = rw e refl
 
 -- what each source asks for after an access is asked for
 asks_access : {w : ℕ} (c i : ℕ) (m : MessageA w) (mail : AccessMessages w) (s : State (List ℕ))
-    → asked_by (record { request = set_at c m.source (message.A m) mail.request; answer = mail.answer })
+    → asked_by (record { request = set_at c m.source (Message.A m) mail.request; answer = mail.answer })
     (access_asked c m.source s) c i ≡ cond (m.source == i)
     (Some (a_beat_of m 0)) (asked_by mail s c i)
 asks_access {w} c i m mail s = elim (cases_eq i m.source) [
   | inl same ↦ ap (asked_by mail' s' c) same ∙ asks-access c m.source m mail' s'
-      (ap is_access (set_at-same c m.source Asked s.uses)) (set_at-same c m.source (message.A m) mail.request)
+      (ap is_access (set_at-same c m.source Asked s.uses)) (set_at-same c m.source (Message.A m) mail.request)
       ∙ sym (chosen (m.source == i) (Some (a_beat_of m 0)) (asked_by mail s c i) (rw same (same_number m.source)))
-  | inr other ↦ asks-same c i mail mail' s s' (set_at-else c m.source i (message.A m) mail.request other c)
+  | inr other ↦ asks-same c i mail mail' s s' (set_at-else c m.source i (Message.A m) mail.request other c)
       (inl (set_at-else c m.source i Asked s.uses other c)) (λ n used. refl) (λ n used. refl)
       ∙ sym (passed (m.source == i) (Some (a_beat_of m 0)) (asked_by mail s c i)
       (ne_eqb m.source i (λ e. other (sym e))))
 ]
   where
     mail' : AccessMessages w
-    mail' = record { request = set_at c m.source (message.A m) mail.request; answer = mail.answer }
+    mail' = record { request = set_at c m.source (Message.A m) mail.request; answer = mail.answer }
 
     s' : State (List ℕ)
     s' = access_asked c m.source s
 
 pub end-access_asked : {w : ℕ} (c : ℕ) (m : MessageA w) (mail : AccessMessages w) (s : State (List ℕ)) (e : Endpoint w)
     → IsWidth w → is_acquire m.opcode ≡ false
-    → IsWellKept (sending (message.A m) e) → IsEnd (asked_by mail s c) c s e
-    → IsEnd (asked_by (record { request = set_at c m.source (message.A m) mail.request; answer = mail.answer })
-    (access_asked c m.source s) c) c (access_asked c m.source s) (sending (message.A m) e)
+    → IsWellKept (sending (Message.A m) e) → IsEnd (asked_by mail s c) c s e
+    → IsEnd (asked_by (record { request = set_at c m.source (Message.A m) mail.request; answer = mail.answer })
+    (access_asked c m.source s) c) c (access_asked c m.source s) (sending (Message.A m) e)
 end-access_asked {w} c m mail s e width plain kept end =
     let event : IsRequested c m (asked_by mail s c) asked' s s' =
     record {
@@ -69,7 +62,7 @@ end-access_asked {w} c m mail s e width plain kept end =
           λ source. asks_access c source m mail s;
     } in
     record {
-      known = known-requested c m (asked_by mail s c) asked' s s' e.past (sending (message.A m) e) width refl
+      known = known-requested c m (asked_by mail s c) asked' s s' e.past (sending (Message.A m) e) width refl
           end.kept.a_whole kept event end.known;
       opened = opened-requested c m (asked_by mail s c) asked' s s' e.past width end.kept.a_whole event end.opened;
       kept = kept.kept;
@@ -83,7 +76,7 @@ end-access_asked {w} c m mail s e width plain kept end =
     s' = access_asked c m.source s
 
     asked' : ℕ → Option (BeatA w)
-    asked' = asked_by (record { request = set_at c m.source (message.A m) mail.request; answer = mail.answer }) s' c
+    asked' = asked_by (record { request = set_at c m.source (Message.A m) mail.request; answer = mail.answer }) s' c
 
     same : (n : ℕ) → is_wanting ((s.block n).pair c).acquiring ≡ cond (is_acquire m.opcode && (block_at m.address == n))
         true (is_wanting ((s.block n).pair c).acquiring)
@@ -133,7 +126,7 @@ asks_acquire {w} c n source i whole g bytes mail s named calm = elim (cases_eq i
 pub end-acquire_asked : {w : ℕ} (c n source : ℕ) (whole : Bool) (g : Grow) (bytes : List ℕ) (mail : AccessMessages w)
     (s : State (List ℕ)) (e f : Endpoint w) → IsWidth w → AreNamed s
     → pending (AcquireOf n) e.past ≡ false
-    → f.past ≡ (sending (message.A (acquisition (acquire_opcode whole) g source n)) e).past → f.copies ≡ e.copies
+    → f.past ≡ (sending (Message.A (acquisition (acquire_opcode whole) g source n)) e).past → f.copies ≡ e.copies
     → f.closed ≡ e.closed
     → ((i : ℕ) → (i ≡ n → ⊥) → f.waiting i ≡ e.waiting i) → (whole ≡ true → f.waiting n ≡ Some bytes) → IsWellKept f
     → IsEnd (asked_by mail s c) c s e
@@ -161,7 +154,7 @@ end-acquire_asked {w} c n source whole g bytes mail s e f width named idle past 
       accounted = kept.accounted;
       copies = λ i some. cc (
         copies,
-        end.copies i (sym (ap (λ (p : Perm). same_perm p perm.None) (event.held i))
+        end.copies i (sym (ap (λ (p : Perm). same_perm p Perm.None) (event.held i))
             ∙ some),
         set-part (λ (b : Block (List ℕ)). b.copy c) n new s.block refl i,
       );

@@ -6,7 +6,7 @@ use Rattle.tl_coherence.proofs.client.Imports.{release_of, pending-whole, releas
 use Rattle.tl_coherence.proofs.client.Imports.{ClientRelation, is_unreleased, State, is_wanting, OpenSourceRelation}
 use Rattle.std.proofs.Common.{◌≡◌, ℕ, Bool, true, false, not, cond, List, [], Option, Some, refl, sym, ◌∙◌, ap}
 use Rattle.std.specs.Prelude.{◌==◌, ◌&&◌, is_some, option_map}
-use Rattle.tl_beat.specs.declared.channel.Channel.TheVariants as channel
+use Rattle.tl_beat.specs.declared.channel.Channel.{Channel}
 use Rattle.tl_burst.specs.declared.message.Message.TheVariants.{A, C}
 use Rattle.tl_burst.specs.statement.Burst.{c_beat_of}
 use Rattle.tl_rules.proofs.Handed.{held-whole}
@@ -27,9 +27,9 @@ pub record IsRequested {w : ℕ} (c : ℕ) (m : MessageA w) (asked asked' : ℕ 
 
 pub known-requested : {w : ℕ} (c : ℕ) (m : MessageA w) (asked asked' : ℕ → Option (BeatA w)) (s s' : State (List ℕ))
     (t : History w) (f : Endpoint w) → IsWidth w
-    → f.past ≡ sent (A m) t → unfinished channel.A t ≡ []
-    → IsWellKept f → IsRequested c m asked asked' s s' → ClientRelation asked (unfinished channel.D t) c s t
-    → ClientRelation asked' (unfinished channel.D f.past) c s' f.past
+    → f.past ≡ sent (A m) t → unfinished Channel.A t ≡ []
+    → IsWellKept f → IsRequested c m asked asked' s s' → ClientRelation asked (unfinished Channel.D t) c s t
+    → ClientRelation asked' (unfinished Channel.D f.past) c s' f.past
 known-requested {w} c m asked asked' s s' t f width past none well event known =
     let some = beats-positive (A m) width in
     known-kept asked' c s' f well
@@ -48,7 +48,7 @@ some_cond true x o = refl
 some_cond false x o = refl
 
 pub opened-requested : {w : ℕ} (c : ℕ) (m : MessageA w) (asked asked' : ℕ → Option (BeatA w)) (s s' : State (List ℕ))
-    (t : History w) → IsWidth w → unfinished channel.A t ≡ []
+    (t : History w) → IsWidth w → unfinished Channel.A t ≡ []
     → IsRequested c m asked asked' s s' → OpenSourceRelation asked c s t → OpenSourceRelation asked' c s' (sent (A m) t)
 opened-requested {w} c m asked asked' s s' t width none event open_ =
     let some = beats-positive (A m) width in
@@ -85,9 +85,9 @@ pub record IsReleased {w : ℕ} (c i : ℕ) (m : MessageC w) (p : Perm) (asked a
 
 pub known-released : {w : ℕ} (c i : ℕ) (m : MessageC w) (p : Perm) (asked asked' : ℕ → Option (BeatA w))
     (s s' : State (List ℕ)) (t : History w) (f : Endpoint w) → IsWidth w → f.past ≡ sent (C m) t
-    → unfinished channel.C t ≡ [] → ((n : ℕ) → held n (sent (C m) t) ≡ cond (n == i) p (held n t))
-    → IsWellKept f → IsReleased c i m p asked asked' s s' → ClientRelation asked (unfinished channel.D t) c s t
-    → ClientRelation asked' (unfinished channel.D f.past) c s' f.past
+    → unfinished Channel.C t ≡ [] → ((n : ℕ) → held n (sent (C m) t) ≡ cond (n == i) p (held n t))
+    → IsWellKept f → IsReleased c i m p asked asked' s s' → ClientRelation asked (unfinished Channel.D t) c s t
+    → ClientRelation asked' (unfinished Channel.D f.past) c s' f.past
 known-released {w} c i m p asked asked' s s' t f width past none left well event known =
     let some = beats-positive (C m) width in
     known-kept asked' c s' f well
@@ -104,7 +104,7 @@ known-released {w} c i m p asked asked' s s' t f width past none left well event
     opens n = rw (event.releases, event.of_block) refl
 
 pub opened-released : {w : ℕ} (c i : ℕ) (m : MessageC w) (p : Perm) (asked asked' : ℕ → Option (BeatA w))
-    (s s' : State (List ℕ)) (t : History w) → IsWidth w → unfinished channel.C t ≡ []
+    (s s' : State (List ℕ)) (t : History w) → IsWidth w → unfinished Channel.C t ≡ []
     → IsReleased c i m p asked asked' s s' → OpenSourceRelation asked c s t
     → OpenSourceRelation asked' c s' (sent (C m) t)
 opened-released {w} c i m p asked asked' s s' t width none event open_ =

@@ -1,37 +1,27 @@
 -- The clients' ends after one of them is asked, and after the manager takes a beat.
-use Rattle.tl_coherence.proofs.client.Imports.{IsWidth, Beat, MessageA, unfinished}
-use Rattle.tl_coherence.proofs.client.Imports.{Config, Op, EndConfig, Endpoint}
-use Rattle.tl_coherence.proofs.client.Imports.{AbstractState, asked, packet_taken, IsInvariant, Log}
-use Rattle.tl_coherence.proofs.client.Imports.{State, on, is_on, AccessMessages, System}
-use Rattle.tl_coherence.proofs.client.Imports.{Kind, Request, Acquire, Probe, ProbeAck, Release, Answer}
-use Rattle.tl_coherence.proofs.client.Imports.{Grant, ReleaseAck, GrantAck, Packet, SimulationRelation, is_caching}
-use Rattle.std.proofs.Common.{◌≡◌, subst, ℕ, Bool, true, false, cond, List, ◌∷◌, refl}
-use Rattle.std.proofs.Common.{sym, ◌∙◌, ap, inl, inr}
-use Rattle.std.specs.Prelude.{◌==◌, if◌then◌else◌}
-use Rattle.std.proofs.lemmas.Bool.{cases_eq, ne_eqb}
-use Rattle.tl_beat.specs.declared.beat.Link.{Link}
-use Rattle.tl_beat.specs.declared.channel.Channel.{Channel}
-use Rattle.tl_beat.specs.declared.channel.Channel.TheVariants as channel
+use Rattle.tl_coherence.proofs.client.Imports.{IsWidth, Beat, MessageA, unfinished, Config, Op, EndConfig, Endpoint}
+use Rattle.tl_coherence.proofs.client.Imports.{AbstractState, asked, packet_taken, IsInvariant, Log, State, on, is_on}
+use Rattle.tl_coherence.proofs.client.Imports.{AccessMessages, System, Kind, Request, Acquire, Probe, ProbeAck, Release}
+use Rattle.tl_coherence.proofs.client.Imports.{Answer, Grant, ReleaseAck, GrantAck, Packet, SimulationRelation}
+use Rattle.tl_coherence.proofs.client.Imports.{is_caching}
+use Rattle.std.proofs.Common.{◌≡◌, subst, ℕ, Bool, true, false, cond, List, ◌∷◌, refl, sym, ◌∙◌, ap, inl, inr}
+use Rattle.std.{specs.Prelude.◌==◌, specs.Prelude.if◌then◌else◌, proofs.lemmas.Bool.cases_eq, proofs.lemmas.Bool.ne_eqb}
+use Rattle.tl_beat.{specs.declared.beat.Link.Link, specs.declared.channel.Channel.Channel}
 use Rattle.tl_client.specs.statement.Ask as ask
 use Rattle.tl_manager.specs.statement.Service.{services, least_untaken, trackers_of}
 use Rattle.tl_manager.specs.statement.End as manager_end
 use Rattle.tl_manager.specs.statement.Offer as manager
-use Rattle.tl_coherence.specs.declared.event.Event.{Event}
+use Rattle.tl_coherence.specs.{declared.event.Event.Event, statement.Delivery.receiver, protocol.Protocol.packets_on}
 use Rattle.tl_coherence.specs.declared.event.Event.TheVariants.{Ask, Deliver}
 use Rattle.tl_coherence.specs.refinement.AbstractStep.{abstract_step_by, is_last}
-use Rattle.tl_coherence.specs.statement.Delivery.{receiver}
 use Rattle.tl_coherence.specs.protocol.Protocol as world
-use Rattle.tl_coherence.specs.protocol.Protocol.{packets_on}
-use Rattle.tl_coherence.specs.statement.Step.{Step, replied, handed_by}
-use Rattle.tl_coherence.specs.statement.Step.{manager_took, is_to_client}
+use Rattle.tl_coherence.specs.statement.Step.{Step, replied, handed_by, manager_took, is_to_client}
 use Rattle.tl_coherence.specs.statement.System.{with_client, with_channel, with_manager, with_messages}
 use Rattle.tl_coherence.proofs.client.AsideAll.{Leaves, leaves-none, leaves-asked, is_for_manager, leaves-at_manager}
-use Rattle.tl_coherence.proofs.client.ClientAsked.{IsEndOf, end-asked}
-use Rattle.tl_coherence.proofs.client.ClientDelivered.{shadow_of}
-use Rattle.tl_coherence.proofs.client.ClientEnd.{end-matched, end-aside}
-use Rattle.tl_coherence.proofs.queues.FirstToken.{IsFirst, first-token}
-use Rattle.tl_coherence.proofs.queues.Steps.{clients-with_messages}
-use Rattle.tl_coherence.proofs.queues.Tokens.{same_number}
+use Rattle.tl_coherence.proofs.{client.ClientAsked.IsEndOf, client.ClientAsked.end-asked}
+use Rattle.tl_coherence.proofs.{client.ClientDelivered.shadow_of, client.ClientEnd.end-matched}
+use Rattle.tl_coherence.proofs.{client.ClientEnd.end-aside, queues.FirstToken.IsFirst, queues.FirstToken.first-token}
+use Rattle.tl_coherence.proofs.{queues.Steps.clients-with_messages, queues.Tokens.same_number}
 
 -- all ends are those of the protocol after this step
 abbrev pub AreEnds : {w : ℕ} → Config → Event w → System w → AbstractState w → ℕ → Step w → Type 0
@@ -84,31 +74,31 @@ asked_ends {w} config log mail request s sys terms c k o width h = elim (cases_e
 
 -- the kinds of the channels to the manager, and to a client
 manager_kind : (ch : Channel) (k : Kind) → is_to_client ch ≡ false → is_on ch k ≡ true → is_for_manager k ≡ true
-manager_kind channel.A Request down on_ = refl
-manager_kind channel.A Acquire down on_ = refl
-manager_kind channel.C ProbeAck down on_ = refl
-manager_kind channel.C Release down on_ = refl
-manager_kind channel.E GrantAck down on_ = refl
+manager_kind Channel.A Request down on_ = refl
+manager_kind Channel.A Acquire down on_ = refl
+manager_kind Channel.C ProbeAck down on_ = refl
+manager_kind Channel.C Release down on_ = refl
+manager_kind Channel.E GrantAck down on_ = refl
 manager_kind ch k down on_ = absurd cc
 
 pub client_kind : (ch : Channel) (k : Kind) → is_to_client ch ≡ true → is_on ch k ≡ true → is_for_manager k ≡ false
-client_kind channel.B Probe up on_ = refl
-client_kind channel.D Answer up on_ = refl
-client_kind channel.D Grant up on_ = refl
-client_kind channel.D ReleaseAck up on_ = refl
+client_kind Channel.B Probe up on_ = refl
+client_kind Channel.D Answer up on_ = refl
+client_kind Channel.D Grant up on_ = refl
+client_kind Channel.D ReleaseAck up on_ = refl
 client_kind ch k up on_ = absurd cc
 
 -- a kind's channel is the one it is on
 pub on_same : (ch : Channel) (k : Kind) (l : world.Link) → is_on ch k ≡ true → on k l ≡ packets_on ch l
-on_same channel.A Request l is = refl
-on_same channel.A Acquire l is = refl
-on_same channel.B Probe l is = refl
-on_same channel.C ProbeAck l is = refl
-on_same channel.C Release l is = refl
-on_same channel.D Answer l is = refl
-on_same channel.D Grant l is = refl
-on_same channel.D ReleaseAck l is = refl
-on_same channel.E GrantAck l is = refl
+on_same Channel.A Request l is = refl
+on_same Channel.A Acquire l is = refl
+on_same Channel.B Probe l is = refl
+on_same Channel.C ProbeAck l is = refl
+on_same Channel.C Release l is = refl
+on_same Channel.D Answer l is = refl
+on_same Channel.D Grant l is = refl
+on_same Channel.D ReleaseAck l is = refl
+on_same Channel.E GrantAck l is = refl
 on_same ch k l is = absurd cc
 
 -- a message that the manager takes leaves all ends alone

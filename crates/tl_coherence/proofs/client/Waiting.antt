@@ -7,26 +7,19 @@ use Rattle.tl_coherence.proofs.client.Imports.{probes_some, request_taken, some_
 use Rattle.tl_coherence.proofs.client.Imports.{IsInvariant, cap_asked, ClientBlock, AcquirePhase, NoAcquire}
 use Rattle.tl_coherence.proofs.client.Imports.{AcquireOpen, is_unprobed, after_acquire, after_probe, after_release}
 use Rattle.tl_coherence.proofs.client.Imports.{after_release_ack, after_release_taken, after_report, is_granted_data}
-use Rattle.tl_coherence.proofs.client.Imports.{Service, Waits, GrantSent, Block, acquiring_block}
-use Rattle.tl_coherence.proofs.client.Imports.{freed_block, granted_at_once, granted_block, ended_block}
-use Rattle.tl_coherence.proofs.client.Imports.{acquire_granted, acquire_served, is_probed, let_block, report_taken}
-use Rattle.tl_coherence.proofs.client.Imports.{let_go_block, performed_block, probed_block, releasing_block}
-use Rattle.tl_coherence.proofs.client.Imports.{reported_block, served_block, stored_block, taken_block, view}
-use Rattle.tl_coherence.proofs.client.Imports.{acquire_of, cap_sent, prune_told, block_message, report_told, Kind}
-use Rattle.tl_coherence.proofs.client.Imports.{Request, Acquire, Probe, ProbeAck, Release, Answer, Grant, ReleaseAck}
-use Rattle.tl_coherence.proofs.client.Imports.{GrantAck, Packet, set}
-use Rattle.std.proofs.Common.{◌≡◌, ℕ, Bool, true, false, not, ◌&&◌, List, Option, Some, length, refl, sym, ◌∙◌}
-use Rattle.std.proofs.Common.{ap, subst, inl, inr}
-use Rattle.std.specs.Prelude.{◌==◌, if◌then◌else◌}
-use Rattle.std.proofs.lemmas.Bool.{cases_eq}
-use Rattle.tl_burst.specs.declared.message.Message.TheVariants as message
-use Rattle.tl_client.specs.declared.operation.Op.TheVariants as op
-use Rattle.tl_client.specs.declared.reply.Reply.TheVariants as reply
-use Rattle.tl_coherence.specs.protocol.Phase.{is_unacquired}
-use Rattle.tl_coherence.specs.protocol.PhaseSteps.{after_served}
-use Rattle.tl_coherence.specs.refinement.SimulationRelation.{IsAcquireOf}
-use Rattle.tl_coherence.proofs.queues.Facts.{own_wants}
-use Rattle.tl_coherence.proofs.protocol.FollowKept.{IsAskable}
+use Rattle.tl_coherence.proofs.client.Imports.{Service, Waits, GrantSent, Block, acquiring_block, freed_block}
+use Rattle.tl_coherence.proofs.client.Imports.{granted_at_once, granted_block, ended_block, acquire_granted}
+use Rattle.tl_coherence.proofs.client.Imports.{acquire_served, is_probed, let_block, report_taken, let_go_block}
+use Rattle.tl_coherence.proofs.client.Imports.{performed_block, probed_block, releasing_block, reported_block}
+use Rattle.tl_coherence.proofs.client.Imports.{served_block, stored_block, taken_block, view, acquire_of, cap_sent}
+use Rattle.tl_coherence.proofs.client.Imports.{prune_told, block_message, report_told, Kind, Request, Acquire, Probe}
+use Rattle.tl_coherence.proofs.client.Imports.{ProbeAck, Release, Answer, Grant, ReleaseAck, GrantAck, Packet, set}
+use Rattle.std.proofs.Common.{◌≡◌, ℕ, Bool, true, false, not, ◌&&◌, List, Option, Some, length, refl, sym, ◌∙◌, ap}
+use Rattle.std.proofs.Common.{subst, inl, inr}
+use Rattle.std.{specs.Prelude.◌==◌, specs.Prelude.if◌then◌else◌, proofs.lemmas.Bool.cases_eq}
+use Rattle.tl_coherence.specs.{protocol.Phase.is_unacquired, protocol.PhaseSteps.after_served}
+use Rattle.tl_coherence.specs.{refinement.SimulationRelation.IsAcquireOf}
+use Rattle.tl_coherence.proofs.{queues.Facts.own_wants, protocol.FollowKept.IsAskable}
 use Rattle.tl_coherence.proofs.queues.Tokens.{same_number, set-same, set-other, set-part}
 
 -- of all blocks
@@ -87,7 +80,7 @@ unwanting c p b new pairs same sources r source k e = (
 
 waiting_for : {w : ℕ} (c n tracker : ℕ) (k : Cap) (whole : Bool) (g : Grow) (b : Block (List ℕ))
     → (b.pair c).acquiring ≡ AcquireOpen whole g
-    → block_message {w = w} Acquire c n (served_block c true (b.source c) tracker k b) ≡ message.A
+    → block_message {w = w} Acquire c n (served_block c true (b.source c) tracker k b) ≡ Message.A
     (acquisition (acquire_opcode whole) g (b.source c) n)
 unfolding block_message
 waiting_for {w} c n tracker k whole g b wants = rw (spared (c == c), wants) (go whole)
@@ -96,7 +89,7 @@ waiting_for {w} c n tracker k whole g b wants = rw (spared (c == c), wants) (go 
     spared true = refl
     spared false = refl
 
-    go : (x : Bool) → acquire_of {w = w} (AcquireOpen x g) (b.source c) n ≡ message.A
+    go : (x : Bool) → acquire_of {w = w} (AcquireOpen x g) (b.source c) n ≡ Message.A
         (acquisition (acquire_opcode x) g (b.source c) n)
     go true = refl
     go false = refl
@@ -117,7 +110,7 @@ request_taken-acquired : {w : ℕ} (clients c source tracker : ℕ) (v : Message
     (h : AbstractState w) → AreAcquired h.request h.state.block
     → AreAcquired (request_taken clients c source v tracker rest h).request
     (request_taken clients c source v tracker rest h).state.block
-request_taken-acquired clients c source tracker (message.A m) rest h is =
+request_taken-acquired clients c source tracker (Message.A m) rest h is =
     access_taken-acquired c source tracker m (probes_some clients c false (cap_probed m.opcode m.param)
     (h.state.block (block_at m.address)).pair) (cap_probed m.opcode m.param) rest h is
 request_taken-acquired clients c source tracker v rest h is = is
@@ -261,43 +254,43 @@ acquiring-acquired {w} caching c n source whole g bytes h inv calm is =
 pub asked-acquired : {w : ℕ} (caching : ℕ → Bool) (c : ℕ) (o : Op w) (r : Reply) (h : AbstractState w)
     → IsInvariant caching h.state → IsAskable caching c o r h
     → AreAcquired h.request h.state.block → AreAcquired (asked c o r h).request (asked c o r h).state.block
-asked-acquired caching c (op.Store address size value) reply.Stored h inv may is =
+asked-acquired caching c (Op.Store address size value) Reply.Stored h inv may is =
     unmoved (block_at address)
     (stored_block c (copy_stored address size value ((h.state.block (block_at address)).copy c))
     (h.state.block (block_at address)))
     h.state.block h.request refl (λ r from k e. (refl, refl)) is
-asked-acquired caching c (op.Acquire n g) (reply.Started source) h inv may is =
+asked-acquired caching c (Op.Acquire n g) (Reply.Started source) h inv may is =
     acquiring-acquired caching c n source false g ((h.state.block n).waiting c) h inv may.2 is
-asked-acquired caching c (op.AcquireWhole n bytes) (reply.Started source) h inv may is =
+asked-acquired caching c (Op.AcquireWhole n bytes) (Reply.Started source) h inv may is =
     acquiring-acquired caching c n source true (whole_grow ((h.state.block n).pair c).held) bytes h inv may.2 is
-asked-acquired caching c (op.Release n p) (reply.Started source) h inv may is =
+asked-acquired caching c (Op.Release n p) (Reply.Started source) h inv may is =
     unmoved n (releasing_block c source p (h.state.block n)) h.state.block h.request refl
     (unwanting c (after_release p ((h.state.block n).pair c)) (h.state.block n)
     (releasing_block c source p (h.state.block n)) (λ d. refl) refl (λ d. refl))
     is
-asked-acquired caching c (op.Access (message.A m)) (reply.Started source) h inv may is = is
-asked-acquired caching c (op.Access (message.A m)) (reply.Value v) h inv may is = is
-asked-acquired caching c (op.Access (message.A m)) reply.Stored h inv may is = is
-asked-acquired caching c (op.Access (message.A m)) reply.Miss h inv may is = is
-asked-acquired caching c (op.Access (message.A m)) (reply.Busy why) h inv may is = is
-asked-acquired caching c (op.Access (message.B m)) r h inv may is = is
-asked-acquired caching c (op.Access (message.C m)) r h inv may is = is
-asked-acquired caching c (op.Access (message.D m)) r h inv may is = is
-asked-acquired caching c (op.Access (message.E m)) r h inv may is = is
-asked-acquired caching c (op.Load address size) r h inv may is = is
-asked-acquired caching c (op.Store address size value) (reply.Value v) h inv may is = is
-asked-acquired caching c (op.Store address size value) reply.Miss h inv may is = is
-asked-acquired caching c (op.Store address size value) (reply.Started source) h inv may is = is
-asked-acquired caching c (op.Store address size value) (reply.Busy why) h inv may is = is
-asked-acquired caching c (op.Acquire n g) (reply.Value v) h inv may is = is
-asked-acquired caching c (op.Acquire n g) reply.Stored h inv may is = is
-asked-acquired caching c (op.Acquire n g) reply.Miss h inv may is = is
-asked-acquired caching c (op.Acquire n g) (reply.Busy why) h inv may is = is
-asked-acquired caching c (op.AcquireWhole n bytes) (reply.Value v) h inv may is = is
-asked-acquired caching c (op.AcquireWhole n bytes) reply.Stored h inv may is = is
-asked-acquired caching c (op.AcquireWhole n bytes) reply.Miss h inv may is = is
-asked-acquired caching c (op.AcquireWhole n bytes) (reply.Busy why) h inv may is = is
-asked-acquired caching c (op.Release n p) (reply.Value v) h inv may is = is
-asked-acquired caching c (op.Release n p) reply.Stored h inv may is = is
-asked-acquired caching c (op.Release n p) reply.Miss h inv may is = is
-asked-acquired caching c (op.Release n p) (reply.Busy why) h inv may is = is
+asked-acquired caching c (Op.Access (Message.A m)) (Reply.Started source) h inv may is = is
+asked-acquired caching c (Op.Access (Message.A m)) (Reply.Value v) h inv may is = is
+asked-acquired caching c (Op.Access (Message.A m)) Reply.Stored h inv may is = is
+asked-acquired caching c (Op.Access (Message.A m)) Reply.Miss h inv may is = is
+asked-acquired caching c (Op.Access (Message.A m)) (Reply.Busy why) h inv may is = is
+asked-acquired caching c (Op.Access (Message.B m)) r h inv may is = is
+asked-acquired caching c (Op.Access (Message.C m)) r h inv may is = is
+asked-acquired caching c (Op.Access (Message.D m)) r h inv may is = is
+asked-acquired caching c (Op.Access (Message.E m)) r h inv may is = is
+asked-acquired caching c (Op.Load address size) r h inv may is = is
+asked-acquired caching c (Op.Store address size value) (Reply.Value v) h inv may is = is
+asked-acquired caching c (Op.Store address size value) Reply.Miss h inv may is = is
+asked-acquired caching c (Op.Store address size value) (Reply.Started source) h inv may is = is
+asked-acquired caching c (Op.Store address size value) (Reply.Busy why) h inv may is = is
+asked-acquired caching c (Op.Acquire n g) (Reply.Value v) h inv may is = is
+asked-acquired caching c (Op.Acquire n g) Reply.Stored h inv may is = is
+asked-acquired caching c (Op.Acquire n g) Reply.Miss h inv may is = is
+asked-acquired caching c (Op.Acquire n g) (Reply.Busy why) h inv may is = is
+asked-acquired caching c (Op.AcquireWhole n bytes) (Reply.Value v) h inv may is = is
+asked-acquired caching c (Op.AcquireWhole n bytes) Reply.Stored h inv may is = is
+asked-acquired caching c (Op.AcquireWhole n bytes) Reply.Miss h inv may is = is
+asked-acquired caching c (Op.AcquireWhole n bytes) (Reply.Busy why) h inv may is = is
+asked-acquired caching c (Op.Release n p) (Reply.Value v) h inv may is = is
+asked-acquired caching c (Op.Release n p) Reply.Stored h inv may is = is
+asked-acquired caching c (Op.Release n p) Reply.Miss h inv may is = is
+asked-acquired caching c (Op.Release n p) (Reply.Busy why) h inv may is = is

@@ -7,99 +7,81 @@ use Rattle.tl_coherence.proofs.deliveries.Imports.{IsInvariant, IsWell, AcquireP
 use Rattle.tl_coherence.proofs.deliveries.Imports.{Free, Block, State, packet, AccessMessages, block_message, Step}
 use Rattle.tl_coherence.proofs.deliveries.Imports.{handing, System, channel_of_message, with_manager, with_channel}
 use Rattle.tl_coherence.proofs.deliveries.Imports.{with_messages, Kind, Request, Acquire, Grant, Packet}
-use Rattle.tl_coherence.proofs.deliveries.Imports.{SimulationRelation, is_caching}
+use Rattle.tl_coherence.proofs.deliveries.Imports.{SimulationRelation, is_caching, Perm}
 use Rattle.std.proofs.Common.{◌≡◌, ℕ, suc, ◌≤◌, ◌==◌, Bool, true, false, not, ◌&&◌, ◌||◌, List, [], ◌∷◌, Option, Some}
 use Rattle.std.proofs.Common.{None, length, refl, sym, subst, ◌∙◌, ap, ◌⊎◌, inl, inr, arith}
-use Rattle.std.specs.Prelude.{if◌then◌else◌}
-use Rattle.std.proofs.lemmas.Bool.{cases_lt}
-use Rattle.std.proofs.Math.Bool.{and_comm}
-use Rattle.tl_beat.specs.declared.beat.Beat.TheVariants as beat
+use Rattle.std.{specs.Prelude.if◌then◌else◌, proofs.lemmas.Bool.cases_lt, proofs.Math.Bool.and_comm}
 use Rattle.tl_beat.specs.declared.beat.BeatA.{BeatA}
-use Rattle.tl_beat.specs.declared.channel.Channel.TheVariants as channel
-use Rattle.tl_burst.specs.declared.message.Message.TheVariants as message
-use Rattle.tl_params.specs.declared.param.Cap.TheVariants as cap
-use Rattle.tl_params.specs.declared.perm.Perm.TheVariants as perm
-use Rattle.tl_rules.specs.declared.answer.Answer.{Answer}
-use Rattle.tl_rules.specs.declared.answer.Answer.TheVariants as answer
-use Rattle.tl_rules.specs.statement.Effect.{effect, answer_of}
+use Rattle.tl_rules.{specs.declared.answer.Answer.Answer, specs.statement.Effect.effect}
+use Rattle.tl_rules.{specs.statement.Effect.answer_of, specs.statement.History.is_acquire, proofs.Sent.is_last}
 use Rattle.tl_manager.specs.statement.Handing.{access_answer, probes}
 use Rattle.tl_manager.specs.statement.Holders as holders
 use Rattle.tl_manager.specs.statement.Holders.{recorded, probed, cap_probed, is_spared}
-use Rattle.tl_rules.specs.statement.History.{is_acquire}
-use Rattle.tl_rules.proofs.Sent.{is_last}
 use Rattle.tl_client.proofs.endpoint.HeldAfter.{swapped}
-use Rattle.tl_coherence.specs.declared.event.Outcome.TheVariants as outcome
+use Rattle.tl_coherence.specs.{declared.event.Outcome.Outcome, protocol.Invariant.cap_asked}
+use Rattle.tl_coherence.specs.{protocol.PhaseSteps.is_above}
 use Rattle.tl_coherence.specs.refinement.AbstractStep.{bytes_at, probes_some, access_taken, request_taken, performs}
 use Rattle.tl_coherence.specs.refinement.AbstractStep.{gift, is_unheld, acquire_taken}
-use Rattle.tl_coherence.specs.protocol.Invariant.{cap_asked}
-use Rattle.tl_coherence.specs.protocol.PhaseSteps.{is_above}
 use Rattle.tl_coherence.specs.protocol.Protocol.{is_probed, granted_at_once, acquire_served, acquire_granted}
-use Rattle.tl_coherence.proofs.manager.Admitted.{offered-taken}
+use Rattle.tl_coherence.proofs.{manager.Admitted.offered-taken, manager.AtRequests.end_after}
+use Rattle.tl_coherence.proofs.{manager.AtRequests.reaction-probing, queues.Shown.carried-shown}
+use Rattle.tl_coherence.proofs.{protocol.FollowKept.IsReady, protocol.RequestsKept.some-none}
+use Rattle.tl_coherence.proofs.{protocol.RequestsKept.leaves-bytes, queues.Showing.carries, queues.Showing.none-carried}
+use Rattle.tl_coherence.proofs.{protocol.Heads.IsAsked, protocol.Heads.IsWanted, manager.ManagedServed.same_above}
+use Rattle.tl_coherence.proofs.{manager.Requests.recorded-beat, queues.Tokens.set-same, simulation.Moved.manager-heard}
+use Rattle.tl_coherence.proofs.{simulation.Moved.carried-part, queues.Codes.acquires-so, queues.Perms.none-above}
+use Rattle.tl_coherence.proofs.{bound.RankAfter.once_on_d}
 use Rattle.tl_coherence.proofs.manager.Arrivals.{link_of, with_beat, IsComing, ends-coming, service_for}
-use Rattle.tl_coherence.proofs.manager.AtRequests.{end_after, reaction-probing}
-use Rattle.tl_coherence.proofs.queues.Shown.{carried-shown}
 use Rattle.tl_coherence.proofs.simulation.CarriedEvents.{access_answered-shown, acquire_granted-shown}
 use Rattle.tl_coherence.proofs.simulation.CarriedProbes.{probe_pushes, channels-probes, access_served-shown}
 use Rattle.tl_coherence.proofs.simulation.CarriedProbes.{acquire_served-shown}
-use Rattle.tl_coherence.proofs.protocol.FollowKept.{IsReady}
-use Rattle.tl_coherence.proofs.protocol.RequestsKept.{some-none, leaves-bytes}
-use Rattle.tl_coherence.proofs.queues.Showing.{carries, none-carried}
-use Rattle.tl_coherence.proofs.protocol.Heads.{IsAsked, IsWanted}
-use Rattle.tl_coherence.proofs.manager.ManagedServed.{same_above}
-use Rattle.tl_coherence.proofs.manager.Requests.{recorded-beat}
 use Rattle.tl_coherence.proofs.manager.RequestsHanded.{handed-answered, handed-granted}
 use Rattle.tl_coherence.proofs.manager.UnwaitedRequests.{next_tracker, free-last, invariant-taken, probed-some}
-use Rattle.tl_coherence.proofs.manager.RequestsTaken.{caps_asked, acquire_wanted}
 use Rattle.tl_coherence.proofs.manager.UnwaitedRequests.{somebody-probed, beyond-none}
-use Rattle.tl_coherence.proofs.manager.RequestsTaken.{ready-request, ready-acquire}
-use Rattle.tl_coherence.proofs.queues.Tokens.{set-same}
+use Rattle.tl_coherence.proofs.manager.RequestsTaken.{caps_asked, acquire_wanted, ready-request, ready-acquire}
 use Rattle.tl_coherence.proofs.queues.Channels.{behind, IsTaken, pushes_at}
 use Rattle.tl_coherence.proofs.queues.Landed.{pushes_of, IsLanded, taken-landed, IsOn, HasTaken, landed-manager}
 use Rattle.tl_coherence.proofs.queues.Landed.{channels-handed}
-use Rattle.tl_coherence.proofs.simulation.Moved.{manager-heard, carried-part}
-use Rattle.tl_coherence.proofs.queues.Codes.{acquires-so}
-use Rattle.tl_coherence.proofs.queues.Perms.{none-above}
-use Rattle.tl_coherence.proofs.bound.RankAfter.{once_on_d}
 
 -- ---- the whole after a beat of a request
 
 -- it, where the manager takes the beat
 abbrev pub system_after : {w : ℕ} → Config → ℕ → ℕ → MessageA w → List (Beat w) → System w → System w
 system_after config c k m queue sys =
-    with_messages (reaction config (link_of c) (beat.A (a_beat_of m k)) sys.manager).handed
-    (with_manager (end_after config c k m sys.manager) (with_channel c channel.A queue sys))
+    with_messages (reaction config (link_of c) (Beat.A (a_beat_of m k)) sys.manager).handed
+    (with_manager (end_after config c k m sys.manager) (with_channel c Channel.A queue sys))
 
-on_a : {w : ℕ} (x : BeatA w) → IsOn channel.A (beat.A x)
-on_a x channel.A = refl
+on_a : {w : ℕ} (x : BeatA w) → IsOn Channel.A (Beat.A x)
+on_a x Channel.A = refl
 on_a x _ = refl
 
 heard-coming : {w : ℕ} (config : Config) (c k : ℕ) (m : MessageA w) (queue : List (Beat w)) (sys : System w)
     → IsComing config c k m sys.manager
-    → HasTaken c (beat.A (a_beat_of m k)) sys.manager (end_after config c k m sys.manager)
+    → HasTaken c (Beat.A (a_beat_of m k)) sys.manager (end_after config c k m sys.manager)
 heard-coming {w} config c k m queue sys is =
-    let x : Beat w = beat.A (a_beat_of m k) in
-    let step : Step w = handing (outcome.Moved x) (reaction config (link_of c) x sys.manager).handed
-    (with_manager (end_after config c k m sys.manager) (with_channel c channel.A queue sys)) in
-    manager-heard config (link_of c) channel.A x queue sys step is.width is.typed is.kept
-    (record { takes = offered-taken config (link_of c) channel.A x sys.manager is.passes; step_is = refl })
+    let x : Beat w = Beat.A (a_beat_of m k) in
+    let step : Step w = handing (Outcome.Moved x) (reaction config (link_of c) x sys.manager).handed
+    (with_manager (end_after config c k m sys.manager) (with_channel c Channel.A queue sys)) in
+    manager-heard config (link_of c) Channel.A x queue sys step is.width is.typed is.kept
+    (record { takes = offered-taken config (link_of c) Channel.A x sys.manager is.passes; step_is = refl })
 
 -- what is handed out stands behind what was on the channels
 pub landed-coming : {w : ℕ} (config : Config) (c k : ℕ) (m : MessageA w) (queue : List (Beat w)) (sys : System w)
     (handed : Handed w)
     (pushes : ℕ → Channel → Option (Message w)) → IsComing config c k m sys.manager
-    → sys.channels c channel.A ≡ beat.A (a_beat_of m k) ∷ queue
-    → (reaction config (link_of c) (beat.A (a_beat_of m k)) sys.manager).handed ≡ handed
+    → sys.channels c Channel.A ≡ Beat.A (a_beat_of m k) ∷ queue
+    → (reaction config (link_of c) (Beat.A (a_beat_of m k)) sys.manager).handed ≡ handed
     → ((s : System w) (d : ℕ) (at : Channel) → (with_messages handed s).channels d at ≡ behind (pushes d at)
     (s.channels d at))
-    → IsLanded c channel.A (beat.A (a_beat_of m k)) queue pushes sys (system_after config c k m queue sys)
+    → IsLanded c Channel.A (Beat.A (a_beat_of m k)) queue pushes sys (system_after config c k m queue sys)
 landed-coming {w} config c k m queue sys handed pushes is beats done pushed =
-    landed-manager c channel.A (beat.A (a_beat_of m k)) queue pushes
-    (reaction config (link_of c) (beat.A (a_beat_of m k)) sys.manager).handed
+    landed-manager c Channel.A (Beat.A (a_beat_of m k)) queue pushes
+    (reaction config (link_of c) (Beat.A (a_beat_of m k)) sys.manager).handed
     (end_after config c k m sys.manager) sys refl beats (on_a (a_beat_of m k)) (heard-coming config c k m queue sys is)
     (λ d at. ap (λ (i : Handed w). (with_messages i base).channels d at) done ∙ pushed base d at)
   where
     base : System w
-    base = with_manager (end_after config c k m sys.manager) (with_channel c channel.A queue sys)
+    base = with_manager (end_after config c k m sys.manager) (with_channel c Channel.A queue sys)
 
 -- ---- a beat that isn't the last
 
@@ -111,39 +93,39 @@ nothing-handed s d at = refl
 pub carried-more : {w : ℕ} (config : Config) (log : Log w) (mail : AccessMessages w) (request : ℕ → MessageA w)
     (s : State (List ℕ)) (sys : System w) (c k : ℕ)
     (m : MessageA w) (queue : List (Beat w)) → SimulationRelation config log mail request s sys
-    → IsComing config c k m sys.manager → sys.channels c channel.A ≡ beat.A (a_beat_of m k) ∷ queue
-    → completes (beat.A (a_beat_of m k)) (unfinished channel.A (on_link c sys.manager.trace)) ≡ false
+    → IsComing config c k m sys.manager → sys.channels c Channel.A ≡ Beat.A (a_beat_of m k) ∷ queue
+    → completes (Beat.A (a_beat_of m k)) (unfinished Channel.A (on_link c sys.manager.trace)) ≡ false
     → ChannelRelation mail s (system_after config c k m queue sys)
 carried-more {w} config log mail request s sys c k m queue is comes beats part =
-    let x : Beat w = beat.A (a_beat_of m k) in
+    let x : Beat w = Beat.A (a_beat_of m k) in
     let done : (reaction config (link_of c) x sys.manager).handed ≡ [] =
     ap (λ (d : Reaction w). d.handed) (reaction-part config (link_of c) x sys.manager part) in
-    carried-part mail s c channel.A x queue (λ d at. None) sys (system_after config c k m queue sys) comes.width
+    carried-part mail s c Channel.A x queue (λ d at. None) sys (system_after config c k m queue sys) comes.width
     (landed-coming config c k m queue sys [] (λ d at. None) comes beats done nothing-handed) (λ d at. refl) part
     is.carried
 
 -- ---- its last beat: others are probed
 
-nothing_above : (j : Cap) (own : Bool) → (not own && is_above j perm.None) ≡ false
-nothing_above cap.ToT true = refl
-nothing_above cap.ToT false = refl
-nothing_above cap.ToB true = refl
-nothing_above cap.ToB false = refl
-nothing_above cap.ToN true = refl
-nothing_above cap.ToN false = refl
+nothing_above : (j : Cap) (own : Bool) → (not own && is_above j Perm.None) ≡ false
+nothing_above Cap.ToT true = refl
+nothing_above Cap.ToT false = refl
+nothing_above Cap.ToB true = refl
+nothing_above Cap.ToB false = refl
+nothing_above Cap.ToN true = refl
+nothing_above Cap.ToN false = refl
 
 pub taken-probing : {w : ℕ} (config : Config) (log : Log w) (mail : AccessMessages w) (request : ℕ → MessageA w)
     (s : State (List ℕ)) (sys : System w) (c k n : ℕ)
     (own : Bool) (j : Cap) (m : MessageA w) (queue : List (Beat w)) → SimulationRelation config log mail request s sys
-    → IsComing config c k m sys.manager → sys.channels c channel.A ≡ beat.A (a_beat_of m k) ∷ queue
-    → beats_of (message.A m) ≡ suc k → is_acquire m.opcode ≡ own → block_at m.address ≡ n
-    → (reaction config (link_of c) (beat.A (a_beat_of m k)) sys.manager).handed ≡ probes n j
+    → IsComing config c k m sys.manager → sys.channels c Channel.A ≡ Beat.A (a_beat_of m k) ∷ queue
+    → beats_of (Message.A m) ≡ suc k → is_acquire m.opcode ≡ own → block_at m.address ≡ n
+    → (reaction config (link_of c) (Beat.A (a_beat_of m k)) sys.manager).handed ≡ probes n j
     (probed config (service_for c m sys.manager.trace) j (with_beat c m k sys.manager.trace))
-    → IsTaken c channel.A (beat.A (a_beat_of m k)) queue
+    → IsTaken c Channel.A (Beat.A (a_beat_of m k)) queue
     (probe_pushes n j (λ d. is_probed c own j ((s.block n).pair d).recorded d)) sys
     (system_after config c k m queue sys)
 taken-probing {w} config log mail request s sys c k n own j m queue is comes beats last kind block done =
-    taken-landed c channel.A (beat.A (a_beat_of m k)) queue pushes sys (system_after config c k m queue sys)
+    taken-landed c Channel.A (Beat.A (a_beat_of m k)) queue pushes sys (system_after config c k m queue sys)
     (landed-coming config c k m queue sys
     (probes n j (probed config (service_for c m sys.manager.trace) j (with_beat c m k sys.manager.trace))) pushes
     comes beats done
@@ -178,13 +160,13 @@ taken-probing {w} config log mail request s sys c k n own j m queue is comes bea
 
 pub taken-answering : {w : ℕ} (config : Config) (c k : ℕ) (m : MessageA w) (i : Message w) (queue : List (Beat w))
     (sys : System w)
-    → IsComing config c k m sys.manager → sys.channels c channel.A ≡ beat.A (a_beat_of m k) ∷ queue
-    → beats_of (message.A m) ≡ suc k
-    → (reaction config (link_of c) (beat.A (a_beat_of m k)) sys.manager).handed ≡ (link_of c, i) ∷ []
-    → IsTaken c channel.A (beat.A (a_beat_of m k)) queue (pushes_at c (pushes_of (Some i))) sys
+    → IsComing config c k m sys.manager → sys.channels c Channel.A ≡ Beat.A (a_beat_of m k) ∷ queue
+    → beats_of (Message.A m) ≡ suc k
+    → (reaction config (link_of c) (Beat.A (a_beat_of m k)) sys.manager).handed ≡ (link_of c, i) ∷ []
+    → IsTaken c Channel.A (Beat.A (a_beat_of m k)) queue (pushes_at c (pushes_of (Some i))) sys
     (system_after config c k m queue sys)
 taken-answering {w} config c k m i queue sys comes beats last done =
-    taken-landed c channel.A (beat.A (a_beat_of m k)) queue (pushes_at c (pushes_of (Some i))) sys
+    taken-landed c Channel.A (Beat.A (a_beat_of m k)) queue (pushes_at c (pushes_of (Some i))) sys
     (system_after config c k m queue sys)
     (landed-coming config c k m queue sys ((link_of c, i) ∷ []) (pushes_at c (pushes_of (Some i))) comes beats done
     (λ v d at. channels-handed c (Some i) v d at))
@@ -198,9 +180,9 @@ pub carried-acquire_taken : {w : ℕ} (config : Config) (log : Log w) (h : Abstr
     → SimulationRelation config log h.mail h.request h.state sys
     → (h.state.link c).a ≡ packet Acquire n ∷ rest → (asked : IsWanted w c n h.state)
     → IsComing config c k (acquire_wanted c n h.state asked) sys.manager
-    → sys.channels c channel.A ≡ beat.A (a_beat_of (acquire_wanted c n h.state asked) k) ∷ queue
-    → beats_of (message.A (acquire_wanted c n h.state asked)) ≡ suc k
-    → must_wait config (link_of c) (beat.A (a_beat_of (acquire_wanted c n h.state asked) k)) sys.manager.trace ≡ false
+    → sys.channels c Channel.A ≡ Beat.A (a_beat_of (acquire_wanted c n h.state asked) k) ∷ queue
+    → beats_of (Message.A (acquire_wanted c n h.state asked)) ≡ suc k
+    → must_wait config (link_of c) (Beat.A (a_beat_of (acquire_wanted c n h.state asked) k)) sys.manager.trace ≡ false
     → ChannelRelation (kind_taken config (next_tracker sys) c Acquire n rest h).mail
     (kind_taken config (next_tracker sys) c Acquire n rest h).state
     (system_after config c k (acquire_wanted c n h.state asked) queue sys)
@@ -273,8 +255,8 @@ carried-acquire_taken {w} config log h sys c n k rest queue is first asked comes
 
 -- ---- an access
 
-pub answer_on_d : {w : ℕ} (m : MessageA w) (r : Answer) → channel_of_message (access_answer m r) ≡ channel.D
-answer_on_d m answer.Ack = refl
+pub answer_on_d : {w : ℕ} (m : MessageA w) (r : Answer) → channel_of_message (access_answer m r) ≡ Channel.D
+answer_on_d m Answer.Ack = refl
 answer_on_d m r = refl
 
 -- an access that is answered at once changes the bytes only where no message carries them
@@ -287,18 +269,18 @@ unread-bytes {w} config log mail request s sys c n m is access none k d =
     elim (leaves-bytes m (s.block n).truth access (is.sized n).truth) [
       | inl same ↦ inr same
       | inr all ↦ inl (none-carried (is_caching config) (s.block n) (is.invariant.blocks n)
-          (λ i. either (same_perm ((s.block n).pair i).held perm.Trunk) (unheld i all)) k d)
+          (λ i. either (same_perm ((s.block n).pair i).held Perm.Trunk) (unheld i all)) k d)
     ]
   where
     either : (b : Bool) {x : Bool} → x ≡ true → (b || x) ≡ true
     either true e = refl
     either false e = e
 
-    unheld : (i : ℕ) → cap_probed m.opcode m.param ≡ Some cap.ToN
-        → same_perm ((s.block n).pair i).recorded perm.None ≡ true
+    unheld : (i : ℕ) → cap_probed m.opcode m.param ≡ Some Cap.ToN
+        → same_perm ((s.block n).pair i).recorded Perm.None ≡ true
     unheld i all = elim (cases_lt i (length config.clients.items)) [
       | inl lt ↦ none-above ((s.block n).pair i).recorded
-          (some-none (length config.clients.items) (λ j. is_probed c false cap.ToN ((s.block n).pair j).recorded j)
+          (some-none (length config.clients.items) (λ j. is_probed c false Cap.ToN ((s.block n).pair j).recorded j)
           (rw all at none) i lt)
       | inr past ↦ rw (beyond-none config log mail request s sys n is i past) refl
     ]
@@ -309,8 +291,8 @@ pub carried-request_taken : {w : ℕ} (config : Config) (log : Log w) (h : Abstr
     → SimulationRelation config log h.mail h.request h.state sys
     → (h.state.link c).a ≡ packet Request source ∷ rest → (asked : IsAsked config c source h.mail h.state)
     → IsComing config c k asked.request sys.manager
-    → sys.channels c channel.A ≡ beat.A (a_beat_of asked.request k) ∷ queue → beats_of (message.A asked.request) ≡ suc k
-    → must_wait config (link_of c) (beat.A (a_beat_of asked.request k)) sys.manager.trace ≡ false
+    → sys.channels c Channel.A ≡ Beat.A (a_beat_of asked.request k) ∷ queue → beats_of (Message.A asked.request) ≡ suc k
+    → must_wait config (link_of c) (Beat.A (a_beat_of asked.request k)) sys.manager.trace ≡ false
     → ChannelRelation (kind_taken config (next_tracker sys) c Request source rest h).mail
     (kind_taken config (next_tracker sys) c Request source rest h).state
     (system_after config c k asked.request queue sys)
@@ -354,7 +336,7 @@ carried-request_taken {w} config log h sys c source k rest queue is first asked 
     answered none kept =
         carried-shown comes.width (access_answered-shown (is_caching config) c n source (performs m) rest (answers m
         b.memory) h.mail h.state is.invariant kept first asked.used (unread-bytes config log h.mail h.request h.state
-        sys c n m is asked.access none) (answer_on_d m (answer_of (message.A m) (effect (message.A m) (bytes_at n
+        sys c n m is asked.access none) (answer_on_d m (answer_of (Message.A m) (effect (Message.A m) (bytes_at n
         b.memory)).1))) (taken-answering config c k m (answers m b.memory) queue sys comes beats last
         (handed-answered config log h.mail h.request h.state sys c source k is asked comes last none)) is.carried
 

@@ -7,34 +7,27 @@ use Rattle.tl_coherence.proofs.deliveries.Imports.{packet, packets_on, shown, on
 use Rattle.tl_coherence.proofs.deliveries.Imports.{block_message, stepped, handed_by, System, with_client, with_channel}
 use Rattle.tl_coherence.proofs.deliveries.Imports.{with_messages, Kind, Answer, Grant, ReleaseAck, GrantAck, Packet}
 use Rattle.tl_coherence.proofs.deliveries.Imports.{SimulationRelation, is_caching}
-use Rattle.std.proofs.Common.{◌≡◌, ℕ, Bool, true, false, List, [], ◌∷◌, Option, Some, None, refl, sym, ◌∙◌, ap}
-use Rattle.std.proofs.Common.{subst, ◌⊎◌}
+use Rattle.std.proofs.Common.{◌≡◌, ℕ, Bool, true, false, List, [], ◌∷◌, Option, Some, None, refl, sym, ◌∙◌, ap, subst}
+use Rattle.std.proofs.Common.{◌⊎◌}
 use Rattle.std.specs.Prelude.{if◌then◌else◌}
-use Rattle.tl_beat.specs.declared.beat.Beat.TheVariants as beat
-use Rattle.tl_beat.specs.declared.beat.BeatD.{BeatD}
-use Rattle.tl_beat.specs.declared.channel.Channel.TheVariants as channel
-use Rattle.tl_beat.specs.declared.opcode.OpD.{OpD}
+use Rattle.tl_beat.{specs.declared.beat.BeatD.BeatD, specs.declared.opcode.OpD.OpD}
 use Rattle.tl_burst.specs.declared.message.MessageD.{MessageD}
 use Rattle.tl_rules.specs.statement.History.{is_grant, is_release_ack}
-use Rattle.tl_client.specs.declared.verdict.Finish.{Finish}
+use Rattle.tl_client.{specs.declared.verdict.Finish.Finish, specs.statement.Send.grant_ack}
 use Rattle.tl_client.specs.statement.Offer as offer
-use Rattle.tl_client.specs.statement.Send.{grant_ack}
-use Rattle.tl_coherence.specs.refinement.AbstractStep.{taken_by_client}
+use Rattle.tl_coherence.specs.{refinement.AbstractStep.taken_by_client, protocol.Phase.is_unreleased}
+use Rattle.tl_coherence.specs.{protocol.Phase.is_whole, protocol.Tokens.is_wanting}
 use Rattle.tl_coherence.specs.statement.Machine.{Pool, Releases, pool_of, after_end}
-use Rattle.tl_coherence.specs.protocol.Phase.{is_unreleased, is_whole}
 use Rattle.tl_coherence.specs.protocol.Protocol.{answer_taken, grant_taken, release_ack_taken, taken_block}
-use Rattle.tl_coherence.specs.protocol.Tokens.{is_wanting}
 use Rattle.tl_coherence.proofs.memory.BesideResponses.{beside-answer, beside-grant, beside-release_ack}
-use Rattle.tl_coherence.proofs.queues.Shown.{carried-shown}
+use Rattle.tl_coherence.proofs.{queues.Shown.carried-shown, queues.Channels.IsTaken, queues.Channels.pushes_at}
+use Rattle.tl_coherence.proofs.{queues.Showing.carries, queues.Codes.grants-so, queues.Codes.access_kind}
 use Rattle.tl_coherence.proofs.simulation.CarriedResponses.{answer_taken-shown, grant_taken-shown}
 use Rattle.tl_coherence.proofs.simulation.CarriedResponses.{release_ack_taken-shown}
-use Rattle.tl_coherence.proofs.queues.Channels.{IsTaken, pushes_at}
 use Rattle.tl_coherence.proofs.protocol.HeadOfD.{IsAnswerDue, IsGrantDue, grant_message, ack_message}
 use Rattle.tl_coherence.proofs.client.DeliverD.{finish_at, acked, finish-pool}
 use Rattle.tl_coherence.proofs.queues.Landed.{pushes_of, IsOn, HasHeard, landed-client, taken-landed}
 use Rattle.tl_coherence.proofs.manager.UnwaitedRequests.{next_tracker, invariant-taken}
-use Rattle.tl_coherence.proofs.queues.Showing.{carries}
-use Rattle.tl_coherence.proofs.queues.Codes.{grants-so, access_kind}
 use Rattle.tl_manager.proofs.pending.Answered.{no_ack_grant}
 
 -- ---- a delivery that moves a beat, as the protocol follows it
@@ -53,8 +46,8 @@ pub followed-still : {w : ℕ} (config : Config) (link : Link) (ch : Channel) (s
     → abstract_step config (Deliver link ch) sys h ≡ h
 followed-still {w} config link ch sys h still = cc still
 
-pub on_d : {w : ℕ} (y : BeatD w) → IsOn channel.D (beat.D y)
-on_d y channel.A = refl
+pub on_d : {w : ℕ} (y : BeatD w) → IsOn Channel.D (Beat.D y)
+on_d y Channel.A = refl
 on_d y _ = refl
 
 -- ---- the last beat of a response
@@ -67,7 +60,7 @@ after_heard c ch x queue sys m =
 -- what comes of it for the protocol: h' is what it is then, source that of the response, and f how its operation ends
 pub record IsResponded {w : ℕ} (c : ℕ) (x : Beat w) (queue : List (Beat w)) (sys : System w) (machine : Machine w)
     (source : ℕ) (f : Finish) (m : Option (Message w)) (h' : AbstractState w) : Type 0 where
-  pub carried : ChannelRelation h'.mail h'.state (after_heard c channel.D x queue sys m)
+  pub carried : ChannelRelation h'.mail h'.state (after_heard c Channel.D x queue sys m)
   pub beside : MemoryRelation h'.mail h'.state (after_end c (pool_of f) source (machine.opened c (pool_of f) source)
       machine)
   pub quiet : accesses_answered (handed_by c m) ≡ []
@@ -76,21 +69,21 @@ pub record IsResponded {w : ℕ} (c : ℕ) (x : Beat w) (queue : List (Beat w)) 
 pub record IsLastBeat {w : ℕ} (c : ℕ) (x : Beat w) (queue : List (Beat w)) (sys : System w) (mm : MessageD w) : Type 0
   where
     pub y : BeatD w
-    pub x_is : x ≡ beat.D y
+    pub x_is : x ≡ Beat.D y
     pub opcode : y.opcode ≡ mm.opcode
     pub source : y.source ≡ mm.source
     pub sink : y.sink ≡ mm.sink
-    pub first : sys.channels c channel.D ≡ x ∷ queue
-    pub last : completes x (unfinished channel.D (sys.clients c).past) ≡ true
+    pub first : sys.channels c Channel.D ≡ x ∷ queue
+    pub last : completes x (unfinished Channel.D (sys.clients c).past) ≡ true
     pub heard : HasHeard x (sys.clients c) (offer.taken x (sys.clients c)).after
 
 taken_d : {w : ℕ} (c : ℕ) (x : Beat w) (queue : List (Beat w)) (sys : System w) (mm : MessageD w)
     (m : Option (Message w)) → IsLastBeat c x queue sys mm
-    → IsTaken c channel.D x queue (pushes_at c (pushes_of m)) sys (after_heard c channel.D x queue sys m)
+    → IsTaken c Channel.D x queue (pushes_at c (pushes_of m)) sys (after_heard c Channel.D x queue sys m)
 taken_d {w} c x queue sys mm m is =
-    taken-landed c channel.D x queue (pushes_at c (pushes_of m)) sys (after_heard c channel.D x queue sys m)
-    (landed-client c channel.D x queue m (offer.taken x (sys.clients c)).after sys refl is.first
-    (subst (λ (z : Beat w). IsOn channel.D z) (sym is.x_is) (on_d is.y)) is.heard) is.last
+    taken-landed c Channel.D x queue (pushes_at c (pushes_of m)) sys (after_heard c Channel.D x queue sys m)
+    (landed-client c Channel.D x queue m (offer.taken x (sys.clients c)).after sys refl is.first
+    (subst (λ (z : Beat w). IsOn Channel.D z) (sym is.x_is) (on_d is.y)) is.heard) is.last
 
 finish_pool_is : {w : ℕ} (c : ℕ) (x : Beat w) (queue : List (Beat w)) (sys : System w) (mm : MessageD w)
     (is : IsLastBeat c x queue sys mm)
@@ -118,7 +111,7 @@ responded-answer {w} config log h sys c source rest x queue due width matched fi
     let inv = invariant-taken config log h sys c Answer source rest matched first tt in
     record {
       carried = subst (λ (m : Option (Message w)). ChannelRelation h.mail (answer_taken c source rest h.state)
-          (after_heard c channel.D x queue sys m)) (sym none)
+          (after_heard c Channel.D x queue sys m)) (sym none)
           (carried-shown width (answer_taken-shown (is_caching config) c source rest h.mail h.state matched.invariant
           inv first)
           (taken_d c x queue sys due.answer None is) matched.carried);
@@ -147,7 +140,7 @@ responded-release_ack {w} config log h sys c n rest x queue width matched first 
     let inv = invariant-taken config log h sys c ReleaseAck n rest matched first tt in
     record {
       carried = subst (λ (m : Option (Message w)). ChannelRelation h.mail (release_ack_taken c n rest h.state)
-          (after_heard c channel.D x queue sys m)) (sym none)
+          (after_heard c Channel.D x queue sys m)) (sym none)
           (carried-shown width (release_ack_taken-shown (is_caching config) c n rest h.mail h.state matched.invariant
           inv first)
           (taken_d c x queue sys (ack_message ((h.state.block n).release_source c)) None is) matched.carried);
@@ -187,7 +180,7 @@ responded-grant {w} config log h sys c n rest x queue due width matched first ba
     (finish_at is.y (sys.clients c)) (acked is.y.opcode is.y.sink) z) (sym same)
     (record {
       carried = subst (λ (m : Option (Message w)). ChannelRelation h.mail
-          (grant_taken c n due.whole due.data_too due.k rest h.state) (after_heard c channel.D x queue sys m))
+          (grant_taken c n due.whole due.data_too due.k rest h.state) (after_heard c Channel.D x queue sys m))
           (sym some)
           (carried-shown width (grant_taken-shown (is_caching config) c n due.whole due.data_too due.k rest (grant_ack
           (h.state.block n).tracker) h.mail h.state matched.invariant inv first due.service bare refl (rendered_ack c n

@@ -1,53 +1,38 @@
 -- The manager takes the last beat of a ProbeAck.
-use Rattle.tl_coherence.proofs.deliveries.Imports.{is_granted_data, Reaction, Handed, Beat}
-use Rattle.tl_coherence.proofs.deliveries.Imports.{Message, MessageA, Config}
-use Rattle.tl_coherence.proofs.deliveries.Imports.{Cap, Grow, Report, report_left}
-use Rattle.tl_coherence.proofs.deliveries.Imports.{same_perm, reaction, End, AbstractState, ack_taken}
-use Rattle.tl_coherence.proofs.deliveries.Imports.{last_taken, some_below, with_state, answers}
-use Rattle.tl_coherence.proofs.deliveries.Imports.{IsInvariant, IsWell, Log, ProbeAnswered, AcquirePhase, NoAcquire}
-use Rattle.tl_coherence.proofs.deliveries.Imports.{AcquireOpen, Service, Free, Waits, GrantSent, GrantTaken, Block}
-use Rattle.tl_coherence.proofs.deliveries.Imports.{report_taken, packet, view}
-use Rattle.tl_coherence.proofs.deliveries.Imports.{block_message, report_told}
-use Rattle.tl_coherence.proofs.deliveries.Imports.{System, Kind, ProbeAck, Release, Acquire, Packet, Grant}
-use Rattle.tl_coherence.proofs.deliveries.Imports.{ReleaseAck, SimulationRelation, is_caching}
+use Rattle.tl_coherence.proofs.deliveries.Imports.{is_granted_data, Reaction, Handed, Beat, Message, MessageA, Config}
+use Rattle.tl_coherence.proofs.deliveries.Imports.{Cap, Grow, Report, report_left, same_perm, reaction, End}
+use Rattle.tl_coherence.proofs.deliveries.Imports.{AbstractState, ack_taken, last_taken, some_below, with_state}
+use Rattle.tl_coherence.proofs.deliveries.Imports.{answers, IsInvariant, IsWell, Log, ProbeAnswered, AcquirePhase}
+use Rattle.tl_coherence.proofs.deliveries.Imports.{NoAcquire, AcquireOpen, Service, Free, Waits, GrantSent, GrantTaken}
+use Rattle.tl_coherence.proofs.deliveries.Imports.{Block, report_taken, packet, view, block_message, report_told}
+use Rattle.tl_coherence.proofs.deliveries.Imports.{System, Kind, ProbeAck, Release, Acquire, Packet, Grant, ReleaseAck}
+use Rattle.tl_coherence.proofs.deliveries.Imports.{SimulationRelation, is_caching, Channel, Perm}
 use Rattle.tl_coherence.specs.protocol.Protocol as protocol
-use Rattle.tl_coherence.proofs.manager.UnwaitedRequests.{invariant-taken}
-use Rattle.tl_coherence.proofs.manager.ManagersEnd.{at_manager-matched}
-use Rattle.tl_coherence.proofs.manager.ManagerHanded.{grant-rendered}
-use Rattle.std.proofs.Common.{[], ◌≡◌, ℕ, Bool, true, false, ◌&&◌, List, ◌∷◌, length, refl, sym, ◌∙◌, ap}
-use Rattle.std.proofs.Common.{subst}
+use Rattle.tl_coherence.proofs.{manager.UnwaitedRequests.invariant-taken, manager.ManagersEnd.at_manager-matched}
+use Rattle.tl_coherence.proofs.{manager.ManagerHanded.grant-rendered, manager.SettlingService.IsSettling}
+use Rattle.tl_coherence.proofs.{manager.ManagerTakes.IsTakenUp, protocol.BothParts.acquires_of-is}
+use Rattle.tl_coherence.proofs.{protocol.BothParts.not-calm, memory.BesideTaken.same_message}
+use Rattle.std.proofs.Common.{[], ◌≡◌, ℕ, Bool, true, false, ◌&&◌, List, ◌∷◌, length, refl, sym, ◌∙◌, ap, subst}
 use Rattle.std.specs.Prelude.{◌==◌, if◌then◌else◌}
-use Rattle.tl_beat.specs.declared.beat.Beat.TheVariants as beat
-use Rattle.tl_beat.specs.declared.channel.Channel.TheVariants as channel
-use Rattle.tl_burst.specs.declared.message.Message.TheVariants as message
-use Rattle.tl_burst.specs.declared.message.MessageC.{MessageC}
-use Rattle.tl_burst.specs.statement.Burst.{c_beat_of}
-use Rattle.tl_params.specs.declared.perm.Perm.TheVariants as perm
+use Rattle.tl_burst.{specs.declared.message.MessageC.MessageC, specs.statement.Burst.c_beat_of}
 use Rattle.tl_params.specs.statement.Param.{grow_code, report_code}
 use Rattle.tl_coherence.specs.refinement.AbstractStep.{acquire_opcode, granted_after}
-use Rattle.tl_coherence.specs.protocol.Invariant.{IsOwnSource}
+use Rattle.tl_coherence.specs.{protocol.Invariant.IsOwnSource, protocol.Protocol.Acquires}
+use Rattle.tl_coherence.specs.{protocol.Protocol.granted_block, protocol.Tokens.is_wanting, protocol.Packet.set}
+use Rattle.tl_coherence.specs.{refinement.SimulationRelation.IsAcquireOf}
 use Rattle.tl_coherence.specs.protocol.Phase.{View, Own, Other, Granting, Acknowledging, GrantedOther}
-use Rattle.tl_coherence.specs.protocol.Protocol.{Acquires, granted_block}
-use Rattle.tl_coherence.specs.protocol.Tokens.{is_wanting}
-use Rattle.tl_coherence.specs.protocol.Packet.{set}
-use Rattle.tl_coherence.specs.refinement.SimulationRelation.{IsAcquireOf}
 use Rattle.tl_coherence.proofs.queues.Facts.{answered_other, is_other, own_wants}
-use Rattle.tl_coherence.proofs.manager.ManagerAfter.{IsManagerOf, left, IsEnd, others_probed}
-use Rattle.tl_coherence.proofs.manager.ManagerAfter.{reported-left, reaction-reported}
+use Rattle.tl_coherence.proofs.manager.ManagerAfter.{IsManagerOf, left, IsEnd, others_probed, reported-left}
+use Rattle.tl_coherence.proofs.manager.ManagerAfter.{reaction-reported}
 use Rattle.tl_coherence.proofs.manager.ManagerSettles.{IsWanted, ended-left, conceded-left, reaction-ended}
-use Rattle.tl_coherence.proofs.manager.SettlingService.{IsSettling}
 use Rattle.tl_coherence.proofs.manager.ManagerSettles.{reaction-conceded, gift_after}
-use Rattle.tl_coherence.proofs.manager.ManagerTakes.{IsTakenUp}
 use Rattle.tl_coherence.proofs.queues.Tokens.{same_number, set-same, set_at-same}
-use Rattle.tl_coherence.proofs.protocol.BothParts.{acquires_of-is}
-use Rattle.tl_coherence.proofs.protocol.BothParts.{not-calm}
-use Rattle.tl_coherence.proofs.memory.BesideTaken.{same_message}
 
 -- ---- the Acquire that is granted
 
 wanted_fields : {w : ℕ} (q n : ℕ) (whole : Bool) (g : Grow) (b : Block (List ℕ)) (v : MessageA w)
     → (b.pair q).acquiring ≡ AcquireOpen whole g
-    → block_message Acquire q n b ≡ message.A v → (v.opcode ≡ acquire_opcode whole) × (v.param ≡ grow_code g)
+    → block_message Acquire q n b ≡ Message.A v → (v.opcode ≡ acquire_opcode whole) × (v.param ≡ grow_code g)
 unfolding block_message
 wanted_fields {w} q n true g b v wants e =
     let same = same_message _ v (rw wants at e) in
@@ -92,12 +77,12 @@ pub reported-last : {w : ℕ} (config : Config) (log : Log w) (h : AbstractState
     (rest : List Packet) (m : MessageC w) → SimulationRelation config log h.mail h.request h.state sys
     → (h.state.link c).c ≡ packet ProbeAck n ∷ rest → ((h.state.block n).pair c).probing ≡ ProbeAnswered
     (report_told ((h.state.block n).pair c).probing)
-    → IsTakenUp config c channel.C (beat.C (c_beat_of m k)) sys.manager
+    → IsTakenUp config c Channel.C (Beat.C (c_beat_of m k)) sys.manager
     → IsEnd true c n (report_code (report_told ((h.state.block n).pair c).probing))
-    (same_perm (report_left (report_told ((h.state.block n).pair c).probing)) perm.Trunk) (h.state.block n).truth k m
+    (same_perm (report_left (report_told ((h.state.block n).pair c).probing)) Perm.Trunk) (h.state.block n).truth k m
     sys.manager
     → Does config c h (ack_taken (length config.clients.items) config.profile c n
-    (report_told ((h.state.block n).pair c).probing) rest h) ProbeAck n sys.manager (beat.C (c_beat_of m k))
+    (report_told ((h.state.block n).pair c).probing) rest h) ProbeAck n sys.manager (Beat.C (c_beat_of m k))
 reported-last {w} config log h sys c n k rest m is tokens answered up end =
     others (some_below (length config.clients.items) (others_probed c b.pair)) refl
     (invariant-taken config log h sys c ProbeAck n rest is tokens tt)
@@ -112,7 +97,7 @@ reported-last {w} config log h sys c n k rest m is tokens answered up end =
     e = sys.manager
 
     x : Beat w
-    x = beat.C (c_beat_of m k)
+    x = Beat.C (c_beat_of m k)
 
     -- what is kept, and what is handed out
     Result : AbstractState w → Handed w → Type 0
@@ -167,7 +152,7 @@ reported-last {w} config log h sys c n k rest m is tokens answered up end =
         used = acquires_of-is n (h.state.uses q source)
             (is.invariant.named.acquires q source n ∙ rw (wants, ← own_source, same_number source) refl)
 
-        acquired : block_message Acquire q n b ≡ message.A (h.request n)
+        acquired : block_message Acquire q n b ≡ Message.A (h.request n)
         acquired = subst (λ (v : Service). IsAcquireOf n b v (h.request n)) f (is.acquired n)
 
         go : (y : AcquirePhase) → (b.pair q).acquiring ≡ y

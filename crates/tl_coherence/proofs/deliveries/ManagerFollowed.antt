@@ -1,19 +1,16 @@
 -- The manager's end after a delivery on channel C or E, as a step of the whole and as the protocol follows it.
 use Rattle.tl_coherence.proofs.deliveries.Imports.{IsWidth, Beat, Channel, unfinished, completes, Config, EndConfig}
-use Rattle.tl_coherence.proofs.deliveries.Imports.{reaction, End, Deliver, AbstractState}
-use Rattle.tl_coherence.proofs.deliveries.Imports.{abstract_delivery, abstract_step}
-use Rattle.tl_coherence.proofs.deliveries.Imports.{packet_taken, Log, receiver, packets_on, Step, handing, is_to_client}
-use Rattle.tl_coherence.proofs.deliveries.Imports.{stepped, System, terms_at, with_channel, with_manager}
-use Rattle.tl_coherence.proofs.deliveries.Imports.{SimulationRelation}
+use Rattle.tl_coherence.proofs.deliveries.Imports.{reaction, End, Deliver, AbstractState, abstract_delivery}
+use Rattle.tl_coherence.proofs.deliveries.Imports.{abstract_step, packet_taken, Log, receiver, packets_on, Step}
+use Rattle.tl_coherence.proofs.deliveries.Imports.{handing, is_to_client, stepped, System, terms_at, with_channel}
+use Rattle.tl_coherence.proofs.deliveries.Imports.{with_manager, SimulationRelation}
 use Rattle.std.proofs.Common.{false, ◌≡◌, ℕ, List, ◌∷◌, Option, Some, None, refl, sym, ◌∙◌, ap, subst, arith}
 use Rattle.std.specs.Prelude.{if◌then◌else◌, option_map, slice_get, All}
-use Rattle.tl_beat.specs.declared.channel.Channel.TheVariants as channel
 use Rattle.tl_params.specs.declared.config.ClientConfig.{ClientConfig}
 use Rattle.tl_manager.specs.code.Kept as manager
 use Rattle.tl_manager.specs.code.Kept.{illegal_at}
 use Rattle.tl_manager.specs.statement.Service.{services, least_untaken, trackers_of}
-use Rattle.tl_coherence.specs.declared.event.Outcome.TheVariants as outcome
-use Rattle.tl_coherence.specs.refinement.AbstractStep.{is_last}
+use Rattle.tl_coherence.specs.{declared.event.Outcome.Outcome, refinement.AbstractStep.is_last}
 use Rattle.tl_coherence.proofs.manager.ManagerAfter.{IsManagerOf, left}
 use Rattle.tl_coherence.proofs.deliveries.ManagerDelivered.{channel_c-delivered, channel_e-delivered}
 use Rattle.tl_coherence.proofs.manager.ManagerTakes.{IsTakenUp}
@@ -45,7 +42,7 @@ pub step-taken : {w : ℕ} (config : Config) (c : ℕ) (ch : Channel) (x : Beat 
     (t : EndConfig) → terms_at config c ≡ Some t
     → sys.channels c ch ≡ x ∷ queue → is_to_client ch ≡ false → IsTakenUp config c ch x sys.manager
     → stepped config (Deliver (record { 0 = c }) ch) sys
-    ≡ handing (outcome.Moved x) (reaction config (record { 0 = c }) x sys.manager).handed
+    ≡ handing (Outcome.Moved x) (reaction config (record { 0 = c }) x sys.manager).handed
     (with_manager (left c x (reaction config (record { 0 = c }) x sys.manager) sys.manager)
     (with_channel c ch queue sys))
 step-taken {w} config c ch x queue sys t terms beats down up =
@@ -81,30 +78,30 @@ followed-taken {w} config c ch x queue sys h t terms beats down up =
 
 pub manager-followed_c : {w : ℕ} (config : Config) (log : Log w) (h : AbstractState w) (sys : System w) (c : ℕ)
     (x : Beat w) (queue : List (Beat w)) → IsWidth w
-    → SimulationRelation config log h.mail h.request h.state sys → sys.channels c channel.C ≡ x ∷ queue
-    → IsManagerOf config (abstract_step config (Deliver (record { 0 = c }) channel.C) sys h)
-    (stepped config (Deliver (record { 0 = c }) channel.C) sys).after.manager
+    → SimulationRelation config log h.mail h.request h.state sys → sys.channels c Channel.C ≡ x ∷ queue
+    → IsManagerOf config (abstract_step config (Deliver (record { 0 = c }) Channel.C) sys h)
+    (stepped config (Deliver (record { 0 = c }) Channel.C) sys).after.manager
 manager-followed_c {w} config log h sys c x queue width is beats =
-    let t = client-of config c channel.C x queue sys beats (is.sound c channel.C) in
+    let t = client-of config c Channel.C x queue sys beats (is.sound c Channel.C) in
     let d = channel_c-delivered config log (least_untaken (trackers_of (services sys.manager.trace))) h sys c x queue
     width is beats in
-    subst (λ (i : End w). IsManagerOf config (abstract_step config (Deliver (record { 0 = c }) channel.C) sys h) i)
-    (sym (manager-taken config c channel.C x queue sys t.0 t.1 beats refl d.up))
+    subst (λ (i : End w). IsManagerOf config (abstract_step config (Deliver (record { 0 = c }) Channel.C) sys h) i)
+    (sym (manager-taken config c Channel.C x queue sys t.0 t.1 beats refl d.up))
     (subst (λ (i : AbstractState w). IsManagerOf config i (left c x (reaction config (record { 0 = c }) x sys.manager)
     sys.manager))
-    (sym (followed-taken config c channel.C x queue sys h t.0 t.1 beats refl d.up)) d.manager)
+    (sym (followed-taken config c Channel.C x queue sys h t.0 t.1 beats refl d.up)) d.manager)
 
 pub manager-followed_e : {w : ℕ} (config : Config) (log : Log w) (h : AbstractState w) (sys : System w) (c : ℕ)
     (x : Beat w) (queue : List (Beat w)) → IsWidth w
-    → SimulationRelation config log h.mail h.request h.state sys → sys.channels c channel.E ≡ x ∷ queue
-    → IsManagerOf config (abstract_step config (Deliver (record { 0 = c }) channel.E) sys h)
-    (stepped config (Deliver (record { 0 = c }) channel.E) sys).after.manager
+    → SimulationRelation config log h.mail h.request h.state sys → sys.channels c Channel.E ≡ x ∷ queue
+    → IsManagerOf config (abstract_step config (Deliver (record { 0 = c }) Channel.E) sys h)
+    (stepped config (Deliver (record { 0 = c }) Channel.E) sys).after.manager
 manager-followed_e {w} config log h sys c x queue width is beats =
-    let t = client-of config c channel.E x queue sys beats (is.sound c channel.E) in
+    let t = client-of config c Channel.E x queue sys beats (is.sound c Channel.E) in
     let d = channel_e-delivered config log (least_untaken (trackers_of (services sys.manager.trace))) h sys c x queue
     width is beats in
-    subst (λ (i : End w). IsManagerOf config (abstract_step config (Deliver (record { 0 = c }) channel.E) sys h) i)
-    (sym (manager-taken config c channel.E x queue sys t.0 t.1 beats refl d.up))
+    subst (λ (i : End w). IsManagerOf config (abstract_step config (Deliver (record { 0 = c }) Channel.E) sys h) i)
+    (sym (manager-taken config c Channel.E x queue sys t.0 t.1 beats refl d.up))
     (subst (λ (i : AbstractState w). IsManagerOf config i (left c x (reaction config (record { 0 = c }) x sys.manager)
     sys.manager))
-    (sym (followed-taken config c channel.E x queue sys h t.0 t.1 beats refl d.up)) d.manager)
+    (sym (followed-taken config c Channel.E x queue sys h t.0 t.1 beats refl d.up)) d.manager)

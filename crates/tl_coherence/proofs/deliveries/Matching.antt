@@ -5,45 +5,34 @@ use Rattle.tl_coherence.proofs.deliveries.Imports.{Log, system_after, Machine, m
 use Rattle.tl_coherence.proofs.deliveries.Imports.{performing, accesses_answered, Step, stepped, only, System, terms_at}
 use Rattle.tl_coherence.proofs.deliveries.Imports.{SimulationRelation, is_caching}
 use Rattle.std.proofs.Common.{◌≡◌, ℕ, Bool, true, false, List, [], ◌∷◌, Option, Some, None, refl, sym, ◌∙◌, ap, subst}
-use Rattle.tl_beat.specs.declared.channel.Channel.TheVariants as channel
 use Rattle.tl_client.specs.statement.Ask as ask
-use Rattle.tl_coherence.specs.declared.event.Outcome.{Outcome}
-use Rattle.tl_coherence.specs.declared.event.Outcome.TheVariants as outcome
+use Rattle.tl_coherence.specs.{declared.event.Outcome.Outcome, statement.Headline.IsTyped, statement.Headline.AreTyped}
+use Rattle.tl_coherence.specs.{statement.Log.IsLog, statement.Step.client_of}
 use Rattle.tl_coherence.specs.refinement.AbstractStep.{first_abstract_state, abstract_step_by}
-use Rattle.tl_coherence.specs.statement.Headline.{IsTyped, AreTyped}
-use Rattle.tl_coherence.specs.statement.Log.{IsLog}
-use Rattle.tl_coherence.specs.statement.Step.{client_of}
-use Rattle.tl_coherence.proofs.deliveries.AcksAfter.{delivered-e}
-use Rattle.tl_coherence.proofs.client.Askable.{askable}
-use Rattle.tl_coherence.proofs.deliveries.AskedAfter.{carried-ask, beside-ask}
-use Rattle.tl_coherence.proofs.deliveries.AskedWell.{asked-well}
-use Rattle.tl_coherence.proofs.client.ClientAsked.{IsEndOf}
-use Rattle.tl_coherence.proofs.client.ClientStep.{clients-kept}
+use Rattle.tl_coherence.proofs.{deliveries.AcksAfter.delivered-e, client.Askable.askable}
+use Rattle.tl_coherence.proofs.{deliveries.AskedAfter.carried-ask, deliveries.AskedAfter.beside-ask}
+use Rattle.tl_coherence.proofs.{deliveries.AskedWell.asked-well, client.ClientAsked.IsEndOf}
+use Rattle.tl_coherence.proofs.{client.ClientStep.clients-kept, simulation.Fresh.fresh-matched}
+use Rattle.tl_coherence.proofs.{deliveries.DeliverDWhole.delivered-d, deliveries.InvariantKept.invariant-followed}
+use Rattle.tl_coherence.proofs.{manager.ManagerAfter.IsManagerOf, deliveries.ManagerFollowed.client-of}
+use Rattle.tl_coherence.proofs.{deliveries.ManagerKept.IsAllowed, deliveries.ManagerKept.manager-kept}
+use Rattle.tl_coherence.proofs.{deliveries.ProbesAfter.delivered-b, deliveries.ReportsAfter.delivered-c}
+use Rattle.tl_coherence.proofs.{manager.UnwaitedRequests.next_tracker, simulation.SoundAfter.sound-after}
+use Rattle.tl_coherence.proofs.{simulation.SoundAfter.typed-after, queues.Steps.stepped-asked}
+use Rattle.tl_coherence.proofs.{queues.Steps.stepped-empty}
 use Rattle.tl_coherence.proofs.simulation.FollowCases.{followed-cases, asked-cases, delivered-cases, answered-followed}
 use Rattle.tl_coherence.proofs.simulation.FollowCases.{given-followed, on-first}
-use Rattle.tl_coherence.proofs.simulation.Fresh.{fresh-matched}
-use Rattle.tl_coherence.proofs.deliveries.DeliverDWhole.{delivered-d}
 use Rattle.tl_coherence.proofs.deliveries.DeliverDUnmoved.{IsDelivered, delivered-unmoved}
-use Rattle.tl_coherence.proofs.deliveries.InvariantKept.{invariant-followed}
-use Rattle.tl_coherence.proofs.manager.ManagerAfter.{IsManagerOf}
-use Rattle.tl_coherence.proofs.deliveries.ManagerFollowed.{client-of}
-use Rattle.tl_coherence.proofs.deliveries.ManagerKept.{IsAllowed, manager-kept}
-use Rattle.tl_coherence.proofs.deliveries.ProbesAfter.{delivered-b}
-use Rattle.tl_coherence.proofs.deliveries.ReportsAfter.{delivered-c}
 use Rattle.tl_coherence.proofs.deliveries.RequestsDelivered.{delivery-a, carried-delivered_a, beside-delivered_a}
-use Rattle.tl_coherence.proofs.manager.UnwaitedRequests.{next_tracker}
 use Rattle.tl_coherence.proofs.simulation.Sized.{AreStrange, strangers-asked, strangers-kind_taken}
 use Rattle.tl_coherence.proofs.simulation.SizedAfter.{AllSized, sized-asked, sized-kind_taken}
-use Rattle.tl_coherence.proofs.simulation.SourcedAfter.{AreSourced}
-use Rattle.tl_coherence.proofs.simulation.SourcedAfter.{sourced-asked, sourced-kind_taken}
-use Rattle.tl_coherence.proofs.simulation.SoundAfter.{sound-after, typed-after}
-use Rattle.tl_coherence.proofs.queues.Steps.{stepped-asked, stepped-empty}
+use Rattle.tl_coherence.proofs.simulation.SourcedAfter.{AreSourced, sourced-asked, sourced-kind_taken}
 use Rattle.tl_coherence.proofs.client.Waiting.{AreAcquired, asked-acquired, kind_taken-acquired}
 
 -- ---- steps
 
 pub stepped-nobody : {w : ℕ} (config : Config) (event : Event w) (sys : System w)
-    → terms_at config (client_of event) ≡ None → stepped config event sys ≡ only outcome.NoSuchClient sys
+    → terms_at config (client_of event) ≡ None → stepped config event sys ≡ only Outcome.NoSuchClient sys
 unfolding stepped
 stepped-nobody config (Ask c o) sys e = rw e refl
 stepped-nobody config (Deliver link ch) sys e = rw e refl
@@ -56,12 +45,12 @@ not_moving {w} x y e moving still = let no : true ≡ false = sym moving ∙ ap 
 
 delivered-a : {w : ℕ} (config : Config) (log : Log w) (c : ℕ) (h : AbstractState w) (terms : EndConfig) → IsWidth w
     → SimulationRelation config log h.mail h.request h.state (system_after config log) → terms_at config c ≡ Some terms
-    → IsDelivered config log (record { 0 = c }) channel.A h
+    → IsDelivered config log (record { 0 = c }) Channel.A h
 unfolding one_memory_after
 delivered-a {w} config log c h terms width is at =
     let sys : System w = system_after config log in
     let m : Machine w = one_memory_after config log in
-    let event : Event w = Deliver (record { 0 = c }) channel.A in
+    let event : Event w = Deliver (record { 0 = c }) Channel.A in
     let still : moved event (stepped config event sys).outcome m ≡ m =
     delivery-a config log h sys c terms (λ (step : Step w). moved event step.outcome m ≡ m) width is at (λ e. refl)
     (λ x queue e waits. refl) (λ x queue e arrives moves. refl) in
@@ -84,13 +73,13 @@ delivered-all {w} config log link ch h width is = go (is_moving (stepped config 
         → is_moving (stepped config (Deliver link at) sys).outcome ≡ true → IsDelivered config log link at h
     moves at terms [] known none moving =
         absurd (not_moving _ _ (stepped-empty config link at sys terms known none) moving refl)
-    moves channel.A terms (x ∷ queue) known beats moving = delivered-a config log link.0 h terms width is known
-    moves channel.B terms (x ∷ queue) known beats moving = delivered-b config log link h terms x queue width is known
+    moves Channel.A terms (x ∷ queue) known beats moving = delivered-a config log link.0 h terms width is known
+    moves Channel.B terms (x ∷ queue) known beats moving = delivered-b config log link h terms x queue width is known
         beats moving
-    moves channel.C terms (x ∷ queue) known beats moving = delivered-c config log link.0 h x queue width is beats
-    moves channel.D terms (x ∷ queue) known beats moving = delivered-d config log link h terms x queue width is known
+    moves Channel.C terms (x ∷ queue) known beats moving = delivered-c config log link.0 h x queue width is beats
+    moves Channel.D terms (x ∷ queue) known beats moving = delivered-d config log link h terms x queue width is known
         beats moving
-    moves channel.E terms (x ∷ queue) known beats moving = delivered-e config log link h terms x queue width is known
+    moves Channel.E terms (x ∷ queue) known beats moving = delivered-e config log link h terms x queue width is known
         beats moving
 
     found : (o : Option EndConfig) → terms_at config link.0 ≡ o
@@ -136,7 +125,7 @@ asked-all {w} config log c o h width is = go (terms_at config c) refl
         (is.carried, is.beside)
     go (Some terms) known =
         let r = (ask.asked terms o (sys.clients c)).reply in
-        let replied : (stepped config (Ask c o) sys).outcome ≡ outcome.Replied r =
+        let replied : (stepped config (Ask c o) sys).outcome ≡ Outcome.Replied r =
         ap (λ (x : Step w). x.outcome) (stepped-asked config c o sys terms known) in (
           subst (λ (x : Outcome w). ChannelRelation (abstract_step_by config (Ask c o) x sys h).mail
               (abstract_step_by config (Ask c o) x sys h).state
@@ -216,10 +205,10 @@ allowed : {w : ℕ} (config : Config) (log : Log w) (h : AbstractState w) (sys :
     → terms_at config (client_of event) ≡ Some terms
     → IsAllowed config event terms sys h
 allowed config log h sys (Ask c o) width is terms at = askable config log h.mail h.request h.state sys terms c o is at
-allowed config log h sys (Deliver link channel.B) width is terms at =
-    invariant-followed config log h.mail h.request h.state sys (Deliver link channel.B) width is
-allowed config log h sys (Deliver link channel.D) width is terms at =
-    invariant-followed config log h.mail h.request h.state sys (Deliver link channel.D) width is
+allowed config log h sys (Deliver link Channel.B) width is terms at =
+    invariant-followed config log h.mail h.request h.state sys (Deliver link Channel.B) width is
+allowed config log h sys (Deliver link Channel.D) width is terms at =
+    invariant-followed config log h.mail h.request h.state sys (Deliver link Channel.D) width is
 allowed config log h sys event width is terms at = tt
 
 -- what is kept of the whole is kept by an event

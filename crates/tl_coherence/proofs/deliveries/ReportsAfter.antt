@@ -4,41 +4,31 @@ use Rattle.tl_coherence.proofs.deliveries.Imports.{Report, on_link, Handed, reac
 use Rattle.tl_coherence.proofs.deliveries.Imports.{AbstractState, ack_taken, answers, kind_taken, last_taken}
 use Rattle.tl_coherence.proofs.deliveries.Imports.{some_below, packet_taken, with_state, Log, system_after, Machine}
 use Rattle.tl_coherence.proofs.deliveries.Imports.{Requests, ProbeAnswered, Service, Free, Waits, GrantSent, GrantTaken}
-use Rattle.tl_coherence.proofs.deliveries.Imports.{Block, SourceState, packet, let_block, release_taken}
-use Rattle.tl_coherence.proofs.deliveries.Imports.{report_taken, shown, one_memory_after, performing, accesses_answered}
-use Rattle.tl_coherence.proofs.deliveries.Imports.{message_of, prune_told, block_message, report_told, stepped, IsFor}
-use Rattle.tl_coherence.proofs.deliveries.Imports.{System, ProbeAck, Release, ReleaseAck, Grant, Packet}
-use Rattle.tl_coherence.proofs.deliveries.Imports.{SimulationRelation, IsRequest, is_caching}
+use Rattle.tl_coherence.proofs.deliveries.Imports.{Block, SourceState, packet, let_block, release_taken, report_taken}
+use Rattle.tl_coherence.proofs.deliveries.Imports.{shown, one_memory_after, performing, accesses_answered, message_of}
+use Rattle.tl_coherence.proofs.deliveries.Imports.{prune_told, block_message, report_told, stepped, IsFor, System}
+use Rattle.tl_coherence.proofs.deliveries.Imports.{ProbeAck, Release, ReleaseAck, Grant, Packet, SimulationRelation}
+use Rattle.tl_coherence.proofs.deliveries.Imports.{IsRequest, is_caching, Channel}
 use Rattle.std.proofs.Common.{◌≡◌, ℕ, Bool, true, false, List, [], ◌∷◌, None, refl, sym, ◌∙◌, ap, subst, inl, inr, not}
 use Rattle.std.proofs.Common.{◌&&◌}
 use Rattle.std.specs.Prelude.{◌==◌, if◌then◌else◌, length, map}
-use Rattle.tl_beat.specs.declared.channel.Channel.TheVariants as channel
-use Rattle.tl_coherence.specs.refinement.MemoryRelation.{IsAccess, IsOpened}
-use Rattle.tl_coherence.specs.protocol.Phase.{is_unprobed}
-use Rattle.tl_coherence.specs.protocol.PhaseSteps.{after_release_taken}
-use Rattle.tl_coherence.specs.protocol.Protocol.{InService}
+use Rattle.tl_coherence.specs.{refinement.MemoryRelation.IsAccess, refinement.MemoryRelation.IsOpened}
+use Rattle.tl_coherence.specs.{protocol.Phase.is_unprobed, protocol.PhaseSteps.after_release_taken}
+use Rattle.tl_coherence.specs.{protocol.Protocol.InService, refinement.SimulationRelation.IsServedWith}
 use Rattle.tl_coherence.specs.protocol.Protocol as protocol
-use Rattle.tl_coherence.specs.refinement.SimulationRelation.{IsServedWith}
 use Rattle.tl_coherence.proofs.memory.BesideKinds.{IsWaiting, accesses_by, beside-report, beside_block, last_accesses}
 use Rattle.tl_coherence.proofs.memory.BesideKinds.{same_acquiring}
-use Rattle.tl_coherence.proofs.memory.BesideRequests.{IsOnce, accesses-answer}
-use Rattle.tl_coherence.proofs.deliveries.CarriedReports.{carried-followed_c}
-use Rattle.tl_coherence.proofs.manager.Choices.{plain-past}
-use Rattle.tl_coherence.proofs.queues.FirstToken.{first-token}
-use Rattle.tl_coherence.proofs.protocol.RequestsKept.{settled_all}
-use Rattle.tl_coherence.proofs.deliveries.DeliverDWhole.{remembered_after}
-use Rattle.tl_coherence.proofs.deliveries.DeliverDUnmoved.{IsDelivered}
-use Rattle.tl_coherence.proofs.manager.ManagerAfter.{others_probed}
-use Rattle.tl_coherence.proofs.deliveries.ManagerDelivered.{channel_c-delivered}
+use Rattle.tl_coherence.proofs.{memory.BesideRequests.IsOnce, memory.BesideRequests.accesses-answer}
+use Rattle.tl_coherence.proofs.{deliveries.CarriedReports.carried-followed_c, manager.Choices.plain-past}
+use Rattle.tl_coherence.proofs.{queues.FirstToken.first-token, protocol.RequestsKept.settled_all}
+use Rattle.tl_coherence.proofs.{deliveries.DeliverDWhole.remembered_after, deliveries.DeliverDUnmoved.IsDelivered}
+use Rattle.tl_coherence.proofs.{manager.ManagerAfter.others_probed, manager.ManagerTakes.by-first_c}
+use Rattle.tl_coherence.proofs.{manager.UnwaitedRequests.next_tracker, simulation.SourcedAfter.served-request}
+use Rattle.tl_coherence.proofs.{queues.Tokens.holds-first, queues.Tokens.set_at-same, protocol.BothParts.answered-is}
+use Rattle.tl_coherence.proofs.{rank.RankParts.serving-use}
+use Rattle.tl_coherence.proofs.deliveries.ManagerDelivered.{channel_c-delivered, releases-delivered, reports-delivered}
 use Rattle.tl_coherence.proofs.deliveries.LastReportDelivered.{pushed, pushed_last}
-use Rattle.tl_coherence.proofs.deliveries.ManagerDelivered.{releases-delivered, reports-delivered}
 use Rattle.tl_coherence.proofs.deliveries.ManagerFollowed.{client-of, followed-taken, step-taken}
-use Rattle.tl_coherence.proofs.manager.ManagerTakes.{by-first_c}
-use Rattle.tl_coherence.proofs.manager.UnwaitedRequests.{next_tracker}
-use Rattle.tl_coherence.proofs.simulation.SourcedAfter.{served-request}
-use Rattle.tl_coherence.proofs.queues.Tokens.{holds-first, set_at-same}
-use Rattle.tl_coherence.proofs.protocol.BothParts.{answered-is}
-use Rattle.tl_coherence.proofs.rank.RankParts.{serving-use}
 
 -- ---- which accesses are answered by what is handed out
 
@@ -132,11 +122,11 @@ by-place h h' pushes handed m false e before last = rw e before
 
 pub beside-followed_c : {w : ℕ} (config : Config) (log : Log w) (h : AbstractState w) (sys : System w) (c : ℕ)
     (x : Beat w) (queue : List (Beat w)) (m : Machine w)
-    → IsWidth w → SimulationRelation config log h.mail h.request h.state sys → sys.channels c channel.C ≡ x ∷ queue
+    → IsWidth w → SimulationRelation config log h.mail h.request h.state sys → sys.channels c Channel.C ≡ x ∷ queue
     → MemoryRelation h.mail h.state m
-    → MemoryRelation (if completes x (unfinished channel.C (on_link c sys.manager.trace)) then packet_taken config
+    → MemoryRelation (if completes x (unfinished Channel.C (on_link c sys.manager.trace)) then packet_taken config
     (next_tracker sys) c (h.state.link c).c h else h).mail
-    (if completes x (unfinished channel.C (on_link c sys.manager.trace)) then packet_taken config (next_tracker sys) c
+    (if completes x (unfinished Channel.C (on_link c sys.manager.trace)) then packet_taken config (next_tracker sys) c
     (h.state.link c).c h else h).state
     (performing (accesses_answered (reaction config (record { 0 = c }) x sys.manager).handed) m)
 unfolding performing
@@ -146,7 +136,7 @@ beside-followed_c {w} config log h sys c x queue m width is beats beside =
     (if completes x before then packet_taken config (next_tracker sys) c i h else h).state
     (performing (accesses_answered (reaction config (record { 0 = c }) x sys.manager).handed) m)) c h.mail h.state sys x
     queue
-    (first-token (is_caching config) channel.C c h.mail h.state sys x queue width is.invariant is.carried beats)
+    (first-token (is_caching config) Channel.C c h.mail h.state sys x queue width is.invariant is.carried beats)
     (λ n rest tokens next.
     let d = reports-delivered config log h sys c n rest x queue (map (message_of h.mail h.state c) rest) width is beats
     tokens next in
@@ -161,7 +151,7 @@ beside-followed_c {w} config log h sys c x queue m width is beats beside =
     (released n rest))
   where
     before : List (Beat w)
-    before = unfinished channel.C (on_link c sys.manager.trace)
+    before = unfinished Channel.C (on_link c sys.manager.trace)
 
     reported : (n : ℕ) (rest : List Packet) → (h.state.link c).c ≡ packet ProbeAck n ∷ rest
         → MemoryRelation (kind_taken config (next_tracker sys) c ProbeAck n rest h).mail
@@ -225,18 +215,18 @@ once-place h pushes handed m false e last = rw e (inl refl)
 
 pub once-followed_c : {w : ℕ} (config : Config) (log : Log w) (h : AbstractState w) (sys : System w) (c : ℕ)
     (x : Beat w) (queue : List (Beat w)) (m : Machine w)
-    → IsWidth w → SimulationRelation config log h.mail h.request h.state sys → sys.channels c channel.C ≡ x ∷ queue
+    → IsWidth w → SimulationRelation config log h.mail h.request h.state sys → sys.channels c Channel.C ≡ x ∷ queue
     → MemoryRelation h.mail h.state m
     → IsOnce (accesses_answered (reaction config (record { 0 = c }) x sys.manager).handed) h m
 once-followed_c {w} config log h sys c x queue m width is beats beside =
     by-first_c (λ i. IsOnce (accesses_answered (reaction config (record { 0 = c }) x sys.manager).handed) h m) c h.mail
     h.state sys x queue
-    (first-token (is_caching config) channel.C c h.mail h.state sys x queue width is.invariant is.carried beats)
+    (first-token (is_caching config) Channel.C c h.mail h.state sys x queue width is.invariant is.carried beats)
     (λ n rest tokens next.
     let d = reports-delivered config log h sys c n rest x queue (map (message_of h.mail h.state c) rest) width is beats
     tokens next in
     once-place h _ (reaction config (record { 0 = c }) x sys.manager).handed m
-    (completes x (unfinished channel.C (on_link c sys.manager.trace))) d.handed
+    (completes x (unfinished Channel.C (on_link c sys.manager.trace))) d.handed
     (subst (λ (l : List (ℕ × ℕ)). IsOnce l h m)
     (sym (report-answered config c n (report_told ((h.state.block n).pair c).probing) rest h
     (is.served.requests n))) (report-once config log h sys c n m width is beside)))
@@ -244,7 +234,7 @@ once-followed_c {w} config log h sys c x queue m width is beats beside =
     let d = releases-delivered config log h sys c n rest x queue (map (message_of h.mail h.state c) rest) width is beats
     tokens next in
     once-place h _ (reaction config (record { 0 = c }) x sys.manager).handed m
-    (completes x (unfinished channel.C (on_link c sys.manager.trace))) d.handed
+    (completes x (unfinished Channel.C (on_link c sys.manager.trace))) d.handed
     (inl (ack-quiet w (record { 0 = c }) c n
     ((release_taken c n (prune_told ((h.state.block n).pair c).letting) rest h.state).block n))))
 
@@ -252,10 +242,10 @@ once-followed_c {w} config log h sys c x queue m width is beats beside =
 pub delivered-c : {w : ℕ} (config : Config) (log : Log w) (c : ℕ) (h : AbstractState w) (x : Beat w)
     (queue : List (Beat w)) → IsWidth w → SimulationRelation config log h.mail h.request h.state
     (system_after config log)
-    → (system_after config log).channels c channel.C ≡ x ∷ queue → IsDelivered config log (record { 0 = c }) channel.C h
+    → (system_after config log).channels c Channel.C ≡ x ∷ queue → IsDelivered config log (record { 0 = c }) Channel.C h
 delivered-c {w} config log c h x queue width is beats =
     let sys : System w = system_after config log in
-    let t = client-of config c channel.C x queue sys beats (is.sound c channel.C) in
+    let t = client-of config c Channel.C x queue sys beats (is.sound c Channel.C) in
     let d = channel_c-delivered config log (next_tracker sys) h sys c x queue width is beats in
     record {
       carried = carried-followed_c config log h sys c x queue width is beats;
@@ -263,17 +253,17 @@ delivered-c {w} config log c h x queue width is beats =
           subst (λ (i : AbstractState w). MemoryRelation i.mail i.state
           (one_memory_after config
           ((
-            Deliver (record { 0 = c }) channel.C,
-            (stepped config (Deliver (record { 0 = c }) channel.C)
+            Deliver (record { 0 = c }) Channel.C,
+            (stepped config (Deliver (record { 0 = c }) Channel.C)
                 sys).outcome,
           ) ∷ log)))
-          (sym (followed-taken config c channel.C x queue sys h t.0 t.1 beats refl d.up))
+          (sym (followed-taken config c Channel.C x queue sys h t.0 t.1 beats refl d.up))
           (subst
-          (λ (i : Machine w). MemoryRelation (if completes x (unfinished channel.C (on_link c sys.manager.trace)) then
+          (λ (i : Machine w). MemoryRelation (if completes x (unfinished Channel.C (on_link c sys.manager.trace)) then
           packet_taken config (next_tracker sys) c (h.state.link c).c h else h).mail
-          (if completes x (unfinished channel.C (on_link c sys.manager.trace)) then packet_taken config
+          (if completes x (unfinished Channel.C (on_link c sys.manager.trace)) then packet_taken config
           (next_tracker sys) c (h.state.link c).c h else h).state i)
-          (sym (remembered_after config log (record { 0 = c }) channel.C _
-          (step-taken config c channel.C x queue sys t.0 t.1 beats refl d.up)))
+          (sym (remembered_after config log (record { 0 = c }) Channel.C _
+          (step-taken config c Channel.C x queue sys t.0 t.1 beats refl d.up)))
           (beside-followed_c config log h sys c x queue (one_memory_after config log) width is beats is.beside));
     }

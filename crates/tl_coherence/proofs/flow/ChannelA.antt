@@ -2,41 +2,28 @@
 use Rattle.tl_coherence.proofs.flow.Imports.{Beat, BeatA, Channel, Message, a_beat_of, History, is_empty, completes}
 use Rattle.tl_coherence.proofs.flow.Imports.{Config, Cap, comes_in_request, comes_in_grant, same_perm, same_block}
 use Rattle.tl_coherence.proofs.flow.Imports.{MonitorRelation, AbstractState, Log, ClientBlock, View, Own, Granting}
-use Rattle.tl_coherence.proofs.flow.Imports.{is_unprobed, is_unreleased, Free, GrantSent, Block, State}
-use Rattle.tl_coherence.proofs.flow.Imports.{Replied, view, is_granting, is_acknowledging, is_answered, is_unserved}
-use Rattle.tl_coherence.proofs.flow.Imports.{served_block, acquire_served, granted_at_once, acquire_granted}
-use Rattle.tl_coherence.proofs.flow.Imports.{System, Packet, set, SimulationRelation, asked_by}
-use Rattle.std.proofs.Common.{◌≡◌, subst, ℕ, Bool, true, false, ◌&&◌, List, [], ◌∷◌, Option, Some, None, refl, sym}
-use Rattle.std.proofs.Common.{◌∙◌, ap, ◌⊎◌, inl, inr}
-use Rattle.std.specs.Prelude.{◌==◌, if◌then◌else◌}
-use Rattle.std.proofs.lemmas.Bool.{cases_eq, eqb-true}
-use Rattle.std.proofs.Math.Bool.{and-false}
-use Rattle.std.proofs.lemmas.Option.{same_Some}
-use Rattle.tl_beat.specs.declared.beat.Beat.TheVariants as beat
-use Rattle.tl_beat.specs.declared.channel.Channel.TheVariants as channel
-use Rattle.tl_burst.specs.declared.message.Message.TheVariants as message
+use Rattle.tl_coherence.proofs.flow.Imports.{is_unprobed, is_unreleased, Free, GrantSent, Block, State, Replied, view}
+use Rattle.tl_coherence.proofs.flow.Imports.{is_granting, is_acknowledging, is_answered, is_unserved, served_block}
+use Rattle.tl_coherence.proofs.flow.Imports.{acquire_served, granted_at_once, acquire_granted, System, Packet, set}
+use Rattle.tl_coherence.proofs.flow.Imports.{SimulationRelation, asked_by}
+use Rattle.std.proofs.Common.{◌≡◌, subst, ℕ, Bool, true, false, ◌&&◌, List, [], ◌∷◌, Option, Some, None, refl, sym, ◌∙◌}
+use Rattle.std.proofs.Common.{ap, ◌⊎◌, inl, inr}
+use Rattle.std.{specs.Prelude.◌==◌, specs.Prelude.if◌then◌else◌, proofs.lemmas.Bool.cases_eq}
+use Rattle.std.{proofs.lemmas.Bool.eqb-true, proofs.Math.Bool.and-false, proofs.lemmas.Option.same_Some}
 use Rattle.tl_coherence.specs.protocol.PhaseSteps.{after_grant_sent}
-use Rattle.tl_coherence.proofs.manager.Admitted.{first_three}
-use Rattle.tl_coherence.proofs.queues.Carried.{IsNext}
+use Rattle.tl_coherence.proofs.{manager.Admitted.first_three, queues.Carried.IsNext, protocol.HeadOfD.IsGrantDue}
+use Rattle.tl_coherence.proofs.{queues.PhaseFacts.asked_alone, flow.FlowAccess.IsAccess, flow.FlowAccess.flowed-access}
+use Rattle.tl_coherence.proofs.{flow.FlowAcquired.flowed-acquire, flow.FlowAlone.AreRests, flow.FlowApart.replied}
+use Rattle.tl_coherence.proofs.{flow.FlowComing.coming-sink, flow.FlowComing.coming-granting, flow.FlowStep.held_by}
+use Rattle.tl_coherence.proofs.{queues.Phases.and_left, queues.Phases.and_right, manager.RequestsTaken.acquire_wanted}
+use Rattle.tl_coherence.proofs.{protocol.BothParts.quiet_unanswered, queues.Codes.acquires-so}
+use Rattle.tl_coherence.proofs.{simulation.Popped.unfinished_at}
 use Rattle.tl_coherence.proofs.client.ClientEnd.{is_access, asks-access, asks-acquire}
-use Rattle.tl_coherence.proofs.protocol.HeadOfD.{IsGrantDue}
-use Rattle.tl_coherence.proofs.queues.PhaseFacts.{asked_alone}
-use Rattle.tl_coherence.proofs.flow.FlowAccess.{IsAccess, flowed-access}
-use Rattle.tl_coherence.proofs.flow.FlowAcquired.{flowed-acquire}
-use Rattle.tl_coherence.proofs.flow.FlowAlone.{AreRests}
-use Rattle.tl_coherence.proofs.flow.FlowApart.{replied}
 use Rattle.tl_coherence.proofs.flow.FlowBeats.{came-so, comes-so, first-zero, one-beat, set_at-if, same_perms}
 use Rattle.tl_coherence.proofs.flow.FlowBeats.{unused-else}
-use Rattle.tl_coherence.proofs.flow.FlowComing.{coming-sink, coming-granting}
-use Rattle.tl_coherence.proofs.flow.FlowStep.{held_by}
 use Rattle.tl_coherence.proofs.flow.FlowSunk.{sunk_in, sunk-elsewhere, IsWithin, tracked-new}
 use Rattle.tl_coherence.proofs.protocol.Heads.{acquisition_beats, IsAsked, IsWanted}
-use Rattle.tl_coherence.proofs.queues.Phases.{and_left, and_right}
-use Rattle.tl_coherence.proofs.manager.RequestsTaken.{acquire_wanted}
 use Rattle.tl_coherence.proofs.queues.Tokens.{same_number, set-same, set-other}
-use Rattle.tl_coherence.proofs.protocol.BothParts.{quiet_unanswered}
-use Rattle.tl_coherence.proofs.queues.Codes.{acquires-so}
-use Rattle.tl_coherence.proofs.simulation.Popped.{unfinished_at}
 
 module _ {w : ℕ} (config : Config) (log : Log w) (h : AbstractState w) (sys : System w) (c : ℕ)
     (is : SimulationRelation config log h.mail h.request h.state sys)
@@ -50,11 +37,11 @@ module _ {w : ℕ} (config : Config) (log : Log w) (h : AbstractState w) (sys : 
 
   access_of : (source : ℕ) (asked : IsAsked config c source h.mail h.state) (k : ℕ) (ms : List (Message w))
       (queue : List (Beat w))
-      → IsNext (beat.A (a_beat_of asked.request k)) (unfinished_at sys c channel.A) (message.A asked.request) ms queue
-      → AreRests (beat.A (a_beat_of asked.request k)) (unfinished_at sys c) rest' → (b : Bool)
-      → completes (beat.A (a_beat_of asked.request k)) (unfinished_at sys c channel.A) ≡ b
-      → (is_empty (unfinished_at sys c channel.A) ≡ true → k ≡ 0)
-      → IsAccess c (a_beat_of asked.request k) (is_empty (unfinished_at sys c channel.A)) b (asked_by h.mail h.state c)
+      → IsNext (Beat.A (a_beat_of asked.request k)) (unfinished_at sys c Channel.A) (Message.A asked.request) ms queue
+      → AreRests (Beat.A (a_beat_of asked.request k)) (unfinished_at sys c) rest' → (b : Bool)
+      → completes (Beat.A (a_beat_of asked.request k)) (unfinished_at sys c Channel.A) ≡ b
+      → (is_empty (unfinished_at sys c Channel.A) ≡ true → k ≡ 0)
+      → IsAccess c (a_beat_of asked.request k) (is_empty (unfinished_at sys c Channel.A)) b (asked_by h.mail h.state c)
       (unfinished_at sys c) rest' h.state (replied_if source b)
   access_of source asked k ms queue next rests b last zeroth = record {
     access = asked.access;
@@ -66,11 +53,11 @@ module _ {w : ℕ} (config : Config) (log : Log w) (h : AbstractState w) (sys : 
           h.mail h.state (ap is_access asked.used) asked.is_it,
       zeroth first,
     );
-    came = λ i. came-so (comes_in_request i) (message.A asked.request) y (unfinished_at sys c channel.A) ms queue
+    came = λ i. came-so (comes_in_request i) (Message.A asked.request) y (unfinished_at sys c Channel.A) ms queue
         (asked.request.source == i) next refl (λ j. refl);
     comes = λ i. cc (
-      rests channel.A,
-      comes-so (comes_in_request i) y (unfinished_at sys c channel.A)
+      rests Channel.A,
+      comes-so (comes_in_request i) y (unfinished_at sys c Channel.A)
           (asked.request.source == i) refl refl,
       last,
     );
@@ -81,7 +68,7 @@ module _ {w : ℕ} (config : Config) (log : Log w) (h : AbstractState w) (sys : 
   }
     where
       y : Beat w
-      y = beat.A (a_beat_of asked.request k)
+      y = Beat.A (a_beat_of asked.request k)
 
       blocks : (z : Bool) (m : ℕ) → (replied_if source z).block m ≡ h.state.block m
       blocks true m = refl
@@ -102,26 +89,26 @@ module _ {w : ℕ} (config : Config) (log : Log w) (h : AbstractState w) (sys : 
 
   pub own-access : (source : ℕ) (asked : IsAsked config c source h.mail h.state) (x : Beat w) (ms : List (Message w))
       (queue : List (Beat w))
-      → IsNext x (unfinished_at sys c channel.A) (message.A asked.request) ms queue
+      → IsNext x (unfinished_at sys c Channel.A) (Message.A asked.request) ms queue
       → AreRests x (unfinished_at sys c) rest'
-      → (b : Bool) → completes x (unfinished_at sys c channel.A) ≡ b → MonitorRelation (asked_by h.mail h.state c) rest'
+      → (b : Bool) → completes x (unfinished_at sys c Channel.A) ≡ b → MonitorRelation (asked_by h.mail h.state c) rest'
       c (replied_if source b) (x ∷ t)
   own-access source asked x ms queue next rests b last =
       subst (λ (z : Beat w). MonitorRelation (asked_by h.mail h.state c) rest' c (replied_if source b) (z ∷ t))
       (sym next.beat_is)
-      (flowed-access c (a_beat_of asked.request next.k) (is_empty (unfinished_at sys c channel.A)) b
+      (flowed-access c (a_beat_of asked.request next.k) (is_empty (unfinished_at sys c Channel.A)) b
       (asked_by h.mail h.state c) (unfinished_at sys c) rest' h.state (replied_if source b) t
-      (ap is_empty (flowed.rest_is channel.A)) (ap (completes (beat.A (a_beat_of asked.request next.k)))
-      (flowed.rest_is channel.A) ∙ last_y) rests_y
+      (ap is_empty (flowed.rest_is Channel.A)) (ap (completes (Beat.A (a_beat_of asked.request next.k)))
+      (flowed.rest_is Channel.A) ∙ last_y) rests_y
       (access_of source asked next.k ms queue
-      (subst (λ (z : Beat w). IsNext z (unfinished_at sys c channel.A) (message.A asked.request) ms queue)
+      (subst (λ (z : Beat w). IsNext z (unfinished_at sys c Channel.A) (Message.A asked.request) ms queue)
       next.beat_is next) rests_y b last_y
-      (first-zero (message.A asked.request) x (unfinished_at sys c channel.A) ms queue next)) flowed)
+      (first-zero (Message.A asked.request) x (unfinished_at sys c Channel.A) ms queue next)) flowed)
     where
-      last_y : completes (beat.A (a_beat_of asked.request next.k)) (unfinished_at sys c channel.A) ≡ b
-      last_y = sym (ap (λ (z : Beat w). completes z (unfinished_at sys c channel.A)) next.beat_is) ∙ last
+      last_y : completes (Beat.A (a_beat_of asked.request next.k)) (unfinished_at sys c Channel.A) ≡ b
+      last_y = sym (ap (λ (z : Beat w). completes z (unfinished_at sys c Channel.A)) next.beat_is) ∙ last
 
-      rests_y : AreRests (beat.A (a_beat_of asked.request next.k)) (unfinished_at sys c) rest'
+      rests_y : AreRests (Beat.A (a_beat_of asked.request next.k)) (unfinished_at sys c) rest'
       rests_y = subst (λ (z : Beat w). AreRests z (unfinished_at sys c) rest') next.beat_is rests
 
   -- ---- an Acquire
@@ -165,14 +152,14 @@ module _ {w : ℕ} (config : Config) (log : Log w) (h : AbstractState w) (sys : 
         → ((i : ℕ) → s'.lets c i ≡ s.lets c i) → ((i : ℕ) → s'.tracked i ≡ set tracker (Some n) s.tracked i)
         → IsTakenUp new
         → (x : Beat w) (ms : List (Message w)) (queue : List (Beat w))
-        → IsNext x (unfinished_at sys c channel.A) (message.A (acquire_wanted c n s wanted)) ms queue
+        → IsNext x (unfinished_at sys c Channel.A) (Message.A (acquire_wanted c n s wanted)) ms queue
         → AreRests x (unfinished_at sys c) rest'
         → MonitorRelation asked' rest' c s' (x ∷ t)
     acquired new s' changed uses lets tracked taken x ms queue next rests =
         subst (λ (z : Beat w). MonitorRelation asked' rest' c s' (z ∷ t)) (sym x_is)
         (flowed-acquire c n y (asked_by h.mail s c) asked' (unfinished_at sys c) rest' s s' t
-        (ap is_empty (flowed.rest_is channel.A ∙ one.1))
-        (ap (completes (beat.A y)) (flowed.rest_is channel.A) ∙ last_y) rests_y (record {
+        (ap is_empty (flowed.rest_is Channel.A ∙ one.1))
+        (ap (completes (Beat.A y)) (flowed.rest_is Channel.A) ∙ last_y) rests_y (record {
           acquire = acquires-so wanted.whole;
           at = same_block n;
           use_is = λ i e. ap (s.uses c) (sym (eqb-true ((s.block n).source c) i e)) ∙ wanted.used;
@@ -187,8 +174,8 @@ module _ {w : ℕ} (config : Config) (log : Log w) (h : AbstractState w) (sys : 
           coming = coming-granting config log h.mail h.request s sys c is;
           came = λ i. ap (comes_in_request i) one.1;
           comes = λ i. cc (
-            rests_y channel.A,
-            comes-so (comes_in_request i) (beat.A y) (unfinished_at sys c channel.A)
+            rests_y Channel.A,
+            comes-so (comes_in_request i) (Beat.A y) (unfinished_at sys c Channel.A)
                 ((s.block n).source c == i) refl refl,
             last_y,
           );
@@ -196,7 +183,7 @@ module _ {w : ℕ} (config : Config) (log : Log w) (h : AbstractState w) (sys : 
           elsewhere = λ m ne. changed m ∙ set-other n m new s.block ne;
           uses = uses;
           lets = lets;
-          sinks = λ i. sunk-elsewhere c i n (unfinished_at sys c channel.D) (s.tracked i) (s'.tracked i) s s'
+          sinks = λ i. sunk-elsewhere c i n (unfinished_at sys c Channel.D) (s.tracked i) (s'.tracked i) s s'
               (λ m ne. changed m ∙ set-other n m new s.block ne)
               (subst (λ (o : Option ℕ). (o ≡ s.tracked i) ⊎ (IsWithin n (s.tracked i) × IsWithin n o)) (sym (tracked i))
               (tracked-new n tracker s.tracked unused i))
@@ -213,17 +200,17 @@ module _ {w : ℕ} (config : Config) (log : Log w) (h : AbstractState w) (sys : 
         y : BeatA w
         y = a_beat_of (acquire_wanted c n s wanted) 0
 
-        one : (next.k ≡ 0) × (unfinished_at sys c channel.A ≡ []) × (completes x (unfinished_at sys c channel.A) ≡ true)
-        one = one-beat (message.A (acquire_wanted c n s wanted)) x (unfinished_at sys c channel.A) ms queue next
+        one : (next.k ≡ 0) × (unfinished_at sys c Channel.A ≡ []) × (completes x (unfinished_at sys c Channel.A) ≡ true)
+        one = one-beat (Message.A (acquire_wanted c n s wanted)) x (unfinished_at sys c Channel.A) ms queue next
             (acquisition_beats w wanted.whole wanted.grow ((s.block n).source c) n)
 
-        x_is : x ≡ beat.A y
-        x_is = next.beat_is ∙ ap (λ (j : ℕ). beat.A (a_beat_of (acquire_wanted c n s wanted) j)) one.0
+        x_is : x ≡ Beat.A y
+        x_is = next.beat_is ∙ ap (λ (j : ℕ). Beat.A (a_beat_of (acquire_wanted c n s wanted) j)) one.0
 
-        last_y : completes (beat.A y) (unfinished_at sys c channel.A) ≡ true
-        last_y = sym (ap (λ (z : Beat w). completes z (unfinished_at sys c channel.A)) x_is) ∙ one.2
+        last_y : completes (Beat.A y) (unfinished_at sys c Channel.A) ≡ true
+        last_y = sym (ap (λ (z : Beat w). completes z (unfinished_at sys c Channel.A)) x_is) ∙ one.2
 
-        rests_y : AreRests (beat.A y) (unfinished_at sys c) rest'
+        rests_y : AreRests (Beat.A y) (unfinished_at sys c) rest'
         rests_y = subst (λ (z : Beat w). AreRests z (unfinished_at sys c) rest') x_is rests
 
         now : s'.block n ≡ new
@@ -231,10 +218,10 @@ module _ {w : ℕ} (config : Config) (log : Log w) (h : AbstractState w) (sys : 
 
         -- no Grant that was delivered in part is of the block
         none_comes : (i : ℕ) → set tracker (Some n) s.tracked i ≡ Some n
-            → comes_in_grant i (unfinished_at sys c channel.D) ≡ false
-        none_comes i e = go (comes_in_grant i (unfinished_at sys c channel.D)) refl
+            → comes_in_grant i (unfinished_at sys c Channel.D) ≡ false
+        none_comes i e = go (comes_in_grant i (unfinished_at sys c Channel.D)) refl
           where
-            go : (b : Bool) → comes_in_grant i (unfinished_at sys c channel.D) ≡ b → b ≡ false
+            go : (b : Bool) → comes_in_grant i (unfinished_at sys c Channel.D) ≡ b → b ≡ false
             go false f = refl
             go true f = absurd (elim (cases_eq i tracker) [
               | inl same ↦ let no : None ≡ Some of.0 = sym unused ∙ sym (ap s.tracked same) ∙ of.2 in cc
@@ -250,7 +237,7 @@ module _ {w : ℕ} (config : Config) (log : Log w) (h : AbstractState w) (sys : 
                 of = coming-sink config log h.mail h.request s sys c i is f
 
         unsunk : (i : ℕ) → set tracker (Some n) s.tracked i ≡ Some n
-            → sunk_in c i (unfinished_at sys c channel.D) (s'.block n) ≡ false
+            → sunk_in c i (unfinished_at sys c Channel.D) (s'.block n) ≡ false
         unsunk i e = rw (
           ap (λ (b : Block (List ℕ)). is_acknowledging (view b.service c)) now ∙ taken.waits_so,
           none_comes i e,
@@ -261,7 +248,7 @@ module _ {w : ℕ} (config : Config) (log : Log w) (h : AbstractState w) (sys : 
 
     -- it waits for ProbeAcks
     pub own-acquire_served : (k : Cap) (toks : List Packet) (x : Beat w) (ms : List (Message w)) (queue : List (Beat w))
-        → IsNext x (unfinished_at sys c channel.A) (message.A (acquire_wanted c n s wanted)) ms queue
+        → IsNext x (unfinished_at sys c Channel.A) (Message.A (acquire_wanted c n s wanted)) ms queue
         → AreRests x (unfinished_at sys c) rest'
         → MonitorRelation asked' rest' c (acquire_served c n ((s.block n).source c) tracker k toks s) (x ∷ t)
     own-acquire_served k toks = acquired new (acquire_served c n ((s.block n).source c) tracker k toks s) (λ m. refl)
@@ -288,7 +275,7 @@ module _ {w : ℕ} (config : Config) (log : Log w) (h : AbstractState w) (sys : 
     -- it is granted at once
     pub own-acquire_granted : (d : Bool) (k : Cap) (toks : List Packet) (x : Beat w) (ms : List (Message w))
         (queue : List (Beat w))
-        → IsNext x (unfinished_at sys c channel.A) (message.A (acquire_wanted c n s wanted)) ms queue
+        → IsNext x (unfinished_at sys c Channel.A) (Message.A (acquire_wanted c n s wanted)) ms queue
         → AreRests x (unfinished_at sys c) rest'
         → MonitorRelation asked' rest' c (acquire_granted c n tracker d k toks s) (x ∷ t)
     own-acquire_granted d k toks = acquired new (acquire_granted c n tracker d k toks s) (λ m. refl) (λ i. refl)

@@ -2,44 +2,34 @@
 use Rattle.tl_coherence.proofs.flow.Imports.{Beat, BeatA, Channel, Message, MessageD, History, unfinished, is_empty}
 use Rattle.tl_coherence.proofs.flow.Imports.{completes, Config, Cap, comes_in_grant, is_grant, is_release_ack, asks_for}
 use Rattle.tl_coherence.proofs.flow.Imports.{same_block, MonitorRelation, AbstractState, acquires_of, is_busy}
-use Rattle.tl_coherence.proofs.flow.Imports.{comes_granting, Log, ClientBlock, Granting, is_unprobed}
-use Rattle.tl_coherence.proofs.flow.Imports.{is_unreleased, after_release_ack, Block, State, SourceFree, Acquires}
-use Rattle.tl_coherence.proofs.flow.Imports.{packet, shown, view, is_granting, is_answered, is_wanting, taken_block}
-use Rattle.tl_coherence.proofs.flow.Imports.{let_go_block, release_ack_taken, block_message, System, Answer, Grant}
-use Rattle.tl_coherence.proofs.flow.Imports.{ReleaseAck, Packet, SimulationRelation, is_caching, asked_by}
+use Rattle.tl_coherence.proofs.flow.Imports.{comes_granting, Log, ClientBlock, Granting, is_unprobed, is_unreleased}
+use Rattle.tl_coherence.proofs.flow.Imports.{after_release_ack, Block, State, SourceFree, Acquires, packet, shown, view}
+use Rattle.tl_coherence.proofs.flow.Imports.{is_granting, is_answered, is_wanting, taken_block, let_go_block}
+use Rattle.tl_coherence.proofs.flow.Imports.{release_ack_taken, block_message, System, Answer, Grant, ReleaseAck}
+use Rattle.tl_coherence.proofs.flow.Imports.{Packet, SimulationRelation, is_caching, asked_by}
 use Rattle.std.proofs.Common.{◌≡◌, subst, ℕ, Bool, true, false, not, ◌&&◌, List, [], ◌∷◌, Option, None, refl, sym, ◌∙◌}
 use Rattle.std.proofs.Common.{ap, inl}
 use Rattle.std.specs.Prelude.{◌==◌, if◌then◌else◌}
 use Rattle.std.proofs.lemmas.Bool.{eqb-false, eqb-true, and_right as with_false}
-use Rattle.tl_beat.specs.declared.beat.Beat.TheVariants as beat
-use Rattle.tl_beat.specs.declared.channel.Channel.TheVariants as channel
-use Rattle.tl_burst.specs.declared.message.Message.TheVariants as message
 use Rattle.tl_burst.specs.statement.Burst.{d_beat_of}
 use Rattle.tl_params.specs.statement.Param.{cap_right}
-use Rattle.tl_manager.proofs.blocks.Recording.{cap-gives}
-use Rattle.tl_manager.proofs.services.Serving.{not_swapped}
+use Rattle.tl_manager.{proofs.blocks.Recording.cap-gives, proofs.services.Serving.not_swapped}
+use Rattle.tl_manager.{proofs.pending.Answered.no_ack_grant}
 use Rattle.tl_coherence.specs.protocol.PhaseSteps.{after_grant}
 use Rattle.tl_coherence.specs.protocol.Protocol.{answer_taken, grant_taken}
-use Rattle.tl_coherence.proofs.client.Aside.{set_at-else}
-use Rattle.tl_coherence.proofs.queues.Carried.{IsNext}
-use Rattle.tl_coherence.proofs.client.ClientDelivered.{ack_next}
-use Rattle.tl_coherence.proofs.client.ClientEnd.{asks-same, asks-acquire}
+use Rattle.tl_coherence.proofs.{client.Aside.set_at-else, queues.Carried.IsNext, client.ClientDelivered.ack_next}
+use Rattle.tl_coherence.proofs.{client.ClientEnd.asks-same, client.ClientEnd.asks-acquire, queues.Facts.granting_alone}
+use Rattle.tl_coherence.proofs.{flow.FlowAlone.AreRests, flow.FlowAnswered.flowed-answer}
+use Rattle.tl_coherence.proofs.{flow.FlowAnswered.flowed-let_go, flow.FlowGranted.seen_after}
+use Rattle.tl_coherence.proofs.{flow.FlowGranted.flowed-grant, flow.FlowResponses.grant_quiet}
+use Rattle.tl_coherence.proofs.{flow.FlowResponses.grant_tracked, flow.FlowStep.held_by, queues.Phases.and_right}
+use Rattle.tl_coherence.proofs.{protocol.BothParts.acked-is, queues.Codes.access_kind, queues.Codes.grants-so}
+use Rattle.tl_coherence.proofs.{simulation.Popped.unfinished_at}
 use Rattle.tl_coherence.proofs.protocol.HeadOfD.{IsAnswerDue, answer-due, IsGrantDue, grant-rendered, grant_message}
 use Rattle.tl_coherence.proofs.protocol.HeadOfD.{ack_message, own_view}
-use Rattle.tl_coherence.proofs.queues.Facts.{granting_alone}
-use Rattle.tl_coherence.proofs.flow.FlowAlone.{AreRests}
-use Rattle.tl_coherence.proofs.flow.FlowAnswered.{flowed-answer, flowed-let_go}
 use Rattle.tl_coherence.proofs.flow.FlowBeats.{came-so, comes-so, one-beat, set_at-if, same_perms, unused-else}
 use Rattle.tl_coherence.proofs.flow.FlowBeats.{first_false}
-use Rattle.tl_coherence.proofs.flow.FlowGranted.{seen_after, flowed-grant}
-use Rattle.tl_coherence.proofs.flow.FlowResponses.{grant_quiet, grant_tracked}
-use Rattle.tl_coherence.proofs.flow.FlowStep.{held_by}
-use Rattle.tl_coherence.proofs.queues.Phases.{and_right}
 use Rattle.tl_coherence.proofs.queues.Tokens.{same_number, set-same, set-other, holds-first}
-use Rattle.tl_coherence.proofs.protocol.BothParts.{acked-is}
-use Rattle.tl_coherence.proofs.queues.Codes.{access_kind, grants-so}
-use Rattle.tl_manager.proofs.pending.Answered.{no_ack_grant}
-use Rattle.tl_coherence.proofs.simulation.Popped.{unfinished_at}
 
 module _ {w : ℕ} (config : Config) (log : Log w) (h : AbstractState w) (sys : System w) (c : ℕ)
     (is : SimulationRelation config log h.mail h.request h.state sys)
@@ -55,67 +45,67 @@ module _ {w : ℕ} (config : Config) (log : Log w) (h : AbstractState w) (sys : 
   -- ---- a beat of channel D
 
   module _ (m : MessageD w) (x : Beat w) (ms : List (Message w)) (queue : List (Beat w))
-      (next : IsNext x (unfinished_at sys c channel.D) (message.D m) ms queue)
+      (next : IsNext x (unfinished_at sys c Channel.D) (Message.D m) ms queue)
       (rests : AreRests x (unfinished_at sys c) rest') (b : Bool)
-      (last : completes x (unfinished_at sys c channel.D) ≡ b) where
-    rests_y : AreRests (beat.D (d_beat_of m next.k)) (unfinished_at sys c) rest'
+      (last : completes x (unfinished_at sys c Channel.D) ≡ b) where
+    rests_y : AreRests (Beat.D (d_beat_of m next.k)) (unfinished_at sys c) rest'
     rests_y = subst (λ (z : Beat w). AreRests z (unfinished_at sys c) rest') next.beat_is rests
 
-    last_y : completes (beat.D (d_beat_of m next.k)) (unfinished_at sys c channel.D) ≡ b
-    last_y = sym (ap (λ (z : Beat w). completes z (unfinished_at sys c channel.D)) next.beat_is) ∙ last
+    last_y : completes (Beat.D (d_beat_of m next.k)) (unfinished_at sys c Channel.D) ≡ b
+    last_y = sym (ap (λ (z : Beat w). completes z (unfinished_at sys c Channel.D)) next.beat_is) ∙ last
 
-    next_y : IsNext (beat.D (d_beat_of m next.k)) (unfinished_at sys c channel.D) (message.D m) ms queue
-    next_y = subst (λ (z : Beat w). IsNext z (unfinished_at sys c channel.D) (message.D m) ms queue) next.beat_is next
+    next_y : IsNext (Beat.D (d_beat_of m next.k)) (unfinished_at sys c Channel.D) (Message.D m) ms queue
+    next_y = subst (λ (z : Beat w). IsNext z (unfinished_at sys c Channel.D) (Message.D m) ms queue) next.beat_is next
 
     -- what of a Grant with sink i was delivered, before and afterwards
-    came : (i : ℕ) → comes_in_grant i (unfinished_at sys c channel.D)
-        ≡ (not (is_empty (unfinished_at sys c channel.D)) && (is_grant m.opcode && (m.sink == i)))
-    came i = came-so (comes_in_grant i) (message.D m) (beat.D (d_beat_of m next.k)) (unfinished_at sys c channel.D) ms
+    came : (i : ℕ) → comes_in_grant i (unfinished_at sys c Channel.D)
+        ≡ (not (is_empty (unfinished_at sys c Channel.D)) && (is_grant m.opcode && (m.sink == i)))
+    came i = came-so (comes_in_grant i) (Message.D m) (Beat.D (d_beat_of m next.k)) (unfinished_at sys c Channel.D) ms
         queue (is_grant m.opcode && (m.sink == i)) next_y refl (λ j. refl)
 
-    comes : (i : ℕ) → comes_in_grant i (rest' channel.D) ≡ (not b && (is_grant m.opcode && (m.sink == i)))
+    comes : (i : ℕ) → comes_in_grant i (rest' Channel.D) ≡ (not b && (is_grant m.opcode && (m.sink == i)))
     comes i = cc (
-      rests_y channel.D,
-      comes-so (comes_in_grant i) (beat.D (d_beat_of m next.k))
-          (unfinished_at sys c channel.D) (is_grant m.opcode && (m.sink == i)) refl refl,
+      rests_y Channel.D,
+      comes-so (comes_in_grant i) (Beat.D (d_beat_of m next.k))
+          (unfinished_at sys c Channel.D) (is_grant m.opcode && (m.sink == i)) refl refl,
       last_y,
     )
 
     -- and of a Grant of block j
-    granted : (j : ℕ) → comes_granting j before (unfinished_at sys c channel.D)
-        ≡ (not (is_empty (unfinished_at sys c channel.D)) && (is_grant m.opcode && asks_for j (before m.source)))
-    granted j = came-so (comes_granting j before) (message.D m) (beat.D (d_beat_of m next.k))
-        (unfinished_at sys c channel.D) ms queue
+    granted : (j : ℕ) → comes_granting j before (unfinished_at sys c Channel.D)
+        ≡ (not (is_empty (unfinished_at sys c Channel.D)) && (is_grant m.opcode && asks_for j (before m.source)))
+    granted j = came-so (comes_granting j before) (Message.D m) (Beat.D (d_beat_of m next.k))
+        (unfinished_at sys c Channel.D) ms queue
         (is_grant m.opcode && asks_for j (before m.source)) next_y refl (λ i. refl)
 
     grants : (asked' : ℕ → Option (BeatA w)) (j : ℕ)
-        → comes_granting j asked' (rest' channel.D) ≡ (not b && (is_grant m.opcode && asks_for j (asked' m.source)))
+        → comes_granting j asked' (rest' Channel.D) ≡ (not b && (is_grant m.opcode && asks_for j (asked' m.source)))
     grants asked' j = cc (
-      rests_y channel.D,
-      comes-so (comes_granting j asked') (beat.D (d_beat_of m next.k))
-          (unfinished_at sys c channel.D) (is_grant m.opcode && asks_for j (asked' m.source)) refl refl,
+      rests_y Channel.D,
+      comes-so (comes_granting j asked') (Beat.D (d_beat_of m next.k))
+          (unfinished_at sys c Channel.D) (is_grant m.opcode && asks_for j (asked' m.source)) refl refl,
       last_y,
     )
 
-    begins_y : is_empty (unfinished channel.D t) ≡ is_empty (unfinished_at sys c channel.D)
-    begins_y = ap is_empty (flowed.rest_is channel.D)
+    begins_y : is_empty (unfinished Channel.D t) ≡ is_empty (unfinished_at sys c Channel.D)
+    begins_y = ap is_empty (flowed.rest_is Channel.D)
 
-    ends_y : completes (beat.D (d_beat_of m next.k)) (unfinished channel.D t) ≡ b
-    ends_y = ap (completes (beat.D (d_beat_of m next.k))) (flowed.rest_is channel.D) ∙ last_y
+    ends_y : completes (Beat.D (d_beat_of m next.k)) (unfinished Channel.D t) ≡ b
+    ends_y = ap (completes (Beat.D (d_beat_of m next.k))) (flowed.rest_is Channel.D) ∙ last_y
 
     -- nothing comes of a message that is no Grant
-    none_came : is_grant m.opcode ≡ false → (i : ℕ) → comes_in_grant i (rest' channel.D) ≡ comes_in_grant i
-        (unfinished_at sys c channel.D)
+    none_came : is_grant m.opcode ≡ false → (i : ℕ) → comes_in_grant i (rest' Channel.D) ≡ comes_in_grant i
+        (unfinished_at sys c Channel.D)
     none_came e i = comes i ∙ with_false (not b) (is_grant m.opcode && (m.sink == i))
         (first_false (is_grant m.opcode) (m.sink == i) e)
-        ∙ sym (came i ∙ with_false (not (is_empty (unfinished_at sys c channel.D))) (is_grant m.opcode && (m.sink == i))
+        ∙ sym (came i ∙ with_false (not (is_empty (unfinished_at sys c Channel.D))) (is_grant m.opcode && (m.sink == i))
         (first_false (is_grant m.opcode) (m.sink == i) e))
 
     none_granted : is_grant m.opcode ≡ false → (asked' : ℕ → Option (BeatA w)) (j : ℕ)
-        → comes_granting j asked' (rest' channel.D) ≡ comes_granting j before (unfinished_at sys c channel.D)
+        → comes_granting j asked' (rest' Channel.D) ≡ comes_granting j before (unfinished_at sys c Channel.D)
     none_granted e asked' j = grants asked' j ∙ with_false (not b) (is_grant m.opcode && asks_for j (asked' m.source))
         (first_false (is_grant m.opcode) (asks_for j (asked' m.source)) e)
-        ∙ sym (granted j ∙ with_false (not (is_empty (unfinished_at sys c channel.D)))
+        ∙ sym (granted j ∙ with_false (not (is_empty (unfinished_at sys c Channel.D)))
         (is_grant m.opcode && asks_for j (before m.source))
         (first_false (is_grant m.opcode) (asks_for j (before m.source)) e))
 
@@ -132,20 +122,21 @@ module _ {w : ℕ} (config : Config) (log : Log w) (h : AbstractState w) (sys : 
   answer_asks : (source : ℕ) (b : Bool) (i j : ℕ) → j ≡ source → (b && (j == i)) ≡ false
       → asked_by h.mail (answered_if source b) c i ≡ before i
   answer_asks source true i j e f = asks-same c i h.mail h.mail s (answer_taken c source toks s) refl
-      (inl (set_at-else c source i SourceFree s.uses (λ same. eqb-false source i (sym (ap (λ (k : ℕ). k == i) e) ∙ f) (sym same)) c))
+      (inl (set_at-else c source i SourceFree s.uses (λ same. eqb-false source i (sym (ap (λ (k : ℕ). k == i) e) ∙ f)
+      (sym same)) c))
       (λ n used. refl) (λ n used. refl)
   answer_asks source false i j e f = refl
 
   pub own-answer : (source : ℕ) → (s.link c).d ≡ packet Answer source ∷ toks
       → (x : Beat w) (ms : List (Message w)) (queue : List (Beat w))
-      → IsNext x (unfinished_at sys c channel.D) (h.mail.answer c source) ms queue
+      → IsNext x (unfinished_at sys c Channel.D) (h.mail.answer c source) ms queue
       → AreRests x (unfinished_at sys c) rest'
-      → (b : Bool) → completes x (unfinished_at sys c channel.D) ≡ b
+      → (b : Bool) → completes x (unfinished_at sys c Channel.D) ≡ b
       → MonitorRelation (asked_by h.mail (answered_if source b) c) rest' c (answered_if source b) (x ∷ t)
   own-answer source tokens x ms queue next rests b last =
       subst (λ (z : Beat w). MonitorRelation (asked_by h.mail (answered_if source b) c) rest' c (answered_if source b)
       (z ∷ t)) (sym here.beat_is)
-      (flowed-answer c (d_beat_of due.answer here.k) (is_empty (unfinished_at sys c channel.D)) b before
+      (flowed-answer c (d_beat_of due.answer here.k) (is_empty (unfinished_at sys c Channel.D)) b before
       (asked_by h.mail (answered_if source b) c)
       (unfinished_at sys c) rest' s (answered_if source b) t (begins_y due.answer x ms queue here rests b last)
       (ends_y due.answer x ms queue here rests b last)
@@ -164,8 +155,8 @@ module _ {w : ℕ} (config : Config) (log : Log w) (h : AbstractState w) (sys : 
       due : IsAnswerDue c source h.mail s
       due = answer-due (is_caching config) c source toks h.mail s is.invariant (is.answered c source) tokens
 
-      here : IsNext x (unfinished_at sys c channel.D) (message.D due.answer) ms queue
-      here = subst (λ (i : Message w). IsNext x (unfinished_at sys c channel.D) i ms queue) due.answer_is next
+      here : IsNext x (unfinished_at sys c Channel.D) (Message.D due.answer) ms queue
+      here = subst (λ (i : Message w). IsNext x (unfinished_at sys c Channel.D) i ms queue) due.answer_is next
 
       kind : (is_grant due.answer.opcode ≡ false) × (is_release_ack due.answer.opcode ≡ false)
       kind = access_kind due.answer.opcode due.answers_access
@@ -186,7 +177,7 @@ module _ {w : ℕ} (config : Config) (log : Log w) (h : AbstractState w) (sys : 
 
   pub own-release_ack : (n : ℕ) → (s.link c).d ≡ packet ReleaseAck n ∷ toks
       → (x : Beat w) (ms : List (Message w)) (queue : List (Beat w))
-      → IsNext x (unfinished_at sys c channel.D) (block_message ReleaseAck c n (s.block n)) ms queue
+      → IsNext x (unfinished_at sys c Channel.D) (block_message ReleaseAck c n (s.block n)) ms queue
       → AreRests x (unfinished_at sys c) rest'
       → (asked' : ℕ → Option (BeatA w)) → ((i : ℕ) → asked' i ≡ before i)
       → MonitorRelation asked' rest' c (release_ack_taken c n toks s) (x ∷ t)
@@ -221,11 +212,11 @@ module _ {w : ℕ} (config : Config) (log : Log w) (h : AbstractState w) (sys : 
       m : MessageD w
       m = ack_message ((s.block n).release_source c)
 
-      here : IsNext x (unfinished_at sys c channel.D) (message.D m) ms queue
-      here = ack_next c n s x (unfinished_at sys c channel.D) ms queue next
+      here : IsNext x (unfinished_at sys c Channel.D) (Message.D m) ms queue
+      here = ack_next c n s x (unfinished_at sys c Channel.D) ms queue next
 
-      one : (here.k ≡ 0) × (unfinished_at sys c channel.D ≡ []) × (completes x (unfinished_at sys c channel.D) ≡ true)
-      one = one-beat (message.D m) x (unfinished_at sys c channel.D) ms queue here refl
+      one : (here.k ≡ 0) × (unfinished_at sys c Channel.D ≡ []) × (completes x (unfinished_at sys c Channel.D) ≡ true)
+      one = one-beat (Message.D m) x (unfinished_at sys c Channel.D) ms queue here refl
 
       new : Block (List ℕ)
       new = let_go_block c (s.block n)
@@ -258,14 +249,14 @@ module _ {w : ℕ} (config : Config) (log : Log w) (h : AbstractState w) (sys : 
 
   pub own-grant : (n : ℕ) → (s.link c).d ≡ packet Grant n ∷ toks → (due : IsGrantDue c n s) → (whole : Bool)
       → (x : Beat w) (ms : List (Message w)) (queue : List (Beat w))
-      → IsNext x (unfinished_at sys c channel.D) (block_message Grant c n (s.block n)) ms queue
+      → IsNext x (unfinished_at sys c Channel.D) (block_message Grant c n (s.block n)) ms queue
       → AreRests x (unfinished_at sys c) rest'
-      → (b : Bool) → completes x (unfinished_at sys c channel.D) ≡ b
+      → (b : Bool) → completes x (unfinished_at sys c Channel.D) ≡ b
       → MonitorRelation (asked_by h.mail (granted_if n whole due.data_too due.k b) c) rest' c
       (granted_if n whole due.data_too due.k b) (x ∷ t)
   own-grant n tokens due whole x ms queue next rests b last =
       subst (λ (z : Beat w). MonitorRelation (asked_by h.mail (s_if b) c) rest' c (s_if b) (z ∷ t)) (sym here.beat_is)
-      (flowed-grant c n due.data_too due.k (d_beat_of m here.k) (is_empty (unfinished_at sys c channel.D)) b before
+      (flowed-grant c n due.data_too due.k (d_beat_of m here.k) (is_empty (unfinished_at sys c Channel.D)) b before
       (asked_by h.mail (s_if b) c)
       (unfinished_at sys c) rest' s (s_if b) t (begins_y m x ms queue here rests b last)
       (ends_y m x ms queue here rests b last)
@@ -308,8 +299,8 @@ module _ {w : ℕ} (config : Config) (log : Log w) (h : AbstractState w) (sys : 
       m : MessageD w
       m = grant_message due.data_too due.k ((s.block n).source c) (s.block n).tracker (s.block n).truth
 
-      here : IsNext x (unfinished_at sys c channel.D) (message.D m) ms queue
-      here = subst (λ (i : Message w). IsNext x (unfinished_at sys c channel.D) i ms queue) (grant-rendered c n s due)
+      here : IsNext x (unfinished_at sys c Channel.D) (Message.D m) ms queue
+      here = subst (λ (i : Message w). IsNext x (unfinished_at sys c Channel.D) i ms queue) (grant-rendered c n s due)
           next
 
       s_if : Bool → State (List ℕ)

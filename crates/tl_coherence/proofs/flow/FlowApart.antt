@@ -1,19 +1,17 @@
 -- What an event leaves of what is delivered on a link: each value is as before, where the event isn't of the link, or
 -- comes of a beat of it that is accounted for.
 use Rattle.tl_coherence.proofs.flow.Imports.{Beat, BeatA, Channel, Cap, Grow, Prune, Report, comes_in_grant, is_sunk}
-use Rattle.tl_coherence.proofs.flow.Imports.{Own, Other, Granting, GrantedOther, is_unprobed, after_report}
-use Rattle.tl_coherence.proofs.flow.Imports.{Service, Free, Waits, GrantSent, GrantTaken, Block, State, SourceState}
-use Rattle.tl_coherence.proofs.flow.Imports.{InService, Replied, Acquires, view, is_granting, is_acknowledging}
-use Rattle.tl_coherence.proofs.flow.Imports.{is_answered, acquiring_block, acquire_asked, access_asked, releasing_block}
+use Rattle.tl_coherence.proofs.flow.Imports.{Own, Other, Granting, GrantedOther, is_unprobed, after_report, Service}
+use Rattle.tl_coherence.proofs.flow.Imports.{Free, Waits, GrantSent, GrantTaken, Block, State, SourceState, InService}
+use Rattle.tl_coherence.proofs.flow.Imports.{Replied, Acquires, view, is_granting, is_acknowledging, is_answered}
+use Rattle.tl_coherence.proofs.flow.Imports.{acquiring_block, acquire_asked, access_asked, releasing_block}
 use Rattle.tl_coherence.proofs.flow.Imports.{release_asked, granted_at_once, acquire_granted, served_block}
 use Rattle.tl_coherence.proofs.flow.Imports.{probed_block, probe_taken, reported_block, report_taken, let_block}
 use Rattle.tl_coherence.proofs.flow.Imports.{release_taken, taken_block, let_go_block, release_ack_taken, freed_block}
 use Rattle.tl_coherence.proofs.flow.Imports.{grant_ack_taken, Packet, set, set_at}
 use Rattle.std.proofs.Common.{◌≡◌, subst, ℕ, Bool, true, false, ◌&&◌, ◌||◌, Option, Some, None, refl, sym, ◌∙◌, ap}
 use Rattle.std.proofs.Common.{List, ◌⊎◌, inl, inr}
-use Rattle.std.specs.Prelude.{◌==◌, if◌then◌else◌}
-use Rattle.std.proofs.lemmas.Bool.{cases_eq}
-use Rattle.tl_beat.specs.declared.channel.Channel.TheVariants as channel
+use Rattle.std.{specs.Prelude.◌==◌, specs.Prelude.if◌then◌else◌, proofs.lemmas.Bool.cases_eq}
 use Rattle.tl_coherence.specs.protocol.Protocol.{stored_block, block_stored, performed_block, access_answered}
 use Rattle.tl_coherence.specs.protocol.Protocol.{access_served, ended_block, report_answers, granted_block}
 use Rattle.tl_coherence.specs.protocol.Protocol.{report_grants, answer_taken, grant_taken}
@@ -50,7 +48,7 @@ set-again n y z f m = elim (cases_eq m n) [
 
 module _ {w : ℕ} {X : Type 0} (d : ℕ) (asked asked' : ℕ → Option (BeatA w)) (rest : Channel → List (Beat w))
     (s : State X) (asks : (i : ℕ) → asked' i ≡ asked i)
-    (coming : IsComing asked (rest channel.D) d s) where
+    (coming : IsComing asked (rest Channel.D) d s) where
   -- ---- a state that differs in block n alone
 
   -- what is delivered is as it was
@@ -61,7 +59,7 @@ module _ {w : ℕ} {X : Type 0} (d : ℕ) (asked asked' : ℕ → Option (BeatA 
   IsChanged n b s' = (m : ℕ) → s'.block m ≡ set n b s.block m
 
   abbrev AreSameSinks : State X → Type 0
-  AreSameSinks s' = (i : ℕ) → is_sunk d i (rest channel.D) (s'.tracked i) s' ≡ is_sunk d i (rest channel.D)
+  AreSameSinks s' = (i : ℕ) → is_sunk d i (rest Channel.D) (s'.tracked i) s' ≡ is_sunk d i (rest Channel.D)
       (s.tracked i) s
 
   apart-at : (n : ℕ) (b : Block X) (s' : State X) → IsChanged n b s' → IsSameBlock d (s.block n) b
@@ -81,19 +79,20 @@ module _ {w : ℕ} {X : Type 0} (d : ℕ) (asked asked' : ℕ → Option (BeatA 
       → ((i : ℕ) → s'.tracked i ≡ s.tracked i) → AreSameSinks s'
   sinks-same n b s' changed same tracked i = cc (
     tracked i,
-    sunk-as d i (rest channel.D) (s.tracked i) s s' (λ m. ap
-        (sunk_in d i (rest channel.D)) (changed m) ∙ set-part (sunk_in d i (rest channel.D)) n b s.block (ap (λ (q :
-        Service). is_acknowledging (view q d) || (is_granting (view q d) && comes_in_grant i (rest channel.D))) same) m),
+    sunk-as d i (rest Channel.D) (s.tracked i) s s' (λ m. ap
+        (sunk_in d i (rest Channel.D)) (changed m) ∙ set-part (sunk_in d i (rest Channel.D)) n b s.block (ap (λ (q :
+        Service). is_acknowledging (view q d) || (is_granting (view q d) && comes_in_grant i (rest Channel.D))) same)
+        m),
   )
 
   sinks-outside : (n : ℕ) (b : Block X) (s' : State X) → IsChanged n b s'
       → is_outside (view (s.block n).service d) ≡ true → is_outside (view b.service d) ≡ true
       → ((i : ℕ) → (s'.tracked i ≡ s.tracked i) ⊎ (IsWithin n (s.tracked i) × IsWithin n (s'.tracked i)))
       → AreSameSinks s'
-  sinks-outside n b s' changed was now tracked i = cc (sunk-elsewhere d i n (rest channel.D) (s.tracked i) (s'.tracked
+  sinks-outside n b s' changed was now tracked i = cc (sunk-elsewhere d i n (rest Channel.D) (s.tracked i) (s'.tracked
       i) s s' (λ m ne. changed m ∙ set-other n m b s.block ne) (tracked i) (λ e. outside-unsunk (view (s.block
-      n).service d) (comes_in_grant i (rest channel.D)) was) (λ e. ap (sunk_in d i (rest channel.D)) (changed n ∙
-      set-same n b s.block) ∙ outside-unsunk (view b.service d) (comes_in_grant i (rest channel.D)) now))
+      n).service d) (comes_in_grant i (rest Channel.D)) was) (λ e. ap (sunk_in d i (rest Channel.D)) (changed n ∙
+      set-same n b s.block) ∙ outside-unsunk (view b.service d) (comes_in_grant i (rest Channel.D)) now))
 
   free-outside : (n : ℕ) → (s.block n).service ≡ Free → is_outside (view (s.block n).service d) ≡ true
   free-outside n free = ap (λ (q : Service). is_outside (view q d)) free
@@ -105,7 +104,7 @@ module _ {w : ℕ} {X : Type 0} (d : ℕ) (asked asked' : ℕ → Option (BeatA 
     blocks = λ m. same-block d (s.block m);
     uses = λ i. inl (set_at-other c d source i _ s.uses ne);
     lets = λ i. refl;
-    sinks = λ i. sunk-as d i (rest channel.D) (s.tracked i) s (access_asked c source s) (λ m. refl);
+    sinks = λ i. sunk-as d i (rest Channel.D) (s.tracked i) s (access_asked c source s) (λ m. refl);
     asked_is = asks;
     coming = coming;
   }
@@ -141,7 +140,7 @@ module _ {w : ℕ} {X : Type 0} (d : ℕ) (asked asked' : ℕ → Option (BeatA 
     blocks = λ m. same-block d (s.block m);
     uses = λ i. inl (set_at-other c d source i Replied s.uses ne);
     lets = λ i. refl;
-    sinks = λ i. sunk-as d i (rest channel.D) (s.tracked i) s (replied c source s) (λ m. refl);
+    sinks = λ i. sunk-as d i (rest Channel.D) (s.tracked i) s (replied c source s) (λ m. refl);
     asked_is = asks;
     coming = coming;
   }
@@ -208,7 +207,7 @@ module _ {w : ℕ} {X : Type 0} (d : ℕ) (asked asked' : ℕ → Option (BeatA 
     blocks = λ m. same-block d (s.block m);
     uses = λ i. inl (set_at-other c d source i _ s.uses ne);
     lets = λ i. refl;
-    sinks = λ i. sunk-as d i (rest channel.D) (s.tracked i) s (answer_taken c source toks s) (λ m. refl);
+    sinks = λ i. sunk-as d i (rest Channel.D) (s.tracked i) s (answer_taken c source toks s) (λ m. refl);
     asked_is = asks;
     coming = coming;
   }
@@ -243,7 +242,7 @@ module _ {w : ℕ} {X : Type 0} (d : ℕ) (asked asked' : ℕ → Option (BeatA 
 
 module _ {w : ℕ} {X : Type 0} (d : ℕ) (asked asked' : ℕ → Option (BeatA w)) (rest : Channel → List (Beat w))
     (s : State X) (asks : (i : ℕ) → asked' i ≡ asked i)
-    (coming : IsComing asked (rest channel.D) d s) where
+    (coming : IsComing asked (rest Channel.D) d s) where
   pub left-access_answered : (c n source : ℕ) (f : X → X) (toks : List Packet)
       → IsAside asked asked' rest d (replied c source s) (access_answered c n source f toks s)
   left-access_answered c n source f toks = left-performed d asked asked' rest (replied c source s) asks coming n f
@@ -269,7 +268,7 @@ module _ {w : ℕ} {X : Type 0} (d : ℕ) (asked asked' : ℕ → Option (BeatA 
     new_is : between.block n ≡ reported_block c r (s.block n)
     new_is = set-same n (reported_block c r (s.block n)) s.block
 
-    coming_still : IsComing asked (rest channel.D) d between
+    coming_still : IsComing asked (rest Channel.D) d between
     coming_still m e = set-part (λ (z : Block X). is_granting (view z.service d)) n (reported_block c r (s.block n))
         s.block refl m ∙ coming m e
 
@@ -313,7 +312,7 @@ module _ {w : ℕ} {X : Type 0} (d : ℕ) (asked asked' : ℕ → Option (BeatA 
     pub left-report_grants : (q source : ℕ) (j k : Cap) (x : Bool) → (s.block n).service ≡ Waits q true source j
         → ((i : ℕ) → (i ≡ c → ⊥) → is_answered ((s.block n).pair i).probing ≡ false) → (q ≡ c → ⊥)
         → ((s.block n).pair q).held ≡ ((s.block n).pair q).recorded
-        → ((i : ℕ) → s.tracked i ≡ Some n → comes_in_grant i (rest channel.D) ≡ false)
+        → ((i : ℕ) → s.tracked i ≡ Some n → comes_in_grant i (rest Channel.D) ≡ false)
         → IsAside asked asked' rest d (report_taken c n r toks s) (report_grants c q n r x k toks s)
     left-report_grants q source j k x waits quiet apart even none =
         apart-at d asked asked' rest between asks coming_still n new (report_grants c q n r x k toks s) changed
@@ -331,11 +330,11 @@ module _ {w : ℕ} {X : Type 0} (d : ℕ) (asked asked' : ℕ → Option (BeatA 
           | inr other ↦ same-granted d c q source r j k x (s.block n) other waits (unanswered quiet)
         ]
 
-        unsunk_now : (i : ℕ) → s.tracked i ≡ Some n → sunk_in d i (rest channel.D) new ≡ false
+        unsunk_now : (i : ℕ) → s.tracked i ≡ Some n → sunk_in d i (rest Channel.D) new ≡ false
         unsunk_now i e = elim (cases_eq d q) [
           | inl here ↦ ap (λ (z : Bool). is_acknowledging (view new.service d)
               || (is_granting (view new.service d) && z)) (none i e) ∙ granted (d == q)
-          | inr other ↦ outside-unsunk (view new.service d) (comes_in_grant i (rest channel.D))
+          | inr other ↦ outside-unsunk (view new.service d) (comes_in_grant i (rest Channel.D))
               (outside-sent d q x k other)
         ]
           where
@@ -344,16 +343,16 @@ module _ {w : ℕ} {X : Type 0} (d : ℕ) (asked asked' : ℕ → Option (BeatA 
             granted true = refl
             granted false = refl
 
-        unsunk_then : (i : ℕ) → sunk_in d i (rest channel.D) (between.block n) ≡ false
+        unsunk_then : (i : ℕ) → sunk_in d i (rest Channel.D) (between.block n) ≡ false
         unsunk_then i = cc (seen (Waits q true source j) waits, waiting (d == q))
           where
             waiting : (z : Bool) → (is_acknowledging (if true && z then Own else Other j)
-                || (is_granting (if true && z then Own else Other j) && comes_in_grant i (rest channel.D))) ≡ false
+                || (is_granting (if true && z then Own else Other j) && comes_in_grant i (rest Channel.D))) ≡ false
             waiting true = refl
             waiting false = refl
 
-        sinks : (i : ℕ) → is_sunk d i (rest channel.D) (s.tracked i) (report_grants c q n r x k toks s) ≡ is_sunk d i
-            (rest channel.D) (s.tracked i) between
-        sinks i = cc (sunk-elsewhere d i n (rest channel.D) (s.tracked i) (s.tracked i) between
+        sinks : (i : ℕ) → is_sunk d i (rest Channel.D) (s.tracked i) (report_grants c q n r x k toks s) ≡ is_sunk d i
+            (rest Channel.D) (s.tracked i) between
+        sinks i = cc (sunk-elsewhere d i n (rest Channel.D) (s.tracked i) (s.tracked i) between
             (report_grants c q n r x k toks s) (λ m ne. changed m ∙ set-other n m new between.block ne) (inl refl)
-            (λ e. unsunk_then i) (λ e. ap (sunk_in d i (rest channel.D)) (set-same n new s.block) ∙ unsunk_now i e))
+            (λ e. unsunk_then i) (λ e. ap (sunk_in d i (rest Channel.D)) (set-same n new s.block) ∙ unsunk_now i e))

@@ -1,40 +1,27 @@
 -- What is delivered on each link stays as it is when a client is asked for something.
 use Rattle.tl_coherence.proofs.flow.Imports.{IsWidth, BeatA, MessageA, History, Config, Grow, Prune, block_at}
-use Rattle.tl_coherence.proofs.flow.Imports.{MonitorRelation, AbstractState, Log, View, Granting}
-use Rattle.tl_coherence.proofs.flow.Imports.{NoAcquire, ClientBlock, after_release, Block}
-use Rattle.tl_coherence.proofs.flow.Imports.{SourceState, SourceFree, Asked, Acquires, view, is_granting, is_unserved}
-use Rattle.tl_coherence.proofs.flow.Imports.{is_wanting, access_asked, acquire_asked, release_asked, releasing_block}
-use Rattle.tl_coherence.proofs.flow.Imports.{AccessMessages, System, set_at, SimulationRelation, is_caching, asked_by}
+use Rattle.tl_coherence.proofs.flow.Imports.{MonitorRelation, AbstractState, Log, View, Granting, NoAcquire}
+use Rattle.tl_coherence.proofs.flow.Imports.{ClientBlock, after_release, Block, SourceState, SourceFree, Asked}
+use Rattle.tl_coherence.proofs.flow.Imports.{Acquires, view, is_granting, is_unserved, is_wanting, access_asked}
+use Rattle.tl_coherence.proofs.flow.Imports.{acquire_asked, release_asked, releasing_block, AccessMessages, System}
+use Rattle.tl_coherence.proofs.flow.Imports.{set_at, SimulationRelation, is_caching, asked_by, Channel, Message}
 use Rattle.std.proofs.Common.{◌≡◌, subst, ℕ, Bool, true, false, Option, refl, sym, ◌∙◌, ap, List, inl, inr}
-use Rattle.std.specs.Prelude.{◌==◌}
-use Rattle.std.proofs.lemmas.Bool.{cases_eq, ne_eqb}
-use Rattle.tl_beat.specs.declared.channel.Channel.TheVariants as channel
-use Rattle.tl_burst.specs.declared.message.Message.TheVariants as message
-use Rattle.tl_client.specs.declared.operation.Op.{Op}
-use Rattle.tl_client.specs.declared.operation.Op.TheVariants as op
-use Rattle.tl_client.specs.declared.reply.Reply.{Reply}
-use Rattle.tl_client.specs.declared.reply.Reply.TheVariants as reply
-use Rattle.tl_client.specs.statement.Ask.{copy_stored, whole_grow}
-use Rattle.tl_client.specs.statement.Send.{access}
-use Rattle.tl_coherence.specs.refinement.AbstractStep.{asked}
-use Rattle.tl_coherence.specs.protocol.Protocol.{block_stored}
-use Rattle.tl_coherence.proofs.client.Aside.{set_at-else}
-use Rattle.tl_coherence.proofs.client.AsideAll.{Leaves, leaves-asked}
-use Rattle.tl_coherence.proofs.deliveries.AskedAfter.{reply-cases, IsPlain}
-use Rattle.tl_coherence.proofs.memory.BesideAsked.{IsReply}
-use Rattle.tl_coherence.proofs.client.ClientRequests.{asks_acquire}
-use Rattle.tl_coherence.proofs.client.ClientEnd.{asks-same}
-use Rattle.tl_coherence.proofs.queues.Facts.{unserved_calm}
+use Rattle.std.{specs.Prelude.◌==◌, proofs.lemmas.Bool.cases_eq, proofs.lemmas.Bool.ne_eqb}
+use Rattle.tl_client.{specs.declared.operation.Op.Op, specs.declared.reply.Reply.Reply, specs.statement.Ask.copy_stored}
+use Rattle.tl_client.{specs.statement.Ask.whole_grow, specs.statement.Send.access}
+use Rattle.tl_coherence.specs.{refinement.AbstractStep.asked, protocol.Protocol.block_stored}
+use Rattle.tl_coherence.proofs.{client.Aside.set_at-else, client.AsideAll.Leaves, client.AsideAll.leaves-asked}
+use Rattle.tl_coherence.proofs.{deliveries.AskedAfter.reply-cases, deliveries.AskedAfter.IsPlain}
+use Rattle.tl_coherence.proofs.{memory.BesideAsked.IsReply, client.ClientRequests.asks_acquire}
+use Rattle.tl_coherence.proofs.{client.ClientEnd.asks-same, queues.Facts.unserved_calm, flow.ComingRequests.waits_on_a}
+use Rattle.tl_coherence.proofs.{flow.ComingRequests.not-coming_a, flow.FlowSame.flowed-untouched}
+use Rattle.tl_coherence.proofs.{protocol.FollowKept.IsAskable, queues.Tokens.set-same, queues.Tokens.set-part}
+use Rattle.tl_coherence.proofs.{simulation.Popped.unfinished_at}
 use Rattle.tl_coherence.proofs.flow.FlowApart.{left-access_asked, left-acquire_asked, left-release_asked}
 use Rattle.tl_coherence.proofs.flow.FlowApart.{left-block_stored}
 use Rattle.tl_coherence.proofs.flow.FlowAside.{IsComing, IsAside, flowed-aside}
 use Rattle.tl_coherence.proofs.flow.FlowAsked.{untouched-access_asked, untouched-acquire_asked, untouched-release_asked}
 use Rattle.tl_coherence.proofs.flow.FlowComing.{coming-granting, coming-asked, coming-free}
-use Rattle.tl_coherence.proofs.flow.ComingRequests.{waits_on_a, not-coming_a}
-use Rattle.tl_coherence.proofs.flow.FlowSame.{flowed-untouched}
-use Rattle.tl_coherence.proofs.protocol.FollowKept.{IsAskable}
-use Rattle.tl_coherence.proofs.queues.Tokens.{set-same, set-part}
-use Rattle.tl_coherence.proofs.simulation.Popped.{unfinished_at}
 
 -- what client d's end is left with asks for the same
 pub asks-left : {w : ℕ} (d : ℕ) (h h' : AbstractState w) → Leaves d h h' → (i : ℕ)
@@ -65,7 +52,7 @@ module _ {w : ℕ} (config : Config) (log : Log w) (h : AbstractState w) (sys : 
 
   -- ---- the client's own link
 
-  own-stored : (t : History w) (address size value : ℕ) → IsAskedOn c t (op.Store address size value) reply.Stored
+  own-stored : (t : History w) (address size value : ℕ) → IsAskedOn c t (Op.Store address size value) Reply.Stored
   own-stored t address size value may =
       let n = block_at address in
       let bytes = copy_stored address size value ((h.state.block n).copy c) in
@@ -103,7 +90,7 @@ module _ {w : ℕ} (config : Config) (log : Log w) (h : AbstractState w) (sys : 
           (λ e. ne (sym e)) in asks_acquire c n source i whole g bytes h.mail h.state is.invariant.named
           (ap is_wanting calm) ∙ rw other refl
 
-  own-release : (t : History w) (n source : ℕ) (r : Prune) → IsAskedOn c t (op.Release n r) (reply.Started source)
+  own-release : (t : History w) (n source : ℕ) (r : Prune) → IsAskedOn c t (Op.Release n r) (Reply.Started source)
   own-release t n source r may =
       flowed-untouched before after (unfinished_at sys c) c h.state (release_asked c n source r h.state) t
       (untouched-release_asked c n source r before after (unfinished_at sys c) h.state may.1
@@ -130,7 +117,7 @@ module _ {w : ℕ} (config : Config) (log : Log w) (h : AbstractState w) (sys : 
           (λ j used. set-part (λ (b : Block (List ℕ)). b.source c) n new h.state.block refl j)
 
   own-access : (t : History w) (m : MessageA w) (source : ℕ)
-      → IsAskedOn c t (op.Access (message.A m)) (reply.Started source)
+      → IsAskedOn c t (Op.Access (Message.A m)) (Reply.Started source)
   own-access t m source closed =
       flowed-untouched before after (unfinished_at sys c) c h.state (access_asked c source h.state) t
       (untouched-access_asked c source before after (unfinished_at sys c) h.state closed
@@ -164,22 +151,22 @@ module _ {w : ℕ} (config : Config) (log : Log w) (h : AbstractState w) (sys : 
 
   asked-other : (d : ℕ) (t : History w) (o : Op w) (r : Reply) → (d ≡ c → ⊥) → IsReply o r → IsAskedOn d t o r
   asked-other d t o r ne may_be = reply-cases (IsAskedOn d t) o r may_be
-      (λ address size value may. left (op.Store address size value) reply.Stored
-      (λ asks. left-block_stored d before (after (op.Store address size value) reply.Stored) (unfinished_at sys d)
+      (λ address size value may. left (Op.Store address size value) Reply.Stored
+      (λ asks. left-block_stored d before (after (Op.Store address size value) Reply.Stored) (unfinished_at sys d)
       h.state asks coming c
       (block_at address) (copy_stored address size value ((h.state.block (block_at address)).copy c))))
-      (λ n g source may. left (op.Acquire n g) (reply.Started source)
-      (λ asks. left-acquire_asked d before (after (op.Acquire n g) (reply.Started source)) (unfinished_at sys d) h.state
+      (λ n g source may. left (Op.Acquire n g) (Reply.Started source)
+      (λ asks. left-acquire_asked d before (after (Op.Acquire n g) (Reply.Started source)) (unfinished_at sys d) h.state
       asks coming c n source false g
       ((h.state.block n).waiting c) ne))
-      (λ n bytes source may. left (op.AcquireWhole n bytes) (reply.Started source)
-      (λ asks. left-acquire_asked d before (after (op.AcquireWhole n bytes) (reply.Started source))
+      (λ n bytes source may. left (Op.AcquireWhole n bytes) (Reply.Started source)
+      (λ asks. left-acquire_asked d before (after (Op.AcquireWhole n bytes) (Reply.Started source))
       (unfinished_at sys d) h.state asks coming c n source true (whole_grow ((h.state.block n).pair c).held) bytes ne))
-      (λ n p source may. left (op.Release n p) (reply.Started source)
-      (λ asks. left-release_asked d before (after (op.Release n p) (reply.Started source)) (unfinished_at sys d) h.state
+      (λ n p source may. left (Op.Release n p) (Reply.Started source)
+      (λ asks. left-release_asked d before (after (Op.Release n p) (Reply.Started source)) (unfinished_at sys d) h.state
       asks coming c n source p ne))
-      (λ m source may. left (op.Access (message.A m)) (reply.Started source)
-      (λ asks. left-access_asked d before (after (op.Access (message.A m)) (reply.Started source)) (unfinished_at sys d)
+      (λ m source may. left (Op.Access (Message.A m)) (Reply.Started source)
+      (λ asks. left-access_asked d before (after (Op.Access (Message.A m)) (Reply.Started source)) (unfinished_at sys d)
       h.state asks coming c source ne))
       (asked-nothing d t)
     where
@@ -189,7 +176,7 @@ module _ {w : ℕ} (config : Config) (log : Log w) (h : AbstractState w) (sys : 
       after : Op w → Reply → ℕ → Option (BeatA w)
       after i j = asked_by (asked c i j h).mail (asked c i j h).state d
 
-      coming : IsComing before (unfinished_at sys d channel.D) d h.state
+      coming : IsComing before (unfinished_at sys d Channel.D) d h.state
       coming = coming-granting config log h.mail h.request h.state sys d is
 
       left : (i : Op w) (j : Reply)

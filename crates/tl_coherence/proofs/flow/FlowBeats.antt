@@ -6,12 +6,9 @@ use Rattle.std.proofs.Common.{inr}
 use Rattle.std.specs.Prelude.{◌==◌, if◌then◌else◌}
 use Rattle.std.proofs.lemmas.Bool.{cases_eq, ne_eqb, and_right}
 use Rattle.tl_burst.specs.statement.Burst.{beats_of}
-use Rattle.tl_params.specs.declared.perm.Perm.TheVariants as perm
 use Rattle.tl_coherence.specs.protocol.Invariant.{AreNamed}
-use Rattle.tl_coherence.proofs.client.Aside.{set_at-else}
-use Rattle.tl_coherence.proofs.queues.Carried.{IsNext}
-use Rattle.tl_coherence.proofs.queues.Tokens.{same_number, set_at-same}
-use Rattle.tl_coherence.proofs.client.ProbeDelivered.{first_beat}
+use Rattle.tl_coherence.proofs.{client.Aside.set_at-else, queues.Carried.IsNext, queues.Tokens.same_number}
+use Rattle.tl_coherence.proofs.{queues.Tokens.set_at-same, client.ProbeDelivered.first_beat}
 
 -- a test of what was delivered, which no beats pass, and all beginnings of the message alike
 pub came-so : {w : ℕ} (f : List (Beat w) → Bool) (m : Message w) (x : Beat w) (rest : List (Beat w))
@@ -60,9 +57,9 @@ set_at-if c source i y f j e = elim (cases_eq i source) [
 ]
 
 pub same_perms : (p q : Perm) → same_perm p q ≡ true → q ≡ p
-same_perms perm.None perm.None e = refl
-same_perms perm.Branch perm.Branch e = refl
-same_perms perm.Trunk perm.Trunk e = refl
+same_perms Perm.None Perm.None e = refl
+same_perms Perm.Branch Perm.Branch e = refl
+same_perms Perm.Trunk Perm.Trunk e = refl
 same_perms p q e = absurd cc
 
 pub first_false : (p q : Bool) → p ≡ false → (p && q) ≡ false

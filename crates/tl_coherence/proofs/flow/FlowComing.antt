@@ -4,28 +4,19 @@ use Rattle.tl_coherence.proofs.flow.Imports.{begun, unfinished, Config, on_link,
 use Rattle.tl_coherence.proofs.flow.Imports.{block_at, is_grant, is_release, asks_for, same_block, IsCarried}
 use Rattle.tl_coherence.proofs.flow.Imports.{comes_granting, Log, State, Acquires, packet, shown, view, is_on}
 use Rattle.tl_coherence.proofs.flow.Imports.{is_granting, AccessMessages, message_of, message_of_kind, report_told}
-use Rattle.tl_coherence.proofs.flow.Imports.{prune_told, block_message, System, Kind, ProbeAck}
-use Rattle.tl_coherence.proofs.flow.Imports.{Release, Answer, Grant, ReleaseAck, Packet, SimulationRelation}
-use Rattle.tl_coherence.proofs.flow.Imports.{is_caching, asked_by}
+use Rattle.tl_coherence.proofs.flow.Imports.{prune_told, block_message, System, Kind, ProbeAck, Release, Answer, Grant}
+use Rattle.tl_coherence.proofs.flow.Imports.{ReleaseAck, Packet, SimulationRelation, is_caching, asked_by, Channel}
 use Rattle.std.proofs.Common.{◌≡◌, ℕ, zero, suc, ◌*◌, Bool, true, false, ◌&&◌, List, [], ◌∷◌, Option, Some, None, refl}
 use Rattle.std.proofs.Common.{sym, ◌∙◌, ap, subst}
-use Rattle.std.specs.Prelude.{◌==◌, map}
-use Rattle.std.proofs.lemmas.Bool.{eqb-true}
-use Rattle.tl_beat.specs.declared.beat.Beat.TheVariants as beat
-use Rattle.tl_beat.specs.declared.channel.Channel.TheVariants as channel
-use Rattle.tl_burst.specs.declared.message.Message.TheVariants as message
+use Rattle.std.{specs.Prelude.◌==◌, specs.Prelude.map, proofs.lemmas.Bool.eqb-true}
 use Rattle.tl_coherence.specs.protocol.Tokens.{is_releasing}
-use Rattle.tl_coherence.proofs.client.ClientEnd.{asks-acquire}
+use Rattle.tl_coherence.proofs.{client.ClientEnd.asks-acquire, queues.FirstToken.own_kind, flow.FlowAside.IsComing}
+use Rattle.tl_coherence.proofs.{manager.ManagedEndings.tracker-of, queues.Phases.and_left, queues.Phases.and_right}
+use Rattle.tl_coherence.proofs.{manager.Reporting.report-about, manager.Reporting.release-about}
+use Rattle.tl_coherence.proofs.{queues.Tokens.same_number, queues.Tokens.holds-first, protocol.BothParts.is_of-is}
+use Rattle.tl_coherence.proofs.{protocol.BothParts.releasing-is, queues.Codes.access_kind}
 use Rattle.tl_coherence.proofs.protocol.HeadOfD.{IsGrantDue, answer-due, grant-due, grant-rendered, grant_message}
 use Rattle.tl_coherence.proofs.protocol.HeadOfD.{ack_message, own_view}
-use Rattle.tl_coherence.proofs.queues.FirstToken.{own_kind}
-use Rattle.tl_coherence.proofs.flow.FlowAside.{IsComing}
-use Rattle.tl_coherence.proofs.manager.ManagedEndings.{tracker-of}
-use Rattle.tl_coherence.proofs.queues.Phases.{and_left, and_right}
-use Rattle.tl_coherence.proofs.manager.Reporting.{report-about, release-about}
-use Rattle.tl_coherence.proofs.queues.Tokens.{same_number, holds-first}
-use Rattle.tl_coherence.proofs.protocol.BothParts.{is_of-is, releasing-is}
-use Rattle.tl_coherence.proofs.queues.Codes.{access_kind}
 
 -- ---- a Grant
 
@@ -35,7 +26,7 @@ IsOfGrant {w} c s x = (n : ℕ) × IsGrantDue c n s × (x.source ≡ (s.block n)
 
 -- a beat of this message is, if it is one of a Grant
 IsGrantAlone : {w : ℕ} → ℕ → State (List ℕ) → Message w → Type 0
-IsGrantAlone {w} c s m = (y : MessageD w) × (m ≡ message.D y) × (is_grant y.opcode ≡ true → (n : ℕ) × IsGrantDue c n s
+IsGrantAlone {w} c s m = (y : MessageD w) × (m ≡ Message.D y) × (is_grant y.opcode ≡ true → (n : ℕ) × IsGrantDue c n s
     × (y.source ≡ (s.block n).source c) × (y.sink ≡ (s.block n).tracker))
 
 never_grant : {A : Type 0} (b : Bool) → b ≡ false → b ≡ true → A
@@ -73,11 +64,11 @@ alone_ack w s c n = (ack_message ((s.block n).release_source c), refl, λ e. abs
 
 begun_alone : {w : ℕ} (c : ℕ) (s : State (List ℕ)) (m : Message w) (k : ℕ) (x : BeatD w) (more : List (Beat w))
     → IsGrantAlone c s m
-    → beat.D x ∷ more ≡ begun m k → is_grant x.opcode ≡ true → IsOfGrant c s x
+    → Beat.D x ∷ more ≡ begun m k → is_grant x.opcode ≡ true → IsOfGrant c s x
 unfolding IsGrantAlone
 begun_alone {w} c s m k x more is e grants = go k (e ∙ ap (λ (y : Message w). begun y k) is.1)
   where
-    go : (i : ℕ) → beat.D x ∷ more ≡ begun (message.D is.0) i → IsOfGrant c s x
+    go : (i : ℕ) → Beat.D x ∷ more ≡ begun (Message.D is.0) i → IsOfGrant c s x
     go zero f = absurd cc
     go (suc i) f =
         let opcode : x.opcode ≡ is.0.opcode = cc in
@@ -93,13 +84,13 @@ begun_alone {w} c s m k x more is e grants = go k (e ∙ ap (λ (y : Message w).
 half-granted : {w : ℕ} (config : Config) (log : Log w) (mail : AccessMessages w) (request : ℕ → MessageA w)
     (s : State (List ℕ)) (sys : System w) (c : ℕ) (x : BeatD w)
     (more : List (Beat w)) → SimulationRelation config log mail request s sys
-    → unfinished channel.D (sys.clients c).past ≡ beat.D x ∷ more → is_grant x.opcode ≡ true → IsOfGrant c s x
-half-granted {w} config log mail request s sys c x more h is grants = go (s.link c).d refl (h.carried c channel.D)
+    → unfinished Channel.D (sys.clients c).past ≡ Beat.D x ∷ more → is_grant x.opcode ≡ true → IsOfGrant c s x
+half-granted {w} config log mail request s sys c x more h is grants = go (s.link c).d refl (h.carried c Channel.D)
   where
     rest_now : List (Beat w)
-    rest_now = unfinished channel.D (sys.clients c).past
+    rest_now = unfinished Channel.D (sys.clients c).past
 
-    each : (k : Kind) (i : ℕ) (rest : List Packet) → (s.link c).d ≡ packet k i ∷ rest → is_on channel.D k ≡ true
+    each : (k : Kind) (i : ℕ) (rest : List Packet) → (s.link c).d ≡ packet k i ∷ rest → is_on Channel.D k ≡ true
         → IsGrantAlone c s (message_of_kind k mail s c i)
     each Answer i rest first own = alone_answer config log mail request s sys c i rest h first
     each Grant i rest first own = alone_grant config log mail request s sys c i rest h first
@@ -107,31 +98,31 @@ half-granted {w} config log mail request s sys c x more h is grants = go (s.link
     each k i rest first own = absurd cc
 
     go : (xs : List Packet) → (s.link c).d ≡ xs → IsCarried rest_now (map (message_of mail s c) (s.link c).d)
-        (sys.channels c channel.D) → IsOfGrant c s x
+        (sys.channels c Channel.D) → IsOfGrant c s x
     go [] first carried =
-        let none : IsCarried rest_now [] (sys.channels c channel.D) =
-        subst (λ (ms : List (Message w)). IsCarried rest_now ms (sys.channels c channel.D))
+        let none : IsCarried rest_now [] (sys.channels c Channel.D) =
+        subst (λ (ms : List (Message w)). IsCarried rest_now ms (sys.channels c Channel.D))
         (ap (map (message_of mail s c)) first) carried in
-        absurd (let no : [] ≡ beat.D x ∷ more = sym none.0 ∙ is in cc)
+        absurd (let no : [] ≡ Beat.D x ∷ more = sym none.0 ∙ is in cc)
     go (y ∷ ys) first carried =
         let some : IsCarried rest_now (message_of mail s c y ∷ map (message_of mail s c) ys)
-        (sys.channels c channel.D) =
-        subst (λ (ms : List (Message w)). IsCarried rest_now ms (sys.channels c channel.D))
+        (sys.channels c Channel.D) =
+        subst (λ (ms : List (Message w)). IsCarried rest_now ms (sys.channels c Channel.D))
         (ap (map (message_of mail s c)) first) carried in
         begun_alone c s (message_of mail s c y) some.0 x more
-        (each y.kind y.number ys first (own_kind (is_caching config) s c channel.D y.kind y.number ys h.invariant
+        (each y.kind y.number ys first (own_kind (is_caching config) s c Channel.D y.kind y.number ys h.invariant
         first)) (sym is ∙ some.2) grants
 
 -- the block of a Grant with this sink that was delivered in part
 pub coming-sink : {w : ℕ} (config : Config) (log : Log w) (mail : AccessMessages w) (request : ℕ → MessageA w)
     (s : State (List ℕ)) (sys : System w) (c i : ℕ) → SimulationRelation config log mail request s sys
-    → comes_in_grant i (unfinished channel.D (sys.clients c).past) ≡ true → (n : ℕ) × IsGrantDue c n s
+    → comes_in_grant i (unfinished Channel.D (sys.clients c).past) ≡ true → (n : ℕ) × IsGrantDue c n s
     × (s.tracked i ≡ Some n)
-coming-sink {w} config log mail request s sys c i h = go (unfinished channel.D (sys.clients c).past) refl
+coming-sink {w} config log mail request s sys c i h = go (unfinished Channel.D (sys.clients c).past) refl
   where
-    go : (beats : List (Beat w)) → unfinished channel.D (sys.clients c).past ≡ beats → comes_in_grant i beats ≡ true
+    go : (beats : List (Beat w)) → unfinished Channel.D (sys.clients c).past ≡ beats → comes_in_grant i beats ≡ true
         → (n : ℕ) × IsGrantDue c n s × (s.tracked i ≡ Some n)
-    go (beat.D x ∷ more) e f =
+    go (Beat.D x ∷ more) e f =
         let of = half-granted config log mail request s sys c x more h e (and_left (is_grant x.opcode) (x.sink == i) f)
         in
         let same : i ≡ (s.block of.0).tracker = sym (eqb-true x.sink i (and_right (is_grant x.opcode) (x.sink == i) f))
@@ -143,12 +134,12 @@ coming-sink {w} config log mail request s sys c i h = go (unfinished channel.D (
 pub coming-granting : {w : ℕ} (config : Config) (log : Log w) (mail : AccessMessages w) (request : ℕ → MessageA w)
     (s : State (List ℕ)) (sys : System w) (c : ℕ)
     → SimulationRelation config log mail request s sys
-    → IsComing (asked_by mail s c) (unfinished channel.D (sys.clients c).past) c s
-coming-granting {w} config log mail request s sys c h n = go (unfinished channel.D (sys.clients c).past) refl
+    → IsComing (asked_by mail s c) (unfinished Channel.D (sys.clients c).past) c s
+coming-granting {w} config log mail request s sys c h n = go (unfinished Channel.D (sys.clients c).past) refl
   where
-    go : (beats : List (Beat w)) → unfinished channel.D (sys.clients c).past ≡ beats
+    go : (beats : List (Beat w)) → unfinished Channel.D (sys.clients c).past ≡ beats
         → comes_granting n (asked_by mail s c) beats ≡ true → is_granting (view (s.block n).service c) ≡ true
-    go (beat.D x ∷ more) e f =
+    go (Beat.D x ∷ more) e f =
         let of = half-granted config log mail request s sys c x more h e
         (and_left (is_grant x.opcode) (asks_for n (asked_by mail s c x.source)) f) in
         let asks = asks-acquire c ((s.block of.0).source c) of.0 ((s.block of.0).source c) of.1.whole of.1.g mail s
@@ -166,14 +157,14 @@ pub coming-asked : {w : ℕ} (config : Config) (log : Log w) (mail : AccessMessa
     (s : State (List ℕ)) (sys : System w) (c m : ℕ)
     (asked asked' : ℕ → Option (BeatA w)) → SimulationRelation config log mail request s sys
     → ((i n : ℕ) → s.uses c i ≡ Acquires n → asked' i ≡ asked i)
-    → comes_granting m asked' (unfinished channel.D (sys.clients c).past) ≡ comes_granting m asked
-    (unfinished channel.D (sys.clients c).past)
+    → comes_granting m asked' (unfinished Channel.D (sys.clients c).past) ≡ comes_granting m asked
+    (unfinished Channel.D (sys.clients c).past)
 coming-asked {w} config log mail request s sys c m asked asked' h same =
-    go (unfinished channel.D (sys.clients c).past) refl
+    go (unfinished Channel.D (sys.clients c).past) refl
   where
-    go : (beats : List (Beat w)) → unfinished channel.D (sys.clients c).past ≡ beats
+    go : (beats : List (Beat w)) → unfinished Channel.D (sys.clients c).past ≡ beats
         → comes_granting m asked' beats ≡ comes_granting m asked beats
-    go (beat.D x ∷ more) e = by (is_grant x.opcode) refl
+    go (Beat.D x ∷ more) e = by (is_grant x.opcode) refl
       where
         by : (b : Bool) → is_grant x.opcode ≡ b
             → (b && asks_for m (asked' x.source)) ≡ (b && asks_for m (asked x.source))
@@ -187,7 +178,7 @@ coming-asked {w} config log mail request s sys c m asked asked' h same =
 
 -- a beat of this message, if it is one of a Release, has the source of one that isn't answered
 IsReleaseAlone : {w : ℕ} → ℕ → State (List ℕ) → Message w → Type 0
-IsReleaseAlone {w} c s m = (y : MessageC w) × (m ≡ message.C y)
+IsReleaseAlone {w} c s m = (y : MessageC w) × (m ≡ Message.C y)
     × (is_release y.opcode ≡ true → (n : ℕ) × (is_releasing ((s.block n).pair c).letting ≡ true)
     × (y.source ≡ (s.block n).release_source c))
 
@@ -212,12 +203,12 @@ alone_release c n s width config log mail request sys h shows =
     (about.0, about.1, λ e. (n, shows, about.3))
 
 begun_release : {w : ℕ} (c : ℕ) (s : State (List ℕ)) (m : Message w) (k : ℕ) (x : BeatC w) (more : List (Beat w))
-    → IsReleaseAlone c s m → beat.C x ∷ more ≡ begun m k → is_release x.opcode ≡ true
+    → IsReleaseAlone c s m → Beat.C x ∷ more ≡ begun m k → is_release x.opcode ≡ true
     → (n : ℕ) × (is_releasing ((s.block n).pair c).letting ≡ true) × (x.source ≡ (s.block n).release_source c)
 unfolding IsReleaseAlone
 begun_release {w} c s m k x more is e releases = go k (e ∙ ap (λ (y : Message w). begun y k) is.1)
   where
-    go : (i : ℕ) → beat.C x ∷ more ≡ begun (message.C is.0) i
+    go : (i : ℕ) → Beat.C x ∷ more ≡ begun (Message.C is.0) i
         → (n : ℕ) × (is_releasing ((s.block n).pair c).letting ≡ true) × (x.source ≡ (s.block n).release_source c)
     go zero f = absurd cc
     go (suc i) f =
@@ -233,18 +224,18 @@ begun_release {w} c s m k x more is e releases = go k (e ∙ ap (λ (y : Message
 half-released : {w : ℕ} (config : Config) (log : Log w) (mail : AccessMessages w) (request : ℕ → MessageA w)
     (s : State (List ℕ)) (sys : System w) (c : ℕ) (x : BeatC w)
     (more : List (Beat w)) → IsWidth w → SimulationRelation config log mail request s sys
-    → unfinished channel.C (on_link c sys.manager.trace) ≡ beat.C x ∷ more → is_release x.opcode ≡ true → (n : ℕ)
+    → unfinished Channel.C (on_link c sys.manager.trace) ≡ Beat.C x ∷ more → is_release x.opcode ≡ true → (n : ℕ)
     × (is_releasing ((s.block n).pair c).letting ≡ true) × (x.source ≡ (s.block n).release_source c)
 half-released {w} config log mail request s sys c x more width h is releases =
-    go (s.link c).c refl (h.carried c channel.C)
+    go (s.link c).c refl (h.carried c Channel.C)
   where
     Here : Type 0
     Here = (n : ℕ) × (is_releasing ((s.block n).pair c).letting ≡ true) × (x.source ≡ (s.block n).release_source c)
 
     rest_now : List (Beat w)
-    rest_now = unfinished channel.C (on_link c sys.manager.trace)
+    rest_now = unfinished Channel.C (on_link c sys.manager.trace)
 
-    each : (k : Kind) (i : ℕ) (rest : List Packet) → (s.link c).c ≡ packet k i ∷ rest → is_on channel.C k ≡ true
+    each : (k : Kind) (i : ℕ) (rest : List Packet) → (s.link c).c ≡ packet k i ∷ rest → is_on Channel.C k ≡ true
         → IsReleaseAlone c s (message_of_kind k mail s c i)
     each ProbeAck i rest first own = alone_report c i s width config log mail request sys h
     each Release i rest first own = alone_release c i s width config log mail request sys h
@@ -253,32 +244,32 @@ half-released {w} config log mail request s sys c x more width h is releases =
     each k i rest first own = absurd cc
 
     go : (xs : List Packet) → (s.link c).c ≡ xs → IsCarried rest_now (map (message_of mail s c) (s.link c).c)
-        (sys.channels c channel.C) → Here
+        (sys.channels c Channel.C) → Here
     go [] first carried =
-        let none : IsCarried rest_now [] (sys.channels c channel.C) =
-        subst (λ (ms : List (Message w)). IsCarried rest_now ms (sys.channels c channel.C))
+        let none : IsCarried rest_now [] (sys.channels c Channel.C) =
+        subst (λ (ms : List (Message w)). IsCarried rest_now ms (sys.channels c Channel.C))
         (ap (map (message_of mail s c)) first) carried in
-        absurd (let no : [] ≡ beat.C x ∷ more = sym none.0 ∙ is in cc)
+        absurd (let no : [] ≡ Beat.C x ∷ more = sym none.0 ∙ is in cc)
     go (y ∷ ys) first carried =
         let some : IsCarried rest_now (message_of mail s c y ∷ map (message_of mail s c) ys)
-        (sys.channels c channel.C) =
-        subst (λ (ms : List (Message w)). IsCarried rest_now ms (sys.channels c channel.C))
+        (sys.channels c Channel.C) =
+        subst (λ (ms : List (Message w)). IsCarried rest_now ms (sys.channels c Channel.C))
         (ap (map (message_of mail s c)) first) carried in
         begun_release c s (message_of mail s c y) some.0 x more
-        (each y.kind y.number ys first (own_kind (is_caching config) s c channel.C y.kind y.number ys h.invariant
+        (each y.kind y.number ys first (own_kind (is_caching config) s c Channel.C y.kind y.number ys h.invariant
         first)) (sym is ∙ some.2) releases
 
 -- no Release is half delivered with a source that is free
 pub coming-free : {w : ℕ} (config : Config) (log : Log w) (mail : AccessMessages w) (request : ℕ → MessageA w)
     (s : State (List ℕ)) (sys : System w) (c source : ℕ)
     → IsWidth w → SimulationRelation config log mail request s sys → s.lets c source ≡ None
-    → comes_in_release source (unfinished channel.C (on_link c sys.manager.trace)) ≡ false
+    → comes_in_release source (unfinished Channel.C (on_link c sys.manager.trace)) ≡ false
 coming-free {w} config log mail request s sys c source width h free =
-    go (unfinished channel.C (on_link c sys.manager.trace)) refl
+    go (unfinished Channel.C (on_link c sys.manager.trace)) refl
   where
-    go : (beats : List (Beat w)) → unfinished channel.C (on_link c sys.manager.trace) ≡ beats
+    go : (beats : List (Beat w)) → unfinished Channel.C (on_link c sys.manager.trace) ≡ beats
         → comes_in_release source beats ≡ false
-    go (beat.C x ∷ more) e = by (is_release x.opcode && (x.source == source)) refl
+    go (Beat.C x ∷ more) e = by (is_release x.opcode && (x.source == source)) refl
       where
         by : (b : Bool) → (is_release x.opcode && (x.source == source)) ≡ b → b ≡ false
         by false f = refl

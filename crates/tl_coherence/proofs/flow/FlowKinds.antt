@@ -11,41 +11,30 @@ use Rattle.tl_coherence.proofs.flow.Imports.{Release, Answer, Grant, ReleaseAck,
 use Rattle.tl_coherence.proofs.flow.Imports.{SimulationRelation, is_caching, asked_by}
 use Rattle.std.proofs.Common.{◌≡◌, subst, ℕ, Bool, true, false, not, ◌&&◌, List, ◌∷◌, Option, Some, None, length, refl}
 use Rattle.std.proofs.Common.{sym, ◌∙◌, ap, inl}
-use Rattle.std.specs.Prelude.{◌==◌, if◌then◌else◌}
-use Rattle.std.proofs.lemmas.Bool.{ne_eqb}
-use Rattle.std.proofs.lemmas.Option.{same_Some}
-use Rattle.tl_beat.specs.declared.channel.Channel.TheVariants as channel
-use Rattle.tl_burst.specs.declared.message.Message.TheVariants as message
+use Rattle.std.{specs.Prelude.◌==◌, specs.Prelude.if◌then◌else◌, proofs.lemmas.Bool.ne_eqb}
+use Rattle.std.{proofs.lemmas.Option.same_Some}
 use Rattle.tl_manager.specs.statement.Holders.{cap_probed}
 use Rattle.tl_coherence.specs.refinement.AbstractStep.{with_state, some_below, performs, probes_some, access_taken}
 use Rattle.tl_coherence.specs.refinement.AbstractStep.{request_taken, is_unheld, gift, acquire_taken, granted_after}
 use Rattle.tl_coherence.specs.refinement.AbstractStep.{last_taken, ack_taken, taken_by_client}
-use Rattle.tl_coherence.specs.protocol.Invariant.{cap_asked}
-use Rattle.tl_coherence.specs.protocol.Phase.{is_unacquired, is_whole}
-use Rattle.tl_coherence.specs.protocol.PhaseSteps.{is_granted_data}
+use Rattle.tl_coherence.specs.{protocol.Invariant.cap_asked, protocol.Phase.is_unacquired, protocol.Phase.is_whole}
+use Rattle.tl_coherence.specs.{protocol.PhaseSteps.is_granted_data}
 use Rattle.tl_coherence.specs.protocol.Protocol.{on, is_probed, report_grants}
 use Rattle.tl_coherence.proofs.client.AsideAll.{Leaves, is_for_manager, leaves-at_manager, leaves-at_client}
-use Rattle.tl_coherence.proofs.manager.Choices.{plain-past}
-use Rattle.tl_coherence.proofs.protocol.HeadOfD.{IsGrantDue, grant-due}
+use Rattle.tl_coherence.proofs.{manager.Choices.plain-past, protocol.HeadOfD.IsGrantDue, protocol.HeadOfD.grant-due}
+use Rattle.tl_coherence.proofs.{queues.PhaseFacts.quiet_at_rest, queues.PhaseFacts.own_alone, flow.FlowAsking.asks-left}
+use Rattle.tl_coherence.proofs.{flow.FlowBeats.same_perms, flow.FlowComing.coming-granting, flow.FlowComing.coming-sink}
+use Rattle.tl_coherence.proofs.{protocol.FollowKept.IsReady, protocol.RequestsKept.settled_all}
+use Rattle.tl_coherence.proofs.{manager.ManagedEndings.tracker-of, queues.Phases.and_right, queues.Tokens.same_number}
+use Rattle.tl_coherence.proofs.{queues.Tokens.holds-first, rank.RankParts.serving-use, simulation.Popped.unfinished_at}
 use Rattle.tl_coherence.proofs.queues.Facts.{own_wants, answered_other, is_other}
-use Rattle.tl_coherence.proofs.queues.PhaseFacts.{quiet_at_rest, own_alone}
 use Rattle.tl_coherence.proofs.flow.FlowApart.{replied, left-replied, left-served, left-acquire_granted}
 use Rattle.tl_coherence.proofs.flow.FlowApart.{left-probe_taken, left-report_taken, left-release_taken}
 use Rattle.tl_coherence.proofs.flow.FlowApart.{left-answer_taken, left-grant_taken, left-release_ack_taken}
 use Rattle.tl_coherence.proofs.flow.FlowApart.{left-grant_ack_taken, left-access_answered, left-access_served}
 use Rattle.tl_coherence.proofs.flow.FlowApart.{left-report_answers, left-report_grants}
 use Rattle.tl_coherence.proofs.flow.FlowAside.{is_heard, IsComing, flowed-aside, flowed-asks}
-use Rattle.tl_coherence.proofs.flow.FlowAsking.{asks-left}
-use Rattle.tl_coherence.proofs.flow.FlowBeats.{same_perms}
-use Rattle.tl_coherence.proofs.flow.FlowComing.{coming-granting, coming-sink}
-use Rattle.tl_coherence.proofs.protocol.FollowKept.{IsReady}
-use Rattle.tl_coherence.proofs.protocol.RequestsKept.{settled_all}
-use Rattle.tl_coherence.proofs.manager.ManagedEndings.{tracker-of}
-use Rattle.tl_coherence.proofs.queues.Phases.{and_right}
-use Rattle.tl_coherence.proofs.queues.Tokens.{same_number, holds-first}
 use Rattle.tl_coherence.proofs.protocol.BothParts.{answered-is, quiet_unanswered, acknowledging-is, not-other}
-use Rattle.tl_coherence.proofs.rank.RankParts.{serving-use}
-use Rattle.tl_coherence.proofs.simulation.Popped.{unfinished_at}
 
 module _ {w : ℕ} (config : Config) (log : Log w) (h : AbstractState w) (sys : System w) (c : ℕ)
     (is : SimulationRelation config log h.mail h.request h.state sys) (tracker : ℕ) where
@@ -59,7 +48,7 @@ module _ {w : ℕ} (config : Config) (log : Log w) (h : AbstractState w) (sys : 
 
   -- ---- what comes of the last beat at the manager, for client d's link
 
-  module _ (d : ℕ) (rest : Channel → List (Beat w)) (same_d : rest channel.D ≡ unfinished_at sys d channel.D)
+  module _ (d : ℕ) (rest : Channel → List (Beat w)) (same_d : rest Channel.D ≡ unfinished_at sys d Channel.D)
       (t : History w) where
     -- what was delivered on it is so
     abbrev pub FlowedAs : AbstractState w → Type 0
@@ -68,7 +57,7 @@ module _ {w : ℕ} (config : Config) (log : Log w) (h : AbstractState w) (sys : 
     abbrev before : ℕ → Option (BeatA w)
     before = asked_by h.mail h.state d
 
-    coming : IsComing (asked_by h.mail h.state d) (rest channel.D) d h.state
+    coming : IsComing (asked_by h.mail h.state d) (rest Channel.D) d h.state
     coming = subst (λ (l : List (Beat w)). IsComing (asked_by h.mail h.state d) l d h.state) (sym same_d)
         (coming-granting config log h.mail h.request h.state sys d is)
 
@@ -76,9 +65,9 @@ module _ {w : ℕ} (config : Config) (log : Log w) (h : AbstractState w) (sys : 
 
     pub settled-request : (source : ℕ) (m : MessageA w) (toks : List Packet)
         → (s.block (block_at m.address)).service ≡ Free → s.tracked tracker ≡ None
-        → Leaves d h (request_taken (length config.clients.items) c source (message.A m) tracker toks h)
+        → Leaves d h (request_taken (length config.clients.items) c source (Message.A m) tracker toks h)
         → MonitorRelation before rest d (replied c source s) t
-        → FlowedAs (request_taken (length config.clients.items) c source (message.A m) tracker toks h)
+        → FlowedAs (request_taken (length config.clients.items) c source (Message.A m) tracker toks h)
     settled-request source m toks free unused left flowed =
         go (probes_some (length config.clients.items) c false (cap_probed m.opcode m.param) (s.block n).pair)
         (cap_probed m.opcode m.param) left
@@ -145,10 +134,10 @@ module _ {w : ℕ} (config : Config) (log : Log w) (h : AbstractState w) (sys : 
 
         -- no Grant that was delivered in part is of a block that waits
         none_comes : (q source : ℕ) (k : Cap) → (s.block n).service ≡ Waits q true source k → (i : ℕ)
-            → s.tracked i ≡ Some n → comes_in_grant i (rest channel.D) ≡ false
-        none_comes q source k waits i tracks = cc (same_d, go (comes_in_grant i (unfinished_at sys d channel.D)) refl)
+            → s.tracked i ≡ Some n → comes_in_grant i (rest Channel.D) ≡ false
+        none_comes q source k waits i tracks = cc (same_d, go (comes_in_grant i (unfinished_at sys d Channel.D)) refl)
           where
-            go : (b : Bool) → comes_in_grant i (unfinished_at sys d channel.D) ≡ b → b ≡ false
+            go : (b : Bool) → comes_in_grant i (unfinished_at sys d Channel.D) ≡ b → b ≡ false
             go false f = refl
             go true f =
                 let of = coming-sink config log h.mail h.request s sys d i is f in
@@ -230,21 +219,21 @@ module _ {w : ℕ} (config : Config) (log : Log w) (h : AbstractState w) (sys : 
     abbrev then_asked : ℕ → Option (BeatA w)
     then_asked = asked_by h.mail h.state d
 
-    comes : IsComing (asked_by h.mail h.state d) (unfinished_at sys d channel.D) d h.state
+    comes : IsComing (asked_by h.mail h.state d) (unfinished_at sys d Channel.D) d h.state
     comes = coming-granting config log h.mail h.request h.state sys d is
 
     other_request : (source : ℕ) (m : Message w) (toks : List Packet) → IsReady tracker c Request source h
         → m ≡ h.mail.request c source
         → Leaves d h (request_taken (length config.clients.items) c source m tracker toks h) → FlowsAs h
         → FlowsAs (request_taken (length config.clients.items) c source m tracker toks h)
-    other_request source (message.A m) toks ready e l flowed =
+    other_request source (Message.A m) toks ready e l flowed =
         settled-request d (unfinished_at sys d) refl t source m toks
         (ap (λ (i : MessageA w). (s.block (block_at i.address)).service) same ∙ ready.3) ready.4 l
         (flowed-aside then_asked then_asked (unfinished_at sys d) d s (replied c source s) t
         (left-replied d then_asked then_asked (unfinished_at sys d) s (λ i. refl) comes c source ne) flowed)
       where
         same : m ≡ ready.0
-        same = let both : message.A m ≡ message.A ready.0 = e ∙ ready.1 in cc
+        same = let both : Message.A m ≡ Message.A ready.0 = e ∙ ready.1 in cc
     other_request source m toks ready e l flowed = flowed
 
     other_acquire : (n : ℕ) (a : AcquirePhase) (toks : List Packet) → (s.block n).service ≡ Free

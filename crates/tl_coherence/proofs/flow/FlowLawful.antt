@@ -4,37 +4,26 @@ use Rattle.tl_coherence.proofs.flow.Imports.{channel_of, unfinished, Config, Lev
 use Rattle.tl_coherence.proofs.flow.Imports.{prune_left, report_code, report_left, on_link, broken_in_order}
 use Rattle.tl_coherence.proofs.flow.Imports.{broken_after, same_perm, illegal, same_block, level_of, flow, Log}
 use Rattle.tl_coherence.proofs.flow.Imports.{receiver, View, Idle, Own, Other, Granting, Acknowledging, GrantedOther}
-use Rattle.tl_coherence.proofs.flow.Imports.{ProbeSent, ProbeAnswered, ReleasePhase, ReleaseSent}
-use Rattle.tl_coherence.proofs.flow.Imports.{ReleaseAcked, AcquirePhase, NoAcquire, AcquireOpen, ok, is_unreleased}
-use Rattle.tl_coherence.proofs.flow.Imports.{is_unprobed, Block, State, packet, shown, view, is_granting}
-use Rattle.tl_coherence.proofs.flow.Imports.{is_acknowledging, is_answered, is_acked, is_on, AccessMessages, message_of}
-use Rattle.tl_coherence.proofs.flow.Imports.{message_of_kind, block_message, prune_told, report_told, cap_waited}
-use Rattle.tl_coherence.proofs.flow.Imports.{System, Kind, Probe, ProbeAck, Release}
-use Rattle.tl_coherence.proofs.flow.Imports.{Packet, SimulationRelation, MonitorRelations}
-use Rattle.tl_coherence.proofs.flow.Imports.{is_caching, asked_by}
+use Rattle.tl_coherence.proofs.flow.Imports.{ProbeSent, ProbeAnswered, ReleasePhase, ReleaseSent, ReleaseAcked}
+use Rattle.tl_coherence.proofs.flow.Imports.{AcquirePhase, NoAcquire, AcquireOpen, ok, is_unreleased, is_unprobed}
+use Rattle.tl_coherence.proofs.flow.Imports.{Block, State, packet, shown, view, is_granting, is_acknowledging}
+use Rattle.tl_coherence.proofs.flow.Imports.{is_answered, is_acked, is_on, AccessMessages, message_of, message_of_kind}
+use Rattle.tl_coherence.proofs.flow.Imports.{block_message, prune_told, report_told, cap_waited, System, Kind, Probe}
+use Rattle.tl_coherence.proofs.flow.Imports.{ProbeAck, Release, Packet, SimulationRelation, MonitorRelations}
+use Rattle.tl_coherence.proofs.flow.Imports.{is_caching, asked_by, Perm}
 use Rattle.std.proofs.Common.{◌≡◌, ℕ, true, false, List, [], ◌∷◌, Some, None, refl, sym, ◌∙◌, ap, subst}
 use Rattle.std.specs.Prelude.{map}
-use Rattle.tl_beat.specs.declared.channel.Channel.TheVariants as channel
-use Rattle.tl_burst.specs.declared.message.Message.TheVariants as message
-use Rattle.tl_burst.specs.statement.Burst.{c_beat_of}
-use Rattle.tl_burst.specs.statement.Messages.{channel_in}
-use Rattle.tl_params.specs.declared.perm.Perm.TheVariants as perm
+use Rattle.tl_burst.{specs.statement.Burst.c_beat_of, specs.statement.Messages.channel_in}
 use Rattle.tl_params.specs.statement.Param.{report_at}
-use Rattle.tl_coherence.specs.protocol.Phase.{ProbePhase, same_report}
-use Rattle.tl_coherence.specs.protocol.Tokens.{is_sent}
-use Rattle.tl_coherence.proofs.queues.Carried.{IsNext}
-use Rattle.tl_coherence.proofs.client.ClientTakes.{sound-beat}
-use Rattle.tl_coherence.proofs.queues.Facts.{answered_other, granting_alone, is_other}
-use Rattle.tl_coherence.proofs.queues.PhaseFacts.{acknowledging_quiet}
-use Rattle.tl_coherence.proofs.queues.Facts.{release_begins}
-use Rattle.tl_coherence.proofs.queues.PhaseFacts.{release_alone, report_first, report_fits}
-use Rattle.tl_coherence.proofs.queues.FirstToken.{IsFirst, first-token}
+use Rattle.tl_coherence.specs.{protocol.Phase.ProbePhase, protocol.Phase.same_report, protocol.Tokens.is_sent}
+use Rattle.tl_coherence.proofs.{queues.Carried.IsNext, client.ClientTakes.sound-beat, queues.FirstToken.IsFirst}
+use Rattle.tl_coherence.proofs.{queues.FirstToken.first-token, queues.Phases.and_left, queues.Phases.and_right}
+use Rattle.tl_coherence.proofs.{client.ProbeDelivered.not_coming, queues.Tokens.same_number, queues.Tokens.holds-first}
+use Rattle.tl_coherence.proofs.queues.Facts.{answered_other, granting_alone, is_other, release_begins}
+use Rattle.tl_coherence.proofs.queues.PhaseFacts.{acknowledging_quiet, release_alone, report_first, report_fits}
 use Rattle.tl_coherence.proofs.flow.FlowOrders.{beat-flows, probe-flows, report-flows, release-flows}
 use Rattle.tl_coherence.proofs.manager.ManagerTakes.{by-first_c, same_report-is, seen_cap, unanswered}
-use Rattle.tl_coherence.proofs.queues.Phases.{and_left, and_right}
-use Rattle.tl_coherence.proofs.client.ProbeDelivered.{not_coming}
 use Rattle.tl_coherence.proofs.manager.Reporting.{IsAbout, report-about, release-about}
-use Rattle.tl_coherence.proofs.queues.Tokens.{same_number, holds-first}
 use Rattle.tl_coherence.proofs.protocol.BothParts.{is_of-is, answered-is, releasing-is}
 
 -- the next beat of a message whose first breaks no rule of order
@@ -68,12 +57,12 @@ report-lawful : {w : ℕ} (config : Config) (log : Log w) (mail : AccessMessages
     (toks : List Packet) (l : Level) (x : Beat w) (ms : List (Message w)) (queue : List (Beat w)) → IsWidth w
     → SimulationRelation config log mail request s sys → MonitorRelations log mail s sys
     → illegal l (channel_of x) x ≡ None → (s.link c).c ≡ packet ProbeAck n ∷ toks
-    → IsNext x (unfinished channel.C (on_link c sys.manager.trace)) (block_message ProbeAck c n (s.block n)) ms queue
+    → IsNext x (unfinished Channel.C (on_link c sys.manager.trace)) (block_message ProbeAck c n (s.block n)) ms queue
     → broken_after l config.profile x (flow c log) ≡ None
 unfolding block_message
 report-lawful {w} config log mail request s sys c n toks l x ms queue width is flowed lawful tokens next =
-    next-flows l config.profile (message.C m) x rest ms queue (flow c log) lawful
-    (subst (λ (i : Message w). IsNext x rest i ms queue) about.1 next) ((flowed c).rest_is channel.C)
+    next-flows l config.profile (Message.C m) x rest ms queue (flow c log) lawful
+    (subst (λ (i : Message w). IsNext x rest i ms queue) about.1 next) ((flowed c).rest_is Channel.C)
     (λ none. report-flows config.profile c n (cap_waited b.service) r (c_beat_of m 0) (asked_by mail s c)
     (λ ch. unfinished ch (receiver ch c sys)) s
     (flow c log) (flowed c) none about.2.reports about.2.releases about.2.block about.2.param_is
@@ -84,13 +73,13 @@ report-lawful {w} config log mail request s sys c n toks l x ms queue width is f
     b = s.block n
 
     rest : List (Beat w)
-    rest = unfinished channel.C (on_link c sys.manager.trace)
+    rest = unfinished Channel.C (on_link c sys.manager.trace)
 
     r : Report
     r = report_told (b.pair c).probing
 
-    about : (i : MessageC w) × (block_message ProbeAck c n b ≡ message.C i) × IsAbout true n (report_code r)
-        (same_perm (report_left r) perm.Trunk) b.truth i
+    about : (i : MessageC w) × (block_message ProbeAck c n b ≡ Message.C i) × IsAbout true n (report_code r)
+        (same_perm (report_left r) Perm.Trunk) b.truth i
     about = report-about r n b.truth width (is.sized n).truth
 
     m : MessageC w
@@ -118,12 +107,12 @@ release-lawful : {w : ℕ} (config : Config) (log : Log w) (mail : AccessMessage
     (toks : List Packet) (l : Level) (x : Beat w) (ms : List (Message w)) (queue : List (Beat w)) → IsWidth w
     → SimulationRelation config log mail request s sys → MonitorRelations log mail s sys
     → illegal l (channel_of x) x ≡ None → (s.link c).c ≡ packet Release n ∷ toks
-    → IsNext x (unfinished channel.C (on_link c sys.manager.trace)) (block_message Release c n (s.block n)) ms queue
+    → IsNext x (unfinished Channel.C (on_link c sys.manager.trace)) (block_message Release c n (s.block n)) ms queue
     → broken_after l config.profile x (flow c log) ≡ None
 unfolding block_message
 release-lawful {w} config log mail request s sys c n toks l x ms queue width is flowed lawful tokens next =
-    next-flows l config.profile (message.C m) x rest ms queue (flow c log) lawful
-    (subst (λ (i : Message w). IsNext x rest i ms queue) about.1 next) ((flowed c).rest_is channel.C)
+    next-flows l config.profile (Message.C m) x rest ms queue (flow c log) lawful
+    (subst (λ (i : Message w). IsNext x rest i ms queue) about.1 next) ((flowed c).rest_is Channel.C)
     (λ none. release-flows config.profile c n r (c_beat_of m 0) (asked_by mail s c)
     (λ ch. unfinished ch (receiver ch c sys)) s (flow c log)
     (flowed c) none about.2.releases about.2.block about.2.param_is
@@ -133,13 +122,13 @@ release-lawful {w} config log mail request s sys c n toks l x ms queue width is 
     b = s.block n
 
     rest : List (Beat w)
-    rest = unfinished channel.C (on_link c sys.manager.trace)
+    rest = unfinished Channel.C (on_link c sys.manager.trace)
 
     r : Prune
     r = prune_told (b.pair c).letting
 
-    about : (i : MessageC w) × (block_message Release c n b ≡ message.C i) × IsAbout false n (prune_code r)
-        (same_perm (prune_left r) perm.Trunk) b.truth i × (i.source ≡ b.release_source c)
+    about : (i : MessageC w) × (block_message Release c n b ≡ Message.C i) × IsAbout false n (prune_code r)
+        (same_perm (prune_left r) Perm.Trunk) b.truth i × (i.source ≡ b.release_source c)
     about = release-about r (b.release_source c) n b.truth width (is.sized n).truth
 
     m : MessageC w
@@ -177,17 +166,17 @@ pub flows-c : {w : ℕ} (config : Config) (log : Log w) (mail : AccessMessages w
     (s : State (List ℕ)) (sys : System w) (c : ℕ) (l : Level)
     (x : Beat w) (queue : List (Beat w)) → IsWidth w → SimulationRelation config log mail request s sys
     → MonitorRelations log mail s sys
-    → sys.channels c channel.C ≡ x ∷ queue → level_of config c ≡ Some l
+    → sys.channels c Channel.C ≡ x ∷ queue → level_of config c ≡ Some l
     → broken_after l config.profile x (flow c log) ≡ None
 flows-c {w} config log mail request s sys c l x queue width is flowed beats level =
     cc (by-first_c (λ i. broken_after l config.profile x (flow c log) ≡ None) c mail s sys x queue
-    (first-token (is_caching config) channel.C c mail s sys x queue width is.invariant is.carried beats)
+    (first-token (is_caching config) Channel.C c mail s sys x queue width is.invariant is.carried beats)
     (λ n rest tokens next. report-lawful config log mail request s sys c n rest l x (map (message_of mail s c) rest)
     queue width is flowed lawful tokens next) (λ n rest tokens next. release-lawful config log mail request s sys c n
     rest l x (map (message_of mail s c) rest) queue width is flowed lawful tokens next))
   where
     lawful : illegal l (channel_of x) x ≡ None
-    lawful = lawful-beat config log mail request s sys c channel.C l x queue is beats level
+    lawful = lawful-beat config log mail request s sys c Channel.C l x queue is beats level
 
 -- ---- channel B
 
@@ -201,13 +190,13 @@ probe-lawful : {w : ℕ} (config : Config) (log : Log w) (mail : AccessMessages 
     (toks : List Packet) (l : Level) (x : Beat w) (ms : List (Message w)) (queue : List (Beat w))
     → SimulationRelation config log mail request s sys → MonitorRelations log mail s sys
     → illegal l (channel_of x) x ≡ None → (s.link c).b ≡ packet Probe n ∷ toks
-    → is_acknowledging (view (s.block n).service c) ≡ false → IsNext x (unfinished channel.B (sys.clients c).past)
+    → is_acknowledging (view (s.block n).service c) ≡ false → IsNext x (unfinished Channel.B (sys.clients c).past)
     (block_message Probe c n (s.block n)) ms queue
     → broken_after l config.profile x (flow c log) ≡ None
 unfolding block_message
 probe-lawful {w} config log mail request s sys c n toks l x ms queue is flowed lawful tokens unacknowledged next =
-    next-flows l config.profile (block_message Probe c n b) x (unfinished channel.B (sys.clients c).past) ms queue
-    (flow c log) lawful next ((flowed c).rest_is channel.B)
+    next-flows l config.profile (block_message Probe c n b) x (unfinished Channel.B (sys.clients c).past) ms queue
+    (flow c log) lawful next ((flowed c).rest_is Channel.B)
     (λ none. probe-flows config.profile c n _ (asked_by mail s c) (λ ch. unfinished ch (receiver ch c sys)) s
     (flow c log) (flowed c) none (same_block n)
     (unanswered_yet (b.pair c).probing shows) unacknowledged
@@ -224,13 +213,13 @@ pub flows-b : {w : ℕ} (config : Config) (log : Log w) (mail : AccessMessages w
     (s : State (List ℕ)) (sys : System w) (c : ℕ) (l : Level)
     (x : Beat w) (queue : List (Beat w)) → IsWidth w → SimulationRelation config log mail request s sys
     → MonitorRelations log mail s sys
-    → sys.channels c channel.B ≡ x ∷ queue → level_of config c ≡ Some l
+    → sys.channels c Channel.B ≡ x ∷ queue → level_of config c ≡ Some l
     → broken_after l config.profile x (flow c log) ≡ None
 flows-b {w} config log mail request s sys c l x queue width is flowed beats level =
     go first.kind first.number first.tokens first.own first.next
   where
-    first : IsFirst channel.B c mail s sys x queue
-    first = first-token (is_caching config) channel.B c mail s sys x queue width is.invariant is.carried beats
+    first : IsFirst Channel.B c mail s sys x queue
+    first = first-token (is_caching config) Channel.B c mail s sys x queue width is.invariant is.carried beats
 
     unacknowledged : (n : ℕ) → is_sent ((s.block n).pair c).probing ≡ true → (v : View) → view (s.block n).service c ≡ v
         → is_acknowledging v ≡ false
@@ -247,13 +236,13 @@ flows-b {w} config log mail request s sys c l x queue width is flowed beats leve
     unacknowledged n shows (Granting d k) f = refl
     unacknowledged n shows GrantedOther f = refl
 
-    go : (k : Kind) (i : ℕ) → (s.link c).b ≡ packet k i ∷ first.rest → is_on channel.B k ≡ true
-        → IsNext x (unfinished channel.B (sys.clients c).past) (message_of_kind k mail s c i)
+    go : (k : Kind) (i : ℕ) → (s.link c).b ≡ packet k i ∷ first.rest → is_on Channel.B k ≡ true
+        → IsNext x (unfinished Channel.B (sys.clients c).past) (message_of_kind k mail s c i)
         (map (message_of mail s c) first.rest) queue
         → broken_after l config.profile x (flow c log) ≡ None
     go Probe i tokens own next =
         cc (probe-lawful config log mail request s sys c i first.rest l x (map (message_of mail s c) first.rest) queue
-        is flowed (lawful-beat config log mail request s sys c channel.B l x queue is beats level) tokens
+        is flowed (lawful-beat config log mail request s sys c Channel.B l x queue is beats level) tokens
         (unacknowledged i (holds-first Probe (s.link c).b first.rest (packet Probe i) (λ j. shown Probe c (s.block j))
         tokens refl (is.invariant.transfers c Probe refl)) (view (s.block i).service c) refl) next)
     go k i tokens own next = absurd cc

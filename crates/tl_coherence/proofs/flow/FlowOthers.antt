@@ -7,15 +7,13 @@ use Rattle.tl_coherence.proofs.flow.Imports.{is_answered, is_wanting, is_unserve
 use Rattle.tl_coherence.proofs.flow.Imports.{granted_at_once, served_block, probed_block, reported_block, let_block}
 use Rattle.tl_coherence.proofs.flow.Imports.{taken_block, let_go_block, freed_block, cap_waited, set}
 use Rattle.std.proofs.Common.{◌≡◌, ℕ, Bool, true, false, ◌&&◌, ◌||◌, refl, sym, ◌∙◌, ap, ◌⊎◌, inl, inr}
-use Rattle.std.specs.Prelude.{◌==◌, if◌then◌else◌}
-use Rattle.std.proofs.lemmas.Bool.{ne_eqb}
+use Rattle.std.{specs.Prelude.◌==◌, specs.Prelude.if◌then◌else◌, proofs.lemmas.Bool.ne_eqb}
 use Rattle.tl_coherence.specs.protocol.Phase.{ProbePhase}
 use Rattle.tl_coherence.specs.protocol.PhaseSteps.{after_acquire, is_above, after_served, after_grant_sent}
 use Rattle.tl_coherence.specs.protocol.PhaseSteps.{after_release_taken, after_grant}
 use Rattle.tl_coherence.specs.protocol.Protocol.{stored_block, performed_block, served_pair, ended_block, granted_block}
-use Rattle.tl_coherence.proofs.flow.FlowAside.{IsSameBlock}
+use Rattle.tl_coherence.proofs.{flow.FlowAside.IsSameBlock, protocol.BothParts.quiet_unanswered}
 use Rattle.tl_coherence.proofs.queues.Tokens.{same_number, set-same, set-other}
-use Rattle.tl_coherence.proofs.protocol.BothParts.{quiet_unanswered}
 
 -- the service looks the same to the client's link
 pub record IsSameView (v v' : View) : Type 0 where

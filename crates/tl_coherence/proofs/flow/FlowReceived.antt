@@ -1,44 +1,35 @@
 -- What the receivers have after a delivery.
-use Rattle.tl_coherence.proofs.flow.Imports.{IsWidth, Beat, Channel, grown, completes, Config}
-use Rattle.tl_coherence.proofs.flow.Imports.{flow}
-use Rattle.tl_coherence.proofs.flow.Imports.{AbstractState, kind_taken, Log, receiver, System}
-use Rattle.tl_coherence.proofs.flow.Imports.{SimulationRelation, is_caching}
-use Rattle.std.proofs.Common.{◌≡◌, subst, ℕ, Bool, true, false, ◌&&◌, List, [], ◌∷◌, Some, None, refl, sym, ◌∙◌}
-use Rattle.std.proofs.Common.{ap}
+use Rattle.tl_coherence.proofs.flow.Imports.{IsWidth, Beat, Channel, grown, completes, Config, flow, AbstractState}
+use Rattle.tl_coherence.proofs.flow.Imports.{kind_taken, Log, receiver, System, SimulationRelation, is_caching}
+use Rattle.std.proofs.Common.{◌≡◌, subst, ℕ, Bool, true, false, ◌&&◌, List, [], ◌∷◌, Some, None, refl, sym, ◌∙◌, ap}
 use Rattle.std.specs.Prelude.{◌==◌, if◌then◌else◌}
 use Rattle.tl_beat.specs.declared.beat.Link.{Link}
-use Rattle.tl_beat.specs.declared.channel.Channel.TheVariants as channel
 use Rattle.tl_client.specs.statement.Endpoint.{EndConfig}
 use Rattle.tl_client.specs.statement.Offer as offer
-use Rattle.tl_manager.specs.statement.Handing.{Handed}
+use Rattle.tl_manager.{specs.statement.Handing.Handed, specs.statement.Reaction.reaction}
 use Rattle.tl_manager.specs.statement.End as manager_end
 use Rattle.tl_manager.specs.statement.Offer as manager_offer
-use Rattle.tl_manager.specs.statement.Reaction.{reaction}
-use Rattle.tl_coherence.specs.declared.event.Event.TheVariants.{Deliver}
-use Rattle.tl_coherence.specs.declared.event.Outcome.TheVariants as outcome
-use Rattle.tl_coherence.specs.statement.Draining.{is_moving}
-use Rattle.tl_coherence.specs.refinement.AbstractStep.{abstract_step}
-use Rattle.tl_coherence.specs.statement.Log.{system_after}
+use Rattle.tl_coherence.specs.{declared.event.Event.TheVariants.Deliver, declared.event.Outcome.Outcome}
+use Rattle.tl_coherence.specs.{statement.Draining.is_moving, refinement.AbstractStep.abstract_step}
+use Rattle.tl_coherence.specs.{statement.Log.system_after}
 use Rattle.tl_coherence.specs.statement.Step.{Step, stepped, outcome_of, is_to_client}
 use Rattle.tl_coherence.specs.statement.System.{terms_at, same_channel, with_manager, with_channel, with_messages}
 use Rattle.tl_coherence.proofs.links.FifoOfChannels.{on_it, flow_moved, taken_at}
-use Rattle.tl_coherence.proofs.links.HeadsOfLinks.{first-of}
-use Rattle.tl_coherence.proofs.queues.FirstToken.{IsFirst, first-token}
-use Rattle.tl_coherence.proofs.deliveries.DeliverDAfter.{followed-moving}
+use Rattle.tl_coherence.proofs.{links.HeadsOfLinks.first-of, queues.FirstToken.IsFirst, queues.FirstToken.first-token}
+use Rattle.tl_coherence.proofs.{deliveries.DeliverDAfter.followed-moving, manager.UnwaitedRequests.next_tracker}
+use Rattle.tl_coherence.proofs.{simulation.Popped.unfinished_at}
 use Rattle.tl_coherence.proofs.queues.Landed.{IsOn, landed-client, landed-manager}
 use Rattle.tl_coherence.proofs.deliveries.ManagersAfter.{IsAtManager, at-manager}
 use Rattle.tl_coherence.proofs.simulation.Moved.{IsTakenByClient, client-moves, client-heard}
-use Rattle.tl_coherence.proofs.manager.UnwaitedRequests.{next_tracker}
 use Rattle.tl_coherence.proofs.queues.Steps.{clients-with_messages, manager-with_messages}
-use Rattle.tl_coherence.proofs.simulation.Popped.{unfinished_at}
 
 -- ---- what the receivers have after a delivery
 
 -- messages that are handed out change no receiver
 receiver_handed : {w : ℕ} (handed : Handed w) (sys : System w) (d : ℕ) (at : Channel)
     → receiver at d (with_messages handed sys) ≡ receiver at d sys
-receiver_handed handed sys d channel.B = cc (clients-with_messages handed sys)
-receiver_handed handed sys d channel.D = cc (clients-with_messages handed sys)
+receiver_handed handed sys d Channel.B = cc (clients-with_messages handed sys)
+receiver_handed handed sys d Channel.D = cc (clients-with_messages handed sys)
 receiver_handed handed sys d at = cc (manager-with_messages handed sys)
 
 -- what is left of a beat that is moved on channel ch of client c's link: what was delivered, what receivers have, and
@@ -69,7 +60,7 @@ unfolding with_messages
 moved-to_manager {w} config log link ch h terms x queue width is known down beats moving = record {
   first = at.first;
   on_ch = at.on_it;
-  delivered = λ d. cc (at.step_is, flow_moved link ch (outcome.Moved x) x log d refl);
+  delivered = λ d. cc (at.step_is, flow_moved link ch (Outcome.Moved x) x log d refl);
   rests = λ d i. cc (
     at.step_is,
     receiver_handed handed base d i,

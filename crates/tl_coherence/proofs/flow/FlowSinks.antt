@@ -5,39 +5,30 @@ use Rattle.tl_coherence.proofs.flow.Imports.{channel_of, Config, Level, Cap, bro
 use Rattle.tl_coherence.proofs.flow.Imports.{is_grant, illegal, level_of, IsCarried, flow, Log, receiver, Service}
 use Rattle.tl_coherence.proofs.flow.Imports.{GrantSent, GrantTaken, State, packet, shown, view, is_on, is_acknowledging}
 use Rattle.tl_coherence.proofs.flow.Imports.{AccessMessages, message_of, message_of_kind, block_message, System, Kind}
-use Rattle.tl_coherence.proofs.flow.Imports.{Answer, Grant, ReleaseAck}
-use Rattle.tl_coherence.proofs.flow.Imports.{GrantAck, Packet, SimulationRelation, MonitorRelations, is_caching}
-use Rattle.tl_coherence.proofs.flow.Imports.{asked_by}
+use Rattle.tl_coherence.proofs.flow.Imports.{Answer, Grant, ReleaseAck, GrantAck, Packet, SimulationRelation}
+use Rattle.tl_coherence.proofs.flow.Imports.{MonitorRelations, is_caching, asked_by, Channel}
 use Rattle.std.proofs.Common.{◌≡◌, ℕ, zero, suc, Bool, true, false, ◌&&◌, List, [], ◌∷◌, Some, None, refl, sym, ◌∙◌, ap}
 use Rattle.std.proofs.Common.{subst}
-use Rattle.std.specs.Prelude.{◌==◌, map}
-use Rattle.std.proofs.lemmas.Bool.{ne_eqb, and_right}
-use Rattle.std.proofs.lemmas.Option.{same_Some}
-use Rattle.tl_beat.specs.declared.channel.Channel.TheVariants as channel
-use Rattle.tl_burst.specs.declared.message.Message.TheVariants as message
+use Rattle.std.{specs.Prelude.◌==◌, specs.Prelude.map, proofs.lemmas.Bool.ne_eqb, proofs.lemmas.Bool.and_right}
+use Rattle.std.{proofs.lemmas.Option.same_Some}
 use Rattle.tl_manager.specs.statement.Handing.{grant_opcode}
-use Rattle.tl_coherence.proofs.queues.Carried.{IsNext}
+use Rattle.tl_coherence.proofs.{queues.Carried.IsNext, queues.FirstToken.first-token, queues.FirstToken.own_kind}
+use Rattle.tl_coherence.proofs.{flow.FlowBeats.first_false, flow.FlowLawful.lawful-beat, flow.FlowLawful.next-flows}
+use Rattle.tl_coherence.proofs.{flow.FlowOrders.grant_ack-flows, manager.ManagedEndings.tracker-of}
+use Rattle.tl_coherence.proofs.{manager.ManagerTakes.by-first_e, queues.Tokens.holds-first}
+use Rattle.tl_coherence.proofs.{protocol.BothParts.acknowledging-is, queues.Codes.access_kind}
 use Rattle.tl_coherence.proofs.protocol.HeadOfD.{ack_message, answer-due, grant-due, grant-rendered, grant_message}
-use Rattle.tl_coherence.proofs.queues.FirstToken.{first-token, own_kind}
-use Rattle.tl_coherence.proofs.flow.FlowBeats.{first_false}
-use Rattle.tl_coherence.proofs.flow.FlowLawful.{lawful-beat, next-flows}
-use Rattle.tl_coherence.proofs.flow.FlowOrders.{grant_ack-flows}
-use Rattle.tl_coherence.proofs.manager.ManagedEndings.{tracker-of}
-use Rattle.tl_coherence.proofs.manager.ManagerTakes.{by-first_e}
-use Rattle.tl_coherence.proofs.queues.Tokens.{holds-first}
-use Rattle.tl_coherence.proofs.protocol.BothParts.{acknowledging-is}
-use Rattle.tl_coherence.proofs.queues.Codes.{access_kind}
 
 -- the message is no Grant with this sink
 IsElse : {w : ℕ} → ℕ → Message w → Type 0
-IsElse {w} sink m = (x : MessageD w) × (m ≡ message.D x) × ((is_grant x.opcode && (x.sink == sink)) ≡ false)
+IsElse {w} sink m = (x : MessageD w) × (m ≡ Message.D x) × ((is_grant x.opcode && (x.sink == sink)) ≡ false)
 
 comes_else : {w : ℕ} (sink : ℕ) (m : Message w) (k : ℕ) (rest : List (Beat w)) → rest ≡ begun m k → IsElse sink m
     → comes_in_grant sink rest ≡ false
 unfolding IsElse
 comes_else sink m k rest e is = ap (comes_in_grant sink) e ∙ ap (λ y. comes_in_grant sink (begun y k)) is.1 ∙ go k
   where
-    go : (i : ℕ) → comes_in_grant sink (begun (message.D is.0) i) ≡ false
+    go : (i : ℕ) → comes_in_grant sink (begun (Message.D is.0) i) ≡ false
     go zero = refl
     go (suc i) = is.2
 
@@ -85,16 +76,16 @@ else_ack mail s c sink i = (ack_message ((s.block i).release_source c), refl, re
 no_grant_coming : {w : ℕ} (config : Config) (log : Log w) (mail : AccessMessages w) (request : ℕ → MessageA w)
     (s : State (List ℕ)) (sys : System w) (c n : ℕ)
     → SimulationRelation config log mail request s sys → (s.block n).service ≡ GrantTaken c
-    → comes_in_grant (s.block n).tracker (unfinished channel.D (sys.clients c).past) ≡ false
-no_grant_coming {w} config log mail request s sys c n h taken = go (s.link c).d refl (h.carried c channel.D)
+    → comes_in_grant (s.block n).tracker (unfinished Channel.D (sys.clients c).past) ≡ false
+no_grant_coming {w} config log mail request s sys c n h taken = go (s.link c).d refl (h.carried c Channel.D)
   where
     rest_now : List (Beat w)
-    rest_now = unfinished channel.D (sys.clients c).past
+    rest_now = unfinished Channel.D (sys.clients c).past
 
     sink : ℕ
     sink = (s.block n).tracker
 
-    elses : (k : Kind) (i : ℕ) (rest : List Packet) → (s.link c).d ≡ packet k i ∷ rest → is_on channel.D k ≡ true
+    elses : (k : Kind) (i : ℕ) (rest : List Packet) → (s.link c).d ≡ packet k i ∷ rest → is_on Channel.D k ≡ true
         → IsElse sink (message_of_kind k mail s c i)
     elses Answer i rest first own = else_answer config log mail request s sys c sink i rest h first
     elses Grant i rest first own = else_grant config log mail request s sys c n i rest h first taken
@@ -102,19 +93,19 @@ no_grant_coming {w} config log mail request s sys c n h taken = go (s.link c).d 
     elses k i rest first own = absurd cc
 
     go : (xs : List Packet) → (s.link c).d ≡ xs → IsCarried rest_now (map (message_of mail s c) (s.link c).d)
-        (sys.channels c channel.D) → comes_in_grant sink rest_now ≡ false
+        (sys.channels c Channel.D) → comes_in_grant sink rest_now ≡ false
     go [] first carried =
-        let none : IsCarried rest_now [] (sys.channels c channel.D) =
-        subst (λ (ms : List (Message w)). IsCarried rest_now ms (sys.channels c channel.D))
+        let none : IsCarried rest_now [] (sys.channels c Channel.D) =
+        subst (λ (ms : List (Message w)). IsCarried rest_now ms (sys.channels c Channel.D))
         (ap (map (message_of mail s c)) first) carried in
         ap (comes_in_grant sink) none.0
     go (x ∷ xs) first carried =
         let some : IsCarried rest_now (message_of mail s c x ∷ map (message_of mail s c) xs)
-        (sys.channels c channel.D) =
-        subst (λ (ms : List (Message w)). IsCarried rest_now ms (sys.channels c channel.D))
+        (sys.channels c Channel.D) =
+        subst (λ (ms : List (Message w)). IsCarried rest_now ms (sys.channels c Channel.D))
         (ap (map (message_of mail s c)) first) carried in
         comes_else sink (message_of mail s c x) some.0 rest_now some.2
-        (elses x.kind x.number xs first (own_kind (is_caching config) s c channel.D x.kind x.number xs h.invariant
+        (elses x.kind x.number xs first (own_kind (is_caching config) s c Channel.D x.kind x.number xs h.invariant
         first))
 
 ack-lawful : {w : ℕ} (config : Config) (log : Log w) (mail : AccessMessages w) (request : ℕ → MessageA w)
@@ -122,13 +113,13 @@ ack-lawful : {w : ℕ} (config : Config) (log : Log w) (mail : AccessMessages w)
     (toks : List Packet) (l : Level) (x : Beat w) (ms : List (Message w)) (queue : List (Beat w))
     → SimulationRelation config log mail request s sys → MonitorRelations log mail s sys
     → illegal l (channel_of x) x ≡ None → (s.link c).e ≡ packet GrantAck n ∷ toks
-    → IsNext x (unfinished channel.E (on_link c sys.manager.trace)) (block_message GrantAck c n (s.block n)) ms queue
+    → IsNext x (unfinished Channel.E (on_link c sys.manager.trace)) (block_message GrantAck c n (s.block n)) ms queue
     → broken_after l config.profile x (flow c log) ≡ None
 unfolding block_message
 ack-lawful {w} config log mail request s sys c n toks l x ms queue is flowed lawful tokens next =
     next-flows l config.profile (block_message GrantAck c n (s.block n)) x
-    (unfinished channel.E (on_link c sys.manager.trace)) ms queue (flow c log) lawful next
-    ((flowed c).rest_is channel.E)
+    (unfinished Channel.E (on_link c sys.manager.trace)) ms queue (flow c log) lawful next
+    ((flowed c).rest_is Channel.E)
     (λ none. grant_ack-flows config.profile c n y (asked_by mail s c) (λ ch. unfinished ch (receiver ch c sys)) s
     (flow c log) (flowed c) none
     (tracker-of n s is.invariant.named (rw taken refl)) shows (no_grant_coming config log mail request s sys c n is
@@ -148,10 +139,10 @@ pub flows-e : {w : ℕ} (config : Config) (log : Log w) (mail : AccessMessages w
     (s : State (List ℕ)) (sys : System w) (c : ℕ) (l : Level)
     (x : Beat w) (queue : List (Beat w)) → IsWidth w → SimulationRelation config log mail request s sys
     → MonitorRelations log mail s sys
-    → sys.channels c channel.E ≡ x ∷ queue → level_of config c ≡ Some l
+    → sys.channels c Channel.E ≡ x ∷ queue → level_of config c ≡ Some l
     → broken_after l config.profile x (flow c log) ≡ None
 flows-e {w} config log mail request s sys c l x queue width is flowed beats level =
     cc (by-first_e (λ i. broken_after l config.profile x (flow c log) ≡ None) c mail s sys x queue
-    (first-token (is_caching config) channel.E c mail s sys x queue width is.invariant is.carried beats)
+    (first-token (is_caching config) Channel.E c mail s sys x queue width is.invariant is.carried beats)
     (λ n rest tokens next. ack-lawful config log mail request s sys c n rest l x (map (message_of mail s c) rest) queue
-    is flowed (lawful-beat config log mail request s sys c channel.E l x queue is beats level) tokens next))
+    is flowed (lawful-beat config log mail request s sys c Channel.E l x queue is beats level) tokens next))

@@ -4,25 +4,16 @@ use Rattle.tl_coherence.proofs.flow.Imports.{SimulationRelation, flow}
 use Rattle.std.proofs.Common.{◌≡◌, ℕ, Bool, true, false, List, [], ◌∷◌, Some, refl, sym, ◌∙◌, ap}
 use Rattle.std.specs.Prelude.{◌++◌, ◌==◌, if◌then◌else◌}
 use Rattle.tl_beat.specs.declared.beat.Link.{Link}
-use Rattle.tl_client.specs.declared.verdict.Finish.{Finish}
-use Rattle.tl_client.specs.statement.Endpoint.{EndConfig}
-use Rattle.tl_coherence.specs.declared.event.Event.{Event}
-use Rattle.tl_coherence.specs.declared.event.Event.TheVariants.{Deliver}
-use Rattle.tl_coherence.specs.declared.event.Outcome.{Outcome}
-use Rattle.tl_coherence.specs.declared.event.Outcome.TheVariants as outcome
-use Rattle.tl_coherence.specs.statement.Draining.{is_moving}
+use Rattle.tl_client.{specs.declared.verdict.Finish.Finish, specs.statement.Endpoint.EndConfig}
+use Rattle.tl_coherence.specs.{declared.event.Event.Event, declared.event.Event.TheVariants.Deliver}
+use Rattle.tl_coherence.specs.{declared.event.Outcome.Outcome, statement.Draining.is_moving, statement.Headline.IsGiven}
+use Rattle.tl_coherence.specs.{statement.Log.IsLog, statement.Log.system_after, statement.Step.stepped}
+use Rattle.tl_coherence.specs.{statement.Step.is_to_client, statement.System.terms_at}
 use Rattle.tl_coherence.specs.statement.Flow.{taken_at, IsTaken, EachTaken}
-use Rattle.tl_coherence.specs.statement.Headline.{IsGiven}
-use Rattle.tl_coherence.specs.statement.Log.{IsLog, system_after}
-use Rattle.tl_coherence.specs.statement.Step.{stepped, is_to_client}
-use Rattle.tl_coherence.specs.statement.System.{terms_at}
-use Rattle.tl_coherence.proofs.bound.Settling.{given-before}
-use Rattle.tl_coherence.proofs.deliveries.Matching.{shadow}
-use Rattle.tl_coherence.proofs.flow.FlowReceived.{IsMovedOn, moved-on}
-use Rattle.tl_coherence.proofs.links.FromInvariant.{matched-given}
-use Rattle.tl_coherence.proofs.links.HeadsOfLinks.{first-of}
-use Rattle.tl_coherence.proofs.outstanding.Outstanding.{first-moved}
-use Rattle.tl_coherence.proofs.queues.Tokens.{same_number}
+use Rattle.tl_coherence.proofs.{bound.Settling.given-before, deliveries.Matching.shadow, flow.FlowReceived.IsMovedOn}
+use Rattle.tl_coherence.proofs.{flow.FlowReceived.moved-on, links.FromInvariant.matched-given}
+use Rattle.tl_coherence.proofs.{links.HeadsOfLinks.first-of, outstanding.Outstanding.first-moved}
+use Rattle.tl_coherence.proofs.{queues.Tokens.same_number}
 
 first_of_two : {w : ℕ} (x y : Beat w) (t : History w) → x ∷ t ≡ y ∷ t → y ≡ x
 first_of_two x y t e = cc
@@ -70,10 +61,10 @@ moved-first {w} config log h link ch o x width is o_is moves delivered = (
 moved-beat : {w : ℕ} (config : Config) (log : Log w) (h : AbstractState w) (link : Link) (ch : Channel) (x : Beat w)
     → IsWidth w
     → SimulationRelation config log h.mail h.request h.state (system_after config log)
-    → outcome.Moved x ≡ (stepped config (Deliver link ch) (system_after config log)).outcome
+    → Outcome.Moved x ≡ (stepped config (Deliver link ch) (system_after config log)).outcome
     → (queue : List (Beat w)) × ((system_after config log).channels link.0 (channel_of x) ≡ x ∷ queue)
 unfolding flow
-moved-beat {w} config log h link ch x width is o_is = moved-first config log h link ch (outcome.Moved x) x width is o_is
+moved-beat {w} config log h link ch x width is o_is = moved-first config log h link ch (Outcome.Moved x) x width is o_is
     refl (λ d. taken_there d (link.0 == d))
   where
     taken_there : (d : ℕ) (b : Bool)
@@ -84,10 +75,10 @@ moved-beat {w} config log h link ch x width is o_is = moved-first config log h l
 done-beat : {w : ℕ} (config : Config) (log : Log w) (h : AbstractState w) (link : Link) (ch : Channel) (x : Beat w)
     (source : ℕ) (f : Finish) → IsWidth w
     → SimulationRelation config log h.mail h.request h.state (system_after config log)
-    → outcome.Done x source f ≡ (stepped config (Deliver link ch) (system_after config log)).outcome
+    → Outcome.Done x source f ≡ (stepped config (Deliver link ch) (system_after config log)).outcome
     → (queue : List (Beat w)) × ((system_after config log).channels link.0 (channel_of x) ≡ x ∷ queue)
 unfolding flow
-done-beat {w} config log h link ch x source f width is o_is = moved-first config log h link ch (outcome.Done x source f)
+done-beat {w} config log h link ch x source f width is o_is = moved-first config log h link ch (Outcome.Done x source f)
     x width is o_is refl (λ d. taken_there d (link.0 == d))
   where
     taken_there : (d : ℕ) (b : Bool)
@@ -103,13 +94,13 @@ module _ {w : ℕ} (config : Config) (P : Log w → ℕ → Beat w → Type 0)
   where
     taken-event : (event : Event w) (o : Outcome w) (log : Log w) → IsGiven config ((event, o) ∷ log)
         → o ≡ (stepped config event (system_after config log)).outcome → IsTaken P log (taken_at event o)
-    taken-event (Deliver link ch) (outcome.Moved x) log given o_is =
-        let before = given-before config (Deliver link ch, outcome.Moved x) log given in
+    taken-event (Deliver link ch) (Outcome.Moved x) log given o_is =
+        let before = given-before config (Deliver link ch, Outcome.Moved x) log given in
         let first = moved-beat config log (shadow config log) link ch x given.width (matched-given config log before)
         o_is in
         front log before link.0 x first.0 first.1
-    taken-event (Deliver link ch) (outcome.Done x source f) log given o_is =
-        let before = given-before config (Deliver link ch, outcome.Done x source f) log given in
+    taken-event (Deliver link ch) (Outcome.Done x source f) log given o_is =
+        let before = given-before config (Deliver link ch, Outcome.Done x source f) log given in
         let first = done-beat config log (shadow config log) link ch x source f given.width
         (matched-given config log before) o_is in
         front log before link.0 x first.0 first.1

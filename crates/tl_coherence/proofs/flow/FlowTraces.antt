@@ -4,28 +4,19 @@ use Rattle.tl_coherence.proofs.flow.Imports.{level_of, flow, Log}
 use Rattle.std.proofs.Common.{◌≡◌, ℕ, Bool, true, false, ◌&&◌, List, [], ◌∷◌, ◌++◌, refl, sym, ◌∙◌, ap, subst}
 use Rattle.std.proofs.Common.{append_assoc}
 use Rattle.std.specs.Prelude.{◌==◌, if◌then◌else◌, Option, Some, None, is_none, reverse, slice_get, ⊤}
-use Rattle.std.proofs.lemmas.Bool.{eqb-false}
+use Rattle.std.{proofs.lemmas.Bool.eqb-false, proofs.lemmas.Option.slice_get-map}
 use Rattle.std.proofs.lemmas.List.{append-nil, reverse-append, reverse-reverse}
-use Rattle.std.proofs.lemmas.Option.{slice_get-map}
 use Rattle.tl_beat.specs.declared.beat.Link.{Link}
-use Rattle.tl_params.specs.declared.config.ClientConfig.{ClientConfig}
-use Rattle.tl_params.specs.declared.rule.Rule.{Rule}
+use Rattle.tl_params.{specs.declared.config.ClientConfig.ClientConfig, specs.declared.rule.Rule.Rule}
 use Rattle.tl_rules.specs.statement.Conformance.{Trace, broken_at_level, broken_on_link, fault_from, is_legal}
 use Rattle.tl_client.specs.statement.Endpoint.{EndConfig}
-use Rattle.tl_coherence.specs.declared.event.Event.{Event}
+use Rattle.tl_coherence.specs.{declared.event.Event.Event, declared.event.Outcome.Outcome, statement.Delivery.Faultless}
+use Rattle.tl_coherence.specs.{statement.Delivery.levels_of, statement.Draining.is_moving, statement.Headline.IsGiven}
+use Rattle.tl_coherence.specs.{statement.Log.IsLog, statement.Log.system_after, statement.System.terms_at}
 use Rattle.tl_coherence.specs.declared.event.Event.TheVariants.{Ask, Deliver}
-use Rattle.tl_coherence.specs.declared.event.Outcome.{Outcome}
-use Rattle.tl_coherence.specs.declared.event.Outcome.TheVariants as outcome
-use Rattle.tl_coherence.specs.statement.Delivery.{Faultless, levels_of}
-use Rattle.tl_coherence.specs.statement.Draining.{is_moving}
 use Rattle.tl_coherence.specs.statement.Flow.{taken_at, taken_on, trace_of}
-use Rattle.tl_coherence.specs.statement.Headline.{IsGiven}
-use Rattle.tl_coherence.specs.statement.Log.{IsLog, system_after}
-use Rattle.tl_coherence.specs.statement.System.{terms_at}
-use Rattle.tl_coherence.proofs.bound.Settling.{given-before}
-use Rattle.tl_coherence.proofs.flow.Flows.{flows}
-use Rattle.tl_coherence.proofs.outstanding.Outstanding.{first-moved}
-use Rattle.tl_coherence.proofs.simulation.BeatsInFlight.{level-terms}
+use Rattle.tl_coherence.proofs.{bound.Settling.given-before, flow.Flows.flows, outstanding.Outstanding.first-moved}
+use Rattle.tl_coherence.proofs.{simulation.BeatsInFlight.level-terms}
 
 -- ---- the beats of all links, and those of one
 
@@ -40,8 +31,8 @@ on-link {w} n link x t = go (link.0 == n)
 
 taken-flows : {w : ℕ} (n : ℕ) (event : Event w) (o : Outcome w) (t : Trace w)
     → on_link n (taken_at event o ++ t) ≡ taken_on n event o ++ on_link n t
-taken-flows n (Deliver link ch) (outcome.Moved x) t = on-link n link x t
-taken-flows n (Deliver link ch) (outcome.Done x source f) t = on-link n link x t
+taken-flows n (Deliver link ch) (Outcome.Moved x) t = on-link n link x t
+taken-flows n (Deliver link ch) (Outcome.Done x source f) t = on-link n link x t
 taken-flows n event o t = refl
 
 pub trace-flows : {w : ℕ} (n : ℕ) (log : Log w) → on_link n (trace_of log) ≡ flow n log
@@ -131,22 +122,22 @@ unfolding AreGood trace_of flow
 all-good config [] given = tt
 all-good config ((Ask client op, o) ∷ log) given =
     all-good config log (given-before config (Ask client op, o) log given)
-all-good config ((Deliver link ch, outcome.Moved x) ∷ log) given = (
-  delivered-unbroken config log link ch (outcome.Moved x) x given refl (taken link x (flow link.0 log)),
-  all-good config log (given-before config (Deliver link ch, outcome.Moved x) log given),
+all-good config ((Deliver link ch, Outcome.Moved x) ∷ log) given = (
+  delivered-unbroken config log link ch (Outcome.Moved x) x given refl (taken link x (flow link.0 log)),
+  all-good config log (given-before config (Deliver link ch, Outcome.Moved x) log given),
 )
-all-good config ((Deliver link ch, outcome.Done x source f) ∷ log) given = (
-  delivered-unbroken config log link ch (outcome.Done x source f) x given refl (taken link x (flow link.0 log)),
-  all-good config log (given-before config (Deliver link ch, outcome.Done x source f) log given),
+all-good config ((Deliver link ch, Outcome.Done x source f) ∷ log) given = (
+  delivered-unbroken config log link ch (Outcome.Done x source f) x given refl (taken link x (flow link.0 log)),
+  all-good config log (given-before config (Deliver link ch, Outcome.Done x source f) log given),
 )
-all-good config ((Deliver link ch, outcome.Replied r) ∷ log) given =
-    all-good config log (given-before config (Deliver link ch, outcome.Replied r) log given)
-all-good config ((Deliver link ch, outcome.Empty) ∷ log) given =
-    all-good config log (given-before config (Deliver link ch, outcome.Empty) log given)
-all-good config ((Deliver link ch, outcome.Stalled) ∷ log) given =
-    all-good config log (given-before config (Deliver link ch, outcome.Stalled) log given)
-all-good config ((Deliver link ch, outcome.NoSuchClient) ∷ log) given =
-    all-good config log (given-before config (Deliver link ch, outcome.NoSuchClient) log given)
+all-good config ((Deliver link ch, Outcome.Replied r) ∷ log) given =
+    all-good config log (given-before config (Deliver link ch, Outcome.Replied r) log given)
+all-good config ((Deliver link ch, Outcome.Empty) ∷ log) given =
+    all-good config log (given-before config (Deliver link ch, Outcome.Empty) log given)
+all-good config ((Deliver link ch, Outcome.Stalled) ∷ log) given =
+    all-good config log (given-before config (Deliver link ch, Outcome.Stalled) log given)
+all-good config ((Deliver link ch, Outcome.NoSuchClient) ∷ log) given =
+    all-good config log (given-before config (Deliver link ch, Outcome.NoSuchClient) log given)
 
 pub faultless : {w : ℕ} → Faultless w
 faultless {w} config log given =

@@ -1,57 +1,38 @@
 -- What is delivered on each link has the values of the protocol after every event, and so breaks no rule.
-use Rattle.tl_coherence.proofs.flow.Imports.{IsWidth, Beat, Channel, History, completes, Config}
-use Rattle.tl_coherence.proofs.flow.Imports.{Level, Profile, broken_after, level_of, flow, MonitorRelation}
-use Rattle.tl_coherence.proofs.flow.Imports.{AbstractState, kind_taken, Log, packet, message_of, System}
-use Rattle.tl_coherence.proofs.flow.Imports.{SimulationRelation, MonitorRelations, asked_by}
-use Rattle.std.proofs.Common.{◌≡◌, subst, ℕ, Bool, true, false, List, [], ◌∷◌, Option, Some, None, refl, sym, ◌∙◌}
-use Rattle.std.proofs.Common.{ap, inl, inr}
+use Rattle.tl_coherence.proofs.flow.Imports.{IsWidth, Beat, Channel, History, completes, Config, Level, Profile}
+use Rattle.tl_coherence.proofs.flow.Imports.{broken_after, level_of, flow, MonitorRelation, AbstractState, kind_taken}
+use Rattle.tl_coherence.proofs.flow.Imports.{Log, packet, message_of, System, SimulationRelation, MonitorRelations}
+use Rattle.tl_coherence.proofs.flow.Imports.{asked_by}
+use Rattle.std.proofs.Common.{◌≡◌, subst, ℕ, Bool, true, false, List, [], ◌∷◌, Option, Some, None, refl, sym, ◌∙◌, ap}
+use Rattle.std.proofs.Common.{inl, inr}
 use Rattle.std.specs.Prelude.{◌==◌, if◌then◌else◌, map}
 use Rattle.std.proofs.lemmas.Bool.{cases_eq, ne_eqb, eqb-true}
 use Rattle.tl_beat.specs.declared.beat.Link.{Link}
-use Rattle.tl_beat.specs.declared.channel.Channel.TheVariants as channel
 use Rattle.tl_rules.specs.statement.Conformance.{is_legal}
-use Rattle.tl_client.specs.declared.operation.Op.{Op}
+use Rattle.tl_client.{specs.declared.operation.Op.Op, specs.statement.Endpoint.EndConfig}
+use Rattle.tl_client.{proofs.endpoint.Outstanding.unfinished-asked}
 use Rattle.tl_client.specs.statement.Ask as ask
-use Rattle.tl_client.specs.statement.Endpoint.{EndConfig}
-use Rattle.tl_client.proofs.endpoint.Outstanding.{unfinished-asked}
-use Rattle.tl_coherence.specs.declared.event.Event.{Event}
+use Rattle.tl_coherence.specs.{declared.event.Event.Event, declared.event.Outcome.Outcome, statement.Draining.is_moving}
+use Rattle.tl_coherence.specs.{statement.Headline.AreTyped, statement.Headline.IsGiven, statement.Log.IsLog}
+use Rattle.tl_coherence.specs.{statement.Log.system_after, statement.OneMemory.one_memory_after, protocol.Protocol.on}
+use Rattle.tl_coherence.specs.{statement.System.terms_at}
 use Rattle.tl_coherence.specs.declared.event.Event.TheVariants.{Ask, Deliver}
-use Rattle.tl_coherence.specs.declared.event.Outcome.{Outcome}
-use Rattle.tl_coherence.specs.declared.event.Outcome.TheVariants as outcome
-use Rattle.tl_coherence.specs.statement.Draining.{is_moving}
 use Rattle.tl_coherence.specs.refinement.AbstractStep.{abstract_step, abstract_step_by, asked}
-use Rattle.tl_coherence.specs.statement.Headline.{AreTyped, IsGiven}
-use Rattle.tl_coherence.specs.statement.Log.{IsLog, system_after}
-use Rattle.tl_coherence.specs.statement.OneMemory.{one_memory_after}
-use Rattle.tl_coherence.specs.protocol.Protocol.{on}
 use Rattle.tl_coherence.specs.statement.Step.{Step, stepped, replied, is_to_client}
-use Rattle.tl_coherence.specs.statement.System.{terms_at}
-use Rattle.tl_coherence.proofs.deliveries.AskedWell.{IsAskedWell, asked-well}
-use Rattle.tl_coherence.proofs.client.ManagerStep.{on_same}
-use Rattle.tl_coherence.proofs.links.FifoOfChannels.{flow_still}
-use Rattle.tl_coherence.proofs.flow.FlowAlone.{AreRests}
-use Rattle.tl_coherence.proofs.flow.FlowAsking.{flowed-asked}
-use Rattle.tl_coherence.proofs.flow.FlowKinds.{FlowsAs, other-kind}
-use Rattle.tl_coherence.proofs.flow.FlowOwn.{own-kind}
-use Rattle.tl_coherence.proofs.flow.FlowLawful.{flows-b, flows-c}
-use Rattle.tl_coherence.proofs.flow.FlowRequests.{flows-a}
-use Rattle.tl_coherence.proofs.flow.FlowResponses.{flows-d}
-use Rattle.tl_coherence.proofs.flow.FlowSame.{flowed-rests}
-use Rattle.tl_coherence.proofs.flow.FlowSinks.{flows-e}
-use Rattle.tl_coherence.proofs.protocol.FollowKept.{IsReady}
-use Rattle.tl_coherence.proofs.deliveries.DeliverDAfter.{followed-still}
-use Rattle.tl_coherence.proofs.deliveries.DeliverDUnmoved.{unmoved}
-use Rattle.tl_coherence.proofs.simulation.Fresh.{fresh-flowed}
+use Rattle.tl_coherence.proofs.{deliveries.AskedWell.IsAskedWell, deliveries.AskedWell.asked-well}
+use Rattle.tl_coherence.proofs.{client.ManagerStep.on_same, links.FifoOfChannels.flow_still, flow.FlowAlone.AreRests}
+use Rattle.tl_coherence.proofs.{flow.FlowAsking.flowed-asked, flow.FlowKinds.FlowsAs, flow.FlowKinds.other-kind}
+use Rattle.tl_coherence.proofs.{flow.FlowOwn.own-kind, flow.FlowLawful.flows-b, flow.FlowLawful.flows-c}
+use Rattle.tl_coherence.proofs.{flow.FlowRequests.flows-a, flow.FlowResponses.flows-d, flow.FlowSame.flowed-rests}
+use Rattle.tl_coherence.proofs.{flow.FlowSinks.flows-e, protocol.FollowKept.IsReady}
+use Rattle.tl_coherence.proofs.{deliveries.DeliverDAfter.followed-still, deliveries.DeliverDUnmoved.unmoved}
+use Rattle.tl_coherence.proofs.{simulation.Fresh.fresh-flowed, deliveries.FirstRequest.arrival-first}
+use Rattle.tl_coherence.proofs.{queues.Landed.handed-client, outstanding.Outstanding.first-moved}
+use Rattle.tl_coherence.proofs.{manager.UnwaitedRequests.next_tracker, queues.Steps.stepped-asked}
+use Rattle.tl_coherence.proofs.{queues.Tokens.same_number, simulation.Popped.unfinished_at, flow.FlowReceived.IsMovedOn}
+use Rattle.tl_coherence.proofs.{flow.FlowReceived.moved-on}
 use Rattle.tl_coherence.proofs.deliveries.InvariantKept.{request-moves, ready-delivered}
 use Rattle.tl_coherence.proofs.deliveries.Matching.{shadow, matched, stepped-nobody}
-use Rattle.tl_coherence.proofs.deliveries.FirstRequest.{arrival-first}
-use Rattle.tl_coherence.proofs.queues.Landed.{handed-client}
-use Rattle.tl_coherence.proofs.outstanding.Outstanding.{first-moved}
-use Rattle.tl_coherence.proofs.manager.UnwaitedRequests.{next_tracker}
-use Rattle.tl_coherence.proofs.queues.Steps.{stepped-asked}
-use Rattle.tl_coherence.proofs.queues.Tokens.{same_number}
-use Rattle.tl_coherence.proofs.simulation.Popped.{unfinished_at}
-use Rattle.tl_coherence.proofs.flow.FlowReceived.{IsMovedOn, moved-on}
 
 -- ---- what is delivered after a delivery
 
@@ -183,11 +164,11 @@ asked-flowed {w} config log c o h width is flowed = go (terms_at config c) refl
     go : (i : Option EndConfig) → terms_at config c ≡ i → After (stepped config (Ask c o) sys)
     go None none = subst After (sym (stepped-nobody config (Ask c o) sys none))
         (λ d. subst (λ (t : History w). MonitorRelation (asked_by h.mail h.state d) (unfinished_at sys d) d h.state t)
-        (sym (flow_still (Ask c o) outcome.NoSuchClient log d refl)) (flowed d))
+        (sym (flow_still (Ask c o) Outcome.NoSuchClient log d refl)) (flowed d))
     go (Some terms) known = subst After (sym (stepped-asked config c o sys terms known)) (λ d.
         subst (λ (t : History w). MonitorRelation (asked_by h'.mail h'.state d)
         (unfinished_at (replied c a sys).after d) d h'.state t)
-        (sym (flow_still (Ask c o) (outcome.Replied a.reply) log d refl))
+        (sym (flow_still (Ask c o) (Outcome.Replied a.reply) log d refl))
         (flowed-rests (asked_by h'.mail h'.state d) (unfinished_at sys d) (unfinished_at (replied c a sys).after d) d
         h'.state (flow d log)
         (λ i. (handed-client c a.message a.after sys (λ j. unfinished-asked terms o (sys.clients c) j width
@@ -237,17 +218,17 @@ unbroken : {w : ℕ} (config : Config) (log : Log w) (h : AbstractState w) (link
     → is_moving (stepped config (Deliver link ch) (system_after config log)).outcome ≡ true
     → (system_after config log).channels link.0 ch ≡ x ∷ queue
     → level_of config link.0 ≡ Some l → broken_after l config.profile x (flow link.0 log) ≡ None
-unbroken config log h link channel.A l x queue width is values moving beats level =
+unbroken config log h link Channel.A l x queue width is values moving beats level =
     flows-a config log h.mail h.request h.state (system_after config log) link.0 l x queue width is values beats level
     (request-moves config log h.mail h.request h.state (system_after config log) link x queue is moving beats
     (arrival-first config log h (system_after config log) link.0 x queue width is beats))
-unbroken config log h link channel.B l x queue width is values moving beats level =
+unbroken config log h link Channel.B l x queue width is values moving beats level =
     flows-b config log h.mail h.request h.state (system_after config log) link.0 l x queue width is values beats level
-unbroken config log h link channel.C l x queue width is values moving beats level =
+unbroken config log h link Channel.C l x queue width is values moving beats level =
     flows-c config log h.mail h.request h.state (system_after config log) link.0 l x queue width is values beats level
-unbroken config log h link channel.D l x queue width is values moving beats level =
+unbroken config log h link Channel.D l x queue width is values moving beats level =
     flows-d config log h.mail h.request h.state (system_after config log) link.0 l x queue width is values beats level
-unbroken config log h link channel.E l x queue width is values moving beats level =
+unbroken config log h link Channel.E l x queue width is values moving beats level =
     flows-e config log h.mail h.request h.state (system_after config log) link.0 l x queue width is values beats level
 
 -- who is asked moves no beat

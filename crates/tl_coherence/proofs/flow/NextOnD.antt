@@ -1,27 +1,20 @@
 -- The beat that is next on channel D of a client's link: one of an answer, of a Grant, or of a ReleaseAck.
 use Rattle.tl_coherence.proofs.flow.Imports.{Beat, BeatD, IsWidth, unfinished, Config, Message, MessageD, beat_of}
-use Rattle.tl_coherence.proofs.flow.Imports.{begun}
-use Rattle.tl_coherence.proofs.flow.Imports.{is_grant, asks_for, request_of, View, Block, State, SourceState}
+use Rattle.tl_coherence.proofs.flow.Imports.{begun, is_grant, asks_for, request_of, View, Block, State, SourceState}
 use Rattle.tl_coherence.proofs.flow.Imports.{packet, is_on, is_unserved, is_requested, AbstractState, receiver}
-use Rattle.tl_coherence.proofs.flow.Imports.{message_of, message_of_kind, block_message, Kind}
-use Rattle.tl_coherence.proofs.flow.Imports.{Answer, Grant, ReleaseAck, flow, same_block}
-use Rattle.tl_coherence.proofs.flow.Imports.{SimulationRelation, MonitorRelations, is_caching, asked_by, Log}
+use Rattle.tl_coherence.proofs.flow.Imports.{message_of, message_of_kind, block_message, Kind, Answer, Grant}
+use Rattle.tl_coherence.proofs.flow.Imports.{ReleaseAck, flow, same_block, SimulationRelation, MonitorRelations}
+use Rattle.tl_coherence.proofs.flow.Imports.{is_caching, asked_by, Log, Channel}
 use Rattle.std.proofs.Common.{◌≡◌, ℕ, true, false, not, List, ◌∷◌, refl, sym, ◌∙◌, ap, subst}
-use Rattle.std.specs.Prelude.{◌==◌, map, length}
-use Rattle.std.proofs.lemmas.Bool.{eqb-true}
-use Rattle.tl_beat.specs.declared.beat.Beat.TheVariants as beat
-use Rattle.tl_beat.specs.declared.channel.Channel.TheVariants as channel
-use Rattle.tl_burst.specs.statement.Burst.{d_beat_of}
-use Rattle.tl_burst.proofs.Begun.{length-begun}
+use Rattle.std.{specs.Prelude.◌==◌, specs.Prelude.map, specs.Prelude.length, proofs.lemmas.Bool.eqb-true}
+use Rattle.tl_burst.{specs.statement.Burst.d_beat_of, proofs.Begun.length-begun}
 use Rattle.tl_rules.specs.statement.History.{grants}
 use Rattle.tl_coherence.specs.statement.Log.{system_after}
-use Rattle.tl_coherence.proofs.client.ClientEnd.{asks-acquire}
+use Rattle.tl_coherence.proofs.{client.ClientEnd.asks-acquire, queues.Carried.IsNext, queues.Codes.access_kind}
+use Rattle.tl_coherence.proofs.{queues.FirstToken.IsFirst, queues.FirstToken.first-token, queues.Phases.and_left}
+use Rattle.tl_coherence.proofs.{queues.Phases.and_right}
 use Rattle.tl_coherence.proofs.protocol.HeadOfD.{IsAnswerDue, IsGrantDue, ack_message, answer-due, grant-due}
 use Rattle.tl_coherence.proofs.protocol.HeadOfD.{grant-rendered, grant_message, own_view}
-use Rattle.tl_coherence.proofs.queues.Carried.{IsNext}
-use Rattle.tl_coherence.proofs.queues.Codes.{access_kind}
-use Rattle.tl_coherence.proofs.queues.FirstToken.{IsFirst, first-token}
-use Rattle.tl_coherence.proofs.queues.Phases.{and_left, and_right}
 
 -- the Grant of the block that is on its way to the client
 abbrev pub grant_sent : {w : ℕ} (c n : ℕ) (s : State (List ℕ)) → IsGrantDue c n s → MessageD w
@@ -33,38 +26,38 @@ pub record IsGrantBeat {w : ℕ} (c n : ℕ) (s : State (List ℕ)) (y : BeatD w
   pub due : IsGrantDue c n s
   pub beat_is : y ≡ d_beat_of (grant_sent c n s due) place
 
-same_beat : {w : ℕ} (x y : BeatD w) → beat.D x ≡ beat.D y → x ≡ y
+same_beat : {w : ℕ} (x y : BeatD w) → Beat.D x ≡ Beat.D y → x ≡ y
 same_beat x y e = cc
 
 module _ {w : ℕ} (config : Config) (log : Log w) (h : AbstractState w) (c : ℕ) (y : BeatD w) (queue : List (Beat w))
     (width : IsWidth w)
     (is : SimulationRelation config log h.mail h.request h.state (system_after config log))
     (flowed : MonitorRelations log h.mail h.state (system_after config log))
-    (beats : (system_after config log).channels c channel.D ≡ beat.D y ∷ queue) where
+    (beats : (system_after config log).channels c Channel.D ≡ Beat.D y ∷ queue) where
   abbrev s : State (List ℕ)
   s = h.state
 
-  first : IsFirst channel.D c h.mail s (system_after config log) (beat.D y) queue
-  first = first-token (is_caching config) channel.D c h.mail s (system_after config log) (beat.D y) queue width
+  first : IsFirst Channel.D c h.mail s (system_after config log) (Beat.D y) queue
+  first = first-token (is_caching config) Channel.D c h.mail s (system_after config log) (Beat.D y) queue width
       is.invariant is.carried beats
 
   abbrev Next : Kind → ℕ → Type 0
-  Next k i = IsNext (beat.D y) (unfinished channel.D ((system_after config log).clients c).past)
+  Next k i = IsNext (Beat.D y) (unfinished Channel.D ((system_after config log).clients c).past)
       (message_of_kind k h.mail s c i) (map (message_of h.mail s c) first.rest) queue
 
   -- what holds of a beat of an answer, of one of a Grant, and of one of a ReleaseAck holds of it
   pub next-on_d : (P : Type 0) → ((i : ℕ) (due : IsAnswerDue c i h.mail s)
-      → y ≡ d_beat_of due.answer (length (unfinished channel.D (flow c log))) → P)
-      → ((i : ℕ) → IsGrantBeat c i s y (length (unfinished channel.D (flow c log))) → P)
+      → y ≡ d_beat_of due.answer (length (unfinished Channel.D (flow c log))) → P)
+      → ((i : ℕ) → IsGrantBeat c i s y (length (unfinished Channel.D (flow c log))) → P)
       → ((i k : ℕ) → y ≡ d_beat_of (ack_message ((s.block i).release_source c)) k → P) → P
   unfolding block_message
   next-on_d P answer grant ack = go first.kind first.number first.tokens first.own first.next
     where
-      place : (m : Message w) (k : ℕ) → unfinished channel.D ((system_after config log).clients c).past ≡ begun m k
-          → k ≡ length (unfinished channel.D (flow c log))
-      place m k e = sym (ap length ((flowed c).rest_is channel.D ∙ e) ∙ length-begun m k)
+      place : (m : Message w) (k : ℕ) → unfinished Channel.D ((system_after config log).clients c).past ≡ begun m k
+          → k ≡ length (unfinished Channel.D (flow c log))
+      place m k e = sym (ap length ((flowed c).rest_is Channel.D ∙ e) ∙ length-begun m k)
 
-      go : (k : Kind) (i : ℕ) → (s.link c).d ≡ packet k i ∷ first.rest → is_on channel.D k ≡ true → Next k i → P
+      go : (k : Kind) (i : ℕ) → (s.link c).d ≡ packet k i ∷ first.rest → is_on Channel.D k ≡ true → Next k i → P
       go Answer i tokens own next =
           let due = answer-due (is_caching config) c i first.rest h.mail s is.invariant (is.answered c i) tokens in
           answer i due (same_beat y (d_beat_of due.answer next.k)
@@ -86,7 +79,7 @@ module _ {w : ℕ} (config : Config) (log : Log w) (h : AbstractState w) (c : �
       go k i tokens own next = absurd cc
 
   -- a Grant that is on its way is of the block that its request asks for
-  granted_block : (i n : ℕ) → IsGrantBeat c i s y (length (unfinished channel.D (flow c log)))
+  granted_block : (i n : ℕ) → IsGrantBeat c i s y (length (unfinished Channel.D (flow c log)))
       → asks_for n (request_of y.source (flow c log)) ≡ true → i ≡ n
   granted_block i n grant asks = eqb-true i n (sym asked_for ∙ asks)
     where
@@ -97,7 +90,7 @@ module _ {w : ℕ} (config : Config) (log : Log w) (h : AbstractState w) (c : �
       due = grant.due
 
       rest_now : List (Beat w)
-      rest_now = unfinished channel.A (receiver channel.A c (system_after config log))
+      rest_now = unfinished Channel.A (receiver Channel.A c (system_after config log))
 
       from : y.source ≡ b.source c
       from = ap (λ (z : BeatD w). z.source) grant.beat_is
@@ -119,17 +112,17 @@ module _ {w : ℕ} (config : Config) (log : Log w) (h : AbstractState w) (c : �
 
   -- a beat that grants a block is one of that block's Grant
   pub grant-next : (n : ℕ) → grants n y (flow c log) ≡ true
-      → IsGrantBeat c n s y (length (unfinished channel.D (flow c log)))
+      → IsGrantBeat c n s y (length (unfinished Channel.D (flow c log)))
   grant-next n granted =
       next-on_d Of (λ i due e. not_granted (ap (λ (z : BeatD w). is_grant z.opcode) e
       ∙ (access_kind due.answer.opcode due.answers_access).0))
-      (λ i grant. subst (λ (j : ℕ). IsGrantBeat c j s y (length (unfinished channel.D (flow c log))))
+      (λ i grant. subst (λ (j : ℕ). IsGrantBeat c j s y (length (unfinished Channel.D (flow c log))))
       (granted_block i n grant (and_right (is_grant y.opcode) (asks_for n (request_of y.source (flow c log))) granted))
       grant)
       (λ i k e. not_granted (ap (λ (z : BeatD w). is_grant z.opcode) e))
     where
       Of : Type 0
-      Of = IsGrantBeat c n s y (length (unfinished channel.D (flow c log)))
+      Of = IsGrantBeat c n s y (length (unfinished Channel.D (flow c log)))
 
       not_granted : is_grant y.opcode ≡ false → Of
       not_granted e = absurd (let yes : is_grant y.opcode ≡ true =

@@ -2,57 +2,39 @@
 -- any more with what excludes it, and it is answered what the block had.
 use Rattle.std.proofs.Common.{◌≡◌, ℕ, Bool, true, false, not, ◌&&◌, List, ◌∷◌, ◌⊎◌, Option, Some, None, refl, sym, ◌∙◌}
 use Rattle.std.proofs.Common.{ap, subst, inl, inr}
-use Rattle.std.specs.Prelude.{◌==◌, if◌then◌else◌, length}
-use Rattle.std.proofs.lemmas.Bool.{cases_eq}
-use Rattle.tl_burst.specs.declared.message.Message.{Message}
-use Rattle.tl_burst.specs.declared.message.Message.TheVariants as message
-use Rattle.tl_burst.specs.declared.message.MessageA.{MessageA}
-use Rattle.tl_params.specs.declared.config.Config.{Config}
-use Rattle.tl_params.specs.declared.param.Cap.{Cap}
-use Rattle.tl_params.specs.declared.param.Report.{Report}
-use Rattle.tl_params.specs.declared.profile.Profile.{Profile}
-use Rattle.tl_params.specs.statement.Param.{cap_right}
-use Rattle.tl_rules.specs.statement.History.{block_at, is_acquire}
-use Rattle.tl_rules.specs.statement.Windows.{leaves, needs}
-use Rattle.tl_rules.specs.statement.Effect.{answer_of}
-use Rattle.tl_client.specs.declared.operation.Op.{Op}
-use Rattle.tl_client.specs.declared.operation.Op.TheVariants as op
-use Rattle.tl_client.specs.declared.reply.Reply.{Reply}
-use Rattle.tl_client.specs.declared.reply.Reply.TheVariants as reply
-use Rattle.tl_client.specs.statement.Send.{access}
-use Rattle.tl_manager.specs.statement.Handing.{access_answer}
-use Rattle.tl_manager.specs.statement.Holders.{cap_probed}
+use Rattle.std.{specs.Prelude.◌==◌, specs.Prelude.if◌then◌else◌, specs.Prelude.length, proofs.lemmas.Bool.cases_eq}
+use Rattle.tl_burst.{specs.declared.message.Message.Message, specs.declared.message.MessageA.MessageA}
+use Rattle.tl_params.{specs.declared.config.Config.Config, specs.declared.param.Cap.Cap}
+use Rattle.tl_params.{specs.declared.param.Report.Report, specs.declared.profile.Profile.Profile}
+use Rattle.tl_params.{specs.statement.Param.cap_right}
+use Rattle.tl_rules.{specs.statement.History.block_at, specs.statement.History.is_acquire}
+use Rattle.tl_rules.{specs.statement.Windows.leaves, specs.statement.Windows.needs, specs.statement.Effect.answer_of}
+use Rattle.tl_client.{specs.declared.operation.Op.Op, specs.declared.reply.Reply.Reply, specs.statement.Send.access}
+use Rattle.tl_manager.{specs.statement.Handing.access_answer, specs.statement.Holders.cap_probed}
 use Rattle.tl_coherence.specs.refinement.AbstractStep.{AbstractState, asked, kind_taken, request_taken, access_taken}
 use Rattle.tl_coherence.specs.refinement.AbstractStep.{acquire_taken, ack_taken, last_taken, granted_after}
-use Rattle.tl_coherence.specs.refinement.AbstractStep.{taken_by_client, some_below, probes_some, with_state}
-use Rattle.tl_coherence.specs.refinement.AbstractStep.{gift, is_unheld, performs, answers, bytes_at}
-use Rattle.tl_coherence.specs.refinement.PacketMessages.{report_told}
-use Rattle.tl_coherence.specs.refinement.SourceRelation.{IsFor}
+use Rattle.tl_coherence.specs.refinement.AbstractStep.{taken_by_client, some_below, probes_some, with_state, gift}
+use Rattle.tl_coherence.specs.refinement.AbstractStep.{is_unheld, performs, answers, bytes_at}
+use Rattle.tl_coherence.specs.{refinement.PacketMessages.report_told, refinement.SourceRelation.IsFor}
+use Rattle.tl_coherence.specs.{statement.Log.Log, statement.System.System, statement.Permissions.perm_le}
+use Rattle.tl_coherence.specs.{protocol.Invariant.cap_asked, protocol.PhaseSteps.is_granted_data}
+use Rattle.tl_coherence.specs.{protocol.PhaseSteps.after_report, protocol.Tokens.shown}
 use Rattle.tl_coherence.specs.refinement.SimulationRelation.{SimulationRelation, IsServedWith, is_caching}
-use Rattle.tl_coherence.specs.statement.Log.{Log}
-use Rattle.tl_coherence.specs.statement.System.{System}
-use Rattle.tl_coherence.specs.statement.Permissions.{perm_le}
-use Rattle.tl_coherence.specs.protocol.Invariant.{cap_asked}
 use Rattle.tl_coherence.specs.protocol.Phase.{Other, ProbeAnswered, AcquirePhase, NoAcquire, AcquireOpen, ok}
 use Rattle.tl_coherence.specs.protocol.Phase.{is_unprobed}
-use Rattle.tl_coherence.specs.protocol.PhaseSteps.{is_granted_data, after_report}
-use Rattle.tl_coherence.specs.protocol.Protocol.{Block, Service, Waits, GrantSent, State, SourceState}
-use Rattle.tl_coherence.specs.protocol.Protocol.{SourceFree, Asked, InService, Replied, Acquires, view, packet, on}
-use Rattle.tl_coherence.specs.protocol.Protocol.{is_probed, written}
-use Rattle.tl_coherence.specs.protocol.Tokens.{shown}
-use Rattle.tl_coherence.specs.protocol.Protocol.{performed_block, ended_block, report_taken, acquire_served}
+use Rattle.tl_coherence.specs.protocol.Protocol.{Block, Service, Waits, GrantSent, State, SourceState, SourceFree}
+use Rattle.tl_coherence.specs.protocol.Protocol.{Asked, InService, Replied, Acquires, view, packet, on, is_probed}
+use Rattle.tl_coherence.specs.protocol.Protocol.{written, performed_block, ended_block, report_taken, acquire_served}
 use Rattle.tl_coherence.specs.protocol.Protocol.{acquire_granted}
 use Rattle.tl_coherence.specs.protocol.Packet.{Kind, Request, Acquire, Probe, ProbeAck, Release, Answer, Grant}
 use Rattle.tl_coherence.specs.protocol.Packet.{ReleaseAck, GrantAck, Packet, set, set_at}
-use Rattle.tl_coherence.proofs.client.AnswersKept.{set_at-apart}
+use Rattle.tl_coherence.proofs.{client.AnswersKept.set_at-apart, manager.Choices.plain-past, queues.Codes.low_cap}
+use Rattle.tl_coherence.proofs.{protocol.BothParts.answered-is, protocol.BothParts.quiet-is}
+use Rattle.tl_coherence.proofs.{protocol.FollowKept.IsReady, protocol.RequestsKept.unprobed}
+use Rattle.tl_coherence.proofs.{protocol.RequestsKept.settled_all, queues.Facts.reported_within}
+use Rattle.tl_coherence.proofs.{queues.Facts.spared_within}
 use Rattle.tl_coherence.proofs.flow.Excluded.{above_le, leaves_within, leaves_all}
-use Rattle.tl_coherence.proofs.manager.Choices.{plain-past}
 use Rattle.tl_coherence.proofs.memory.BesideTaken.{intent-reply, memory-reported, memory-unprobed}
-use Rattle.tl_coherence.proofs.queues.Codes.{low_cap}
-use Rattle.tl_coherence.proofs.protocol.BothParts.{answered-is, quiet-is}
-use Rattle.tl_coherence.proofs.protocol.FollowKept.{IsReady}
-use Rattle.tl_coherence.proofs.protocol.RequestsKept.{unprobed, settled_all}
-use Rattle.tl_coherence.proofs.queues.Facts.{reported_within, spared_within}
 use Rattle.tl_coherence.proofs.queues.Tokens.{set-same, set-other, set_at-same, holds-first}
 
 -- ---- one place of two numbers
@@ -82,7 +64,7 @@ AreSameMessages h i c source = (i.mail.request c source ≡ h.mail.request c sou
 abbrev pub AreRenewed : {w : ℕ} → AbstractState w → AbstractState w → Type 0
 AreRenewed {w} h i = (c source : ℕ) → i.state.uses c source ≡ Replied
     → ((h.state.uses c source ≡ Replied) × AreSameMessages h i c source)
-    ⊎ ((m : MessageA w) × (i.mail.request c source ≡ message.A m) × IsSettledFor m i.state
+    ⊎ ((m : MessageA w) × (i.mail.request c source ≡ Message.A m) × IsSettledFor m i.state
     × (i.mail.answer c source ≡ answers m (h.state.block (block_at m.address)).truth))
 
 -- each was answered before
@@ -117,7 +99,7 @@ renewed-reply : {w : ℕ} (c k : ℕ) (m : MessageA w) (bytes : List ℕ) (h i :
     → ((d j : ℕ) → i.state.uses d j ≡ set_at c k Replied h.state.uses d j)
     → ((d j : ℕ) → i.mail.request d j ≡ h.mail.request d j)
     → ((d j : ℕ) → i.mail.answer d j ≡ set_at c k (answers m bytes) h.mail.answer d j)
-    → h.mail.request c k ≡ message.A m → IsSettledFor m i.state
+    → h.mail.request c k ≡ Message.A m → IsSettledFor m i.state
     → answers m bytes ≡ answers m (h.state.block (block_at m.address)).truth
     → AreRenewed h i
 renewed-reply c k m bytes h i uses requests replies is settled found d j e = elim (placed c k d j) [
@@ -136,50 +118,50 @@ renewed-reply c k m bytes h i uses requests replies is settled found d j e = eli
 -- ---- a client is asked
 
 pub kept-asked : {w : ℕ} (c : ℕ) (o : Op w) (r : Reply) (h : AbstractState w) → AreKept h (asked c o r h)
-kept-asked c (op.Load address size) r h = λ d j e. (e, (refl, refl))
-kept-asked c (op.Store address size value) (reply.Started source) h = λ d j e. (e, (refl, refl))
-kept-asked c (op.Store address size value) (reply.Value v) h = λ d j e. (e, (refl, refl))
-kept-asked c (op.Store address size value) reply.Stored h = λ d j e. (e, (refl, refl))
-kept-asked c (op.Store address size value) reply.Miss h = λ d j e. (e, (refl, refl))
-kept-asked c (op.Store address size value) (reply.Busy why) h = λ d j e. (e, (refl, refl))
-kept-asked c (op.Acquire n g) (reply.Started source) h =
-    kept-set c source (Acquires n) h (asked c (op.Acquire n g) (reply.Started source) h) (λ e. cc)
+kept-asked c (Op.Load address size) r h = λ d j e. (e, (refl, refl))
+kept-asked c (Op.Store address size value) (Reply.Started source) h = λ d j e. (e, (refl, refl))
+kept-asked c (Op.Store address size value) (Reply.Value v) h = λ d j e. (e, (refl, refl))
+kept-asked c (Op.Store address size value) Reply.Stored h = λ d j e. (e, (refl, refl))
+kept-asked c (Op.Store address size value) Reply.Miss h = λ d j e. (e, (refl, refl))
+kept-asked c (Op.Store address size value) (Reply.Busy why) h = λ d j e. (e, (refl, refl))
+kept-asked c (Op.Acquire n g) (Reply.Started source) h =
+    kept-set c source (Acquires n) h (asked c (Op.Acquire n g) (Reply.Started source) h) (λ e. cc)
     (λ d j. refl) (λ d j other. (refl, refl))
-kept-asked c (op.Acquire n g) (reply.Value v) h = λ d j e. (e, (refl, refl))
-kept-asked c (op.Acquire n g) reply.Stored h = λ d j e. (e, (refl, refl))
-kept-asked c (op.Acquire n g) reply.Miss h = λ d j e. (e, (refl, refl))
-kept-asked c (op.Acquire n g) (reply.Busy why) h = λ d j e. (e, (refl, refl))
-kept-asked c (op.AcquireWhole n bytes) (reply.Started source) h =
-    kept-set c source (Acquires n) h (asked c (op.AcquireWhole n bytes) (reply.Started source) h) (λ e. cc)
+kept-asked c (Op.Acquire n g) (Reply.Value v) h = λ d j e. (e, (refl, refl))
+kept-asked c (Op.Acquire n g) Reply.Stored h = λ d j e. (e, (refl, refl))
+kept-asked c (Op.Acquire n g) Reply.Miss h = λ d j e. (e, (refl, refl))
+kept-asked c (Op.Acquire n g) (Reply.Busy why) h = λ d j e. (e, (refl, refl))
+kept-asked c (Op.AcquireWhole n bytes) (Reply.Started source) h =
+    kept-set c source (Acquires n) h (asked c (Op.AcquireWhole n bytes) (Reply.Started source) h) (λ e. cc)
     (λ d j. refl) (λ d j other. (refl, refl))
-kept-asked c (op.AcquireWhole n bytes) (reply.Value v) h = λ d j e. (e, (refl, refl))
-kept-asked c (op.AcquireWhole n bytes) reply.Stored h = λ d j e. (e, (refl, refl))
-kept-asked c (op.AcquireWhole n bytes) reply.Miss h = λ d j e. (e, (refl, refl))
-kept-asked c (op.AcquireWhole n bytes) (reply.Busy why) h = λ d j e. (e, (refl, refl))
-kept-asked c (op.Release n r) (reply.Started source) h = λ d j e. (e, (refl, refl))
-kept-asked c (op.Release n r) (reply.Value v) h = λ d j e. (e, (refl, refl))
-kept-asked c (op.Release n r) reply.Stored h = λ d j e. (e, (refl, refl))
-kept-asked c (op.Release n r) reply.Miss h = λ d j e. (e, (refl, refl))
-kept-asked c (op.Release n r) (reply.Busy why) h = λ d j e. (e, (refl, refl))
-kept-asked c (op.Access (message.A m)) (reply.Started source) h =
-    kept-set c source Asked h (asked c (op.Access (message.A m)) (reply.Started source) h)
+kept-asked c (Op.AcquireWhole n bytes) (Reply.Value v) h = λ d j e. (e, (refl, refl))
+kept-asked c (Op.AcquireWhole n bytes) Reply.Stored h = λ d j e. (e, (refl, refl))
+kept-asked c (Op.AcquireWhole n bytes) Reply.Miss h = λ d j e. (e, (refl, refl))
+kept-asked c (Op.AcquireWhole n bytes) (Reply.Busy why) h = λ d j e. (e, (refl, refl))
+kept-asked c (Op.Release n r) (Reply.Started source) h = λ d j e. (e, (refl, refl))
+kept-asked c (Op.Release n r) (Reply.Value v) h = λ d j e. (e, (refl, refl))
+kept-asked c (Op.Release n r) Reply.Stored h = λ d j e. (e, (refl, refl))
+kept-asked c (Op.Release n r) Reply.Miss h = λ d j e. (e, (refl, refl))
+kept-asked c (Op.Release n r) (Reply.Busy why) h = λ d j e. (e, (refl, refl))
+kept-asked c (Op.Access (Message.A m)) (Reply.Started source) h =
+    kept-set c source Asked h (asked c (Op.Access (Message.A m)) (Reply.Started source) h)
     (λ e. cc) (λ d j. refl) (λ d j other. (set_at-apart c source (access source m) h.mail.request d j other, refl))
-kept-asked c (op.Access (message.A m)) (reply.Value v) h = λ d j e. (e, (refl, refl))
-kept-asked c (op.Access (message.A m)) reply.Stored h = λ d j e. (e, (refl, refl))
-kept-asked c (op.Access (message.A m)) reply.Miss h = λ d j e. (e, (refl, refl))
-kept-asked c (op.Access (message.A m)) (reply.Busy why) h = λ d j e. (e, (refl, refl))
-kept-asked c (op.Access (message.B m)) r h = λ d j e. (e, (refl, refl))
-kept-asked c (op.Access (message.C m)) r h = λ d j e. (e, (refl, refl))
-kept-asked c (op.Access (message.D m)) r h = λ d j e. (e, (refl, refl))
-kept-asked c (op.Access (message.E m)) r h = λ d j e. (e, (refl, refl))
+kept-asked c (Op.Access (Message.A m)) (Reply.Value v) h = λ d j e. (e, (refl, refl))
+kept-asked c (Op.Access (Message.A m)) Reply.Stored h = λ d j e. (e, (refl, refl))
+kept-asked c (Op.Access (Message.A m)) Reply.Miss h = λ d j e. (e, (refl, refl))
+kept-asked c (Op.Access (Message.A m)) (Reply.Busy why) h = λ d j e. (e, (refl, refl))
+kept-asked c (Op.Access (Message.B m)) r h = λ d j e. (e, (refl, refl))
+kept-asked c (Op.Access (Message.C m)) r h = λ d j e. (e, (refl, refl))
+kept-asked c (Op.Access (Message.D m)) r h = λ d j e. (e, (refl, refl))
+kept-asked c (Op.Access (Message.E m)) r h = λ d j e. (e, (refl, refl))
 
 -- ---- messages that are taken
 
 renewed-request : {w : ℕ} (config : Config) (log : Log w) (tracker c source : ℕ) (m : MessageA w) (rest : List Packet)
     (h : AbstractState w) (sys : System w)
-    → SimulationRelation config log h.mail h.request h.state sys → h.mail.request c source ≡ message.A m
+    → SimulationRelation config log h.mail h.request h.state sys → h.mail.request c source ≡ Message.A m
     → is_acquire m.opcode ≡ false
-    → AreRenewed h (request_taken (length config.clients.items) c source (message.A m) tracker rest h)
+    → AreRenewed h (request_taken (length config.clients.items) c source (Message.A m) tracker rest h)
 renewed-request {w} config log tracker c source m rest h sys is from access =
     go (probes_some clients c false (cap_probed m.opcode m.param) b.pair) (cap_probed m.opcode m.param) refl refl
   where
@@ -207,7 +189,7 @@ renewed-request {w} config log tracker c source m rest h sys is from access =
         renewed-reply c source m b.memory h (access_taken c source m tracker false None rest h) (λ d j. refl)
         (λ d j. refl) (λ d j. refl) from
         (settled (λ d. leaves_all m.opcode m.param (b.pair d).recorded access f))
-        (ap (λ r. access_answer m (answer_of (message.A m) r))
+        (ap (λ r. access_answer m (answer_of (Message.A m) r))
         (intent-reply m (bytes_at n b.memory) (bytes_at n b.truth) f))
     go false (Some k) e f =
         renewed-reply c source m b.memory h (access_taken c source m tracker false (Some k) rest h)
@@ -285,7 +267,7 @@ renewed-report {w} config log c n rest h sys is first =
         with_it : IsServedWith h.mail (Waits q false source k) m
         with_it = rw e at (is.served_with n)
 
-        from : h.mail.request q source ≡ message.A m
+        from : h.mail.request q source ≡ Message.A m
         from = with_it
 
         for : IsFor (Waits q false source k) n m

@@ -1,84 +1,57 @@
 -- Each access is answered after a moment, since it was asked whole, at which nobody held what excludes it.
 use Rattle.std.proofs.Common.{◌≡◌, ℕ, Bool, true, false, List, [], ◌∷◌, Option, Some, None, refl, sym, ◌∙◌, ap, subst}
 use Rattle.std.proofs.Common.{inl, inr}
-use Rattle.std.specs.Prelude.{◌++◌, is_some}
-use Rattle.std.proofs.lemmas.Bool.{or_left, or_right}
-use Rattle.tl_beat.specs.statement.Width.{IsWidth}
-use Rattle.tl_beat.specs.declared.beat.Beat.{Beat}
-use Rattle.tl_beat.specs.declared.beat.Beat.TheVariants as beat
-use Rattle.tl_beat.specs.declared.beat.BeatA.{BeatA}
-use Rattle.tl_beat.specs.declared.beat.BeatD.{BeatD}
-use Rattle.tl_beat.specs.declared.beat.Link.{Link}
-use Rattle.tl_beat.specs.declared.channel.Channel.TheVariants as channel
-use Rattle.tl_beat.specs.declared.opcode.OpA.{OpA}
-use Rattle.tl_beat.specs.declared.opcode.OpA.TheVariants as a
-use Rattle.tl_burst.specs.declared.message.Message.{Message}
-use Rattle.tl_burst.specs.declared.message.Message.TheVariants as message
-use Rattle.tl_burst.specs.declared.message.MessageA.{MessageA}
-use Rattle.tl_burst.specs.statement.Burst.{a_beat_of}
+use Rattle.std.{specs.Prelude.◌++◌, specs.Prelude.is_some, proofs.lemmas.Bool.or_left, proofs.lemmas.Bool.or_right}
+use Rattle.tl_beat.{specs.statement.Width.IsWidth, specs.declared.beat.Beat.Beat, specs.declared.beat.BeatA.BeatA}
+use Rattle.tl_beat.{specs.declared.beat.BeatD.BeatD, specs.declared.beat.Link.Link, specs.declared.opcode.OpA.OpA}
+use Rattle.tl_coherence.proofs.{flow.Imports.Channel, deliveries.DeliverDAfter.followed-still}
+use Rattle.tl_coherence.proofs.{deliveries.InvariantKept.ready-delivered, flow.ComingRequests.not-coming_a}
+use Rattle.tl_coherence.proofs.{flow.ComingRequests.waits_on_a, flow.FlowStep.held_by, flow.Flows.flowed}
+use Rattle.tl_coherence.proofs.{flow.FlowTaken.each-taken, flow.FlowTraces.trace-flows, flow.GivenAlone.free-where}
+use Rattle.tl_coherence.proofs.{flow.GivenAlone.held_by_most, flow.NextOnD.next-on_d, links.FromInvariant.matched-given}
+use Rattle.tl_coherence.proofs.{manager.UnwaitedRequests.next_tracker, queues.Facts.held_at_most}
+use Rattle.tl_coherence.proofs.{queues.Perms.nothing_below, queues.Steps.stepped-asked}
+use Rattle.tl_burst.{specs.declared.message.Message.Message, specs.declared.message.MessageA.MessageA}
+use Rattle.tl_burst.{specs.statement.Burst.a_beat_of}
 use Rattle.tl_burst.specs.statement.Messages.{History, channel_of, unfinished}
-use Rattle.tl_params.specs.declared.config.Config.{Config}
-use Rattle.tl_params.specs.declared.key.Key.TheVariants.{RequestSource}
-use Rattle.tl_params.specs.declared.perm.Perm.{Perm}
-use Rattle.tl_params.specs.declared.perm.Perm.TheVariants as perm
+use Rattle.tl_params.{specs.declared.config.Config.Config, specs.declared.key.Key.TheVariants.RequestSource}
+use Rattle.tl_params.{specs.declared.perm.Perm.Perm}
 use Rattle.tl_rules.specs.statement.Conformance.{Trace, on_link, comes_in_request}
 use Rattle.tl_rules.specs.statement.History.{block_at, held, pending, request_of}
 use Rattle.tl_rules.specs.statement.Windows.{leaves, needs, is_free, has_window}
 use Rattle.tl_rules.specs.code.Open.{open_request}
-use Rattle.tl_client.specs.declared.operation.Op.{Op}
+use Rattle.tl_client.{specs.declared.operation.Op.Op, specs.statement.Endpoint.EndConfig}
 use Rattle.tl_client.specs.statement.Ask as ask
-use Rattle.tl_client.specs.statement.Endpoint.{EndConfig}
-use Rattle.tl_manager.specs.statement.Handing.{grant_opcode}
-use Rattle.tl_manager.specs.statement.Service.{is_access_answer}
-use Rattle.tl_coherence.specs.declared.event.Event.{Event}
+use Rattle.tl_manager.{specs.statement.Handing.grant_opcode, specs.statement.Service.is_access_answer}
+use Rattle.tl_coherence.specs.{declared.event.Event.Event, declared.event.Outcome.Outcome, statement.Draining.is_moving}
+use Rattle.tl_coherence.specs.{statement.Flow.flow, statement.Flow.taken_at, statement.Flow.trace_of}
+use Rattle.tl_coherence.specs.{statement.Headline.AreTyped, statement.Headline.IsGiven, statement.Log.Log}
+use Rattle.tl_coherence.specs.{statement.Log.IsLog, statement.Log.system_after, statement.Step.Step}
+use Rattle.tl_coherence.specs.{statement.Step.stepped, statement.System.System, statement.System.terms_at}
+use Rattle.tl_coherence.specs.{statement.Permissions.perm_le, refinement.PacketMessages.block_message}
+use Rattle.tl_coherence.specs.{protocol.Packet.Acquire}
 use Rattle.tl_coherence.specs.declared.event.Event.TheVariants.{Ask, Deliver}
-use Rattle.tl_coherence.specs.declared.event.Outcome.{Outcome}
-use Rattle.tl_coherence.specs.declared.event.Outcome.TheVariants as outcome
-use Rattle.tl_coherence.specs.statement.Draining.{is_moving}
-use Rattle.tl_coherence.specs.statement.Flow.{flow}
-use Rattle.tl_coherence.specs.statement.Headline.{AreTyped, IsGiven}
-use Rattle.tl_coherence.specs.statement.Log.{Log, IsLog, system_after}
-use Rattle.tl_coherence.specs.statement.Flow.{taken_at, trace_of}
-use Rattle.tl_coherence.specs.statement.Step.{Step, stepped}
-use Rattle.tl_coherence.specs.statement.System.{System, terms_at}
 use Rattle.tl_coherence.specs.statement.AnsweredInTime.{IsAnsweredInTime, AnsweredInTime}
-use Rattle.tl_coherence.specs.statement.Permissions.{perm_le}
 use Rattle.tl_coherence.specs.refinement.AbstractStep.{AbstractState, abstract_step, abstract_step_by}
-use Rattle.tl_coherence.specs.refinement.PacketMessages.{block_message}
-use Rattle.tl_coherence.specs.refinement.SimulationRelation.{SimulationRelation, MonitorRelations}
-use Rattle.tl_coherence.specs.refinement.SimulationRelation.{asked_for, block_used, first_of}
+use Rattle.tl_coherence.specs.refinement.SimulationRelation.{SimulationRelation, MonitorRelations, asked_for}
+use Rattle.tl_coherence.specs.refinement.SimulationRelation.{block_used, first_of}
 use Rattle.tl_coherence.specs.protocol.Protocol.{Block, SourceState, SourceFree, Replied, view}
-use Rattle.tl_coherence.specs.protocol.Packet.{Acquire}
-use Rattle.tl_coherence.proofs.deliveries.DeliverDAfter.{followed-still}
-use Rattle.tl_coherence.proofs.deliveries.InvariantKept.{ready-delivered}
 use Rattle.tl_coherence.proofs.deliveries.Matching.{shadow, matched, stepped-nobody}
-use Rattle.tl_coherence.proofs.flow.ComingRequests.{not-coming_a, waits_on_a}
-use Rattle.tl_coherence.proofs.flow.FlowStep.{held_by}
-use Rattle.tl_coherence.proofs.flow.Flows.{flowed}
 use Rattle.tl_coherence.proofs.flow.Renewed.{AreRenewed, AreKept, IsSettledFor, kept-same, kept-asked, renewed-same}
 use Rattle.tl_coherence.proofs.flow.Renewed.{renewed-kind_taken}
-use Rattle.tl_coherence.proofs.flow.FlowTaken.{each-taken}
-use Rattle.tl_coherence.proofs.flow.FlowTraces.{trace-flows}
-use Rattle.tl_coherence.proofs.flow.GivenAlone.{free-where, held_by_most}
-use Rattle.tl_coherence.proofs.flow.NextOnD.{next-on_d}
-use Rattle.tl_coherence.proofs.links.FromInvariant.{matched-given}
-use Rattle.tl_coherence.proofs.manager.UnwaitedRequests.{next_tracker}
-use Rattle.tl_coherence.proofs.queues.Facts.{held_at_most}
-use Rattle.tl_coherence.proofs.queues.Perms.{nothing_below}
-use Rattle.tl_coherence.proofs.queues.Steps.{stepped-asked}
 use Rattle.tl_coherence.proofs.simulation.FollowCases.{followed-cases, on-first}
 
 -- ---- what is held and excludes nothing
 
 leaves_below : (o : OpA) (p q : Perm) → perm_le p q ≡ true → leaves (needs o) q ≡ true → leaves (needs o) p ≡ true
-leaves_below a.Intent p q e f = refl
-leaves_below a.Get perm.None q e f = refl
-leaves_below a.Get perm.Branch q e f = refl
-leaves_below a.Get perm.Trunk perm.Trunk e f = f
-leaves_below a.Get perm.Trunk q e f = absurd cc
+leaves_below OpA.Intent p q e f = refl
+leaves_below OpA.Get Perm.None q e f = refl
+leaves_below OpA.Get Perm.Branch q e f = refl
+leaves_below OpA.Get Perm.Trunk Perm.Trunk e f = f
+leaves_below OpA.Get Perm.Trunk q e f = absurd cc
 leaves_below o p q e f = nothing_below p q e f
 
-pub same_request : {w : ℕ} (m n : MessageA w) → message.A m ≡ message.A n → m ≡ n
+pub same_request : {w : ℕ} (m n : MessageA w) → Message.A m ≡ Message.A n → m ≡ n
 same_request m n e = cc
 
 pub same_first : {w : ℕ} (x y : BeatA w) → Some x ≡ Some y → y ≡ x
@@ -88,7 +61,7 @@ same_first x y e = cc
 
 abbrev AreWindowed : {w : ℕ} → AbstractState w → Trace w → Type 0
 AreWindowed {w} h t = (n c source : ℕ) (m : MessageA w) → h.state.uses c source ≡ Replied
-    → h.mail.request c source ≡ message.A m
+    → h.mail.request c source ≡ Message.A m
     → has_window n c source (needs m.opcode) (block_at m.address) t ≡ true
 
 asked_replied : {w : ℕ} (u : SourceState) (m acquire : Message w) → u ≡ Replied → asked_for u m acquire ≡ first_of m
@@ -98,7 +71,7 @@ asked_replied u m acquire e = rw e refl
 module _ {w : ℕ} (config : Config) (log : Log w) (h : AbstractState w) (sys : System w)
     (is : SimulationRelation config log h.mail h.request h.state sys)
     (values : MonitorRelations log h.mail h.state sys) (c source : ℕ) (m : MessageA w)
-    (used : h.state.uses c source ≡ Replied) (request : h.mail.request c source ≡ message.A m) where
+    (used : h.state.uses c source ≡ Replied) (request : h.mail.request c source ≡ Message.A m) where
   pending_flow : pending (RequestSource source) (flow c log) ≡ true
   pending_flow = cc ((values c).requests source, used)
 
@@ -116,9 +89,9 @@ module _ {w : ℕ} (config : Config) (log : Log w) (h : AbstractState w) (sys : 
   opened-now = ap (λ (t : History w). is_some (open_request source t)) (trace-flows c log)
       ∙ rw (pending_flow, whole, asked_flow) refl
     where
-      whole : comes_in_request source (unfinished channel.A (flow c log)) ≡ false
+      whole : comes_in_request source (unfinished Channel.A (flow c log)) ≡ false
       whole = cc (
-        (values c).rest_is channel.A,
+        (values c).rest_is Channel.A,
         not-coming_a config log h.mail h.request h.state sys c source is
             (ap (λ (u : SourceState). waits_on_a c u h.state) used),
       )
@@ -211,26 +184,26 @@ unfolding trace_of
 windowed-event config log h (Ask c i) o width is o_is is' values before =
     windowed-kept h (abstract_step config (Ask c i) (system_after config log) h) (trace_of log)
     (kept-ask config c i (system_after config log) h) before
-windowed-event config log h (Deliver link ch) (outcome.Moved x) width is o_is is' values before =
-    windowed-more config ((Deliver link ch, outcome.Moved x) ∷ log) h
+windowed-event config log h (Deliver link ch) (Outcome.Moved x) width is o_is is' values before =
+    windowed-more config ((Deliver link ch, Outcome.Moved x) ∷ log) h
     (abstract_step config (Deliver link ch) (system_after config log) h)
     (stepped config (Deliver link ch) (system_after config log)).after
     (link, x) (trace_of log) is' values refl (renewed-followed config log (Deliver link ch) h width is) before
-windowed-event config log h (Deliver link ch) (outcome.Done x source f) width is o_is is' values before =
-    windowed-more config ((Deliver link ch, outcome.Done x source f) ∷ log) h
+windowed-event config log h (Deliver link ch) (Outcome.Done x source f) width is o_is is' values before =
+    windowed-more config ((Deliver link ch, Outcome.Done x source f) ∷ log) h
     (abstract_step config (Deliver link ch) (system_after config log) h)
     (stepped config (Deliver link ch) (system_after config log)).after
     (link, x) (trace_of log) is' values refl (renewed-followed config log (Deliver link ch) h width is) before
-windowed-event {w} config log h (Deliver link ch) (outcome.Replied r) width is o_is is' values before =
+windowed-event {w} config log h (Deliver link ch) (Outcome.Replied r) width is o_is is' values before =
     subst (λ (i : AbstractState w). AreWindowed i (trace_of log))
     (sym (followed-still config link ch (system_after config log) h (sym (ap is_moving o_is)))) before
-windowed-event {w} config log h (Deliver link ch) outcome.Empty width is o_is is' values before =
+windowed-event {w} config log h (Deliver link ch) Outcome.Empty width is o_is is' values before =
     subst (λ (i : AbstractState w). AreWindowed i (trace_of log))
     (sym (followed-still config link ch (system_after config log) h (sym (ap is_moving o_is)))) before
-windowed-event {w} config log h (Deliver link ch) outcome.Stalled width is o_is is' values before =
+windowed-event {w} config log h (Deliver link ch) Outcome.Stalled width is o_is is' values before =
     subst (λ (i : AbstractState w). AreWindowed i (trace_of log))
     (sym (followed-still config link ch (system_after config log) h (sym (ap is_moving o_is)))) before
-windowed-event {w} config log h (Deliver link ch) outcome.NoSuchClient width is o_is is' values before =
+windowed-event {w} config log h (Deliver link ch) Outcome.NoSuchClient width is o_is is' values before =
     subst (λ (i : AbstractState w). AreWindowed i (trace_of log))
     (sym (followed-still config link ch (system_after config log) h (sym (ap is_moving o_is)))) before
 
@@ -253,7 +226,7 @@ grants_no_access true = refl
 grants_no_access false = refl
 
 answered-next : {w : ℕ} (config : Config) (log : Log w) → IsGiven config log → (c : ℕ) (y : BeatD w)
-    (queue : List (Beat w)) → (system_after config log).channels c channel.D ≡ beat.D y ∷ queue
+    (queue : List (Beat w)) → (system_after config log).channels c Channel.D ≡ Beat.D y ∷ queue
     → (n : ℕ) (x : BeatA w) → is_access_answer y.opcode ≡ true → request_of y.source (on_link c (trace_of log)) ≡ Some x
     → has_window n c y.source (needs x.opcode) (block_at x.address) (trace_of log) ≡ true
 answered-next {w} config log given c y queue beats n x answers asks =
@@ -278,7 +251,7 @@ answered-next {w} config log given c y queue beats n x answers asks =
     no_answer e = absurd (let no : false ≡ true = sym e ∙ answers in cc)
 
     answer : (i : ℕ) (m : MessageA w) → y.source ≡ i → h.state.uses c i ≡ Replied
-        → h.mail.request c i ≡ message.A m → Windowed x
+        → h.mail.request c i ≡ Message.A m → Windowed x
     answer i m from used request =
         subst Windowed
         (same_first x (a_beat_of m 0) (sym asks ∙ ap (request_of y.source) (trace-flows c log)
@@ -288,13 +261,13 @@ answered-next {w} config log given c y queue beats n x answers asks =
         used_y : h.state.uses c y.source ≡ Replied
         used_y = ap (h.state.uses c) from ∙ used
 
-        request_y : h.mail.request c y.source ≡ message.A m
+        request_y : h.mail.request c y.source ≡ Message.A m
         request_y = ap (h.mail.request c) from ∙ request
 
 in_time-moved : {w : ℕ} (config : Config) (log : Log w) → IsGiven config log → (c : ℕ) (x : Beat w)
     (queue : List (Beat w)) → (system_after config log).channels c (channel_of x) ≡ x ∷ queue
     → IsAnsweredInTime c x (trace_of log)
-in_time-moved config log given c (beat.D y) queue beats = λ n x begun answers asks.
+in_time-moved config log given c (Beat.D y) queue beats = λ n x begun answers asks.
     answered-next config log given c y queue beats n x answers asks
 in_time-moved config log given c x queue beats = tt
 

@@ -2,41 +2,28 @@
 use Rattle.std.proofs.Common.{◌≡◌, ℕ, Bool, true, false, List, [], ◌∷◌, Some, None, refl, sym, ◌∙◌, ap, subst}
 use Rattle.std.specs.Prelude.{◌==◌, All, if◌then◌else◌}
 use Rattle.std.proofs.lemmas.List.Elements.{All-head, All-nil, All-cons}
-use Rattle.tl_beat.specs.declared.beat.Beat.{Beat}
-use Rattle.tl_beat.specs.declared.channel.Channel.{Channel}
-use Rattle.tl_beat.specs.statement.Line.{IsInRange, IsWritable}
+use Rattle.tl_beat.{specs.declared.beat.Beat.Beat, specs.declared.channel.Channel.Channel}
+use Rattle.tl_beat.{specs.statement.Line.IsInRange, specs.statement.Line.IsWritable}
 use Rattle.tl_burst.specs.statement.Messages.{channel_of}
 use Rattle.tl_params.specs.declared.config.Config.{Config}
-use Rattle.tl_rules.specs.statement.Admission.{is_outside}
-use Rattle.tl_rules.specs.statement.Legality.{illegal}
+use Rattle.tl_rules.{specs.statement.Admission.is_outside, specs.statement.Legality.illegal}
 use Rattle.tl_client.specs.statement.Endpoint.{EndConfig}
 use Rattle.tl_manager.proofs.blocks.Placing.{limits}
-use Rattle.tl_coherence.specs.declared.event.Event.{Event}
+use Rattle.tl_coherence.specs.{declared.event.Event.Event, declared.event.Outcome.Outcome, statement.Draining.is_moving}
+use Rattle.tl_coherence.specs.{statement.Flow.flow, statement.Headline.AreTyped, statement.Headline.IsGiven}
+use Rattle.tl_coherence.specs.{statement.Log.Log, statement.Log.IsLog, statement.Log.system_after}
+use Rattle.tl_coherence.specs.{statement.Ranged.AreRanged, statement.Step.is_to_client, statement.Step.stepped}
+use Rattle.tl_coherence.specs.{statement.System.terms_at}
 use Rattle.tl_coherence.specs.declared.event.Event.TheVariants.{Ask, Deliver}
-use Rattle.tl_coherence.specs.declared.event.Outcome.{Outcome}
-use Rattle.tl_coherence.specs.statement.Draining.{is_moving}
-use Rattle.tl_coherence.specs.statement.Flow.{flow}
-use Rattle.tl_coherence.specs.statement.Headline.{AreTyped, IsGiven}
-use Rattle.tl_coherence.specs.statement.Log.{Log, IsLog, system_after}
-use Rattle.tl_coherence.specs.statement.Ranged.{AreRanged}
-use Rattle.tl_coherence.specs.statement.Step.{is_to_client, stepped}
-use Rattle.tl_coherence.specs.statement.System.{terms_at}
 use Rattle.tl_coherence.specs.refinement.SimulationRelation.{AreLanes, SimulationRelation, is_caching}
-use Rattle.tl_coherence.proofs.simulation.Bounded.{matched-bounded}
-use Rattle.tl_coherence.proofs.memory.Bytes.{remembered-ranged}
-use Rattle.tl_coherence.proofs.client.ClientTakes.{sound-beat}
-use Rattle.tl_coherence.proofs.links.FifoOfChannels.{flow_still}
-use Rattle.tl_coherence.proofs.queues.FirstToken.{IsFirst, first-token}
-use Rattle.tl_coherence.proofs.flow.FlowLawful.{lawful-beat}
-use Rattle.tl_coherence.proofs.flow.Flows.{asked-still}
-use Rattle.tl_coherence.proofs.flow.FlowReceived.{moved-on}
-use Rattle.tl_coherence.proofs.links.FromInvariant.{matched-given}
-use Rattle.tl_coherence.proofs.simulation.BeatsInFlight.{level-terms}
-use Rattle.tl_coherence.proofs.deliveries.Matching.{shadow}
-use Rattle.tl_coherence.proofs.outstanding.Outstanding.{first-moved}
-use Rattle.tl_coherence.proofs.simulation.Owned.{sources-own}
+use Rattle.tl_coherence.proofs.{simulation.Bounded.matched-bounded, memory.Bytes.remembered-ranged}
+use Rattle.tl_coherence.proofs.{client.ClientTakes.sound-beat, links.FifoOfChannels.flow_still}
+use Rattle.tl_coherence.proofs.{queues.FirstToken.IsFirst, queues.FirstToken.first-token, flow.FlowLawful.lawful-beat}
+use Rattle.tl_coherence.proofs.{flow.Flows.asked-still, flow.FlowReceived.moved-on, links.FromInvariant.matched-given}
+use Rattle.tl_coherence.proofs.{simulation.BeatsInFlight.level-terms, deliveries.Matching.shadow}
+use Rattle.tl_coherence.proofs.{outstanding.Outstanding.first-moved, simulation.Owned.sources-own}
+use Rattle.tl_coherence.proofs.{lines.Writable.legal-writable}
 use Rattle.tl_coherence.proofs.lines.Ranges.{few-sources, first-ranged, ranged-beat}
-use Rattle.tl_coherence.proofs.lines.Writable.{legal-writable}
 
 -- ---- the first beat of a channel
 

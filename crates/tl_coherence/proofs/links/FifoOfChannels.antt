@@ -5,53 +5,36 @@ use Rattle.tl_coherence.proofs.links.Imports.{stepped, is_to_client, System, ter
 use Rattle.std.proofs.Common.{◌≡◌, ℕ, Bool, true, false, List, [], ◌∷◌, Option, Some, None, refl, sym, ◌∙◌, ap, subst}
 use Rattle.std.proofs.Common.{inl, inr}
 use Rattle.std.specs.Prelude.{◌++◌, ◌==◌, if◌then◌else◌, All, map, Ok, ⊤}
-use Rattle.std.proofs.lemmas.Bool.{cases_eq, ne_eqb}
-use Rattle.std.proofs.lemmas.List.Elements.{All-head}
-use Rattle.tl_beat.specs.declared.beat.Beat.TheVariants as beat
-use Rattle.tl_beat.specs.declared.channel.Channel.TheVariants as channel
-use Rattle.tl_burst.specs.declared.message.Message.TheVariants as message
+use Rattle.std.{proofs.lemmas.Bool.cases_eq, proofs.lemmas.Bool.ne_eqb, proofs.lemmas.List.Elements.All-head}
 use Rattle.tl_burst.specs.statement.Burst.{burst_of}
 use Rattle.tl_burst.specs.statement.Messages.{History, carried_on}
 use Rattle.tl_rules.specs.statement.Admission.{sent_if_any}
 use Rattle.tl_rules.specs.statement.Conformance.{Trace, on_link}
-use Rattle.tl_client.specs.declared.verdict.Verdict.TheVariants as verdict
 use Rattle.tl_client.specs.laws.After as client_after
 use Rattle.tl_client.specs.statement.Ask as ask
 use Rattle.tl_client.specs.statement.Offer as offer
-use Rattle.tl_client.proofs.endpoint.AfterAsked.{past-asked}
-use Rattle.tl_client.proofs.endpoint.AfterOffered.{past-offered}
-use Rattle.tl_manager.specs.statement.Handing.{Handed, with_handed}
+use Rattle.tl_client.{proofs.endpoint.AfterAsked.past-asked, proofs.endpoint.AfterOffered.past-offered}
+use Rattle.tl_manager.{specs.statement.Handing.Handed, specs.statement.Handing.with_handed, specs.code.Kept.Each}
+use Rattle.tl_manager.{specs.statement.Offer.is_from_client, proofs.calls.Reactions.reaction_handable}
+use Rattle.tl_manager.{proofs.pending.Handed.beats_on_link, proofs.messages.Lawful.IsHandable}
 use Rattle.tl_manager.specs.code.Kept as manager
-use Rattle.tl_manager.specs.code.Kept.{Each}
 use Rattle.tl_manager.specs.statement.Reaction as manager_reaction
 use Rattle.tl_manager.specs.statement.End as manager_end
 use Rattle.tl_manager.specs.statement.Offer as manager_offer
-use Rattle.tl_manager.specs.statement.Offer.{is_from_client}
-use Rattle.tl_manager.proofs.calls.Reactions.{reaction_handable}
-use Rattle.tl_manager.proofs.pending.Handed.{beats_on_link}
-use Rattle.tl_manager.proofs.messages.Lawful.{IsHandable}
-use Rattle.tl_coherence.specs.declared.event.Event.{Event}
-use Rattle.tl_coherence.specs.declared.event.Event.TheVariants.{Ask}
-use Rattle.tl_coherence.specs.declared.event.Outcome.{Outcome}
-use Rattle.tl_coherence.specs.declared.event.Outcome.TheVariants as outcome
-use Rattle.tl_coherence.specs.statement.Delivery.{IsFifo}
-use Rattle.tl_coherence.specs.statement.Flow.{flow, taken_on}
-use Rattle.tl_coherence.specs.statement.Headline.{IsTyped, AreTyped}
-use Rattle.tl_coherence.specs.statement.Log.{IsLog}
-use Rattle.tl_coherence.specs.statement.Step.{handed_by, outcome_of}
+use Rattle.tl_coherence.specs.{declared.event.Event.Event, declared.event.Event.TheVariants.Ask}
+use Rattle.tl_coherence.specs.{declared.event.Outcome.Outcome, statement.Delivery.IsFifo, statement.Flow.flow}
+use Rattle.tl_coherence.specs.{statement.Flow.taken_on, statement.Headline.IsTyped, statement.Headline.AreTyped}
+use Rattle.tl_coherence.specs.{statement.Log.IsLog, statement.Step.handed_by, statement.Step.outcome_of}
 use Rattle.tl_coherence.specs.statement.System.{fresh, with_client, with_manager, with_channel, with_message}
 use Rattle.tl_coherence.specs.statement.System.{with_messages}
-use Rattle.tl_coherence.proofs.links.HeadsOfLinks.{first-of}
+use Rattle.tl_coherence.proofs.{links.HeadsOfLinks.first-of, deliveries.DeliverDUnmoved.unmoved, queues.Landed.IsOn}
+use Rattle.tl_coherence.proofs.{simulation.SoundAfter.copy-long, queues.Tokens.same_number}
 use Rattle.tl_coherence.proofs.simulation.BeatsInFlight.{IsOfClient, IsFitIfAny, IsFitAnswer, fit-asked, fit-taken}
-use Rattle.tl_coherence.proofs.deliveries.DeliverDUnmoved.{unmoved}
-use Rattle.tl_coherence.proofs.queues.Landed.{IsOn}
 use Rattle.tl_coherence.proofs.deliveries.Matching.{shadow, matched, not_moving, stepped-nobody}
 use Rattle.tl_coherence.proofs.simulation.Moved.{IsTakenByClient, IsTakenByManager, client-moves, manager-moves}
 use Rattle.tl_coherence.proofs.links.FifoSteps.{ArePassing, said_at, heard_at, queued_at, client-says, manager-says}
 use Rattle.tl_coherence.proofs.links.FifoSteps.{client-hears, manager-hears, passing-same}
-use Rattle.tl_coherence.proofs.simulation.SoundAfter.{copy-long}
 use Rattle.tl_coherence.proofs.queues.Steps.{clients-with_messages, manager-with_messages, stepped-asked, stepped-empty}
-use Rattle.tl_coherence.proofs.queues.Tokens.{same_number}
 
 -- ---- the whole
 
@@ -61,8 +44,8 @@ IsPassing sys f = ArePassing (λ d. (sys.clients d).past) (λ d. on_link d sys.m
 -- ---- a client hands out a message, or none
 
 ours_from : {w : ℕ} (m : Message w) → IsOfClient m → is_from_client (beat_of m 0) ≡ true
-ours_from (message.B m) is = absurd is
-ours_from (message.D m) is = absurd is
+ours_from (Message.B m) is = absurd is
+ours_from (Message.D m) is = absurd is
 ours_from m is = refl
 
 abbrev IsOurs : {w : ℕ} → Option (Message w) → Type 0
@@ -111,31 +94,31 @@ manages-passing {w} config (x ∷ handed) t s p f each is =
 -- ---- the channel of a beat
 
 pub on_it : {w : ℕ} (x : Beat w) → IsOn (channel_of x) x
-on_it (beat.A x) channel.A = refl
-on_it (beat.A x) channel.B = refl
-on_it (beat.A x) channel.C = refl
-on_it (beat.A x) channel.D = refl
-on_it (beat.A x) channel.E = refl
-on_it (beat.B x) channel.A = refl
-on_it (beat.B x) channel.B = refl
-on_it (beat.B x) channel.C = refl
-on_it (beat.B x) channel.D = refl
-on_it (beat.B x) channel.E = refl
-on_it (beat.C x) channel.A = refl
-on_it (beat.C x) channel.B = refl
-on_it (beat.C x) channel.C = refl
-on_it (beat.C x) channel.D = refl
-on_it (beat.C x) channel.E = refl
-on_it (beat.D x) channel.A = refl
-on_it (beat.D x) channel.B = refl
-on_it (beat.D x) channel.C = refl
-on_it (beat.D x) channel.D = refl
-on_it (beat.D x) channel.E = refl
-on_it (beat.E x) channel.A = refl
-on_it (beat.E x) channel.B = refl
-on_it (beat.E x) channel.C = refl
-on_it (beat.E x) channel.D = refl
-on_it (beat.E x) channel.E = refl
+on_it (Beat.A x) Channel.A = refl
+on_it (Beat.A x) Channel.B = refl
+on_it (Beat.A x) Channel.C = refl
+on_it (Beat.A x) Channel.D = refl
+on_it (Beat.A x) Channel.E = refl
+on_it (Beat.B x) Channel.A = refl
+on_it (Beat.B x) Channel.B = refl
+on_it (Beat.B x) Channel.C = refl
+on_it (Beat.B x) Channel.D = refl
+on_it (Beat.B x) Channel.E = refl
+on_it (Beat.C x) Channel.A = refl
+on_it (Beat.C x) Channel.B = refl
+on_it (Beat.C x) Channel.C = refl
+on_it (Beat.C x) Channel.D = refl
+on_it (Beat.C x) Channel.E = refl
+on_it (Beat.D x) Channel.A = refl
+on_it (Beat.D x) Channel.B = refl
+on_it (Beat.D x) Channel.C = refl
+on_it (Beat.D x) Channel.D = refl
+on_it (Beat.D x) Channel.E = refl
+on_it (Beat.E x) Channel.A = refl
+on_it (Beat.E x) Channel.B = refl
+on_it (Beat.E x) Channel.C = refl
+on_it (Beat.E x) Channel.D = refl
+on_it (Beat.E x) Channel.E = refl
 
 -- ---- what is delivered
 
@@ -154,14 +137,14 @@ flow_moved {w} link ch o x log d is = ap (λ xs. xs ++ flow d log) is ∙ go (li
 pub taken_at : {w : ℕ} (link : Link) (ch : Channel) (x : Beat w) (v : Verdict) (d : ℕ)
     → is_moving (outcome_of x v) ≡ true
     → taken_on d (Deliver link ch) (outcome_of x v) ≡ (if link.0 == d then x ∷ [] else [])
-taken_at link ch x verdict.Stalled d e = absurd cc
+taken_at link ch x Verdict.Stalled d e = absurd cc
 taken_at link ch x v d e = refl
 
 pub flow_still : {w : ℕ} (event : Event w) (o : Outcome w) (log : Log w) (d : ℕ) → is_moving o ≡ false
     → flow d ((event, o) ∷ log) ≡ flow d log
 unfolding flow
-flow_still (Deliver link ch) (outcome.Moved x) log d e = absurd cc
-flow_still (Deliver link ch) (outcome.Done x source f) log d e = absurd cc
+flow_still (Deliver link ch) (Outcome.Moved x) log d e = absurd cc
+flow_still (Deliver link ch) (Outcome.Done x source f) log d e = absurd cc
 flow_still event o log d e = refl
 
 -- ---- events
@@ -273,7 +256,7 @@ moved-passing {w} config log link ch terms x queue width typed logged known beat
                 handed_is : (v : Verdict) (m : Option (Message w)) → is_moving (outcome_of x v) ≡ true
                     → sent_if_any (client_after.handed (Ok (v, m))) (x ∷ (sys.clients c).past) ≡ sent_if_any m
                     (x ∷ (sys.clients c).past)
-                handed_is verdict.Stalled m e = absurd cc
+                handed_is Verdict.Stalled m e = absurd cc
                 handed_is v m e = refl
 
                 ours : (v : Verdict) (m : Option (Message w)) → (offer.taken x (sys.clients c)).answer ≡ Ok (v, m)
@@ -295,7 +278,7 @@ moved-passing {w} config log link ch terms x queue width typed logged known beat
             (with_messages handed now).channels
             (heard_at c x f) _ (λ d. ap (λ (i : ℕ → Endpoint w). (i d).past) (clients-with_messages handed now))
             (λ d. ap (λ (i : manager_end.End w). on_link d i.trace) (manager-with_messages handed now)) (λ d at. refl)
-            (λ d. flow_moved link ch (outcome.Moved x) x log d refl)
+            (λ d. flow_moved link ch (Outcome.Moved x) x log d refl)
             (manages-passing config handed ((link, x) ∷ sys.manager.trace) now (λ d. (sys.clients d).past)
             (heard_at c x f) (reaction_handable config link x sys.manager width head h.manager_kept.sound)
             (passing-same _ _ _ _ _ _ _ _ (λ d. refl) (λ d. refl) (λ d at. refl) (λ d. refl)
@@ -361,13 +344,13 @@ passing {w} config (x ∷ log) width typed logged =
 
 pub carried-passing : {w : ℕ} (config : Config) (log : Log w) (link : ℕ) (ch : Channel)
     → IsPassing (system_after config log) (λ d. flow d log) → IsFifo (system_after config log) log link ch
-carried-passing config log link channel.A is = let both = is.up link channel.A refl in
+carried-passing config log link Channel.A is = let both = is.up link Channel.A refl in
     record { under_way = both.0; delivered = both.1 }
-carried-passing config log link channel.B is = let both = is.down link channel.B refl in
+carried-passing config log link Channel.B is = let both = is.down link Channel.B refl in
     record { under_way = both.0; delivered = both.1 }
-carried-passing config log link channel.C is = let both = is.up link channel.C refl in
+carried-passing config log link Channel.C is = let both = is.up link Channel.C refl in
     record { under_way = both.0; delivered = both.1 }
-carried-passing config log link channel.D is = let both = is.down link channel.D refl in
+carried-passing config log link Channel.D is = let both = is.down link Channel.D refl in
     record { under_way = both.0; delivered = both.1 }
-carried-passing config log link channel.E is = let both = is.up link channel.E refl in
+carried-passing config log link Channel.E is = let both = is.up link Channel.E refl in
     record { under_way = both.0; delivered = both.1 }

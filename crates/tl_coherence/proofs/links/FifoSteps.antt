@@ -4,17 +4,14 @@ use Rattle.std.proofs.Common.{◌≡◌, ℕ, zero, suc, Bool, true, false, not,
 use Rattle.std.specs.Prelude.{◌++◌, ◌==◌, ◌&&◌, if◌then◌else◌, reverse}
 use Rattle.std.proofs.lemmas.Bool.{cases_eq, ne_eqb}
 use Rattle.std.proofs.lemmas.List.{append_assoc, reverse-append}
-use Rattle.tl_burst.specs.declared.message.Message.TheVariants as message
 use Rattle.tl_burst.specs.statement.Burst.{beats_of, begun, burst_of}
 use Rattle.tl_burst.specs.statement.Messages.{History, carried_on, on}
 use Rattle.tl_rules.specs.statement.Legality.{beats_from}
 use Rattle.tl_manager.specs.statement.Offer.{is_from_client}
 use Rattle.tl_coherence.specs.statement.System.{same_channel, channel_of_message}
-use Rattle.tl_coherence.proofs.queues.Beats.{reverse-beats_from}
-use Rattle.tl_coherence.proofs.queues.Landed.{IsOn}
-use Rattle.tl_coherence.proofs.deliveries.ManagersAfter.{on_message}
-use Rattle.tl_coherence.proofs.queues.Tokens.{same_number}
-use Rattle.tl_coherence.proofs.queues.Channels.{same_channel-is}
+use Rattle.tl_coherence.proofs.{queues.Beats.reverse-beats_from, queues.Landed.IsOn}
+use Rattle.tl_coherence.proofs.{deliveries.ManagersAfter.on_message, queues.Tokens.same_number}
+use Rattle.tl_coherence.proofs.{queues.Channels.same_channel-is}
 
 -- ---- lists
 
@@ -92,11 +89,11 @@ apart at ch b e f = go (same_channel at ch) refl
 
 sends : {w : ℕ} (m : Message w) (b : Bool) → is_from_client (beat_of m 0) ≡ not b
     → is_to_client (channel_of_message m) ≡ b
-sends (message.A m) false e = refl
-sends (message.B m) true e = refl
-sends (message.C m) false e = refl
-sends (message.D m) true e = refl
-sends (message.E m) false e = refl
+sends (Message.A m) false e = refl
+sends (Message.B m) true e = refl
+sends (Message.C m) false e = refl
+sends (Message.D m) true e = refl
+sends (Message.E m) false e = refl
 sends m b e = absurd cc
 
 -- ---- the two ends of each link

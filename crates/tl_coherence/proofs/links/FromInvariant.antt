@@ -4,26 +4,18 @@ use Rattle.tl_coherence.proofs.links.Imports.{system_after, one_memory_after, te
 use Rattle.std.proofs.Common.{◌≡◌, ◌∙◌, ℕ, true, ◌∷◌, Option, Some, None, refl, sym, ap₂}
 use Rattle.std.specs.Prelude.{◌≤◌, ◌/◌, is_some, length}
 use Rattle.tl_params.specs.declared.perm.Perm.{Perm}
-use Rattle.tl_client.specs.declared.verdict.Finish.TheVariants.{Granted}
-use Rattle.tl_client.specs.statement.Ask.{op_block}
-use Rattle.tl_client.specs.statement.Endpoint.{held_at}
+use Rattle.tl_client.{specs.declared.verdict.Finish.TheVariants.Granted, specs.statement.Ask.op_block}
+use Rattle.tl_client.{specs.statement.Endpoint.held_at}
 use Rattle.tl_manager.specs.statement.Holders.{recorded}
-use Rattle.tl_coherence.specs.declared.event.Outcome.TheVariants as outcome
-use Rattle.tl_coherence.specs.statement.Coherent.{IsCoherent}
+use Rattle.tl_coherence.specs.{declared.event.Outcome.Outcome, statement.Coherent.IsCoherent, statement.Log.IsLog}
+use Rattle.tl_coherence.specs.{statement.Machine.Requests, statement.Machine.is_client, statement.Permissions.perm_le}
+use Rattle.tl_coherence.specs.{protocol.Protocol.view}
 use Rattle.tl_coherence.specs.statement.Delivery.{IsFifo, IsExact, capacity, sources_of}
 use Rattle.tl_coherence.specs.statement.Headline.{AreTyped, IsGiven, IsUnrefused}
-use Rattle.tl_coherence.specs.statement.Log.{IsLog}
-use Rattle.tl_coherence.specs.statement.Machine.{Requests, is_client}
-use Rattle.tl_coherence.specs.statement.Permissions.{perm_le}
-use Rattle.tl_coherence.specs.protocol.Protocol.{view}
-use Rattle.tl_coherence.proofs.memory.Coherence.{coherent-matched}
-use Rattle.tl_coherence.proofs.links.FifoOfChannels.{carried-passing, passing}
-use Rattle.tl_coherence.proofs.links.HeadsOfLinks.{first-of}
-use Rattle.tl_coherence.proofs.links.Granting.{granted-holds}
-use Rattle.tl_coherence.proofs.deliveries.Matching.{shadow, matched}
-use Rattle.tl_coherence.proofs.simulation.Owned.{channels-few}
-use Rattle.tl_coherence.proofs.links.Stalling.{exact}
-use Rattle.tl_coherence.proofs.queues.Facts.{held_at_most}
+use Rattle.tl_coherence.proofs.{memory.Coherence.coherent-matched, links.FifoOfChannels.carried-passing}
+use Rattle.tl_coherence.proofs.{links.FifoOfChannels.passing, links.HeadsOfLinks.first-of, links.Granting.granted-holds}
+use Rattle.tl_coherence.proofs.{deliveries.Matching.shadow, deliveries.Matching.matched, simulation.Owned.channels-few}
+use Rattle.tl_coherence.proofs.{links.Stalling.exact, queues.Facts.held_at_most}
 
 pub matched-given : {w : ℕ} (config : Config) (log : Log w) → IsGiven config log
     → SimulationRelation config log (shadow config log).mail (shadow config log).request (shadow config log).state
@@ -71,9 +63,9 @@ carries config log given link ch =
 
 pub grants : {w : ℕ} (config : Config) (log : Log w) (link : Link) (ch : Channel) (x : Beat w) (source : ℕ) (p : Perm)
     (op : Op w)
-    → IsGiven config ((Deliver link ch, outcome.Done x source (Granted p)) ∷ log)
+    → IsGiven config ((Deliver link ch, Outcome.Done x source (Granted p)) ∷ log)
     → started link.0 Requests source log ≡ Some op
-    → held_at ((system_after config ((Deliver link ch, outcome.Done x source (Granted p)) ∷ log)).clients link.0)
+    → held_at ((system_after config ((Deliver link ch, Outcome.Done x source (Granted p)) ∷ log)).clients link.0)
     (op_block op) ≡ p
 unfolding system_after AreTyped IsLog
 grants config log link ch x source p op given asked =

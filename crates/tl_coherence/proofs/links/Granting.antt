@@ -2,82 +2,67 @@
 use Rattle.tl_coherence.proofs.links.Imports.{IsWidth, Beat, Link, Channel, unfinished, Config, Op, Endpoint, Deliver}
 use Rattle.tl_coherence.proofs.links.Imports.{started, AbstractState, Log, system_after, is_on, packet}
 use Rattle.tl_coherence.proofs.links.Imports.{one_memory_after, message_of_kind, block_message, stepped, System, Kind}
-use Rattle.tl_coherence.proofs.links.Imports.{Answer, Grant, ReleaseAck}
-use Rattle.tl_coherence.proofs.links.Imports.{SimulationRelation, is_caching}
+use Rattle.tl_coherence.proofs.links.Imports.{Answer, Grant, ReleaseAck, SimulationRelation, is_caching, Message}
 use Rattle.std.proofs.Common.{◌≡◌, ℕ, Bool, true, false, List, ◌∷◌, Option, Some, None, refl, sym, ◌∙◌, ap}
 use Rattle.std.specs.Prelude.{option_map}
-use Rattle.tl_beat.specs.declared.beat.Beat.TheVariants as beat
-use Rattle.tl_beat.specs.declared.beat.BeatD.{BeatD}
-use Rattle.tl_beat.specs.declared.channel.Channel.TheVariants as channel
-use Rattle.tl_beat.specs.declared.opcode.OpD.{OpD}
-use Rattle.tl_beat.specs.declared.opcode.OpD.TheVariants as opd
-use Rattle.tl_burst.specs.declared.message.Message.TheVariants as message
-use Rattle.tl_burst.specs.declared.message.MessageD.{MessageD}
-use Rattle.tl_burst.specs.statement.Burst.{d_beat_of}
-use Rattle.tl_params.specs.declared.param.Cap.{Cap}
-use Rattle.tl_params.specs.declared.perm.Perm.{Perm}
-use Rattle.tl_params.specs.statement.Param.{cap_code, cap_right}
+use Rattle.tl_beat.{specs.declared.beat.BeatD.BeatD, specs.declared.opcode.OpD.OpD}
+use Rattle.tl_burst.{specs.declared.message.MessageD.MessageD, specs.statement.Burst.d_beat_of}
+use Rattle.tl_params.{specs.declared.param.Cap.Cap, specs.declared.perm.Perm.Perm, specs.statement.Param.cap_code}
+use Rattle.tl_params.{specs.statement.Param.cap_right}
 use Rattle.tl_rules.specs.statement.Admission.{payload_of}
 use Rattle.tl_rules.specs.statement.History.{held, request_of}
-use Rattle.tl_client.specs.declared.verdict.Finish.TheVariants as finish
-use Rattle.tl_client.specs.statement.Ask.{op_block}
-use Rattle.tl_client.specs.statement.Offer.{address_asked, finish_of}
-use Rattle.tl_manager.specs.statement.Handing.{grant_opcode}
-use Rattle.tl_manager.specs.statement.Service.{is_access_answer}
-use Rattle.tl_manager.proofs.blocks.Recording.{cap-gives}
-use Rattle.tl_coherence.specs.declared.event.Outcome.TheVariants as outcome
-use Rattle.tl_coherence.specs.refinement.MemoryRelation.{IsOpened, op_of}
+use Rattle.tl_client.{specs.declared.verdict.Finish.Finish, specs.statement.Ask.op_block}
+use Rattle.tl_client.{specs.statement.Offer.address_asked, specs.statement.Offer.finish_of}
+use Rattle.tl_manager.{specs.statement.Handing.grant_opcode, specs.statement.Service.is_access_answer}
+use Rattle.tl_manager.{proofs.blocks.Recording.cap-gives}
+use Rattle.tl_coherence.specs.{declared.event.Outcome.Outcome, refinement.MemoryRelation.IsOpened}
+use Rattle.tl_coherence.specs.{refinement.MemoryRelation.op_of, statement.Machine.Open, statement.Machine.Requests}
+use Rattle.tl_coherence.specs.{protocol.PhaseSteps.after_grant, protocol.Packet.Packet}
 use Rattle.tl_coherence.specs.refinement.AbstractStep.{abstract_step, kind_taken, taken_by_client}
-use Rattle.tl_coherence.specs.statement.Machine.{Open, Requests}
 use Rattle.tl_coherence.specs.protocol.Phase.{ClientBlock, AcquirePhase, AcquireOpen, is_whole}
-use Rattle.tl_coherence.specs.protocol.PhaseSteps.{after_grant}
 use Rattle.tl_coherence.specs.protocol.Protocol.{Service, Block, SourceState, Acquires, taken_block}
-use Rattle.tl_coherence.specs.protocol.Packet.{Packet}
-use Rattle.tl_coherence.proofs.memory.Coherence.{opened-started}
+use Rattle.tl_coherence.proofs.{memory.Coherence.opened-started, links.Ending.IsEnding, links.Ending.ending}
+use Rattle.tl_coherence.proofs.{client.DeliverD.finish_at, deliveries.Matching.matched-event}
+use Rattle.tl_coherence.proofs.{manager.UnwaitedRequests.next_tracker, queues.Tokens.set-same}
 use Rattle.tl_coherence.proofs.protocol.HeadOfD.{IsGrantDue, ack_message, answer-due, grant-due, grant-rendered}
 use Rattle.tl_coherence.proofs.protocol.HeadOfD.{grant_message}
-use Rattle.tl_coherence.proofs.links.Ending.{IsEnding, ending}
-use Rattle.tl_coherence.proofs.client.DeliverD.{finish_at}
-use Rattle.tl_coherence.proofs.deliveries.Matching.{matched-event}
-use Rattle.tl_coherence.proofs.manager.UnwaitedRequests.{next_tracker}
-use Rattle.tl_coherence.proofs.queues.Tokens.{set-same}
 
 -- ---- how a response ends its operation
 
-pub same-response : {w : ℕ} (m n : MessageD w) → message.D m ≡ message.D n → m ≡ n
+pub same-response : {w : ℕ} (m n : MessageD w) → Message.D m ≡ Message.D n → m ≡ n
 same-response m n e = cc
 
 pub granted-finish : (w : ℕ) (d : Bool) (k : Cap) (size address : ℕ) (payload : List ℕ)
-    → finish_of w (grant_opcode d) (cap_code k) size address payload ≡ finish.Granted (cap_right k)
-granted-finish w true k size address payload = ap finish.Granted (cap-gives k)
-granted-finish w false k size address payload = ap finish.Granted (cap-gives k)
+    → finish_of w (grant_opcode d) (cap_code k) size address payload ≡ Finish.Granted (cap_right k)
+granted-finish w true k size address payload = ap Finish.Granted (cap-gives k)
+granted-finish w false k size address payload = ap Finish.Granted (cap-gives k)
 
 answer_grants : (w : ℕ) (o : OpD) (param size address : ℕ) (payload : List ℕ) (p : Perm) → is_access_answer o ≡ true
-    → finish.Granted p ≡ finish_of w o param size address payload → ⊥
-answer_grants w opd.AccessAck param size address payload p e f = absurd cc
+    → Finish.Granted p ≡ finish_of w o param size address payload → ⊥
+answer_grants w OpD.AccessAck param size address payload p e f = absurd cc
 answer_grants w o param size address payload p e f = absurd cc
 
-ack_grants : (p : Perm) → finish.Granted p ≡ finish.Released → ⊥
+ack_grants : (p : Perm) → Finish.Granted p ≡ Finish.Released → ⊥
 ack_grants p e = absurd cc
 
 -- at a beat
 pub granted-at : {w : ℕ} (y : BeatD w) (e : Endpoint w) (d : Bool) (k : Cap) → y.opcode ≡ grant_opcode d
-    → y.param ≡ cap_code k → finish_at y e ≡ finish.Granted (cap_right k)
+    → y.param ≡ cap_code k → finish_at y e ≡ Finish.Granted (cap_right k)
 granted-at {w} y e d k opcode param =
     let address = address_asked (request_of y.source e.past) in
-    let payload = payload_of (beat.D y ∷ unfinished channel.D e.past) in
+    let payload = payload_of (Beat.D y ∷ unfinished Channel.D e.past) in
     ap (λ o. finish_of w o y.param y.size address payload) opcode ∙ ap
     (λ i. finish_of w (grant_opcode d) i y.size address payload) param ∙ granted-finish w d k y.size address payload
 
 answer_at : {w : ℕ} (y : BeatD w) (e : Endpoint w) (p : Perm) → is_access_answer y.opcode ≡ true
-    → finish.Granted p ≡ finish_at y e → ⊥
+    → Finish.Granted p ≡ finish_at y e → ⊥
 answer_at {w} y e p is f = answer_grants w y.opcode y.param y.size (address_asked (request_of y.source e.past))
-    (payload_of (beat.D y ∷ unfinished channel.D e.past)) p is f
+    (payload_of (Beat.D y ∷ unfinished Channel.D e.past)) p is f
 
-pub released-at : {w : ℕ} (y : BeatD w) (e : Endpoint w) → y.opcode ≡ opd.ReleaseAck → finish_at y e ≡ finish.Released
+pub released-at : {w : ℕ} (y : BeatD w) (e : Endpoint w) → y.opcode ≡ OpD.ReleaseAck → finish_at y e ≡ Finish.Released
 released-at {w} y e opcode = cc opcode
 
-same_grant : (p q : Perm) → finish.Granted p ≡ finish.Granted q → p ≡ q
+same_grant : (p q : Perm) → Finish.Granted p ≡ Finish.Granted q → p ≡ q
 same_grant p q e = cc
 
 -- ---- the operation that it answers
@@ -124,7 +109,7 @@ held_granted {w} config tracker c n rest h due =
 pub granted-holds : {w : ℕ} (config : Config) (log : Log w) (link : Link) (ch : Channel) (h : AbstractState w)
     (x : Beat w) (source : ℕ) (p : Perm) (op : Op w)
     → IsWidth w → SimulationRelation config log h.mail h.request h.state (system_after config log)
-    → (stepped config (Deliver link ch) (system_after config log)).outcome ≡ outcome.Done x source (finish.Granted p)
+    → (stepped config (Deliver link ch) (system_after config log)).outcome ≡ Outcome.Done x source (Finish.Granted p)
     → started link.0 Requests source log ≡ Some op
     → held (op_block op) ((stepped config (Deliver link ch) (system_after config log)).after.clients link.0).past ≡ p
 unfolding block_message
@@ -136,8 +121,8 @@ granted-holds {w} config log link ch h x source p op width is done asked = go en
     c : ℕ
     c = link.0
 
-    end : IsEnding config log link ch h x source (finish.Granted p)
-    end = ending config log link ch h x source (finish.Granted p) width is done
+    end : IsEnding config log link ch h x source (Finish.Granted p)
+    end = ending config log link ch h x source (Finish.Granted p) width is done
 
     n : ℕ
     n = end.first.number
@@ -145,7 +130,7 @@ granted-holds {w} config log link ch h x source p op width is done asked = go en
     tokens : (k : Kind) → end.first.kind ≡ k → (h.state.link c).d ≡ packet k n ∷ end.first.rest
     tokens k e = end.first.tokens ∙ ap (λ (i : Kind). packet i n ∷ end.first.rest) e
 
-    response_is : (k : Kind) → end.first.kind ≡ k → message_of_kind k h.mail h.state c n ≡ message.D end.response
+    response_is : (k : Kind) → end.first.kind ≡ k → message_of_kind k h.mail h.state c n ≡ Message.D end.response
     response_is k e = ap (λ (i : Kind). message_of_kind i h.mail h.state c n) (sym e) ∙ end.response_is
 
     then_matched : SimulationRelation config ((Deliver link ch, (stepped config (Deliver link ch) sys).outcome) ∷ log)
@@ -181,7 +166,7 @@ granted-holds {w} config log link ch h x source p op width is done asked = go en
         e
         ∙ held_granted config (next_tracker sys) c n end.first.rest h due ∙ sym cap_is
 
-    go : (k : Kind) → end.first.kind ≡ k → is_on channel.D end.first.kind ≡ true
+    go : (k : Kind) → end.first.kind ≡ k → is_on Channel.D end.first.kind ≡ true
         → held (op_block op) ((stepped config (Deliver link ch) sys).after.clients c).past ≡ p
     go Grant e own = grant e
     go Answer e own =

@@ -6,43 +6,31 @@ use Rattle.tl_coherence.proofs.links.Imports.{is_to_client, stepped, System, ter
 use Rattle.std.proofs.Common.{◌≡◌, ℕ, Bool, true, false, List, [], ◌∷◌, refl, sym, ◌∙◌, ap}
 use Rattle.std.specs.Prelude.{not, ◌&&◌, if◌then◌else◌, Option, Some, None, is_none, is_some, option_map, Result, Ok}
 use Rattle.std.specs.Prelude.{Err}
-use Rattle.std.proofs.Math.Bool.{and-false}
-use Rattle.std.proofs.lemmas.Bool.{not-true, not-false}
-use Rattle.tl_beat.specs.declared.beat.Beat.TheVariants as beat
+use Rattle.std.{proofs.Math.Bool.and-false, proofs.lemmas.Bool.not-true, proofs.lemmas.Bool.not-false}
 use Rattle.tl_beat.specs.declared.beat.BeatB.{BeatB}
-use Rattle.tl_beat.specs.declared.channel.Channel.TheVariants as channel
-use Rattle.tl_burst.specs.declared.message.MessageA.{MessageA}
-use Rattle.tl_burst.specs.statement.Part.{is_empty}
-use Rattle.tl_params.specs.declared.level.Level.{Level}
-use Rattle.tl_params.specs.declared.param.Prune.{Prune}
-use Rattle.tl_params.specs.declared.rule.Rule.{Rule}
-use Rattle.tl_params.specs.declared.key.Key.TheVariants.{ReleaseOf}
+use Rattle.tl_burst.{specs.declared.message.MessageA.MessageA, specs.statement.Part.is_empty}
+use Rattle.tl_params.{specs.declared.level.Level.Level, specs.declared.param.Prune.Prune, specs.declared.rule.Rule.Rule}
+use Rattle.tl_params.{specs.declared.key.Key.TheVariants.ReleaseOf}
 use Rattle.tl_rules.specs.statement.History.{block_at, is_probe, pending}
-use Rattle.tl_client.specs.declared.verdict.Verdict.TheVariants as verdict
-use Rattle.tl_client.specs.declared.operation.Op.TheVariants.{Release}
+use Rattle.tl_client.{specs.declared.operation.Op.TheVariants.Release, specs.statement.Offer.offered}
 use Rattle.tl_client.specs.statement.Endpoint as client
 use Rattle.tl_client.specs.statement.Offer as offer
-use Rattle.tl_client.specs.statement.Offer.{offered}
 use Rattle.tl_manager.specs.statement.End as manager_end
 use Rattle.tl_manager.specs.statement.Offer as manager
-use Rattle.tl_manager.specs.statement.Offer.{must_wait, Judgement, Passes, breaks_or, waits_or}
-use Rattle.tl_manager.specs.statement.Offer.{is_waiting, offered_as, judged_on, judged_at, open_level}
+use Rattle.tl_manager.specs.statement.Offer.{must_wait, Judgement, Passes, breaks_or, waits_or, is_waiting, offered_as}
+use Rattle.tl_manager.specs.statement.Offer.{judged_on, judged_at, open_level}
 use Rattle.tl_manager.proofs.judging.Stalls.{never-stalled}
-use Rattle.tl_coherence.specs.refinement.MemoryRelation.{IsLet}
-use Rattle.tl_coherence.specs.statement.Coherent.{IsCoherent}
+use Rattle.tl_coherence.specs.{refinement.MemoryRelation.IsLet, statement.Coherent.IsCoherent, protocol.Invariant.is_of}
+use Rattle.tl_coherence.specs.{protocol.Invariant.releases_with, protocol.Phase.is_unreleased, protocol.Protocol.State}
+use Rattle.tl_coherence.specs.{refinement.PacketMessages.AccessMessages}
 use Rattle.tl_coherence.specs.statement.Delivery.{IsExact, IsReleasing, Moves, is_emptiness, is_stall}
 use Rattle.tl_coherence.specs.statement.Delivery.{outcome_of_delivery}
-use Rattle.tl_coherence.specs.protocol.Invariant.{is_of, releases_with}
 use Rattle.tl_coherence.specs.statement.Machine.{Open, Releases, is_client}
 use Rattle.tl_coherence.specs.statement.Movable.{is_movable, moves, stalls}
-use Rattle.tl_coherence.specs.protocol.Phase.{is_unreleased}
-use Rattle.tl_coherence.specs.protocol.Protocol.{State}
-use Rattle.tl_coherence.specs.refinement.PacketMessages.{AccessMessages}
 use Rattle.tl_coherence.specs.statement.Step.{delivered, judged, manager_took, stepped_at}
-use Rattle.tl_coherence.proofs.protocol.TokenNames.{source_of_release}
+use Rattle.tl_coherence.proofs.{protocol.TokenNames.source_of_release, queues.Tokens.same_number}
+use Rattle.tl_coherence.proofs.{queues.Phases.and_left}
 use Rattle.tl_coherence.proofs.memory.Runs.{IsTaken, IsTakenUp, IsTakenIn, stall-delivered}
-use Rattle.tl_coherence.proofs.queues.Tokens.{same_number}
-use Rattle.tl_coherence.proofs.queues.Phases.{and_left}
 
 -- ---- a request at the manager
 
@@ -151,9 +139,9 @@ emptiness {w} config terms link ch (x ∷ rest) s = go (is_to_client ch)
     of_client : (r : Result (Verdict × Option (Message w)) Rule) (e : client.Endpoint w)
         → is_emptiness (judged r link ch x rest e s).outcome ≡ false
     of_client (Err rule) e = refl
-    of_client (Ok (verdict.Stalled, m)) e = refl
-    of_client (Ok (verdict.Taken, m)) e = refl
-    of_client (Ok (verdict.Done source f, m)) e = refl
+    of_client (Ok (Verdict.Stalled, m)) e = refl
+    of_client (Ok (Verdict.Taken, m)) e = refl
+    of_client (Ok (Verdict.Done source f, m)) e = refl
 
     of_manager : (a : manager.Reception w × manager_end.End w)
         → is_emptiness (manager_took link ch x rest a s).outcome ≡ false
@@ -178,8 +166,8 @@ moving-else {w} config terms link ch (x ∷ rest) s some unstalled = go (is_to_c
     of_client : (r : Result (Verdict × Option (Message w)) Rule) (e : client.Endpoint w)
         → is_stall (judged r link ch x rest e s).outcome ≡ false
         → is_moving (judged r link ch x rest e s).outcome ≡ true
-    of_client (Ok (verdict.Taken, m)) e f = refl
-    of_client (Ok (verdict.Done source finish, m)) e f = refl
+    of_client (Ok (Verdict.Taken, m)) e f = refl
+    of_client (Ok (Verdict.Done source finish, m)) e f = refl
     of_client r e f = absurd cc
 
     of_manager : (a : manager.Reception w × manager_end.End w)
@@ -230,7 +218,7 @@ pub record IsFirst {w : ℕ} (config : Config) (terms : EndConfig) (c : ℕ) (ch
     (sys : System w) : Type 0 where
   pub on : channel_of x ≡ ch
   pub taken : IsTaken config terms c ch x sys
-  pub probes : (y : BeatB w) → x ≡ beat.B y → is_probe y.opcode ≡ true
+  pub probes : (y : BeatB w) → x ≡ Beat.B y → is_probe y.opcode ≡ true
 
 module _ {w : ℕ} (config : Config) (log : Log w) (mail : AccessMessages w) (request : ℕ → MessageA w)
     (s : State (List ℕ)) (matched : SimulationRelation config log mail request s (system_after config log))
@@ -250,31 +238,31 @@ module _ {w : ℕ} (config : Config) (log : Log w) (mail : AccessMessages w) (re
   moves-exactly : (ch : Channel) (x : Beat w) (rest : List (Beat w))
       → (system_after config log).channels c ch ≡ x ∷ rest → IsFirst config terms c ch x (system_after config log)
       → Moves config log c x
-  moves-exactly channel.A (beat.A y) rest e first =
-      movable-is channel.A (beat.A y) rest e ∙ ap not (stalled-as-it-must config (record { 0 = c }) channel.A (beat.A y)
+  moves-exactly Channel.A (Beat.A y) rest e first =
+      movable-is Channel.A (Beat.A y) rest e ∙ ap not (stalled-as-it-must config (record { 0 = c }) Channel.A (Beat.A y)
       (system_after config log).manager (first.taken.1 refl))
-  moves-exactly channel.C (beat.C y) rest e first =
-      movable-is channel.C (beat.C y) rest e ∙ ap not (never-stalled config (record { 0 = c }) channel.C (beat.C y)
+  moves-exactly Channel.C (Beat.C y) rest e first =
+      movable-is Channel.C (Beat.C y) rest e ∙ ap not (never-stalled config (record { 0 = c }) Channel.C (Beat.C y)
       (system_after config log).manager refl)
-  moves-exactly channel.E (beat.E y) rest e first =
-      movable-is channel.E (beat.E y) rest e ∙ ap not (never-stalled config (record { 0 = c }) channel.E (beat.E y)
+  moves-exactly Channel.E (Beat.E y) rest e first =
+      movable-is Channel.E (Beat.E y) rest e ∙ ap not (never-stalled config (record { 0 = c }) Channel.E (Beat.E y)
       (system_after config log).manager refl)
-  moves-exactly channel.D (beat.D y) rest e first =
-      movable-is channel.D (beat.D y) rest e ∙ ap not
-      (stalled-as-it-waits terms channel.D (beat.D y) ((system_after config log).clients c) (first.taken.0 refl))
-  moves-exactly channel.B (beat.B y) rest e first = (there, back)
+  moves-exactly Channel.D (Beat.D y) rest e first =
+      movable-is Channel.D (Beat.D y) rest e ∙ ap not
+      (stalled-as-it-waits terms Channel.D (Beat.D y) ((system_after config log).clients c) (first.taken.0 refl))
+  moves-exactly Channel.B (Beat.B y) rest e first = (there, back)
     where
-      waits : is_movable config c channel.B (system_after config log) ≡ not
+      waits : is_movable config c Channel.B (system_after config log) ≡ not
           (pending (ReleaseOf (block_at y.address)) ((system_after config log).clients c).past)
-      waits = movable-is channel.B (beat.B y) rest e ∙ ap not
-          (stalled-as-it-waits terms channel.B (beat.B y) ((system_after config log).clients c) (first.taken.0 refl)
+      waits = movable-is Channel.B (Beat.B y) rest e ∙ ap not
+          (stalled-as-it-waits terms Channel.B (Beat.B y) ((system_after config log).clients c) (first.taken.0 refl)
           ∙ rw (first.probes y refl) refl)
 
-      there : is_movable config c channel.B (system_after config log) ≡ false → IsReleasing c (block_at y.address) log
+      there : is_movable config c Channel.B (system_after config log) ≡ false → IsReleasing c (block_at y.address) log
       there h = releasing-started config log mail request s matched coherent c (block_at y.address)
           (not-false _ (sym waits ∙ h))
 
-      back : IsReleasing c (block_at y.address) log → is_movable config c channel.B (system_after config log) ≡ false
+      back : IsReleasing c (block_at y.address) log → is_movable config c Channel.B (system_after config log) ≡ false
       back h = waits ∙ ap not (started-releasing config log mail request s matched coherent c (block_at y.address) h)
   moves-exactly ch x rest e first = absurd (let on = first.on in cc)
 

@@ -1,32 +1,24 @@
 -- What the manager knows follows from five things: what it recorded, which ProbeAcks it misses, which service each
 -- block has, and which request that is. This is for all of its events alike.
-use Rattle.tl_coherence.proofs.manager.Imports.{MessageA, unfinished, Config, Cap, Trace, on_link}
-use Rattle.tl_coherence.proofs.manager.Imports.{comes_in_request, probe_of}
-use Rattle.tl_coherence.proofs.manager.Imports.{cap_probed, IsKept, services, service_of_block, End}
-use Rattle.tl_coherence.proofs.manager.Imports.{View, Own, Other, Granting, Acknowledging, GrantedOther}
-use Rattle.tl_coherence.proofs.manager.Imports.{is_unprobed, Service, Free, Waits, GrantSent, GrantTaken, State}
-use Rattle.tl_coherence.proofs.manager.Imports.{SourceState, SourceFree, Asked, InService, Replied, Acquires, view}
-use Rattle.tl_coherence.proofs.manager.Imports.{is_granting, is_acknowledging, is_wanting, IsInvariant, is_busy}
-use Rattle.tl_coherence.proofs.manager.Imports.{ManagerRelation, is_own, client_in, service_with, ServedSourceRelation}
-use Rattle.tl_coherence.proofs.manager.Imports.{IsFor, is_served, is_granted, cap_waited, probe_beat}
-use Rattle.std.proofs.Common.{◌≡◌, ℕ, ◌==◌, Bool, true, false, not, ◌&&◌, ◌||◌, Option, Some, None, refl}
-use Rattle.std.proofs.Common.{sym, ◌∙◌, ap}
-use Rattle.std.specs.Prelude.{if◌then◌else◌}
-use Rattle.std.specs.Cmp.Derive.{one_truth}
-use Rattle.std.proofs.Math.Bool.{or_comm}
-use Rattle.std.proofs.lemmas.Bool.{eqb-true}
-use Rattle.std.proofs.lemmas.Option.{same_Some}
-use Rattle.tl_beat.specs.declared.channel.Channel.TheVariants as channel
+use Rattle.tl_coherence.proofs.manager.Imports.{MessageA, unfinished, Config, Cap, Trace, on_link, comes_in_request}
+use Rattle.tl_coherence.proofs.manager.Imports.{probe_of, cap_probed, IsKept, services, service_of_block, End, View}
+use Rattle.tl_coherence.proofs.manager.Imports.{Own, Other, Granting, Acknowledging, GrantedOther, is_unprobed, Service}
+use Rattle.tl_coherence.proofs.manager.Imports.{Free, Waits, GrantSent, GrantTaken, State, SourceState, SourceFree}
+use Rattle.tl_coherence.proofs.manager.Imports.{Asked, InService, Replied, Acquires, view, is_granting}
+use Rattle.tl_coherence.proofs.manager.Imports.{is_acknowledging, is_wanting, IsInvariant, is_busy, ManagerRelation}
+use Rattle.tl_coherence.proofs.manager.Imports.{is_own, client_in, service_with, ServedSourceRelation, IsFor, is_served}
+use Rattle.tl_coherence.proofs.manager.Imports.{is_granted, cap_waited, probe_beat, Channel}
+use Rattle.std.proofs.Common.{◌≡◌, ℕ, ◌==◌, Bool, true, false, not, ◌&&◌, ◌||◌, Option, Some, None, refl, sym, ◌∙◌, ap}
+use Rattle.std.{specs.Prelude.if◌then◌else◌, specs.Cmp.Derive.one_truth, proofs.Math.Bool.or_comm}
+use Rattle.std.{proofs.lemmas.Bool.eqb-true, proofs.lemmas.Option.same_Some}
 use Rattle.tl_manager.specs.laws.Pending as waits
-use Rattle.tl_manager.specs.laws.Pending.{is_any, is_asking, is_granted_with}
-use Rattle.tl_manager.specs.laws.Pending.{IsProbed}
+use Rattle.tl_manager.specs.laws.Pending.{is_any, is_asking, is_granted_with, IsProbed}
 use Rattle.tl_manager.specs.statement.Service as manager
 use Rattle.tl_manager.proofs.services.Serving.{some_is}
 use Rattle.tl_manager.proofs.pending.Sources.{source-pending, sink-pending}
 use Rattle.tl_coherence.specs.protocol.Invariant.{IsOwnSource, is_serving, tracks_with}
-use Rattle.tl_coherence.proofs.queues.Facts.{own_wants}
-use Rattle.tl_coherence.proofs.queues.Phases.{and_left, and_right}
-use Rattle.tl_coherence.proofs.queues.Tokens.{same_number}
+use Rattle.tl_coherence.proofs.{queues.Facts.own_wants, queues.Phases.and_left, queues.Phases.and_right}
+use Rattle.tl_coherence.proofs.{queues.Tokens.same_number}
 use Rattle.tl_coherence.proofs.protocol.BothParts.{is_of-is, acquires_of-is, serves_of-is, not-calm}
 use Rattle.tl_coherence.proofs.manager.BlockAccounts.{any-of, any-found, is_granted_in, IsTraced, at_service}
 use Rattle.tl_coherence.proofs.manager.BlockAccounts.{granted-is}
@@ -311,7 +303,7 @@ are_served-traced {w} {X} caching config request s e inv kept is = record {
     source-pending c source e.trace kept.steady.accounted,
     sources-traced caching config request
         s e inv kept is c source,
-    or_comm (comes_in_request source (unfinished channel.A (on_link c e.trace)))
+    or_comm (comes_in_request source (unfinished Channel.A (on_link c e.trace)))
         (is_served c (s.uses c source) s),
   );
   sinks = λ c sink. sink-pending c sink e.trace kept.sinks ∙ sinks-traced caching config request s e inv kept is c sink;

@@ -1,57 +1,53 @@
 -- The manager's end after a beat of a request: one that isn't the last, and the last one, where others are probed, the
 -- access is answered, or the Acquire is granted.
-use Rattle.tl_coherence.proofs.manager.Imports.{A, MessageA, a_beat_of, beats_of, Config, Cap, on_link}
-use Rattle.tl_coherence.proofs.manager.Imports.{bytes_from, effect, ends, block_at, Reaction, with_handed, probes}
-use Rattle.tl_coherence.proofs.manager.Imports.{performed, is_nobody, probed, cap_probed, IsKept, illegal_message_at}
-use Rattle.tl_coherence.proofs.manager.Imports.{services, least_untaken, trackers_of, reaction, End, level_of, taken}
+use Rattle.tl_coherence.proofs.manager.Imports.{A, MessageA, a_beat_of, beats_of, Config, Cap, on_link, bytes_from}
+use Rattle.tl_coherence.proofs.manager.Imports.{effect, ends, block_at, Reaction, with_handed, probes, performed}
+use Rattle.tl_coherence.proofs.manager.Imports.{is_nobody, probed, cap_probed, IsKept, illegal_message_at, services}
+use Rattle.tl_coherence.proofs.manager.Imports.{least_untaken, trackers_of, reaction, End, level_of, taken}
 use Rattle.tl_coherence.proofs.manager.Imports.{performed-access, performed-acquire, performs, IsInvariant, Waits}
-use Rattle.tl_coherence.proofs.manager.Imports.{Block, State, granted_at_once, AccessMessages, set, IsServedWith}
+use Rattle.tl_coherence.proofs.manager.Imports.{Block, State, granted_at_once, AccessMessages, set, IsServedWith, Beat}
+use Rattle.tl_coherence.proofs.manager.Imports.{Channel}
 use Rattle.std.proofs.Common.{◌≡◌, subst, ℕ, suc, ◌+◌, ◌*◌, ◌<◌, Bool, false, List, Some, None, refl, sym, ◌∙◌, ap, ap₂}
 use Rattle.std.proofs.Common.{inl, inr}
 use Rattle.std.proofs.lemmas.Bool.{cases_eq, ne_eqb}
-use Rattle.tl_beat.specs.declared.beat.Beat.TheVariants as beat
-use Rattle.tl_beat.specs.declared.channel.Channel.TheVariants as channel
 use Rattle.tl_rules.proofs.Sent.{not_last}
-use Rattle.tl_manager.specs.statement.Handing.{nothing}
-use Rattle.tl_manager.specs.statement.Offer.{Reception}
-use Rattle.tl_manager.proofs.calls.Events.{reaction-part, reaction-probes}
-use Rattle.tl_manager.proofs.calls.Keeping.{kept-offered}
-use Rattle.tl_manager.proofs.blocks.Memories.{memory-elsewhere}
+use Rattle.tl_manager.{specs.statement.Handing.nothing, specs.statement.Offer.Reception}
+use Rattle.tl_manager.{proofs.calls.Events.reaction-part, proofs.calls.Events.reaction-probes}
+use Rattle.tl_manager.{proofs.calls.Keeping.kept-offered, proofs.blocks.Memories.memory-elsewhere}
 use Rattle.tl_coherence.specs.protocol.Protocol.{served_block, performed_block}
-use Rattle.tl_coherence.proofs.manager.Accounts.{traced-known}
-use Rattle.tl_coherence.proofs.manager.Admitted.{offered-taken}
+use Rattle.tl_coherence.proofs.{manager.Accounts.traced-known, manager.Admitted.offered-taken}
+use Rattle.tl_coherence.proofs.{manager.Choices.some-clients, manager.Memories.block-same}
+use Rattle.tl_coherence.proofs.{manager.Memories.performed-block, manager.Probing.IsProbing}
+use Rattle.tl_coherence.proofs.{manager.Probing.traced-probing, manager.Requests.IsUnwaited}
+use Rattle.tl_coherence.proofs.{manager.Requests.traced-more}
 use Rattle.tl_coherence.proofs.manager.Arrivals.{link_of, with_beat, IsComing, ends-coming, service_for, served-last}
-use Rattle.tl_coherence.proofs.manager.Choices.{some-clients}
 use Rattle.tl_coherence.proofs.manager.ManagersEnd.{IsAtManager, at_manager-traced}
-use Rattle.tl_coherence.proofs.manager.Memories.{block-same, performed-block}
 use Rattle.tl_coherence.proofs.manager.Performing.{IsAnswering, traced-answered, IsGranting, traced-granted}
-use Rattle.tl_coherence.proofs.manager.Probing.{IsProbing, traced-probing}
-use Rattle.tl_coherence.proofs.manager.Requests.{IsUnwaited, traced-more}
 use Rattle.tl_coherence.proofs.queues.Tokens.{set-same, set-other, set-part}
 
 -- the manager's end after this beat
 abbrev pub end_after : {w : ℕ} → Config → ℕ → ℕ → MessageA w → End w → End w
 end_after config c k m e =
-    taken (link_of c) (beat.A (a_beat_of m k)) (reaction config (link_of c) (beat.A (a_beat_of m k)) e) e
+    taken (link_of c) (Beat.A (a_beat_of m k)) (reaction config (link_of c) (Beat.A (a_beat_of m k)) e) e
 
 -- where this is done
 abbrev pub end_with : {w : ℕ} → ℕ → ℕ → MessageA w → Reaction w → End w → End w
-end_with c k m d e = taken (link_of c) (beat.A (a_beat_of m k)) d e
+end_with c k m d e = taken (link_of c) (Beat.A (a_beat_of m k)) d e
 
 pub kept-coming : {w : ℕ} (config : Config) (c k : ℕ) (m : MessageA w) (e : End w) → IsComing config c k m e
     → IsKept config (end_after config c k m e)
 kept-coming {w} config c k m e is =
     subst (λ (p : Reception w × End w). IsKept config p.1)
-    (offered-taken config (link_of c) channel.A (beat.A (a_beat_of m k)) e is.passes)
-    (kept-offered config (link_of c) channel.A (beat.A (a_beat_of m k)) e is.width is.typed is.kept)
+    (offered-taken config (link_of c) Channel.A (Beat.A (a_beat_of m k)) e is.passes)
+    (kept-offered config (link_of c) Channel.A (Beat.A (a_beat_of m k)) e is.width is.typed is.kept)
 
 -- other blocks of the memory stay
 pub memory-coming : {w : ℕ} (config : Config) (c k i : ℕ) (m : MessageA w) (e : End w) → IsComing config c k m e
     → (i ≡ block_at m.address → ⊥)
     → bytes_from (end_after config c k m e).memory (64 * i) 64 ≡ bytes_from e.memory (64 * i) 64
 memory-coming {w} config c k i m e is other = cc (block-same (end_after config c k m e).memory e.memory i (λ x f. sym
-    (ap (λ (p : Reception w × End w). p.1.memory x) (offered-taken config (link_of c) channel.A (beat.A (a_beat_of m k))
-    e is.passes)) ∙ memory-elsewhere config (link_of c) channel.A (beat.A (a_beat_of m k)) e x is.width is.typed is.kept
+    (ap (λ (p : Reception w × End w). p.1.memory x) (offered-taken config (link_of c) Channel.A (Beat.A (a_beat_of m k))
+    e is.passes)) ∙ memory-elsewhere config (link_of c) Channel.A (Beat.A (a_beat_of m k)) e x is.width is.typed is.kept
     (ne_eqb (block_at m.address) (block_at x) (λ g. other (sym (g ∙ f))))))
 
 -- ---- a beat that isn't the last
@@ -63,10 +59,10 @@ pub at_manager-more : {w : ℕ} (caching : ℕ → Bool) (config : Config) (mail
     → IsAtManager config mail request s (end_after config c k m e)
 unfolding with_handed
 at_manager-more {w} caching config mail request s c k m e inv is more unwaited known =
-    let part : ends (beat.A (a_beat_of m k)) (on_link c e.trace) ≡ false =
+    let part : ends (Beat.A (a_beat_of m k)) (on_link c e.trace) ≡ false =
     ends-coming config c k m e is ∙ not_last k (beats_of (A m)) more in
-    let done : reaction config (link_of c) (beat.A (a_beat_of m k)) e ≡ nothing e.memory =
-    reaction-part config (link_of c) (beat.A (a_beat_of m k)) e part in
+    let done : reaction config (link_of c) (Beat.A (a_beat_of m k)) e ≡ nothing e.memory =
+    reaction-part config (link_of c) (Beat.A (a_beat_of m k)) e part in
     let kept : IsKept config (end_with c k m (nothing e.memory) e) =
     subst (λ (d : Reaction w). IsKept config (end_with c k m d e)) done (kept-coming config c k m e is) in
     subst (λ (d : Reaction w). IsAtManager config mail request s (end_with c k m d e)) (sym done)
@@ -80,7 +76,7 @@ pub reaction-probing : {w : ℕ} (config : Config) (c k n : ℕ) (j : Cap) (m : 
     → IsComing config c k m e → beats_of (A m) ≡ suc k
     → block_at m.address ≡ n → cap_probed m.opcode m.param ≡ Some j
     → is_nobody (probed config (service_for c m e.trace) j (with_beat c m k e.trace)) ≡ false
-    → reaction config (link_of c) (beat.A (a_beat_of m k)) e ≡ record {
+    → reaction config (link_of c) (Beat.A (a_beat_of m k)) e ≡ record {
       handed =
           probes n j (probed config (service_for c m e.trace) j (with_beat c m k e.trace));
       memory = e.memory;
@@ -136,7 +132,7 @@ pub at_manager-answered : {w : ℕ} (caching : ℕ → Bool) (config : Config) (
     → MessageA w) (c k n : ℕ) (m : MessageA w) (s u : State (List ℕ)) (e : End w)
     → IsInvariant caching u → ((i : ℕ) → u.block i ≡ set n (performed_block (performs m) (s.block n)) s.block i)
     → IsAnswering config c k n m s e → illegal_message_at (level_of config c) (A m) ≡ None
-    → reaction config (link_of c) (beat.A (a_beat_of m k)) e ≡ performed config (service_for c m e.trace)
+    → reaction config (link_of c) (Beat.A (a_beat_of m k)) e ≡ performed config (service_for c m e.trace)
     (with_beat c m k e.trace) e.memory
     → IsAtManager config mail request s e → IsAtManager config mail request u (end_after config c k m e)
 at_manager-answered {w} caching config mail request c k n m s u e inv blocks is lawful done known =
@@ -185,7 +181,7 @@ pub at_manager-granted : {w : ℕ} (caching : ℕ → Bool) (config : Config) (m
     → u.block i ≡ set n (granted_at_once c (least_untaken (trackers_of (services e.trace))) b j (s.block n)) s.block
     i)
     → IsGranting config c k n j m s e
-    → reaction config (link_of c) (beat.A (a_beat_of m k)) e ≡ performed config (service_for c m e.trace)
+    → reaction config (link_of c) (Beat.A (a_beat_of m k)) e ≡ performed config (service_for c m e.trace)
     (with_beat c m k e.trace) e.memory
     → IsAtManager config mail request s e → IsAtManager config mail (set n m request) u (end_after config c k m e)
 at_manager-granted {w} caching config mail request c k n b j m s u e inv blocks is done known =

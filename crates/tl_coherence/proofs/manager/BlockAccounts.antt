@@ -1,30 +1,22 @@
 -- What one block's service says of the links of its clients.
-use Rattle.tl_coherence.proofs.manager.Imports.{MessageA, a_beat_of, Config, ProbeOf, Cap, Trace, on_link}
-use Rattle.tl_coherence.proofs.manager.Imports.{pending, block_at, request_of, swapped}
-use Rattle.tl_coherence.proofs.manager.Imports.{recorded, IsKept, services, service_of_block, End}
-use Rattle.tl_coherence.proofs.manager.Imports.{ClientBlock, View, Own, Other, Granting, Acknowledging, GrantedOther}
-use Rattle.tl_coherence.proofs.manager.Imports.{is_unprobed, ok, Service, Free, Waits, GrantSent, GrantTaken, State}
-use Rattle.tl_coherence.proofs.manager.Imports.{view}
-use Rattle.tl_coherence.proofs.manager.Imports.{is_granting, is_acknowledging, IsInvariant}
-use Rattle.tl_coherence.proofs.manager.Imports.{ManagerRelation, is_own, client_in, service_with}
-use Rattle.tl_coherence.proofs.manager.Imports.{IsFor}
-use Rattle.std.proofs.Common.{◌≡◌, ℕ, ◌==◌, Bool, true, false, not, ◌&&◌, ◌||◌, List, [], ◌∷◌, Some, None, refl}
-use Rattle.std.proofs.Common.{sym, ◌∙◌, ap, inl, inr}
-use Rattle.std.specs.Prelude.{if◌then◌else◌}
-use Rattle.std.proofs.Math.Bool.{or-true}
-use Rattle.std.proofs.lemmas.Bool.{cases_eq, ne_eqb}
-use Rattle.tl_manager.specs.code.Kept.{AreApart, blocks_of}
+use Rattle.tl_coherence.proofs.manager.Imports.{MessageA, a_beat_of, Config, ProbeOf, Cap, Trace, on_link, pending}
+use Rattle.tl_coherence.proofs.manager.Imports.{block_at, request_of, swapped, recorded, IsKept, services}
+use Rattle.tl_coherence.proofs.manager.Imports.{service_of_block, End, ClientBlock, View, Own, Other, Granting}
+use Rattle.tl_coherence.proofs.manager.Imports.{Acknowledging, GrantedOther, is_unprobed, ok, Service, Free, Waits}
+use Rattle.tl_coherence.proofs.manager.Imports.{GrantSent, GrantTaken, State, view, is_granting, is_acknowledging}
+use Rattle.tl_coherence.proofs.manager.Imports.{IsInvariant, ManagerRelation, is_own, client_in, service_with, IsFor}
+use Rattle.std.proofs.Common.{◌≡◌, ℕ, ◌==◌, Bool, true, false, not, ◌&&◌, ◌||◌, List, [], ◌∷◌, Some, None, refl, sym}
+use Rattle.std.proofs.Common.{◌∙◌, ap, inl, inr}
+use Rattle.std.{specs.Prelude.if◌then◌else◌, proofs.Math.Bool.or-true, proofs.lemmas.Bool.cases_eq}
+use Rattle.std.{proofs.lemmas.Bool.ne_eqb}
+use Rattle.tl_manager.{specs.code.Kept.AreApart, specs.code.Kept.blocks_of, proofs.services.Serving.some_is}
+use Rattle.tl_manager.{proofs.services.Serving.none_of_block, proofs.pending.Settled.all-settled}
 use Rattle.tl_manager.specs.laws.Pending as waits
-use Rattle.tl_manager.specs.laws.Pending.{is_any, is_acquiring, is_granted_to, is_awaited}
-use Rattle.tl_manager.specs.laws.Pending.{IsProbed}
+use Rattle.tl_manager.specs.laws.Pending.{is_any, is_acquiring, is_granted_to, is_awaited, IsProbed}
 use Rattle.tl_manager.specs.statement.Service as manager
-use Rattle.tl_manager.proofs.services.Serving.{some_is, none_of_block}
-use Rattle.tl_manager.proofs.pending.Settled.{all-settled}
 use Rattle.tl_coherence.specs.protocol.Invariant.{IsAwaited}
-use Rattle.tl_coherence.proofs.queues.Facts.{is_other}
-use Rattle.tl_coherence.proofs.queues.Phases.{each_phase, of_phase}
-use Rattle.tl_coherence.proofs.queues.Tokens.{same_number}
-use Rattle.tl_coherence.proofs.protocol.BothParts.{not-other}
+use Rattle.tl_coherence.proofs.{queues.Facts.is_other, queues.Phases.each_phase, queues.Phases.of_phase}
+use Rattle.tl_coherence.proofs.{queues.Tokens.same_number, protocol.BothParts.not-other}
 
 -- ---- services that pass a test
 

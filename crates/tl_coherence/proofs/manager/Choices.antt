@@ -4,16 +4,12 @@ use Rattle.tl_coherence.proofs.manager.Imports.{Config, Cap, is_nobody, some_bel
 use Rattle.tl_coherence.proofs.manager.Imports.{Acquires, InService, view, is_wanting, is_caching}
 use Rattle.std.proofs.Common.{◌≡◌, ℕ, zero, suc, ◌<◌, ◌≤◌, Bool, true, false, not, ◌||◌, List, [], ◌∷◌, length, refl}
 use Rattle.std.proofs.Common.{sym, ◌∙◌, ap, arith}
-use Rattle.std.specs.Prelude.{if◌then◌else◌}
-use Rattle.std.proofs.lemmas.Bool.{lt-ltb}
-use Rattle.std.proofs.lemmas.Option.{slice_get_past}
+use Rattle.std.{specs.Prelude.if◌then◌else◌, proofs.lemmas.Bool.lt-ltb, proofs.lemmas.Option.slice_get_past}
 use Rattle.tl_rules.specs.statement.Legality.{is_one_of}
 use Rattle.tl_manager.specs.statement.Holders.{clients_where}
 use Rattle.tl_manager.proofs.words_of_clients.Clients.{among-where, nobody-is, nobody-where, where-same}
 use Rattle.tl_coherence.specs.protocol.Invariant.{IsOwnSource}
-use Rattle.tl_coherence.proofs.queues.Facts.{own_wants}
-use Rattle.tl_coherence.proofs.protocol.RequestsKept.{some-none}
-use Rattle.tl_coherence.proofs.queues.Tokens.{same_number}
+use Rattle.tl_coherence.proofs.{queues.Facts.own_wants, protocol.RequestsKept.some-none, queues.Tokens.same_number}
 use Rattle.tl_coherence.proofs.protocol.BothParts.{acquires_of-is, serves_of-is, not-calm}
 
 -- ---- clients that pass a test

@@ -1,20 +1,13 @@
 -- A Grant of a block to a client whose request asks for it: what is pending on the link after it.
-use Rattle.tl_coherence.proofs.manager.Imports.{IsWidth, D, MessageD, unfinished}
-use Rattle.tl_coherence.proofs.manager.Imports.{beats-positive, Trace, on_link}
-use Rattle.tl_coherence.proofs.manager.Imports.{capped, held, is_grant}
-use Rattle.tl_coherence.proofs.manager.Imports.{pending, request_of, held-sent_d, recorded}
-use Rattle.tl_coherence.proofs.manager.Imports.{after_sent, own_link, other_link}
-use Rattle.tl_coherence.proofs.manager.Imports.{ClientBlock}
-use Rattle.tl_coherence.proofs.manager.Imports.{Block}
-use Rattle.tl_coherence.proofs.manager.Imports.{set}
-use Rattle.std.proofs.Common.{◌≡◌, ℕ, ◌==◌, Bool, true, false, ◌&&◌, [], Some, None, refl, sym}
-use Rattle.std.proofs.Common.{◌∙◌, ap, inl, inr, subst}
+use Rattle.tl_coherence.proofs.manager.Imports.{IsWidth, D, MessageD, unfinished, beats-positive, Trace, on_link}
+use Rattle.tl_coherence.proofs.manager.Imports.{capped, held, is_grant, pending, request_of, held-sent_d, recorded}
+use Rattle.tl_coherence.proofs.manager.Imports.{after_sent, own_link, other_link, ClientBlock, Block, set, Channel}
+use Rattle.std.proofs.Common.{◌≡◌, ℕ, ◌==◌, Bool, true, false, ◌&&◌, [], Some, None, refl, sym, ◌∙◌, ap, inl, inr}
+use Rattle.std.proofs.Common.{subst}
 use Rattle.std.specs.Prelude.{if◌then◌else◌, unwrap_or}
 use Rattle.std.proofs.lemmas.Bool.{cases_eq, eqb-true, ne_eqb}
-use Rattle.tl_beat.specs.declared.channel.Channel.TheVariants as channel
-use Rattle.tl_params.specs.declared.key.Key.TheVariants as key
-use Rattle.tl_rules.specs.statement.History.{asks_for}
-use Rattle.tl_rules.proofs.Handed.{after_whole}
+use Rattle.tl_params.specs.declared.key.Key.{Key}
+use Rattle.tl_rules.{specs.statement.History.asks_for, proofs.Handed.after_whole}
 use Rattle.tl_manager.proofs.pending.Replies.{pending-reply}
 use Rattle.tl_coherence.proofs.queues.Tokens.{same_number, set-same, set-other}
 
@@ -22,7 +15,7 @@ use Rattle.tl_coherence.proofs.queues.Tokens.{same_number, set-same, set-other}
 
 pub record IsGiven {w : ℕ} (q n tracker : ℕ) (m : MessageD w) (u : Trace w) : Type 0 where
   pub width : IsWidth w
-  pub whole : unfinished channel.D (on_link q u) ≡ []
+  pub whole : unfinished Channel.D (on_link q u) ≡ []
   pub grants : is_grant m.opcode ≡ true
   pub sink : m.sink ≡ tracker
   pub asks : (i : ℕ) → asks_for i (request_of m.source (on_link q u)) ≡ (n == i)
@@ -33,41 +26,41 @@ grants_it : {w : ℕ} (q n tracker : ℕ) (m : MessageD w) (u : Trace w) → IsG
 grants_it q n tracker m u is d i e = rw (← eqb-true q d e, is.grants) (is.asks i)
 
 pub given-acquires : {w : ℕ} (q n tracker : ℕ) (m : MessageD w) (u : Trace w) → IsGiven q n tracker m u → (d i : ℕ)
-    → pending (key.AcquireOf i) (on_link d (after_sent (record { 0 = q }) (D m) u))
-    ≡ (if (q == d) && (n == i) then false else pending (key.AcquireOf i) (on_link d u))
-given-acquires {w} q n tracker m u is d i = pending-reply (key.AcquireOf i) (record { 0 = q }) m u d is.width
+    → pending (Key.AcquireOf i) (on_link d (after_sent (record { 0 = q }) (D m) u))
+    ≡ (if (q == d) && (n == i) then false else pending (Key.AcquireOf i) (on_link d u))
+given-acquires {w} q n tracker m u is d i = pending-reply (Key.AcquireOf i) (record { 0 = q }) m u d is.width
     is.whole ∙ go (q == d) refl
   where
     go : (b : Bool) → (q == d) ≡ b
         → (if b then after_whole false (is_grant m.opcode && asks_for i (request_of m.source (on_link d u)))
-        (pending (key.AcquireOf i) (on_link d u)) else pending (key.AcquireOf i) (on_link d u))
-        ≡ (if b && (n == i) then false else pending (key.AcquireOf i) (on_link d u))
+        (pending (Key.AcquireOf i) (on_link d u)) else pending (Key.AcquireOf i) (on_link d u))
+        ≡ (if b && (n == i) then false else pending (Key.AcquireOf i) (on_link d u))
     go true e = cc (grants_it q n tracker m u is d i e)
     go false e = refl
 
 pub given-acks : {w : ℕ} (q n tracker : ℕ) (m : MessageD w) (u : Trace w) → IsGiven q n tracker m u → (d i : ℕ)
-    → pending (key.GrantAckOf i) (on_link d (after_sent (record { 0 = q }) (D m) u))
-    ≡ (if (q == d) && (n == i) then true else pending (key.GrantAckOf i) (on_link d u))
-given-acks {w} q n tracker m u is d i = pending-reply (key.GrantAckOf i) (record { 0 = q }) m u d is.width is.whole ∙ go
+    → pending (Key.GrantAckOf i) (on_link d (after_sent (record { 0 = q }) (D m) u))
+    ≡ (if (q == d) && (n == i) then true else pending (Key.GrantAckOf i) (on_link d u))
+given-acks {w} q n tracker m u is d i = pending-reply (Key.GrantAckOf i) (record { 0 = q }) m u d is.width is.whole ∙ go
     (q == d) refl
   where
     go : (b : Bool) → (q == d) ≡ b
         → (if b then after_whole (is_grant m.opcode && asks_for i (request_of m.source (on_link d u))) false
-        (pending (key.GrantAckOf i) (on_link d u)) else pending (key.GrantAckOf i) (on_link d u))
-        ≡ (if b && (n == i) then true else pending (key.GrantAckOf i) (on_link d u))
+        (pending (Key.GrantAckOf i) (on_link d u)) else pending (Key.GrantAckOf i) (on_link d u))
+        ≡ (if b && (n == i) then true else pending (Key.GrantAckOf i) (on_link d u))
     go true e = cc (grants_it q n tracker m u is d i e)
     go false e = refl
 
 pub given-sinks : {w : ℕ} (q n tracker : ℕ) (m : MessageD w) (u : Trace w) → IsGiven q n tracker m u → (d i : ℕ)
-    → pending (key.GrantSink i) (on_link d (after_sent (record { 0 = q }) (D m) u))
-    ≡ (if (q == d) && (tracker == i) then true else pending (key.GrantSink i) (on_link d u))
-given-sinks {w} q n tracker m u is d i = pending-reply (key.GrantSink i) (record { 0 = q }) m u d is.width is.whole ∙ rw
+    → pending (Key.GrantSink i) (on_link d (after_sent (record { 0 = q }) (D m) u))
+    ≡ (if (q == d) && (tracker == i) then true else pending (Key.GrantSink i) (on_link d u))
+given-sinks {w} q n tracker m u is d i = pending-reply (Key.GrantSink i) (record { 0 = q }) m u d is.width is.whole ∙ rw
     (is.grants, is.sink) (go (q == d))
   where
     go : (b : Bool)
-        → (if b then after_whole (tracker == i) false (pending (key.GrantSink i) (on_link d u)) else pending
-        (key.GrantSink i) (on_link d u))
-        ≡ (if b && (tracker == i) then true else pending (key.GrantSink i) (on_link d u))
+        → (if b then after_whole (tracker == i) false (pending (Key.GrantSink i) (on_link d u)) else pending
+        (Key.GrantSink i) (on_link d u))
+        ≡ (if b && (tracker == i) then true else pending (Key.GrantSink i) (on_link d u))
     go true = refl
     go false = refl
 
@@ -87,7 +80,7 @@ given-records {w} q n tracker m u is d i = go (q == d) refl
     go true e = cc (
       own_link d (record { 0 = q }) (D m) u e,
       held-sent_d i m (on_link d u)
-          (subst (λ (j : ℕ). unfinished channel.D (on_link j u) ≡ []) (eqb-true q d e) is.whole)
+          (subst (λ (j : ℕ). unfinished Channel.D (on_link j u) ≡ []) (eqb-true q d e) is.whole)
           (beats-positive (D m) is.width),
       grants_it q n tracker m u is d i e,
       said (n == i),

@@ -4,25 +4,20 @@ use Rattle.tl_coherence.proofs.manager.Imports.{held, pending, probe_of, request
 use Rattle.tl_coherence.proofs.manager.Imports.{IsAccounted, services, service_of_block, own_beat, other_beat}
 use Rattle.tl_coherence.proofs.manager.Imports.{beat-keeps, AreNamed, is_busy, ManagerRelation, is_own, client_in}
 use Rattle.tl_coherence.proofs.manager.Imports.{service_with, Acknowledging, GrantedOther, is_unprobed, Service, Free}
-use Rattle.tl_coherence.proofs.manager.Imports.{Waits, GrantTaken, Block, State, SourceState}
-use Rattle.tl_coherence.proofs.manager.Imports.{Acquires, view, is_granting}
-use Rattle.tl_coherence.proofs.manager.Imports.{is_acknowledging, ServedSourceRelation, is_served}
-use Rattle.tl_coherence.proofs.manager.Imports.{is_granted, cap_waited, Packet, set}
+use Rattle.tl_coherence.proofs.manager.Imports.{Waits, GrantTaken, Block, State, SourceState, Acquires, view}
+use Rattle.tl_coherence.proofs.manager.Imports.{is_granting, is_acknowledging, ServedSourceRelation, is_served}
+use Rattle.tl_coherence.proofs.manager.Imports.{is_granted, cap_waited, Packet, set, Beat, Channel}
 use Rattle.std.proofs.Common.{◌≡◌, ℕ, ◌==◌, Bool, true, false, not, ◌&&◌, ◌||◌, List, ◌∷◌, Option, Some, None, refl}
 use Rattle.std.proofs.Common.{sym, ◌∙◌, ap, inl, inr}
-use Rattle.std.specs.Prelude.{if◌then◌else◌}
-use Rattle.std.proofs.lemmas.Bool.{cases_eq, ne_eqb}
-use Rattle.std.proofs.lemmas.Option.{same_Some}
-use Rattle.tl_beat.specs.declared.beat.Beat.TheVariants as beat
-use Rattle.tl_beat.specs.declared.channel.Channel.TheVariants as channel
-use Rattle.tl_params.specs.declared.key.Key.TheVariants as key
-use Rattle.tl_manager.specs.code.Kept.{AreApart, blocks_of}
-use Rattle.tl_manager.specs.laws.Pending.{is_granted_to}
+use Rattle.std.{specs.Prelude.if◌then◌else◌, proofs.lemmas.Bool.cases_eq, proofs.lemmas.Bool.ne_eqb}
+use Rattle.std.{proofs.lemmas.Option.same_Some}
+use Rattle.tl_params.specs.declared.key.Key.{Key}
+use Rattle.tl_manager.{specs.code.Kept.AreApart, specs.code.Kept.blocks_of, specs.laws.Pending.is_granted_to}
+use Rattle.tl_manager.{specs.statement.Service.is_ended_by, proofs.services.Serving.if_passes}
+use Rattle.tl_manager.{proofs.services.Serving.serving-filter}
 use Rattle.tl_manager.specs.statement.Service as manager
-use Rattle.tl_manager.specs.statement.Service.{is_ended_by}
 use Rattle.tl_manager.proofs.pending.Acked.{services-e, granted-left, accounted-e, burst-e, probe_of-e, request_of-e}
 use Rattle.tl_manager.proofs.pending.LinkHistories.{pending-closed, whole-e}
-use Rattle.tl_manager.proofs.services.Serving.{if_passes, serving-filter}
 use Rattle.tl_coherence.specs.protocol.Protocol.{grant_ack_taken, freed_block}
 use Rattle.tl_coherence.proofs.manager.ManagedEndings.{tracker-of, tracker-alone}
 use Rattle.tl_coherence.proofs.queues.Tokens.{same_number, set-same, set-other, set-part}
@@ -31,20 +26,20 @@ use Rattle.tl_coherence.proofs.manager.QuiescentManager.{part_none}
 -- ---- a beat of channel E
 
 abbrev pub acked : {w : ℕ} → ℕ → BeatE → Trace w → Trace w
-acked c x t = (record { 0 = c }, beat.E x) ∷ t
+acked c x t = (record { 0 = c }, Beat.E x) ∷ t
 
 sinks-e : {w : ℕ} (c : ℕ) (x : BeatE) (t : Trace w) (d i : ℕ)
-    → pending (key.GrantSink i) (on_link d (acked c x t)) ≡ (if (c == d) && (x.sink == i) then false else pending
-    (key.GrantSink i) (on_link d t))
+    → pending (Key.GrantSink i) (on_link d (acked c x t)) ≡ (if (c == d) && (x.sink == i) then false else pending
+    (Key.GrantSink i) (on_link d t))
 sinks-e {w} c x t d i = go (c == d) refl
   where
     go : (b : Bool) → (c == d) ≡ b
-        → pending (key.GrantSink i) (on_link d (acked c x t)) ≡ (if b && (x.sink == i) then false else pending
-        (key.GrantSink i) (on_link d t))
-    go true e = ap (pending (key.GrantSink i)) (own_beat d (record { 0 = c }) (beat.E x) t e) ∙ pending-closed
-        (key.GrantSink i) (beat.E x) (on_link d t) refl
+        → pending (Key.GrantSink i) (on_link d (acked c x t)) ≡ (if b && (x.sink == i) then false else pending
+        (Key.GrantSink i) (on_link d t))
+    go true e = ap (pending (Key.GrantSink i)) (own_beat d (record { 0 = c }) (Beat.E x) t e) ∙ pending-closed
+        (Key.GrantSink i) (Beat.E x) (on_link d t) refl
         ∙ rw ((whole-e {w = w} x (on_link d t)).1) refl
-    go false e = ap (pending (key.GrantSink i)) (other_beat d (record { 0 = c }) (beat.E x) t e)
+    go false e = ap (pending (Key.GrantSink i)) (other_beat d (record { 0 = c }) (Beat.E x) t e)
 
 -- ---- the GrantAck of a block
 
@@ -55,7 +50,7 @@ pub record IsAcked {w : ℕ} {X : Type 0} (c n : ℕ) (x : BeatE) (request : ℕ
   pub acquires : is_acquire (request n).opcode ≡ true
   pub named : AreNamed s
   pub apart : AreApart (blocks_of (services t))
-  pub pends : pending (key.GrantSink x.sink) (on_link c t) ≡ true
+  pub pends : pending (Key.GrantSink x.sink) (on_link c t) ≡ true
   pub accounted : IsAccounted t
 
 not_owned : (b : Bool) → is_own (if b then Acknowledging else GrantedOther) ≡ false
@@ -84,7 +79,7 @@ serving-acked {w} c n x request s t is known i = passed ∙ elim (cases_eq i n) 
 ]
   where
     keeps : manager.Service w → Bool
-    keeps v = not (is_ended_by (record { 0 = c }, beat.E x) v)
+    keeps v = not (is_ended_by (record { 0 = c }, Beat.E x) v)
 
     passed : service_of_block i (services (acked c x t)) ≡ if_passes keeps (service_of_block i (services t))
     passed = ap (service_of_block i) (services-e (record { 0 = c }) x t) ∙ serving-filter i keeps (services t) is.apart
@@ -112,7 +107,7 @@ serving-acked {w} c n x request s t is known i = passed ∙ elim (cases_eq i n) 
         (request i)
     kept other None e = refl
     kept other (Some r) e =
-        stays (is_ended_by (record { 0 = c }, beat.E x)
+        stays (is_ended_by (record { 0 = c }, Beat.E x)
         (record { tracker = (s.block i).tracker; link = record { 0 = r }; request = request i })) _
         (rw (differ r other e) (never (r == c) (is_acquire (request i).opcode)))
 
@@ -122,15 +117,15 @@ pub managed-acked : {w : ℕ} {X : Type 0} (request : ℕ → MessageA w) (c n :
     (s : State X) (t : Trace w) → IsAcked c n x request s t → ManagerRelation request s t
     → ManagerRelation request (grant_ack_taken c n rest s) (acked c x t)
 managed-acked {w} {X} request c n rest x s t is known = record {
-  recorded_is = λ d i. beat-keeps (held i) d (record { 0 = c }) (beat.E x) t (λ h. held_unsaid i (beat.E x) h refl)
+  recorded_is = λ d i. beat-keeps (held i) d (record { 0 = c }) (Beat.E x) t (λ h. held_unsaid i (Beat.E x) h refl)
       ∙ known.recorded_is d i
       ∙ sym (set-part (λ (b : Block X). (b.pair d).recorded) n new s.block refl i);
-  probes = λ d i. beat-keeps (pending (key.ProbeOf i)) d (record { 0 = c }) (beat.E x) t
-      (λ h. pending-quiet (key.ProbeOf i) (beat.E x) h refl refl)
+  probes = λ d i. beat-keeps (pending (Key.ProbeOf i)) d (record { 0 = c }) (Beat.E x) t
+      (λ h. pending-quiet (Key.ProbeOf i) (Beat.E x) h refl refl)
       ∙ known.probes d i ∙ sym (set-part (λ (b : Block X). not (is_unprobed (b.pair d).probing)) n new s.block refl i);
   acquires = λ d i.
-      beat-keeps (pending (key.AcquireOf i)) d (record { 0 = c }) (beat.E x) t
-      (λ h. pending-quiet (key.AcquireOf i) (beat.E x) h refl refl) ∙ known.acquires d i
+      beat-keeps (pending (Key.AcquireOf i)) d (record { 0 = c }) (Beat.E x) t
+      (λ h. pending-quiet (Key.AcquireOf i) (Beat.E x) h refl refl) ∙ known.acquires d i
       ∙ sym (set-part (λ (b : Block X). is_own (view b.service d)) n new s.block
       (rw is.taken (sym (not_owned (d == c)))) i);
   grant_acks = λ d i. ((accounted-e (record { 0 = c }) x t is.pends is.apart is.accounted).blocks i).grants d ∙ ap
@@ -155,14 +150,14 @@ managed-acked {w} {X} request c n rest x s t is known = record {
         → service_of_block i (services u) ≡ o → is_granted_to d u o ≡ is_granted_to d t o
     as_before d i other None e f = refl
     as_before d i other (Some v) e f =
-        cc (granted-left (record { 0 = c }) x t v (stays (is_ended_by (record { 0 = c }, beat.E x) v) refl passes))
+        cc (granted-left (record { 0 = c }) x t v (stays (is_ended_by (record { 0 = c }, Beat.E x) v) refl passes))
       where
-        passes : if_passes (λ r. not (is_ended_by (record { 0 = c }, beat.E x) r)) (Some v) ≡ Some v
-        passes = ap (if_passes (λ (r : manager.Service w). not (is_ended_by (record { 0 = c }, beat.E x) r))) (sym e)
+        passes : if_passes (λ r. not (is_ended_by (record { 0 = c }, Beat.E x) r)) (Some v) ≡ Some v
+        passes = ap (if_passes (λ (r : manager.Service w). not (is_ended_by (record { 0 = c }, Beat.E x) r))) (sym e)
             ∙ sym (ap (service_of_block i) (services-e (record { 0 = c }) x t) ∙ serving-filter i _ (services t)
             is.apart) ∙ f
 
-        stays : (b : Bool) → is_ended_by (record { 0 = c }, beat.E x) v ≡ b → (if not b then Some v else None) ≡ Some v
+        stays : (b : Bool) → is_ended_by (record { 0 = c }, Beat.E x) v ≡ b → (if not b then Some v else None) ≡ Some v
             → b ≡ false
         stays true g h = absurd cc
         stays false g h = refl
@@ -182,11 +177,11 @@ pub are_served-acked : {w : ℕ} {X : Type 0} (request : ℕ → MessageA w) (c 
     → ServedSourceRelation request (grant_ack_taken c n rest s) (acked c x t)
 are_served-acked {w} {X} request c n rest x s t is known = record {
   sources = λ d i.
-      beat-keeps (pending (key.RequestSource i)) d (record { 0 = c }) (beat.E x) t
-      (λ h. pending-quiet (key.RequestSource i) (beat.E x) h refl refl) ∙ known.sources d i
+      beat-keeps (pending (Key.RequestSource i)) d (record { 0 = c }) (Beat.E x) t
+      (λ h. pending-quiet (Key.RequestSource i) (Beat.E x) h refl refl) ∙ known.sources d i
       ∙ sym (rw (
         served_now d (s.uses d i),
-        beat-keeps (unfinished channel.A) d (record { 0 = c }) (beat.E x) t
+        beat-keeps (unfinished Channel.A) d (record { 0 = c }) (Beat.E x) t
             (burst-e x),
       ) refl);
   sinks = λ d i. sinks-e c x t d i ∙ sinks_now d i;
@@ -194,10 +189,10 @@ are_served-acked {w} {X} request c n rest x s t is known = record {
     | inl same ↦ rw (same, set-same n new s.block) tt
     | inr other ↦ rw (set-other n i new s.block other) (known.requests i)
   ];
-  asked = λ i p from own low e. beat-keeps (request_of from) p (record { 0 = c }) (beat.E x) t (request_of-e from x)
+  asked = λ i p from own low e. beat-keeps (request_of from) p (record { 0 = c }) (Beat.E x) t (request_of-e from x)
       ∙ asked_now i p from own low e;
   probes = λ d i e. cc (
-    beat-keeps (probe_of i) d (record { 0 = c }) (beat.E x) t (probe_of-e i x),
+    beat-keeps (probe_of i) d (record { 0 = c }) (Beat.E x) t (probe_of-e i x),
     known.probes d i
         (sym (set-part (λ (b : Block X). is_unprobed (b.pair d).probing) n new s.block refl i) ∙ e),
     set-part
@@ -236,7 +231,7 @@ are_served-acked {w} {X} request c n rest x s t is known = record {
       | inr other ↦ let differ : d ≡ c → ⊥ = λ e. other (sym e) in rw (ne_eqb c d other, ne_eqb d c differ) refl
     ]
 
-    sinks_now : (d i : ℕ) → (if (c == d) && (x.sink == i) then false else pending (key.GrantSink i) (on_link d t))
+    sinks_now : (d i : ℕ) → (if (c == d) && (x.sink == i) then false else pending (Key.GrantSink i) (on_link d t))
         ≡ is_granted d (set (s.block n).tracker None s.tracked i) z
     sinks_now d i = elim (cases_eq i (s.block n).tracker) [
       | inl same ↦ rw (
@@ -251,7 +246,7 @@ are_served-acked {w} {X} request c n rest x s t is known = record {
       | inr other ↦
           let differ : (s.block n).tracker ≡ i → ⊥ = λ e. other (sym e) in
           rw (set-other (s.block n).tracker i None s.tracked other, is.sink_is, ne_eqb (s.block n).tracker i differ)
-          (part_none (c == d) (pending (key.GrantSink i) (on_link d t)) ∙ known.sinks d i ∙ elsewhere d i other
+          (part_none (c == d) (pending (Key.GrantSink i) (on_link d t)) ∙ known.sinks d i ∙ elsewhere d i other
           (s.tracked i) refl)
     ]
 

@@ -4,25 +4,20 @@ use Rattle.tl_coherence.proofs.manager.Imports.{report_right, Trace, on_link, co
 use Rattle.tl_coherence.proofs.manager.Imports.{is_probe_ack, pending, probe_of, request_of, IsAccounted, services}
 use Rattle.tl_coherence.proofs.manager.Imports.{service_of_block, after_sent, reply-quiet, burst-reply, request-reply}
 use Rattle.tl_coherence.proofs.manager.Imports.{probe-reply, AreNamed, is_busy, ManagerRelation, is_own, is_unprobed}
-use Rattle.tl_coherence.proofs.manager.Imports.{after_report, Free, Waits, Block, State, SourceState}
-use Rattle.tl_coherence.proofs.manager.Imports.{Replied, Acquires, view, is_granting, is_acknowledging}
-use Rattle.tl_coherence.proofs.manager.Imports.{ServedSourceRelation, is_served, is_granted, cap_waited, probe_beat}
-use Rattle.tl_coherence.proofs.manager.Imports.{Packet, set}
+use Rattle.tl_coherence.proofs.manager.Imports.{after_report, Free, Waits, Block, State, SourceState, Replied, Acquires}
+use Rattle.tl_coherence.proofs.manager.Imports.{view, is_granting, is_acknowledging, ServedSourceRelation, is_served}
+use Rattle.tl_coherence.proofs.manager.Imports.{is_granted, cap_waited, probe_beat, Packet, set, Beat, Channel}
 use Rattle.std.proofs.Common.{◌≡◌, ℕ, ◌+◌, ◌==◌, Bool, true, false, ◌&&◌, ◌||◌, List, ◌∷◌, Option, Some, None, refl}
 use Rattle.std.proofs.Common.{sym, ◌∙◌, ap, inl, inr, arith}
 use Rattle.std.specs.Prelude.{if◌then◌else◌}
 use Rattle.std.proofs.lemmas.Bool.{cases_eq, eqb-true, ne_eqb, and_parts}
-use Rattle.tl_beat.specs.declared.beat.Beat.TheVariants as beat
-use Rattle.tl_beat.specs.declared.channel.Channel.TheVariants as channel
-use Rattle.tl_params.specs.declared.key.Key.TheVariants as key
+use Rattle.tl_params.specs.declared.key.Key.{Key}
 use Rattle.tl_manager.specs.laws.Pending.{one_if, count_where, is_asking}
 use Rattle.tl_manager.specs.statement.Service as manager
-use Rattle.tl_manager.specs.statement.Service.{is_access_answer}
+use Rattle.tl_manager.{specs.statement.Service.is_access_answer, proofs.words_of_clients.Counts.serving-without}
+use Rattle.tl_manager.{proofs.pending.Replied.IsReply, proofs.pending.Replied.source-reply}
 use Rattle.tl_manager.proofs.pending.Accesses.{answer_kind, services-answer, accounted-answer}
-use Rattle.tl_manager.proofs.words_of_clients.Counts.{serving-without}
-use Rattle.tl_manager.proofs.pending.Replied.{IsReply, source-reply}
-use Rattle.tl_coherence.specs.protocol.Protocol.{report_answers, ended_block}
-use Rattle.tl_coherence.specs.protocol.Packet.{set_at}
+use Rattle.tl_coherence.specs.{protocol.Protocol.report_answers, protocol.Protocol.ended_block, protocol.Packet.set_at}
 use Rattle.tl_coherence.proofs.manager.QuiescentManager.{quiet-c, IsLastOf, recorded-answer, pair-part}
 use Rattle.tl_coherence.proofs.manager.ManagedReports.{reported-records, reported-missing, reported-probing}
 use Rattle.tl_coherence.proofs.queues.Tokens.{same_number, set-same, set-other, set-part, set_at-same}
@@ -63,7 +58,7 @@ tracker-alone n i s named e =
 
 -- what is said before the answer is handed out
 abbrev pub taken : {w : ℕ} → ℕ → BeatC w → Trace w → Trace w
-taken c x t = (record { 0 = c }, beat.C x) ∷ t
+taken c x t = (record { 0 = c }, Beat.C x) ∷ t
 
 -- the service of the block
 abbrev pub service_for : {w : ℕ} {X : Type 0} → ℕ → ℕ → (ℕ → MessageA w) → State X → manager.Service w
@@ -103,14 +98,14 @@ pub managed-ended : {w : ℕ} {X : Type 0} (request : ℕ → MessageA w) (c q n
 managed-ended {w} {X} request c q n source k r f rest x m s t is known = record {
   recorded_is = λ d i. recorded-answer (record { 0 = q }) m u is.reply.width is.reply.whole other d i ∙ reported-records
       request c n r new x s t is.last (λ j. refl) known d i;
-  probes = λ d i. reply-quiet (key.ProbeOf i) (record { 0 = q }) m u d is.reply.width is.reply.whole (λ e. (refl, refl))
+  probes = λ d i. reply-quiet (Key.ProbeOf i) (record { 0 = q }) m u d is.reply.width is.reply.whole (λ e. (refl, refl))
       ∙ reported-missing request c n r new x s t is.last is.report (λ j. refl) known d i;
   acquires = λ d i.
-      reply-quiet (key.AcquireOf i) (record { 0 = q }) m u d is.reply.width is.reply.whole (λ e. (refl, rw other refl))
+      reply-quiet (Key.AcquireOf i) (record { 0 = q }) m u d is.reply.width is.reply.whole (λ e. (refl, rw other refl))
       ∙ (quiet-c (record { 0 = c }) x t).acquires d i ∙ known.acquires d i
       ∙ sym (set-part (λ (b : Block X). is_own (view b.service d)) n new s.block (rw is.waits refl) i);
   grant_acks = λ d i.
-      reply-quiet (key.GrantAckOf i) (record { 0 = q }) m u d is.reply.width is.reply.whole (λ e. (rw other refl, refl))
+      reply-quiet (Key.GrantAckOf i) (record { 0 = q }) m u d is.reply.width is.reply.whole (λ e. (rw other refl, refl))
       ∙ (quiet-c (record { 0 = c }) x t).grants d i ∙ known.grant_acks d i
       ∙ sym (set-part (λ (b : Block X). is_granting (view b.service d) || is_acknowledging (view b.service d)) n new
       s.block (rw is.waits refl) i);
@@ -136,9 +131,9 @@ managed-ended {w} {X} request c q n source k r f rest x m s t is known = record 
     other = answer_kind m.opcode is.answers
 
 -- a source that isn't pending has no unfinished request
-pub no-burst : {w : ℕ} (c q : ℕ) (t : Trace w) → IsAccounted t → pending (key.RequestSource q) (on_link c t) ≡ false
-    → comes_in_request q (unfinished channel.A (on_link c t)) ≡ false
-no-burst c q t ok free = go (comes_in_request q (unfinished channel.A (on_link c t)))
+pub no-burst : {w : ℕ} (c q : ℕ) (t : Trace w) → IsAccounted t → pending (Key.RequestSource q) (on_link c t) ≡ false
+    → comes_in_request q (unfinished Channel.A (on_link c t)) ≡ false
+no-burst c q t ok free = go (comes_in_request q (unfinished Channel.A (on_link c t)))
     (count_where (is_asking c q t) (services t)) (ok.sources c q ∙ ap one_if free)
   where
     go : (b : Bool) (k : ℕ) → one_if b + k ≡ 0 → b ≡ false
@@ -153,7 +148,7 @@ pub are_served-ended : {w : ℕ} {X : Type 0} (request : ℕ → MessageA w) (c 
     (after_sent (record { 0 = q }) (D m) (taken c x t))
 are_served-ended {w} {X} request c q n source k r f rest x m s t is known = record {
   sources = λ d i. sources_now d i ((q == d) && (source == i)) refl;
-  sinks = λ d i. reply-quiet (key.GrantSink i) (record { 0 = q }) m u d is.reply.width is.reply.whole
+  sinks = λ d i. reply-quiet (Key.GrantSink i) (record { 0 = q }) m u d is.reply.width is.reply.whole
       (λ e. (rw other refl, refl))
       ∙ (quiet-c (record { 0 = c }) x t).sinks d i ∙ known.sinks d i ∙ sym (sinks_now d i);
   requests = λ i. elim (cases_eq i n) [
@@ -185,19 +180,19 @@ are_served-ended {w} {X} request c q n source k r f rest x m s t is known = reco
     served_now d (Acquires j) = set-part (λ (b : Block X). is_own (view b.service d)) n new s.block (rw is.waits refl) j
     served_now d y = refl
 
-    source_now : (d i : ℕ) → pending (key.RequestSource i) (on_link d v) ≡ (if (q == d) && (source == i) then false else
-        pending (key.RequestSource i) (on_link d u))
+    source_now : (d i : ℕ) → pending (Key.RequestSource i) (on_link d v) ≡ (if (q == d) && (source == i) then false else
+        pending (Key.RequestSource i) (on_link d u))
     source_now d i = cc (source-reply n d i (service_for q n request s) m u is.reply, is.source_is)
 
     sources_now : (d i : ℕ) (b : Bool) → ((q == d) && (source == i)) ≡ b
-        → pending (key.RequestSource i) (on_link d v) ≡ (is_served d (set_at q source Replied s.uses d i)
-        z || comes_in_request i (unfinished channel.A (on_link d v)))
+        → pending (Key.RequestSource i) (on_link d v) ≡ (is_served d (set_at q source Replied s.uses d i)
+        z || comes_in_request i (unfinished Channel.A (on_link d v)))
     sources_now d i true e =
         let p = and_parts (q == d) (source == i) e in
         let client : q ≡ d = eqb-true q d p.0 in
         let mine : source ≡ i = eqb-true source i p.1 in
-        let free : pending (key.RequestSource i) (on_link d v) ≡ false = source_now d i ∙ rw e refl in
-        let none : comes_in_request i (unfinished channel.A (on_link d v)) ≡ false =
+        let free : pending (Key.RequestSource i) (on_link d v) ≡ false = source_now d i ∙ rw e refl in
+        let none : comes_in_request i (unfinished Channel.A (on_link d v)) ≡ false =
         no-burst d i v (accounted-answer n (service_for q n request s) m u is.reply is.answers is.access is.accounted)
         free in
         rw (free, none, ← client, ← mine, set_at-same q source Replied s.uses) refl

@@ -1,22 +1,19 @@
 -- What the manager knows after the last ProbeAck that an Acquire waited for, whose Grant is handed out.
-use Rattle.tl_coherence.proofs.manager.Imports.{BeatC, D, MessageA, MessageD, a_beat_of, unfinished}
-use Rattle.tl_coherence.proofs.manager.Imports.{Cap, Report, cap_right, report_right, Trace, on_link}
-use Rattle.tl_coherence.proofs.manager.Imports.{comes_in_request, block_at, capped, is_probe_ack}
-use Rattle.tl_coherence.proofs.manager.Imports.{pending, probe_of, request_of, swapped, recorded}
-use Rattle.tl_coherence.proofs.manager.Imports.{IsAccounted, service_of_block, after_sent}
-use Rattle.tl_coherence.proofs.manager.Imports.{reply-quiet, burst-reply, request-reply, probe-reply, AreNamed}
-use Rattle.tl_coherence.proofs.manager.Imports.{ManagerRelation, is_own, ClientBlock, Own, Other, Granting}
-use Rattle.tl_coherence.proofs.manager.Imports.{GrantedOther, is_unprobed, after_report, after_grant_sent, Waits}
-use Rattle.tl_coherence.proofs.manager.Imports.{GrantSent, Block, State, SourceState}
-use Rattle.tl_coherence.proofs.manager.Imports.{Acquires, view, is_granting, is_acknowledging, is_wanting}
+use Rattle.tl_coherence.proofs.manager.Imports.{BeatC, D, MessageA, MessageD, a_beat_of, unfinished, Cap, Report}
+use Rattle.tl_coherence.proofs.manager.Imports.{cap_right, report_right, Trace, on_link, comes_in_request, block_at}
+use Rattle.tl_coherence.proofs.manager.Imports.{capped, is_probe_ack, pending, probe_of, request_of, swapped, recorded}
+use Rattle.tl_coherence.proofs.manager.Imports.{IsAccounted, service_of_block, after_sent, reply-quiet, burst-reply}
+use Rattle.tl_coherence.proofs.manager.Imports.{request-reply, probe-reply, AreNamed, ManagerRelation, is_own}
+use Rattle.tl_coherence.proofs.manager.Imports.{ClientBlock, Own, Other, Granting, GrantedOther, is_unprobed}
+use Rattle.tl_coherence.proofs.manager.Imports.{after_report, after_grant_sent, Waits, GrantSent, Block, State}
+use Rattle.tl_coherence.proofs.manager.Imports.{SourceState, Acquires, view, is_granting, is_acknowledging, is_wanting}
 use Rattle.tl_coherence.proofs.manager.Imports.{report_grants, granted_block, reported_block, ServedSourceRelation}
-use Rattle.tl_coherence.proofs.manager.Imports.{is_served, is_granted, cap_waited, probe_beat, Packet, set}
+use Rattle.tl_coherence.proofs.manager.Imports.{is_served, is_granted, cap_waited, probe_beat, Packet, set, Channel}
 use Rattle.std.proofs.Common.{◌≡◌, ℕ, ◌==◌, Bool, true, false, not, ◌&&◌, ◌||◌, List, Option, Some, None, refl, sym}
 use Rattle.std.proofs.Common.{◌∙◌, ap, ◌⊎◌, inl, inr}
 use Rattle.std.specs.Prelude.{if◌then◌else◌}
 use Rattle.std.proofs.lemmas.Bool.{cases_eq, eqb-true, ne_eqb, and_parts}
-use Rattle.tl_beat.specs.declared.channel.Channel.TheVariants as channel
-use Rattle.tl_params.specs.declared.key.Key.TheVariants as key
+use Rattle.tl_params.specs.declared.key.Key.{Key}
 use Rattle.tl_manager.proofs.pending.Granted.{IsGrant, services-grant, accounted-grant}
 use Rattle.tl_manager.proofs.pending.Replied.{source-reply}
 use Rattle.tl_coherence.proofs.manager.QuiescentManager.{quiet-c, IsLastOf}
@@ -109,7 +106,7 @@ managed-conceded {w} {X} request c q n source k gift r dt rest x m s t is known 
   recorded_is = λ d i. given-records q n (s.block n).tracker m u given d i ∙ records_now d i ∙ sym
       (pair-over (λ p. p.recorded) q n gives new mid s.block (λ j. refl) d i);
   probes = λ d i.
-      reply-quiet (key.ProbeOf i) (record { 0 = q }) m u d given.width given.whole (λ e. (refl, refl))
+      reply-quiet (Key.ProbeOf i) (record { 0 = q }) m u d given.width given.whole (λ e. (refl, refl))
       ∙ reported-missing request c n r mid x s t is.last is.report (λ j. refl) known d i
       ∙ sym (pair-over (λ p. not (is_unprobed p.probing)) q n gives new mid s.block (λ j. refl) d i ∙ probing_same d i
       ((q == d) && (n == i)) refl);
@@ -160,7 +157,7 @@ managed-conceded {w} {X} request c q n source k gift r dt rest x m s t is known 
               (after_report r ((s.block n).pair c)) (s.block n).pair others,
         ) refl
 
-    acquires_now : (d i : ℕ) → (if (q == d) && (n == i) then false else pending (key.AcquireOf i) (on_link d u))
+    acquires_now : (d i : ℕ) → (if (q == d) && (n == i) then false else pending (Key.AcquireOf i) (on_link d u))
         ≡ is_own (view (set n new s.block i).service d)
     acquires_now d i = elim (cases_eq i n) [
       | inl same ↦ rw (
@@ -178,11 +175,11 @@ managed-conceded {w} {X} request c q n source k gift r dt rest x m s t is known 
       | inr other ↦
           let differ : n ≡ i → ⊥ = λ e. other (sym e) in
           rw (ne_eqb n i differ, set-other n i new s.block other)
-          (never_if (q == d) false (pending (key.AcquireOf i) (on_link d u)) ∙ (quiet-c (record { 0 = c }) x t).acquires
+          (never_if (q == d) false (pending (Key.AcquireOf i) (on_link d u)) ∙ (quiet-c (record { 0 = c }) x t).acquires
           d i ∙ known.acquires d i)
     ]
 
-    acks_now : (d i : ℕ) → (if (q == d) && (n == i) then true else pending (key.GrantAckOf i) (on_link d u))
+    acks_now : (d i : ℕ) → (if (q == d) && (n == i) then true else pending (Key.GrantAckOf i) (on_link d u))
         ≡ (is_granting (view (set n new s.block i).service d) || is_acknowledging
         (view (set n new s.block i).service d))
     acks_now d i = elim (cases_eq i n) [
@@ -202,7 +199,7 @@ managed-conceded {w} {X} request c q n source k gift r dt rest x m s t is known 
       | inr other ↦
           let differ : n ≡ i → ⊥ = λ e. other (sym e) in
           rw (ne_eqb n i differ, set-other n i new s.block other)
-          (never_if (q == d) true (pending (key.GrantAckOf i) (on_link d u)) ∙ (quiet-c (record { 0 = c }) x t).grants d
+          (never_if (q == d) true (pending (Key.GrantAckOf i) (on_link d u)) ∙ (quiet-c (record { 0 = c }) x t).grants d
           i ∙ known.grant_acks d i)
     ]
 
@@ -281,25 +278,25 @@ are_served-conceded {w} {X} request c q n source k gift r dt rest x m s t is kno
     ]
     served_now d i apart y e = refl
 
-    source_now : (d i : ℕ) → pending (key.RequestSource i) (on_link d v) ≡ (if (q == d) && (source == i) then false else
-        pending (key.RequestSource i) (on_link d u))
+    source_now : (d i : ℕ) → pending (Key.RequestSource i) (on_link d v) ≡ (if (q == d) && (source == i) then false else
+        pending (Key.RequestSource i) (on_link d u))
     source_now d i = cc (source-reply n d i (service_for q n request s) m u is.grant.reply, is.source_is)
 
     answered : is_served q (s.uses q source) z ≡ false
     answered = rw (is.used, set-same n new s.block) (never_own (q == q) dt gift)
 
     sources_now : (d i : ℕ) (b : Bool) → ((q == d) && (source == i)) ≡ b
-        → pending (key.RequestSource i) (on_link d v) ≡ (is_served d (s.uses d i) z || comes_in_request i
-        (unfinished channel.A (on_link d v)))
+        → pending (Key.RequestSource i) (on_link d v) ≡ (is_served d (s.uses d i) z || comes_in_request i
+        (unfinished Channel.A (on_link d v)))
     sources_now d i true e =
         let p = and_parts (q == d) (source == i) e in
         let client : q ≡ d = eqb-true q d p.0 in
         let mine : source ≡ i = eqb-true source i p.1 in
-        let free : pending (key.RequestSource i) (on_link d v) ≡ false = source_now d i ∙ rw e refl in
-        let none : comes_in_request i (unfinished channel.A (on_link d v)) ≡ false =
+        let free : pending (Key.RequestSource i) (on_link d v) ≡ false = source_now d i ∙ rw e refl in
+        let none : comes_in_request i (unfinished Channel.A (on_link d v)) ≡ false =
         no-burst d i v (accounted-grant n (service_for q n request s) m u is.grant is.accounted) free in
         let served : is_served d (s.uses d i) z ≡ false = rw (← client, ← mine) answered in
-        free ∙ sym (ap (λ b. b || comes_in_request i (unfinished channel.A (on_link d v))) served ∙ none)
+        free ∙ sym (ap (λ b. b || comes_in_request i (unfinished Channel.A (on_link d v))) served ∙ none)
     sources_now d i false e =
         source_now d i ∙ rw (
           e,
@@ -330,7 +327,7 @@ are_served-conceded {w} {X} request c q n source k gift r dt rest x m s t is kno
     granted_here = rw (set-same n new s.block) (granted_if (q == q) dt gift ∙ same_number q)
 
     sinks_now : (d i : ℕ) (b : Bool) → ((q == d) && ((s.block n).tracker == i)) ≡ b
-        → (if (q == d) && ((s.block n).tracker == i) then true else pending (key.GrantSink i) (on_link d u))
+        → (if (q == d) && ((s.block n).tracker == i) then true else pending (Key.GrantSink i) (on_link d u))
         ≡ is_granted d (s.tracked i) z
     sinks_now d i true e =
         let p = and_parts (q == d) ((s.block n).tracker == i) e in

@@ -5,12 +5,11 @@ use Rattle.tl_coherence.proofs.manager.Imports.{IsWidth, BeatC, D, MessageA, Mes
 use Rattle.tl_coherence.proofs.manager.Imports.{prune_right, report_right, Trace, on_link, ends, is_grant, is_probe_ack}
 use Rattle.tl_coherence.proofs.manager.Imports.{is_release_ack, pending, recorded, after_sent, reply-quiet}
 use Rattle.tl_coherence.proofs.manager.Imports.{ManagerRelation, ClientBlock, is_unprobed, after_report, Block, State}
-use Rattle.tl_coherence.proofs.manager.Imports.{reported_block, let_block, ServedSourceRelation, Packet, set}
+use Rattle.tl_coherence.proofs.manager.Imports.{reported_block, let_block, ServedSourceRelation, Packet, set, Beat}
+use Rattle.tl_coherence.proofs.manager.Imports.{Channel}
 use Rattle.std.proofs.Common.{◌≡◌, ℕ, ◌==◌, Bool, true, false, not, ◌&&◌, [], ◌∷◌, refl, sym, ◌∙◌, ap}
 use Rattle.std.specs.Prelude.{if◌then◌else◌, List}
-use Rattle.tl_beat.specs.declared.beat.Beat.TheVariants as beat
-use Rattle.tl_beat.specs.declared.channel.Channel.TheVariants as channel
-use Rattle.tl_params.specs.declared.key.Key.TheVariants as key
+use Rattle.tl_params.specs.declared.key.Key.{Key}
 use Rattle.tl_coherence.specs.protocol.PhaseSteps.{after_release_taken}
 use Rattle.tl_coherence.specs.protocol.Protocol.{report_taken, release_taken}
 use Rattle.tl_coherence.proofs.manager.QuiescentManager.{AreQuiet, quiet-then, quiet-c, IsLastOf, recorded-last}
@@ -25,18 +24,18 @@ pub nothing-changes : {X : Type 0} (s : State X) → AreStill s s
 nothing-changes s = record { services = λ n. refl; trackers = λ n. refl; uses = λ c source. refl; tracked = λ i. refl }
 
 pub managed-report_part : {w : ℕ} {X : Type 0} (request : ℕ → MessageA w) (c : ℕ) (x : BeatC w) (s : State X)
-    (t : Trace w) → ends (beat.C x) (on_link c t) ≡ false
-    → ManagerRelation request s t → ManagerRelation request s ((record { 0 = c }, beat.C x) ∷ t)
+    (t : Trace w) → ends (Beat.C x) (on_link c t) ≡ false
+    → ManagerRelation request s t → ManagerRelation request s ((record { 0 = c }, Beat.C x) ∷ t)
 managed-report_part request c x s t part known =
-    managed-still request s s t ((record { 0 = c }, beat.C x) ∷ t) (quiet-c (record { 0 = c }) x t) (nothing-changes s)
+    managed-still request s s t ((record { 0 = c }, Beat.C x) ∷ t) (quiet-c (record { 0 = c }) x t) (nothing-changes s)
     (λ d i. recorded-part c x t part d i ∙ known.recorded_is d i) (λ d i. missing-part c x t part d i ∙ known.probes d
     i) known
 
 pub are_served-report_part : {w : ℕ} {X : Type 0} (request : ℕ → MessageA w) (c : ℕ) (x : BeatC w) (s : State X)
     (t : Trace w)
-    → ServedSourceRelation request s t → ServedSourceRelation request s ((record { 0 = c }, beat.C x) ∷ t)
+    → ServedSourceRelation request s t → ServedSourceRelation request s ((record { 0 = c }, Beat.C x) ∷ t)
 are_served-report_part request c x s t known =
-    are_served-still request s s t ((record { 0 = c }, beat.C x) ∷ t) (quiet-c (record { 0 = c }) x t)
+    are_served-still request s s t ((record { 0 = c }, Beat.C x) ∷ t) (quiet-c (record { 0 = c }) x t)
     (nothing-changes s) (λ d i e. e) known
 
 -- ---- a ProbeAck, where others are missing
@@ -58,7 +57,7 @@ pub reported-records : {w : ℕ} {X : Type 0} (request : ℕ → MessageA w) (c 
     (x : BeatC w) (s : State X) (t : Trace w) → IsLastOf c n (report_right r) x t
     → ((d : ℕ) → new.pair d ≡ set c (after_report r ((s.block n).pair c)) (s.block n).pair d)
     → ManagerRelation request s t → (d i : ℕ)
-    → recorded d i ((record { 0 = c }, beat.C x) ∷ t) ≡ ((set n new s.block i).pair d).recorded
+    → recorded d i ((record { 0 = c }, Beat.C x) ∷ t) ≡ ((set n new s.block i).pair d).recorded
 reported-records request c n r new x s t is pairs known d i =
     recorded-last c n (report_right r) x t is d i ∙ same_or ((c == d) && (n == i)) (report_right r) _ _
     (known.recorded_is d i)
@@ -69,7 +68,7 @@ pub reported-missing : {w : ℕ} {X : Type 0} (request : ℕ → MessageA w) (c 
     → IsLastOf c n (report_right r) x t → is_probe_ack x.opcode ≡ true
     → ((d : ℕ) → new.pair d ≡ set c (after_report r ((s.block n).pair c)) (s.block n).pair d)
     → ManagerRelation request s t → (d i : ℕ)
-    → pending (key.ProbeOf i) (on_link d ((record { 0 = c }, beat.C x) ∷ t)) ≡ not
+    → pending (Key.ProbeOf i) (on_link d ((record { 0 = c }, Beat.C x) ∷ t)) ≡ not
     (is_unprobed ((set n new s.block i).pair d).probing)
 reported-missing request c n r new x s t is report pairs known d i =
     missing-last c n (report_right r) x t is report d i ∙ same_or ((c == d) && (n == i)) false _ _ (known.probes d i)
@@ -92,9 +91,9 @@ pub managed-reported : {w : ℕ} {X : Type 0} (request : ℕ → MessageA w) (c 
     (x : BeatC w) (s : State X) (t : Trace w)
     → IsLastOf c n (report_right r) x t → is_probe_ack x.opcode ≡ true
     → ManagerRelation request s t → ManagerRelation request (report_taken c n r rest s)
-    ((record { 0 = c }, beat.C x) ∷ t)
+    ((record { 0 = c }, Beat.C x) ∷ t)
 managed-reported request c n r rest x s t is report known =
-    managed-still request s (report_taken c n r rest s) t ((record { 0 = c }, beat.C x) ∷ t)
+    managed-still request s (report_taken c n r rest s) t ((record { 0 = c }, Beat.C x) ∷ t)
     (quiet-c (record { 0 = c }) x t) (still-reported c n r rest s)
     (λ d i. reported-records request c n r (reported_block c r (s.block n)) x s t is (λ j. refl) known d i)
     (λ d i. reported-missing request c n r (reported_block c r (s.block n)) x s t is report (λ j. refl) known d i) known
@@ -102,9 +101,9 @@ managed-reported request c n r rest x s t is report known =
 pub are_served-reported : {w : ℕ} {X : Type 0} (request : ℕ → MessageA w) (c n : ℕ) (r : Report) (rest : List Packet)
     (x : BeatC w) (s : State X) (t : Trace w)
     → ServedSourceRelation request s t → ServedSourceRelation request (report_taken c n r rest s)
-    ((record { 0 = c }, beat.C x) ∷ t)
+    ((record { 0 = c }, Beat.C x) ∷ t)
 are_served-reported request c n r rest x s t known =
-    are_served-still request s (report_taken c n r rest s) t ((record { 0 = c }, beat.C x) ∷ t)
+    are_served-still request s (report_taken c n r rest s) t ((record { 0 = c }, Beat.C x) ∷ t)
     (quiet-c (record { 0 = c }) x t) (still-reported c n r rest s)
     (λ d i e. reported-probing c n r (reported_block c r (s.block n)) s.block (λ j. refl) d i e) known
 
@@ -133,20 +132,20 @@ pub record IsReleased {w : ℕ} (c : ℕ) (x : BeatC w) (m : MessageD w) (t : Tr
   pub other : is_probe_ack x.opcode ≡ false
   pub ack : is_release_ack m.opcode ≡ true
   pub none : is_grant m.opcode ≡ false
-  pub whole : unfinished channel.D (on_link c ((record { 0 = c }, beat.C x) ∷ t)) ≡ []
+  pub whole : unfinished Channel.D (on_link c ((record { 0 = c }, Beat.C x) ∷ t)) ≡ []
 
 released-quiet : {w : ℕ} (c : ℕ) (x : BeatC w) (m : MessageD w) (t : Trace w) → IsReleased c x m t
-    → AreQuiet t (after_sent (record { 0 = c }) (D m) ((record { 0 = c }, beat.C x) ∷ t))
+    → AreQuiet t (after_sent (record { 0 = c }) (D m) ((record { 0 = c }, Beat.C x) ∷ t))
 released-quiet c x m t is =
-    quiet-then t ((record { 0 = c }, beat.C x) ∷ t)
-    (after_sent (record { 0 = c }) (D m) ((record { 0 = c }, beat.C x) ∷ t)) (quiet-c (record { 0 = c }) x t)
-    (quiet-release_ack (record { 0 = c }) m ((record { 0 = c }, beat.C x) ∷ t) is.width is.whole is.ack is.none)
+    quiet-then t ((record { 0 = c }, Beat.C x) ∷ t)
+    (after_sent (record { 0 = c }) (D m) ((record { 0 = c }, Beat.C x) ∷ t)) (quiet-c (record { 0 = c }) x t)
+    (quiet-release_ack (record { 0 = c }) m ((record { 0 = c }, Beat.C x) ∷ t) is.width is.whole is.ack is.none)
 
 pub managed-released : {w : ℕ} {X : Type 0} (request : ℕ → MessageA w) (c n : ℕ) (r : Prune) (rest : List Packet)
     (x : BeatC w) (m : MessageD w) (s : State X)
     (t : Trace w) → IsLastOf c n (prune_right r) x t → IsReleased c x m t
     → ManagerRelation request s t → ManagerRelation request (release_taken c n r rest s)
-    (after_sent (record { 0 = c }) (D m) ((record { 0 = c }, beat.C x) ∷ t))
+    (after_sent (record { 0 = c }) (D m) ((record { 0 = c }, Beat.C x) ∷ t))
 managed-released {w} request c n r rest x m s t is answer known =
     managed-still request s (release_taken c n r rest s) t (after_sent (record { 0 = c }) (D m) u)
     (released-quiet c x m t answer) (still-released c n r rest s)
@@ -155,20 +154,20 @@ managed-released {w} request c n r rest x m s t is answer known =
     ∙ same_or ((c == d) && (n == i)) (prune_right r) _ _ (known.recorded_is d i)
     ∙ sym (pair-part (λ p. p.recorded) c n (after_release_taken r ((s.block n).pair c)) (let_block c r (s.block n))
     s.block (λ j. refl) d i))
-    (λ d i. reply-quiet (key.ProbeOf i) (record { 0 = c }) m u d answer.width answer.whole (λ e. (refl, refl))
+    (λ d i. reply-quiet (Key.ProbeOf i) (record { 0 = c }) m u d answer.width answer.whole (λ e. (refl, refl))
     ∙ missing-release c x t answer.other d i ∙ known.probes d i
     ∙ sym (probing-released (λ p. not (is_unprobed p.probing)) (λ q p. refl) c n r rest s d i))
     known
   where
     u : Trace w
-    u = (record { 0 = c }, beat.C x) ∷ t
+    u = (record { 0 = c }, Beat.C x) ∷ t
 
 pub are_served-released : {w : ℕ} {X : Type 0} (request : ℕ → MessageA w) (c n : ℕ) (r : Prune) (rest : List Packet)
     (x : BeatC w) (m : MessageD w) (s : State X) (t : Trace w) → IsReleased c x m t
     → ServedSourceRelation request s t → ServedSourceRelation request (release_taken c n r rest s)
-    (after_sent (record { 0 = c }) (D m) ((record { 0 = c }, beat.C x) ∷ t))
+    (after_sent (record { 0 = c }) (D m) ((record { 0 = c }, Beat.C x) ∷ t))
 are_served-released {w} request c n r rest x m s t answer known =
     are_served-still request s (release_taken c n r rest s) t
-    (after_sent (record { 0 = c }) (D m) ((record { 0 = c }, beat.C x) ∷ t)) (released-quiet c x m t answer)
+    (after_sent (record { 0 = c }) (D m) ((record { 0 = c }, Beat.C x) ∷ t)) (released-quiet c x m t answer)
     (still-released c n r rest s)
     (λ d i e. sym (probing-released (λ p. is_unprobed p.probing) (λ q p. refl) c n r rest s d i) ∙ e) known

@@ -2,66 +2,55 @@
 use Rattle.tl_manager.specs.statement.Holders as holders
 use Rattle.tl_manager.specs.statement.Handing as handing
 use Rattle.tl_coherence.proofs.manager.Imports.{is_granted_data, after_report, Perm, Grow, BeatC, Message, MessageA}
-use Rattle.tl_coherence.proofs.manager.Imports.{MessageC, MessageD, c_beat_of, Config, Cap, Report}
-use Rattle.tl_coherence.proofs.manager.Imports.{Trace, same_perm, effect, Memory}
-use Rattle.tl_coherence.proofs.manager.Imports.{block_at, is_release_ack, is_grant, capped, Reaction}
-use Rattle.tl_coherence.proofs.manager.Imports.{access_answer, with_handed, cap_granted, recorded}
-use Rattle.tl_coherence.proofs.manager.Imports.{reaction, End, level_of, performed-access}
-use Rattle.tl_coherence.proofs.manager.Imports.{performed-acquire, AbstractState, answers, performs}
-use Rattle.tl_coherence.proofs.manager.Imports.{acquire_opcode, gift, is_unheld, ManagerRelation}
-use Rattle.tl_coherence.proofs.manager.Imports.{ClientBlock, Waits, GrantSent, Block, State, Acquires}
-use Rattle.tl_coherence.proofs.manager.Imports.{report_grants, granted_block, reported_block, ServedSourceRelation}
-use Rattle.tl_coherence.proofs.manager.Imports.{IsFor, set, Packet, IsServedWith}
-use Rattle.tl_coherence.proofs.manager.ManagedReports.{reported-records}
+use Rattle.tl_coherence.proofs.manager.Imports.{MessageC, MessageD, c_beat_of, Config, Cap, Report, Trace, same_perm}
+use Rattle.tl_coherence.proofs.manager.Imports.{effect, Memory, block_at, is_release_ack, is_grant, capped, Reaction}
+use Rattle.tl_coherence.proofs.manager.Imports.{access_answer, with_handed, cap_granted, recorded, reaction, End}
+use Rattle.tl_coherence.proofs.manager.Imports.{level_of, performed-access, performed-acquire, AbstractState, answers}
+use Rattle.tl_coherence.proofs.manager.Imports.{performs, acquire_opcode, gift, is_unheld, ManagerRelation, ClientBlock}
+use Rattle.tl_coherence.proofs.manager.Imports.{Waits, GrantSent, Block, State, Acquires, report_grants, granted_block}
+use Rattle.tl_coherence.proofs.manager.Imports.{reported_block, ServedSourceRelation, IsFor, set, Packet, IsServedWith}
+use Rattle.tl_coherence.proofs.manager.Imports.{Beat}
+use Rattle.tl_coherence.proofs.{manager.ManagedReports.reported-records, manager.Choices.nobody-same}
+use Rattle.tl_coherence.proofs.{queues.Tokens.set-same, queues.Tokens.set-other, queues.Codes.data-same}
 use Rattle.tl_coherence.proofs.manager.ManagedGrants.{IsConceded, managed-conceded, are_served-conceded}
 use Rattle.tl_coherence.specs.refinement.PacketMessages.{grant_of}
-use Rattle.std.proofs.Common.{◌≡◌, ℕ, Bool, true, false, not, List, [], ◌∷◌, length, refl, sym, ◌∙◌, ap}
-use Rattle.std.proofs.Common.{ap₂, subst, inl, inr}
+use Rattle.std.proofs.Common.{◌≡◌, ℕ, Bool, true, false, not, List, [], ◌∷◌, length, refl, sym, ◌∙◌, ap, ap₂, subst}
+use Rattle.std.proofs.Common.{inl, inr}
 use Rattle.std.proofs.lemmas.Bool.{cases_eq}
-use Rattle.tl_beat.specs.declared.beat.Beat.TheVariants as beat
-use Rattle.tl_burst.specs.declared.message.Message.TheVariants as message
-use Rattle.tl_params.specs.declared.perm.Perm.TheVariants as perm
 use Rattle.tl_params.specs.statement.Param.{cap_code, grow_code}
 use Rattle.tl_rules.specs.declared.answer.Answer.{Answer}
-use Rattle.tl_rules.specs.declared.answer.Answer.TheVariants as answer
-use Rattle.tl_manager.specs.statement.Handing.{grant}
-use Rattle.tl_manager.specs.statement.Holders.{has_copy}
-use Rattle.tl_manager.specs.statement.Service.{is_access_answer}
-use Rattle.tl_manager.proofs.calls.Events.{memory_with}
-use Rattle.tl_manager.proofs.blocks.Recording.{cap-gives}
+use Rattle.tl_manager.{specs.statement.Handing.grant, specs.statement.Holders.has_copy}
+use Rattle.tl_manager.{specs.statement.Service.is_access_answer, proofs.calls.Events.memory_with}
+use Rattle.tl_manager.{proofs.blocks.Recording.cap-gives, proofs.pending.Performed.grants_by_opcode}
 use Rattle.tl_coherence.specs.refinement.AbstractStep.{with_answer, with_state}
 use Rattle.tl_coherence.specs.protocol.Protocol as protocol
 use Rattle.tl_coherence.specs.protocol.Protocol.{report_answers, ended_block}
 use Rattle.tl_coherence.proofs.manager.ManagedEndings.{IsEnding, managed-ended, are_served-ended, service_for}
-use Rattle.tl_coherence.proofs.manager.Choices.{nobody-same}
 use Rattle.tl_coherence.proofs.manager.ManagerAfter.{IsManagerOf, left, kept-left, others-left}
 use Rattle.tl_coherence.proofs.manager.ManagerMemory.{block_in, blocks-now, block-performed, answer-performed}
-use Rattle.tl_coherence.proofs.queues.Tokens.{set-same, set-other}
-use Rattle.tl_coherence.proofs.queues.Codes.{data-same}
-use Rattle.tl_manager.proofs.pending.Performed.{grants_by_opcode}
 use Rattle.tl_coherence.proofs.manager.SettlingService.{IsSettling, trace_with, settling-last, settling-ready}
 use Rattle.tl_coherence.proofs.manager.SettlingService.{settling-reaction, settling-quiet, settling-lawful}
 use Rattle.tl_coherence.proofs.manager.SettlingService.{settling-for, settling-reply, settling-memory}
 
 -- ---- an access
 
-answer_is : {w : ℕ} (r : MessageA w) (kind : Answer) → (m : MessageD w) × (access_answer r kind ≡ message.D m)
+answer_is : {w : ℕ} (r : MessageA w) (kind : Answer) → (m : MessageD w) × (access_answer r kind ≡ Message.D m)
     × (is_access_answer m.opcode ≡ true)
     × (is_release_ack m.opcode ≡ false) × (m.source ≡ r.source)
-answer_is r answer.Ack = (_, refl, refl, refl, refl)
+answer_is r Answer.Ack = (_, refl, refl, refl, refl)
 answer_is r kind = (_, refl, refl, refl, refl)
 
 -- what is done: the access is performed on what the ProbeAcks left of the block, and its answer is handed out
 pub reaction-ended : {w : ℕ} (config : Config) (c q n source k : ℕ) (low : Cap) (r : Report) (m : MessageC w)
     (h : AbstractState w) (e : End w) → IsSettling config c q n source k false low r m h e
-    → reaction config (record { 0 = c }) (beat.C (c_beat_of m k)) e
+    → reaction config (record { 0 = c }) (Beat.C (c_beat_of m k)) e
     ≡ record {
       handed = (
         record { 0 = q },
         answers (h.request n)
             (protocol.written r (h.state.block n).truth (h.state.block n).memory),
       ) ∷ [];
-      memory = (effect (message.A (h.request n)) (memory_with (record { 0 = c }) (c_beat_of m k) e)).0;
+      memory = (effect (Message.A (h.request n)) (memory_with (record { 0 = c }) (c_beat_of m k) e)).0;
     }
 reaction-ended {w} config c q n source k low r m h e at =
     let for = settling-for config c q n source k false low r m h e at in
@@ -71,7 +60,7 @@ reaction-ended {w} config c q n source k low r m h e at =
     ∙ ap (λ (i : Message w). record {
       handed = (record { 0 = q }, i) ∷ [];
       memory =
-          (effect (message.A (h.request n)) memory).0;
+          (effect (Message.A (h.request n)) memory).0;
     })
     (answer-performed (level_of config q) (h.request n) memory n at.end.width
     (settling-lawful config c q n source k false low r m h e at).lawful for.2
@@ -83,11 +72,11 @@ pub ended-left : {w : ℕ} (config : Config) (c q n source k : ℕ) (low : Cap) 
     → IsManagerOf config (with_answer q source
     (answers (h.request n) (protocol.written r (h.state.block n).truth (h.state.block n).memory))
     (with_state (report_answers c q n source r (performs (h.request n)) rest h.state) h))
-    (left c (beat.C (c_beat_of m k)) (reaction config (record { 0 = c }) (beat.C (c_beat_of m k)) e) e)
+    (left c (Beat.C (c_beat_of m k)) (reaction config (record { 0 = c }) (Beat.C (c_beat_of m k)) e) e)
 unfolding with_handed
 ended-left {w} config c q n source k low r rest m h e at =
     subst (λ (d : Reaction w). IsManagerOf config (with_answer q source said (with_state after h))
-    (left c (beat.C x) d e)) (sym done) (record {
+    (left c (Beat.C x) d e)) (sym done) (record {
       managed =
           subst (λ (i : Message w). ManagerRelation h.request after
           (with_handed ((record { 0 = q }, i) ∷ []) (trace_with c k m e))) (sym reply.1)
@@ -124,16 +113,16 @@ ended-left {w} config c q n source k low r rest m h e at =
     does = record {
       handed = (record { 0 = q }, said) ∷ [];
       memory =
-          (effect (message.A (h.request n)) (memory_with (record { 0 = c }) x e)).0;
+          (effect (Message.A (h.request n)) (memory_with (record { 0 = c }) x e)).0;
     }
 
-    done : reaction config (record { 0 = c }) (beat.C x) e ≡ does
+    done : reaction config (record { 0 = c }) (Beat.C x) e ≡ does
     done = reaction-ended config c q n source k low r m h e at
 
     for : IsFor (Waits q false source low) n (h.request n)
     for = settling-for config c q n source k false low r m h e at
 
-    reply : (i : MessageD w) × (said ≡ message.D i) × (is_access_answer i.opcode ≡ true)
+    reply : (i : MessageD w) × (said ≡ Message.D i) × (is_access_answer i.opcode ≡ true)
         × (is_release_ack i.opcode ≡ false) × (i.source ≡ (h.request n).source)
     reply = answer_is (h.request n) _
 
@@ -181,7 +170,7 @@ grant-made {w} config q n tracker v t memory whole g unheld p opcode param block
     go false = refl
 
 given_is : {w : ℕ} (q : ℕ) (d : Bool) (k : Cap) (source sink : ℕ) (payload : List ℕ)
-    → (m : MessageD w) × (grant_of (GrantSent q d k) source sink payload ≡ message.D m) × (is_grant m.opcode ≡ true)
+    → (m : MessageD w) × (grant_of (GrantSent q d k) source sink payload ≡ Message.D m) × (is_grant m.opcode ≡ true)
     × (is_release_ack m.opcode ≡ false)
     × (m.source ≡ source) × (m.sink ≡ sink) × (m.param ≡ cap_code k)
 given_is q d k source sink payload = let kinds = grants_by_opcode d in (_, refl, kinds.0, kinds.1, refl, refl, refl)
@@ -198,8 +187,8 @@ settling-records {w} config c q n source k own low r m h e at d =
     (settling-last config c q n source k own low r m h e at) (λ j. refl) at.is.managed d n
     ∙ ap (λ (b : Block (List ℕ)). (b.pair d).recorded) (set-same n (reported_block c r (h.state.block n)) h.state.block)
 
-has_copy-is : (p : Perm) → has_copy p ≡ not (same_perm p perm.None)
-has_copy-is perm.None = refl
+has_copy-is : (p : Perm) → has_copy p ≡ not (same_perm p Perm.None)
+has_copy-is Perm.None = refl
 has_copy-is p = refl
 
 -- the Acquire that is granted is the one that client q has open
@@ -224,7 +213,7 @@ grant_after config c q n source r whole g h =
 pub reaction-conceded : {w : ℕ} (config : Config) (c q n source k : ℕ) (low : Cap) (r : Report) (whole : Bool)
     (g : Grow) (m : MessageC w) (h : AbstractState w)
     (e : End w) → IsSettling config c q n source k true low r m h e → IsWanted c q n source whole g h
-    → reaction config (record { 0 = c }) (beat.C (c_beat_of m k)) e ≡ record {
+    → reaction config (record { 0 = c }) (Beat.C (c_beat_of m k)) e ≡ record {
       handed = (record { 0 = q }, grant_after config c q n source r whole g h) ∷ [];
       memory =
           memory_with (record { 0 = c }) (c_beat_of m k) e;
@@ -254,7 +243,7 @@ reaction-conceded {w} config c q n source k low r whole g m h e at wanted =
 
     none : holders.is_unheld config n u ≡ unheld
     none = cc (nobody-same config (λ d. has_copy (recorded d n u))
-        (λ d. not (same_perm (pairs_after c r (h.state.block n).pair d).recorded perm.None))
+        (λ d. not (same_perm (pairs_after c r (h.state.block n).pair d).recorded Perm.None))
         (λ d. ap has_copy (settling-records config c q n source k true low r m h e at d)
         ∙ has_copy-is (pairs_after c r (h.state.block n).pair d).recorded))
 
@@ -274,10 +263,10 @@ pub conceded-left : {w : ℕ} (config : Config) (c q n source k : ℕ) (low : Ca
     → IsManagerOf config (with_state
     (report_grants c q n r (is_granted_data whole g ((h.state.block n).pair q).recorded)
     (gift_after config c n r whole g h) rest h.state) h)
-    (left c (beat.C (c_beat_of m k)) (reaction config (record { 0 = c }) (beat.C (c_beat_of m k)) e) e)
+    (left c (Beat.C (c_beat_of m k)) (reaction config (record { 0 = c }) (Beat.C (c_beat_of m k)) e) e)
 unfolding with_handed
 conceded-left {w} config c q n source k low r whole g rest m h e at wanted =
-    subst (λ (d : Reaction w). IsManagerOf config (with_state after h) (left c (beat.C x) d e)) (sym done) (record {
+    subst (λ (d : Reaction w). IsManagerOf config (with_state after h) (left c (Beat.C x) d e)) (sym done) (record {
       managed =
           subst (λ (i : Message w). ManagerRelation h.request after
           (with_handed ((record { 0 = q }, i) ∷ []) (trace_with c k m e))) (sym reply.1)
@@ -319,13 +308,13 @@ conceded-left {w} config c q n source k low r whole g rest m h e at wanted =
           memory_with (record { 0 = c }) x e;
     }
 
-    done : reaction config (record { 0 = c }) (beat.C x) e ≡ does
+    done : reaction config (record { 0 = c }) (Beat.C x) e ≡ does
     done = reaction-conceded config c q n source k low r whole g m h e at wanted
 
     for : IsFor (Waits q true source low) n (h.request n)
     for = settling-for config c q n source k true low r m h e at
 
-    reply : (i : MessageD w) × (grant_after config c q n source r whole g h ≡ message.D i) × (is_grant i.opcode ≡ true)
+    reply : (i : MessageD w) × (grant_after config c q n source r whole g h ≡ Message.D i) × (is_grant i.opcode ≡ true)
         × (is_release_ack i.opcode ≡ false)
         × (i.source ≡ source) × (i.sink ≡ (h.state.block n).tracker) × (i.param ≡ cap_code given)
     reply = given_is q data_too given source (h.state.block n).tracker

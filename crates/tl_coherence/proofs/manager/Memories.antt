@@ -3,12 +3,10 @@ use Rattle.tl_coherence.proofs.manager.Imports.{IsWidth, A, MessageA, Level, Mem
 use Rattle.tl_coherence.proofs.manager.Imports.{illegal_message_at, performs}
 use Rattle.std.proofs.Common.{◌≡◌, ℕ, zero, suc, ◌+◌, ◌-◌, ◌*◌, ◌%◌, ◌^◌, ◌<◌, ◌≤◌, Option, Some, None, sym, ◌∙◌, ap}
 use Rattle.std.proofs.Common.{arith}
-use Rattle.std.specs.Prelude.{slice_index}
-use Rattle.std.proofs.lemmas.Bool.{eqb-true}
-use Rattle.tl_rules.specs.statement.Effect.{SameBlock}
-use Rattle.tl_rules.proofs.Bursts.{control_of_legal, control_aligned}
-use Rattle.tl_rules.proofs.Local.{after-local, reply-local, bytes_same}
-use Rattle.tl_rules.proofs.Rooms.{room_in_block}
+use Rattle.std.{specs.Prelude.slice_index, proofs.lemmas.Bool.eqb-true}
+use Rattle.tl_rules.{specs.statement.Effect.SameBlock, proofs.Bursts.control_of_legal, proofs.Bursts.control_aligned}
+use Rattle.tl_rules.{proofs.Local.after-local, proofs.Local.reply-local, proofs.Local.bytes_same}
+use Rattle.tl_rules.{proofs.Rooms.room_in_block}
 use Rattle.tl_coherence.specs.refinement.AbstractStep.{bytes_at}
 
 -- the bytes of a block that no byte of is changed

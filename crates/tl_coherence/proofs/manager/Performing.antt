@@ -9,30 +9,22 @@ use Rattle.tl_coherence.proofs.manager.Imports.{services, service_of_block, leas
 use Rattle.tl_coherence.proofs.manager.Imports.{performed-access, performed-acquire, after_sent, own_link, other_link}
 use Rattle.tl_coherence.proofs.manager.Imports.{whole-taken, reply-quiet, request-reply, after_grant_sent, set, Free}
 use Rattle.tl_coherence.proofs.manager.Imports.{Waits, GrantSent, Block, State, granted_at_once, client_in}
-use Rattle.tl_coherence.proofs.manager.Imports.{service_with}
+use Rattle.tl_coherence.proofs.manager.Imports.{service_with, Beat, Channel}
 use Rattle.std.proofs.Common.{◌≡◌, ℕ, suc, ◌==◌, Bool, true, false, not, ◌&&◌, [], ◌∷◌, Some, None, refl, sym, ◌∙◌, ap}
 use Rattle.std.proofs.Common.{inl, inr}
 use Rattle.std.specs.Prelude.{if◌then◌else◌, unwrap_or}
 use Rattle.std.proofs.lemmas.Bool.{cases_eq, ne_eqb}
-use Rattle.tl_beat.specs.declared.beat.Beat.TheVariants as beat
-use Rattle.tl_beat.specs.declared.channel.Channel.TheVariants as channel
-use Rattle.tl_rules.specs.declared.answer.Answer.{Answer}
-use Rattle.tl_rules.specs.declared.answer.Answer.TheVariants as answer
-use Rattle.tl_rules.specs.statement.History.{asks_for}
-use Rattle.tl_manager.specs.statement.Handing.{grant, is_granted_data}
+use Rattle.tl_rules.{specs.declared.answer.Answer.Answer, specs.statement.History.asks_for}
+use Rattle.tl_manager.{specs.statement.Handing.grant, specs.statement.Handing.is_granted_data}
+use Rattle.tl_manager.{specs.statement.Service.Service, proofs.pending.LinkHistories.sent-keeps}
+use Rattle.tl_manager.{proofs.pending.Performed.performed-serving, proofs.blocks.Recording.cap-gives}
 use Rattle.tl_manager.specs.statement.Holders as holders
-use Rattle.tl_manager.specs.statement.Service.{Service}
-use Rattle.tl_manager.proofs.pending.LinkHistories.{sent-keeps}
-use Rattle.tl_manager.proofs.pending.Performed.{performed-serving}
-use Rattle.tl_manager.proofs.blocks.Recording.{cap-gives}
 use Rattle.tl_coherence.specs.protocol.Protocol.{performed_block}
-use Rattle.tl_coherence.proofs.manager.BlockAccounts.{IsTraced}
-use Rattle.tl_coherence.proofs.manager.Traces.{traced-at}
+use Rattle.tl_coherence.proofs.{manager.BlockAccounts.IsTraced, manager.Traces.traced-at, queues.Codes.grants-so}
 use Rattle.tl_coherence.proofs.manager.Arrivals.{link_of, with_beat, IsComing, service_for, ready-last}
 use Rattle.tl_coherence.proofs.manager.Requests.{recorded-beat, missing-beat, request-beat, request-own, IsUnwaited}
 use Rattle.tl_coherence.proofs.manager.Requests.{serving-last, serving-others}
 use Rattle.tl_coherence.proofs.queues.Tokens.{same_number, set-same, set-other, set-part}
-use Rattle.tl_coherence.proofs.queues.Codes.{grants-so}
 
 -- the trace after the last beat of a request, which is performed, and its answer
 abbrev pub with_answer : {w : ℕ} → Config → ℕ → ℕ → MessageA w → Memory → Trace w → Trace w
@@ -43,7 +35,7 @@ with_answer config c k m memory t = with_handed (performed config (service_for c
 
 answer_of_d : {w : ℕ} (r : MessageA w) (kind : Answer) → (m : MessageD w) × (access_answer r kind ≡ D m)
     × (is_grant m.opcode ≡ false)
-answer_of_d r answer.Ack = (_, refl, refl)
+answer_of_d r Answer.Ack = (_, refl, refl)
 answer_of_d r kind = (_, refl, refl)
 
 one-handed : {w : ℕ} (c : ℕ) (m : Message w) (t : Trace w) → with_handed ((link_of c, m) ∷ []) t ≡ after_sent
@@ -53,10 +45,10 @@ one-handed c m t = refl
 
 -- what is recorded after a message of channel D that is no Grant
 recorded-reply : {w : ℕ} (link : ℕ) (m : MessageD w) (t : Trace w) (d i : ℕ) → IsWidth w
-    → ((c : ℕ) → unfinished channel.D (on_link c t) ≡ []) → is_grant m.opcode ≡ false
+    → ((c : ℕ) → unfinished Channel.D (on_link c t) ≡ []) → is_grant m.opcode ≡ false
     → recorded d i (after_sent (link_of link) (D m) t) ≡ recorded d i t
 recorded-reply link m t d i width whole other =
-    sent-keeps (held i) d (link_of link) (D m) t (λ h f. held-sent_d i m h (ap (unfinished channel.D) f ∙ whole d)
+    sent-keeps (held i) d (link_of link) (D m) t (λ h f. held-sent_d i m h (ap (unfinished Channel.D) f ∙ whole d)
     (beats-positive (D m) width) ∙ rw other refl)
 
 -- ---- an access
@@ -119,8 +111,8 @@ traced-answered {w} {X} config request c k n f m s u memory e blocks is known =
         is.access) ∙ one-handed c (access_answer m (answer_of (A m) (effect (A m) memory).1)) t
         ∙ ap (λ (i : Message w). after_sent (link_of c) i t) reply.1
 
-    whole : (d : ℕ) → unfinished channel.D (on_link d t) ≡ []
-    whole d = (whole-taken d (link_of c) (beat.A (a_beat_of m k)) e.trace refl (is.comes.kept.whole d)).1
+    whole : (d : ℕ) → unfinished Channel.D (on_link d t) ≡ []
+    whole d = (whole-taken d (link_of c) (Beat.A (a_beat_of m k)) e.trace refl (is.comes.kept.whole d)).1
 
     recorded_same : (d i : ℕ) → recorded d i after ≡ recorded d i e.trace
     recorded_same d i = ap (recorded d i) after_is ∙ recorded-reply c reply.0 t d i is.comes.width whole
@@ -221,8 +213,8 @@ traced-granted {w} {X} config request c k n b j m s u memory e blocks is known =
         is.acquires) ∙ one-handed c (grant config (service_for c m e.trace) t memory) t
         ∙ ap (λ (i : Message w). after_sent (link_of c) i t) reply.1
 
-    whole : (d : ℕ) → unfinished channel.D (on_link d t) ≡ []
-    whole d = (whole-taken d (link_of c) (beat.A (a_beat_of m k)) e.trace refl (is.comes.kept.whole d)).1
+    whole : (d : ℕ) → unfinished Channel.D (on_link d t) ≡ []
+    whole d = (whole-taken d (link_of c) (Beat.A (a_beat_of m k)) e.trace refl (is.comes.kept.whole d)).1
 
     -- what the Grant says of each block
     asks : (i : ℕ) → asks_for i (request_of reply.0.source (on_link c t)) ≡ (n == i)

@@ -1,36 +1,28 @@
 -- What the manager knows after a request for which others are probed: an Acquire, or an access.
 use Rattle.tl_coherence.proofs.manager.Imports.{A, MessageA, a_beat_of, beats_of, unfinished, Config, ProbeOf, Cap}
 use Rattle.tl_coherence.proofs.manager.Imports.{Trace, on_link, pending, held, block_at, request_of, held_unsaid}
-use Rattle.tl_coherence.proofs.manager.Imports.{swapped, with_handed, probes, recorded, is_spared, probed}
-use Rattle.tl_coherence.proofs.manager.Imports.{services, service_of_block, least_untaken, trackers_of, End}
-use Rattle.tl_coherence.proofs.manager.Imports.{whole-taken, ClientBlock, is_unprobed, is_above, set, Free, Waits}
-use Rattle.tl_coherence.proofs.manager.Imports.{Block, State, client_in, service_with, IsFor}
+use Rattle.tl_coherence.proofs.manager.Imports.{swapped, with_handed, probes, recorded, is_spared, probed, services}
+use Rattle.tl_coherence.proofs.manager.Imports.{service_of_block, least_untaken, trackers_of, End, whole-taken}
+use Rattle.tl_coherence.proofs.manager.Imports.{ClientBlock, is_unprobed, is_above, set, Free, Waits, Block, State}
+use Rattle.tl_coherence.proofs.manager.Imports.{client_in, service_with, IsFor, Beat, Channel, Perm}
 use Rattle.std.proofs.Common.{◌≡◌, ℕ, suc, ◌≤◌, ◌==◌, Bool, true, false, not, ◌&&◌, List, [], Option, Some, length}
 use Rattle.std.proofs.Common.{refl, sym, ◌∙◌, ap, inl, inr, arith}
-use Rattle.std.specs.Prelude.{if◌then◌else◌}
-use Rattle.std.proofs.lemmas.Bool.{cases_lt, ne_eqb}
-use Rattle.std.proofs.Math.Bool.{and-false}
-use Rattle.tl_beat.specs.declared.beat.Beat.TheVariants as beat
-use Rattle.tl_beat.specs.declared.channel.Channel.TheVariants as channel
-use Rattle.tl_params.specs.declared.perm.Perm.TheVariants as perm
+use Rattle.std.{specs.Prelude.if◌then◌else◌, proofs.lemmas.Bool.cases_lt, proofs.lemmas.Bool.ne_eqb}
+use Rattle.std.{proofs.Math.Bool.and-false}
 use Rattle.tl_rules.specs.statement.Admission.{sent}
-use Rattle.tl_manager.specs.statement.Handing.{probe_beat, probe_of_block}
+use Rattle.tl_manager.{specs.statement.Handing.probe_beat, specs.statement.Handing.probe_of_block}
+use Rattle.tl_manager.{specs.statement.Service.Service, proofs.pending.Probed.probes-keep}
 use Rattle.tl_manager.specs.statement.Holders as holders
-use Rattle.tl_manager.specs.statement.Service.{Service}
-use Rattle.tl_manager.proofs.pending.Probed.{probes-keep}
 use Rattle.tl_manager.proofs.pending.Probes.{probes-within, probes-beyond, services-probes}
 use Rattle.tl_manager.proofs.pending.Probing.{missing-own_b, missing-else_b, request_of-b}
-use Rattle.tl_coherence.specs.protocol.Phase.{ProbeSent}
-use Rattle.tl_coherence.specs.protocol.PhaseSteps.{after_served}
-use Rattle.tl_coherence.specs.protocol.Protocol.{served_pair, served_block}
-use Rattle.tl_coherence.proofs.manager.BlockAccounts.{IsTraced}
-use Rattle.tl_coherence.proofs.manager.Traces.{traced-at}
+use Rattle.tl_coherence.specs.{protocol.Phase.ProbeSent, protocol.PhaseSteps.after_served}
+use Rattle.tl_coherence.specs.{protocol.Protocol.served_pair, protocol.Protocol.served_block}
+use Rattle.tl_coherence.proofs.{manager.BlockAccounts.IsTraced, manager.Traces.traced-at}
+use Rattle.tl_coherence.proofs.{manager.ManagedServed.same_above, queues.Tokens.set-same, queues.Tokens.set-other}
+use Rattle.tl_coherence.proofs.{queues.Perms.nothing-above}
 use Rattle.tl_coherence.proofs.manager.Arrivals.{link_of, with_beat, IsComing, service_for}
-use Rattle.tl_coherence.proofs.manager.ManagedServed.{same_above}
 use Rattle.tl_coherence.proofs.manager.Requests.{recorded-beat, missing-beat, request-beat, request-own, IsUnwaited}
 use Rattle.tl_coherence.proofs.manager.Requests.{serving-last, serving-others}
-use Rattle.tl_coherence.proofs.queues.Tokens.{set-same, set-other}
-use Rattle.tl_coherence.proofs.queues.Perms.{nothing-above}
 
 -- the trace after the last beat of a request, and the Probes
 abbrev pub with_probes : {w : ℕ} → Config → ℕ → ℕ → MessageA w → ℕ → Cap → Trace w → Trace w
@@ -45,7 +37,7 @@ pub record IsProbing {w : ℕ} {X : Type 0} (config : Config) (c k n : ℕ) (own
   pub for : IsFor (Waits c own source j) n m
   pub free : (s.block n).service ≡ Free
   pub quiet : (d : ℕ) → is_unprobed ((s.block n).pair d).probing ≡ true
-  pub beyond : (d : ℕ) → length config.clients.items ≤ d → ((s.block n).pair d).recorded ≡ perm.None
+  pub beyond : (d : ℕ) → length config.clients.items ≤ d → ((s.block n).pair d).recorded ≡ Perm.None
   pub unwaited : IsUnwaited c source s
 
 pub traced-probing : {w : ℕ} {X : Type 0} (config : Config) (request : ℕ → MessageA w) (c k n : ℕ) (own : Bool)
@@ -107,7 +99,7 @@ traced-probing {w} {X} config request c k n own source j m s u e blocks is known
     spared false p = refl
 
     recorded_same : (d i : ℕ) → recorded d i after ≡ recorded d i e.trace
-    recorded_same d i = probes-keep (held i) d n j asked_clients t (λ h. held_unsaid i (beat.B (probe_beat n j)) h refl)
+    recorded_same d i = probes-keep (held i) d n j asked_clients t (λ h. held_unsaid i (Beat.B (probe_beat n j)) h refl)
         ∙ recorded-beat c k m e.trace d i
 
     asked_same : (r src : ℕ) → request_of src (on_link r after) ≡ request_of src (on_link r t)
@@ -142,8 +134,8 @@ traced-probing {w} {X} config request c k n own source j m s u e blocks is known
     missing_before : (d : ℕ) → pending (ProbeOf n) (on_link d t) ≡ false
     missing_before d = missing-beat c k m e.trace d n ∙ known.probes d n ∙ ap not (is.quiet d)
 
-    whole_b : (d : ℕ) → unfinished channel.B (on_link d t) ≡ []
-    whole_b d = (whole-taken d (link_of c) (beat.A (a_beat_of m k)) e.trace refl (is.comes.kept.whole d)).0
+    whole_b : (d : ℕ) → unfinished Channel.B (on_link d t) ≡ []
+    whole_b d = (whole-taken d (link_of c) (Beat.A (a_beat_of m k)) e.trace refl (is.comes.kept.whole d)).0
 
     probed_or : (d : ℕ) (b : Bool)
         → pending (ProbeOf n) (if b then sent (probe_of_block n j) (on_link d t) else on_link d t) ≡ b

@@ -1,35 +1,27 @@
 -- What the manager hands out at the last beat of a request: the messages of the tokens that the protocol pushes.
 use Rattle.tl_coherence.proofs.manager.Imports.{Message, MessageA, a_beat_of, beats_of, Config, Cap, cap_right, Memory}
-use Rattle.tl_coherence.proofs.manager.Imports.{bytes_from, answer_of, block_at, Reaction}
-use Rattle.tl_coherence.proofs.manager.Imports.{access_answer, cap_granted, recorded, cap_probed, Trace}
-use Rattle.tl_coherence.proofs.manager.Imports.{same_perm, same_block, reaction, End, level_of, performed-access}
-use Rattle.tl_coherence.proofs.manager.Imports.{performed-acquire, answers, gift, is_unheld, Log, ClientBlock}
-use Rattle.tl_coherence.proofs.manager.Imports.{after_grant_sent, is_granted_data, GrantSent, Block, State, view}
-use Rattle.tl_coherence.proofs.manager.Imports.{is_granting, granted_at_once, AccessMessages, block_message, System}
-use Rattle.tl_coherence.proofs.manager.Imports.{Grant, SimulationRelation}
+use Rattle.tl_coherence.proofs.manager.Imports.{bytes_from, answer_of, block_at, Reaction, access_answer, cap_granted}
+use Rattle.tl_coherence.proofs.manager.Imports.{recorded, cap_probed, Trace, same_perm, same_block, reaction, End}
+use Rattle.tl_coherence.proofs.manager.Imports.{level_of, performed-access, performed-acquire, answers, gift, is_unheld}
+use Rattle.tl_coherence.proofs.manager.Imports.{Log, ClientBlock, after_grant_sent, is_granted_data, GrantSent, Block}
+use Rattle.tl_coherence.proofs.manager.Imports.{State, view, is_granting, granted_at_once, AccessMessages}
+use Rattle.tl_coherence.proofs.manager.Imports.{block_message, System, Grant, SimulationRelation, Beat, Perm}
 use Rattle.std.proofs.Common.{◌≡◌, ℕ, suc, ◌*◌, Bool, true, false, not, ◌&&◌, List, [], ◌∷◌, refl, sym, ◌∙◌, ap, ap₂}
 use Rattle.std.proofs.Common.{inl, inr}
-use Rattle.std.specs.Prelude.{if◌then◌else◌, length}
-use Rattle.std.proofs.lemmas.Bool.{cases_eq, false_from_ne_true}
-use Rattle.std.proofs.Math.Bool.{and-false}
-use Rattle.tl_beat.specs.declared.beat.Beat.TheVariants as beat
-use Rattle.tl_burst.specs.declared.message.Message.TheVariants as message
-use Rattle.tl_params.specs.declared.perm.Perm.TheVariants as perm
+use Rattle.std.{specs.Prelude.if◌then◌else◌, specs.Prelude.length, proofs.lemmas.Bool.cases_eq}
+use Rattle.std.{proofs.lemmas.Bool.false_from_ne_true, proofs.Math.Bool.and-false}
 use Rattle.tl_rules.specs.statement.Effect as memory
 use Rattle.tl_manager.specs.statement.Handing as handing
 use Rattle.tl_manager.specs.statement.Handing.{grant_with, grant_payload}
 use Rattle.tl_manager.specs.statement.Holders as holders
 use Rattle.tl_manager.specs.statement.Service as manager
-use Rattle.tl_coherence.specs.refinement.AbstractStep.{probes_some}
-use Rattle.tl_coherence.specs.protocol.Invariant.{IsWell, is_out}
-use Rattle.tl_coherence.specs.refinement.PacketMessages.{grant_of}
+use Rattle.tl_coherence.specs.{refinement.AbstractStep.probes_some, protocol.Invariant.IsWell}
+use Rattle.tl_coherence.specs.{protocol.Invariant.is_out, refinement.PacketMessages.grant_of}
 use Rattle.tl_coherence.proofs.manager.Arrivals.{link_of, with_beat, IsComing, service_for}
-use Rattle.tl_coherence.proofs.protocol.Heads.{IsAsked, IsWanted}
-use Rattle.tl_coherence.proofs.manager.Memories.{performed-reply}
-use Rattle.tl_coherence.proofs.manager.Requests.{recorded-beat}
-use Rattle.tl_coherence.proofs.manager.RequestsTaken.{acquire_wanted}
+use Rattle.tl_coherence.proofs.{protocol.Heads.IsAsked, protocol.Heads.IsWanted, manager.Memories.performed-reply}
+use Rattle.tl_coherence.proofs.{manager.Requests.recorded-beat, manager.RequestsTaken.acquire_wanted}
+use Rattle.tl_coherence.proofs.{queues.Tokens.same_number, queues.Tokens.set-same}
 use Rattle.tl_coherence.proofs.manager.UnwaitedRequests.{next_tracker, reaction-performed, unheld-same}
-use Rattle.tl_coherence.proofs.queues.Tokens.{same_number, set-same}
 use Rattle.tl_coherence.proofs.queues.Codes.{acquires-so, gives-some, data-same}
 
 -- ---- an access that is answered
@@ -37,10 +29,10 @@ use Rattle.tl_coherence.proofs.queues.Codes.{acquires-so, gives-some, data-same}
 pub handed-answered : {w : ℕ} (config : Config) (log : Log w) (mail : AccessMessages w) (request : ℕ → MessageA w)
     (s : State (List ℕ)) (sys : System w) (c source k : ℕ)
     → SimulationRelation config log mail request s sys → (asked : IsAsked config c source mail s)
-    → IsComing config c k asked.request sys.manager → beats_of (message.A asked.request) ≡ suc k
+    → IsComing config c k asked.request sys.manager → beats_of (Message.A asked.request) ≡ suc k
     → probes_some (length config.clients.items) c false (cap_probed asked.request.opcode asked.request.param)
     (s.block (block_at asked.request.address)).pair ≡ false
-    → (reaction config (link_of c) (beat.A (a_beat_of asked.request k)) sys.manager).handed
+    → (reaction config (link_of c) (Beat.A (a_beat_of asked.request k)) sys.manager).handed
     ≡ (link_of c, answers asked.request (s.block (block_at asked.request.address)).memory) ∷ []
 handed-answered {w} config log mail request s sys c source k is asked comes last none =
     let m : MessageA w = asked.request in
@@ -51,7 +43,7 @@ handed-answered {w} config log mail request s sys c source k is asked comes last
     asked.access refl none
     ∙ performed-access config (service_for c m e.trace) (with_beat c m k e.trace) e.memory asked.access)
     ∙ ap (λ (i : Message w). (link_of c, i) ∷ [])
-    (ap (λ (r : memory.AccessResult). access_answer m (answer_of (message.A m) r))
+    (ap (λ (r : memory.AccessResult). access_answer m (answer_of (Message.A m) r))
     (performed-reply (level_of config c) m e.memory comes.width asked.lawful) ∙ ap (answers m) bytes_are)
 
 -- ---- a Grant
@@ -60,14 +52,14 @@ handed-answered {w} config log mail request s sys c source k is asked comes last
 -- memory is its truth
 pub memory-granted : (caching : ℕ → Bool) (q : ℕ) (d : Bool) (k : Cap) (new : Block (List ℕ)) → IsWell caching new
     → new.service ≡ GrantSent q d k
-    → (new.pair q).recorded ≡ cap_right k → same_perm (cap_right k) perm.None ≡ false
+    → (new.pair q).recorded ≡ cap_right k → same_perm (cap_right k) Perm.None ≡ false
     → new.memory ≡ new.truth
 memory-granted caching q d k new well granted given some = well.memory nobody
   where
-    not_trunk : (i : ℕ) → (i ≡ q → ⊥) → same_perm (new.pair i).recorded perm.Trunk ≡ false
-    not_trunk i other = false_from_ne_true (same_perm (new.pair i).recorded perm.Trunk) (λ top.
-        let alone : same_perm (new.pair q).recorded perm.None ≡ true = well.one_owner i q top (λ f. other (sym f)) in
-        let none : same_perm (cap_right k) perm.None ≡ true = rw given at alone in
+    not_trunk : (i : ℕ) → (i ≡ q → ⊥) → same_perm (new.pair i).recorded Perm.Trunk ≡ false
+    not_trunk i other = false_from_ne_true (same_perm (new.pair i).recorded Perm.Trunk) (λ top.
+        let alone : same_perm (new.pair q).recorded Perm.None ≡ true = well.one_owner i q top (λ f. other (sym f)) in
+        let none : same_perm (cap_right k) Perm.None ≡ true = rw given at alone in
         let differ : false ≡ true = sym some ∙ none in
         cc)
 
@@ -76,8 +68,8 @@ memory-granted caching q d k new well granted given some = well.memory nobody
 
     nobody : (i : ℕ) → is_out (new.pair i) (view new.service i) ≡ false
     nobody i = elim (cases_eq i q) [
-      | inl same ↦ rw same (ap (λ x. same_perm (new.pair q).recorded perm.Trunk && not x) own_view ∙ and-false
-          (same_perm (new.pair q).recorded perm.Trunk))
+      | inl same ↦ rw same (ap (λ x. same_perm (new.pair q).recorded Perm.Trunk && not x) own_view ∙ and-false
+          (same_perm (new.pair q).recorded Perm.Trunk))
       | inr other ↦ ap (λ x. x && not (is_granting (view new.service i))) (not_trunk i other)
     ]
 
@@ -98,13 +90,13 @@ pub handed-granted : {w : ℕ} (config : Config) (log : Log w) (mail : AccessMes
     (s : State (List ℕ)) (sys : System w)
     (caching : ℕ → Bool) (c n k : ℕ) → SimulationRelation config log mail request s sys → (asked : IsWanted w c n s)
     → IsComing config c k (acquire_wanted c n s asked) sys.manager
-    → beats_of (message.A (acquire_wanted c n s asked)) ≡ suc k
+    → beats_of (Message.A (acquire_wanted c n s asked)) ≡ suc k
     → probes_some (length config.clients.items) c true (cap_probed (acquire_wanted {w = w} c n s asked).opcode
     (acquire_wanted {w = w} c n s asked).param) (s.block n).pair ≡ false
     → IsWell caching (granted_at_once c (next_tracker sys)
     (is_granted_data asked.whole asked.grow ((s.block n).pair c).recorded)
     (gift config.profile asked.whole asked.grow (is_unheld (length config.clients.items) (s.block n).pair)) (s.block n))
-    → (reaction config (link_of c) (beat.A (a_beat_of (acquire_wanted c n s asked) k)) sys.manager).handed
+    → (reaction config (link_of c) (Beat.A (a_beat_of (acquire_wanted c n s asked) k)) sys.manager).handed
     ≡ (
       link_of c,
       block_message Grant c n (granted_at_once c (next_tracker sys)

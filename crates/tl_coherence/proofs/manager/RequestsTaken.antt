@@ -1,36 +1,26 @@
 -- The last beat of a request that is taken: what the protocol does then is what the manager does.
-use Rattle.tl_coherence.proofs.manager.Imports.{Message, MessageA, a_beat_of, beats_of, Config, Cap, Grow}
-use Rattle.tl_coherence.proofs.manager.Imports.{block_at, is_acquire, same_block}
-use Rattle.tl_coherence.proofs.manager.Imports.{performed, cap_granted, is_nobody, probed}
-use Rattle.tl_coherence.proofs.manager.Imports.{cap_probed, reaction}
-use Rattle.tl_coherence.proofs.manager.Imports.{End, must_wait, AbstractState, some_below, acquire_opcode, is_unheld}
-use Rattle.tl_coherence.proofs.manager.Imports.{gift, kind_taken, IsInvariant, Log}
+use Rattle.tl_coherence.proofs.manager.Imports.{Message, MessageA, a_beat_of, beats_of, Config, Cap, Grow, block_at}
+use Rattle.tl_coherence.proofs.manager.Imports.{is_acquire, same_block, performed, cap_granted, is_nobody, probed}
+use Rattle.tl_coherence.proofs.manager.Imports.{cap_probed, reaction, End, must_wait, AbstractState, some_below}
+use Rattle.tl_coherence.proofs.manager.Imports.{acquire_opcode, is_unheld, gift, kind_taken, IsInvariant, Log}
 use Rattle.tl_coherence.proofs.manager.Imports.{is_granted_data, Service, Free, Waits, GrantSent, GrantTaken, Block}
-use Rattle.tl_coherence.proofs.manager.Imports.{State, Asked, InService, Acquires, packet, AccessMessages}
-use Rattle.tl_coherence.proofs.manager.Imports.{System, Request, Acquire, Packet, set, SimulationRelation}
-use Rattle.tl_coherence.proofs.manager.Imports.{IsServedWith, is_caching}
-use Rattle.std.proofs.Common.{◌≡◌, subst, ℕ, suc, Bool, true, false, not, List, ◌∷◌, Option, Some}
-use Rattle.std.proofs.Common.{None, length, refl, sym, ◌∙◌, ap}
+use Rattle.tl_coherence.proofs.manager.Imports.{State, Asked, InService, Acquires, packet, AccessMessages, System}
+use Rattle.tl_coherence.proofs.manager.Imports.{Request, Acquire, Packet, set, SimulationRelation, IsServedWith}
+use Rattle.tl_coherence.proofs.manager.Imports.{is_caching, Beat}
+use Rattle.std.proofs.Common.{◌≡◌, subst, ℕ, suc, Bool, true, false, not, List, ◌∷◌, Option, Some, None, length, refl}
+use Rattle.std.proofs.Common.{sym, ◌∙◌, ap}
 use Rattle.std.specs.Prelude.{if◌then◌else◌}
-use Rattle.tl_beat.specs.declared.beat.Beat.TheVariants as beat
-use Rattle.tl_burst.specs.declared.message.Message.TheVariants as message
-use Rattle.tl_params.specs.declared.param.Grow.TheVariants as grow
 use Rattle.tl_client.specs.statement.Send.{acquisition}
 use Rattle.tl_coherence.specs.refinement.AbstractStep.{probes_some, access_taken, request_taken, acquire_taken}
-use Rattle.tl_coherence.specs.protocol.Invariant.{cap_asked}
-use Rattle.tl_coherence.specs.protocol.Phase.{AcquirePhase, AcquireOpen}
+use Rattle.tl_coherence.specs.{protocol.Invariant.cap_asked, protocol.Phase.AcquirePhase, protocol.Phase.AcquireOpen}
 use Rattle.tl_coherence.specs.protocol.Protocol.{is_probed, acquire_served, acquire_granted}
 use Rattle.tl_coherence.proofs.manager.Arrivals.{link_of, with_beat, IsComing, service_for}
 use Rattle.tl_coherence.proofs.manager.AtRequests.{end_after, at_manager-probing, at_manager-answered}
 use Rattle.tl_coherence.proofs.manager.AtRequests.{at_manager-granted}
-use Rattle.tl_coherence.proofs.manager.Choices.{waits-used}
-use Rattle.tl_coherence.proofs.protocol.FollowKept.{IsReady}
-use Rattle.tl_coherence.proofs.protocol.Heads.{IsAsked, IsWanted}
+use Rattle.tl_coherence.proofs.{manager.Choices.waits-used, protocol.FollowKept.IsReady, protocol.Heads.IsAsked}
+use Rattle.tl_coherence.proofs.{protocol.Heads.IsWanted, manager.Performing.IsAnswering, manager.Requests.IsUnwaited}
+use Rattle.tl_coherence.proofs.{queues.Codes.acquires-so, manager.ManagerAfter.IsManagerOf}
 use Rattle.tl_coherence.proofs.manager.ManagersEnd.{IsAtManager, at_manager-matched}
-use Rattle.tl_coherence.proofs.manager.Performing.{IsAnswering}
-use Rattle.tl_coherence.proofs.manager.Requests.{IsUnwaited}
-use Rattle.tl_coherence.proofs.queues.Codes.{acquires-so}
-use Rattle.tl_coherence.proofs.manager.ManagerAfter.{IsManagerOf}
 use Rattle.tl_coherence.proofs.manager.UnwaitedRequests.{next_tracker, free-last, untracked-next, invariant-taken}
 use Rattle.tl_coherence.proofs.manager.UnwaitedRequests.{probed-some, unheld-same, quiet-free, beyond-none}
 use Rattle.tl_coherence.proofs.manager.UnwaitedRequests.{reaction-performed, somebody-probed}
@@ -74,8 +64,8 @@ at_manager-answers config mail after request s e same is = record {
 pub ready-request : {w : ℕ} (config : Config) (log : Log w) (h : AbstractState w) (sys : System w) (c source k : ℕ)
     → SimulationRelation config log h.mail h.request h.state sys
     → (asked : IsAsked config c source h.mail h.state)
-    → IsComing config c k asked.request sys.manager → beats_of (message.A asked.request) ≡ suc k
-    → must_wait config (link_of c) (beat.A (a_beat_of asked.request k)) sys.manager.trace ≡ false
+    → IsComing config c k asked.request sys.manager → beats_of (Message.A asked.request) ≡ suc k
+    → must_wait config (link_of c) (Beat.A (a_beat_of asked.request k)) sys.manager.trace ≡ false
     → IsReady (next_tracker sys) c Request source h
 ready-request config log h sys c source k is asked comes last moves = (
   asked.request,
@@ -90,8 +80,8 @@ ready-request config log h sys c source k is asked comes last moves = (
 pub at_manager-request_taken : {w : ℕ} (config : Config) (log : Log w) (h : AbstractState w) (sys : System w)
     (c source k : ℕ) (rest : List Packet) → SimulationRelation config log h.mail h.request h.state sys
     → (h.state.link c).a ≡ packet Request source ∷ rest → (asked : IsAsked config c source h.mail h.state)
-    → IsComing config c k asked.request sys.manager → beats_of (message.A asked.request) ≡ suc k
-    → must_wait config (link_of c) (beat.A (a_beat_of asked.request k)) sys.manager.trace ≡ false
+    → IsComing config c k asked.request sys.manager → beats_of (Message.A asked.request) ≡ suc k
+    → must_wait config (link_of c) (Beat.A (a_beat_of asked.request k)) sys.manager.trace ≡ false
     → IsManagerOf config (kind_taken config (next_tracker sys) c Request source rest h)
     (end_after config c k asked.request sys.manager)
 at_manager-request_taken {w} config log h sys c source k rest is first asked comes last moves =
@@ -146,7 +136,7 @@ at_manager-request_taken {w} config log h sys c source k rest is first asked com
     answered : (p : Bool) (o : Option Cap)
         → IsInvariant (is_caching config) (access_taken c source m tracker p o rest h).state
         → access_taken c source m tracker p o rest h ≡ access_taken c source m tracker false None rest h
-        → reaction config (link_of c) (beat.A (a_beat_of m k)) e ≡ performed config (service_for c m e.trace)
+        → reaction config (link_of c) (Beat.A (a_beat_of m k)) e ≡ performed config (service_for c m e.trace)
         (with_beat c m k e.trace) e.memory
         → IsManagerOf config (access_taken c source m tracker p o rest h) after
     answered p o kept same done =
@@ -159,7 +149,7 @@ at_manager-request_taken {w} config log h sys c source k rest is first asked com
         refl (at_manager-matched config log h.mail h.request h.state sys is)))
 
     done : probes_some clients c false (cap_probed m.opcode m.param) b.pair ≡ false
-        → reaction config (link_of c) (beat.A (a_beat_of m k)) e ≡ performed config (service_for c m e.trace)
+        → reaction config (link_of c) (Beat.A (a_beat_of m k)) e ≡ performed config (service_for c m e.trace)
         (with_beat c m k e.trace) e.memory
     done none = reaction-performed config log h.mail h.request h.state sys c k n false m is comes last asked.access refl
         none
@@ -214,12 +204,12 @@ pub caps_asked : (w : ℕ) (whole : Bool) (g : Grow) (source n : ℕ)
     → cap_probed (acquisition {w = w} (acquire_opcode whole) g source n).opcode
     (acquisition {w = w} (acquire_opcode whole) g source n).param ≡ Some
     (cap_asked (AcquireOpen whole g))
-caps_asked w true grow.NtoB source n = refl
-caps_asked w true grow.NtoT source n = refl
-caps_asked w true grow.BtoT source n = refl
-caps_asked w false grow.NtoB source n = refl
-caps_asked w false grow.NtoT source n = refl
-caps_asked w false grow.BtoT source n = refl
+caps_asked w true Grow.NtoB source n = refl
+caps_asked w true Grow.NtoT source n = refl
+caps_asked w true Grow.BtoT source n = refl
+caps_asked w false Grow.NtoB source n = refl
+caps_asked w false Grow.NtoT source n = refl
+caps_asked w false Grow.BtoT source n = refl
 
 -- the Acquire that is wanted
 abbrev pub acquire_wanted : {w : ℕ} (c n : ℕ) (s : State (List ℕ)) → IsWanted w c n s → MessageA w
@@ -228,8 +218,8 @@ acquire_wanted c n s is = acquisition (acquire_opcode is.whole) is.grow ((s.bloc
 pub ready-acquire : {w : ℕ} (config : Config) (log : Log w) (h : AbstractState w) (sys : System w) (c n k : ℕ)
     → SimulationRelation config log h.mail h.request h.state sys → (asked : IsWanted w c n h.state)
     → IsComing config c k (acquire_wanted c n h.state asked) sys.manager
-    → beats_of (message.A (acquire_wanted c n h.state asked)) ≡ suc k
-    → must_wait config (link_of c) (beat.A (a_beat_of (acquire_wanted c n h.state asked) k)) sys.manager.trace ≡ false
+    → beats_of (Message.A (acquire_wanted c n h.state asked)) ≡ suc k
+    → must_wait config (link_of c) (Beat.A (a_beat_of (acquire_wanted c n h.state asked) k)) sys.manager.trace ≡ false
     → IsReady (next_tracker sys) c Acquire n h
 ready-acquire config log h sys c n k is asked comes last moves = (
   ap (λ i. (h.state.block i).service) (sym (same_block n))
@@ -242,8 +232,8 @@ pub at_manager-acquire_taken : {w : ℕ} (config : Config) (log : Log w) (h : Ab
     (c n k : ℕ) (rest : List Packet) → SimulationRelation config log h.mail h.request h.state sys
     → (h.state.link c).a ≡ packet Acquire n ∷ rest → (asked : IsWanted w c n h.state)
     → IsComing config c k (acquire_wanted c n h.state asked) sys.manager
-    → beats_of (message.A (acquire_wanted c n h.state asked)) ≡ suc k
-    → must_wait config (link_of c) (beat.A (a_beat_of (acquire_wanted c n h.state asked) k)) sys.manager.trace ≡ false
+    → beats_of (Message.A (acquire_wanted c n h.state asked)) ≡ suc k
+    → must_wait config (link_of c) (Beat.A (a_beat_of (acquire_wanted c n h.state asked) k)) sys.manager.trace ≡ false
     → IsManagerOf config (kind_taken config (next_tracker sys) c Acquire n rest h)
     (end_after config c k (acquire_wanted c n h.state asked) sys.manager)
 at_manager-acquire_taken {w} config log h sys c n k rest is first asked comes last moves =

@@ -7,31 +7,23 @@ use Rattle.tl_coherence.proofs.manager.Imports.{Acquire, Probe, ProbeAck, Releas
 use Rattle.tl_coherence.proofs.manager.Imports.{Packet, set, IsServedWith}
 use Rattle.std.proofs.Common.{◌≡◌, ℕ, Bool, true, false, ◌==◌, List, ◌∷◌, refl, sym, ◌∙◌, ap, ap₂, inl, inr}
 use Rattle.std.proofs.lemmas.Bool.{cases_eq, eqb-true}
-use Rattle.tl_burst.specs.declared.message.Message.TheVariants as message
-use Rattle.tl_client.specs.declared.operation.Op.{Op}
-use Rattle.tl_client.specs.declared.operation.Op.TheVariants as op
-use Rattle.tl_client.specs.declared.reply.Reply.{Reply}
-use Rattle.tl_client.specs.declared.reply.Reply.TheVariants as reply
-use Rattle.tl_client.specs.statement.Ask.{copy_stored, whole_grow}
-use Rattle.tl_client.specs.statement.Send.{access}
-use Rattle.tl_coherence.specs.refinement.AbstractStep.{asked, taken_by_client}
-use Rattle.tl_coherence.specs.protocol.Phase.{ProbeSent, is_whole}
+use Rattle.tl_client.{specs.declared.operation.Op.Op, specs.declared.reply.Reply.Reply, specs.statement.Ask.copy_stored}
+use Rattle.tl_client.{specs.statement.Ask.whole_grow, specs.statement.Send.access}
+use Rattle.tl_coherence.specs.{refinement.AbstractStep.asked, refinement.AbstractStep.taken_by_client}
+use Rattle.tl_coherence.specs.{protocol.Phase.ProbeSent, protocol.Phase.is_whole, protocol.Tokens.shown}
+use Rattle.tl_coherence.specs.{refinement.PacketMessages.cap_sent, protocol.Packet.set_at}
 use Rattle.tl_coherence.specs.protocol.PhaseSteps.{after_acquire, after_release, after_probe, after_grant}
 use Rattle.tl_coherence.specs.protocol.PhaseSteps.{after_release_ack}
 use Rattle.tl_coherence.specs.protocol.Protocol.{acquiring_block, releasing_block, stored_block, probed_block}
-use Rattle.tl_coherence.specs.protocol.Tokens.{shown}
 use Rattle.tl_coherence.specs.protocol.Protocol.{taken_block, let_go_block, access_asked, acquire_asked, release_asked}
 use Rattle.tl_coherence.specs.protocol.Protocol.{block_stored, probe_taken, answer_taken, grant_taken}
 use Rattle.tl_coherence.specs.protocol.Protocol.{release_ack_taken}
-use Rattle.tl_coherence.specs.refinement.PacketMessages.{cap_sent}
-use Rattle.tl_coherence.specs.protocol.Packet.{set_at}
-use Rattle.tl_coherence.proofs.manager.Traces.{IsSameToManager, SameService}
-use Rattle.tl_coherence.proofs.manager.Choices.{waits-used}
-use Rattle.tl_coherence.proofs.protocol.FollowKept.{IsAskable, asked-kept}
-use Rattle.tl_coherence.proofs.manager.ManagersEnd.{IsAtManager, at_manager-same}
+use Rattle.tl_coherence.proofs.{manager.Traces.IsSameToManager, manager.Traces.SameService, manager.Choices.waits-used}
+use Rattle.tl_coherence.proofs.{protocol.FollowKept.IsAskable, protocol.FollowKept.asked-kept}
+use Rattle.tl_coherence.proofs.{manager.ManagersEnd.IsAtManager, manager.ManagersEnd.at_manager-same}
+use Rattle.tl_coherence.proofs.{protocol.BothParts.granting-own, protocol.BothParts.sent-is}
+use Rattle.tl_coherence.proofs.{manager.ManagerAfter.IsManagerOf}
 use Rattle.tl_coherence.proofs.queues.Tokens.{set-same, set-other, set-part, holds-first}
-use Rattle.tl_coherence.proofs.protocol.BothParts.{granting-own, sent-is}
-use Rattle.tl_coherence.proofs.manager.ManagerAfter.{IsManagerOf}
 
 -- ---- one block changes, and not to the manager
 
@@ -166,7 +158,7 @@ asked_with caching c source n i mail s m inv closed (GrantTaken q) e ok = tt
 at_manager-access : {w : ℕ} (caching : ℕ → Bool) (config : Config) (c source : ℕ) (m : MessageA w) (h : AbstractState w)
     (e : End w) → IsInvariant caching h.state
     → h.state.uses c source ≡ SourceFree → IsInvariant caching (access_asked c source h.state)
-    → IsManagerOf config h e → IsManagerOf config (asked c (op.Access (message.A m)) (reply.Started source) h) e
+    → IsManagerOf config h e → IsManagerOf config (asked c (Op.Access (Message.A m)) (Reply.Started source) h) e
 at_manager-access {w} caching config c source m h e inv closed after is =
     let now : IsAtManager config h.mail h.request (access_asked c source h.state) e =
     at_manager-untouched caching config h.mail h.request h.state (access_asked c source h.state) e after (λ i. refl) is
@@ -189,27 +181,27 @@ at_manager-asked {w} caching config c o r h e inv may is = go o r may (asked-kep
   where
     go : (o : Op w) (r : Reply) → IsAskable caching c o r h → IsInvariant caching (asked c o r h).state
         → IsManagerOf config (asked c o r h) e
-    go (op.Store address size value) reply.Stored may after =
+    go (Op.Store address size value) Reply.Stored may after =
         let bytes = copy_stored address size value ((h.state.block (block_at address)).copy c) in
         at_manager-unseen caching config h.mail h.request (block_at address)
         (stored_block c bytes (h.state.block (block_at address))) h.state
         (block_stored c (block_at address) bytes h.state) e after (λ i. refl)
         (same-stored c bytes (h.state.block (block_at address))) is
-    go (op.Acquire n g) (reply.Started source) may after =
+    go (Op.Acquire n g) (Reply.Started source) may after =
         at_manager-unseen caching config h.mail h.request n
         (acquiring_block c source false g ((h.state.block n).waiting c) (h.state.block n)) h.state
         (acquire_asked c n source false g ((h.state.block n).waiting c) h.state) e after (λ i. refl)
         (same-acquiring c source false g ((h.state.block n).waiting c) (h.state.block n)) is
-    go (op.AcquireWhole n bytes) (reply.Started source) may after =
+    go (Op.AcquireWhole n bytes) (Reply.Started source) may after =
         let g = whole_grow ((h.state.block n).pair c).held in
         at_manager-unseen caching config h.mail h.request n (acquiring_block c source true g bytes (h.state.block n))
         h.state (acquire_asked c n source true g bytes h.state) e after (λ i. refl)
         (same-acquiring c source true g bytes (h.state.block n)) is
-    go (op.Release n p) (reply.Started source) may after =
+    go (Op.Release n p) (Reply.Started source) may after =
         at_manager-unseen caching config h.mail h.request n (releasing_block c source p (h.state.block n)) h.state
         (release_asked c n source p h.state) e after
         (λ i. refl) (same-releasing c source p (h.state.block n)) is
-    go (op.Access (message.A m)) (reply.Started source) may after = at_manager-access caching config c source m h e inv
+    go (Op.Access (Message.A m)) (Reply.Started source) may after = at_manager-access caching config c source m h e inv
         may after is
     go o r may after = is
 

@@ -2,12 +2,11 @@
 use Rattle.tl_coherence.proofs.memory.Imports.{Message, IsBlock, effect, IsAccess, MemoryRelation, Machine, Open, Pool}
 use Rattle.tl_coherence.proofs.memory.Imports.{Requests, Releases, same_pool, with_open, with_memory, performed, State}
 use Rattle.tl_coherence.proofs.memory.Imports.{SourceState, SourceFree, Asked, InService, Replied, Acquires, performing}
-use Rattle.tl_coherence.proofs.memory.Imports.{AccessMessages, set_at}
+use Rattle.tl_coherence.proofs.memory.Imports.{AccessMessages, set_at, Op}
 use Rattle.std.proofs.Common.{◌≡◌, ℕ, Bool, true, false, ◌&&◌, List, [], ◌∷◌, Option, Some, None, refl, sym, ◌∙◌, subst}
 use Rattle.std.proofs.Common.{◌⊎◌, inl, inr}
 use Rattle.std.specs.Prelude.{◌==◌, if◌then◌else◌, ⊤}
 use Rattle.std.proofs.lemmas.Bool.{cases_eq, ne_eqb}
-use Rattle.tl_client.specs.declared.operation.Op.TheVariants as op
 use Rattle.tl_coherence.specs.refinement.MemoryRelation.{Answers, IsOpened, IsLet}
 use Rattle.tl_coherence.proofs.queues.Tokens.{same_number, set_at-same}
 
@@ -216,15 +215,15 @@ beside-let {w} c source l mail s s' m m' is h = record {
 -- the machine after it
 abbrev pub done_at : {w : ℕ} → ℕ → ℕ → Message w → Machine w → Machine w
 done_at c source a m = with_open c Requests source
-    (Some (record { asked = op.Access a; answer = Some (effect a m.memory).1 })) (with_memory (effect a m.memory).0 m)
+    (Some (record { asked = Op.Access a; answer = Some (effect a m.memory).1 })) (with_memory (effect a m.memory).0 m)
 
 pub performed-open : {w : ℕ} (c source : ℕ) (a : Message w) (m : Machine w)
-    → m.opened c Requests source ≡ Some (record { asked = op.Access a; answer = None })
+    → m.opened c Requests source ≡ Some (record { asked = Op.Access a; answer = None })
     → performed c source m ≡ Some (done_at c source a m)
 performed-open c source a m e = rw e refl
 
 pub performing-one : {w : ℕ} (c source : ℕ) (a : Message w) (m : Machine w)
-    → m.opened c Requests source ≡ Some (record { asked = op.Access a; answer = None })
+    → m.opened c Requests source ≡ Some (record { asked = Op.Access a; answer = None })
     → performing ((c, source) ∷ []) m ≡ done_at c source a m
 unfolding performing
 performing-one c source a m e = rw e refl

@@ -2,39 +2,26 @@
 use Rattle.tl_coherence.proofs.memory.Imports.{MessageA, Memory, IsBlock, block_at, same_perm, Op, Reply}
 use Rattle.tl_coherence.proofs.memory.Imports.{MemoryRelation, AbstractState, Machine, Open, Requests, Releases}
 use Rattle.tl_coherence.proofs.memory.Imports.{with_open, after_reply, ClientBlock, AcquireOpen, Block, State}
-use Rattle.tl_coherence.proofs.memory.Imports.{SourceState, Asked, Acquires}
-use Rattle.tl_coherence.proofs.memory.Imports.{AccessMessages, set_at}
+use Rattle.tl_coherence.proofs.memory.Imports.{SourceState, Asked, Acquires, AccessMessages, set_at, Message}
 use Rattle.std.proofs.Common.{◌≡◌, ℕ, Bool, true, false, ◌&&◌, List, Option, Some, None, length, refl, sym, ◌∙◌, ap}
 use Rattle.std.proofs.Common.{subst, ◌⊎◌, inl, inr}
-use Rattle.std.specs.Prelude.{◌==◌, ⊤}
-use Rattle.std.proofs.lemmas.Bool.{cases_eq}
-use Rattle.tl_burst.specs.declared.message.Message.TheVariants as message
-use Rattle.tl_params.specs.declared.param.Grow.{Grow}
-use Rattle.tl_params.specs.declared.perm.Perm.TheVariants as perm
-use Rattle.tl_params.specs.declared.param.Prune.{Prune}
-use Rattle.tl_client.specs.declared.operation.Op.TheVariants as op
-use Rattle.tl_client.specs.declared.reply.Reply.TheVariants as reply
+use Rattle.std.{specs.Prelude.◌==◌, specs.Prelude.⊤, proofs.lemmas.Bool.cases_eq}
+use Rattle.tl_params.{specs.declared.param.Grow.Grow, specs.declared.perm.Perm.Perm, specs.declared.param.Prune.Prune}
 use Rattle.tl_client.specs.statement.Ask.{copy_stored, is_word, whole_grow}
-use Rattle.tl_client.specs.statement.Send.{access}
-use Rattle.tl_client.proofs.caching_client.Stores.{word_room}
-use Rattle.tl_coherence.specs.refinement.MemoryRelation.{op_of}
-use Rattle.tl_coherence.specs.refinement.AbstractStep.{asked}
-use Rattle.tl_coherence.specs.protocol.Invariant.{acquires_of, IsInvariant}
-use Rattle.tl_coherence.specs.statement.Machine.{with_number}
-use Rattle.tl_coherence.specs.protocol.Phase.{AcquirePhase, NoAcquire}
-use Rattle.tl_coherence.specs.protocol.PhaseSteps.{after_acquire, after_release}
-use Rattle.tl_coherence.specs.protocol.Protocol.{access_asked, acquiring_block, acquire_asked}
-use Rattle.tl_coherence.specs.protocol.Tokens.{is_wanting}
-use Rattle.tl_coherence.specs.protocol.Protocol.{releasing_block, release_asked, stored_block, block_stored}
-use Rattle.tl_coherence.specs.protocol.Packet.{set}
-use Rattle.tl_coherence.specs.refinement.SimulationRelation.{AreSized}
+use Rattle.tl_client.{specs.statement.Send.access, proofs.caching_client.Stores.word_room}
+use Rattle.tl_coherence.specs.{refinement.MemoryRelation.op_of, refinement.AbstractStep.asked}
+use Rattle.tl_coherence.specs.{protocol.Invariant.acquires_of, protocol.Invariant.IsInvariant}
+use Rattle.tl_coherence.specs.{statement.Machine.with_number, protocol.Phase.AcquirePhase, protocol.Phase.NoAcquire}
+use Rattle.tl_coherence.specs.{protocol.PhaseSteps.after_acquire, protocol.PhaseSteps.after_release}
+use Rattle.tl_coherence.specs.{protocol.Tokens.is_wanting, protocol.Packet.set, refinement.SimulationRelation.AreSized}
+use Rattle.tl_coherence.specs.protocol.Protocol.{access_asked, acquiring_block, acquire_asked, releasing_block}
+use Rattle.tl_coherence.specs.protocol.Protocol.{release_asked, stored_block, block_stored}
 use Rattle.tl_coherence.proofs.memory.Beside.{IsElsewhere, IsSameAcquire, set_at-there, open-here, open-there}
 use Rattle.tl_coherence.proofs.memory.Beside.{open-releases, open-requests, beside-still, beside-used, beside-let}
-use Rattle.tl_coherence.proofs.protocol.FollowKept.{IsAskable}
-use Rattle.tl_coherence.proofs.memory.OneMemory.{block-stored, block-unstored}
-use Rattle.tl_coherence.proofs.simulation.SizedAfter.{IsSizedAsk}
+use Rattle.tl_coherence.proofs.{protocol.FollowKept.IsAskable, memory.OneMemory.block-stored}
+use Rattle.tl_coherence.proofs.{memory.OneMemory.block-unstored, simulation.SizedAfter.IsSizedAsk}
+use Rattle.tl_coherence.proofs.{queues.Perms.trunk-some}
 use Rattle.tl_coherence.proofs.queues.Tokens.{same_number, set-same, set-other, set-part, set_at-same}
-use Rattle.tl_coherence.proofs.queues.Perms.{trunk-some}
 
 -- ---- Acquires of other sources
 
@@ -87,12 +74,12 @@ calm-none caching s c n i inv calm e =
 
 -- a client answers a Load and a Store at once, and no message of another channel starts
 abbrev pub IsReply : {w : ℕ} → Op w → Reply → Type 0
-IsReply (op.Load address size) (reply.Started source) = ⊥
-IsReply (op.Store address size value) (reply.Started source) = ⊥
-IsReply (op.Access (message.B m)) (reply.Started source) = ⊥
-IsReply (op.Access (message.C m)) (reply.Started source) = ⊥
-IsReply (op.Access (message.D m)) (reply.Started source) = ⊥
-IsReply (op.Access (message.E m)) (reply.Started source) = ⊥
+IsReply (Op.Load address size) (Reply.Started source) = ⊥
+IsReply (Op.Store address size value) (Reply.Started source) = ⊥
+IsReply (Op.Access (Message.B m)) (Reply.Started source) = ⊥
+IsReply (Op.Access (Message.C m)) (Reply.Started source) = ⊥
+IsReply (Op.Access (Message.D m)) (Reply.Started source) = ⊥
+IsReply (Op.Access (Message.E m)) (Reply.Started source) = ⊥
 IsReply o r = ⊤
 
 truth_as : (f : Memory) (n i : ℕ) (new : Block (List ℕ)) (block : ℕ → Block (List ℕ)) → new.truth ≡ (block n).truth
@@ -144,17 +131,17 @@ beside-acquire_asked {w} caching c n source whole g bytes o mail s m inv calm is
 pub beside-release_asked : {w : ℕ} (c n source : ℕ) (r : Prune) (mail : AccessMessages w) (s : State (List ℕ))
     (m : Machine w) → MemoryRelation mail s m
     → MemoryRelation mail (release_asked c n source r s)
-    (with_open c Releases source (Some (record { asked = op.Release n r; answer = None })) m)
+    (with_open c Releases source (Some (record { asked = Op.Release n r; answer = None })) m)
 beside-release_asked {w} c n source r mail s m h =
     beside-let c source (Some n) mail s (release_asked c n source r s) m
-    (with_open c Releases source (Some (record { asked = op.Release n r; answer = None })) m) (record {
+    (with_open c Releases source (Some (record { asked = Op.Release n r; answer = None })) m) (record {
       memory = λ i. truth_as m.memory n i new s.block refl (h.memory i);
       uses = λ d i. refl;
       lets = λ d i. refl;
-      here = (r, open-here c Releases source (Some (record { asked = op.Release n r; answer = None })) m);
-      there = λ d i else_. open-there c Releases source (Some (record { asked = op.Release n r; answer = None })) m d i
+      here = (r, open-here c Releases source (Some (record { asked = Op.Release n r; answer = None })) m);
+      there = λ d i else_. open-there c Releases source (Some (record { asked = Op.Release n r; answer = None })) m d i
           else_;
-      requests = λ d i. open-requests c source (Some (record { asked = op.Release n r; answer = None })) m d i;
+      requests = λ d i. open-requests c source (Some (record { asked = Op.Release n r; answer = None })) m d i;
       acquires = λ d i. (
         set-part (λ (b : Block (List ℕ)). (b.pair d).acquiring) n new s.block
             (set-part (λ (p : ClientBlock). p.acquiring) c (after_release r ((s.block n).pair c)) (s.block n).pair refl
@@ -170,14 +157,14 @@ pub beside-access_asked : {w : ℕ} (c source : ℕ) (a : MessageA w) (mail : Ac
     (m : Machine w) → MemoryRelation mail s m
     → MemoryRelation (record { request = set_at c source (access source a) mail.request; answer = mail.answer })
     (access_asked c source s)
-    (with_open c Requests source (Some (record { asked = op.Access (message.A a); answer = None })) m)
+    (with_open c Requests source (Some (record { asked = Op.Access (Message.A a); answer = None })) m)
 beside-access_asked {w} c source a mail s m h =
     beside-used c source Asked mail (record {
       request = set_at c source (access source a) mail.request;
       answer =
           mail.answer;
     }) s (access_asked c source s) m
-    (with_open c Requests source (Some (record { asked = op.Access (message.A a); answer = None })) m) (record {
+    (with_open c Requests source (Some (record { asked = Op.Access (Message.A a); answer = None })) m) (record {
       memory = h.memory;
       uses = λ d i. refl;
       lets = λ d i. refl;
@@ -185,11 +172,11 @@ beside-access_asked {w} c source a mail s m h =
         a,
         set_at-same c source (access source a) mail.request,
         open-here c Requests source
-            (Some (record { asked = op.Access (message.A a); answer = None })) m,
+            (Some (record { asked = Op.Access (Message.A a); answer = None })) m,
       );
       there = λ d i else_. open-there c Requests source
-          (Some (record { asked = op.Access (message.A a); answer = None })) m d i else_;
-      releases = λ d i. open-releases c source (Some (record { asked = op.Access (message.A a); answer = None })) m d i;
+          (Some (record { asked = Op.Access (Message.A a); answer = None })) m d i else_;
+      releases = λ d i. open-releases c source (Some (record { asked = Op.Access (Message.A a); answer = None })) m d i;
       requests = λ d i else_. set_at-there c source (access source a) mail.request d i else_;
       answers = λ d i else_. refl;
       acquires = λ d i else_. same_blocks d (s.uses d i);
@@ -202,7 +189,7 @@ beside-access_asked {w} c source a mail s m h =
 pub beside-block_stored : {w : ℕ} (caching : ℕ → Bool) (c address size value : ℕ) (mail : AccessMessages w)
     (s : State (List ℕ)) (m : Machine w) → IsInvariant caching s
     → AreSized (s.block (block_at address)) → is_word address size ≡ true
-    → same_perm ((s.block (block_at address)).pair c).held perm.Trunk ≡ true → MemoryRelation mail s m
+    → same_perm ((s.block (block_at address)).pair c).held Perm.Trunk ≡ true → MemoryRelation mail s m
     → MemoryRelation mail (block_stored c (block_at address)
     (copy_stored address size value ((s.block (block_at address)).copy c)) s)
     (record m { memory = with_number address size value m.memory })
@@ -254,17 +241,17 @@ pub beside-asked : {w : ℕ} (caching : ℕ → Bool) (c : ℕ) (o : Op w) (r : 
     → IsInvariant caching h.state
     → ((n : ℕ) → AreSized (h.state.block n)) → IsReply o r → IsAskable caching c o r h → IsSizedAsk c o r h
     → MemoryRelation h.mail h.state m → MemoryRelation (asked c o r h).mail (asked c o r h).state (after_reply c o r m)
-beside-asked caching c (op.Store address size value) reply.Stored h m inv sized is may word b =
+beside-asked caching c (Op.Store address size value) Reply.Stored h m inv sized is may word b =
     beside-block_stored caching c address size value h.mail h.state m inv (sized (block_at address)) word.0 word.1 b
-beside-asked caching c (op.Acquire n g) (reply.Started source) h m inv sized is may word b =
-    beside-acquire_asked caching c n source false g ((h.state.block n).waiting c) (op.Acquire n g) h.mail h.state m inv
+beside-asked caching c (Op.Acquire n g) (Reply.Started source) h m inv sized is may word b =
+    beside-acquire_asked caching c n source false g ((h.state.block n).waiting c) (Op.Acquire n g) h.mail h.state m inv
     may.2 refl b
-beside-asked caching c (op.AcquireWhole n bytes) (reply.Started source) h m inv sized is may word b =
+beside-asked caching c (Op.AcquireWhole n bytes) (Reply.Started source) h m inv sized is may word b =
     beside-acquire_asked caching c n source true (whole_grow ((h.state.block n).pair c).held) bytes
-    (op.AcquireWhole n bytes) h.mail h.state m inv may.2 refl b
-beside-asked caching c (op.Release n p) (reply.Started source) h m inv sized is may word b =
+    (Op.AcquireWhole n bytes) h.mail h.state m inv may.2 refl b
+beside-asked caching c (Op.Release n p) (Reply.Started source) h m inv sized is may word b =
     beside-release_asked c n source p h.mail h.state m b
-beside-asked caching c (op.Access (message.A a)) (reply.Started source) h m inv sized is may word b =
+beside-asked caching c (Op.Access (Message.A a)) (Reply.Started source) h m inv sized is may word b =
     beside-access_asked c source a h.mail h.state m b
-beside-asked caching c o (reply.Started source) h m inv sized is may word b = absurd is
+beside-asked caching c o (Reply.Started source) h m inv sized is may word b = absurd is
 beside-asked caching c o r h m inv sized is may word b = b

@@ -1,31 +1,23 @@
 -- The one-memory machine beside the protocol, after each message that is taken.
-use Rattle.tl_coherence.proofs.memory.Imports.{Message, MessageA, Config, Cap, IsBlock, effect, block_at}
-use Rattle.tl_coherence.proofs.memory.Imports.{cap_probed, MemoryRelation, AbstractState, some_below, bytes_at}
-use Rattle.tl_coherence.proofs.memory.Imports.{performs, Machine}
-use Rattle.tl_coherence.proofs.memory.Imports.{ClientBlock, AcquireOpen, Block, State}
-use Rattle.tl_coherence.proofs.memory.Imports.{InService, is_probed}
-use Rattle.tl_coherence.proofs.memory.Imports.{performing, AccessMessages, set_at}
+use Rattle.tl_coherence.proofs.memory.Imports.{Message, MessageA, Config, Cap, IsBlock, effect, block_at, cap_probed}
+use Rattle.tl_coherence.proofs.memory.Imports.{MemoryRelation, AbstractState, some_below, bytes_at, performs, Machine}
+use Rattle.tl_coherence.proofs.memory.Imports.{ClientBlock, AcquireOpen, Block, State, InService, is_probed, performing}
+use Rattle.tl_coherence.proofs.memory.Imports.{AccessMessages, set_at}
 use Rattle.std.proofs.Common.{◌≡◌, subst, ℕ, ◌≤◌, Bool, true, false, not, ◌&&◌, List, [], ◌∷◌, Option, Some, None}
 use Rattle.std.proofs.Common.{length, refl, sym, ◌∙◌, ap, ◌⊎◌, inl, inr}
-use Rattle.std.specs.Prelude.{◌==◌, if◌then◌else◌, ⊤}
-use Rattle.std.proofs.lemmas.Bool.{cases_eq}
-use Rattle.tl_burst.specs.declared.message.Message.TheVariants as message
-use Rattle.tl_params.specs.declared.param.Report.{Report}
-use Rattle.tl_params.specs.declared.profile.Profile.{Profile}
+use Rattle.std.{specs.Prelude.◌==◌, specs.Prelude.if◌then◌else◌, specs.Prelude.⊤, proofs.lemmas.Bool.cases_eq}
+use Rattle.tl_params.{specs.declared.param.Report.Report, specs.declared.profile.Profile.Profile}
 use Rattle.tl_coherence.specs.refinement.AbstractStep.{answers, probes_some, access_taken, request_taken, acquire_taken}
 use Rattle.tl_coherence.specs.refinement.AbstractStep.{granted_after, last_taken, ack_taken}
 use Rattle.tl_coherence.specs.protocol.Invariant.{IsInvariant}
-use Rattle.tl_coherence.specs.protocol.Phase.{ProbeAnswered, AcquirePhase, NoAcquire}
-use Rattle.tl_coherence.specs.protocol.Phase.{is_unprobed}
+use Rattle.tl_coherence.specs.protocol.Phase.{ProbeAnswered, AcquirePhase, NoAcquire, is_unprobed}
 use Rattle.tl_coherence.specs.protocol.PhaseSteps.{after_served, after_grant_sent, after_report}
-use Rattle.tl_coherence.specs.protocol.Protocol.{Service, Free, Waits, GrantSent, GrantTaken, written}
-use Rattle.tl_coherence.specs.protocol.Protocol.{performed_block, served_block, granted_at_once, reported_block}
-use Rattle.tl_coherence.specs.protocol.Protocol.{ended_block, granted_block, granted_pair}
-use Rattle.tl_coherence.specs.protocol.Protocol.{access_answered, access_served, report_taken}
-use Rattle.tl_coherence.specs.protocol.Protocol.{report_answers}
+use Rattle.tl_coherence.specs.protocol.Protocol.{Service, Free, Waits, GrantSent, GrantTaken, written, performed_block}
+use Rattle.tl_coherence.specs.protocol.Protocol.{served_block, granted_at_once, reported_block, ended_block}
+use Rattle.tl_coherence.specs.protocol.Protocol.{granted_block, granted_pair, access_answered, access_served}
+use Rattle.tl_coherence.specs.protocol.Protocol.{report_taken, report_answers}
 use Rattle.tl_coherence.specs.protocol.Packet.{Kind, Request, ProbeAck, Packet, set}
-use Rattle.tl_coherence.proofs.memory.Beside.{beside-still}
-use Rattle.tl_coherence.proofs.memory.Beside.{beside-used, same_acquire}
+use Rattle.tl_coherence.proofs.memory.Beside.{beside-still, beside-used, same_acquire}
 use Rattle.tl_coherence.proofs.memory.BesideTaken.{IsPerformed, beside-performed, memory-unprobed, memory-reported}
 use Rattle.tl_coherence.proofs.memory.BesideTaken.{intent-reply}
 use Rattle.tl_coherence.proofs.queues.Tokens.{set-same, set-other, set-part}
@@ -38,7 +30,7 @@ access_list c source true (Some k) = []
 access_list c source _ _ = (c, source) ∷ []
 
 abbrev pub request_accesses : {w : ℕ} → ℕ → ℕ → ℕ → Message w → AbstractState w → List (ℕ × ℕ)
-request_accesses clients c source (message.A m) h =
+request_accesses clients c source (Message.A m) h =
     access_list c source (probes_some clients c false (cap_probed m.opcode m.param)
     (h.state.block (block_at m.address)).pair) (cap_probed m.opcode m.param)
 request_accesses clients c source _ h = []
@@ -167,18 +159,18 @@ beside_answered {w} config c source x rest mail s m is same h =
     new = performed_block (performs x) (s.block n)
 
     reply_same : ((s.block n).memory ≡ (s.block n).truth) ⊎ (cap_probed x.opcode x.param ≡ None)
-        → (effect (message.A x) (bytes_at n (s.block n).truth)).1
-        ≡ (effect (message.A x) (bytes_at n (s.block n).memory)).1
-    reply_same (inl e) = ap (λ (b : List ℕ). (effect (message.A x) (bytes_at n b)).1) (sym e)
+        → (effect (Message.A x) (bytes_at n (s.block n).truth)).1
+        ≡ (effect (Message.A x) (bytes_at n (s.block n).memory)).1
+    reply_same (inl e) = ap (λ (b : List ℕ). (effect (Message.A x) (bytes_at n b)).1) (sym e)
     reply_same (inr e) = intent-reply x (bytes_at n (s.block n).truth) (bytes_at n (s.block n).memory) e
 
 pub beside-request : {w : ℕ} (caching : ℕ → Bool) (config : Config) (c source tracker : ℕ) (x : MessageA w)
     (rest : List Packet) (h : AbstractState w) (m : Machine w) → IsInvariant caching h.state
     → ((d : ℕ) → length config.clients.items ≤ d → caching d ≡ false) → IsPerformed config c source x h.mail h.state m
     → MemoryRelation h.mail h.state m
-    → MemoryRelation (request_taken (length config.clients.items) c source (message.A x) tracker rest h).mail
-    (request_taken (length config.clients.items) c source (message.A x) tracker rest h).state
-    (performing (request_accesses (length config.clients.items) c source (message.A x) h) m)
+    → MemoryRelation (request_taken (length config.clients.items) c source (Message.A x) tracker rest h).mail
+    (request_taken (length config.clients.items) c source (Message.A x) tracker rest h).state
+    (performing (request_accesses (length config.clients.items) c source (Message.A x) h) m)
 unfolding performing
 beside-request {w} caching config c source tracker x rest h m inv plain is beside =
     go (probes_some clients c false (cap_probed x.opcode x.param) b.pair) (cap_probed x.opcode x.param) refl refl
@@ -273,8 +265,8 @@ beside_ended {w} caching config c q n source r k rest h m inv waits answered set
     told : written r b.truth b.memory ≡ b.truth
     told = memory-reported caching c q source r k b (inv.blocks n) waits answered settled
 
-    reply_same : (effect (message.A x) (bytes_at (block_at x.address) (h.state.block (block_at x.address)).truth)).1
-        ≡ (effect (message.A x) (bytes_at (block_at x.address) (written r b.truth b.memory))).1
+    reply_same : (effect (Message.A x) (bytes_at (block_at x.address) (h.state.block (block_at x.address)).truth)).1
+        ≡ (effect (Message.A x) (bytes_at (block_at x.address) (written r b.truth b.memory))).1
     reply_same = cc (at, told)
 
 beside_last : {w : ℕ} (caching : ℕ → Bool) (config : Config) (clients : ℕ) (p : Profile) (c n : ℕ) (r : Report)

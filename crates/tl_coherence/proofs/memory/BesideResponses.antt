@@ -1,36 +1,25 @@
 -- The one memory stays beside the protocol where a client takes a response.
-use Rattle.tl_coherence.proofs.memory.Imports.{Cap, IsBlock, Op}
-use Rattle.tl_coherence.proofs.memory.Imports.{MemoryRelation}
-use Rattle.tl_coherence.proofs.memory.Imports.{Machine, Open, Requests, Releases, with_open, with_memory}
-use Rattle.tl_coherence.proofs.memory.Imports.{memory_after, after_end, AcquireOpen, Block, State}
-use Rattle.tl_coherence.proofs.memory.Imports.{SourceState, SourceFree, Replied, Acquires}
-use Rattle.tl_coherence.proofs.memory.Imports.{AccessMessages}
-use Rattle.std.proofs.Common.{◌≡◌, subst, ℕ, Bool, true, false, ◌&&◌, List, Option, Some, None}
-use Rattle.std.proofs.Common.{refl, sym, ◌∙◌, ap, ◌⊎◌, inl, inr}
-use Rattle.std.specs.Prelude.{◌==◌}
-use Rattle.std.proofs.lemmas.Bool.{cases_eq, ne_eqb}
-use Rattle.std.proofs.Math.Bool.{and-false}
-use Rattle.tl_burst.specs.declared.message.Message.TheVariants as message
-use Rattle.tl_client.specs.declared.operation.Op.TheVariants as op
+use Rattle.tl_coherence.proofs.memory.Imports.{Cap, IsBlock, Op, MemoryRelation, Machine, Open, Requests, Releases}
+use Rattle.tl_coherence.proofs.memory.Imports.{with_open, with_memory, memory_after, after_end, AcquireOpen, Block}
+use Rattle.tl_coherence.proofs.memory.Imports.{State, SourceState, SourceFree, Replied, Acquires, AccessMessages}
+use Rattle.tl_coherence.proofs.memory.Imports.{Message}
+use Rattle.std.proofs.Common.{◌≡◌, subst, ℕ, Bool, true, false, ◌&&◌, List, Option, Some, None, refl, sym, ◌∙◌, ap, ◌⊎◌}
+use Rattle.std.proofs.Common.{inl, inr}
+use Rattle.std.{specs.Prelude.◌==◌, proofs.lemmas.Bool.cases_eq, proofs.lemmas.Bool.ne_eqb, proofs.Math.Bool.and-false}
 use Rattle.tl_coherence.specs.refinement.MemoryRelation.{op_of, IsOpened, IsLet}
-use Rattle.tl_coherence.specs.protocol.Invariant.{acquires_of, IsInvariant}
-use Rattle.tl_coherence.specs.protocol.Phase.{AcquirePhase, NoAcquire}
-use Rattle.tl_coherence.specs.protocol.Phase.{is_unreleased, is_whole}
-use Rattle.tl_coherence.specs.protocol.PhaseSteps.{after_release_ack}
-use Rattle.tl_coherence.specs.protocol.PhaseSteps.{after_grant}
-use Rattle.tl_coherence.specs.protocol.Tokens.{is_wanting}
-use Rattle.tl_coherence.specs.protocol.Protocol.{taken_block, granted_truth}
-use Rattle.tl_coherence.specs.protocol.Protocol.{let_go_block}
-use Rattle.tl_coherence.specs.protocol.Protocol.{answer_taken, grant_taken, release_ack_taken}
-use Rattle.tl_coherence.specs.protocol.Packet.{Packet, set}
-use Rattle.tl_coherence.proofs.memory.Beside.{open-here, open-there, open-releases, open-requests}
-use Rattle.tl_coherence.proofs.memory.Beside.{beside-used, beside-let, same_acquire}
-use Rattle.tl_coherence.proofs.memory.BesideAsked.{acquires-else}
-use Rattle.tl_coherence.proofs.memory.OneMemory.{block-besides}
+use Rattle.tl_coherence.specs.{protocol.Invariant.acquires_of, protocol.Invariant.IsInvariant}
+use Rattle.tl_coherence.specs.{protocol.PhaseSteps.after_release_ack, protocol.PhaseSteps.after_grant}
+use Rattle.tl_coherence.specs.{protocol.Tokens.is_wanting, protocol.Packet.Packet, protocol.Packet.set}
+use Rattle.tl_coherence.specs.protocol.Phase.{AcquirePhase, NoAcquire, is_unreleased, is_whole}
+use Rattle.tl_coherence.specs.protocol.Protocol.{taken_block, granted_truth, let_go_block, answer_taken, grant_taken}
+use Rattle.tl_coherence.specs.protocol.Protocol.{release_ack_taken}
+use Rattle.tl_coherence.proofs.memory.Beside.{open-here, open-there, open-releases, open-requests, beside-used}
+use Rattle.tl_coherence.proofs.memory.Beside.{beside-let, same_acquire}
+use Rattle.tl_coherence.proofs.{memory.BesideAsked.acquires-else, memory.OneMemory.block-besides}
+use Rattle.tl_coherence.proofs.{protocol.BothParts.is_of-is, protocol.BothParts.acquires_of-is}
+use Rattle.tl_coherence.proofs.{memory.BesideKinds.same_acquiring}
 use Rattle.tl_manager.proofs.blocks.Blocks.{block-put}
 use Rattle.tl_coherence.proofs.queues.Tokens.{same_number, set-same, set-other, set-part}
-use Rattle.tl_coherence.proofs.protocol.BothParts.{is_of-is, acquires_of-is}
-use Rattle.tl_coherence.proofs.memory.BesideKinds.{same_acquiring}
 
 -- ---- responses
 
@@ -47,11 +36,11 @@ beside-answer {w} c source rest mail s m used h =
     go : (o : Option (Open w)) → m.opened c Requests source ≡ o
         → IsOpened c source mail s Replied (m.opened c Requests source)
         → MemoryRelation mail (answer_taken c source rest s) (after_end c Requests source o m)
-    go None e i = absurd (let no : Some (record { asked = op.Access (message.A i.1.0); answer = Some i.0 }) ≡ None =
+    go None e i = absurd (let no : Some (record { asked = Op.Access (Message.A i.1.0); answer = Some i.0 }) ≡ None =
         sym i.1.2 ∙ e in cc)
     go (Some o) e i =
-        let asked : o ≡ record { asked = op.Access (message.A i.1.0); answer = Some i.0 } =
-        some_is o (record { asked = op.Access (message.A i.1.0); answer = Some i.0 }) (sym e ∙ i.1.2) in
+        let asked : o ≡ record { asked = Op.Access (Message.A i.1.0); answer = Some i.0 } =
+        some_is o (record { asked = Op.Access (Message.A i.1.0); answer = Some i.0 }) (sym e ∙ i.1.2) in
         subst (λ (y : Open w). MemoryRelation mail (answer_taken c source rest s)
         (after_end c Requests source (Some y) m)) (sym asked)
         (beside-used c source SourceFree mail mail s (answer_taken c source rest s) m

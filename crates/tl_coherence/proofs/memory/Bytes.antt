@@ -6,27 +6,18 @@ use Rattle.tl_coherence.proofs.memory.Imports.{performing, one_memory_after}
 use Rattle.std.proofs.Common.{◌≡◌, ℕ, zero, suc, ◌+◌, ◌-◌, ◌/◌, ◌%◌, ◌^◌, ◌<◌, Bool, true, false, List, [], ◌∷◌, Option}
 use Rattle.std.proofs.Common.{Some, None, length, refl, inl, inr, lit<}
 use Rattle.std.specs.Prelude.{◌==◌, ◌&&◌, if◌then◌else◌, slice_get, slice_index, unwrap_or}
-use Rattle.std.proofs.lemmas.Bool.{cases_lt}
-use Rattle.std.proofs.lemmas.List.{get_or_past}
+use Rattle.std.{proofs.lemmas.Bool.cases_lt, proofs.lemmas.List.get_or_past, proofs.lemmas.Nat.mod_below}
+use Rattle.std.{proofs.lemmas.Option.get_or_from_slice_get}
 use Rattle.std.proofs.lemmas.List.Elements.{All-nil, All-cons, All-get_or}
-use Rattle.std.proofs.lemmas.Nat.{mod_below}
-use Rattle.std.proofs.lemmas.Option.{get_or_from_slice_get}
-use Rattle.tl_beat.specs.declared.opcode.OpA.TheVariants as a
 use Rattle.tl_beat.specs.statement.Opcode.{a_carries_data}
-use Rattle.tl_burst.specs.declared.message.Message.TheVariants as message
 use Rattle.tl_burst.specs.statement.Burst.{bit, byte_if, place_of, reaches}
 use Rattle.tl_rules.specs.statement.Effect as memory
 use Rattle.tl_rules.specs.statement.Effect.{bytes_from, byte_of}
-use Rattle.tl_client.specs.declared.operation.Op.TheVariants as op
-use Rattle.tl_client.specs.declared.reply.Reply.TheVariants as reply
-use Rattle.tl_coherence.specs.declared.event.Event.{Event}
+use Rattle.tl_coherence.specs.{declared.event.Event.Event, declared.event.Outcome.Outcome, statement.Log.system_after}
+use Rattle.tl_coherence.specs.{statement.Step.stepped}
 use Rattle.tl_coherence.specs.declared.event.Event.TheVariants.{Ask, Deliver}
-use Rattle.tl_coherence.specs.declared.event.Outcome.{Outcome}
-use Rattle.tl_coherence.specs.declared.event.Outcome.TheVariants as outcome
-use Rattle.tl_coherence.specs.statement.Log.{system_after}
 use Rattle.tl_coherence.specs.statement.Machine.{first, moved, performed_op, performed_open, pool_of, pool_of_op}
 use Rattle.tl_coherence.specs.statement.Ranged.{AreBytes, AreRanged, IsRanged, IsRangedOp}
-use Rattle.tl_coherence.specs.statement.Step.{stepped}
 
 -- ---- bytes
 
@@ -90,22 +81,22 @@ module _ {w : ℕ} (m : MessageA w) (f : Memory) (payload : AreBytes m.payload) 
       (of-number n (address - m.address)) (are address)
 
   memory-after : (opcode : OpA) → HasBytes (memory.after opcode m f)
-  memory-after a.PutFullData address = stored-byte address
-  memory-after a.PutPartialData address = stored-byte address
-  memory-after a.ArithmeticData address = made-byte _ address
-  memory-after a.LogicalData address = made-byte _ address
+  memory-after OpA.PutFullData address = stored-byte address
+  memory-after OpA.PutPartialData address = stored-byte address
+  memory-after OpA.ArithmeticData address = made-byte _ address
+  memory-after OpA.LogicalData address = made-byte _ address
   memory-after opcode address = are address
 
   replied : (opcode : OpA) → IsRangedReply (memory.access_result opcode m f)
-  replied a.ArithmeticData = bytes-from f m.address (memory.byte_count m) are
-  replied a.LogicalData = bytes-from f m.address (memory.byte_count m) are
-  replied a.Get = bytes-from f m.address (memory.byte_count m) are
+  replied OpA.ArithmeticData = bytes-from f m.address (memory.byte_count m) are
+  replied OpA.LogicalData = bytes-from f m.address (memory.byte_count m) are
+  replied OpA.Get = bytes-from f m.address (memory.byte_count m) are
   replied opcode = tt
 
-effect-bytes : {w : ℕ} (x : Message w) (f : Memory) → IsRangedOp (op.Access x) → HasBytes f → HasBytes (effect x f).0
+effect-bytes : {w : ℕ} (x : Message w) (f : Memory) → IsRangedOp (Op.Access x) → HasBytes f → HasBytes (effect x f).0
     × IsRangedReply (effect x f).1
 unfolding effect
-effect-bytes (message.A m) f payload are = (memory-after m f payload are m.opcode, replied m f payload are m.opcode)
+effect-bytes (Message.A m) f payload are = (memory-after m f payload are m.opcode, replied m f payload are m.opcode)
 effect-bytes x f payload are = (are, tt)
 
 -- ---- the machine
@@ -146,16 +137,16 @@ started-ranged client o n m is was = opened-ranged client (pool_of_op o) n (Some
 
 reply-ranged : {w : ℕ} (client : ℕ) (o : Op w) (r : Reply) (m : Machine w) → IsRangedOp o → IsRangedMachine m
     → IsRangedMachine (after_reply client o r m)
-reply-ranged client (op.Load address size) (reply.Started n) m is was =
-    started-ranged client (op.Load address size) n m is was
-reply-ranged client (op.Store address size value) (reply.Started n) m is was =
-    started-ranged client (op.Store address size value) n m is was
-reply-ranged client (op.Acquire k g) (reply.Started n) m is was = started-ranged client (op.Acquire k g) n m is was
-reply-ranged client (op.AcquireWhole k bytes) (reply.Started n) m is was =
-    started-ranged client (op.AcquireWhole k bytes) n m is was
-reply-ranged client (op.Release k p) (reply.Started n) m is was = started-ranged client (op.Release k p) n m is was
-reply-ranged client (op.Access x) (reply.Started n) m is was = started-ranged client (op.Access x) n m is was
-reply-ranged client (op.Store address size value) reply.Stored m is was =
+reply-ranged client (Op.Load address size) (Reply.Started n) m is was =
+    started-ranged client (Op.Load address size) n m is was
+reply-ranged client (Op.Store address size value) (Reply.Started n) m is was =
+    started-ranged client (Op.Store address size value) n m is was
+reply-ranged client (Op.Acquire k g) (Reply.Started n) m is was = started-ranged client (Op.Acquire k g) n m is was
+reply-ranged client (Op.AcquireWhole k bytes) (Reply.Started n) m is was =
+    started-ranged client (Op.AcquireWhole k bytes) n m is was
+reply-ranged client (Op.Release k p) (Reply.Started n) m is was = started-ranged client (Op.Release k p) n m is was
+reply-ranged client (Op.Access x) (Reply.Started n) m is was = started-ranged client (Op.Access x) n m is was
+reply-ranged client (Op.Store address size value) Reply.Stored m is was =
     record {
       memory = λ i. either (reaches address size i) (byte_of value (i - address)) (m.memory i)
           (of-number value (i - address)) (was.memory i);
@@ -165,7 +156,7 @@ reply-ranged client o r m is was = was
 
 -- a whole block is stored as it is granted
 stored-ranged : {w : ℕ} (o : Op w) (f : Memory) → IsRangedOp o → HasBytes f → HasBytes (memory_after o f)
-stored-ranged (op.AcquireWhole k bytes) f is are =
+stored-ranged (Op.AcquireWhole k bytes) f is are =
     λ address. either (block_at address == k) (slice_index bytes (address % 64)) (f address)
     (byte-at bytes (address % 64) is) (are address)
 stored-ranged o f is are = are
@@ -178,16 +169,16 @@ end-ranged client at n (Some o) m is was = opened-ranged client at n None (memor
 
 moved-ranged : {w : ℕ} (e : Event w) (o : Outcome w) (m : Machine w) → IsRanged e → IsRangedMachine m
     → IsRangedMachine (moved e o m)
-moved-ranged (Ask client i) (outcome.Replied r) m is was = reply-ranged client i r m is was
-moved-ranged (Deliver link ch) (outcome.Done x n f) m is was =
+moved-ranged (Ask client i) (Outcome.Replied r) m is was = reply-ranged client i r m is was
+moved-ranged (Deliver link ch) (Outcome.Done x n f) m is was =
     end-ranged link.0 (pool_of f) n (m.opened link.0 (pool_of f) n) m (was.opened link.0 (pool_of f) n) was
 moved-ranged e o m is was = was
 
 op-ranged : {w : ℕ} (client n : ℕ) (o : Op w) (r : Option memory.AccessResult) (m : Machine w) → IsRangedOp o
     → IsRangedMachine m → IsRangedMachine (unwrap_or (performed_op client n o r m) m)
-op-ranged client n (op.Access x) None m is was =
+op-ranged client n (Op.Access x) None m is was =
     let e = effect-bytes x m.memory is was.memory in
-    opened-ranged client Requests n (Some (record { asked = op.Access x; answer = Some (effect x m.memory).1 }))
+    opened-ranged client Requests n (Some (record { asked = Op.Access x; answer = Some (effect x m.memory).1 }))
     (effect x m.memory).0 m e.0 (is, e.1) was
 op-ranged client n o r m is was = was
 

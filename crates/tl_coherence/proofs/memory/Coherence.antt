@@ -8,25 +8,15 @@ use Rattle.std.proofs.Common.{subst}
 use Rattle.std.specs.Prelude.{◌==◌, if◌then◌else◌, option_map, unwrap_or, is_some}
 use Rattle.std.proofs.lemmas.Bool.{eqb-true}
 use Rattle.tl_params.specs.declared.perm.Perm.{Perm}
-use Rattle.tl_params.specs.declared.perm.Perm.TheVariants as perm
 use Rattle.tl_rules.specs.statement.Effect as memory
-use Rattle.tl_client.specs.declared.operation.Op.TheVariants as op
-use Rattle.tl_client.specs.declared.reply.Reply.TheVariants as reply
-use Rattle.tl_client.specs.statement.EndpointInvariant.{holds}
-use Rattle.tl_client.proofs.endpoint.HeldAfter.{swapped}
-use Rattle.tl_coherence.specs.declared.event.Event.{Event}
+use Rattle.tl_client.{specs.statement.EndpointInvariant.holds, proofs.endpoint.HeldAfter.swapped}
+use Rattle.tl_coherence.specs.{declared.event.Event.Event, declared.event.Outcome.Outcome, statement.Log.system_after}
+use Rattle.tl_coherence.specs.{statement.Permissions.perm_le, protocol.Protocol.view, statement.Step.stepped}
+use Rattle.tl_coherence.specs.{refinement.SimulationRelation.SimulationRelation}
 use Rattle.tl_coherence.specs.declared.event.Event.TheVariants.{Ask, Deliver}
-use Rattle.tl_coherence.specs.declared.event.Outcome.{Outcome}
-use Rattle.tl_coherence.specs.declared.event.Outcome.TheVariants as outcome
 use Rattle.tl_coherence.specs.statement.Coherent.{started_at, started, IsCoherent}
-use Rattle.tl_coherence.specs.statement.Log.{system_after}
 use Rattle.tl_coherence.specs.statement.Machine.{pool_of, moved, performed_op, performed_open}
-use Rattle.tl_coherence.specs.statement.Permissions.{perm_le}
-use Rattle.tl_coherence.specs.protocol.Protocol.{view}
-use Rattle.tl_coherence.specs.statement.Step.{stepped}
-use Rattle.tl_coherence.specs.refinement.SimulationRelation.{SimulationRelation}
-use Rattle.tl_coherence.proofs.queues.Facts.{held_at_most}
-use Rattle.tl_coherence.proofs.queues.Perms.{held-some}
+use Rattle.tl_coherence.proofs.{queues.Facts.held_at_most, queues.Perms.held-some}
 
 -- ---- what is open, as it was asked
 
@@ -71,20 +61,20 @@ same_there {w} client at n x m c pool source e = go (client == c) (same_pool at 
     go a b d f g h = refl
 
 reply_opened : {w : ℕ} (client : ℕ) (o : Op w) (r : Reply) (m : Machine w) (c : ℕ) (pool : Pool) (source : ℕ)
-    → asked_at c pool source (after_reply client o r m) ≡ started_at (Ask client o) (outcome.Replied r) c pool source
+    → asked_at c pool source (after_reply client o r m) ≡ started_at (Ask client o) (Outcome.Replied r) c pool source
     (asked_at c pool source m)
-reply_opened client (op.Load address size) (reply.Started n) m c pool source =
-    opened_with client Requests n (Some (record { asked = op.Load address size; answer = None })) m c pool source
-reply_opened client (op.Store address size value) (reply.Started n) m c pool source =
-    opened_with client Requests n (Some (record { asked = op.Store address size value; answer = None })) m c pool source
-reply_opened client (op.Acquire k g) (reply.Started n) m c pool source =
-    opened_with client Requests n (Some (record { asked = op.Acquire k g; answer = None })) m c pool source
-reply_opened client (op.AcquireWhole k bytes) (reply.Started n) m c pool source =
-    opened_with client Requests n (Some (record { asked = op.AcquireWhole k bytes; answer = None })) m c pool source
-reply_opened client (op.Release k p) (reply.Started n) m c pool source =
-    opened_with client Releases n (Some (record { asked = op.Release k p; answer = None })) m c pool source
-reply_opened client (op.Access a) (reply.Started n) m c pool source =
-    opened_with client Requests n (Some (record { asked = op.Access a; answer = None })) m c pool source
+reply_opened client (Op.Load address size) (Reply.Started n) m c pool source =
+    opened_with client Requests n (Some (record { asked = Op.Load address size; answer = None })) m c pool source
+reply_opened client (Op.Store address size value) (Reply.Started n) m c pool source =
+    opened_with client Requests n (Some (record { asked = Op.Store address size value; answer = None })) m c pool source
+reply_opened client (Op.Acquire k g) (Reply.Started n) m c pool source =
+    opened_with client Requests n (Some (record { asked = Op.Acquire k g; answer = None })) m c pool source
+reply_opened client (Op.AcquireWhole k bytes) (Reply.Started n) m c pool source =
+    opened_with client Requests n (Some (record { asked = Op.AcquireWhole k bytes; answer = None })) m c pool source
+reply_opened client (Op.Release k p) (Reply.Started n) m c pool source =
+    opened_with client Releases n (Some (record { asked = Op.Release k p; answer = None })) m c pool source
+reply_opened client (Op.Access a) (Reply.Started n) m c pool source =
+    opened_with client Requests n (Some (record { asked = Op.Access a; answer = None })) m c pool source
 reply_opened client o r m c pool source = refl
 
 end_opened : {w : ℕ} (client : ℕ) (at : Pool) (n : ℕ) (o : Option (Open w)) (m : Machine w) (c : ℕ) (pool : Pool)
@@ -98,8 +88,8 @@ end_opened client at n (Some o) m c pool source e =
 
 moved_opened : {w : ℕ} (e : Event w) (o : Outcome w) (m : Machine w) (c : ℕ) (pool : Pool) (source : ℕ)
     → asked_at c pool source (moved e o m) ≡ started_at e o c pool source (asked_at c pool source m)
-moved_opened (Ask client i) (outcome.Replied r) m c pool source = reply_opened client i r m c pool source
-moved_opened (Deliver link ch) (outcome.Done x n f) m c pool source =
+moved_opened (Ask client i) (Outcome.Replied r) m c pool source = reply_opened client i r m c pool source
+moved_opened (Deliver link ch) (Outcome.Done x n f) m c pool source =
     end_opened link.0 (pool_of f) n (m.opened link.0 (pool_of f) n) m c pool source refl
 moved_opened e o m c pool source = refl
 
@@ -112,11 +102,11 @@ op_opened {w} client n o m c pool source e = go o.asked o.answer (ap (option_map
   where
     go : (x : Op w) (r : Option memory.AccessResult) → asked_at client Requests n m ≡ Some x
         → asked_at c pool source (unwrap_or (performed_op client n x r m) m) ≡ asked_at c pool source m
-    go (op.Access a) None f =
+    go (Op.Access a) None f =
         opened_with client Requests n
-        (Some (record { asked = op.Access a; answer = Some (memory.effect a m.memory).1 }))
+        (Some (record { asked = Op.Access a; answer = Some (memory.effect a m.memory).1 }))
         (with_memory (memory.effect a m.memory).0 m) c pool source
-        ∙ sym (same_there client Requests n (Some (op.Access a)) m c pool source f)
+        ∙ sym (same_there client Requests n (Some (Op.Access a)) m c pool source f)
     go x r f = refl
 
 one_opened : {w : ℕ} (client n : ℕ) (m : Machine w) (c : ℕ) (pool : Pool) (source : ℕ)
@@ -151,18 +141,18 @@ opened-started {w} config (x ∷ log) c pool source =
 
 -- ---- coherent copies
 
-trunk_is : (p q : Perm) → p ≡ perm.Trunk → perm_le p q ≡ true → same_perm q perm.Trunk ≡ true
-trunk_is perm.Trunk perm.Trunk e f = refl
+trunk_is : (p q : Perm) → p ≡ Perm.Trunk → perm_le p q ≡ true → same_perm q Perm.Trunk ≡ true
+trunk_is Perm.Trunk Perm.Trunk e f = refl
 trunk_is p q e f = absurd cc
 
-none_is : (p q : Perm) → same_perm q perm.None ≡ true → perm_le p q ≡ true → p ≡ perm.None
-none_is perm.None q e f = refl
-none_is perm.Branch perm.None e f = absurd cc
-none_is perm.Trunk perm.None e f = absurd cc
-none_is perm.Branch perm.Branch e f = absurd cc
-none_is perm.Branch perm.Trunk e f = absurd cc
-none_is perm.Trunk perm.Branch e f = absurd cc
-none_is perm.Trunk perm.Trunk e f = absurd cc
+none_is : (p q : Perm) → same_perm q Perm.None ≡ true → perm_le p q ≡ true → p ≡ Perm.None
+none_is Perm.None q e f = refl
+none_is Perm.Branch Perm.None e f = absurd cc
+none_is Perm.Trunk Perm.None e f = absurd cc
+none_is Perm.Branch Perm.Branch e f = absurd cc
+none_is Perm.Branch Perm.Trunk e f = absurd cc
+none_is Perm.Trunk Perm.Branch e f = absurd cc
+none_is Perm.Trunk Perm.Trunk e f = absurd cc
 
 pub coherent-matched : {w : ℕ} (config : Config) (log : Log w) (mail : AccessMessages w) (request : ℕ → MessageA w)
     (s : State (List ℕ))
@@ -176,7 +166,7 @@ coherent-matched {w} config log mail request s h = record {
       (h.known d).held_is n ∙ none_is ((s.block n).pair d).held ((s.block n).pair d).recorded none
       (held_at_most ((s.block n).pair d) (view (s.block n).service d) ((h.invariant.blocks n).phases d));
   copies = λ c n bytes copy.
-      let some : same_perm ((s.block n).pair c).held perm.None ≡ false =
+      let some : same_perm ((s.block n).pair c).held Perm.None ≡ false =
       held-some ((s.block n).pair c).held
       (sym (sym (ap is_some copy) ∙ (h.kept c).copies_held n ∙ ap holds ((h.known c).held_is n))) in
       let same : (s.block n).truth ≡ bytes = sym ((h.invariant.blocks n).copies c some) ∙ some_is ((s.block n).copy c)

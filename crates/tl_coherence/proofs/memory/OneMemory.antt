@@ -5,23 +5,17 @@ use Rattle.std.proofs.Common.{[], ◌∷◌, Option, Some, None, length, refl, s
 use Rattle.std.specs.Prelude.{◌≢◌, if◌then◌else◌, slice_index, get_or, nat_le, nat_lt}
 use Rattle.std.proofs.lemmas.Bool.{cases_lt, ne_eqb, le-leb, lt-ltb, leb-true, ltb-true, and_parts}
 use Rattle.tl_beat.specs.statement.Width.{IsWidth}
-use Rattle.tl_beat.specs.declared.opcode.OpA.TheVariants as a
 use Rattle.tl_burst.specs.declared.message.Message.TheVariants.{A}
 use Rattle.tl_burst.specs.statement.Burst.{beats_of, IsBlankAfter, reaches}
 use Rattle.tl_params.specs.declared.level.Level.{Level}
-use Rattle.tl_rules.specs.statement.Effect.{bytes_from, byte_of}
-use Rattle.tl_rules.specs.statement.History.{is_acquire}
-use Rattle.tl_rules.proofs.Blocks.{effect_elsewhere}
-use Rattle.tl_rules.proofs.Legal.{access_at_uh}
-use Rattle.tl_client.specs.statement.Ask.{copy_stored}
-use Rattle.tl_client.specs.statement.Send.{sourced}
+use Rattle.tl_rules.{specs.statement.Effect.bytes_from, specs.statement.Effect.byte_of}
+use Rattle.tl_rules.{specs.statement.History.is_acquire, proofs.Blocks.effect_elsewhere, proofs.Legal.access_at_uh}
+use Rattle.tl_client.{specs.statement.Ask.copy_stored, specs.statement.Send.sourced}
 use Rattle.tl_client.proofs.caching_client.Stores.{stored-inside, stored-outside, length-stored}
-use Rattle.tl_manager.specs.code.Kept.{illegal_message_at}
-use Rattle.tl_manager.specs.statement.Reaction.{with_block}
-use Rattle.tl_manager.proofs.blocks.Written.{bytes_are}
+use Rattle.tl_manager.{specs.code.Kept.illegal_message_at, specs.statement.Reaction.with_block}
+use Rattle.tl_manager.{proofs.blocks.Written.bytes_are, proofs.blocks.Memories.access_code}
 use Rattle.tl_coherence.specs.statement.Machine.{with_number}
 use Rattle.tl_coherence.proofs.manager.Memories.{performed-block, performed-reply, byte_in}
-use Rattle.tl_manager.proofs.blocks.Memories.{access_code}
 
 -- ---- a block's bytes, as a list and by their places
 
@@ -73,7 +67,7 @@ unfolding effect
 effect-sourced {w} source m f = go m.opcode refl
   where
     go : (o : OpA) → m.opcode ≡ o → effect (A (sourced source m)) f ≡ effect (A m) f
-    go a.PutFullData e = rw e refl
+    go OpA.PutFullData e = rw e refl
     go o e = rw e refl
 
 -- ---- a whole block

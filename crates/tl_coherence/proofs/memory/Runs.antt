@@ -2,25 +2,19 @@
 use Rattle.tl_coherence.proofs.memory.Imports.{Message, Config, Log, one_memory_after}
 use Rattle.std.proofs.Common.{◌≡◌, List, [], ◌∷◌, refl, sym, ◌∙◌}
 use Rattle.std.specs.Prelude.{ℕ, Bool, true, false, Result, Ok, Err, Option, ⊤}
-use Rattle.tl_beat.specs.declared.beat.Beat.{Beat}
-use Rattle.tl_beat.specs.declared.channel.Channel.{Channel}
+use Rattle.tl_beat.{specs.declared.beat.Beat.Beat, specs.declared.channel.Channel.Channel}
 use Rattle.tl_params.specs.declared.rule.Rule.{Rule}
-use Rattle.tl_client.specs.declared.verdict.Verdict.{Verdict}
-use Rattle.tl_client.specs.declared.verdict.Verdict.TheVariants as verdict
-use Rattle.tl_client.specs.statement.Endpoint.{EndConfig}
+use Rattle.tl_client.{specs.declared.verdict.Verdict.Verdict, specs.statement.Endpoint.EndConfig}
+use Rattle.tl_client.{specs.statement.Offer.is_stalled, specs.statement.Offer.offered}
+use Rattle.tl_client.{proofs.endpoint.Stalls.stalls-offered}
 use Rattle.tl_client.specs.statement.Endpoint as client
-use Rattle.tl_client.specs.statement.Offer.{is_stalled, offered}
-use Rattle.tl_client.proofs.endpoint.Stalls.{stalls-offered}
 use Rattle.tl_manager.specs.code.Kept as kept
 use Rattle.tl_manager.specs.statement.End as manager_end
 use Rattle.tl_manager.specs.statement.Offer as manager
 use Rattle.tl_manager.proofs.judging.Stalls.{stalls-answered}
-use Rattle.tl_coherence.specs.statement.Delivery.{is_stall}
-use Rattle.tl_coherence.specs.statement.Headline.{Continues}
-use Rattle.tl_coherence.specs.statement.Machine.{Run}
-use Rattle.tl_coherence.specs.statement.Movable.{stalls}
+use Rattle.tl_coherence.specs.{statement.Delivery.is_stall, statement.Headline.Continues, statement.Machine.Run}
+use Rattle.tl_coherence.specs.{statement.Movable.stalls, statement.System.System}
 use Rattle.tl_coherence.specs.statement.Step.{delivered, is_to_client, judged, manager_took}
-use Rattle.tl_coherence.specs.statement.System.{System}
 
 -- ---- runs
 
@@ -57,9 +51,9 @@ stall-judged : {w : ℕ} (answer : Result (Verdict × Option (Message w)) Rule) 
     (rest : List (Beat w)) (e : client.Endpoint w) (s : System w)
     → IsTakenUp answer → is_stall (judged answer link ch x rest e s).outcome ≡ is_stalled answer
 stall-judged (Err rule) link ch x rest e s taken = absurd taken
-stall-judged (Ok (verdict.Stalled, m)) link ch x rest e s taken = refl
-stall-judged (Ok (verdict.Taken, m)) link ch x rest e s taken = refl
-stall-judged (Ok (verdict.Done source finish, m)) link ch x rest e s taken = refl
+stall-judged (Ok (Verdict.Stalled, m)) link ch x rest e s taken = refl
+stall-judged (Ok (Verdict.Taken, m)) link ch x rest e s taken = refl
+stall-judged (Ok (Verdict.Done source finish, m)) link ch x rest e s taken = refl
 
 stall-managed : {w : ℕ} (answer : manager.Reception w × manager_end.End w) (link : ℕ) (ch : Channel) (x : Beat w)
     (rest : List (Beat w)) (s : System w)

@@ -4,14 +4,11 @@ use Rattle.tl_coherence.proofs.outstanding.Imports.{starts_request, starts_relea
 use Rattle.tl_coherence.proofs.outstanding.Imports.{open_requests, open_releases, State, one_if, SimulationRelation}
 use Rattle.std.proofs.Common.{◌≡◌, ℕ, ◌+◌, Bool, true, false, [], ◌∷◌, length, refl, arith}
 use Rattle.std.specs.Prelude.{◌*◌, ◌/◌, if◌then◌else◌, filter}
-use Rattle.tl_coherence.specs.declared.event.Event.{Event}
-use Rattle.tl_coherence.specs.refinement.AbstractStep.{first_state}
+use Rattle.tl_coherence.specs.{declared.event.Event.Event, refinement.AbstractStep.first_state, bound.Rank.total}
+use Rattle.tl_coherence.specs.{statement.Step.stepped}
 use Rattle.tl_coherence.specs.statement.Load.{ends_request, ends_release, number, requests, releases, load}
-use Rattle.tl_coherence.specs.bound.Rank.{total}
-use Rattle.tl_coherence.specs.statement.Step.{stepped}
 use Rattle.tl_coherence.proofs.protocol.OpenCounts.{clients_in, sources_in, IsBalance}
-use Rattle.tl_coherence.proofs.outstanding.Outstanding.{counted-followed}
-use Rattle.tl_coherence.proofs.queues.Sums.{total-zero}
+use Rattle.tl_coherence.proofs.{outstanding.Outstanding.counted-followed, queues.Sums.total-zero}
 
 -- the starts of this log are its ends and what is open in this state
 pub record AreCounted {w : ℕ} {X : Type 0} (config : Config) (log : Log w) (s : State X) : Type 0 where

@@ -5,26 +5,19 @@ use Rattle.tl_coherence.proofs.outstanding.Imports.{open_releases, State, Source
 use Rattle.tl_coherence.proofs.outstanding.Imports.{terms_at, Packet, one_if, SimulationRelation}
 use Rattle.std.proofs.Common.{◌≡◌, ℕ, zero, suc, ◌+◌, ◌<◌, Bool, true, false, List, [], ◌∷◌, length, refl, sym, ◌∙◌, ap}
 use Rattle.std.proofs.Common.{◌⊎◌, inl, inr, arith, Option, Some, None}
-use Rattle.std.specs.Prelude.{◌==◌, is_none}
-use Rattle.std.proofs.lemmas.Bool.{cases_eq, eqb-true}
+use Rattle.std.{specs.Prelude.◌==◌, specs.Prelude.is_none, proofs.lemmas.Bool.cases_eq, proofs.lemmas.Bool.eqb-true}
 use Rattle.tl_beat.specs.declared.beat.Link.{Link}
-use Rattle.tl_beat.specs.declared.channel.Channel.TheVariants as channel
-use Rattle.tl_coherence.specs.statement.Coherent.{IsCoherent}
-use Rattle.tl_coherence.specs.bound.Rank.{total}
-use Rattle.tl_coherence.specs.protocol.Protocol.{InService, Replied}
-use Rattle.tl_coherence.specs.statement.OneMemory.{one_memory_after}
-use Rattle.tl_coherence.specs.refinement.PacketMessages.{AccessMessages}
-use Rattle.tl_coherence.proofs.simulation.Bounded.{matched-bounded}
-use Rattle.tl_coherence.proofs.protocol.TokenNames.{AreBounded}
-use Rattle.tl_coherence.proofs.outstanding.Counted.{AreCounted, outstanding-open}
+use Rattle.tl_coherence.specs.{statement.Coherent.IsCoherent, bound.Rank.total, protocol.Protocol.InService}
+use Rattle.tl_coherence.specs.{protocol.Protocol.Replied, statement.OneMemory.one_memory_after}
+use Rattle.tl_coherence.specs.{refinement.PacketMessages.AccessMessages}
+use Rattle.tl_coherence.proofs.{simulation.Bounded.matched-bounded, protocol.TokenNames.AreBounded}
+use Rattle.tl_coherence.proofs.{outstanding.Counted.AreCounted, outstanding.Counted.outstanding-open}
+use Rattle.tl_coherence.proofs.{protocol.OpenCounts.clients_in, protocol.OpenCounts.sources_in}
+use Rattle.tl_coherence.proofs.{simulation.Owned.sources-own, links.Stalling.IsFirst}
+use Rattle.tl_coherence.proofs.{queues.QuiescentQueues.client_below, protocol.QuiescentProtocol.IsClosed}
+use Rattle.tl_coherence.proofs.{queues.Sums.total-zero}
 use Rattle.tl_coherence.proofs.outstanding.Moving.{bare-when-standing, closed-when-standing, standing-when-closed}
-use Rattle.tl_coherence.proofs.protocol.OpenCounts.{clients_in, sources_in}
-use Rattle.tl_coherence.proofs.simulation.Owned.{sources-own}
-use Rattle.tl_coherence.proofs.links.Stalling.{IsFirst}
-use Rattle.tl_coherence.proofs.queues.QuiescentQueues.{client_below}
-use Rattle.tl_coherence.proofs.protocol.QuiescentProtocol.{IsClosed}
 use Rattle.tl_coherence.proofs.simulation.Strangers as strangers
-use Rattle.tl_coherence.proofs.queues.Sums.{total-zero}
 
 -- a sum is 0 where each of its numbers is
 pub total-none : (n : ℕ) (f : ℕ → ℕ) → total n f ≡ 0 → (i : ℕ) → i < n → f i ≡ 0
@@ -135,7 +128,7 @@ module _ {w : ℕ} (config : Config) (log : Log w) (mail : AccessMessages w) (re
   no-acks-counted c = go (terms_at config c) refl
     where
       go : (o : Option EndConfig) → terms_at config c ≡ o → (s.link c).e ≡ []
-      go None at = strangers.no_tokens config log mail request s matched width c at channel.E
+      go None at = strangers.no_tokens config log mail request s matched width c at Channel.E
       go (Some terms) at = no_ack c terms at
 
 -- A delivery is next exactly while something is outstanding.

@@ -7,13 +7,9 @@ use Rattle.tl_coherence.proofs.outstanding.Imports.{System, Request, Acquire, Re
 use Rattle.tl_coherence.proofs.outstanding.Imports.{SimulationRelation, is_caching}
 use Rattle.std.proofs.Common.{◌≡◌, subst, ℕ, suc, ◌+◌, ◌<◌, Bool, true, false, not, ◌&&◌, List, [], ◌∷◌, ◌++◌, length}
 use Rattle.std.proofs.Common.{refl, sym, ◌∙◌, ap, arith, Option, Some, None}
-use Rattle.std.specs.Prelude.{◌==◌, if◌then◌else◌}
-use Rattle.std.proofs.lemmas.List.{length-append}
-use Rattle.tl_burst.specs.declared.message.Message.TheVariants as message
-use Rattle.tl_params.specs.declared.param.Cap.{Cap}
-use Rattle.tl_params.specs.declared.param.Prune.{Prune}
-use Rattle.tl_params.specs.declared.param.Report.{Report}
-use Rattle.tl_params.specs.declared.profile.Profile.{Profile}
+use Rattle.std.{specs.Prelude.◌==◌, specs.Prelude.if◌then◌else◌, proofs.lemmas.List.length-append}
+use Rattle.tl_params.{specs.declared.param.Cap.Cap, specs.declared.param.Prune.Prune}
+use Rattle.tl_params.{specs.declared.param.Report.Report, specs.declared.profile.Profile.Profile}
 use Rattle.tl_manager.specs.statement.Holders.{cap_probed}
 use Rattle.tl_coherence.specs.refinement.AbstractStep as follow
 use Rattle.tl_coherence.specs.refinement.AbstractStep.{with_state, some_below, probes_some, access_taken, request_taken}
@@ -21,23 +17,19 @@ use Rattle.tl_coherence.specs.refinement.AbstractStep.{acquire_taken, is_unheld,
 use Rattle.tl_coherence.specs.refinement.AbstractStep.{ack_taken, taken_by_client, kind_taken}
 use Rattle.tl_coherence.specs.protocol.Invariant.{IsInvariant, cap_asked, serves_with}
 use Rattle.tl_coherence.specs.protocol.Phase.{AcquirePhase, NoAcquire, AcquireOpen, is_unprobed, is_whole}
-use Rattle.tl_coherence.specs.protocol.PhaseSteps.{is_granted_data}
-use Rattle.tl_coherence.specs.protocol.Protocol.{Service, Waits, Block, Link, InService}
-use Rattle.tl_coherence.specs.protocol.Protocol.{Replied, on, is_probed, with_probe, answered_link, served_link}
-use Rattle.tl_coherence.specs.protocol.Protocol.{probed_link, popped_link, ended_link, granted_link, let_link}
-use Rattle.tl_coherence.specs.protocol.Protocol.{taken_link, access_answered, access_served, acquire_granted}
-use Rattle.tl_coherence.specs.protocol.Protocol.{acquire_served, probe_taken, report_taken, report_answers}
-use Rattle.tl_coherence.specs.protocol.Protocol.{report_grants, release_taken, answer_taken, grant_taken}
-use Rattle.tl_coherence.specs.protocol.Protocol.{release_ack_taken, grant_ack_taken}
-use Rattle.tl_coherence.specs.refinement.PacketMessages.{report_told}
+use Rattle.tl_coherence.specs.{protocol.PhaseSteps.is_granted_data, refinement.PacketMessages.report_told}
+use Rattle.tl_coherence.specs.protocol.Protocol.{Service, Waits, Block, Link, InService, Replied, on, is_probed}
+use Rattle.tl_coherence.specs.protocol.Protocol.{with_probe, answered_link, served_link, probed_link, popped_link}
+use Rattle.tl_coherence.specs.protocol.Protocol.{ended_link, granted_link, let_link, taken_link, access_answered}
+use Rattle.tl_coherence.specs.protocol.Protocol.{access_served, acquire_granted, acquire_served, probe_taken}
+use Rattle.tl_coherence.specs.protocol.Protocol.{report_taken, report_answers, report_grants, release_taken}
+use Rattle.tl_coherence.specs.protocol.Protocol.{answer_taken, grant_taken, release_ack_taken, grant_ack_taken}
 use Rattle.tl_coherence.specs.protocol.Packet.{Kind, Probe, ProbeAck, Answer, Grant, GrantAck, set}
-use Rattle.tl_coherence.proofs.protocol.TokenNames.{AreBounded}
+use Rattle.tl_coherence.proofs.{protocol.TokenNames.AreBounded, protocol.Heads.asked-first, queues.Tokens.same_number}
+use Rattle.tl_coherence.proofs.{queues.Tokens.set-part, protocol.BothParts.serves_of-is}
 use Rattle.tl_coherence.proofs.protocol.HeadOfD.{answer-due, grant-due, ack-due}
-use Rattle.tl_coherence.proofs.protocol.Heads.{asked-first}
 use Rattle.tl_coherence.proofs.protocol.OpenCounts.{marked-set, set_at-part, acks-set, acks-same, clients_in}
 use Rattle.tl_coherence.proofs.protocol.OpenCounts.{sources_in, IsBalance, requests-split, balance-same}
-use Rattle.tl_coherence.proofs.queues.Tokens.{same_number, set-part}
-use Rattle.tl_coherence.proofs.protocol.BothParts.{serves_of-is}
 
 -- ---- links whose channel E stays
 
@@ -232,7 +224,7 @@ module _ {w : ℕ} (config : Config) (h : AbstractState w) where
   Stays h' = IsBalance config h.state h'.state false false false false
 
   request-kind : (clients c source tracker : ℕ) (m : MessageA w) (rest : List Packet) → h.state.uses c source ≡ Asked
-      → Stays (request_taken clients c source (message.A m) tracker rest h)
+      → Stays (request_taken clients c source (Message.A m) tracker rest h)
   request-kind clients c source tracker m rest used =
       go (probes_some clients c false (cap_probed m.opcode m.param) (h.state.block n).pair)
       (cap_probed m.opcode m.param)

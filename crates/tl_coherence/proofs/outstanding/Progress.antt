@@ -4,18 +4,15 @@
 use Rattle.tl_coherence.proofs.outstanding.Imports.{IsWidth, Config, Outcome, abstract_step, outstanding, Log}
 use Rattle.tl_coherence.proofs.outstanding.Imports.{system_after, next_delivery}
 use Rattle.std.proofs.Common.{◌≡◌, subst, ℕ, ◌<◌, true, [], ◌∷◌, None, length, sym, arith}
-use Rattle.std.specs.Prelude.{◌==◌, is_none}
-use Rattle.std.proofs.lemmas.Bool.Decides.{nat_tests}
+use Rattle.std.{specs.Prelude.◌==◌, specs.Prelude.is_none, proofs.lemmas.Bool.Decides.nat_tests}
 use Rattle.tl_params.specs.statement.Config.{config_fault, blocks_fit, trackers_fit, all_sources_fit}
 use Rattle.tl_params.specs.statement.Range.{is_from_to}
-use Rattle.tl_coherence.specs.statement.Headline.{AreTyped, IsGiven}
-use Rattle.tl_coherence.specs.statement.Log.{IsLog}
+use Rattle.tl_coherence.specs.{statement.Headline.AreTyped, statement.Headline.IsGiven, statement.Log.IsLog}
 use Rattle.tl_coherence.proofs.outstanding.Counted.{AreCounted, counted-first, counted-next}
-use Rattle.tl_coherence.proofs.links.HeadsOfLinks.{first-of}
-use Rattle.tl_coherence.proofs.links.FromInvariant.{coherent, matched-given}
-use Rattle.tl_coherence.proofs.deliveries.Matching.{shadow, matched}
-use Rattle.tl_coherence.proofs.outstanding.Movement.{next-while-outstanding}
-use Rattle.tl_coherence.proofs.queues.Limits.{limits-fit}
+use Rattle.tl_coherence.proofs.{links.HeadsOfLinks.first-of, links.FromInvariant.coherent}
+use Rattle.tl_coherence.proofs.{links.FromInvariant.matched-given, deliveries.Matching.shadow}
+use Rattle.tl_coherence.proofs.{deliveries.Matching.matched, outstanding.Movement.next-while-outstanding}
+use Rattle.tl_coherence.proofs.{queues.Limits.limits-fit}
 
 -- the starts of every log are its ends and what is open after it
 pub counted : {w : ℕ} (config : Config) (log : Log w) → IsWidth w → AreTyped log → IsLog config log

@@ -1,8 +1,8 @@
 -- A ReleaseAck and a GrantAck that are taken keep the invariant.
 use Rattle.tl_coherence.proofs.protocol.Imports.{Channel, ClientBlock, View, Idle, Acknowledging, GrantedOther}
 use Rattle.tl_coherence.proofs.protocol.Imports.{ReleaseAcked, is_unreleased, is_unprobed, Kind, Request, Acquire}
-use Rattle.tl_coherence.proofs.protocol.Imports.{Probe, ProbeAck, Release, Grant, ReleaseAck, GrantAck, Packet}
-use Rattle.tl_coherence.proofs.protocol.Imports.{set, set_at, GrantTaken, Block, State, Link, view, packet, shows}
+use Rattle.tl_coherence.proofs.protocol.Imports.{Probe, ProbeAck, Release, Grant, ReleaseAck, GrantAck, Packet, set}
+use Rattle.tl_coherence.proofs.protocol.Imports.{set_at, GrantTaken, Block, State, Link, view, packet, shows}
 use Rattle.tl_coherence.proofs.protocol.Imports.{is_transfer, is_wanting, is_unserved, is_sent, is_answered}
 use Rattle.tl_coherence.proofs.protocol.Imports.{is_releasing, is_acked, is_granting, is_acknowledging, Move, Stays}
 use Rattle.tl_coherence.proofs.protocol.Imports.{Pushes, Pops, AreMoved, agrees, is_own_move, channel_for, is_out}
@@ -10,19 +10,16 @@ use Rattle.tl_coherence.proofs.protocol.Imports.{is_of, acquires_of, serves_of, 
 use Rattle.tl_coherence.proofs.protocol.Imports.{releases_with, tracks_with, IsWell, IsInvariant}
 use Rattle.std.proofs.Common.{◌≡◌, refl, sym, ◌∙◌, ap, inl, inr}
 use Rattle.std.specs.Prelude.{ℕ, Bool, true, false, not, List, ◌∷◌, ◌==◌, ◌&&◌, Some, None}
-use Rattle.std.proofs.lemmas.Bool.{cases_eq, ne_eqb}
-use Rattle.std.proofs.Math.Bool.{and-false}
-use Rattle.tl_beat.specs.declared.channel.Channel.TheVariants as channel
+use Rattle.std.{proofs.lemmas.Bool.cases_eq, proofs.lemmas.Bool.ne_eqb, proofs.Math.Bool.and-false}
 use Rattle.tl_coherence.specs.protocol.PhaseSteps.{after_release_ack}
 use Rattle.tl_coherence.specs.protocol.Protocol.{let_go_block, release_ack_taken, freed_block, grant_ack_taken}
 use Rattle.tl_coherence.proofs.queues.Moves.{moves_at, event-at, bare-at, names-block, names-set, names-set_at}
 use Rattle.tl_coherence.proofs.queues.Moves.{invariant-moved}
-use Rattle.tl_coherence.proofs.queues.KindMoves.{same_again}
+use Rattle.tl_coherence.proofs.{queues.KindMoves.same_again, protocol.BothParts.is_of-is}
 use Rattle.tl_coherence.proofs.queues.Tokens.{same_number, set-same, set-other, set-part}
 use Rattle.tl_coherence.proofs.queues.PhaseSteps.{release_ack-ok, ack_taken-ok, ack_taken_other-ok}
 use Rattle.tl_coherence.proofs.protocol.Blocks.{gentle-same, awaited-same, asked_cap-same, alone-set, owned-set}
 use Rattle.tl_coherence.proofs.protocol.Blocks.{outside-set, busy-inside}
-use Rattle.tl_coherence.proofs.protocol.BothParts.{is_of-is}
 
 -- ---- a ReleaseAck
 
@@ -52,7 +49,7 @@ let_go-block caching c b h acked =
     }
 
 abbrev pub let_go_moves : ℕ → Channel → Move
-let_go_moves n channel.D = Pops ReleaseAck n
+let_go_moves n Channel.D = Pops ReleaseAck n
 let_go_moves n _ = Stays
 
 let_go_shows : (n : ℕ) (k : Kind) (p : ClientBlock) (v : View) → is_transfer k ≡ true → p.letting ≡ ReleaseAcked
@@ -113,11 +110,11 @@ release_ack_taken-kept {X} caching c n rest s inv first acked =
     used = is_of-is n (s.lets c source) (inv.named.releases c source n ∙ rw (acked, same_number source) refl)
 
     moved : AreMoved (let_go_moves n) (s.link c) here
-    moved channel.D = first
+    moved Channel.D = first
     moved _ = refl
 
     own : (ch : Channel) → is_own_move ch (let_go_moves n ch) ≡ true
-    own channel.A = refl
+    own Channel.A = refl
     own ch = refl
 
 -- ---- a GrantAck
@@ -144,7 +141,7 @@ freed-block caching c b h taken = record {
     ungranted d false e = rw (taken, e) refl
 
 abbrev pub freed_moves : ℕ → Channel → Move
-freed_moves n channel.E = Pops GrantAck n
+freed_moves n Channel.E = Pops GrantAck n
 freed_moves n _ = Stays
 
 freed_shows : (n : ℕ) (k : Kind) (p : ClientBlock) → is_transfer k ≡ true
@@ -201,9 +198,9 @@ grant_ack_taken-kept {X} caching c n rest s inv first taken =
     used = is_of-is n (s.tracked tracker) (inv.named.trackers tracker n ∙ rw (taken, same_number tracker) refl)
 
     moved : AreMoved (freed_moves n) (s.link c) here
-    moved channel.E = first
+    moved Channel.E = first
     moved _ = refl
 
     own : (ch : Channel) → is_own_move ch (freed_moves n ch) ≡ true
-    own channel.A = refl
+    own Channel.A = refl
     own ch = refl

@@ -1,16 +1,13 @@
 -- What the messages of a block are made of, before and after each event.
-use Rattle.tl_coherence.proofs.protocol.Imports.{Cap, Prune, Report, ClientBlock}
-use Rattle.tl_coherence.proofs.protocol.Imports.{ProbePhase, ProbeSent}
-use Rattle.tl_coherence.proofs.protocol.Imports.{after_grant_sent, after_report}
-use Rattle.tl_coherence.proofs.protocol.Imports.{after_grant, Kind, Request, Acquire, Probe, ProbeAck, Release, Answer}
-use Rattle.tl_coherence.proofs.protocol.Imports.{Grant, ReleaseAck, GrantAck, set, Free, Waits, GrantSent}
-use Rattle.tl_coherence.proofs.protocol.Imports.{GrantTaken, Block, view, is_wanting, is_unserved, is_sent, is_answered}
-use Rattle.tl_coherence.proofs.protocol.Imports.{is_releasing, shown}
-use Rattle.tl_coherence.proofs.protocol.Imports.{granted_block, taken_block}
+use Rattle.tl_coherence.proofs.protocol.Imports.{Cap, Prune, Report, ClientBlock, ProbePhase, ProbeSent}
+use Rattle.tl_coherence.proofs.protocol.Imports.{after_grant_sent, after_report, after_grant, Kind, Request, Acquire}
+use Rattle.tl_coherence.proofs.protocol.Imports.{Probe, ProbeAck, Release, Answer, Grant, ReleaseAck, GrantAck, set}
+use Rattle.tl_coherence.proofs.protocol.Imports.{Free, Waits, GrantSent, GrantTaken, Block, view, is_wanting}
+use Rattle.tl_coherence.proofs.protocol.Imports.{is_unserved, is_sent, is_answered, is_releasing, shown, granted_block}
+use Rattle.tl_coherence.proofs.protocol.Imports.{taken_block}
 use Rattle.std.proofs.Common.{◌≡◌, ℕ, Bool, true, false, ◌&&◌, List, refl, sym, ◌∙◌, ap, ◌⊎◌, inl, inr}
 use Rattle.std.proofs.lemmas.Bool.{cases_eq}
-use Rattle.tl_coherence.specs.protocol.PhaseSteps.{after_probe}
-use Rattle.tl_coherence.specs.protocol.PhaseSteps.{after_release_taken, after_release_ack}
+use Rattle.tl_coherence.specs.protocol.PhaseSteps.{after_probe, after_release_taken, after_release_ack}
 use Rattle.tl_coherence.specs.protocol.Protocol.{probed_block, reported_block, ended_block, let_block, let_go_block}
 use Rattle.tl_coherence.specs.protocol.Protocol.{freed_block}
 use Rattle.tl_coherence.proofs.queues.Showing.{AreAlike, carries}

@@ -1,26 +1,23 @@
 -- What is shown of a block stays where a client is asked, and where a request is taken.
-use Rattle.tl_coherence.proofs.protocol.Imports.{Cap, Grow, Prune, ClientBlock, View, Own, Other}
-use Rattle.tl_coherence.proofs.protocol.Imports.{Granting, Acknowledging, GrantedOther, ProbePhase, NoProbe}
-use Rattle.tl_coherence.proofs.protocol.Imports.{ReleasePhase, NoRelease, AcquirePhase, NoAcquire}
-use Rattle.tl_coherence.proofs.protocol.Imports.{is_unacquired, is_unprobed, after_grant_sent}
-use Rattle.tl_coherence.proofs.protocol.Imports.{Kind, Acquire, Probe, ProbeAck, Release}
-use Rattle.tl_coherence.proofs.protocol.Imports.{Grant, ReleaseAck, GrantAck, set, Service, Free, Waits, GrantSent}
-use Rattle.tl_coherence.proofs.protocol.Imports.{GrantTaken, Block, view, is_wanting, is_sent, is_answered}
-use Rattle.tl_coherence.proofs.protocol.Imports.{is_releasing, is_acked, is_granting, is_acknowledging}
-use Rattle.tl_coherence.proofs.protocol.Imports.{IsWell}
+use Rattle.tl_coherence.proofs.protocol.Imports.{Cap, Grow, Prune, ClientBlock, View, Own, Other, Granting}
+use Rattle.tl_coherence.proofs.protocol.Imports.{Acknowledging, GrantedOther, ProbePhase, NoProbe, ReleasePhase}
+use Rattle.tl_coherence.proofs.protocol.Imports.{NoRelease, AcquirePhase, NoAcquire, is_unacquired, is_unprobed}
+use Rattle.tl_coherence.proofs.protocol.Imports.{after_grant_sent, Kind, Acquire, Probe, ProbeAck, Release, Grant}
+use Rattle.tl_coherence.proofs.protocol.Imports.{ReleaseAck, GrantAck, set, Service, Free, Waits, GrantSent, GrantTaken}
+use Rattle.tl_coherence.proofs.protocol.Imports.{Block, view, is_wanting, is_sent, is_answered, is_releasing, is_acked}
+use Rattle.tl_coherence.proofs.protocol.Imports.{is_granting, is_acknowledging, IsWell}
 use Rattle.std.proofs.Common.{◌≡◌, ℕ, Bool, true, false, not, ◌&&◌, List, refl, sym, ◌∙◌, ap, ◌⊎◌, inl, inr}
-use Rattle.std.specs.Prelude.{◌==◌, if◌then◌else◌}
-use Rattle.std.proofs.lemmas.Bool.{cases_eq}
+use Rattle.std.{specs.Prelude.◌==◌, specs.Prelude.if◌then◌else◌, proofs.lemmas.Bool.cases_eq}
 use Rattle.tl_coherence.specs.protocol.PhaseSteps.{after_acquire, after_release, after_served}
 use Rattle.tl_coherence.specs.protocol.Protocol.{acquiring_block, releasing_block, granted_at_once, served_block}
-use Rattle.tl_coherence.proofs.queues.Facts.{granting_asks}
-use Rattle.tl_coherence.proofs.queues.PhaseFacts.{quiet_at_rest}
+use Rattle.tl_coherence.proofs.{queues.Facts.granting_asks, queues.PhaseFacts.quiet_at_rest}
 use Rattle.tl_coherence.proofs.queues.Showing.{IsAlike, AreAlike, carries}
 use Rattle.tl_coherence.proofs.queues.Tokens.{set-same, set-other, set-part}
 
 -- ---- what a service shows
 
-pub waits_ungranted : (own : Bool) (r source : ℕ) (k : Cap) (i : ℕ) → is_granting (view (Waits r own source k) i) ≡ false
+pub waits_ungranted : (own : Bool) (r source : ℕ) (k : Cap) (i : ℕ)
+    → is_granting (view (Waits r own source k) i) ≡ false
 waits_ungranted own r source k i = go (own && (i == r))
   where
     go : (b : Bool) → is_granting (if b then Own else Other k) ≡ false
@@ -49,7 +46,8 @@ taken_ungranted q i = go (i == q)
     go true = refl
     go false = refl
 
-pub ungranted : (v : Service) (i : ℕ) (u : Service) → v ≡ u → is_granting (view u i) ≡ false → is_granting (view v i) ≡ true
+pub ungranted : (v : Service) (i : ℕ) (u : Service) → v ≡ u → is_granting (view u i) ≡ false
+    → is_granting (view v i) ≡ true
     → ⊥
 ungranted v i u e f g = let h : is_granting (view u i) ≡ true = rw e at g in let k : false ≡ true = sym f ∙ h in cc
 

@@ -1,27 +1,22 @@
 -- An access that is answered as it is taken, and an answer that is taken, keep the invariant.
-use Rattle.tl_coherence.proofs.protocol.Imports.{Channel, same_perm, Kind, Request, ProbeAck}
-use Rattle.tl_coherence.proofs.protocol.Imports.{Answer, Packet, set, Block, State, Link}
-use Rattle.tl_coherence.proofs.protocol.Imports.{SourceFree, Asked, Replied, view, packet, shown, is_transfer, Move}
-use Rattle.tl_coherence.proofs.protocol.Imports.{Stays, Pushes, Pops, AreMoved, is_own_move, channel_for, is_of}
-use Rattle.tl_coherence.proofs.protocol.Imports.{acquires_of, serves_of, acquires_with, serves_with, releases_with}
-use Rattle.tl_coherence.proofs.protocol.Imports.{tracks_with, IsWell, IsInvariant}
+use Rattle.tl_coherence.proofs.protocol.Imports.{Channel, same_perm, Kind, Request, ProbeAck, Answer, Packet, set}
+use Rattle.tl_coherence.proofs.protocol.Imports.{Block, State, Link, SourceFree, Asked, Replied, view, packet, shown}
+use Rattle.tl_coherence.proofs.protocol.Imports.{is_transfer, Move, Stays, Pushes, Pops, AreMoved, is_own_move}
+use Rattle.tl_coherence.proofs.protocol.Imports.{channel_for, is_of, acquires_of, serves_of, acquires_with, serves_with}
+use Rattle.tl_coherence.proofs.protocol.Imports.{releases_with, tracks_with, IsWell, IsInvariant, Perm}
 use Rattle.std.proofs.Common.{◌≡◌, refl, sym, ◌∙◌, ap, ◌⊎◌, inl, inr}
 use Rattle.std.specs.Prelude.{ℕ, Bool, true, false, List, ◌∷◌}
-use Rattle.tl_beat.specs.declared.channel.Channel.TheVariants as channel
-use Rattle.tl_params.specs.declared.perm.Perm.TheVariants as perm
 use Rattle.tl_coherence.specs.protocol.Protocol.{performed_block, answered_link, access_answered, answer_taken}
-use Rattle.tl_coherence.proofs.queues.Moves.{moves_at, event-at, bare-elsewhere}
-use Rattle.tl_coherence.proofs.queues.KindMoves.{spares, spared-agrees}
-use Rattle.tl_coherence.proofs.queues.Moves.{invariant-moved_access, names-block, names-set_at, invariant-moved_use}
-use Rattle.tl_coherence.proofs.queues.Tokens.{same_number}
-use Rattle.tl_coherence.proofs.queues.Facts.{held_at_most}
-use Rattle.tl_coherence.proofs.queues.Perms.{nothing_below}
+use Rattle.tl_coherence.proofs.queues.Moves.{moves_at, event-at, bare-elsewhere, invariant-moved_access, names-block}
+use Rattle.tl_coherence.proofs.queues.Moves.{names-set_at, invariant-moved_use}
+use Rattle.tl_coherence.proofs.{queues.KindMoves.spares, queues.KindMoves.spared-agrees, queues.Tokens.same_number}
+use Rattle.tl_coherence.proofs.{queues.Facts.held_at_most, queues.Perms.nothing_below}
 
 -- ---- the block
 
 -- the access leaves the bytes as they are, or nobody has a copy
 abbrev pub Spares : {X : Type 0} → (X → X) → Block X → Type 0
-Spares f b = (f b.truth ≡ b.truth) ⊎ ((d : ℕ) → same_perm (b.pair d).recorded perm.None ≡ true)
+Spares f b = (f b.truth ≡ b.truth) ⊎ ((d : ℕ) → same_perm (b.pair d).recorded Perm.None ≡ true)
 
 pub performed-block : {X : Type 0} (caching : ℕ → Bool) (f : X → X) (b : Block X) → IsWell caching b → Spares f b
     → IsWell caching (performed_block f b)
@@ -37,7 +32,7 @@ performed-block {X} caching f b h spared = record {
   memory = λ none. ap f (h.memory none);
 }
   where
-    copy_is : (d : ℕ) → same_perm (b.pair d).held perm.None ≡ false → Spares f b → b.copy d ≡ f b.truth
+    copy_is : (d : ℕ) → same_perm (b.pair d).held Perm.None ≡ false → Spares f b → b.copy d ≡ f b.truth
     copy_is d some (inl same) = h.copies d some ∙ sym same
     copy_is d some (inr none) =
         absurd (let no = nothing_below (b.pair d).held (b.pair d).recorded
@@ -48,8 +43,8 @@ performed-block {X} caching f b h spared = record {
 
 -- an access is taken and its answer handed out
 abbrev pub answer_moves : ℕ → Channel → Move
-answer_moves source channel.A = Pops Request source
-answer_moves source channel.D = Pushes Answer source
+answer_moves source Channel.A = Pops Request source
+answer_moves source Channel.D = Pushes Answer source
 answer_moves source _ = Stays
 
 answer_spared : (source : ℕ) (k : Kind) → is_transfer k ≡ true → spares (answer_moves source (channel_for k)) k ≡ true
@@ -93,16 +88,16 @@ access_answered-kept {X} caching c n source f rest s inv first asked spared =
     here = answered_link (packet Answer source) rest (s.link c)
 
     moved : AreMoved (answer_moves source) (s.link c) here
-    moved channel.A = first
+    moved Channel.A = first
     moved _ = refl
 
     own : (ch : Channel) → is_own_move ch (answer_moves source ch) ≡ true
-    own channel.A = refl
+    own Channel.A = refl
     own ch = refl
 
 -- an answer is taken
 abbrev pub done_moves : ℕ → Channel → Move
-done_moves source channel.D = Pops Answer source
+done_moves source Channel.D = Pops Answer source
 done_moves source _ = Stays
 
 done_spared : (source : ℕ) (k : Kind) → is_transfer k ≡ true → spares (done_moves source (channel_for k)) k ≡ true
@@ -130,9 +125,9 @@ answer_taken-kept caching c source rest s inv first replied = invariant-moved_ac
     here = record (s.link c) { d = rest }
 
     moved : AreMoved (done_moves source) (s.link c) here
-    moved channel.D = first
+    moved Channel.D = first
     moved _ = refl
 
     own : (ch : Channel) → is_own_move ch (done_moves source ch) ≡ true
-    own channel.A = refl
+    own Channel.A = refl
     own ch = refl

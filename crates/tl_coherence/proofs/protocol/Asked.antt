@@ -11,25 +11,19 @@ use Rattle.tl_coherence.proofs.protocol.Imports.{serves_with, releases_with, tra
 use Rattle.std.proofs.Common.{◌≡◌, refl, sym, ◌∙◌, ap, inl, inr}
 use Rattle.std.specs.Prelude.{ℕ, Bool, true, false, not, ◌&&◌, Some, None}
 use Rattle.std.proofs.lemmas.Bool.{cases_eq, ne_eqb}
-use Rattle.tl_beat.specs.declared.channel.Channel.TheVariants as channel
-use Rattle.tl_params.specs.declared.param.Prune.TheVariants as prune
-use Rattle.tl_params.specs.declared.perm.Perm.TheVariants as perm
 use Rattle.tl_coherence.specs.protocol.Phase.{grow_fits}
 use Rattle.tl_coherence.specs.protocol.PhaseSteps.{after_acquire, after_release}
 use Rattle.tl_coherence.specs.protocol.Protocol.{with_a, with_c, acquiring_block, releasing_block, stored_block}
 use Rattle.tl_coherence.specs.protocol.Protocol.{access_asked, acquire_asked, release_asked, block_stored}
-use Rattle.tl_coherence.proofs.queues.Phases.{and_left}
-use Rattle.tl_coherence.proofs.queues.PhaseSteps.{acquire-ok, release-ok}
+use Rattle.tl_coherence.proofs.{queues.Phases.and_left, queues.PhaseSteps.acquire-ok, queues.PhaseSteps.release-ok}
+use Rattle.tl_coherence.proofs.{queues.KindMoves.spares, queues.KindMoves.same_again, queues.Perms.nothing_below}
 use Rattle.tl_coherence.proofs.queues.Facts.{own_wants, held_at_most, held_out, unserved_calm}
 use Rattle.tl_coherence.proofs.protocol.Blocks.{awaited-same, asked_cap-same, asked_cap-other, own_source-other}
 use Rattle.tl_coherence.proofs.protocol.Blocks.{gentle-same, alone-set, owned-set, outside-set}
-use Rattle.tl_coherence.proofs.queues.Moves.{moves_at, event-at, bare-at, bare-elsewhere}
-use Rattle.tl_coherence.proofs.queues.KindMoves.{spares}
-use Rattle.tl_coherence.proofs.queues.Moves.{invariant-moved_access, names-kept, names-block, names-set_at}
-use Rattle.tl_coherence.proofs.queues.Moves.{invariant-moved, invariant-moved_use}
-use Rattle.tl_coherence.proofs.queues.KindMoves.{same_again}
+use Rattle.tl_coherence.proofs.queues.Moves.{moves_at, event-at, bare-at, bare-elsewhere, invariant-moved_access}
+use Rattle.tl_coherence.proofs.queues.Moves.{names-kept, names-block, names-set_at, invariant-moved}
+use Rattle.tl_coherence.proofs.queues.Moves.{invariant-moved_use}
 use Rattle.tl_coherence.proofs.queues.Tokens.{same_number, set-same, set-other, set-part}
-use Rattle.tl_coherence.proofs.queues.Perms.{nothing_below}
 
 -- ---- blocks
 
@@ -64,12 +58,12 @@ acquiring-block caching c source whole g bytes b h inside calm kept fits =
         own_wants (b.pair c) (view b.service c) (h.phases c) e in let g : false ≡ true = rw calm at f in absurd cc
 
 -- what is given up was held
-left_some : (r : Prune) (p : Perm) → same_perm p (prune_left r) ≡ true → same_perm p perm.None ≡ false
-left_some prune.TtoB perm.None e = absurd cc
-left_some prune.TtoN perm.None e = absurd cc
-left_some prune.BtoN perm.None e = absurd cc
-left_some r perm.Branch e = refl
-left_some r perm.Trunk e = refl
+left_some : (r : Prune) (p : Perm) → same_perm p (prune_left r) ≡ true → same_perm p Perm.None ≡ false
+left_some Prune.TtoB Perm.None e = absurd cc
+left_some Prune.TtoN Perm.None e = absurd cc
+left_some Prune.BtoN Perm.None e = absurd cc
+left_some r Perm.Branch e = refl
+left_some r Perm.Trunk e = refl
 
 pub releasing-block : {X : Type 0} (caching : ℕ → Bool) (c source : ℕ) (r : Prune) (b : Block X) → IsWell caching b
     → caching c ≡ true → (b.pair c).acquiring ≡ NoAcquire → (b.pair c).letting ≡ NoRelease
@@ -100,7 +94,7 @@ releasing-block caching c source r b h inside calm kept fits =
     }
 
 pub stored-block : {X : Type 0} (caching : ℕ → Bool) (c : ℕ) (bytes : X) (b : Block X) → IsWell caching b
-    → same_perm (b.pair c).held perm.Trunk ≡ true → IsWell caching (stored_block c bytes b)
+    → same_perm (b.pair c).held Perm.Trunk ≡ true → IsWell caching (stored_block c bytes b)
 stored-block caching c bytes b h may = record {
   phases = h.phases;
   awaited = h.awaited;
@@ -121,14 +115,14 @@ stored-block caching c bytes b h may = record {
     out : is_out (b.pair c) (view b.service c) ≡ true
     out = held_out (b.pair c) (view b.service c) (h.phases c) may
 
-    owns : same_perm (b.pair c).recorded perm.Trunk ≡ true
-    owns = and_left (same_perm (b.pair c).recorded perm.Trunk) (not (is_granting (view b.service c))) out
+    owns : same_perm (b.pair c).recorded Perm.Trunk ≡ true
+    owns = and_left (same_perm (b.pair c).recorded Perm.Trunk) (not (is_granting (view b.service c))) out
 
 -- ---- the whole
 
 -- an access: one token on channel A, and one source
 abbrev pub access_moves : ℕ → Channel → Move
-access_moves source channel.A = Pushes Request source
+access_moves source Channel.A = Pushes Request source
 access_moves source _ = Stays
 
 access_spared : (source : ℕ) (k : Kind) → is_transfer k ≡ true → spares (access_moves source (channel_for k)) k ≡ true
@@ -152,16 +146,16 @@ access_asked-kept caching c source s inv closed =
     })
   where
     moved : AreMoved (access_moves source) (s.link c) (with_a (packet Request source) (s.link c))
-    moved channel.A = refl
+    moved Channel.A = refl
     moved _ = refl
 
     own : (ch : Channel) → is_own_move ch (access_moves source ch) ≡ true
-    own channel.A = refl
+    own Channel.A = refl
     own ch = refl
 
 -- an Acquire
 abbrev pub acquire_moves : ℕ → Channel → Move
-acquire_moves n channel.A = Pushes Acquire n
+acquire_moves n Channel.A = Pushes Acquire n
 acquire_moves n _ = Stays
 
 -- the client's Acquire isn't served before it is open
@@ -224,16 +218,16 @@ acquire_asked-kept {X} caching c n source whole g bytes s inv inside closed calm
     here = with_a (packet Acquire n) (s.link c)
 
     moved : AreMoved (acquire_moves n) (s.link c) here
-    moved channel.A = refl
+    moved Channel.A = refl
     moved _ = refl
 
     own : (ch : Channel) → is_own_move ch (acquire_moves n ch) ≡ true
-    own channel.A = refl
+    own Channel.A = refl
     own ch = refl
 
 -- a Release
 abbrev pub release_moves : ℕ → Channel → Move
-release_moves n channel.C = Pushes Release n
+release_moves n Channel.C = Pushes Release n
 release_moves n _ = Stays
 
 release_shows : (n : ℕ) (k : Kind) (r : Prune) (p : ClientBlock) (v : View) → is_transfer k ≡ true
@@ -293,16 +287,16 @@ release_asked-kept {X} caching c n source r s inv inside closed calm kept fits =
     here = with_c (packet Release n) (s.link c)
 
     moved : AreMoved (release_moves n) (s.link c) here
-    moved channel.A = refl
+    moved Channel.A = refl
     moved _ = refl
 
     own : (ch : Channel) → is_own_move ch (release_moves n ch) ≡ true
-    own channel.A = refl
+    own Channel.A = refl
     own ch = refl
 
 -- a store
 pub block_stored-kept : {X : Type 0} (caching : ℕ → Bool) (c n : ℕ) (bytes : X) (s : State X) → IsInvariant caching s
-    → same_perm ((s.block n).pair c).held perm.Trunk ≡ true
+    → same_perm ((s.block n).pair c).held Perm.Trunk ≡ true
     → IsInvariant caching (block_stored c n bytes s)
 block_stored-kept {X} caching c n bytes s inv may =
     invariant-moved caching n new s.link (λ d ch. Stays) s.lets s.tracked s inv (record {

@@ -2,30 +2,22 @@
 use Rattle.tl_coherence.proofs.protocol.Imports.{Channel, Cap, Grow, Perm, cap_right, same_perm, ClientBlock, Idle}
 use Rattle.tl_coherence.proofs.protocol.Imports.{Granting, GrantedOther, AcquireOpen, same_cap, is_unacquired}
 use Rattle.tl_coherence.proofs.protocol.Imports.{is_unprobed, cap_fits, is_above, is_granted_data, after_grant_sent}
-use Rattle.tl_coherence.proofs.protocol.Imports.{Kind, Request, Acquire, Probe, ProbeAck, Release, Grant}
-use Rattle.tl_coherence.proofs.protocol.Imports.{ReleaseAck, GrantAck, Packet, set, Free, Block, State, Link, view}
-use Rattle.tl_coherence.proofs.protocol.Imports.{packet, shows, is_transfer, is_wanting, is_sent, is_answered}
-use Rattle.tl_coherence.proofs.protocol.Imports.{is_releasing, is_acked, Move, Stays, Pushes, Pops, AreMoved, agrees}
-use Rattle.tl_coherence.proofs.protocol.Imports.{is_own_move, channel_for, is_of, acquires_of, serves_of, acquires_with}
-use Rattle.tl_coherence.proofs.protocol.Imports.{serves_with, releases_with, tracks_with, IsWell, IsInvariant}
-use Rattle.tl_coherence.proofs.protocol.Imports.{cap_asked}
+use Rattle.tl_coherence.proofs.protocol.Imports.{Kind, Request, Acquire, Probe, ProbeAck, Release, Grant, ReleaseAck}
+use Rattle.tl_coherence.proofs.protocol.Imports.{GrantAck, Packet, set, Free, Block, State, Link, view, packet, shows}
+use Rattle.tl_coherence.proofs.protocol.Imports.{is_transfer, is_wanting, is_sent, is_answered, is_releasing, is_acked}
+use Rattle.tl_coherence.proofs.protocol.Imports.{Move, Stays, Pushes, Pops, AreMoved, agrees, is_own_move, channel_for}
+use Rattle.tl_coherence.proofs.protocol.Imports.{is_of, acquires_of, serves_of, acquires_with, serves_with}
+use Rattle.tl_coherence.proofs.protocol.Imports.{releases_with, tracks_with, IsWell, IsInvariant, cap_asked}
 use Rattle.std.proofs.Common.{◌≡◌, refl, sym, ◌∙◌, ◌⊎◌, inl, inr}
 use Rattle.std.specs.Prelude.{ℕ, Bool, true, false, not, List, ◌∷◌, Some, None}
 use Rattle.std.proofs.lemmas.Bool.{cases_eq, ne_eqb}
-use Rattle.tl_beat.specs.declared.channel.Channel.TheVariants as channel
-use Rattle.tl_params.specs.declared.param.Cap.TheVariants as cap
-use Rattle.tl_params.specs.declared.param.Grow.TheVariants as grow
-use Rattle.tl_params.specs.declared.perm.Perm.TheVariants as perm
 use Rattle.tl_coherence.specs.protocol.Protocol.{granted_at_once, answered_link, acquire_granted}
 use Rattle.tl_coherence.proofs.queues.Moves.{moves_at, event-at, bare-at, names-block, names-set, invariant-moved}
-use Rattle.tl_coherence.proofs.queues.KindMoves.{same_again}
+use Rattle.tl_coherence.proofs.{queues.KindMoves.same_again, queues.Facts.asked_low, queues.PhaseFacts.quiet_at_rest}
+use Rattle.tl_coherence.proofs.{protocol.Blocks.busy-inside, protocol.Blocks.outside-set, queues.Perms.not_out}
 use Rattle.tl_coherence.proofs.queues.Tokens.{same_number, set-same, set-other, set-part}
 use Rattle.tl_coherence.proofs.queues.PhaseSteps.{grant_at_once-ok, granted_other-ok}
-use Rattle.tl_coherence.proofs.queues.Facts.{asked_low}
-use Rattle.tl_coherence.proofs.queues.PhaseFacts.{quiet_at_rest}
 use Rattle.tl_coherence.proofs.protocol.Granted.{gives, none_or_trunk, grows_to_trunk}
-use Rattle.tl_coherence.proofs.protocol.Blocks.{busy-inside, outside-set}
-use Rattle.tl_coherence.proofs.queues.Perms.{not_out}
 
 -- ---- the block
 
@@ -34,8 +26,8 @@ pub record IsGrantable {X : Type 0} (r : ℕ) (whole : Bool) (g : Grow) (gift : 
   pub free : b.service ≡ Free
   pub wants : (b.pair r).acquiring ≡ AcquireOpen whole g
   pub fits : cap_fits whole g gift ≡ true
-  pub low : (d : ℕ) → (d ≡ r → ⊥) → same_perm (b.pair d).recorded perm.Trunk ≡ false
-  pub room : same_cap gift cap.ToT ≡ true → (d : ℕ) → (d ≡ r → ⊥) → same_perm (b.pair d).recorded perm.None ≡ true
+  pub low : (d : ℕ) → (d ≡ r → ⊥) → same_perm (b.pair d).recorded Perm.Trunk ≡ false
+  pub room : same_cap gift Cap.ToT ≡ true → (d : ℕ) → (d ≡ r → ⊥) → same_perm (b.pair d).recorded Perm.None ≡ true
 
 pub granted_at_once-block : {X : Type 0} (caching : ℕ → Bool) (r tracker : ℕ) (whole : Bool) (g : Grow) (gift : Cap)
     (b : Block X) → IsWell caching b → IsGrantable r whole g gift b
@@ -73,13 +65,13 @@ granted_at_once-block caching r tracker whole g gift b h is = record {
     held_same : (d : ℕ) → (set r after b.pair d).held ≡ (b.pair d).held
     held_same = set-part (λ (p : ClientBlock). p.held) r after b.pair refl
 
-    low : (d : ℕ) → (d ≡ r) ⊎ (d ≡ r → ⊥) → same_perm (b.pair d).recorded perm.Trunk ≡ false
+    low : (d : ℕ) → (d ≡ r) ⊎ (d ≡ r → ⊥) → same_perm (b.pair d).recorded Perm.Trunk ≡ false
     low d (inl same) = rw same (asked_low whole g (b.pair r) (view b.service r) (h.phases r) (idle r) is.wants)
     low d (inr other) = is.low d other
 
-    owner : (same_cap gift cap.ToT ≡ true) ⊎ (same_perm (cap_right gift) perm.Trunk ≡ false) → (i j : ℕ)
-        → same_perm (set r after b.pair i).recorded perm.Trunk ≡ true → (j ≡ i → ⊥)
-        → same_perm (set r after b.pair j).recorded perm.None ≡ true
+    owner : (same_cap gift Cap.ToT ≡ true) ⊎ (same_perm (cap_right gift) Perm.Trunk ≡ false) → (i j : ℕ)
+        → same_perm (set r after b.pair i).recorded Perm.Trunk ≡ true → (j ≡ i → ⊥)
+        → same_perm (set r after b.pair j).recorded Perm.None ≡ true
     owner (inl top) i j trunk ne = elim (cases_eq i r) [
       | inl same ↦ let differs : j ≡ r → ⊥ = λ e. ne (e ∙ sym same) in
           rw (set-other r j after b.pair differs) (is.room top j differs)
@@ -87,36 +79,36 @@ granted_at_once-block caching r tracker whole g gift b h is = record {
           (rw (set-other r i after b.pair differs) at trunk))
     ]
     owner (inr less) i j trunk ne = elim (cases_eq i r) [
-      | inl same ↦ absurd (let t : same_perm (cap_right gift) perm.Trunk ≡ true =
+      | inl same ↦ absurd (let t : same_perm (cap_right gift) Perm.Trunk ≡ true =
           rw (same, set-same r after b.pair) at trunk in cc)
-      | inr differs ↦ absurd (let t : same_perm (b.pair i).recorded perm.Trunk ≡ true =
+      | inr differs ↦ absurd (let t : same_perm (b.pair i).recorded Perm.Trunk ≡ true =
           rw (set-other r i after b.pair differs) at trunk in let u = is.low i differs in cc)
     ]
 
 -- nobody is to be probed with the cap that an Acquire asks for: so nobody has Trunk
 pub low-unprobed : (whole : Bool) (g : Grow) (p : Perm) → is_above (cap_asked (AcquireOpen whole g)) p ≡ false
-    → same_perm p perm.Trunk ≡ false
-low-unprobed whole g perm.None e = refl
-low-unprobed whole g perm.Branch e = refl
-low-unprobed whole grow.NtoB perm.Trunk e = absurd cc
-low-unprobed whole grow.NtoT perm.Trunk e = absurd cc
-low-unprobed whole grow.BtoT perm.Trunk e = absurd cc
+    → same_perm p Perm.Trunk ≡ false
+low-unprobed whole g Perm.None e = refl
+low-unprobed whole g Perm.Branch e = refl
+low-unprobed whole Grow.NtoB Perm.Trunk e = absurd cc
+low-unprobed whole Grow.NtoT Perm.Trunk e = absurd cc
+low-unprobed whole Grow.BtoT Perm.Trunk e = absurd cc
 
 -- and nobody is recorded where it asks for Trunk
 pub none-unprobed : (whole : Bool) (g : Grow) (p : Perm) → grows_to_trunk g ≡ true
-    → is_above (cap_asked (AcquireOpen whole g)) p ≡ false → same_perm p perm.None ≡ true
-none-unprobed whole g perm.None t e = refl
-none-unprobed whole grow.NtoB p t e = absurd cc
-none-unprobed whole grow.NtoT perm.Branch t e = absurd cc
-none-unprobed whole grow.NtoT perm.Trunk t e = absurd cc
-none-unprobed whole grow.BtoT perm.Branch t e = absurd cc
-none-unprobed whole grow.BtoT perm.Trunk t e = absurd cc
+    → is_above (cap_asked (AcquireOpen whole g)) p ≡ false → same_perm p Perm.None ≡ true
+none-unprobed whole g Perm.None t e = refl
+none-unprobed whole Grow.NtoB p t e = absurd cc
+none-unprobed whole Grow.NtoT Perm.Branch t e = absurd cc
+none-unprobed whole Grow.NtoT Perm.Trunk t e = absurd cc
+none-unprobed whole Grow.BtoT Perm.Branch t e = absurd cc
+none-unprobed whole Grow.BtoT Perm.Trunk t e = absurd cc
 
 -- ---- the whole
 
 abbrev pub once_moves : ℕ → Channel → Move
-once_moves n channel.A = Pops Acquire n
-once_moves n channel.D = Pushes Grant n
+once_moves n Channel.A = Pops Acquire n
+once_moves n Channel.D = Pushes Grant n
 once_moves n _ = Stays
 
 once_shows : (n : ℕ) (k : Kind) (p : ClientBlock) (d : Bool) (gift : Cap) → is_transfer k ≡ true
@@ -183,9 +175,9 @@ acquire_granted-kept {X} caching r n tracker whole g gift rest s inv first is un
     here = answered_link (packet Grant n) rest (s.link r)
 
     moved : AreMoved (once_moves n) (s.link r) here
-    moved channel.A = first
+    moved Channel.A = first
     moved _ = refl
 
     own : (ch : Channel) → is_own_move ch (once_moves n ch) ≡ true
-    own channel.A = refl
+    own Channel.A = refl
     own ch = refl

@@ -5,12 +5,8 @@ use Rattle.tl_coherence.proofs.protocol.Imports.{AccessMessages, block_message, 
 use Rattle.tl_coherence.proofs.protocol.Imports.{Release, Answer, Grant, ReleaseAck, GrantAck, Packet, one_if, count}
 use Rattle.std.proofs.Common.{◌≡◌, ℕ, ◌-◌, ◌<◌, ◌≤◌, Bool, true, false, List, [], ◌∷◌, ◌++◌, refl, sym, ap, subst}
 use Rattle.std.proofs.Common.{arith, ◌⊎◌, inl, inr}
-use Rattle.std.specs.Prelude.{length}
-use Rattle.std.proofs.lemmas.Bool.{cases_eq}
-use Rattle.tl_beat.specs.declared.channel.Channel.TheVariants as channel
-use Rattle.tl_coherence.specs.bound.Rank.{Left}
-use Rattle.tl_coherence.specs.refinement.PacketMessages.{message_of_kind}
-use Rattle.tl_coherence.specs.protocol.Packet.{is}
+use Rattle.std.{specs.Prelude.length, proofs.lemmas.Bool.cases_eq}
+use Rattle.tl_coherence.specs.{bound.Rank.Left, refinement.PacketMessages.message_of_kind, protocol.Packet.is}
 use Rattle.tl_coherence.proofs.protocol.TokenNames.{once, shown_there, shows_it}
 use Rattle.tl_coherence.proofs.queues.Channels.{IsShowing}
 
@@ -84,11 +80,11 @@ pub record IsPopped {w : ℕ} {X : Type 0} (c : ℕ) (ch : Channel) (moves : ℕ
   pub rests : (d : ℕ) (at : Channel) → (d ≡ c → at ≡ ch → ⊥) → rest' d at ≡ rest d at
 
 pub same_channels : (a b : Channel) → (a ≡ b) ⊎ (a ≡ b → ⊥)
-same_channels channel.A channel.A = inl refl
-same_channels channel.B channel.B = inl refl
-same_channels channel.C channel.C = inl refl
-same_channels channel.D channel.D = inl refl
-same_channels channel.E channel.E = inl refl
+same_channels Channel.A Channel.A = inl refl
+same_channels Channel.B Channel.B = inl refl
+same_channels Channel.C Channel.C = inl refl
+same_channels Channel.D Channel.D = inl refl
+same_channels Channel.E Channel.E = inl refl
 same_channels a b = inr (λ e. absurd cc)
 
 own_kind : (k : Kind) → is_on (channel_for k) k ≡ true

@@ -1,10 +1,9 @@
 -- What is kept across clients where one client's part of a block changes.
-use Rattle.tl_coherence.proofs.protocol.Imports.{same_perm, ClientBlock, Own, is_unprobed, set, Service, Waits}
-use Rattle.tl_coherence.proofs.protocol.Imports.{view, resting, IsAskedCap}
+use Rattle.tl_coherence.proofs.protocol.Imports.{same_perm, ClientBlock, Own, is_unprobed, set, Service, Waits, view}
+use Rattle.tl_coherence.proofs.protocol.Imports.{resting, IsAskedCap, Perm}
 use Rattle.std.proofs.Common.{◌≡◌, refl, ◌∙◌, ap, inl, inr}
 use Rattle.std.specs.Prelude.{ℕ, Bool, true, false}
 use Rattle.std.proofs.lemmas.Bool.{cases_eq}
-use Rattle.tl_params.specs.declared.perm.Perm.TheVariants as perm
 use Rattle.tl_coherence.specs.protocol.Invariant.{IsAwaited, IsOwnSource, IsAlone, IsOwned, AreOutside}
 use Rattle.tl_coherence.proofs.queues.Tokens.{same_number, set-same, set-other}
 
@@ -48,8 +47,8 @@ own_source-other s c i source ne h = tt
 
 -- one who is recorded with less than before, or as much, and isn't probed anew
 pub record IsGentle (p q : ClientBlock) : Type 0 where
-  pub trunk : same_perm q.recorded perm.Trunk ≡ true → same_perm p.recorded perm.Trunk ≡ true
-  pub none : same_perm p.recorded perm.None ≡ true → same_perm q.recorded perm.None ≡ true
+  pub trunk : same_perm q.recorded Perm.Trunk ≡ true → same_perm p.recorded Perm.Trunk ≡ true
+  pub none : same_perm p.recorded Perm.None ≡ true → same_perm q.recorded Perm.None ≡ true
   pub quiet : is_unprobed p.probing ≡ true → is_unprobed q.probing ≡ true
 
 -- where the record and the probing stay
@@ -58,14 +57,14 @@ pub gentle-same : (p q : ClientBlock) → q.recorded ≡ p.recorded → is_unpro
 gentle-same p q e f = record { trunk = λ h. rw e at h; none = λ h. rw e h; quiet = λ h. rw f h }
 
 trunk_at : (c i : ℕ) (q : ClientBlock) (pair : ℕ → ClientBlock) → IsGentle (pair c) q
-    → same_perm (set c q pair i).recorded perm.Trunk ≡ true → same_perm (pair i).recorded perm.Trunk ≡ true
+    → same_perm (set c q pair i).recorded Perm.Trunk ≡ true → same_perm (pair i).recorded Perm.Trunk ≡ true
 trunk_at c i q pair g e = elim (cases_eq i c) [
   | inl same ↦ rw same (g.trunk (rw (same, set-same c q pair) at e))
   | inr other ↦ rw (set-other c i q pair other) at e
 ]
 
 none_at : (c i : ℕ) (q : ClientBlock) (pair : ℕ → ClientBlock) → IsGentle (pair c) q
-    → same_perm (pair i).recorded perm.None ≡ true → same_perm (set c q pair i).recorded perm.None ≡ true
+    → same_perm (pair i).recorded Perm.None ≡ true → same_perm (set c q pair i).recorded Perm.None ≡ true
 none_at c i q pair g e = elim (cases_eq i c) [
   | inl same ↦ rw (same, set-same c q pair) (g.none (rw same at e))
   | inr other ↦ rw (set-other c i q pair other) e

@@ -4,12 +4,11 @@ use Rattle.tl_coherence.proofs.protocol.Imports.{Own, Other, Granting, Acknowled
 use Rattle.tl_coherence.proofs.protocol.Imports.{ProbePhase, NoProbe, ProbeSent, ProbeAnswered, ReleasePhase, NoRelease}
 use Rattle.tl_coherence.proofs.protocol.Imports.{ReleaseSent, ReleaseAcked, AcquirePhase, NoAcquire, AcquireOpen}
 use Rattle.tl_coherence.proofs.protocol.Imports.{is_unprobed, is_unreleased, Service, Free, Waits, GrantSent}
-use Rattle.tl_coherence.proofs.protocol.Imports.{GrantTaken, SourceState, Asked, InService, Replied}
-use Rattle.tl_coherence.proofs.protocol.Imports.{Acquires, view, is_wanting, is_sent, is_answered, is_releasing}
-use Rattle.tl_coherence.proofs.protocol.Imports.{is_acked, is_granting, is_acknowledging}
+use Rattle.tl_coherence.proofs.protocol.Imports.{GrantTaken, SourceState, Asked, InService, Replied, Acquires, view}
+use Rattle.tl_coherence.proofs.protocol.Imports.{is_wanting, is_sent, is_answered, is_releasing, is_acked, is_granting}
+use Rattle.tl_coherence.proofs.protocol.Imports.{is_acknowledging}
 use Rattle.std.proofs.Common.{◌≡◌, ℕ, Bool, true, false, not, Option, Some, None, refl}
-use Rattle.std.specs.Prelude.{◌==◌, ◌&&◌, if◌then◌else◌}
-use Rattle.std.proofs.lemmas.Bool.{eqb-true}
+use Rattle.std.{specs.Prelude.◌==◌, specs.Prelude.◌&&◌, specs.Prelude.if◌then◌else◌, proofs.lemmas.Bool.eqb-true}
 use Rattle.tl_coherence.specs.refinement.PacketMessages.{cap_sent, report_told, prune_told}
 use Rattle.tl_coherence.proofs.queues.Facts.{is_other}
 

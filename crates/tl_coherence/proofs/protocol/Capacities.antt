@@ -1,17 +1,12 @@
 -- How many messages a channel holds: as many at most as there are sources, trackers, or both.
-use Rattle.tl_coherence.proofs.protocol.Imports.{Channel, View, Acknowledging}
-use Rattle.tl_coherence.proofs.protocol.Imports.{is_unprobed, Kind, Request, Acquire}
+use Rattle.tl_coherence.proofs.protocol.Imports.{Channel, View, Acknowledging, is_unprobed, Kind, Request, Acquire}
 use Rattle.tl_coherence.proofs.protocol.Imports.{Probe, ProbeAck, Release, Answer, Grant, ReleaseAck, GrantAck, Packet}
-use Rattle.tl_coherence.proofs.protocol.Imports.{State}
-use Rattle.tl_coherence.proofs.protocol.Imports.{SourceState, SourceFree, Asked, Replied, Acquires, view}
-use Rattle.tl_coherence.proofs.protocol.Imports.{packets_on, is_on, is_acknowledging, shown}
-use Rattle.tl_coherence.proofs.protocol.Imports.{IsInvariant, is_asked, is_replied}
+use Rattle.tl_coherence.proofs.protocol.Imports.{State, SourceState, SourceFree, Asked, Replied, Acquires, view}
+use Rattle.tl_coherence.proofs.protocol.Imports.{packets_on, is_on, is_acknowledging, shown, IsInvariant, is_asked}
+use Rattle.tl_coherence.proofs.protocol.Imports.{is_replied}
 use Rattle.std.proofs.Common.{◌≡◌, ℕ, ◌+◌, ◌<◌, ◌≤◌, Bool, true, false, refl, sym, ◌∙◌, ap, subst, arith}
-use Rattle.std.specs.Prelude.{not, length, Some}
-use Rattle.std.proofs.lemmas.Bool.{and_parts}
-use Rattle.tl_beat.specs.declared.channel.Channel.TheVariants as channel
-use Rattle.tl_coherence.specs.protocol.Phase.{is_idle}
-use Rattle.tl_coherence.specs.protocol.Packet.{same_kind}
+use Rattle.std.{specs.Prelude.not, specs.Prelude.length, specs.Prelude.Some, proofs.lemmas.Bool.and_parts}
+use Rattle.tl_coherence.specs.{protocol.Phase.is_idle, protocol.Packet.same_kind}
 use Rattle.tl_coherence.proofs.queues.Distinct.{passing, pass-or-not, all-pass, few, IsThere}
 use Rattle.tl_coherence.proofs.protocol.BothParts.{not-answered, not-sent, acked-open, releasing-open, is_replied-is}
 use Rattle.tl_coherence.proofs.protocol.BothParts.{is_asked-is}
@@ -87,19 +82,19 @@ module _ {X : Type 0} (caching : ℕ → Bool) (s : State X) (c sources trackers
   asked_token : (x : Packet) → IsThere x (s.link c).a
       → (asked_by (name s c x.kind x.number) (s.uses c (name s c x.kind x.number)) ≡ Some x)
       × (name s c x.kind x.number < sources)
-  asked_token x there = go x.kind refl (kind_there caching s c channel.A x inv there)
+  asked_token x there = go x.kind refl (kind_there caching s c Channel.A x inv there)
     where
-      go : (k : Kind) → x.kind ≡ k → is_on channel.A k ≡ true
+      go : (k : Kind) → x.kind ≡ k → is_on Channel.A k ≡ true
           → (asked_by (name s c k x.number) (s.uses c (name s c k x.number)) ≡ Some x) × (name s c k x.number < sources)
       go Request e on_it =
-          let used = request_named caching s c x.number inv (shown_there caching s c channel.A Request x.number inv refl
+          let used = request_named caching s c x.number inv (shown_there caching s c Channel.A Request x.number inv refl
           (rw e at there)) in (
             rw used (ap (λ (y : Packet). Some y) (token-is x Request e)),
             used_below bounds x.number Asked used
                 (λ h. absurd cc),
           )
       go Acquire e on_it =
-          let used = acquire_named caching s c x.number inv (shown_there caching s c channel.A Acquire x.number inv refl
+          let used = acquire_named caching s c x.number inv (shown_there caching s c Channel.A Acquire x.number inv refl
           (rw e at there)) in (
             rw used (ap (λ (y : Packet). Some y) (token-is x Acquire e)),
             used_below bounds ((s.block x.number).source c)
@@ -111,27 +106,27 @@ module _ {X : Type 0} (caching : ℕ → Bool) (s : State X) (c sources trackers
   few_on_a =
       let all : passing (λ x. true) (s.link c).a ≤ sources =
       few (λ x. true) (λ x. name s c x.kind x.number) (λ i. asked_by i (s.uses c i)) sources (s.link c).a
-      (once caching s c channel.A inv) (λ x there pass. asked_token x there) in
+      (once caching s c Channel.A inv) (λ x there pass. asked_token x there) in
       rw (all-pass (s.link c).a) at all
 
   -- what is answered on D, the ReleaseAcks aside
   answered_token : (x : Packet) → IsThere x (s.link c).d → not (same_kind x.kind ReleaseAck) ≡ true
       → (answered_by (name s c x.kind x.number) (s.uses c (name s c x.kind x.number)) ≡ Some x)
       × (name s c x.kind x.number < sources)
-  answered_token x there = go x.kind refl (kind_there caching s c channel.D x inv there)
+  answered_token x there = go x.kind refl (kind_there caching s c Channel.D x inv there)
     where
-      go : (k : Kind) → x.kind ≡ k → is_on channel.D k ≡ true → not (same_kind k ReleaseAck) ≡ true
+      go : (k : Kind) → x.kind ≡ k → is_on Channel.D k ≡ true → not (same_kind k ReleaseAck) ≡ true
           → (answered_by (name s c k x.number) (s.uses c (name s c k x.number)) ≡ Some x)
           × (name s c k x.number < sources)
       go Answer e on_it pass =
-          let used = answer_named caching s c x.number inv (shown_there caching s c channel.D Answer x.number inv refl
+          let used = answer_named caching s c x.number inv (shown_there caching s c Channel.D Answer x.number inv refl
           (rw e at there)) in (
             rw used (ap (λ (y : Packet). Some y) (token-is x Answer e)),
             used_below bounds x.number Replied used
                 (λ h. absurd cc),
           )
       go Grant e on_it pass =
-          let used = grant_named caching s c x.number inv (shown_there caching s c channel.D Grant x.number inv refl
+          let used = grant_named caching s c x.number inv (shown_there caching s c Channel.D Grant x.number inv refl
           (rw e at there)) in (
             rw used (ap (λ (y : Packet). Some y) (token-is x Grant e)),
             used_below bounds ((s.block x.number).source c)
@@ -201,15 +196,15 @@ module _ {X : Type 0} (caching : ℕ → Bool) (s : State X) (c sources trackers
   kind_is GrantAck GrantAck e = refl
   kind_is _ _ e = absurd cc
 
-  probe_alone : (k : Kind) → is_on channel.B k ≡ true → k ≡ Probe
+  probe_alone : (k : Kind) → is_on Channel.B k ≡ true → k ≡ Probe
   probe_alone Probe e = refl
   probe_alone _ e = absurd cc
 
-  ack_alone : (k : Kind) → is_on channel.E k ≡ true → k ≡ GrantAck
+  ack_alone : (k : Kind) → is_on Channel.E k ≡ true → k ≡ GrantAck
   ack_alone GrantAck e = refl
   ack_alone _ e = absurd cc
 
-  report_or_release : (k : Kind) → is_on channel.C k ≡ true → not (same_kind k Release) ≡ true → k ≡ ProbeAck
+  report_or_release : (k : Kind) → is_on Channel.C k ≡ true → not (same_kind k Release) ≡ true → k ≡ ProbeAck
   report_or_release ProbeAck e f = refl
   report_or_release _ e f = absurd cc
 
@@ -217,41 +212,41 @@ module _ {X : Type 0} (caching : ℕ → Bool) (s : State X) (c sources trackers
   few_on_b =
       let all : passing (λ x. true) (s.link c).b ≤ trackers =
       few (λ x. true) (λ x. name s c x.kind x.number) (λ i. of_block Probe (s.tracked i)) trackers (s.link c).b
-      (once caching s c channel.B inv)
-      (λ x there pass. tracked_there channel.B Probe x refl refl there
-      (probe_alone x.kind (only_kind channel.B x there))) in
+      (once caching s c Channel.B inv)
+      (λ x there pass. tracked_there Channel.B Probe x refl refl there
+      (probe_alone x.kind (only_kind Channel.B x there))) in
       rw (all-pass (s.link c).b) at all
 
   pub few_on_e : length (s.link c).e ≤ trackers
   few_on_e =
       let all : passing (λ x. true) (s.link c).e ≤ trackers =
       few (λ x. true) (λ x. name s c x.kind x.number) (λ i. of_block GrantAck (s.tracked i)) trackers (s.link c).e
-      (once caching s c channel.E inv)
-      (λ x there pass. tracked_there channel.E GrantAck x refl refl there
-      (ack_alone x.kind (only_kind channel.E x there))) in
+      (once caching s c Channel.E inv)
+      (λ x there pass. tracked_there Channel.E GrantAck x refl refl there
+      (ack_alone x.kind (only_kind Channel.E x there))) in
       rw (all-pass (s.link c).e) at all
 
   pub few_on_c : length (s.link c).c ≤ sources + trackers
   few_on_c =
       let releases : passing (λ x. same_kind x.kind Release) (s.link c).c ≤ sources =
       few (λ x. same_kind x.kind Release) (λ x. name s c x.kind x.number) (λ i. of_block Release (s.lets c i)) sources
-      (s.link c).c (once caching s c channel.C inv)
-      (λ x there pass. released_there channel.C Release x refl refl there (kind_is x.kind Release pass)) in
+      (s.link c).c (once caching s c Channel.C inv)
+      (λ x there pass. released_there Channel.C Release x refl refl there (kind_is x.kind Release pass)) in
       let reports : passing (λ x. not (same_kind x.kind Release)) (s.link c).c ≤ trackers =
       few (λ x. not (same_kind x.kind Release)) (λ x. name s c x.kind x.number) (λ i. of_block ProbeAck (s.tracked i))
-      trackers (s.link c).c (once caching s c channel.C inv)
-      (λ x there pass. tracked_there channel.C ProbeAck x refl refl there
-      (report_or_release x.kind (only_kind channel.C x there) pass)) in
+      trackers (s.link c).c (once caching s c Channel.C inv)
+      (λ x there pass. tracked_there Channel.C ProbeAck x refl refl there
+      (report_or_release x.kind (only_kind Channel.C x there) pass)) in
       omega (arith, pass-or-not (λ x. same_kind x.kind Release) (s.link c).c, releases, reports)
 
   pub few_acks_on_d : passing (λ x. same_kind x.kind ReleaseAck) (s.link c).d ≤ sources
   few_acks_on_d =
       few (λ x. same_kind x.kind ReleaseAck) (λ x. name s c x.kind x.number) (λ i. of_block ReleaseAck (s.lets c i))
-      sources (s.link c).d (once caching s c channel.D inv)
-      (λ x there pass. released_there channel.D ReleaseAck x refl refl there (kind_is x.kind ReleaseAck pass))
+      sources (s.link c).d (once caching s c Channel.D inv)
+      (λ x there pass. released_there Channel.D ReleaseAck x refl refl there (kind_is x.kind ReleaseAck pass))
 
   pub few_responses_on_d : passing (λ x. not (same_kind x.kind ReleaseAck)) (s.link c).d ≤ sources
   few_responses_on_d =
       few (λ x. not (same_kind x.kind ReleaseAck)) (λ x. name s c x.kind x.number) (λ i. answered_by i (s.uses c i))
-      sources (s.link c).d (once caching s c channel.D inv)
+      sources (s.link c).d (once caching s c Channel.D inv)
       (λ x there pass. answered_token x there pass)

@@ -7,24 +7,19 @@ use Rattle.tl_coherence.proofs.protocol.Imports.{InService, Replied, view, packe
 use Rattle.tl_coherence.proofs.protocol.Imports.{is_transfer, is_wanting, is_sent, is_answered, is_releasing, is_acked}
 use Rattle.tl_coherence.proofs.protocol.Imports.{Move, Stays, Pushes, Pops, IsMoved, agrees, is_own_move, channel_for}
 use Rattle.tl_coherence.proofs.protocol.Imports.{is_out, is_of, acquires_of, serves_of, acquires_with, serves_with}
-use Rattle.tl_coherence.proofs.protocol.Imports.{releases_with, tracks_with, IsWell, IsInvariant}
+use Rattle.tl_coherence.proofs.protocol.Imports.{releases_with, tracks_with, IsWell, IsInvariant, Perm}
 use Rattle.std.proofs.Common.{◌≡◌, refl, sym, subst, ◌∙◌, ap, ◌⊎◌, inl, inr}
 use Rattle.std.specs.Prelude.{ℕ, Bool, true, false, List, ◌∷◌, ◌==◌, ◌&&◌, if◌then◌else◌, Some, None}
 use Rattle.std.proofs.lemmas.Bool.{cases_eq, ne_eqb, eqb-true}
-use Rattle.tl_beat.specs.declared.channel.Channel.TheVariants as channel
-use Rattle.tl_params.specs.declared.param.Cap.TheVariants as cap
-use Rattle.tl_params.specs.declared.perm.Perm.TheVariants as perm
 use Rattle.tl_coherence.specs.protocol.Protocol.{written, with_d, popped_link, ended_block, ended_link, report_answers}
 use Rattle.tl_coherence.proofs.queues.Moves.{names-block, names-set, names-set_at, invariant-moved_use}
-use Rattle.tl_coherence.proofs.queues.KindMoves.{same_again}
+use Rattle.tl_coherence.proofs.{queues.KindMoves.same_again, queues.PhaseSteps.report-ok, queues.PhaseSteps.ended-ok}
+use Rattle.tl_coherence.proofs.{protocol.Reported.gentle-report, queues.Perms.nothing_below, queues.Perms.not_out}
 use Rattle.tl_coherence.proofs.queues.Tokens.{same_number, set-same, set-other, set-part}
-use Rattle.tl_coherence.proofs.queues.PhaseSteps.{report-ok, ended-ok}
 use Rattle.tl_coherence.proofs.queues.Facts.{held_at_most, spared_within, reported_within, cap_is_low, report_begins}
 use Rattle.tl_coherence.proofs.protocol.Granted.{low_within, both_trunk, low_none}
-use Rattle.tl_coherence.proofs.protocol.Reported.{gentle-report}
 use Rattle.tl_coherence.proofs.protocol.Blocks.{alone-set, owned-set, outside-set, busy-inside}
 use Rattle.tl_coherence.proofs.protocol.BothParts.{is_of-is, serves_of-is, quiet-is}
-use Rattle.tl_coherence.proofs.queues.Perms.{nothing_below, not_out}
 
 -- ---- the block
 
@@ -34,7 +29,7 @@ pub record IsLastOf {X : Type 0} (c q : ℕ) (r : Report) (f : X → X) (source 
   pub waits : b.service ≡ Waits q false source k
   pub answered : (b.pair c).probing ≡ ProbeAnswered r
   pub settled : (d : ℕ) → (d ≡ c → ⊥) → is_unprobed (b.pair d).probing ≡ true
-  pub spares : (f b.truth ≡ b.truth) ⊎ (k ≡ cap.ToN)
+  pub spares : (f b.truth ≡ b.truth) ⊎ (k ≡ Cap.ToN)
 
 pub ended-block : {X : Type 0} (caching : ℕ → Bool) (c q : ℕ) (r : Report) (f : X → X) (source : ℕ) (k : Cap)
     (b : Block X) → IsWell caching b → IsLastOf c q r f source k b
@@ -49,7 +44,7 @@ ended-block {X} caching c q r f source k b h last = record {
   outside = outside-set caching c after b.pair (busy-inside caching c b.pair (λ p. is_answered p.probing) refl
       (rw last.answered refl) h.outside) h.outside;
   copies = λ d some. copy_is d some last.spares;
-  memory = λ none. ap f (memory_is (same_perm (report_left r) perm.Trunk) refl);
+  memory = λ none. ap f (memory_is (same_perm (report_left r) Perm.Trunk) refl);
 }
   where
     after : ClientBlock
@@ -61,7 +56,7 @@ ended-block {X} caching c q r f source k b h last = record {
     begins : same_perm (report_left r) (b.pair c).recorded ≡ true
     begins = report_begins r (b.pair c) (view b.service c) (h.phases c) last.answered
 
-    low : same_cap k cap.ToT ≡ false
+    low : same_cap k Cap.ToT ≡ false
     low = cap_is_low k (b.pair c) (view b.service c) (h.phases c) (other c)
 
     phase : (d : ℕ) → ok (set c after b.pair d) Idle ≡ true
@@ -76,7 +71,7 @@ ended-block {X} caching c q r f source k b h last = record {
     held_same = set-part (λ (p : ClientBlock). p.held) c after b.pair refl
 
     -- where all were probed, nobody is recorded any more
-    nobody : k ≡ cap.ToN → (d : ℕ) → same_perm (set c after b.pair d).recorded perm.None ≡ true
+    nobody : k ≡ Cap.ToN → (d : ℕ) → same_perm (set c after b.pair d).recorded Perm.None ≡ true
     nobody e d = elim (cases_eq d c) [
       | inl same ↦ rw (same, set-same c after b.pair)
           (low_none k (report_right r) e (reported_within k r (b.pair c) (view b.service c) (h.phases c) (other c)
@@ -86,7 +81,7 @@ ended-block {X} caching c q r f source k b h last = record {
           (quiet-is (b.pair d).probing (last.settled d ne))))
     ]
 
-    copy_is : (d : ℕ) → same_perm (set c after b.pair d).held perm.None ≡ false → (f b.truth ≡ b.truth) ⊎ (k ≡ cap.ToN)
+    copy_is : (d : ℕ) → same_perm (set c after b.pair d).held Perm.None ≡ false → (f b.truth ≡ b.truth) ⊎ (k ≡ Cap.ToN)
         → b.copy d ≡ f b.truth
     copy_is d some (inl same) = h.copies d (rw (held_same d) at some) ∙ sym same
     copy_is d some (inr all) =
@@ -95,14 +90,14 @@ ended-block {X} caching c q r f source k b h last = record {
         absurd (let differs : true ≡ false = sym no ∙ some in cc)
 
     -- before, nobody had a Trunk but the client whose ProbeAck is taken, if that carries data
-    none_out : same_perm (report_left r) perm.Trunk ≡ false → (d : ℕ) → is_out (b.pair d) (view b.service d) ≡ false
+    none_out : same_perm (report_left r) Perm.Trunk ≡ false → (d : ℕ) → is_out (b.pair d) (view b.service d) ≡ false
     none_out bare d = not_out (b.pair d) (view b.service d) (elim (cases_eq d c) [
       | inl same ↦ rw same (both_trunk (report_left r) (b.pair c).recorded begins bare)
       | inr ne ↦ low_within (b.pair d).recorded k (spared_within k (b.pair d) (view b.service d) (h.phases d) (other d)
           (quiet-is (b.pair d).probing (last.settled d ne))) low
     ])
 
-    memory_is : (data_too : Bool) → same_perm (report_left r) perm.Trunk ≡ data_too
+    memory_is : (data_too : Bool) → same_perm (report_left r) Perm.Trunk ≡ data_too
         → written r b.truth b.memory ≡ b.truth
     memory_is true e = rw e refl
     memory_is false e = rw e (h.memory (none_out e))
@@ -111,8 +106,8 @@ ended-block {X} caching c q r f source k b h last = record {
 
 -- what a client's link does: x tells whether its ProbeAck is taken, and y whether its access is answered
 abbrev pub ended_move : Bool → Bool → ℕ → ℕ → Channel → Move
-ended_move x y n source channel.C = if x then Pops ProbeAck n else Stays
-ended_move x y n source channel.D = if y then Pushes Answer source else Stays
+ended_move x y n source Channel.C = if x then Pops ProbeAck n else Stays
+ended_move x y n source Channel.D = if y then Pushes Answer source else Stays
 ended_move x y n source _ = Stays
 
 ended_shows : (n source : ℕ) (j : Kind) (x y : Bool) (r : Report) (k : Cap) (p : ClientBlock) → is_transfer j ≡ true
@@ -138,39 +133,39 @@ ended_shows n source ReleaseAck false false r k p t e = same_again (is_acked p.l
 ended_shows n source GrantAck x y r k p t e = refl
 
 ended_own : (ch : Channel) (x y : Bool) (n source : ℕ) → is_own_move ch (ended_move x y n source ch) ≡ true
-ended_own channel.A x y n source = refl
-ended_own channel.B x y n source = refl
-ended_own channel.C true y n source = refl
-ended_own channel.C false y n source = refl
-ended_own channel.D x true n source = refl
-ended_own channel.D x false n source = refl
-ended_own channel.E x y n source = refl
+ended_own Channel.A x y n source = refl
+ended_own Channel.B x y n source = refl
+ended_own Channel.C true y n source = refl
+ended_own Channel.C false y n source = refl
+ended_own Channel.D x true n source = refl
+ended_own Channel.D x false n source = refl
+ended_own Channel.E x y n source = refl
 
 pub ended_moved : (ch : Channel) (x y : Bool) (n source : ℕ) (l : Link) (rest : List Packet)
     → (x ≡ true → l.c ≡ packet ProbeAck n ∷ rest)
     → IsMoved (ended_move x y n source ch) (packets_on ch l)
     (packets_on ch (if y then with_d (packet Answer source) (if x then record l { c = rest } else l) else
     (if x then record l { c = rest } else l)))
-ended_moved channel.A true true n source l rest e = refl
-ended_moved channel.A true false n source l rest e = refl
-ended_moved channel.A false true n source l rest e = refl
-ended_moved channel.A false false n source l rest e = refl
-ended_moved channel.B true true n source l rest e = refl
-ended_moved channel.B true false n source l rest e = refl
-ended_moved channel.B false true n source l rest e = refl
-ended_moved channel.B false false n source l rest e = refl
-ended_moved channel.C true true n source l rest e = e refl
-ended_moved channel.C true false n source l rest e = e refl
-ended_moved channel.C false true n source l rest e = refl
-ended_moved channel.C false false n source l rest e = refl
-ended_moved channel.D true true n source l rest e = refl
-ended_moved channel.D true false n source l rest e = refl
-ended_moved channel.D false true n source l rest e = refl
-ended_moved channel.D false false n source l rest e = refl
-ended_moved channel.E true true n source l rest e = refl
-ended_moved channel.E true false n source l rest e = refl
-ended_moved channel.E false true n source l rest e = refl
-ended_moved channel.E false false n source l rest e = refl
+ended_moved Channel.A true true n source l rest e = refl
+ended_moved Channel.A true false n source l rest e = refl
+ended_moved Channel.A false true n source l rest e = refl
+ended_moved Channel.A false false n source l rest e = refl
+ended_moved Channel.B true true n source l rest e = refl
+ended_moved Channel.B true false n source l rest e = refl
+ended_moved Channel.B false true n source l rest e = refl
+ended_moved Channel.B false false n source l rest e = refl
+ended_moved Channel.C true true n source l rest e = e refl
+ended_moved Channel.C true false n source l rest e = e refl
+ended_moved Channel.C false true n source l rest e = refl
+ended_moved Channel.C false false n source l rest e = refl
+ended_moved Channel.D true true n source l rest e = refl
+ended_moved Channel.D true false n source l rest e = refl
+ended_moved Channel.D false true n source l rest e = refl
+ended_moved Channel.D false false n source l rest e = refl
+ended_moved Channel.E true true n source l rest e = refl
+ended_moved Channel.E true false n source l rest e = refl
+ended_moved Channel.E false true n source l rest e = refl
+ended_moved Channel.E false false n source l rest e = refl
 
 -- ---- the whole
 

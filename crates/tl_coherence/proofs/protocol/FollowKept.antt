@@ -1,56 +1,40 @@
 -- The protocol keeps its invariant as it follows the world: at each message that is taken, the first token and the
 -- invariant give what its event asks for.
 use Rattle.tl_coherence.proofs.protocol.Imports.{MessageA, Config, Cap, Grow, Report, Perm, prune_left, same_perm}
-use Rattle.tl_coherence.proofs.protocol.Imports.{is_replied, IsInvariant, ClientBlock, View, Own}
-use Rattle.tl_coherence.proofs.protocol.Imports.{Other, Granting, Acknowledging, GrantedOther, ProbeAnswered, NoRelease}
-use Rattle.tl_coherence.proofs.protocol.Imports.{AcquirePhase, NoAcquire, AcquireOpen, is_unprobed}
-use Rattle.tl_coherence.proofs.protocol.Imports.{after_report, Service, Free, Waits}
-use Rattle.tl_coherence.proofs.protocol.Imports.{GrantSent, GrantTaken, Block, SourceFree, view, packet, shown}
-use Rattle.tl_coherence.proofs.protocol.Imports.{is_wanting, is_granting, is_answered, on, Kind, Request}
-use Rattle.tl_coherence.proofs.protocol.Imports.{Acquire, Probe, ProbeAck, Release, Answer, Grant, ReleaseAck, GrantAck}
-use Rattle.tl_coherence.proofs.protocol.Imports.{Packet, set}
-use Rattle.std.proofs.Common.{◌≡◌, subst, ℕ, ◌≤◌, Bool, true, false, not, ◌&&◌, List, ◌∷◌}
-use Rattle.std.proofs.Common.{Some, None, length, refl, sym, ◌∙◌, ap, inl, inr}
-use Rattle.std.specs.Prelude.{◌==◌, if◌then◌else◌, ⊤}
-use Rattle.std.proofs.lemmas.Bool.{eqb-true, not-true}
-use Rattle.std.proofs.lemmas.Option.{same_Some}
-use Rattle.tl_burst.specs.declared.message.Message.TheVariants as message
-use Rattle.tl_params.specs.declared.param.Cap.TheVariants as cap
-use Rattle.tl_params.specs.declared.param.Grow.TheVariants as grow
-use Rattle.tl_params.specs.declared.perm.Perm.TheVariants as perm
-use Rattle.tl_params.specs.declared.profile.Profile.{Profile}
-use Rattle.tl_params.specs.statement.Param.{grow_left}
+use Rattle.tl_coherence.proofs.protocol.Imports.{is_replied, IsInvariant, ClientBlock, View, Own, Other, Granting}
+use Rattle.tl_coherence.proofs.protocol.Imports.{Acknowledging, GrantedOther, ProbeAnswered, NoRelease, AcquirePhase}
+use Rattle.tl_coherence.proofs.protocol.Imports.{NoAcquire, AcquireOpen, is_unprobed, after_report, Service, Free}
+use Rattle.tl_coherence.proofs.protocol.Imports.{Waits, GrantSent, GrantTaken, Block, SourceFree, view, packet, shown}
+use Rattle.tl_coherence.proofs.protocol.Imports.{is_wanting, is_granting, is_answered, on, Kind, Request, Acquire}
+use Rattle.tl_coherence.proofs.protocol.Imports.{Probe, ProbeAck, Release, Answer, Grant, ReleaseAck, GrantAck, Packet}
+use Rattle.tl_coherence.proofs.protocol.Imports.{set, Message}
+use Rattle.std.proofs.Common.{◌≡◌, subst, ℕ, ◌≤◌, Bool, true, false, not, ◌&&◌, List, ◌∷◌, Some, None, length, refl}
+use Rattle.std.proofs.Common.{sym, ◌∙◌, ap, inl, inr}
+use Rattle.std.{specs.Prelude.◌==◌, specs.Prelude.if◌then◌else◌, specs.Prelude.⊤, proofs.lemmas.Bool.eqb-true}
+use Rattle.std.{proofs.lemmas.Bool.not-true, proofs.lemmas.Option.same_Some}
+use Rattle.tl_params.{specs.declared.profile.Profile.Profile, specs.statement.Param.grow_left}
 use Rattle.tl_rules.specs.statement.History.{block_at, is_acquire}
-use Rattle.tl_client.specs.declared.operation.Op.{Op}
-use Rattle.tl_client.specs.declared.operation.Op.TheVariants as op
-use Rattle.tl_client.specs.declared.reply.Reply.{Reply}
-use Rattle.tl_client.specs.declared.reply.Reply.TheVariants as reply
-use Rattle.tl_client.specs.statement.Ask.{copy_stored, whole_grow}
+use Rattle.tl_client.{specs.declared.operation.Op.Op, specs.declared.reply.Reply.Reply, specs.statement.Ask.copy_stored}
+use Rattle.tl_client.{specs.statement.Ask.whole_grow}
 use Rattle.tl_manager.specs.statement.Holders.{cap_probed}
 use Rattle.tl_coherence.specs.refinement.AbstractStep.{AbstractState, with_state, asked, some_below, performs}
-use Rattle.tl_coherence.specs.refinement.AbstractStep.{is_unheld, gift}
-use Rattle.tl_coherence.specs.refinement.AbstractStep.{granted_after, last_taken, ack_taken}
+use Rattle.tl_coherence.specs.refinement.AbstractStep.{is_unheld, gift, granted_after, last_taken, ack_taken}
 use Rattle.tl_coherence.specs.refinement.AbstractStep.{taken_by_client, kind_taken}
 use Rattle.tl_coherence.specs.protocol.Phase.{grow_fits, is_whole}
 use Rattle.tl_coherence.specs.protocol.Protocol.{report_taken, grant_taken}
 use Rattle.tl_coherence.specs.refinement.PacketMessages.{cap_sent, report_told, prune_told}
-use Rattle.tl_coherence.proofs.queues.Phases.{and_right}
+use Rattle.tl_coherence.proofs.{queues.Phases.and_right, queues.Tokens.same_number, queues.Tokens.holds-first}
+use Rattle.tl_coherence.proofs.{protocol.Blocks.outside-set, protocol.Blocks.busy-inside}
+use Rattle.tl_coherence.proofs.{protocol.Probed.probe_taken-kept, protocol.Answered.answer_taken-kept}
+use Rattle.tl_coherence.proofs.{protocol.Granted.room-trunk, protocol.GrantedAll.report_grants-kept}
+use Rattle.tl_coherence.proofs.{protocol.Ended.report_answers-kept, protocol.TakenAll.grant_taken-kept}
 use Rattle.tl_coherence.proofs.queues.Facts.{acquire_fits, answered_other, own_wants, granting_asks, is_other}
-use Rattle.tl_coherence.proofs.queues.Tokens.{same_number, holds-first}
 use Rattle.tl_coherence.proofs.protocol.Asked.{access_asked-kept, acquire_asked-kept, release_asked-kept}
 use Rattle.tl_coherence.proofs.protocol.Asked.{block_stored-kept}
-use Rattle.tl_coherence.proofs.protocol.Blocks.{outside-set, busy-inside}
-use Rattle.tl_coherence.proofs.protocol.Probed.{probe_taken-kept}
-use Rattle.tl_coherence.proofs.protocol.Answered.{answer_taken-kept}
-use Rattle.tl_coherence.proofs.protocol.Granted.{room-trunk}
-use Rattle.tl_coherence.proofs.protocol.GrantedAll.{report_grants-kept}
-use Rattle.tl_coherence.proofs.protocol.Ended.{report_answers-kept}
 use Rattle.tl_coherence.proofs.protocol.Reported.{report_taken-kept, release_taken-kept}
-use Rattle.tl_coherence.proofs.protocol.TakenAll.{grant_taken-kept}
 use Rattle.tl_coherence.proofs.protocol.Acknowledged.{release_ack_taken-kept, grant_ack_taken-kept}
-use Rattle.tl_coherence.proofs.protocol.BothParts.{is_replied-is, wanting-is, sent-is, answered-is}
-use Rattle.tl_coherence.proofs.protocol.BothParts.{releasing-is, acked-is, acknowledging-is, not-other, not-calm}
-use Rattle.tl_coherence.proofs.protocol.BothParts.{granting-own}
+use Rattle.tl_coherence.proofs.protocol.BothParts.{is_replied-is, wanting-is, sent-is, answered-is, releasing-is}
+use Rattle.tl_coherence.proofs.protocol.BothParts.{acked-is, acknowledging-is, not-other, not-calm, granting-own}
 use Rattle.tl_coherence.proofs.protocol.RequestsKept.{some-one, settled_all, leaves-bytes, request_taken-kept}
 use Rattle.tl_coherence.proofs.protocol.RequestsKept.{gift_fits, gift_trunk, unheld_none, acquire_taken-kept}
 
@@ -149,7 +133,7 @@ ack_taken-kept {w} caching clients p c n rest h inv plain first long serving =
           settled = quiet;
           spares = elim (leaves-bytes (h.request n) b.truth for.0 long) [
             | inl same ↦ inl same
-            | inr all ↦ inr (same_Some k cap.ToN (sym for.1 ∙ all))
+            | inr all ↦ inr (same_Some k Cap.ToN (sym for.1 ∙ all))
           ];
         })
 
@@ -205,7 +189,7 @@ grant_followed-kept {w} caching c n rest h inv first = go b.service refl
 -- what isn't told by the token alone: a request isn't stalled, and has a tracker that no block has; nor is a Probe
 abbrev pub IsReady : {w : ℕ} → ℕ → ℕ → Kind → ℕ → AbstractState w → Type 0
 IsReady {w} tracker c Request source h =
-    (m : MessageA w) × (h.mail.request c source ≡ message.A m) × (is_acquire m.opcode ≡ false)
+    (m : MessageA w) × (h.mail.request c source ≡ Message.A m) × (is_acquire m.opcode ≡ false)
     × ((h.state.block (block_at m.address)).service ≡ Free) × (h.state.tracked tracker ≡ None)
 IsReady tracker c Acquire n h = ((h.state.block n).service ≡ Free) × (h.state.tracked tracker ≡ None)
 IsReady tracker c Probe n h = ((h.state.block n).pair c).letting ≡ NoRelease
@@ -258,46 +242,46 @@ kind_taken-kept caching config tracker c GrantAck n rest h inv plain long servin
 
 -- what a client's answer says of its end: what it was asked for, it may do
 abbrev pub IsAskable : {w : ℕ} → (ℕ → Bool) → ℕ → Op w → Reply → AbstractState w → Type 0
-IsAskable caching c (op.Store address size value) reply.Stored h =
-    same_perm ((h.state.block (block_at address)).pair c).held perm.Trunk ≡ true
-IsAskable caching c (op.Acquire n g) (reply.Started source) h =
+IsAskable caching c (Op.Store address size value) Reply.Stored h =
+    same_perm ((h.state.block (block_at address)).pair c).held Perm.Trunk ≡ true
+IsAskable caching c (Op.Acquire n g) (Reply.Started source) h =
     (caching c ≡ true) × (h.state.uses c source ≡ SourceFree) × (((h.state.block n).pair c).acquiring ≡ NoAcquire)
     × (((h.state.block n).pair c).letting ≡ NoRelease)
     × (same_perm (grow_left g) ((h.state.block n).pair c).held ≡ true)
-IsAskable caching c (op.AcquireWhole n bytes) (reply.Started source) h =
+IsAskable caching c (Op.AcquireWhole n bytes) (Reply.Started source) h =
     (caching c ≡ true) × (h.state.uses c source ≡ SourceFree) × (((h.state.block n).pair c).acquiring ≡ NoAcquire)
     × (((h.state.block n).pair c).letting ≡ NoRelease)
-    × (same_perm perm.Trunk ((h.state.block n).pair c).held ≡ false)
-IsAskable caching c (op.Release n r) (reply.Started source) h =
+    × (same_perm Perm.Trunk ((h.state.block n).pair c).held ≡ false)
+IsAskable caching c (Op.Release n r) (Reply.Started source) h =
     (caching c ≡ true) × (h.state.lets c source ≡ None) × (((h.state.block n).pair c).acquiring ≡ NoAcquire)
     × (((h.state.block n).pair c).letting ≡ NoRelease)
     × (same_perm ((h.state.block n).pair c).held (prune_left r) ≡ true)
-IsAskable caching c (op.Access m) (reply.Started source) h = h.state.uses c source ≡ SourceFree
+IsAskable caching c (Op.Access m) (Reply.Started source) h = h.state.uses c source ≡ SourceFree
 IsAskable caching c o r h = ⊤
 
 begins_fit : (g : Grow) (p : Perm) → same_perm (grow_left g) p ≡ true → grow_fits p (AcquireOpen false g) ≡ true
-begins_fit grow.NtoB perm.None e = refl
-begins_fit grow.NtoT perm.None e = refl
-begins_fit grow.BtoT perm.Branch e = refl
+begins_fit Grow.NtoB Perm.None e = refl
+begins_fit Grow.NtoT Perm.None e = refl
+begins_fit Grow.BtoT Perm.Branch e = refl
 begins_fit g p e = absurd cc
 
-whole_fits : (p : Perm) → same_perm perm.Trunk p ≡ false → grow_fits p (AcquireOpen true (whole_grow p)) ≡ true
-whole_fits perm.Trunk e = absurd cc
+whole_fits : (p : Perm) → same_perm Perm.Trunk p ≡ false → grow_fits p (AcquireOpen true (whole_grow p)) ≡ true
+whole_fits Perm.Trunk e = absurd cc
 whole_fits p e = refl
 
 pub asked-kept : {w : ℕ} (caching : ℕ → Bool) (c : ℕ) (o : Op w) (r : Reply) (h : AbstractState w)
     → IsInvariant caching h.state → IsAskable caching c o r h → IsInvariant caching (asked c o r h).state
-asked-kept caching c (op.Store address size value) reply.Stored h inv may =
+asked-kept caching c (Op.Store address size value) Reply.Stored h inv may =
     block_stored-kept caching c (block_at address)
     (copy_stored address size value ((h.state.block (block_at address)).copy c)) h.state inv may
-asked-kept caching c (op.Acquire n g) (reply.Started source) h inv is =
+asked-kept caching c (Op.Acquire n g) (Reply.Started source) h inv is =
     acquire_asked-kept caching c n source false g ((h.state.block n).waiting c) h.state inv is.0 is.1 is.2 is.3
     (begins_fit g ((h.state.block n).pair c).held is.4)
-asked-kept caching c (op.AcquireWhole n bytes) (reply.Started source) h inv is =
+asked-kept caching c (Op.AcquireWhole n bytes) (Reply.Started source) h inv is =
     acquire_asked-kept caching c n source true (whole_grow ((h.state.block n).pair c).held) bytes h.state inv is.0 is.1
     is.2 is.3 (whole_fits ((h.state.block n).pair c).held is.4)
-asked-kept caching c (op.Release n r) (reply.Started source) h inv is =
+asked-kept caching c (Op.Release n r) (Reply.Started source) h inv is =
     release_asked-kept caching c n source r h.state inv is.0 is.1 is.2 is.3 is.4
-asked-kept caching c (op.Access (message.A m)) (reply.Started source) h inv closed =
+asked-kept caching c (Op.Access (Message.A m)) (Reply.Started source) h inv closed =
     access_asked-kept caching c source h.state inv closed
 asked-kept caching c o r h inv is = inv

@@ -1,29 +1,26 @@
 -- The last ProbeAck that is taken, with which the Acquire that waited is granted, keeps the invariant.
 use Rattle.tl_coherence.proofs.protocol.Imports.{Channel, Cap, Grow, Report, ClientBlock, Own, Other, Granting}
 use Rattle.tl_coherence.proofs.protocol.Imports.{GrantedOther, ProbeAnswered, is_unprobed, is_granted_data}
-use Rattle.tl_coherence.proofs.protocol.Imports.{after_grant_sent, after_report, Kind, Acquire, Probe}
-use Rattle.tl_coherence.proofs.protocol.Imports.{ProbeAck, Release, Answer, Grant, ReleaseAck, GrantAck, Packet, set}
-use Rattle.tl_coherence.proofs.protocol.Imports.{Block, State, Link, view, packet, packets_on, is_transfer, is_wanting}
+use Rattle.tl_coherence.proofs.protocol.Imports.{after_grant_sent, after_report, Kind, Acquire, Probe, ProbeAck}
+use Rattle.tl_coherence.proofs.protocol.Imports.{Release, Answer, Grant, ReleaseAck, GrantAck, Packet, set, Block}
+use Rattle.tl_coherence.proofs.protocol.Imports.{State, Link, view, packet, packets_on, is_transfer, is_wanting}
 use Rattle.tl_coherence.proofs.protocol.Imports.{is_sent, is_answered, is_releasing, is_acked, shows, shown}
 use Rattle.tl_coherence.proofs.protocol.Imports.{granted_block, Move, Stays, Pushes, Pops, IsMoved, agrees, is_own_move}
 use Rattle.tl_coherence.proofs.protocol.Imports.{channel_for, IsInvariant}
 use Rattle.std.proofs.Common.{◌≡◌, ℕ, Bool, true, false, ◌&&◌, List, [], ◌∷◌, ◌++◌, refl, sym, ◌∙◌, ap, ap₂, ◌⊎◌, inl}
 use Rattle.std.proofs.Common.{inr}
-use Rattle.std.specs.Prelude.{◌==◌, if◌then◌else◌}
-use Rattle.std.proofs.lemmas.Bool.{cases_eq, ne_eqb}
-use Rattle.std.specs.Bool.{beq}
-use Rattle.tl_beat.specs.declared.channel.Channel.TheVariants as channel
+use Rattle.std.{specs.Prelude.◌==◌, specs.Prelude.if◌then◌else◌, proofs.lemmas.Bool.cases_eq, proofs.lemmas.Bool.ne_eqb}
+use Rattle.std.{specs.Bool.beq}
 use Rattle.tl_coherence.specs.protocol.Protocol.{granted_link, report_grants}
-use Rattle.tl_coherence.proofs.queues.Facts.{own_quiet}
-use Rattle.tl_coherence.proofs.protocol.Granted.{IsLast, granted-block}
+use Rattle.tl_coherence.proofs.{queues.Facts.own_quiet, protocol.Granted.IsLast, protocol.Granted.granted-block}
+use Rattle.tl_coherence.proofs.{queues.KindMoves.spares, queues.KindMoves.same_again}
 use Rattle.tl_coherence.proofs.queues.Moves.{names-kept, invariant-moved, moved_as}
-use Rattle.tl_coherence.proofs.queues.KindMoves.{spares, same_again}
 use Rattle.tl_coherence.proofs.queues.Tokens.{same_number, set-same, set-other, set-part}
 
 -- c's ProbeAck goes, and q's Grant comes
 abbrev pub granted_moves : ℕ → ℕ → ℕ → ℕ → Channel → Move
-granted_moves n c q d channel.C = if d == c then Pops ProbeAck n else Stays
-granted_moves n c q d channel.D = if d == q then Pushes Grant n else Stays
+granted_moves n c q d Channel.C = if d == c then Pops ProbeAck n else Stays
+granted_moves n c q d Channel.D = if d == q then Pushes Grant n else Stays
 granted_moves n c q d _ = Stays
 
 -- what one shows before and after it, by the parts that the event leaves
@@ -69,18 +66,18 @@ at_other n k p j t = absurd cc
 
 -- moves by the place of the client
 moves_of_sender : (n c q : ℕ) (ch : Channel) → (q ≡ c → ⊥) → granted_moves n c q q ch ≡ granted_moves n 0 1 1 ch
-moves_of_sender n c q channel.C ne = rw (ne_eqb q c ne) refl
-moves_of_sender n c q channel.D ne = rw (same_number q) refl
+moves_of_sender n c q Channel.C ne = rw (ne_eqb q c ne) refl
+moves_of_sender n c q Channel.D ne = rw (same_number q) refl
 moves_of_sender n c q ch ne = refl
 
 moves_of_reporter : (n c q : ℕ) (ch : Channel) → (c ≡ q → ⊥) → granted_moves n c q c ch ≡ granted_moves n 1 0 1 ch
-moves_of_reporter n c q channel.C ne = rw (same_number c) refl
-moves_of_reporter n c q channel.D ne = rw (ne_eqb c q ne) refl
+moves_of_reporter n c q Channel.C ne = rw (same_number c) refl
+moves_of_reporter n c q Channel.D ne = rw (ne_eqb c q ne) refl
 moves_of_reporter n c q ch ne = refl
 
 moves_of_other : (n c q d : ℕ) (ch : Channel) → (d ≡ c → ⊥) → (d ≡ q → ⊥) → granted_moves n c q d ch ≡ Stays
-moves_of_other n c q d channel.C o m = rw (ne_eqb d c o) refl
-moves_of_other n c q d channel.D o m = rw (ne_eqb d q m) refl
+moves_of_other n c q d Channel.C o m = rw (ne_eqb d c o) refl
+moves_of_other n c q d Channel.D o m = rw (ne_eqb d q m) refl
 moves_of_other n c q d ch o m = refl
 
 pub report_grants-kept : {X : Type 0} (caching : ℕ → Bool) (c q n : ℕ) (r : Report) (whole : Bool) (g : Grow)
@@ -129,14 +126,14 @@ report_grants-kept {X} caching c q n r whole g gift source k rest s inv first la
     never false m e = absurd cc
 
     own : (d : ℕ) (ch : Channel) → is_own_move ch (granted_moves n c q d ch) ≡ true
-    own d channel.C = go (d == c)
+    own d Channel.C = go (d == c)
       where
-        go : (b : Bool) → is_own_move channel.C (if b then Pops ProbeAck n else Stays) ≡ true
+        go : (b : Bool) → is_own_move Channel.C (if b then Pops ProbeAck n else Stays) ≡ true
         go true = refl
         go false = refl
-    own d channel.D = go (d == q)
+    own d Channel.D = go (d == q)
       where
-        go : (b : Bool) → is_own_move channel.D (if b then Pushes Grant n else Stays) ≡ true
+        go : (b : Bool) → is_own_move Channel.D (if b then Pushes Grant n else Stays) ≡ true
         go true = refl
         go false = refl
     own d ch = refl
@@ -157,11 +154,11 @@ report_grants-kept {X} caching c q n r whole g gift source k rest s inv first la
     links_other d m o = set-other q d at_q (set c at_c s.link) m ∙ set-other c d at_c s.link o
 
     moved_q : (ch : Channel) → IsMoved (granted_moves n 0 1 1 ch) (packets_on ch (s.link q)) (packets_on ch at_q)
-    moved_q channel.A = refl
+    moved_q Channel.A = refl
     moved_q ch = refl
 
     moved_c : (ch : Channel) → IsMoved (granted_moves n 1 0 1 ch) (packets_on ch (s.link c)) (packets_on ch at_c)
-    moved_c channel.C = first
+    moved_c Channel.C = first
     moved_c ch = refl
 
     moved : (d : ℕ) (ch : Channel) → IsMoved (granted_moves n c q d ch) (packets_on ch (s.link d))

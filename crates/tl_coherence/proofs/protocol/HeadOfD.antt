@@ -1,23 +1,20 @@
 -- What is due to a client: the message of the first token of channel D, and what it answers.
 use Rattle.tl_coherence.proofs.protocol.Imports.{Message, MessageA, Cap, Grow, is_replied, IsInvariant, Own, Other}
-use Rattle.tl_coherence.proofs.protocol.Imports.{Granting, Acknowledging, GrantedOther, ReleasePhase}
-use Rattle.tl_coherence.proofs.protocol.Imports.{ReleaseAcked, AcquirePhase, NoAcquire, AcquireOpen}
-use Rattle.tl_coherence.proofs.protocol.Imports.{is_unacquired, is_unreleased, Service, Free, Waits, GrantSent}
-use Rattle.tl_coherence.proofs.protocol.Imports.{GrantTaken, State, Replied, Acquires, view, packet, shown, is_wanting}
-use Rattle.tl_coherence.proofs.protocol.Imports.{is_granting, is_acked, AccessMessages, block_message, Answer, Grant}
-use Rattle.tl_coherence.proofs.protocol.Imports.{ReleaseAck, Packet}
+use Rattle.tl_coherence.proofs.protocol.Imports.{Granting, Acknowledging, GrantedOther, ReleasePhase, ReleaseAcked}
+use Rattle.tl_coherence.proofs.protocol.Imports.{AcquirePhase, NoAcquire, AcquireOpen, is_unacquired, is_unreleased}
+use Rattle.tl_coherence.proofs.protocol.Imports.{Service, Free, Waits, GrantSent, GrantTaken, State, Replied, Acquires}
+use Rattle.tl_coherence.proofs.protocol.Imports.{view, packet, shown, is_wanting, is_granting, is_acked, AccessMessages}
+use Rattle.tl_coherence.proofs.protocol.Imports.{block_message, Answer, Grant, ReleaseAck, Packet}
 use Rattle.std.proofs.Common.{◌≡◌, ℕ, Bool, true, false, not, ◌&&◌, List, ◌∷◌, Some, refl, ◌∙◌, ap, lit≤}
 use Rattle.std.specs.Prelude.{◌==◌, if◌then◌else◌}
 use Rattle.std.proofs.lemmas.Bool.{eqb-true, and_from}
-use Rattle.tl_beat.specs.declared.opcode.OpD.TheVariants as opd
-use Rattle.tl_burst.specs.declared.message.Message.TheVariants as message
+use Rattle.tl_beat.specs.declared.opcode.OpD.{OpD}
 use Rattle.tl_burst.specs.declared.message.MessageD.{MessageD}
 use Rattle.tl_params.specs.statement.Param.{cap_code}
 use Rattle.tl_rules.specs.statement.Conformance.{answers}
 use Rattle.tl_manager.specs.statement.Handing.{grant_opcode, no_payload}
 use Rattle.tl_manager.specs.statement.Service.{is_access_answer}
-use Rattle.tl_coherence.specs.protocol.Phase.{grant_fits}
-use Rattle.tl_coherence.specs.refinement.SimulationRelation.{IsAnswered}
+use Rattle.tl_coherence.specs.{protocol.Phase.grant_fits, refinement.SimulationRelation.IsAnswered}
 use Rattle.tl_coherence.proofs.queues.Facts.{grant_is_fit, granting_asks}
 use Rattle.tl_coherence.proofs.queues.Tokens.{same_number, holds-first}
 use Rattle.tl_coherence.proofs.protocol.BothParts.{is_of-is, acquires_of-is, is_replied-is}
@@ -29,8 +26,8 @@ pub record IsAnswerDue {w : ℕ} (c source : ℕ) (mail : AccessMessages w) (s :
   pub used : s.uses c source ≡ Replied
   pub answer : MessageD w
   pub request : MessageA w
-  pub answer_is : mail.answer c source ≡ message.D answer
-  pub request_is : mail.request c source ≡ message.A request
+  pub answer_is : mail.answer c source ≡ Message.D answer
+  pub request_is : mail.request c source ≡ Message.A request
   pub answers_access : is_access_answer answer.opcode ≡ true
   pub admits : answers answer.opcode request.opcode ≡ true
   pub from : answer.source ≡ source
@@ -49,7 +46,7 @@ answer-due {w} caching c source rest mail s inv answered first = go (mail.reques
 
     go : (a b : Message w) → mail.request c source ≡ a → mail.answer c source ≡ b → IsAnswered source a b Replied
         → IsAnswerDue c source mail s
-    go (message.A m) (message.D x) e f is = record {
+    go (Message.A m) (Message.D x) e f is = record {
       used = used;
       answer = x;
       request = m;
@@ -150,7 +147,7 @@ grant_message d k source sink payload = record {
 }
 
 pub grant-rendered : {w : ℕ} (c n : ℕ) (s : State (List ℕ)) (is : IsGrantDue c n s)
-    → block_message {w = w} Grant c n (s.block n) ≡ message.D (grant_message is.data_too is.k ((s.block n).source c)
+    → block_message {w = w} Grant c n (s.block n) ≡ Message.D (grant_message is.data_too is.k ((s.block n).source c)
     (s.block n).tracker (s.block n).truth)
 unfolding block_message
 grant-rendered {w} c n s is = rw is.service refl
@@ -160,7 +157,7 @@ grant-rendered {w} c n s is = rw is.service refl
 -- the message of a ReleaseAck
 abbrev pub ack_message : {w : ℕ} → ℕ → MessageD w
 ack_message source = record {
-  opcode = opd.ReleaseAck;
+  opcode = OpD.ReleaseAck;
   param = 0;
   size = 6;
   source = source;

@@ -2,9 +2,8 @@
 use Rattle.tl_coherence.proofs.protocol.Imports.{Config, State, Link, one_if, set, set_at}
 use Rattle.std.proofs.Common.{◌≡◌, ℕ, ◌+◌, ◌<◌, Bool, false, length, sym, ◌∙◌, ap, ◌⊎◌, inl, inr, arith}
 use Rattle.std.proofs.lemmas.Bool.{cases_eq}
-use Rattle.tl_coherence.specs.statement.Delivery.{sources_of}
+use Rattle.tl_coherence.specs.{statement.Delivery.sources_of, statement.System.terms_at}
 use Rattle.tl_coherence.specs.bound.Rank.{total, is_used, is_let, open_requests, open_releases}
-use Rattle.tl_coherence.specs.statement.System.{terms_at}
 use Rattle.tl_coherence.proofs.queues.Sums.{total-same, total-plus, total-set}
 use Rattle.tl_coherence.proofs.queues.Tokens.{set-same, set-other, set-part}
 

@@ -1,36 +1,32 @@
 -- A Probe that is taken keeps the invariant.
 use Rattle.tl_coherence.proofs.protocol.Imports.{Channel, Cap, Perm, report_right, same_perm, ClientBlock, View}
-use Rattle.tl_coherence.proofs.protocol.Imports.{NoProbe, ProbeSent, NoRelease, is_unprobed, Kind, Acquire}
-use Rattle.tl_coherence.proofs.protocol.Imports.{Probe, ProbeAck, Release, Grant, ReleaseAck, GrantAck, Packet}
-use Rattle.tl_coherence.proofs.protocol.Imports.{set, count, Block, State, Link, view, packet, is_transfer, is_wanting}
-use Rattle.tl_coherence.proofs.protocol.Imports.{is_unserved, is_releasing, is_acked, is_granting, is_acknowledging}
-use Rattle.tl_coherence.proofs.protocol.Imports.{shows, Move, Stays, Pushes, Pops, AreMoved, agrees, is_own_move}
-use Rattle.tl_coherence.proofs.protocol.Imports.{channel_for, resting, IsWell, IsInvariant}
+use Rattle.tl_coherence.proofs.protocol.Imports.{NoProbe, ProbeSent, NoRelease, is_unprobed, Kind, Acquire, Probe}
+use Rattle.tl_coherence.proofs.protocol.Imports.{ProbeAck, Release, Grant, ReleaseAck, GrantAck, Packet, set, count}
+use Rattle.tl_coherence.proofs.protocol.Imports.{Block, State, Link, view, packet, is_transfer, is_wanting, is_unserved}
+use Rattle.tl_coherence.proofs.protocol.Imports.{is_releasing, is_acked, is_granting, is_acknowledging, shows, Move}
+use Rattle.tl_coherence.proofs.protocol.Imports.{Stays, Pushes, Pops, AreMoved, agrees, is_own_move, channel_for}
+use Rattle.tl_coherence.proofs.protocol.Imports.{resting, IsWell, IsInvariant}
 use Rattle.std.proofs.Common.{◌≡◌, ◌&&◌, refl, sym, ◌∙◌, ap, inl, inr}
 use Rattle.std.specs.Prelude.{ℕ, Bool, true, false, List, ◌∷◌}
 use Rattle.std.proofs.lemmas.Bool.{cases_eq}
-use Rattle.tl_beat.specs.declared.channel.Channel.TheVariants as channel
-use Rattle.tl_params.specs.declared.param.Cap.TheVariants as cap
-use Rattle.tl_params.specs.declared.perm.Perm.TheVariants as perm
 use Rattle.tl_params.specs.statement.Param.{report_at}
 use Rattle.tl_coherence.specs.protocol.PhaseSteps.{after_probe}
 use Rattle.tl_coherence.specs.protocol.Protocol.{probed_block, probed_link, probe_taken}
 use Rattle.tl_coherence.proofs.queues.Moves.{moves_at, event-at, bare-at, names-kept, invariant-moved}
-use Rattle.tl_coherence.proofs.queues.KindMoves.{same_again}
+use Rattle.tl_coherence.proofs.{queues.KindMoves.same_again, queues.PhaseSteps.probe-ok, protocol.Blocks.awaited_by}
+use Rattle.tl_coherence.proofs.{protocol.Blocks.asked_cap-same}
 use Rattle.tl_coherence.proofs.queues.Tokens.{same_number, set-same, set-other, set-part}
-use Rattle.tl_coherence.proofs.queues.PhaseSteps.{probe-ok}
-use Rattle.tl_coherence.proofs.protocol.Blocks.{awaited_by, asked_cap-same}
 
 -- ---- the block
 
 -- what is left after a report was held before
-less_left : (k : Cap) (p : Perm) → same_perm (report_right (report_at k p)) perm.None ≡ false
-    → same_perm p perm.None ≡ false
-less_left k perm.Branch e = refl
-less_left k perm.Trunk e = refl
-less_left cap.ToT perm.None e = e
-less_left cap.ToB perm.None e = e
-less_left cap.ToN perm.None e = e
+less_left : (k : Cap) (p : Perm) → same_perm (report_right (report_at k p)) Perm.None ≡ false
+    → same_perm p Perm.None ≡ false
+less_left k Perm.Branch e = refl
+less_left k Perm.Trunk e = refl
+less_left Cap.ToT Perm.None e = e
+less_left Cap.ToB Perm.None e = e
+less_left Cap.ToN Perm.None e = e
 
 pub probed-block : {X : Type 0} (caching : ℕ → Bool) (c : ℕ) (k : Cap) (b : Block X) → IsWell caching b
     → (b.pair c).probing ≡ ProbeSent k → (b.pair c).letting ≡ NoRelease → IsWell caching (probed_block c k b)
@@ -69,8 +65,8 @@ probed-block caching c k b h sent kept =
 -- ---- the whole
 
 abbrev pub probe_moves : ℕ → Channel → Move
-probe_moves n channel.B = Pops Probe n
-probe_moves n channel.C = Pushes ProbeAck n
+probe_moves n Channel.B = Pops Probe n
+probe_moves n Channel.C = Pushes ProbeAck n
 probe_moves n _ = Stays
 
 probe_shows : (n : ℕ) (k : Kind) (j : Cap) (p : ClientBlock) (v : View) → is_transfer k ≡ true → p.probing ≡ ProbeSent j
@@ -115,11 +111,11 @@ probe_taken-kept {X} caching c n k rest s inv first sent kept =
     here = probed_link n rest (s.link c)
 
     moved : AreMoved (probe_moves n) (s.link c) here
-    moved channel.B = first
+    moved Channel.B = first
     moved _ = refl
 
     own : (ch : Channel) → is_own_move ch (probe_moves n ch) ≡ true
-    own channel.A = refl
+    own Channel.A = refl
     own ch = refl
 
     number_is : (m : ℕ) → Pushes ProbeAck n ≡ Pushes ProbeAck m → m ≡ n

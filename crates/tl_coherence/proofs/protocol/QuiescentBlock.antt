@@ -1,8 +1,7 @@
 -- Where nothing is on channels B, C, D and E, no block is in service: so requests can move.
-use Rattle.tl_coherence.proofs.protocol.Imports.{ProbePhase, NoProbe, is_unprobed, Kind}
-use Rattle.tl_coherence.proofs.protocol.Imports.{Probe, ProbeAck, Grant, GrantAck, one_if, count, Service, Free, Waits}
-use Rattle.tl_coherence.proofs.protocol.Imports.{GrantSent, GrantTaken, State, is_transfer, is_sent, is_answered, on}
-use Rattle.tl_coherence.proofs.protocol.Imports.{shown, IsInvariant}
+use Rattle.tl_coherence.proofs.protocol.Imports.{ProbePhase, NoProbe, is_unprobed, Kind, Probe, ProbeAck, Grant}
+use Rattle.tl_coherence.proofs.protocol.Imports.{GrantAck, one_if, count, Service, Free, Waits, GrantSent, GrantTaken}
+use Rattle.tl_coherence.proofs.protocol.Imports.{State, is_transfer, is_sent, is_answered, on, shown, IsInvariant}
 use Rattle.std.proofs.Common.{◌≡◌, ℕ, Bool, true, false, [], refl, arith}
 use Rattle.tl_coherence.specs.protocol.Invariant.{IsAwaited}
 use Rattle.tl_coherence.proofs.queues.Tokens.{same_number}

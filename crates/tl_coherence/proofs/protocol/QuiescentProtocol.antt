@@ -11,19 +11,15 @@ use Rattle.tl_coherence.proofs.protocol.Imports.{acquires_of, serves_of, is_of, 
 use Rattle.tl_coherence.proofs.protocol.Imports.{serves_with, releases_with}
 use Rattle.std.proofs.Common.{◌≡◌, ℕ, ◌<◌, Bool, true, false, List, [], ◌∷◌, refl, sym, ◌∙◌, arith}
 use Rattle.std.specs.Prelude.{not, ◌==◌, ◌||◌, Option, Some, None}
-use Rattle.tl_beat.specs.declared.channel.Channel.TheVariants as channel
 use Rattle.tl_coherence.specs.refinement.ManagerRelation.{is_own}
-use Rattle.tl_coherence.proofs.protocol.Capacities.{acquire_named, grant_named, release_named}
-use Rattle.tl_coherence.proofs.protocol.TokenNames.{shown_there, kind_there}
-use Rattle.tl_coherence.proofs.protocol.Capacities.{release_ack_named}
-use Rattle.tl_coherence.proofs.protocol.TokenNames.{source_of_acquire}
+use Rattle.tl_coherence.proofs.protocol.Capacities.{acquire_named, grant_named, release_named, release_ack_named}
+use Rattle.tl_coherence.proofs.protocol.TokenNames.{shown_there, kind_there, source_of_acquire}
 use Rattle.tl_rules.proofs.Takeable.{part_bit}
-use Rattle.tl_coherence.proofs.queues.Distinct.{IsThere, first-there}
+use Rattle.tl_coherence.proofs.{queues.Distinct.IsThere, queues.Distinct.first-there, queues.Tokens.same_number}
+use Rattle.tl_coherence.proofs.{queues.Facts.is_other}
 use Rattle.tl_coherence.proofs.queues.Phases.{each_phase, of_phase, and_left}
 use Rattle.tl_coherence.proofs.protocol.QuiescentBlock.{IsSilent, free-when_silent}
-use Rattle.tl_coherence.proofs.queues.Tokens.{same_number}
 use Rattle.tl_coherence.proofs.protocol.BothParts.{not-sent, not-answered, taken-unseen, granted-unseen}
-use Rattle.tl_coherence.proofs.queues.Facts.{is_other}
 
 -- ---- nothing is on a channel
 
@@ -145,7 +141,7 @@ module _ {X : Type 0} (caching : ℕ → Bool) (s : State X) (inv : IsInvariant 
   not_replied c n e closed = absurd (let no : is_replied (s.uses c n) ≡ false = rw (closed.uses c n) refl in cc)
 
   -- no kind but a GrantAck is shown
-  nothing_shown : (c : ℕ) (ch : Channel) (k : Kind) (n : ℕ) → IsClosed s → is_on ch k ≡ true → is_on channel.E k ≡ false
+  nothing_shown : (c : ℕ) (ch : Channel) (k : Kind) (n : ℕ) → IsClosed s → is_on ch k ≡ true → is_on Channel.E k ≡ false
       → 0 < count k n (packets_on ch (s.link c)) → ⊥
   nothing_shown c ch Request n closed on_it other there =
       not_asked c n (shown_there caching s c ch Request n inv on_it there) closed
@@ -170,7 +166,7 @@ module _ {X : Type 0} (caching : ℕ → Bool) (s : State X) (inv : IsInvariant 
   empty_list [] none = refl
   empty_list (x ∷ xs) none = absurd (none x (first-there x xs))
 
-  nothing_on : (c : ℕ) (ch : Channel) → IsClosed s → ((k : Kind) → is_on ch k ≡ true → is_on channel.E k ≡ false)
+  nothing_on : (c : ℕ) (ch : Channel) → IsClosed s → ((k : Kind) → is_on ch k ≡ true → is_on Channel.E k ≡ false)
       → packets_on ch (s.link c) ≡ []
   nothing_on c ch closed apart = empty_list (packets_on ch (s.link c)) (λ x there.
       let on_it = kind_there caching s c ch x inv there in
@@ -178,20 +174,20 @@ module _ {X : Type 0} (caching : ℕ → Bool) (s : State X) (inv : IsInvariant 
 
   pub bare-when-closed : IsClosed s → ((c : ℕ) → (s.link c).e ≡ []) → IsBare s
   bare-when-closed closed no_acks = record {
-    a = λ c. nothing_on c channel.A closed (apart channel.A refl);
+    a = λ c. nothing_on c Channel.A closed (apart Channel.A refl);
     silent = record {
-      b = λ c. nothing_on c channel.B closed (apart channel.B refl);
-      c = λ c. nothing_on c channel.C closed (apart channel.C refl);
-      d = λ c. nothing_on c channel.D closed (apart channel.D refl);
+      b = λ c. nothing_on c Channel.B closed (apart Channel.B refl);
+      c = λ c. nothing_on c Channel.C closed (apart Channel.C refl);
+      d = λ c. nothing_on c Channel.D closed (apart Channel.D refl);
       e = no_acks;
     };
   }
     where
       is_e : Channel → Bool
-      is_e channel.E = true
+      is_e Channel.E = true
       is_e _ = false
 
-      apart : (ch : Channel) → is_e ch ≡ false → (k : Kind) → is_on ch k ≡ true → is_on channel.E k ≡ false
-      apart channel.E e k on_it = absurd cc
+      apart : (ch : Channel) → is_e ch ≡ false → (k : Kind) → is_on ch k ≡ true → is_on Channel.E k ≡ false
+      apart Channel.E e k on_it = absurd cc
       apart ch e GrantAck on_it = absurd cc
       apart ch e k on_it = refl

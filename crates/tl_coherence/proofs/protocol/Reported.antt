@@ -1,51 +1,44 @@
 -- A ProbeAck that is taken while others are missing, and a Release that is taken, keep the invariant.
 use Rattle.tl_coherence.proofs.protocol.Imports.{Channel, Prune, Report, Perm, prune_left, report_left, report_right}
 use Rattle.tl_coherence.proofs.protocol.Imports.{same_perm, ClientBlock, View, ProbeAnswered, ReleaseSent}
-use Rattle.tl_coherence.proofs.protocol.Imports.{is_unreleased, is_unprobed, after_report, Kind, Acquire}
-use Rattle.tl_coherence.proofs.protocol.Imports.{Probe, ProbeAck, Release, Grant, ReleaseAck, GrantAck, Packet}
-use Rattle.tl_coherence.proofs.protocol.Imports.{set, count, one_if, Service, Block, State, Link, view, packet, shows}
-use Rattle.tl_coherence.proofs.protocol.Imports.{is_transfer, is_wanting, is_unserved, is_sent, is_answered}
-use Rattle.tl_coherence.proofs.protocol.Imports.{is_releasing, is_acked, is_granting, is_acknowledging, Move, Stays}
-use Rattle.tl_coherence.proofs.protocol.Imports.{Pushes, Pops, AreMoved, agrees, is_own_move, channel_for, is_out}
-use Rattle.tl_coherence.proofs.protocol.Imports.{IsWell, IsInvariant}
+use Rattle.tl_coherence.proofs.protocol.Imports.{is_unreleased, is_unprobed, after_report, Kind, Acquire, Probe}
+use Rattle.tl_coherence.proofs.protocol.Imports.{ProbeAck, Release, Grant, ReleaseAck, GrantAck, Packet, set, count}
+use Rattle.tl_coherence.proofs.protocol.Imports.{one_if, Service, Block, State, Link, view, packet, shows, is_transfer}
+use Rattle.tl_coherence.proofs.protocol.Imports.{is_wanting, is_unserved, is_sent, is_answered, is_releasing, is_acked}
+use Rattle.tl_coherence.proofs.protocol.Imports.{is_granting, is_acknowledging, Move, Stays, Pushes, Pops, AreMoved}
+use Rattle.tl_coherence.proofs.protocol.Imports.{agrees, is_own_move, channel_for, is_out, IsWell, IsInvariant}
 use Rattle.std.proofs.Common.{◌≡◌, arith, refl, ap, inl, inr}
 use Rattle.std.specs.Prelude.{ℕ, Bool, true, false, List, ◌∷◌, ◌&&◌, if◌then◌else◌}
 use Rattle.std.proofs.lemmas.Bool.{cases_eq}
-use Rattle.tl_beat.specs.declared.channel.Channel.TheVariants as channel
-use Rattle.tl_params.specs.declared.param.Prune.TheVariants as prune
-use Rattle.tl_params.specs.declared.param.Report.TheVariants as report
-use Rattle.tl_params.specs.declared.perm.Perm.TheVariants as perm
 use Rattle.tl_params.specs.statement.Param.{prune_right}
 use Rattle.tl_coherence.specs.protocol.PhaseSteps.{after_release_taken}
 use Rattle.tl_coherence.specs.protocol.Protocol.{written_from, reported_block, report_taken, let_block, let_link}
 use Rattle.tl_coherence.specs.protocol.Protocol.{release_taken}
 use Rattle.tl_coherence.proofs.queues.Moves.{moves_at, event-at, bare-at, names-kept, invariant-moved}
-use Rattle.tl_coherence.proofs.queues.KindMoves.{same_again}
+use Rattle.tl_coherence.proofs.{queues.KindMoves.same_again, queues.PhaseSteps.report-ok}
+use Rattle.tl_coherence.proofs.{queues.PhaseSteps.release_taken-ok, queues.Facts.report_begins}
+use Rattle.tl_coherence.proofs.{queues.Facts.release_begins, protocol.Granted.both_trunk, queues.Perms.not_out}
 use Rattle.tl_coherence.proofs.queues.Tokens.{same_number, set-same, set-other, set-part, ordered-first}
-use Rattle.tl_coherence.proofs.queues.PhaseSteps.{report-ok, release_taken-ok}
-use Rattle.tl_coherence.proofs.queues.Facts.{report_begins, release_begins}
-use Rattle.tl_coherence.proofs.protocol.Granted.{both_trunk}
 use Rattle.tl_coherence.proofs.protocol.Blocks.{IsGentle, awaited_by, awaited-same, asked_cap-same, alone-set}
 use Rattle.tl_coherence.proofs.protocol.Blocks.{owned-set, outside-set, busy-inside}
-use Rattle.tl_coherence.proofs.queues.Perms.{not_out}
 
 -- ---- what is recorded falls
 
 report_trunk : (r : Report) (p : Perm) → same_perm (report_left r) p ≡ true
-    → same_perm (report_right r) perm.Trunk ≡ true → same_perm p perm.Trunk ≡ true
-report_trunk report.TtoT perm.Trunk e f = refl
+    → same_perm (report_right r) Perm.Trunk ≡ true → same_perm p Perm.Trunk ≡ true
+report_trunk Report.TtoT Perm.Trunk e f = refl
 report_trunk r p e f = absurd cc
 
-report_none : (r : Report) (p : Perm) → same_perm (report_left r) p ≡ true → same_perm p perm.None ≡ true
-    → same_perm (report_right r) perm.None ≡ true
-report_none report.TtoB perm.None e f = absurd cc
-report_none report.TtoN perm.None e f = absurd cc
-report_none report.BtoN perm.None e f = absurd cc
-report_none report.TtoT perm.None e f = absurd cc
-report_none report.BtoB perm.None e f = absurd cc
-report_none report.NtoN perm.None e f = refl
-report_none r perm.Branch e f = absurd cc
-report_none r perm.Trunk e f = absurd cc
+report_none : (r : Report) (p : Perm) → same_perm (report_left r) p ≡ true → same_perm p Perm.None ≡ true
+    → same_perm (report_right r) Perm.None ≡ true
+report_none Report.TtoB Perm.None e f = absurd cc
+report_none Report.TtoN Perm.None e f = absurd cc
+report_none Report.BtoN Perm.None e f = absurd cc
+report_none Report.TtoT Perm.None e f = absurd cc
+report_none Report.BtoB Perm.None e f = absurd cc
+report_none Report.NtoN Perm.None e f = refl
+report_none r Perm.Branch e f = absurd cc
+report_none r Perm.Trunk e f = absurd cc
 
 pub gentle-report : (r : Report) (p : ClientBlock) → same_perm (report_left r) p.recorded ≡ true
     → IsGentle p (after_report r p)
@@ -56,18 +49,18 @@ gentle-report r p e = record {
   quiet = λ f. refl;
 }
 
-prune_trunk : (r : Prune) (p : Perm) → same_perm (prune_left r) p ≡ true → same_perm (prune_right r) perm.Trunk ≡ true
-    → same_perm p perm.Trunk ≡ true
-prune_trunk prune.TtoB p e f = absurd cc
+prune_trunk : (r : Prune) (p : Perm) → same_perm (prune_left r) p ≡ true → same_perm (prune_right r) Perm.Trunk ≡ true
+    → same_perm p Perm.Trunk ≡ true
+prune_trunk Prune.TtoB p e f = absurd cc
 prune_trunk r p e f = absurd cc
 
-prune_none : (r : Prune) (p : Perm) → same_perm (prune_left r) p ≡ true → same_perm p perm.None ≡ true
-    → same_perm (prune_right r) perm.None ≡ true
-prune_none prune.TtoB perm.None e f = absurd cc
-prune_none prune.TtoN perm.None e f = absurd cc
-prune_none prune.BtoN perm.None e f = absurd cc
-prune_none r perm.Branch e f = absurd cc
-prune_none r perm.Trunk e f = absurd cc
+prune_none : (r : Prune) (p : Perm) → same_perm (prune_left r) p ≡ true → same_perm p Perm.None ≡ true
+    → same_perm (prune_right r) Perm.None ≡ true
+prune_none Prune.TtoB Perm.None e f = absurd cc
+prune_none Prune.TtoN Perm.None e f = absurd cc
+prune_none Prune.BtoN Perm.None e f = absurd cc
+prune_none r Perm.Branch e f = absurd cc
+prune_none r Perm.Trunk e f = absurd cc
 
 gentle-prune : (r : Prune) (p : ClientBlock) → same_perm (prune_left r) p.recorded ≡ true
     → IsGentle p (after_release_taken r p)
@@ -85,15 +78,15 @@ pub memory-written : {X : Type 0} (c : ℕ) (left : Perm) (q : ClientBlock) (ser
     (memory truth : X) → same_perm left (pair c).recorded ≡ true
     → (((d : ℕ) → is_out (pair d) (view service d) ≡ false) → memory ≡ truth)
     → ((d : ℕ) → is_out (set c q pair d) (view service d) ≡ false) → written_from left truth memory ≡ truth
-memory-written {X} c left q service pair memory truth begins h none = go (same_perm left perm.Trunk) refl
+memory-written {X} c left q service pair memory truth begins h none = go (same_perm left Perm.Trunk) refl
   where
-    before : same_perm left perm.Trunk ≡ false → (d : ℕ) → is_out (pair d) (view service d) ≡ false
+    before : same_perm left Perm.Trunk ≡ false → (d : ℕ) → is_out (pair d) (view service d) ≡ false
     before e d = elim (cases_eq d c) [
       | inl same ↦ rw same (not_out (pair c) (view service c) (both_trunk left (pair c).recorded begins e))
       | inr other ↦ rw (set-other c d q pair other) at (none d)
     ]
 
-    go : (data_too : Bool) → same_perm left perm.Trunk ≡ data_too → (if data_too then truth else memory) ≡ truth
+    go : (data_too : Bool) → same_perm left Perm.Trunk ≡ data_too → (if data_too then truth else memory) ≡ truth
     go true e = refl
     go false e = h (before e)
 
@@ -156,7 +149,7 @@ let-block caching c r b h releasing first =
 -- ---- a ProbeAck
 
 abbrev pub report_moves : ℕ → Channel → Move
-report_moves n channel.C = Pops ProbeAck n
+report_moves n Channel.C = Pops ProbeAck n
 report_moves n _ = Stays
 
 pub report_shows : (n : ℕ) (k : Kind) (r : Report) (p : ClientBlock) (v : View) → is_transfer k ≡ true
@@ -204,18 +197,18 @@ report_taken-kept {X} caching c n r rest s inv first answered w apart missing =
     here = record (s.link c) { c = rest }
 
     moved : AreMoved (report_moves n) (s.link c) here
-    moved channel.C = first
+    moved Channel.C = first
     moved _ = refl
 
     own : (ch : Channel) → is_own_move ch (report_moves n ch) ≡ true
-    own channel.A = refl
+    own Channel.A = refl
     own ch = refl
 
 -- ---- a Release
 
 abbrev pub let_moves : ℕ → Channel → Move
-let_moves n channel.C = Pops Release n
-let_moves n channel.D = Pushes ReleaseAck n
+let_moves n Channel.C = Pops Release n
+let_moves n Channel.D = Pushes ReleaseAck n
 let_moves n _ = Stays
 
 let_shows : (n : ℕ) (k : Kind) (r : Prune) (p : ClientBlock) (v : View) → is_transfer k ≡ true
@@ -279,9 +272,9 @@ release_taken-kept {X} caching c n r rest s inv first releasing =
     here = let_link n rest (s.link c)
 
     moved : AreMoved (let_moves n) (s.link c) here
-    moved channel.C = first
+    moved Channel.C = first
     moved _ = refl
 
     own : (ch : Channel) → is_own_move ch (let_moves n ch) ≡ true
-    own channel.A = refl
+    own Channel.A = refl
     own ch = refl

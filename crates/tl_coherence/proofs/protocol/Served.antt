@@ -1,33 +1,26 @@
 -- A request that is taken, and for which clients are probed, keeps the invariant.
 use Rattle.tl_coherence.proofs.protocol.Imports.{Channel, Cap, Grow, Perm, same_perm, ClientBlock, View, Idle, Own}
-use Rattle.tl_coherence.proofs.protocol.Imports.{Other, ProbePhase, ProbeSent, AcquireOpen, ok}
-use Rattle.tl_coherence.proofs.protocol.Imports.{same_cap, is_unprobed, is_above, Kind, Request, Acquire, Probe}
-use Rattle.tl_coherence.proofs.protocol.Imports.{ProbeAck, Release, Answer, Grant, ReleaseAck, GrantAck, Packet, set}
-use Rattle.tl_coherence.proofs.protocol.Imports.{Free, Waits, Block, State, Link, Asked, InService, view, packet}
-use Rattle.tl_coherence.proofs.protocol.Imports.{packets_on, shows, shown, is_transfer, is_granting, is_wanting}
-use Rattle.tl_coherence.proofs.protocol.Imports.{is_sent, is_answered, is_releasing, is_acked, Move, Stays, Pushes}
-use Rattle.tl_coherence.proofs.protocol.Imports.{Pops, IsMoved, agrees, is_own_move, channel_for, cap_asked, resting}
-use Rattle.tl_coherence.proofs.protocol.Imports.{is_out, is_of, acquires_of, serves_of, acquires_with, serves_with}
-use Rattle.tl_coherence.proofs.protocol.Imports.{releases_with, tracks_with, IsAskedCap, IsWell, IsInvariant}
+use Rattle.tl_coherence.proofs.protocol.Imports.{Other, ProbePhase, ProbeSent, AcquireOpen, ok, same_cap, is_unprobed}
+use Rattle.tl_coherence.proofs.protocol.Imports.{is_above, Kind, Request, Acquire, Probe, ProbeAck, Release, Answer}
+use Rattle.tl_coherence.proofs.protocol.Imports.{Grant, ReleaseAck, GrantAck, Packet, set, Free, Waits, Block, State}
+use Rattle.tl_coherence.proofs.protocol.Imports.{Link, Asked, InService, view, packet, packets_on, shows, shown}
+use Rattle.tl_coherence.proofs.protocol.Imports.{is_transfer, is_granting, is_wanting, is_sent, is_answered}
+use Rattle.tl_coherence.proofs.protocol.Imports.{is_releasing, is_acked, Move, Stays, Pushes, Pops, IsMoved, agrees}
+use Rattle.tl_coherence.proofs.protocol.Imports.{is_own_move, channel_for, cap_asked, resting, is_out, is_of}
+use Rattle.tl_coherence.proofs.protocol.Imports.{acquires_of, serves_of, acquires_with, serves_with, releases_with}
+use Rattle.tl_coherence.proofs.protocol.Imports.{tracks_with, IsAskedCap, IsWell, IsInvariant}
 use Rattle.std.proofs.Common.{◌≡◌, refl, sym, ◌∙◌}
 use Rattle.std.specs.Prelude.{ℕ, Bool, true, false, not, List, ◌∷◌, ◌++◌, [], ◌==◌, ◌&&◌, if◌then◌else◌, Some, None}
 use Rattle.std.proofs.lemmas.Bool.{eqb-true, ne_eqb}
-use Rattle.tl_beat.specs.declared.channel.Channel.TheVariants as channel
-use Rattle.tl_params.specs.declared.param.Cap.TheVariants as cap
-use Rattle.tl_params.specs.declared.param.Grow.TheVariants as grow
-use Rattle.tl_params.specs.declared.perm.Perm.TheVariants as perm
-use Rattle.tl_coherence.specs.protocol.PhaseSteps.{after_served}
+use Rattle.tl_coherence.specs.{protocol.PhaseSteps.after_served, protocol.Invariant.IsOwnSource}
 use Rattle.tl_coherence.specs.protocol.Protocol.{is_probed, served_pair, served_block, with_probe, served_link}
 use Rattle.tl_coherence.specs.protocol.Protocol.{acquire_served, access_served}
-use Rattle.tl_coherence.specs.protocol.Invariant.{IsOwnSource}
-use Rattle.tl_coherence.proofs.queues.Phases.{and_left, and_right}
-use Rattle.tl_coherence.proofs.queues.PhaseSteps.{serve-ok, served-ok}
-use Rattle.tl_coherence.proofs.queues.PhaseFacts.{quiet_at_rest}
-use Rattle.tl_coherence.proofs.queues.Moves.{IsEvent, names-block, names-set}
+use Rattle.tl_coherence.proofs.{queues.Phases.and_left, queues.Phases.and_right, queues.PhaseSteps.serve-ok}
+use Rattle.tl_coherence.proofs.{queues.PhaseSteps.served-ok, queues.PhaseFacts.quiet_at_rest, queues.Tokens.same_number}
+use Rattle.tl_coherence.proofs.{protocol.BothParts.quiet_unanswered}
+use Rattle.tl_coherence.proofs.queues.Moves.{IsEvent, names-block, names-set, names-set_at, invariant-moved}
+use Rattle.tl_coherence.proofs.queues.Moves.{invariant-moved_use}
 use Rattle.tl_coherence.proofs.queues.KindMoves.{same_again, spares, spared-agrees}
-use Rattle.tl_coherence.proofs.queues.Moves.{names-set_at, invariant-moved, invariant-moved_use}
-use Rattle.tl_coherence.proofs.queues.Tokens.{same_number}
-use Rattle.tl_coherence.proofs.protocol.BothParts.{quiet_unanswered}
 
 -- ---- who is probed
 
@@ -42,12 +35,12 @@ unprobed_part part r own k pair e d = go (own && (d == r))
     go false = e (pair d)
 
 -- one who has nothing isn't probed
-none_above : (k : Cap) (p : Perm) → same_perm p perm.None ≡ true → is_above k p ≡ false
-none_above cap.ToT perm.None e = refl
-none_above cap.ToB perm.None e = refl
-none_above cap.ToN perm.None e = refl
-none_above k perm.Branch e = absurd cc
-none_above k perm.Trunk e = absurd cc
+none_above : (k : Cap) (p : Perm) → same_perm p Perm.None ≡ true → is_above k p ≡ false
+none_above Cap.ToT Perm.None e = refl
+none_above Cap.ToB Perm.None e = refl
+none_above Cap.ToN Perm.None e = refl
+none_above k Perm.Branch e = absurd cc
+none_above k Perm.Trunk e = absurd cc
 
 -- ---- the block
 
@@ -63,20 +56,20 @@ never_granting r s own k d = go (own && (d == r))
     go false = refl
 
 never_top : (k : Cap) (whole : Bool) (g : Grow) → same_cap k (cap_asked (AcquireOpen whole g)) ≡ true
-    → same_cap k cap.ToT ≡ false
-never_top cap.ToT whole grow.NtoB e = absurd cc
-never_top cap.ToT whole grow.NtoT e = absurd cc
-never_top cap.ToT whole grow.BtoT e = absurd cc
-never_top cap.ToB whole g e = refl
-never_top cap.ToN whole g e = refl
+    → same_cap k Cap.ToT ≡ false
+never_top Cap.ToT whole Grow.NtoB e = absurd cc
+never_top Cap.ToT whole Grow.NtoT e = absurd cc
+never_top Cap.ToT whole Grow.BtoT e = absurd cc
+never_top Cap.ToB whole g e = refl
+never_top Cap.ToN whole g e = refl
 
 -- the request probes with this cap: an Acquire (`own`) with the cap that it asks for, and no access with toT
 abbrev pub Probes : Bool → Cap → ClientBlock → Type 0
 Probes true k p = (whole : Bool) × (g : Grow) × (p.acquiring ≡ AcquireOpen whole g)
     × (same_cap k (cap_asked (AcquireOpen whole g)) ≡ true)
-Probes false k p = same_cap k cap.ToT ≡ false
+Probes false k p = same_cap k Cap.ToT ≡ false
 
-is_low : (own : Bool) (k : Cap) (p : ClientBlock) → Probes own k p → same_cap k cap.ToT ≡ false
+is_low : (own : Bool) (k : Cap) (p : ClientBlock) → Probes own k p → same_cap k Cap.ToT ≡ false
 is_low true k p a = never_top k a.0 a.1 a.3
 is_low false k p a = a
 
@@ -129,21 +122,21 @@ served-block caching r own source tracker k b h free asks sourced w probed = rec
     asked true a = rw (unprobed_part (λ p. p.acquiring) r true k b.pair (λ p. refl) r, a.2) a.3
     asked false a = tt
 
-    left : (j : ℕ) (x : Bool) → same_perm (b.pair j).recorded perm.None ≡ true
+    left : (j : ℕ) (x : Bool) → same_perm (b.pair j).recorded Perm.None ≡ true
         → is_unprobed (if x then b.pair j else after_served k (b.pair j)).probing ≡ true
     left j true none = quiet j
     left j false none = rw (none_above k (b.pair j).recorded none) (quiet j)
 
     bare : (d : ℕ) (x : Bool) → b.pair d ≡ resting → (if x then b.pair d else after_served k (b.pair d)) ≡ resting
     bare d true e = e
-    bare d false e = rw (e, none_above k perm.None refl) refl
+    bare d false e = rw (e, none_above k Perm.None refl) refl
 
 -- ---- one link
 
 -- this move on channel A, and a Probe on B to one who is probed
 abbrev pub request_move : Move → Bool → ℕ → Channel → Move
-request_move m probe n channel.A = m
-request_move m probe n channel.B = if probe then Pushes Probe n else Stays
+request_move m probe n Channel.A = m
+request_move m probe n Channel.B = if probe then Pushes Probe n else Stays
 request_move m probe n _ = Stays
 
 -- the token of the request: of an Acquire by the block, of an access by the source
@@ -217,29 +210,29 @@ any_moved : (ch : Channel) (m : Move) (n : ℕ) (l : Link) (rest : List Packet) 
     → (x ≡ true → IsMoved m l.a rest) → (x ≡ false → m ≡ Stays)
     → IsMoved (request_move m p n ch) (packets_on ch l)
     (packets_on ch (with_probe n p (if x then record l { a = rest } else l)))
-any_moved channel.A m n l rest true true pops stays = pops refl
-any_moved channel.A m n l rest true false pops stays = pops refl
-any_moved channel.A m n l rest false true pops stays = rw (stays refl) refl
-any_moved channel.A m n l rest false false pops stays = rw (stays refl) refl
-any_moved channel.B m n l rest true true pops stays = refl
-any_moved channel.B m n l rest true false pops stays = refl
-any_moved channel.B m n l rest false true pops stays = refl
-any_moved channel.B m n l rest false false pops stays = refl
-any_moved channel.C m n l rest x p pops stays = leaves (λ i. i.c) n l rest x p (λ y z. refl)
-any_moved channel.D m n l rest x p pops stays = leaves (λ i. i.d) n l rest x p (λ y z. refl)
-any_moved channel.E m n l rest x p pops stays = leaves (λ i. i.e) n l rest x p (λ y z. refl)
+any_moved Channel.A m n l rest true true pops stays = pops refl
+any_moved Channel.A m n l rest true false pops stays = pops refl
+any_moved Channel.A m n l rest false true pops stays = rw (stays refl) refl
+any_moved Channel.A m n l rest false false pops stays = rw (stays refl) refl
+any_moved Channel.B m n l rest true true pops stays = refl
+any_moved Channel.B m n l rest true false pops stays = refl
+any_moved Channel.B m n l rest false true pops stays = refl
+any_moved Channel.B m n l rest false false pops stays = refl
+any_moved Channel.C m n l rest x p pops stays = leaves (λ i. i.c) n l rest x p (λ y z. refl)
+any_moved Channel.D m n l rest x p pops stays = leaves (λ i. i.d) n l rest x p (λ y z. refl)
+any_moved Channel.E m n l rest x p pops stays = leaves (λ i. i.e) n l rest x p (λ y z. refl)
 
 any_own : (ch : Channel) (n source : ℕ) (own x p : Bool)
     → is_own_move ch (request_move (if x then Pops (kind_served own) (number_served own n source) else Stays) p n ch)
     ≡ true
-any_own channel.A n source true true p = refl
-any_own channel.A n source false true p = refl
-any_own channel.A n source own false p = refl
-any_own channel.B n source own x true = refl
-any_own channel.B n source own x false = refl
-any_own channel.C n source own x p = refl
-any_own channel.D n source own x p = refl
-any_own channel.E n source own x p = refl
+any_own Channel.A n source true true p = refl
+any_own Channel.A n source false true p = refl
+any_own Channel.A n source own false p = refl
+any_own Channel.B n source own x true = refl
+any_own Channel.B n source own x false = refl
+any_own Channel.C n source own x p = refl
+any_own Channel.D n source own x p = refl
+any_own Channel.E n source own x p = refl
 
 -- ---- the whole
 
@@ -285,8 +278,8 @@ served-event caching r n own source tracker k rest s inv first free asks sourced
 
 -- no access is taken or answered where an Acquire is taken
 bare_move : (x p : Bool) (n : ℕ)
-    → (spares (request_move (if x then Pops Acquire n else Stays) p n channel.A) Request ≡ true)
-    × (spares (request_move (if x then Pops Acquire n else Stays) p n channel.D) Answer ≡ true)
+    → (spares (request_move (if x then Pops Acquire n else Stays) p n Channel.A) Request ≡ true)
+    × (spares (request_move (if x then Pops Acquire n else Stays) p n Channel.D) Answer ≡ true)
 bare_move true p n = (refl, refl)
 bare_move false p n = (refl, refl)
 
@@ -336,7 +329,7 @@ acquire_served-kept {X} caching r n source tracker whole g k rest s inv first fr
 pub access_served-kept : {X : Type 0} (caching : ℕ → Bool) (r n source tracker : ℕ) (k : Cap) (rest : List Packet)
     (s : State X) → IsInvariant caching s
     → (s.link r).a ≡ packet Request source ∷ rest → (s.block n).service ≡ Free → s.uses r source ≡ Asked
-    → same_cap k cap.ToT ≡ false → s.tracked tracker ≡ None
+    → same_cap k Cap.ToT ≡ false → s.tracked tracker ≡ None
     → (w : ℕ) → is_probed r false k ((s.block n).pair w).recorded w ≡ true
     → IsInvariant caching (access_served r n source tracker k rest s)
 access_served-kept {X} caching r n source tracker k rest s inv first free asked low unused w probed =

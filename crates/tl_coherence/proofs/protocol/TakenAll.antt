@@ -1,28 +1,25 @@
 -- A Grant that is taken keeps the invariant.
 use Rattle.tl_coherence.proofs.protocol.Imports.{Channel, Cap, Grow, ClientBlock, Granting, Acknowledging, AcquireOpen}
-use Rattle.tl_coherence.proofs.protocol.Imports.{after_grant, Kind, Acquire, Probe, ProbeAck, Release}
-use Rattle.tl_coherence.proofs.protocol.Imports.{Grant, ReleaseAck, GrantAck, Packet, set, GrantSent, Block, State}
-use Rattle.tl_coherence.proofs.protocol.Imports.{Link, SourceFree, Acquires, packet, shows, is_transfer, is_wanting}
-use Rattle.tl_coherence.proofs.protocol.Imports.{is_sent, is_answered, is_releasing, is_acked, taken_block, Move, Stays}
-use Rattle.tl_coherence.proofs.protocol.Imports.{Pushes, Pops, AreMoved, agrees, is_own_move, channel_for, is_of}
-use Rattle.tl_coherence.proofs.protocol.Imports.{acquires_of, serves_of, acquires_with, serves_with, releases_with}
-use Rattle.tl_coherence.proofs.protocol.Imports.{tracks_with, IsInvariant}
+use Rattle.tl_coherence.proofs.protocol.Imports.{after_grant, Kind, Acquire, Probe, ProbeAck, Release, Grant}
+use Rattle.tl_coherence.proofs.protocol.Imports.{ReleaseAck, GrantAck, Packet, set, GrantSent, Block, State, Link}
+use Rattle.tl_coherence.proofs.protocol.Imports.{SourceFree, Acquires, packet, shows, is_transfer, is_wanting, is_sent}
+use Rattle.tl_coherence.proofs.protocol.Imports.{is_answered, is_releasing, is_acked, taken_block, Move, Stays, Pushes}
+use Rattle.tl_coherence.proofs.protocol.Imports.{Pops, AreMoved, agrees, is_own_move, channel_for, is_of, acquires_of}
+use Rattle.tl_coherence.proofs.protocol.Imports.{serves_of, acquires_with, serves_with, releases_with, tracks_with}
+use Rattle.tl_coherence.proofs.protocol.Imports.{IsInvariant}
 use Rattle.std.proofs.Common.{◌≡◌, refl, sym, ◌∙◌}
 use Rattle.std.specs.Prelude.{ℕ, Bool, true, false, List, ◌∷◌, ◌&&◌}
-use Rattle.std.proofs.lemmas.Bool.{ne_eqb}
-use Rattle.std.proofs.Math.Bool.{and-false}
-use Rattle.tl_beat.specs.declared.channel.Channel.TheVariants as channel
+use Rattle.std.{proofs.lemmas.Bool.ne_eqb, proofs.Math.Bool.and-false}
 use Rattle.tl_coherence.specs.protocol.Protocol.{taken_link, grant_taken}
 use Rattle.tl_coherence.proofs.queues.Moves.{moves_at, event-at, bare-elsewhere, names-block, names-set_at}
 use Rattle.tl_coherence.proofs.queues.Moves.{invariant-moved_use}
-use Rattle.tl_coherence.proofs.queues.KindMoves.{same_again}
+use Rattle.tl_coherence.proofs.{queues.KindMoves.same_again, protocol.Taken.taken-block}
+use Rattle.tl_coherence.proofs.{protocol.BothParts.acquires_of-is}
 use Rattle.tl_coherence.proofs.queues.Tokens.{same_number, set-same, set-other, set-part}
-use Rattle.tl_coherence.proofs.protocol.Taken.{taken-block}
-use Rattle.tl_coherence.proofs.protocol.BothParts.{acquires_of-is}
 
 abbrev pub taken_moves : ℕ → Channel → Move
-taken_moves n channel.D = Pops Grant n
-taken_moves n channel.E = Pushes GrantAck n
+taken_moves n Channel.D = Pops Grant n
+taken_moves n Channel.E = Pushes GrantAck n
 taken_moves n _ = Stays
 
 taken_shows : (n : ℕ) (j : Kind) (d : Bool) (k : Cap) (p : ClientBlock) → is_transfer j ≡ true
@@ -88,9 +85,9 @@ grant_taken-kept {X} caching c n d whole g k rest s inv first granting wants =
     used = acquires_of-is n (s.uses c source) (inv.named.acquires c source n ∙ rw (wants, same_number source) refl)
 
     moved : AreMoved (taken_moves n) (s.link c) here
-    moved channel.D = first
+    moved Channel.D = first
     moved _ = refl
 
     own : (ch : Channel) → is_own_move ch (taken_moves n ch) ≡ true
-    own channel.A = refl
+    own Channel.A = refl
     own ch = refl

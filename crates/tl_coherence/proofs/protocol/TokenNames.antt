@@ -1,21 +1,16 @@
 -- Which source, block or tracker each token is of.
-use Rattle.tl_coherence.proofs.protocol.Imports.{Channel, ClientBlock, View}
-use Rattle.tl_coherence.proofs.protocol.Imports.{is_unreleased, is_unprobed, ok, Kind, Request, Acquire}
-use Rattle.tl_coherence.proofs.protocol.Imports.{Probe, ProbeAck, Release, Answer, Grant, ReleaseAck, GrantAck, Packet}
-use Rattle.tl_coherence.proofs.protocol.Imports.{one_if, count, Service, Free, State}
-use Rattle.tl_coherence.proofs.protocol.Imports.{SourceState, SourceFree, Asked, Replied, Acquires, packet, view, on}
-use Rattle.tl_coherence.proofs.protocol.Imports.{packets_on, is_on, is_wanting, is_granting, shown}
-use Rattle.tl_coherence.proofs.protocol.Imports.{IsInvariant, is_asked, is_replied}
+use Rattle.tl_coherence.proofs.protocol.Imports.{Channel, ClientBlock, View, is_unreleased, is_unprobed, ok, Kind}
+use Rattle.tl_coherence.proofs.protocol.Imports.{Request, Acquire, Probe, ProbeAck, Release, Answer, Grant, ReleaseAck}
+use Rattle.tl_coherence.proofs.protocol.Imports.{GrantAck, Packet, one_if, count, Service, Free, State, SourceState}
+use Rattle.tl_coherence.proofs.protocol.Imports.{SourceFree, Asked, Replied, Acquires, packet, view, on, packets_on}
+use Rattle.tl_coherence.proofs.protocol.Imports.{is_on, is_wanting, is_granting, shown, IsInvariant, is_asked}
+use Rattle.tl_coherence.proofs.protocol.Imports.{is_replied}
 use Rattle.std.proofs.Common.{◌≡◌, ℕ, ◌<◌, ◌≤◌, Bool, true, false, refl, sym, ◌∙◌, ap, arith}
 use Rattle.std.specs.Prelude.{◌||◌, not, Option, Some, None}
-use Rattle.tl_coherence.specs.protocol.Phase.{is_idle}
-use Rattle.tl_coherence.specs.protocol.Packet.{is}
-use Rattle.tl_coherence.specs.protocol.Invariant.{is_busy}
-use Rattle.tl_coherence.proofs.queues.Distinct.{IsThere}
-use Rattle.tl_coherence.proofs.queues.Tokens.{same_number}
-use Rattle.tl_coherence.proofs.queues.Phases.{each_phase, of_phase}
-use Rattle.tl_coherence.proofs.protocol.BothParts.{is_of-is, acquires_of-is}
-use Rattle.tl_coherence.proofs.queues.Channels.{on_same}
+use Rattle.tl_coherence.specs.{protocol.Phase.is_idle, protocol.Packet.is, protocol.Invariant.is_busy}
+use Rattle.tl_coherence.proofs.{queues.Distinct.IsThere, queues.Tokens.same_number, queues.Phases.each_phase}
+use Rattle.tl_coherence.proofs.{queues.Phases.of_phase, protocol.BothParts.is_of-is, protocol.BothParts.acquires_of-is}
+use Rattle.tl_coherence.proofs.{queues.Channels.on_same}
 use Rattle.tl_rules.proofs.Takeable.{part_bit}
 
 -- what is used is below these bounds

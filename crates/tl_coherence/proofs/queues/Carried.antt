@@ -1,14 +1,11 @@
 -- A message that is pushed, and a beat that is taken.
 use Rattle.tl_coherence.proofs.queues.Imports.{Beat, Message, beats_of, completes, beats_from, IsCarried}
 use Rattle.std.proofs.Common.{◌≡◌, ℕ, zero, suc, ◌<◌, ◌+◌, ◌-◌, List, [], ◌∷◌, ◌++◌, refl, sym, ◌∙◌, ap, arith}
-use Rattle.std.specs.Prelude.{◌==◌}
-use Rattle.std.proofs.lemmas.List.{append_assoc, append-nil}
+use Rattle.std.{specs.Prelude.◌==◌, proofs.lemmas.List.append_assoc, proofs.lemmas.List.append-nil}
 use Rattle.tl_burst.specs.statement.Burst.{beat_of, begun, burst_of}
-use Rattle.tl_burst.specs.statement.Messages.{grown}
-use Rattle.tl_burst.proofs.Begun.{length-begun}
+use Rattle.tl_burst.{specs.statement.Messages.grown, proofs.Begun.length-begun, proofs.Splitting.length-of_beat}
 use Rattle.tl_rules.proofs.Sent.{not_last, is_last}
 use Rattle.tl_coherence.specs.refinement.Carried.{spelled}
-use Rattle.tl_burst.proofs.Splitting.{length-of_beat}
 
 spelled-append : {w : ℕ} (ms ns : List (Message w)) → spelled (ms ++ ns) ≡ spelled ms ++ spelled ns
 unfolding spelled

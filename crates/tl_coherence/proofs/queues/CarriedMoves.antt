@@ -2,9 +2,7 @@
 use Rattle.tl_coherence.proofs.queues.Imports.{IsWidth, Beat, Message, beats_of, completes, beats_from, Kind, Packet}
 use Rattle.tl_coherence.proofs.queues.Imports.{packet, Move, Stays, Pushes, Pops, IsMoved, IsCarried}
 use Rattle.std.proofs.Common.{◌≡◌, ℕ, true, ◌+◌, List, [], ◌∷◌, ◌++◌, refl, sym, ◌∙◌, ap, ap₂}
-use Rattle.std.specs.Prelude.{map}
-use Rattle.std.proofs.lemmas.List.{map-append}
-use Rattle.std.proofs.lemmas.Bool.{eqb-true}
+use Rattle.std.{specs.Prelude.map, proofs.lemmas.List.map-append, proofs.lemmas.Bool.eqb-true}
 use Rattle.tl_burst.proofs.Splitting.{beats-positive}
 use Rattle.tl_coherence.proofs.queues.Carried.{carried-push, carried-next}
 

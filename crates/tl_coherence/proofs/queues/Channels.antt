@@ -10,13 +10,10 @@ use Rattle.std.proofs.Common.{◌≡◌, ℕ, Bool, true, false, ◌≤◌, List
 use Rattle.std.proofs.Common.{inr, arith}
 use Rattle.std.specs.Prelude.{◌==◌, ◌&&◌, if◌then◌else◌, map, Option, Some, None, ⊤}
 use Rattle.std.proofs.lemmas.Bool.{cases_eq, ne_eqb}
-use Rattle.tl_beat.specs.declared.channel.Channel.TheVariants as channel
-use Rattle.tl_coherence.specs.protocol.Protocol.{Link, on}
-use Rattle.tl_coherence.specs.protocol.Tokens.{is_transfer}
+use Rattle.tl_coherence.specs.{protocol.Protocol.Link, protocol.Protocol.on, protocol.Tokens.is_transfer}
 use Rattle.tl_coherence.specs.refinement.PacketMessages.{block_message, message_of_kind}
 use Rattle.tl_coherence.proofs.queues.CarriedMoves.{IsQueued, staying, carried-moved}
-use Rattle.tl_coherence.proofs.queues.Moves.{moves_at}
-use Rattle.tl_coherence.proofs.queues.Rendered.{same_kind_again}
+use Rattle.tl_coherence.proofs.{queues.Moves.moves_at, queues.Rendered.same_kind_again}
 use Rattle.tl_coherence.proofs.queues.Tokens.{same_number, set-same, set-other}
 
 -- ---- tokens that stay
@@ -76,15 +73,15 @@ pub record IsShowing {w : ℕ} (caching : ℕ → Bool) (n : ℕ) (moves : ℕ �
       → mail'.answer d i ≡ mail.answer d i
 
 pub on_same : (ch : Channel) (k : Kind) (l : Link) → is_on ch k ≡ true → packets_on ch l ≡ on k l
-on_same channel.A Request l e = refl
-on_same channel.A Acquire l e = refl
-on_same channel.B Probe l e = refl
-on_same channel.C ProbeAck l e = refl
-on_same channel.C Release l e = refl
-on_same channel.D Answer l e = refl
-on_same channel.D Grant l e = refl
-on_same channel.D ReleaseAck l e = refl
-on_same channel.E GrantAck l e = refl
+on_same Channel.A Request l e = refl
+on_same Channel.A Acquire l e = refl
+on_same Channel.B Probe l e = refl
+on_same Channel.C ProbeAck l e = refl
+on_same Channel.C Release l e = refl
+on_same Channel.D Answer l e = refl
+on_same Channel.D Grant l e = refl
+on_same Channel.D ReleaseAck l e = refl
+on_same Channel.E GrantAck l e = refl
 on_same ch k l e = absurd cc
 
 -- a kind of which there is one where the test says so
@@ -228,11 +225,11 @@ pub record IsTaken {w : ℕ} (c : ℕ) (ch : Channel) (x : Beat w) (queue : List
       (receiver at d sys))
 
 pub same_channel-is : (a b : Channel) → same_channel a b ≡ true → a ≡ b
-same_channel-is channel.A channel.A e = refl
-same_channel-is channel.B channel.B e = refl
-same_channel-is channel.C channel.C e = refl
-same_channel-is channel.D channel.D e = refl
-same_channel-is channel.E channel.E e = refl
+same_channel-is Channel.A Channel.A e = refl
+same_channel-is Channel.B Channel.B e = refl
+same_channel-is Channel.C Channel.C e = refl
+same_channel-is Channel.D Channel.D e = refl
+same_channel-is Channel.E Channel.E e = refl
 same_channel-is a b e = absurd cc
 
 pub queued-taken : {w : ℕ} (c : ℕ) (ch : Channel) (x : Beat w) (queue : List (Beat w)) (pushes : ℕ → Channel

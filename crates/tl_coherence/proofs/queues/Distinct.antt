@@ -6,8 +6,7 @@ use Rattle.std.specs.Prelude.{◌==◌, ◌&&◌, if◌then◌else◌, not, leng
 use Rattle.std.proofs.lemmas.Bool.{cases_eq, ne_eqb, eqb-true, and_parts}
 use Rattle.std.proofs.lemmas.Option.{same_Some}
 use Rattle.tl_coherence.specs.bound.Rank.{total}
-use Rattle.tl_coherence.proofs.queues.Rendered.{same_kind_again}
-use Rattle.tl_coherence.proofs.queues.Tokens.{same_number}
+use Rattle.tl_coherence.proofs.{queues.Rendered.same_kind_again, queues.Tokens.same_number}
 use Rattle.tl_coherence.proofs.queues.Sums.{total-same, total-le, total-plus, total-zero, total-one, total-const}
 
 -- how many tokens pass a test

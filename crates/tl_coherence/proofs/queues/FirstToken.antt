@@ -6,9 +6,8 @@ use Rattle.std.proofs.Common.{◌≡◌, ℕ, ◌+◌, Bool, true, false, List, 
 use Rattle.std.specs.Prelude.{map}
 use Rattle.tl_burst.proofs.Splitting.{beats-positive}
 use Rattle.tl_coherence.specs.refinement.PacketMessages.{message_of_kind}
-use Rattle.tl_coherence.proofs.queues.Carried.{IsNext, carried-next}
-use Rattle.tl_coherence.proofs.queues.Rendered.{same_kind_again}
-use Rattle.tl_coherence.proofs.queues.Tokens.{same_number}
+use Rattle.tl_coherence.proofs.{queues.Carried.IsNext, queues.Carried.carried-next, queues.Rendered.same_kind_again}
+use Rattle.tl_coherence.proofs.{queues.Tokens.same_number}
 
 -- the first token of a channel, whose message has this beat next
 pub record IsFirst {w : ℕ} (ch : Channel) (c : ℕ) (mail : AccessMessages w) (s : State (List ℕ)) (sys : System w)

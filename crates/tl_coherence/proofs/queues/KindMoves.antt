@@ -1,19 +1,15 @@
 -- What a move of one token does to each kind of token on a channel.
 use Rattle.tl_coherence.proofs.queues.Imports.{Channel, Kind, Request, Acquire, Probe, ProbeAck, Release, Answer, Grant}
-use Rattle.tl_coherence.proofs.queues.Imports.{ReleaseAck, GrantAck, Packet, same_kind, count, set, packet}
-use Rattle.tl_coherence.proofs.queues.Imports.{packets_on, is_on, shown, Move, Stays, Pushes, Pops, IsMoved, AreMoved}
-use Rattle.std.proofs.Common.{◌≡◌, ℕ, Bool, true, false, not, ◌&&◌, List, [], ◌∷◌, ◌++◌, refl}
-use Rattle.std.proofs.Common.{◌⊎◌, inl, inr}
-use Rattle.std.specs.Prelude.{◌==◌, if◌then◌else◌}
+use Rattle.tl_coherence.proofs.queues.Imports.{ReleaseAck, GrantAck, Packet, same_kind, count, set, packet, packets_on}
+use Rattle.tl_coherence.proofs.queues.Imports.{is_on, shown, Move, Stays, Pushes, Pops, IsMoved, AreMoved}
+use Rattle.std.proofs.Common.{◌≡◌, ℕ, Bool, true, false, not, ◌&&◌, List, [], ◌∷◌, ◌++◌, refl, ◌⊎◌, inl, inr}
+use Rattle.std.{specs.Prelude.◌==◌, specs.Prelude.if◌then◌else◌, specs.Bool.beq}
 use Rattle.std.proofs.lemmas.Bool.{cases_eq, ne_eqb, eqb-true, not-true}
-use Rattle.std.specs.Bool.{beq}
-use Rattle.tl_coherence.specs.protocol.Packet.{Holds, IsOrdered}
-use Rattle.tl_coherence.specs.protocol.Protocol.{Block, Link, on}
-use Rattle.tl_coherence.specs.protocol.Tokens.{is_transfer}
+use Rattle.tl_coherence.specs.{protocol.Packet.Holds, protocol.Packet.IsOrdered, protocol.Protocol.Block}
+use Rattle.tl_coherence.specs.{protocol.Protocol.Link, protocol.Protocol.on, protocol.Tokens.is_transfer}
 use Rattle.tl_coherence.specs.refinement.Move.{agrees, is_own_move, channel_for}
-use Rattle.tl_coherence.proofs.queues.Tokens.{holds-set, holds-push, holds-push_other}
-use Rattle.tl_coherence.proofs.queues.Tokens.{holds-pop, holds-pop_other, none-push, none-pop, ordered-pop}
-use Rattle.tl_coherence.proofs.queues.Tokens.{ordered-push_other, ordered-push_report}
+use Rattle.tl_coherence.proofs.queues.Tokens.{holds-set, holds-push, holds-push_other, holds-pop, holds-pop_other}
+use Rattle.tl_coherence.proofs.queues.Tokens.{none-push, none-pop, ordered-pop, ordered-push_other, ordered-push_report}
 use Rattle.tl_coherence.proofs.queues.Phases.{and_left, and_right}
 
 pub same_again : (b : Bool) → beq b b ≡ true

@@ -4,7 +4,6 @@ use Rattle.tl_coherence.proofs.queues.Imports.{receiver, is_to_client, System, s
 use Rattle.std.proofs.Common.{◌≡◌, ℕ, Bool, true, false, List, [], ◌∷◌, ◌++◌, refl, sym, ◌∙◌, ap, ◌⊎◌, inl, inr}
 use Rattle.std.specs.Prelude.{◌==◌, ◌&&◌, if◌then◌else◌, Option, Some, None}
 use Rattle.std.proofs.lemmas.Bool.{cases_eq, ne_eqb}
-use Rattle.tl_beat.specs.declared.channel.Channel.TheVariants as channel
 use Rattle.tl_burst.specs.statement.Messages.{History, on, grown}
 use Rattle.tl_rules.specs.statement.Conformance.{on_link}
 use Rattle.tl_client.specs.statement.Endpoint as client
@@ -157,22 +156,22 @@ landed-client {w} c ch x queue m e sys to_client first is heard = record {
         unless false = refl
 
     not_here : (ch at : Channel) → is_to_client ch ≡ true → is_to_client at ≡ false → same_channel at ch ≡ false
-    not_here channel.B channel.A a b = refl
-    not_here channel.B channel.C a b = refl
-    not_here channel.B channel.E a b = refl
-    not_here channel.D channel.A a b = refl
-    not_here channel.D channel.C a b = refl
-    not_here channel.D channel.E a b = refl
+    not_here Channel.B Channel.A a b = refl
+    not_here Channel.B Channel.C a b = refl
+    not_here Channel.B Channel.E a b = refl
+    not_here Channel.D Channel.A a b = refl
+    not_here Channel.D Channel.C a b = refl
+    not_here Channel.D Channel.E a b = refl
     not_here ch at a b = absurd cc
 
     rests : (d : ℕ) (at : Channel)
         → unfinished at (receiver at d after) ≡ (if (d == c) && same_channel at ch then grown x
         (unfinished at (receiver at d sys)) else unfinished at (receiver at d sys))
-    rests d channel.A = theirs d channel.A (not_here ch channel.A to_client refl)
-    rests d channel.B = ours d channel.B (cases_eq d c)
-    rests d channel.C = theirs d channel.C (not_here ch channel.C to_client refl)
-    rests d channel.D = ours d channel.D (cases_eq d c)
-    rests d channel.E = theirs d channel.E (not_here ch channel.E to_client refl)
+    rests d Channel.A = theirs d Channel.A (not_here ch Channel.A to_client refl)
+    rests d Channel.B = ours d Channel.B (cases_eq d c)
+    rests d Channel.C = theirs d Channel.C (not_here ch Channel.C to_client refl)
+    rests d Channel.D = ours d Channel.D (cases_eq d c)
+    rests d Channel.E = theirs d Channel.E (not_here ch Channel.E to_client refl)
 
 -- a client is asked: its message is handed out, if there is one
 pub handed-client : {w : ℕ} (c : ℕ) (m : Option (Message w)) (e : client.Endpoint w) (sys : System w)
@@ -204,11 +203,11 @@ handed-client {w} c m e sys same = record {
     theirs d at = cc (manager-with_messages (handed_by c m) base)
 
     rests : (d : ℕ) (at : Channel) → unfinished at (receiver at d after) ≡ unfinished at (receiver at d sys)
-    rests d channel.A = theirs d channel.A
-    rests d channel.B = ours d channel.B (cases_eq d c)
-    rests d channel.C = theirs d channel.C
-    rests d channel.D = ours d channel.D (cases_eq d c)
-    rests d channel.E = theirs d channel.E
+    rests d Channel.A = theirs d Channel.A
+    rests d Channel.B = ours d Channel.B (cases_eq d c)
+    rests d Channel.C = theirs d Channel.C
+    rests d Channel.D = ours d Channel.D (cases_eq d c)
+    rests d Channel.E = theirs d Channel.E
 
 -- ---- at the manager
 
@@ -252,12 +251,12 @@ rests-manager {w} c ch x queue handed e sys to_manager is heard = rests
     theirs d at up (inr other) = cc (manager_is, heard d at up, swapped d other, ne_eqb d c other)
 
     not_here : (ch at : Channel) → is_to_client ch ≡ false → is_to_client at ≡ true → same_channel at ch ≡ false
-    not_here channel.A channel.B a b = refl
-    not_here channel.A channel.D a b = refl
-    not_here channel.C channel.B a b = refl
-    not_here channel.C channel.D a b = refl
-    not_here channel.E channel.B a b = refl
-    not_here channel.E channel.D a b = refl
+    not_here Channel.A Channel.B a b = refl
+    not_here Channel.A Channel.D a b = refl
+    not_here Channel.C Channel.B a b = refl
+    not_here Channel.C Channel.D a b = refl
+    not_here Channel.E Channel.B a b = refl
+    not_here Channel.E Channel.D a b = refl
     not_here ch at a b = absurd cc
 
     ours : (d : ℕ) (at : Channel) → same_channel at ch ≡ false
@@ -274,11 +273,11 @@ rests-manager {w} c ch x queue handed e sys to_manager is heard = rests
     rests : (d : ℕ) (at : Channel)
         → unfinished at (receiver at d after) ≡ (if (d == c) && same_channel at ch then grown x
         (unfinished at (receiver at d sys)) else unfinished at (receiver at d sys))
-    rests d channel.A = theirs d channel.A refl (cases_eq d c)
-    rests d channel.B = ours d channel.B (not_here ch channel.B to_manager refl)
-    rests d channel.C = theirs d channel.C refl (cases_eq d c)
-    rests d channel.D = ours d channel.D (not_here ch channel.D to_manager refl)
-    rests d channel.E = theirs d channel.E refl (cases_eq d c)
+    rests d Channel.A = theirs d Channel.A refl (cases_eq d c)
+    rests d Channel.B = ours d Channel.B (not_here ch Channel.B to_manager refl)
+    rests d Channel.C = theirs d Channel.C refl (cases_eq d c)
+    rests d Channel.D = ours d Channel.D (not_here ch Channel.D to_manager refl)
+    rests d Channel.E = theirs d Channel.E refl (cases_eq d c)
 
 pub landed-manager : {w : ℕ} (c : ℕ) (ch : Channel) (x : Beat w) (queue : List (Beat w)) (pushes : ℕ → Channel
     → Option (Message w)) (handed : Handed w)

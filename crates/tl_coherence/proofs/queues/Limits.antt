@@ -2,10 +2,8 @@
 use Rattle.std.proofs.Common.{◌≡◌, ◌<◌, ◌&&◌, ℕ, zero, suc, Bool, true, false, List, [], ◌∷◌, Some, None, refl, length}
 use Rattle.std.proofs.Common.{arith}
 use Rattle.std.specs.Prelude.{slice_index_or, Option, not, if◌then◌else◌}
-use Rattle.tl_params.specs.declared.config.ClientConfig.{ClientConfig}
-use Rattle.tl_params.specs.declared.config.NewFault.{NewFault}
-use Rattle.tl_params.specs.declared.config.NewFault.TheVariants as fault
-use Rattle.tl_params.specs.statement.Config.{sources_fit, all_sources_fit}
+use Rattle.tl_params.{specs.declared.config.ClientConfig.ClientConfig, specs.declared.config.NewFault.NewFault}
+use Rattle.tl_params.{specs.statement.Config.sources_fit, specs.statement.Config.all_sources_fit}
 
 pub all-fit : (clients : List ClientConfig) (i : ℕ) (d : ClientConfig) → all_sources_fit clients ≡ true
     → i < length clients → sources_fit (slice_index_or clients i d) ≡ true
@@ -24,10 +22,10 @@ all-fit (x ∷ clients) (suc i) d fit lt = all-fit clients i d (both-second (sou
 
 abbrev limits_broken : Bool → Bool → Bool → Bool → Option NewFault
 limits_broken a b c e =
-    if not a then Some fault.N1 else
-    if not b then Some fault.N2 else
-    if not c then Some fault.N3 else
-    if not e then Some fault.N4 else
+    if not a then Some NewFault.N1 else
+    if not b then Some NewFault.N2 else
+    if not c then Some NewFault.N3 else
+    if not e then Some NewFault.N4 else
     None
 
 pub limits-fit : (a b c e : Bool) → limits_broken a b c e ≡ None → (a ≡ true) × (b ≡ true) × (c ≡ true) × (e ≡ true)

@@ -1,19 +1,13 @@
 -- Tokens, and what they stand for, after the moves of an event: one lemma for all events.
-use Rattle.tl_coherence.proofs.queues.Imports.{Channel, Kind, Request, ProbeAck, Release, Answer}
-use Rattle.tl_coherence.proofs.queues.Imports.{Packet, count, set, State}
-use Rattle.tl_coherence.proofs.queues.Imports.{packets_on, shown, Move, Stays, Pushes, IsMoved, AreMoved}
+use Rattle.tl_coherence.proofs.queues.Imports.{Channel, Kind, Request, ProbeAck, Release, Answer, Packet, count, set}
+use Rattle.tl_coherence.proofs.queues.Imports.{State, packets_on, shown, Move, Stays, Pushes, IsMoved, AreMoved}
 use Rattle.tl_coherence.proofs.queues.Imports.{IsInvariant, is_asked, is_replied}
-use Rattle.std.proofs.Common.{◌≡◌, ℕ, Bool, true, false, List, Option, refl, sym, ◌∙◌, ap}
-use Rattle.std.proofs.Common.{inl, inr}
-use Rattle.std.specs.Prelude.{◌==◌, if◌then◌else◌}
-use Rattle.std.proofs.lemmas.Bool.{cases_eq, ne_eqb}
-use Rattle.tl_beat.specs.declared.channel.Channel.TheVariants as channel
-use Rattle.tl_coherence.specs.protocol.Packet.{Holds, set_at}
+use Rattle.std.proofs.Common.{◌≡◌, ℕ, Bool, true, false, List, Option, refl, sym, ◌∙◌, ap, inl, inr}
+use Rattle.std.{specs.Prelude.◌==◌, specs.Prelude.if◌then◌else◌, proofs.lemmas.Bool.cases_eq, proofs.lemmas.Bool.ne_eqb}
+use Rattle.tl_coherence.specs.{protocol.Packet.Holds, protocol.Packet.set_at, protocol.Tokens.is_transfer}
 use Rattle.tl_coherence.specs.protocol.Protocol.{Block, SourceState, Link}
-use Rattle.tl_coherence.specs.protocol.Tokens.{is_transfer}
 use Rattle.tl_coherence.specs.refinement.Move.{agrees, is_own_move, channel_for}
-use Rattle.tl_coherence.proofs.queues.Tokens.{same_number, set-same, set-other}
-use Rattle.tl_coherence.proofs.queues.Tokens.{set-each}
+use Rattle.tl_coherence.proofs.queues.Tokens.{same_number, set-same, set-other, set-each}
 use Rattle.tl_coherence.specs.protocol.Invariant.{IsWell, AreNamed, Names, is_of, acquires_of, serves_of, acquires_with}
 use Rattle.tl_coherence.specs.protocol.Invariant.{serves_with, releases_with, tracks_with}
 use Rattle.tl_coherence.proofs.queues.KindMoves.{holds-moved, spares, holds-spared, on_is, transfers-moved}
@@ -30,7 +24,7 @@ pub record IsEvent {X : Type 0} (caching : ℕ → Bool) (n : ℕ) (b : Block X)
   pub fits : (d : ℕ) (k : Kind) → is_transfer k ≡ true → agrees (moves d (channel_for k)) k n (shown k d (s.block n))
       (shown k d b) ≡ true
   -- a ProbeAck isn't sent behind a Release of its block
-  pub in_order : (d m : ℕ) → moves d channel.C ≡ Pushes ProbeAck m → count Release m (s.link d).c ≡ 0
+  pub in_order : (d m : ℕ) → moves d Channel.C ≡ Pushes ProbeAck m → count Release m (s.link d).c ≡ 0
 
 -- ---- which block a source or a tracker is of, where one block changes
 
@@ -116,7 +110,7 @@ invariant-moved_with caching n b link moves uses lets tracked s inv event reques
   answers = answers;
   own_kinds = λ d ch k i off. own_kinds-moved ch (moves d ch) (packets_on ch (s.link d)) (packets_on ch (link d)) k i
       (event.own d ch) (event.moved d ch) off (inv.own_kinds d ch k i off);
-  ordered = λ d m. ordered-moved (moves d channel.C) m (s.link d).c (link d).c (event.moved d channel.C)
+  ordered = λ d m. ordered-moved (moves d Channel.C) m (s.link d).c (link d).c (event.moved d Channel.C)
       (event.in_order d) (inv.ordered d m);
   named = named;
 }
@@ -125,24 +119,24 @@ invariant-moved_with caching n b link moves uses lets tracked s inv event reques
 pub invariant-moved : {X : Type 0} (caching : ℕ → Bool) (n : ℕ) (b : Block X) (link : ℕ → Link) (moves : ℕ → Channel
     → Move) (lets : ℕ → ℕ → Option ℕ) (tracked : ℕ → Option ℕ) (s : State X)
     → IsInvariant caching s → IsEvent caching n b link moves s
-    → ((d : ℕ) → (spares (moves d channel.A) Request ≡ true) × (spares (moves d channel.D) Answer ≡ true))
+    → ((d : ℕ) → (spares (moves d Channel.A) Request ≡ true) × (spares (moves d Channel.D) Answer ≡ true))
     → AreNamed (record s { block = set n b s.block; link = link; lets = lets; tracked = tracked })
     → IsInvariant caching (record s { block = set n b s.block; link = link; lets = lets; tracked = tracked })
 invariant-moved caching n b link moves lets tracked s inv event bare named =
     invariant-moved_with caching n b link moves s.uses lets tracked s inv event
-    (λ d. holds-spared Request (moves d channel.A) (s.link d).a (link d).a (λ m. is_asked (s.uses d m))
-    (event.moved d channel.A) (bare d).0 (inv.requests d))
-    (λ d. holds-spared Answer (moves d channel.D) (s.link d).d (link d).d (λ m. is_replied (s.uses d m))
-    (event.moved d channel.D) (bare d).1 (inv.answers d))
+    (λ d. holds-spared Request (moves d Channel.A) (s.link d).a (link d).a (λ m. is_asked (s.uses d m))
+    (event.moved d Channel.A) (bare d).0 (inv.requests d))
+    (λ d. holds-spared Answer (moves d Channel.D) (s.link d).d (link d).d (λ m. is_replied (s.uses d m))
+    (event.moved d Channel.D) (bare d).1 (inv.answers d))
     named
 
 -- and by every event that changes the use of a source of client c
 pub invariant-moved_use : {X : Type 0} (caching : ℕ → Bool) (n : ℕ) (b : Block X) (link : ℕ → Link) (moves : ℕ → Channel
     → Move) (c source : ℕ) (u : SourceState) (tracked : ℕ → Option ℕ) (s : State X)
     → IsInvariant caching s → IsEvent caching n b link moves s
-    → agrees (moves c channel.A) Request source (is_asked (s.uses c source)) (is_asked u) ≡ true
-    → agrees (moves c channel.D) Answer source (is_replied (s.uses c source)) (is_replied u) ≡ true
-    → ((d : ℕ) → (d ≡ c → ⊥) → (spares (moves d channel.A) Request ≡ true) × (spares (moves d channel.D) Answer ≡ true))
+    → agrees (moves c Channel.A) Request source (is_asked (s.uses c source)) (is_asked u) ≡ true
+    → agrees (moves c Channel.D) Answer source (is_replied (s.uses c source)) (is_replied u) ≡ true
+    → ((d : ℕ) → (d ≡ c → ⊥) → (spares (moves d Channel.A) Request ≡ true) × (spares (moves d Channel.D) Answer ≡ true))
     → AreNamed (record s { block = set n b s.block; link = link; uses = set_at c source u s.uses; tracked = tracked })
     → IsInvariant caching (record s {
       block = set n b s.block;
@@ -153,10 +147,10 @@ pub invariant-moved_use : {X : Type 0} (caching : ℕ → Bool) (n : ℕ) (b : B
     })
 invariant-moved_use caching n b link moves c source u tracked s inv event asked replied bare named =
     invariant-moved_with caching n b link moves (set_at c source u s.uses) s.lets tracked s inv event
-    (holds-set_at Request (λ d. moves d channel.A) (λ d. (s.link d).a) (λ d. (link d).a) is_asked s.uses c source u
-    (λ d. event.moved d channel.A) asked (λ d ne. (bare d ne).0) inv.requests)
-    (holds-set_at Answer (λ d. moves d channel.D) (λ d. (s.link d).d) (λ d. (link d).d) is_replied s.uses c source u
-    (λ d. event.moved d channel.D) replied (λ d ne. (bare d ne).1) inv.answers)
+    (holds-set_at Request (λ d. moves d Channel.A) (λ d. (s.link d).a) (λ d. (link d).a) is_asked s.uses c source u
+    (λ d. event.moved d Channel.A) asked (λ d ne. (bare d ne).0) inv.requests)
+    (holds-set_at Answer (λ d. moves d Channel.D) (λ d. (s.link d).d) (λ d. (link d).d) is_replied s.uses c source u
+    (λ d. event.moved d Channel.D) replied (λ d ne. (bare d ne).1) inv.answers)
     named
 
 -- ---- events at one client
@@ -193,7 +187,7 @@ pub record IsEventAt {X : Type 0} (caching : ℕ → Bool) (c n : ℕ) (b : Bloc
   pub fits : (k : Kind) → is_transfer k ≡ true → agrees (moves (channel_for k)) k n (shown k c (s.block n))
       (shown k c b) ≡ true
   pub others : (d : ℕ) → (d ≡ c → ⊥) → (k : Kind) → is_transfer k ≡ true → shown k d b ≡ shown k d (s.block n)
-  pub in_order : (m : ℕ) → moves channel.C ≡ Pushes ProbeAck m → count Release m (s.link c).c ≡ 0
+  pub in_order : (m : ℕ) → moves Channel.C ≡ Pushes ProbeAck m → count Release m (s.link c).c ≡ 0
 
 pub event-at : {X : Type 0} (caching : ℕ → Bool) (c n : ℕ) (b : Block X) (l : Link) (moves : Channel → Move)
     (s : State X) → IsEventAt caching c n b l moves s
@@ -216,8 +210,8 @@ event-at caching c n b l moves s event = record {
         (moves-there c d moves (channel_for k) ne) (event.others d ne k t)
   ];
   in_order = λ d m e. elim (cases_eq d c) [
-    | inl same ↦ rw same (event.in_order m (sym (moves-here c moves channel.C) ∙ (rw same at e)))
-    | inr ne ↦ never_pushed (moves_at c moves d channel.C) m (moves-there c d moves channel.C ne) e
+    | inl same ↦ rw same (event.in_order m (sym (moves-here c moves Channel.C) ∙ (rw same at e)))
+    | inr ne ↦ never_pushed (moves_at c moves d Channel.C) m (moves-there c d moves Channel.C ne) e
   ];
 }
   where
@@ -226,10 +220,10 @@ event-at caching c n b l moves s event = record {
     own ch false = refl
 
 -- where no access is taken or answered at client c
-pub bare-at : (c : ℕ) (moves : Channel → Move) → spares (moves channel.A) Request ≡ true
-    → spares (moves channel.D) Answer ≡ true → (d : ℕ)
-    → (spares (moves_at c moves d channel.A) Request ≡ true) × (spares (moves_at c moves d channel.D) Answer ≡ true)
-bare-at c moves a e d = (go (d == c) (moves channel.A) Request a, go (d == c) (moves channel.D) Answer e)
+pub bare-at : (c : ℕ) (moves : Channel → Move) → spares (moves Channel.A) Request ≡ true
+    → spares (moves Channel.D) Answer ≡ true → (d : ℕ)
+    → (spares (moves_at c moves d Channel.A) Request ≡ true) × (spares (moves_at c moves d Channel.D) Answer ≡ true)
+bare-at c moves a e d = (go (d == c) (moves Channel.A) Request a, go (d == c) (moves Channel.D) Answer e)
   where
     go : (b : Bool) (m : Move) (k : Kind) → spares m k ≡ true → spares (if b then m else Stays) k ≡ true
     go true m k h = h
@@ -237,9 +231,9 @@ bare-at c moves a e d = (go (d == c) (moves channel.A) Request a, go (d == c) (m
 
 -- at other clients than c nothing moves
 pub bare-elsewhere : (c : ℕ) (moves : Channel → Move) (d : ℕ) → (d ≡ c → ⊥)
-    → (spares (moves_at c moves d channel.A) Request ≡ true) × (spares (moves_at c moves d channel.D) Answer ≡ true)
+    → (spares (moves_at c moves d Channel.A) Request ≡ true) × (spares (moves_at c moves d Channel.D) Answer ≡ true)
 bare-elsewhere c moves d ne =
-    (rw (moves-there c d moves channel.A ne) refl, rw (moves-there c d moves channel.D ne) refl)
+    (rw (moves-there c d moves Channel.A ne) refl, rw (moves-there c d moves Channel.D ne) refl)
 
 -- ---- accesses, which change no block's tokens
 
@@ -261,9 +255,9 @@ pub record IsAccessEvent {X : Type 0} (c source : ℕ) (u : SourceState) (l : Li
   pub moved : AreMoved moves (s.link c) l
   pub own : (ch : Channel) → is_own_move ch (moves ch) ≡ true
   pub spared : (k : Kind) → is_transfer k ≡ true → spares (moves (channel_for k)) k ≡ true
-  pub still : moves channel.C ≡ Stays
-  pub asked : agrees (moves channel.A) Request source (is_asked (s.uses c source)) (is_asked u) ≡ true
-  pub replied : agrees (moves channel.D) Answer source (is_replied (s.uses c source)) (is_replied u) ≡ true
+  pub still : moves Channel.C ≡ Stays
+  pub asked : agrees (moves Channel.A) Request source (is_asked (s.uses c source)) (is_asked u) ≡ true
+  pub replied : agrees (moves Channel.D) Answer source (is_replied (s.uses c source)) (is_replied u) ≡ true
   pub acquires : (m : ℕ) → acquires_of m u ≡ acquires_of m (s.uses c source)
   pub serves : (m : ℕ) → serves_of m u ≡ serves_of m (s.uses c source)
 
@@ -280,15 +274,15 @@ invariant-moved_access caching c source u l moves s inv event = record {
         (rw (on_is k (s.link c)) at (inv.transfers c k t))))
     | inr other ↦ rw (set-other c d l s.link other) (inv.transfers d k t)
   ];
-  requests = holds-set_at Request (λ d. moves_at c moves d channel.A) (λ d. (s.link d).a) (λ d. (set c l s.link d).a)
-      is_asked s.uses c source u (λ d. moved d channel.A)
-      (agrees_as Request source (moves_at c moves c channel.A) (moves channel.A) (is_asked (s.uses c source))
-      (is_asked u) (moves-here c moves channel.A) event.asked)
+  requests = holds-set_at Request (λ d. moves_at c moves d Channel.A) (λ d. (s.link d).a) (λ d. (set c l s.link d).a)
+      is_asked s.uses c source u (λ d. moved d Channel.A)
+      (agrees_as Request source (moves_at c moves c Channel.A) (moves Channel.A) (is_asked (s.uses c source))
+      (is_asked u) (moves-here c moves Channel.A) event.asked)
       (λ d ne. (bare-elsewhere c moves d ne).0) inv.requests;
-  answers = holds-set_at Answer (λ d. moves_at c moves d channel.D) (λ d. (s.link d).d) (λ d. (set c l s.link d).d)
-      is_replied s.uses c source u (λ d. moved d channel.D)
-      (agrees_as Answer source (moves_at c moves c channel.D) (moves channel.D) (is_replied (s.uses c source))
-      (is_replied u) (moves-here c moves channel.D) event.replied)
+  answers = holds-set_at Answer (λ d. moves_at c moves d Channel.D) (λ d. (s.link d).d) (λ d. (set c l s.link d).d)
+      is_replied s.uses c source u (λ d. moved d Channel.D)
+      (agrees_as Answer source (moves_at c moves c Channel.D) (moves Channel.D) (is_replied (s.uses c source))
+      (is_replied u) (moves-here c moves Channel.D) event.replied)
       (λ d ne. (bare-elsewhere c moves d ne).1) inv.answers;
   own_kinds = λ d ch k i off. elim (cases_eq d c) [
     | inl same ↦ rw (same, set-same c l s.link) (own_kinds-moved ch (moves ch) (packets_on ch (s.link c))
@@ -296,8 +290,8 @@ invariant-moved_access caching c source u l moves s inv event = record {
     | inr other ↦ rw (set-other c d l s.link other) (inv.own_kinds d ch k i off)
   ];
   ordered = λ d m. elim (cases_eq d c) [
-    | inl same ↦ rw (same, set-same c l s.link) (ordered-moved (moves channel.C) m (s.link c).c l.c
-        (event.moved channel.C) (λ n e. never_pushed (moves channel.C) n event.still e) (inv.ordered c m))
+    | inl same ↦ rw (same, set-same c l s.link) (ordered-moved (moves Channel.C) m (s.link c).c l.c
+        (event.moved Channel.C) (λ n e. never_pushed (moves Channel.C) n event.still e) (inv.ordered c m))
     | inr other ↦ rw (set-other c d l s.link other) (inv.ordered d m)
   ];
   named = record {

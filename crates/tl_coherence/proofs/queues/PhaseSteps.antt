@@ -2,11 +2,9 @@
 use Rattle.tl_coherence.proofs.queues.Imports.{Cap, Grow, Prune, Report, prune_left, same_perm, ClientBlock, View, Idle}
 use Rattle.tl_coherence.proofs.queues.Imports.{Own, Other, Granting, Acknowledging, GrantedOther, ProbePhase, NoProbe}
 use Rattle.tl_coherence.proofs.queues.Imports.{ProbeAnswered, ReleasePhase, ReleaseSent, NoAcquire, AcquireOpen, ok}
-use Rattle.tl_coherence.proofs.queues.Imports.{same_cap}
+use Rattle.tl_coherence.proofs.queues.Imports.{same_cap, Perm}
 use Rattle.std.proofs.Common.{◌≡◌, refl}
 use Rattle.std.specs.Prelude.{Bool, true, false, not, ◌&&◌, ◌||◌}
-use Rattle.tl_params.specs.declared.param.Cap.TheVariants as cap
-use Rattle.tl_params.specs.declared.perm.Perm.TheVariants as perm
 use Rattle.tl_coherence.specs.protocol.Phase.{ProbeSent, NoRelease, ReleaseAcked, AcquirePhase, grow_fits, cap_fits}
 use Rattle.tl_coherence.specs.protocol.Phase.{is_unacquired, is_unreleased}
 use Rattle.tl_coherence.specs.protocol.PhaseSteps.{after_acquire, after_release, after_served, is_granted_data}
@@ -167,19 +165,19 @@ serve-ok whole g p v h idle wants =
 -- another request is taken, which probes with this cap
 served_test : ClientBlock → View → Bool
 served_test p v = on_idle v
-    (each_cap (λ k. not (same_cap k cap.ToT) && ok (after_served k p) (Other k) || same_cap k cap.ToT))
+    (each_cap (λ k. not (same_cap k Cap.ToT) && ok (after_served k p) (Other k) || same_cap k Cap.ToT))
 
 served_all : each_phase served_test ≡ true
 unfolding each_phase served_test ok
 served_all = refl
 
-pub served-ok : (k : Cap) (p : ClientBlock) (v : View) → ok p v ≡ true → v ≡ Idle → same_cap k cap.ToT ≡ false
+pub served-ok : (k : Cap) (p : ClientBlock) (v : View) → ok p v ≡ true → v ≡ Idle → same_cap k Cap.ToT ≡ false
     → ok (after_served k p) (Other k) ≡ true
 unfolding served_test
 served-ok k p v h idle low =
-    go (same_cap k cap.ToT) low (ok (after_served k p) (Other k))
-    (of_cap (λ j. not (same_cap j cap.ToT) && ok (after_served j p) (Other j) || same_cap j cap.ToT)
-    (idle_is v (each_cap (λ j. not (same_cap j cap.ToT) && ok (after_served j p) (Other j) || same_cap j cap.ToT)) idle
+    go (same_cap k Cap.ToT) low (ok (after_served k p) (Other k))
+    (of_cap (λ j. not (same_cap j Cap.ToT) && ok (after_served j p) (Other j) || same_cap j Cap.ToT)
+    (idle_is v (each_cap (λ j. not (same_cap j Cap.ToT) && ok (after_served j p) (Other j) || same_cap j Cap.ToT)) idle
     (of_phase served_test served_all p v h)) k)
   where
     go : (a : Bool) → a ≡ false → (b : Bool) → (not a && b || a) ≡ true → b ≡ true
@@ -336,18 +334,18 @@ ack_taken_other-ok p v h e =
 
 -- another Acquire is granted at once
 granted_other_test : ClientBlock → View → Bool
-granted_other_test p v = on_idle v (where_true (not (same_perm p.recorded perm.Trunk)) (λ u. ok p GrantedOther))
+granted_other_test p v = on_idle v (where_true (not (same_perm p.recorded Perm.Trunk)) (λ u. ok p GrantedOther))
 
 granted_other_all : each_phase granted_other_test ≡ true
 unfolding each_phase granted_other_test ok
 granted_other_all = refl
 
-pub granted_other-ok : (p : ClientBlock) (v : View) → ok p v ≡ true → v ≡ Idle → same_perm p.recorded perm.Trunk ≡ false
+pub granted_other-ok : (p : ClientBlock) (v : View) → ok p v ≡ true → v ≡ Idle → same_perm p.recorded Perm.Trunk ≡ false
     → ok p GrantedOther ≡ true
 unfolding granted_other_test
 granted_other-ok p v h idle low =
-    where_is (not (same_perm p.recorded perm.Trunk)) (λ u. ok p GrantedOther)
-    (idle_is v (where_true (not (same_perm p.recorded perm.Trunk)) (λ u. ok p GrantedOther)) idle
+    where_is (not (same_perm p.recorded Perm.Trunk)) (λ u. ok p GrantedOther)
+    (idle_is v (where_true (not (same_perm p.recorded Perm.Trunk)) (λ u. ok p GrantedOther)) idle
     (of_phase granted_other_test granted_other_all p v h)) (rw low refl)
 
 -- the service ends, for one who isn't probed

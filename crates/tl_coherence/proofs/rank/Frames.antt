@@ -1,25 +1,20 @@
 -- What is owed for what an event leaves alone.
-use Rattle.tl_coherence.proofs.rank.Imports.{Beat, Channel, Config, IsInvariant, View, Own, Granting}
-use Rattle.tl_coherence.proofs.rank.Imports.{ProbePhase, ProbeAnswered}
-use Rattle.tl_coherence.proofs.rank.Imports.{Left, pair_weight, probes_weight, acquire_weight, letting_weight}
-use Rattle.tl_coherence.proofs.rank.Imports.{let_weight, State, Asked, InService, Replied, Acquires, view}
-use Rattle.tl_coherence.proofs.rank.Imports.{AccessMessages, Request, Acquire, ProbeAck, Release, Answer, Grant}
+use Rattle.tl_coherence.proofs.rank.Imports.{Beat, Channel, Config, IsInvariant, View, Own, Granting, ProbePhase}
+use Rattle.tl_coherence.proofs.rank.Imports.{ProbeAnswered, Left, pair_weight, probes_weight, acquire_weight}
+use Rattle.tl_coherence.proofs.rank.Imports.{letting_weight, let_weight, State, Asked, InService, Replied, Acquires}
+use Rattle.tl_coherence.proofs.rank.Imports.{view, AccessMessages, Request, Acquire, ProbeAck, Release, Answer, Grant}
 use Rattle.std.proofs.Common.{◌≡◌, ℕ, ◌+◌, ◌<◌, ◌≤◌, Bool, true, false, List, refl, sym, ◌∙◌, arith, ◌⊎◌, inl, inr}
 use Rattle.std.specs.Prelude.{Option, Some, None}
 use Rattle.std.proofs.lemmas.Bool.{cases_eq, and_from}
-use Rattle.tl_coherence.specs.protocol.Invariant.{is_asked, is_replied}
-use Rattle.tl_coherence.specs.refinement.Move.{Move}
-use Rattle.tl_coherence.specs.protocol.Phase.{ReleasePhase, ReleaseSent}
-use Rattle.tl_coherence.specs.bound.Rank.{probing_weight}
+use Rattle.tl_coherence.specs.{protocol.Invariant.is_asked, protocol.Invariant.is_replied, refinement.Move.Move}
+use Rattle.tl_coherence.specs.{protocol.Phase.ReleasePhase, protocol.Phase.ReleaseSent, bound.Rank.probing_weight}
+use Rattle.tl_coherence.specs.{protocol.Packet.Kind}
 use Rattle.tl_coherence.specs.protocol.Tokens.{is_wanting, is_unserved, shown}
 use Rattle.tl_manager.specs.laws.Pending.{one_if}
-use Rattle.tl_coherence.specs.protocol.Packet.{Kind}
-use Rattle.tl_coherence.proofs.queues.Channels.{IsShowing}
+use Rattle.tl_coherence.proofs.{queues.Channels.IsShowing, queues.Phases.and_left, queues.Tokens.same_number}
 use Rattle.tl_coherence.proofs.rank.RankDecreases.{owed_use, owed_use', owed_let, owed_let', clients, use-no-more}
 use Rattle.tl_coherence.proofs.rank.RankDecreases.{probes-no-more}
 use Rattle.tl_coherence.proofs.protocol.BeatsRemaining.{IsHere, IsPopped, beats_left, left-same}
-use Rattle.tl_coherence.proofs.queues.Phases.{and_left}
-use Rattle.tl_coherence.proofs.queues.Tokens.{same_number}
 
 -- ---- what is shown is there
 

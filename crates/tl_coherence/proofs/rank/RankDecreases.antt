@@ -1,11 +1,10 @@
 -- The potential falls where what is owed falls at one client and rises nowhere.
-use Rattle.tl_coherence.proofs.rank.Imports.{Config, sources_of, View, Own, Granting}
-use Rattle.tl_coherence.proofs.rank.Imports.{Left, pair_weight, probes_weight, acquire_weight, let_weight}
-use Rattle.tl_coherence.proofs.rank.Imports.{rank, State, SourceState, SourceFree, Asked, InService, Replied, Acquires}
-use Rattle.tl_coherence.proofs.rank.Imports.{view, terms_at, Request, Acquire, Answer, Grant}
+use Rattle.tl_coherence.proofs.rank.Imports.{Config, sources_of, View, Own, Granting, Left, pair_weight, probes_weight}
+use Rattle.tl_coherence.proofs.rank.Imports.{acquire_weight, let_weight, rank, State, SourceState, SourceFree, Asked}
+use Rattle.tl_coherence.proofs.rank.Imports.{InService, Replied, Acquires, view, terms_at, Request, Acquire, Answer}
+use Rattle.tl_coherence.proofs.rank.Imports.{Grant}
 use Rattle.std.proofs.Common.{◌≡◌, ℕ, zero, suc, ◌+◌, ◌<◌, ◌≤◌, true, refl, arith, ◌⊎◌, inl, inr}
-use Rattle.std.specs.Prelude.{length}
-use Rattle.std.proofs.lemmas.Bool.{cases_eq}
+use Rattle.std.{specs.Prelude.length, proofs.lemmas.Bool.cases_eq}
 use Rattle.tl_coherence.specs.bound.Rank.{total, use_weight, client_weight}
 use Rattle.tl_coherence.specs.protocol.Tokens.{is_unserved}
 use Rattle.tl_coherence.proofs.queues.Sums.{total-le}

@@ -1,27 +1,23 @@
 -- What is owed falls with each delivery: block by block.
 use Rattle.tl_coherence.proofs.rank.Imports.{Beat, Channel, Config, sources_of, IsInvariant, Own, Granting}
 use Rattle.tl_coherence.proofs.rank.Imports.{Acknowledging, GrantedOther, Left, pair_weight, probes_weight}
-use Rattle.tl_coherence.proofs.rank.Imports.{letting_weight, rank, State, SourceState, SourceFree, InService}
-use Rattle.tl_coherence.proofs.rank.Imports.{Acquires, view, AccessMessages, terms_at, Release}
+use Rattle.tl_coherence.proofs.rank.Imports.{letting_weight, rank, State, SourceState, SourceFree, InService, Acquires}
+use Rattle.tl_coherence.proofs.rank.Imports.{view, AccessMessages, terms_at, Release}
 use Rattle.std.proofs.Common.{◌≡◌, ℕ, ◌+◌, ◌<◌, ◌≤◌, Bool, true, false, List, refl, sym, ◌∙◌, ap, arith, ◌⊎◌, inl, inr}
 use Rattle.std.specs.Prelude.{◌==◌, if◌then◌else◌, Some, length}
 use Rattle.std.proofs.lemmas.Bool.{cases_eq, eqb-true}
 use Rattle.tl_params.specs.declared.param.Cap.{Cap}
-use Rattle.tl_coherence.specs.protocol.Invariant.{serves_of, serves_with}
-use Rattle.tl_coherence.specs.refinement.Move.{Move}
-use Rattle.tl_coherence.specs.protocol.Phase.{is_unprobed}
+use Rattle.tl_coherence.specs.{protocol.Invariant.serves_of, protocol.Invariant.serves_with, refinement.Move.Move}
+use Rattle.tl_coherence.specs.{protocol.Phase.is_unprobed}
 use Rattle.tl_coherence.specs.protocol.Protocol.{Service, Free, Waits, GrantSent, GrantTaken}
-use Rattle.tl_coherence.proofs.protocol.TokenNames.{source_of_acquire}
-use Rattle.tl_coherence.proofs.queues.Channels.{IsShowing}
+use Rattle.tl_coherence.proofs.{protocol.TokenNames.source_of_acquire, queues.Channels.IsShowing}
+use Rattle.tl_coherence.proofs.{protocol.BeatsRemaining.IsPopped, protocol.BeatsRemaining.beats_left}
+use Rattle.tl_coherence.proofs.{queues.Sums.total-le, queues.Tokens.same_number, queues.Facts.is_other}
 use Rattle.tl_coherence.proofs.rank.RankDecreases.{IsNoMore, owed_use, owed_use', owed_let, owed_let', clients}
 use Rattle.tl_coherence.proofs.rank.RankDecreases.{use-falls, let-falls, ack-falls, grant-falls, total-falls}
 use Rattle.tl_coherence.proofs.rank.Frames.{IsBlockNoMore, acquire-stays, use-stays, let-all, let-stays, pair-stays}
 use Rattle.tl_coherence.proofs.rank.Frames.{wants-used}
-use Rattle.tl_coherence.proofs.protocol.BeatsRemaining.{IsPopped, beats_left}
 use Rattle.tl_coherence.proofs.protocol.QuiescentProtocol.{owns_ask, serves_another}
-use Rattle.tl_coherence.proofs.queues.Sums.{total-le}
-use Rattle.tl_coherence.proofs.queues.Tokens.{same_number}
-use Rattle.tl_coherence.proofs.queues.Facts.{is_other}
 
 -- who has something open is a client, with a source of its own
 pub record AreClients {X : Type 0} (config : Config) (s : State X) : Type 0 where

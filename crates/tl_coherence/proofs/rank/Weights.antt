@@ -1,23 +1,20 @@
 -- What is owed for each open request is at most 33 beats and those of a block, for each Release one
 -- and those of a block.
-use Rattle.tl_coherence.proofs.rank.Imports.{Config, sources_of, IsInvariant, View, Own, Granting}
-use Rattle.tl_coherence.proofs.rank.Imports.{ProbePhase, NoProbe, ProbeSent, ProbeAnswered}
-use Rattle.tl_coherence.proofs.rank.Imports.{Left, pair_weight, probes_weight, acquire_weight, letting_weight}
-use Rattle.tl_coherence.proofs.rank.Imports.{let_weight, rank, State, SourceState, SourceFree, Asked, InService}
-use Rattle.tl_coherence.proofs.rank.Imports.{Replied, Acquires, view, terms_at, Request, Acquire, ProbeAck, Release}
-use Rattle.tl_coherence.proofs.rank.Imports.{Answer, Grant}
+use Rattle.tl_coherence.proofs.rank.Imports.{Config, sources_of, IsInvariant, View, Own, Granting, ProbePhase, NoProbe}
+use Rattle.tl_coherence.proofs.rank.Imports.{ProbeSent, ProbeAnswered, Left, pair_weight, probes_weight, acquire_weight}
+use Rattle.tl_coherence.proofs.rank.Imports.{letting_weight, let_weight, rank, State, SourceState, SourceFree, Asked}
+use Rattle.tl_coherence.proofs.rank.Imports.{InService, Replied, Acquires, view, terms_at, Request, Acquire, ProbeAck}
+use Rattle.tl_coherence.proofs.rank.Imports.{Release, Answer, Grant}
 use Rattle.std.proofs.Common.{◌≡◌, ℕ, zero, suc, ◌+◌, ◌*◌, ◌<◌, ◌≤◌, Bool, true, false, refl, arith, ◌⊎◌, inl, inr}
 use Rattle.std.specs.Prelude.{not, ◌==◌, ◌&&◌, if◌then◌else◌, Option, Some, None, length}
 use Rattle.std.proofs.lemmas.Bool.{cases_eq, ne_eqb}
 use Rattle.tl_params.specs.declared.perm.Perm.{Perm}
-use Rattle.tl_params.specs.declared.perm.Perm.TheVariants as perm
 use Rattle.tl_rules.specs.statement.Conformance.{same_perm}
-use Rattle.tl_coherence.specs.refinement.AbstractStep.{some_below}
+use Rattle.tl_coherence.specs.{refinement.AbstractStep.some_below, protocol.Packet.Kind}
 use Rattle.tl_coherence.specs.protocol.Phase.{ReleasePhase, NoRelease, ReleaseSent, ReleaseAcked, is_unprobed}
 use Rattle.tl_coherence.specs.bound.Rank.{total, probing_weight, use_weight, client_weight, is_used, is_let}
 use Rattle.tl_coherence.specs.bound.Rank.{open_requests, open_releases}
 use Rattle.tl_manager.specs.laws.Pending.{one_if}
-use Rattle.tl_coherence.specs.protocol.Packet.{Kind}
 use Rattle.tl_coherence.proofs.protocol.RequestsKept.{some-none, some-one}
 use Rattle.tl_coherence.proofs.queues.Sums.{total-le, total-const, probes-light, one-at-most}
 use Rattle.tl_coherence.proofs.queues.Tokens.{same_number}
@@ -28,7 +25,7 @@ pub record IsLeft {X : Type 0} (n : ℕ) (left : Left) (answer : ℕ → ℕ →
   pub few : (c : ℕ) (k : Kind) (m : ℕ) → left c k m ≤ n
   pub acquires : (c m : ℕ) → left c Acquire m ≤ 1
   pub reports : (c m : ℕ) → is_unprobed ((s.block m).pair c).probing ≡ false
-      → same_perm ((s.block m).pair c).recorded perm.Trunk ≡ false → left c ProbeAck m ≤ 1
+      → same_perm ((s.block m).pair c).recorded Perm.Trunk ≡ false → left c ProbeAck m ≤ 1
   pub accesses : (c source : ℕ) → s.uses c source ≡ Asked → left c Request source + answer c source ≤ n + 1
   pub answers : (c source : ℕ) → answer c source ≤ n
 
@@ -65,7 +62,7 @@ total-less (suc bound) m f lt le none =
 
 -- ---- the Probes and reports of a block
 
-light-pair : (n left : ℕ) (recorded : Perm) (x : ProbePhase) → same_perm recorded perm.Trunk ≡ false
+light-pair : (n left : ℕ) (recorded : Perm) (x : ProbePhase) → same_perm recorded Perm.Trunk ≡ false
     → (is_unprobed x ≡ false → left ≤ 1) → probing_weight n left recorded x ≤ 2
 light-pair n left recorded NoProbe e le = omega arith
 light-pair n left recorded (ProbeSent k) e le = rw e (omega arith)
@@ -79,7 +76,7 @@ quiet-pair n left recorded x e = absurd cc
 heavy-pair : (n left : ℕ) (recorded : Perm) (x : ProbePhase) → left ≤ n → 1 ≤ n
     → probing_weight n left recorded x ≤ n + 1
 heavy-pair n left recorded NoProbe le some = omega arith
-heavy-pair n left recorded (ProbeSent k) le some = go (same_perm recorded perm.Trunk)
+heavy-pair n left recorded (ProbeSent k) le some = go (same_perm recorded Perm.Trunk)
   where
     go : (b : Bool) → 1 + (if b then n else 1) ≤ n + 1
     go true = omega arith
@@ -92,7 +89,7 @@ module _ {X : Type 0} (caching : ℕ → Bool) (s : State X) (inv : IsInvariant 
   -- the writer is probed
   writes_probed : ℕ → ℕ → Bool
   writes_probed m d = not (is_unprobed ((s.block m).pair d).probing) && same_perm ((s.block m).pair d).recorded
-      perm.Trunk
+      Perm.Trunk
 
   both : (a b : Bool) → (not a && b) ≡ true → (a ≡ false) × (b ≡ true)
   both false true e = (refl, refl)
@@ -131,7 +128,7 @@ module _ {X : Type 0} (caching : ℕ → Bool) (s : State X) (inv : IsInvariant 
           let parts = both _ _ d.1 in
           alone d.0 parts.1 parts.0
         where
-          alone : (d : ℕ) → same_perm ((s.block m).pair d).recorded perm.Trunk ≡ true
+          alone : (d : ℕ) → same_perm ((s.block m).pair d).recorded Perm.Trunk ≡ true
               → is_unprobed ((s.block m).pair d).probing ≡ false
               → total clients (λ i. pair_weight n left m i ((s.block m).pair i)) ≤ bound
           alone d trunk probed =

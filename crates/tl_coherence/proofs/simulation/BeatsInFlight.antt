@@ -9,45 +9,26 @@ use Rattle.std.proofs.Common.{Some, None, refl, sym, ◌∙◌, ap, inl, inr, ar
 use Rattle.std.specs.Prelude.{◌==◌, if◌then◌else◌, All, slice_get, nat_le, length, option_map, Result, Ok, Err, ⊤}
 use Rattle.std.proofs.lemmas.Bool.{cases_eq, ne_eqb}
 use Rattle.std.proofs.lemmas.List.Elements.{All-nil, All-cons, All-append, All-rest}
-use Rattle.tl_beat.specs.declared.beat.Beat.TheVariants as beat
-use Rattle.tl_beat.specs.declared.channel.Channel.TheVariants as channel
-use Rattle.tl_beat.specs.declared.opcode.OpB.{OpB}
-use Rattle.tl_beat.specs.declared.opcode.OpD.{OpD}
-use Rattle.tl_beat.specs.declared.opcode.OpD.TheVariants as d
-use Rattle.tl_burst.specs.declared.message.Message.TheVariants as message
-use Rattle.tl_burst.specs.statement.Burst.{beat_of}
-use Rattle.tl_burst.specs.statement.Messages.{channel_of}
-use Rattle.tl_params.specs.declared.level.Level.{Level}
-use Rattle.tl_params.specs.declared.param.Prune.{Prune}
-use Rattle.tl_params.specs.declared.param.Prune.TheVariants as prune
-use Rattle.tl_params.specs.declared.perm.Perm.{Perm}
-use Rattle.tl_params.specs.declared.perm.Perm.TheVariants as perm
-use Rattle.tl_beat.specs.declared.beat.BeatD.{BeatD}
-use Rattle.tl_params.specs.declared.config.ClientConfig.{ClientConfig}
+use Rattle.tl_beat.{specs.declared.opcode.OpB.OpB, specs.declared.opcode.OpD.OpD, specs.declared.beat.BeatD.BeatD}
+use Rattle.tl_burst.{specs.statement.Burst.beat_of, specs.statement.Messages.channel_of}
+use Rattle.tl_params.{specs.declared.level.Level.Level, specs.declared.param.Prune.Prune, specs.declared.perm.Perm.Perm}
+use Rattle.tl_params.{specs.declared.config.ClientConfig.ClientConfig}
 use Rattle.tl_rules.specs.statement.Admission.{is_outside, is_spoiled, payload_of}
-use Rattle.tl_rules.specs.statement.History.{ends, request_of}
-use Rattle.tl_client.specs.declared.operation.Op.TheVariants as op
-use Rattle.tl_client.specs.declared.verdict.Finish.{Finish}
-use Rattle.tl_client.specs.declared.verdict.Verdict.TheVariants as verdict
+use Rattle.tl_rules.{specs.statement.History.ends, specs.statement.History.request_of}
+use Rattle.tl_rules.{specs.statement.Legality.beats_from, specs.statement.Legality.illegal, specs.laws.Typed.HasBlock}
+use Rattle.tl_rules.{proofs.Legal.legal_beat, proofs.Typed.typed-beat}
+use Rattle.tl_client.{specs.declared.verdict.Finish.Finish, proofs.endpoint.HeldAfter.same_block}
+use Rattle.tl_client.{specs.laws.Sound.IsSound, specs.laws.Sound.corrupt_in, specs.statement.Send.release}
+use Rattle.tl_client.{specs.statement.Send.probe_ack}
 use Rattle.tl_client.specs.statement.Ask.{asked, done, load, store, free_release, source_or_0}
 use Rattle.tl_client.specs.statement.Endpoint.{Endpoint, copy_at, held_at, with_past}
 use Rattle.tl_client.specs.statement.Offer.{taken, ended, responded, silent, report_for}
 use Rattle.tl_client.proofs.endpoint.Cases.{NotBusy, asked-cases, probe_ack-cases}
-use Rattle.tl_client.proofs.endpoint.HeldAfter.{same_block}
-use Rattle.tl_rules.specs.statement.Legality.{beats_from, illegal}
 use Rattle.tl_rules.specs.laws.Typed as rules
-use Rattle.tl_rules.specs.laws.Typed.{HasBlock}
-use Rattle.tl_rules.proofs.Legal.{legal_beat}
-use Rattle.tl_rules.proofs.Typed.{typed-beat}
-use Rattle.tl_client.specs.laws.Sound.{IsSound, corrupt_in}
-use Rattle.tl_client.specs.statement.Send.{release, probe_ack}
-use Rattle.tl_manager.specs.statement.Handing.{Handed}
+use Rattle.tl_manager.{specs.statement.Handing.Handed, specs.code.Kept.Each, specs.statement.Offer.level_of}
+use Rattle.tl_manager.{proofs.messages.Lawful.IsHandable, proofs.messages.Lawful.no_bit}
 use Rattle.tl_manager.specs.code.Kept as manager
-use Rattle.tl_manager.specs.code.Kept.{Each}
-use Rattle.tl_manager.specs.statement.Offer.{level_of}
-use Rattle.tl_manager.proofs.messages.Lawful.{IsHandable, no_bit}
-use Rattle.tl_coherence.specs.statement.System.{with_message}
-use Rattle.tl_coherence.specs.refinement.SimulationRelation.{AreLanes}
+use Rattle.tl_coherence.specs.{statement.System.with_message, refinement.SimulationRelation.AreLanes}
 use Rattle.tl_coherence.proofs.queues.Tokens.{same_number}
 
 -- ---- what holds of each beat of each channel
@@ -119,33 +100,33 @@ abbrev pub AreGood : {w : ℕ} → Config → ℕ → Message w → Type 0
 AreGood config c m = (i : ℕ) → i < beats_of m → IsGood config c (beat_of m i)
 
 lanes_are : {w : ℕ} (x : Beat w) → rules.IsTyped x → AreLanes x
-lanes_are (beat.B x) typed = typed.1
-lanes_are (beat.E x) typed = tt
+lanes_are (Beat.B x) typed = typed.1
+lanes_are (Beat.E x) typed = tt
 lanes_are x typed = typed
 
 typed_is : {w : ℕ} (x : Beat w) → rules.IsTyped x → manager.IsTyped x
-typed_is (beat.A x) typed = typed
+typed_is (Beat.A x) typed = typed
 typed_is x typed = tt
 
 same_channel_of : {w : ℕ} (m : Message w) (i : ℕ) → channel_of (beat_of m i) ≡ channel_of (beat_of m 0)
-same_channel_of (message.A m) i = refl
+same_channel_of (Message.A m) i = refl
 same_channel_of m i = refl
 
 same_outside : {w : ℕ} (blocks : ℕ) (m : Message w) (i : ℕ) → is_outside blocks (beat_of m i) ≡ is_outside blocks
     (beat_of m 0)
-same_outside blocks (message.A m) i = refl
+same_outside blocks (Message.A m) i = refl
 same_outside blocks m i = refl
 
 -- of a channel on which clients send
 abbrev pub IsOfClient : {w : ℕ} → Message w → Type 0
-IsOfClient (message.B m) = ⊥
-IsOfClient (message.D m) = ⊥
+IsOfClient (Message.B m) = ⊥
+IsOfClient (Message.D m) = ⊥
 IsOfClient _ = ⊤
 
 unspoiled : {w : ℕ} (m : Message w) (i : ℕ) → IsOfClient m → corrupt_in m ≡ 0 → is_spoiled (beat_of m i) ≡ false
-unspoiled (message.B m) i is clean = absurd is
-unspoiled (message.D m) i is clean = absurd is
-unspoiled (message.E m) i is clean = refl
+unspoiled (Message.B m) i is clean = absurd is
+unspoiled (Message.D m) i is clean = absurd is
+unspoiled (Message.E m) i is clean = refl
 unspoiled m i is clean = rw clean (no_bit i)
 
 pub good-message : {w : ℕ} (config : Config) (c : ℕ) (l : Level) (m : Message w) → IsWidth w
@@ -200,12 +181,12 @@ level-terms config c terms e = go (slice_get config.clients.items c) e
 
 copied_release : (w : ℕ) (p : Prune) (source n : ℕ) (copy : List ℕ) → length copy ≡ 64
     → HasBlock {w = w} (release p source n copy) × IsOfClient {w = w} (release p source n copy)
-copied_release w prune.BtoN source n copy long = (refl, tt)
+copied_release w Prune.BtoN source n copy long = (refl, tt)
 copied_release w p source n copy long = (long, tt)
 
 release_inside : (w blocks : ℕ) (p : Prune) (source n : ℕ) (copy : List ℕ) → nat_le blocks n ≡ false
     → is_outside blocks (beat_of {w = w} (release p source n copy) 0) ≡ false
-release_inside w blocks prune.TtoB source n copy e = rw (same_block n) e
+release_inside w blocks Prune.TtoB source n copy e = rw (same_block n) e
 release_inside w blocks p source n copy e = rw (same_block n) e
 
 -- what a message that a client hands out is besides sound
@@ -224,25 +205,25 @@ first_false true y e = absurd cc
 
 fit_load : {w : ℕ} (blocks address size : ℕ) (p : Perm) (e : Endpoint w)
     → IsFitIfAny blocks (load address size p e).message
-fit_load blocks address size perm.None e = tt
+fit_load blocks address size Perm.None e = tt
 fit_load blocks address size p e = tt
 
 fit_store : {w : ℕ} (blocks address size value : ℕ) (p : Perm) (e : Endpoint w)
     → IsFitIfAny blocks (store address size value p e).message
-fit_store blocks address size value perm.None e = tt
+fit_store blocks address size value Perm.None e = tt
 fit_store blocks address size value p e = tt
 
 fit_done : {w : ℕ} (terms : EndConfig) (op : Op w) (e : Endpoint w) → NotBusy terms op e → IsTypedOp op
     → ((n : ℕ) → length (copy_at e n) ≡ 64) → IsFitIfAny terms.blocks (done terms op e).message
-fit_done terms (op.Load address size) e free typed copies =
+fit_done terms (Op.Load address size) e free typed copies =
     fit_load terms.blocks address size (held_at e (block_at address)) e
-fit_done terms (op.Store address size value) e free typed copies =
+fit_done terms (Op.Store address size value) e free typed copies =
     fit_store terms.blocks address size value (held_at e (block_at address)) e
-fit_done terms (op.Acquire n g) e free typed copies =
+fit_done terms (Op.Acquire n g) e free typed copies =
     record { long = refl; ours = tt; inside = rw (same_block n) (first_false (nat_le terms.blocks n) _ free.b5) }
-fit_done terms (op.AcquireWhole n bytes) e free typed copies =
+fit_done terms (Op.AcquireWhole n bytes) e free typed copies =
     record { long = refl; ours = tt; inside = rw (same_block n) (first_false (nat_le terms.blocks n) _ free.b5) }
-fit_done {w} terms (op.Release n p) e free typed copies =
+fit_done {w} terms (Op.Release n p) e free typed copies =
     let s = source_or_0 (free_release terms e.past) in
     let one = copied_release w p s n (copy_at e n) (copies n) in
     record {
@@ -251,12 +232,12 @@ fit_done {w} terms (op.Release n p) e free typed copies =
       inside =
           release_inside w terms.blocks p s n (copy_at e n) (first_false (nat_le terms.blocks n) _ free.b5);
     }
-fit_done terms (op.Access (message.A m)) e free typed copies =
+fit_done terms (Op.Access (Message.A m)) e free typed copies =
     record { long = typed; ours = tt; inside = first_false (nat_le terms.blocks (block_at m.address)) _ free.b5 }
-fit_done terms (op.Access (message.B m)) e free typed copies = tt
-fit_done terms (op.Access (message.C m)) e free typed copies = tt
-fit_done terms (op.Access (message.D m)) e free typed copies = tt
-fit_done terms (op.Access (message.E m)) e free typed copies = tt
+fit_done terms (Op.Access (Message.B m)) e free typed copies = tt
+fit_done terms (Op.Access (Message.C m)) e free typed copies = tt
+fit_done terms (Op.Access (Message.D m)) e free typed copies = tt
+fit_done terms (Op.Access (Message.E m)) e free typed copies = tt
 
 pub fit-asked : {w : ℕ} (terms : EndConfig) (op : Op w) (e : Endpoint w) → IsTypedOp op
     → ((n : ℕ) → length (copy_at e n) ≡ 64) → IsFitIfAny terms.blocks (asked terms op e).message
@@ -278,24 +259,24 @@ IsFitAnswer blocks (Err rule) = ⊤
 
 ended_fit : {w : ℕ} (blocks : ℕ) (opcode : OpD) (x : BeatD w) (f : Finish) (e : Endpoint w)
     → IsFitAnswer blocks (ended opcode x f e).answer
-ended_fit blocks d.Grant x f e = record { long = tt; ours = tt; inside = refl }
-ended_fit blocks d.GrantData x f e = record { long = tt; ours = tt; inside = refl }
+ended_fit blocks OpD.Grant x f e = record { long = tt; ours = tt; inside = refl }
+ended_fit blocks OpD.GrantData x f e = record { long = tt; ours = tt; inside = refl }
 ended_fit blocks opcode x f e = tt
 
 pub fit-taken : {w : ℕ} (blocks : ℕ) (x : Beat w) (e : Endpoint w) → is_outside blocks x ≡ false
     → ((n : ℕ) → length (copy_at e n) ≡ 64) → IsFitAnswer blocks (taken x e).answer
-fit-taken blocks (beat.A x) e inside copies = tt
-fit-taken {w} blocks (beat.B x) e inside copies = ack_fit w blocks x.opcode (held_at e (block_at x.address))
+fit-taken blocks (Beat.A x) e inside copies = tt
+fit-taken {w} blocks (Beat.B x) e inside copies = ack_fit w blocks x.opcode (held_at e (block_at x.address))
     (report_for x (held_at e (block_at x.address)))
     (block_at x.address) (copy_at e (block_at x.address)) (copies (block_at x.address)) inside
-fit-taken blocks (beat.C x) e inside copies = tt
-fit-taken {w} blocks (beat.D x) e inside copies = go (ends (beat.D x) e.past)
+fit-taken blocks (Beat.C x) e inside copies = tt
+fit-taken {w} blocks (Beat.D x) e inside copies = go (ends (Beat.D x) e.past)
   where
     o : Offered w
-    o = responded x (request_of x.source e.past) (payload_of (beat.D x ∷ unfinished channel.D e.past)) e
+    o = responded x (request_of x.source e.past) (payload_of (Beat.D x ∷ unfinished Channel.D e.past)) e
 
     go : (y : Bool) → IsFitAnswer blocks
-        (if y then o else silent verdict.Taken (with_past (beat.D x ∷ e.past) e)).answer
+        (if y then o else silent Verdict.Taken (with_past (Beat.D x ∷ e.past) e)).answer
     go true = ended_fit blocks x.opcode x _ _
     go false = tt
-fit-taken blocks (beat.E x) e inside copies = tt
+fit-taken blocks (Beat.E x) e inside copies = tt

@@ -10,17 +10,14 @@ use Rattle.std.proofs.Common.{ap}
 use Rattle.std.specs.Prelude.{if◌then◌else◌}
 use Rattle.tl_burst.specs.statement.Part.{completes}
 use Rattle.tl_client.specs.statement.Ask as ask
-use Rattle.tl_coherence.specs.declared.event.Event.{Event}
-use Rattle.tl_coherence.specs.declared.event.Event.TheVariants.{Ask}
-use Rattle.tl_coherence.specs.declared.event.Outcome.{Outcome}
+use Rattle.tl_coherence.specs.{declared.event.Event.Event, declared.event.Event.TheVariants.Ask}
+use Rattle.tl_coherence.specs.{declared.event.Outcome.Outcome}
 use Rattle.tl_coherence.specs.refinement.AbstractStep.{abstract_delivery, abstract_step_by, abstract_step, is_last}
 use Rattle.tl_coherence.specs.refinement.AbstractStep.{packet_taken}
-use Rattle.tl_coherence.proofs.client.Askable.{askable}
+use Rattle.tl_coherence.proofs.{client.Askable.askable, client.ClientDelivered.shadow_of, client.ManagerStep.on_same}
+use Rattle.tl_coherence.proofs.{queues.FirstToken.IsFirst, queues.FirstToken.first-token}
+use Rattle.tl_coherence.proofs.{manager.UnwaitedRequests.next_tracker}
 use Rattle.tl_coherence.proofs.client.AnswersKept.{AreAnswered, answered-asked, answered-kind_taken}
-use Rattle.tl_coherence.proofs.client.ClientDelivered.{shadow_of}
-use Rattle.tl_coherence.proofs.client.ManagerStep.{on_same}
-use Rattle.tl_coherence.proofs.queues.FirstToken.{IsFirst, first-token}
-use Rattle.tl_coherence.proofs.manager.UnwaitedRequests.{next_tracker}
 use Rattle.tl_coherence.proofs.client.GrantMatchesAcquire.{AreGiven, given-asked, given-kind_taken}
 
 -- a delivery that completes a message: the beat is moved, and is the last of the message of the first token

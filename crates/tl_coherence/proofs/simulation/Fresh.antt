@@ -1,28 +1,20 @@
 -- As a world begins, it is matched by the protocol as that begins.
 use Rattle.tl_coherence.proofs.simulation.Imports.{Channel, unfinished, Config, pending, services, IsInvariant}
-use Rattle.tl_coherence.proofs.simulation.Imports.{receiver, on, shown, packets_on, Kind, Request}
-use Rattle.tl_coherence.proofs.simulation.Imports.{SimulationRelation, is_caching}
+use Rattle.tl_coherence.proofs.simulation.Imports.{receiver, on, shown, packets_on, Kind, Request, SimulationRelation}
+use Rattle.tl_coherence.proofs.simulation.Imports.{is_caching}
 use Rattle.std.proofs.Common.{◌≡◌, ℕ, zero, suc, ◌*◌, ◌+◌, true, List, [], ◌∷◌, replicate, Bool, refl, sym, ap, arith}
 use Rattle.std.proofs.lemmas.List.{get_or-replicate}
-use Rattle.tl_beat.specs.declared.channel.Channel.TheVariants as channel
-use Rattle.tl_rules.specs.statement.Conformance.{on_link}
-use Rattle.tl_rules.specs.statement.Effect.{bytes_from, IsBlock}
-use Rattle.tl_rules.specs.statement.History.{held}
-use Rattle.tl_client.specs.statement.Endpoint.{zeros}
-use Rattle.tl_client.proofs.pending.Accounted.{accounted-fresh}
-use Rattle.tl_client.proofs.pending.KeptOffered.{kept-fresh}
+use Rattle.tl_rules.{specs.statement.Conformance.on_link, specs.statement.Effect.bytes_from}
+use Rattle.tl_rules.{specs.statement.Effect.IsBlock, specs.statement.History.held}
+use Rattle.tl_client.{specs.statement.Endpoint.zeros, proofs.pending.Accounted.accounted-fresh}
+use Rattle.tl_client.{proofs.pending.KeptOffered.kept-fresh}
 use Rattle.tl_manager.proofs.calls.Keeping.{fresh-kept}
-use Rattle.tl_coherence.specs.refinement.Carried.{IsCarried}
-use Rattle.tl_coherence.specs.statement.Flow.{flow}
+use Rattle.tl_coherence.specs.{refinement.Carried.IsCarried, statement.Flow.flow, protocol.Invariant.IsWell}
+use Rattle.tl_coherence.specs.{protocol.Phase.ok, protocol.Tokens.is_transfer, statement.OneMemory.one_memory_after}
+use Rattle.tl_coherence.specs.{refinement.PacketMessages.messages_on, statement.System.fresh}
+use Rattle.tl_coherence.specs.{refinement.SimulationRelation.MonitorRelations}
 use Rattle.tl_coherence.specs.refinement.AbstractStep.{first_block, first_link, first_state, first_abstract_state}
-use Rattle.tl_coherence.specs.protocol.Invariant.{IsWell}
-use Rattle.tl_coherence.specs.protocol.Phase.{ok}
-use Rattle.tl_coherence.specs.protocol.Tokens.{is_transfer}
-use Rattle.tl_coherence.specs.statement.OneMemory.{one_memory_after}
-use Rattle.tl_coherence.specs.refinement.PacketMessages.{messages_on}
-use Rattle.tl_coherence.specs.statement.System.{fresh}
 use Rattle.tl_coherence.specs.protocol.Packet.{count, Holds, IsOrdered}
-use Rattle.tl_coherence.specs.refinement.SimulationRelation.{MonitorRelations}
 
 -- ---- the protocol
 
@@ -47,7 +39,7 @@ none-shown c k t n = refl
 
 none-there : (ch : Channel) (k : Kind) (n : ℕ) → count k n (packets_on ch first_link) ≡ 0
 unfolding count
-none-there channel.A k n = refl
+none-there Channel.A k n = refl
 none-there ch k n = refl
 
 pub first-invariant : (caching : ℕ → Bool) → IsInvariant caching first_state
@@ -77,12 +69,12 @@ zeros-block n i lt = sym (get_or-replicate {A = ℕ} 64 i 0 0 lt)
 none-carried : (w c : ℕ) (ch : Channel) → IsCarried {w = w} (unfinished ch (receiver ch c fresh))
     (messages_on ch (first_abstract_state {w = w}).mail first_state c) []
 unfolding unfinished on_link
-none-carried w c channel.A = (refl, refl)
+none-carried w c Channel.A = (refl, refl)
 none-carried w c ch = (refl, refl)
 
 none-left : (w c : ℕ) (ch : Channel) → unfinished {w = w} ch [] ≡ unfinished ch (receiver ch c fresh)
 unfolding unfinished on_link
-none-left w c channel.A = refl
+none-left w c Channel.A = refl
 none-left w c ch = refl
 
 -- a whole of ends and channels that are fresh is that of the protocol's first state

@@ -2,24 +2,18 @@
 use Rattle.tl_coherence.proofs.simulation.Imports.{IsWidth, Beat, Link, Channel, MessageA, unfinished, Config, Op}
 use Rattle.tl_coherence.proofs.simulation.Imports.{EndConfig, Offered, Deliver, is_moving, asked, IsInvariant, Log}
 use Rattle.tl_coherence.proofs.simulation.Imports.{receiver, State, packet, is_on, packets_on, AccessMessages}
-use Rattle.tl_coherence.proofs.simulation.Imports.{message_of, stepped, client_took, is_to_client, System}
-use Rattle.tl_coherence.proofs.simulation.Imports.{terms_at, Kind, Probe, Answer}
-use Rattle.tl_coherence.proofs.simulation.Imports.{Grant, ReleaseAck, Packet, SimulationRelation, is_caching}
+use Rattle.tl_coherence.proofs.simulation.Imports.{message_of, stepped, client_took, is_to_client, System, terms_at}
+use Rattle.tl_coherence.proofs.simulation.Imports.{Kind, Probe, Answer, Grant, ReleaseAck, Packet, SimulationRelation}
+use Rattle.tl_coherence.proofs.simulation.Imports.{is_caching}
 use Rattle.std.proofs.Common.{◌≡◌, ℕ, Bool, true, false, not, List, ◌∷◌, Option, Some, None, refl, sym, ◌∙◌, ap}
 use Rattle.std.specs.Prelude.{map}
-use Rattle.tl_beat.specs.declared.channel.Channel.TheVariants as channel
 use Rattle.tl_client.specs.statement.Ask as ask
-use Rattle.tl_coherence.specs.protocol.Phase.{NoRelease, is_unreleased}
-use Rattle.tl_coherence.specs.refinement.PacketMessages.{message_of_kind}
-use Rattle.tl_coherence.specs.statement.Step.{Step}
-use Rattle.tl_coherence.proofs.client.Askable.{askable}
-use Rattle.tl_coherence.proofs.queues.Carried.{IsNext}
-use Rattle.tl_coherence.proofs.client.ClientDelivered.{shadow_of}
-use Rattle.tl_coherence.proofs.protocol.FollowKept.{IsReady, asked-kept}
-use Rattle.tl_coherence.proofs.client.ProbeDelivered.{probe-delivered}
-use Rattle.tl_coherence.proofs.manager.UnwaitedRequests.{next_tracker}
-use Rattle.tl_coherence.proofs.queues.Steps.{stepped-to-client}
-use Rattle.tl_coherence.proofs.protocol.BothParts.{kept-letting}
+use Rattle.tl_coherence.specs.{protocol.Phase.NoRelease, protocol.Phase.is_unreleased}
+use Rattle.tl_coherence.specs.{refinement.PacketMessages.message_of_kind, statement.Step.Step}
+use Rattle.tl_coherence.proofs.{client.Askable.askable, queues.Carried.IsNext, client.ClientDelivered.shadow_of}
+use Rattle.tl_coherence.proofs.{protocol.FollowKept.IsReady, protocol.FollowKept.asked-kept}
+use Rattle.tl_coherence.proofs.{client.ProbeDelivered.probe-delivered, manager.UnwaitedRequests.next_tracker}
+use Rattle.tl_coherence.proofs.{queues.Steps.stepped-to-client, protocol.BothParts.kept-letting}
 
 pub invariant-asked : {w : ℕ} (config : Config) (log : Log w) (mail : AccessMessages w) (request : ℕ → MessageA w)
     (s : State (List ℕ)) (sys : System w) (terms : EndConfig)
@@ -40,10 +34,10 @@ nobody_moves config sys link ch none = cc none
 probe_ready : {w : ℕ} (config : Config) (log : Log w) (mail : AccessMessages w) (request : ℕ → MessageA w)
     (s : State (List ℕ)) (sys : System w) (link : Link) (n : ℕ)
     (rest : List Packet) (x : Beat w) (queue : List (Beat w)) → IsWidth w
-    → SimulationRelation config log mail request s sys → is_moving (stepped config (Deliver link channel.B) sys).outcome
+    → SimulationRelation config log mail request s sys → is_moving (stepped config (Deliver link Channel.B) sys).outcome
     ≡ true
-    → sys.channels link.0 channel.B ≡ x ∷ queue → (s.link link.0).b ≡ packet Probe n ∷ rest
-    → IsNext x (unfinished channel.B (sys.clients link.0).past) (message_of_kind Probe mail s link.0 n)
+    → sys.channels link.0 Channel.B ≡ x ∷ queue → (s.link link.0).b ≡ packet Probe n ∷ rest
+    → IsNext x (unfinished Channel.B (sys.clients link.0).past) (message_of_kind Probe mail s link.0 n)
     (map (message_of mail s link.0) rest) queue → ((s.block n).pair link.0).letting ≡ NoRelease
 probe_ready {w} config log mail request s sys link n rest x queue width h moves beats first next =
     at_terms (terms_at config link.0) refl
@@ -55,15 +49,15 @@ probe_ready {w} config log mail request s sys link n rest x queue width h moves 
     stands terms at false waits =
         let probed = probe-delivered config log mail request s sys terms (next_tracker sys) link.0 n rest
         (map (message_of mail s link.0) rest) x queue width h at beats first next in
-        let step : is_moving (stepped config (Deliver link channel.B) sys).outcome ≡ false =
-        ap (λ (i : Step w). is_moving i.outcome) (stepped-to-client config link channel.B sys terms x queue at beats
+        let step : is_moving (stepped config (Deliver link Channel.B) sys).outcome ≡ false =
+        ap (λ (i : Step w). is_moving i.outcome) (stepped-to-client config link Channel.B sys terms x queue at beats
         refl)
-        ∙ ap (λ (o : Offered w). is_moving (client_took link.0 channel.B x queue o sys).outcome)
+        ∙ ap (λ (o : Offered w). is_moving (client_took link.0 Channel.B x queue o sys).outcome)
         (probed.waits_for waits) in
         absurd (let no : true ≡ false = sym moves ∙ step in cc)
 
     at_terms : (o : Option EndConfig) → terms_at config link.0 ≡ o → ((s.block n).pair link.0).letting ≡ NoRelease
-    at_terms None at = absurd (let no : true ≡ false = sym moves ∙ nobody_moves config sys link channel.B at in cc)
+    at_terms None at = absurd (let no : true ≡ false = sym moves ∙ nobody_moves config sys link Channel.B at in cc)
     at_terms (Some terms) at = stands terms at (is_unreleased ((s.block n).pair link.0).letting) refl
 
 -- what a client takes, it may take
@@ -76,13 +70,13 @@ pub ready-client : {w : ℕ} (config : Config) (log : Log w) (mail : AccessMessa
     → IsNext x (unfinished ch (receiver ch link.0 sys)) (message_of_kind k mail s link.0 i)
     (map (message_of mail s link.0) rest) queue
     → IsReady (next_tracker sys) link.0 k i (shadow_of mail request s)
-ready-client config log mail request s sys link channel.B Probe i rest x queue width h up own moves beats first next =
+ready-client config log mail request s sys link Channel.B Probe i rest x queue width h up own moves beats first next =
     probe_ready config log mail request s sys link i rest x queue width h moves beats first next
-ready-client config log mail request s sys link channel.D Answer i rest x queue width h up own moves beats first next =
+ready-client config log mail request s sys link Channel.D Answer i rest x queue width h up own moves beats first next =
     tt
-ready-client config log mail request s sys link channel.D Grant i rest x queue width h up own moves beats first next =
+ready-client config log mail request s sys link Channel.D Grant i rest x queue width h up own moves beats first next =
     tt
-ready-client config log mail request s sys link channel.D ReleaseAck i rest x queue width h up own moves beats first
+ready-client config log mail request s sys link Channel.D ReleaseAck i rest x queue width h up own moves beats first
     next = tt
 ready-client config log mail request s sys link ch k i rest x queue width h up own moves beats first next =
     absurd cc

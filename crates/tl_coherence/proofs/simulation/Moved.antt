@@ -7,41 +7,34 @@ use Rattle.std.proofs.Common.{◌≡◌, ℕ, Bool, true, false, ◌+◌, ◌<�
 use Rattle.std.proofs.Common.{arith}
 use Rattle.std.specs.Prelude.{◌==◌, ◌&&◌, if◌then◌else◌, Option, Some, None, Result, Ok}
 use Rattle.std.proofs.lemmas.Bool.{cases_eq, ne_eqb}
-use Rattle.tl_beat.specs.declared.channel.Channel.TheVariants as channel
-use Rattle.tl_burst.specs.statement.Messages.{grown}
-use Rattle.tl_burst.specs.statement.Part.{completes}
-use Rattle.tl_burst.proofs.Splitting.{beats-positive}
+use Rattle.tl_burst.{specs.statement.Messages.grown, specs.statement.Part.completes, proofs.Splitting.beats-positive}
 use Rattle.tl_rules.specs.statement.Conformance.{on_link}
 use Rattle.tl_client.specs.laws.After as after
-use Rattle.tl_client.specs.declared.verdict.Verdict.TheVariants as verdict
 use Rattle.tl_client.specs.statement.Endpoint as client
 use Rattle.tl_client.specs.statement.EndpointInvariant as client_kept
 use Rattle.tl_client.specs.statement.Offer as offer
 use Rattle.tl_client.proofs.endpoint.Outstanding.{unfinished-offered}
-use Rattle.tl_manager.specs.laws.After.{is_of_clients, taken_after}
-use Rattle.tl_manager.specs.statement.Handing.{Handed}
+use Rattle.tl_manager.{specs.laws.After.is_of_clients, specs.laws.After.taken_after, specs.statement.Handing.Handed}
 use Rattle.tl_manager.specs.code.Kept as manager
 use Rattle.tl_manager.specs.statement.Reaction as manager_reaction
 use Rattle.tl_manager.specs.statement.End as manager_end
 use Rattle.tl_manager.specs.statement.Offer as manager_offer
 use Rattle.tl_manager.proofs.pending.Afterwards as manager_after
-use Rattle.tl_coherence.specs.declared.event.Outcome.TheVariants as outcome
-use Rattle.tl_coherence.specs.refinement.Carried.{IsCarried}
-use Rattle.tl_coherence.specs.refinement.PacketMessages.{messages_on}
+use Rattle.tl_coherence.specs.{declared.event.Outcome.Outcome, refinement.Carried.IsCarried}
+use Rattle.tl_coherence.specs.{refinement.PacketMessages.messages_on, statement.System.with_client}
+use Rattle.tl_coherence.specs.{statement.System.with_manager}
 use Rattle.tl_coherence.specs.statement.Step.{Step, handing, handed_by, outcome_of, judged, manager_took}
-use Rattle.tl_coherence.specs.statement.System.{with_client, with_manager}
-use Rattle.tl_coherence.proofs.queues.Carried.{IsNext, carried-next}
-use Rattle.tl_coherence.proofs.queues.Channels.{same_channel-is}
+use Rattle.tl_coherence.proofs.{queues.Carried.IsNext, queues.Carried.carried-next, queues.Channels.same_channel-is}
+use Rattle.tl_coherence.proofs.{queues.Steps.stepped-to-client, queues.Steps.stepped-to-manager}
+use Rattle.tl_coherence.proofs.{queues.Tokens.same_number}
 use Rattle.tl_coherence.proofs.queues.Landed.{IsLanded, HasHeard, HasTaken}
-use Rattle.tl_coherence.proofs.queues.Steps.{stepped-to-client, stepped-to-manager}
-use Rattle.tl_coherence.proofs.queues.Tokens.{same_number}
 
 -- ---- to a client
 
 -- a client takes the beat: not a refusal, nor a stall
 abbrev pub is_taken : {w : ℕ} → Result (Verdict × Option (Message w)) Rule → Bool
-is_taken (Ok (verdict.Taken, m)) = true
-is_taken (Ok (verdict.Done source finish, m)) = true
+is_taken (Ok (Verdict.Taken, m)) = true
+is_taken (Ok (Verdict.Done source finish, m)) = true
 is_taken _ = false
 
 pub offered-taken : {w : ℕ} (terms : client.EndConfig) (ch : Channel) (x : Beat w) (e : client.Endpoint w)
@@ -54,9 +47,9 @@ offered-taken {w} terms ch x e is = before (offer.broken_before terms ch x e) is
     later None h = refl
     later (Some rule) h = absurd cc
 
-    waiting : (b : Bool) → is_taken (if b then offer.silent verdict.Stalled e else offer.judged_later
+    waiting : (b : Bool) → is_taken (if b then offer.silent Verdict.Stalled e else offer.judged_later
         (offer.broken_later terms x e) x e).answer ≡ true
-        → (if b then offer.silent verdict.Stalled e else offer.judged_later (offer.broken_later terms x e) x e)
+        → (if b then offer.silent Verdict.Stalled e else offer.judged_later (offer.broken_later terms x e) x e)
         ≡ offer.taken x e
     waiting true h = absurd cc
     waiting false h = later (offer.broken_later terms x e) h
@@ -107,8 +100,8 @@ client_moves {w} terms c ch x queue sys moving = go (offer.offered terms ch x (s
     go : (a : Result (Verdict × Option (Message w)) Rule) → o.answer ≡ a
         → is_moving (judged a c ch x queue o.after sys).outcome ≡ true
         → IsTakenByClient terms c ch x queue sys (judged o.answer c ch x queue o.after sys)
-    go (Ok (verdict.Taken, m)) e h = made verdict.Taken m e refl refl refl
-    go (Ok (verdict.Done source finish, m)) e h = made (verdict.Done source finish) m e refl refl refl
+    go (Ok (Verdict.Taken, m)) e h = made Verdict.Taken m e refl refl refl
+    go (Ok (Verdict.Done source finish, m)) e h = made (Verdict.Done source finish) m e refl refl refl
     go a e h = absurd cc
 
 pub client-moves : {w : ℕ} (config : Config) (link : Link) (ch : Channel) (sys : System w) (terms : client.EndConfig)
@@ -162,7 +155,7 @@ pub record IsTakenByManager {w : ℕ} (config : Config) (link : Link) (ch : Chan
         manager_offer.taken link x
             (manager_reaction.reaction config link x sys.manager) sys.manager,
       )
-  pub step_is : step ≡ handing (outcome.Moved x) (manager_reaction.reaction config link x sys.manager).handed
+  pub step_is : step ≡ handing (Outcome.Moved x) (manager_reaction.reaction config link x sys.manager).handed
       (with_manager (manager_offer.taken link x (manager_reaction.reaction config link x sys.manager) sys.manager)
       (with_channel link.0 ch queue sys))
 
@@ -222,9 +215,9 @@ manager-heard {w} config link ch x queue sys step width typed kept is d = λ at.
         (on_link d (manager_offer.taken link x (manager_reaction.reaction config link x sys.manager) sys.manager).trace)
         ≡ unfinished at
         (if link.0 == d then x ∷ on_link d sys.manager.trace else on_link d sys.manager.trace)
-    go channel.A f = one channel.A refl
-    go channel.C f = one channel.C refl
-    go channel.E f = one channel.E refl
+    go Channel.A f = one Channel.A refl
+    go Channel.C f = one Channel.C refl
+    go Channel.E f = one Channel.E refl
     go at f = absurd cc
 
 -- ---- a beat that isn't the last of its message

@@ -8,22 +8,15 @@ use Rattle.tl_coherence.proofs.simulation.Imports.{SimulationRelation}
 use Rattle.std.proofs.Common.{◌≡◌, ℕ, ◌+◌, ◌<◌, Bool, true, false, List, [], ◌∷◌, refl, sym, ◌∙◌, ap, arith}
 use Rattle.std.specs.Prelude.{◌==◌, ◌&&◌, if◌then◌else◌, Option, Some, None, length}
 use Rattle.std.proofs.lemmas.Bool.{eqb-true}
-use Rattle.tl_beat.specs.declared.channel.Channel.TheVariants as channel
 use Rattle.tl_burst.proofs.Begun.{length-begun}
 use Rattle.tl_coherence.specs.refinement.Move.{Pushes, Pops, IsMoved, AreMoved, channel_for}
-use Rattle.tl_coherence.specs.refinement.PacketMessages.{message_of_kind}
-use Rattle.tl_coherence.specs.protocol.Packet.{is}
-use Rattle.tl_coherence.proofs.simulation.Bounded.{matched-bounded}
-use Rattle.tl_coherence.proofs.queues.Channels.{Fits, same_channel-is}
-use Rattle.tl_coherence.proofs.queues.FirstToken.{IsFirst}
+use Rattle.tl_coherence.specs.{refinement.PacketMessages.message_of_kind, protocol.Packet.is}
+use Rattle.tl_coherence.proofs.{simulation.Bounded.matched-bounded, queues.Channels.Fits}
+use Rattle.tl_coherence.proofs.{queues.Channels.same_channel-is, queues.FirstToken.IsFirst, rank.RankParts.AreClients}
+use Rattle.tl_coherence.proofs.{simulation.Owned.sources-own, queues.Rendered.same_kind_again}
+use Rattle.tl_coherence.proofs.{queues.QuiescentQueues.client_below, simulation.Strangers.no_use}
+use Rattle.tl_coherence.proofs.{simulation.Strangers.no_let, queues.Tokens.same_number, queues.Steps.same_channel-refl}
 use Rattle.tl_coherence.proofs.protocol.BeatsRemaining.{IsPopped, beats_left, is_pop, is_front, taken_of}
-use Rattle.tl_coherence.proofs.rank.RankParts.{AreClients}
-use Rattle.tl_coherence.proofs.simulation.Owned.{sources-own}
-use Rattle.tl_coherence.proofs.queues.Rendered.{same_kind_again}
-use Rattle.tl_coherence.proofs.queues.QuiescentQueues.{client_below}
-use Rattle.tl_coherence.proofs.simulation.Strangers.{no_use, no_let}
-use Rattle.tl_coherence.proofs.queues.Tokens.{same_number}
-use Rattle.tl_coherence.proofs.queues.Steps.{same_channel-refl}
 
 -- what the receiver of each channel has of the message that comes first there
 abbrev pub unfinished_at : {w : ℕ} → System w → ℕ → Channel → List (Beat w)
@@ -118,15 +111,15 @@ module _ {w : ℕ} (config : Config) (log : Log w) (mail : AccessMessages w) (re
 
 -- the kind is one of its channel alone
 pub kind_channel : (ch : Channel) (k : Kind) → is_on ch k ≡ true → channel_for k ≡ ch
-kind_channel channel.A Request e = refl
-kind_channel channel.A Acquire e = refl
-kind_channel channel.B Probe e = refl
-kind_channel channel.C ProbeAck e = refl
-kind_channel channel.C Release e = refl
-kind_channel channel.D Answer e = refl
-kind_channel channel.D Grant e = refl
-kind_channel channel.D ReleaseAck e = refl
-kind_channel channel.E GrantAck e = refl
+kind_channel Channel.A Request e = refl
+kind_channel Channel.A Acquire e = refl
+kind_channel Channel.B Probe e = refl
+kind_channel Channel.C ProbeAck e = refl
+kind_channel Channel.C Release e = refl
+kind_channel Channel.D Answer e = refl
+kind_channel Channel.D Grant e = refl
+kind_channel Channel.D ReleaseAck e = refl
+kind_channel Channel.E GrantAck e = refl
 kind_channel ch k e = absurd cc
 
 -- at least its last beat is left of the message that comes first

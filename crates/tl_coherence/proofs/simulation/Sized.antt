@@ -2,23 +2,17 @@
 -- source: after every event.
 use Rattle.tl_coherence.proofs.simulation.Imports.{Message, MessageA, Config, Cap, Report, block_at, Op, EndConfig}
 use Rattle.tl_coherence.proofs.simulation.Imports.{AbstractState, asked, kind_taken, IsInvariant, NoAcquire, Service}
-use Rattle.tl_coherence.proofs.simulation.Imports.{Waits, GrantSent, State, SourceState, SourceFree}
-use Rattle.tl_coherence.proofs.simulation.Imports.{Asked, InService, Replied, Acquires, terms_at, Kind, Request}
-use Rattle.tl_coherence.proofs.simulation.Imports.{Acquire, Probe, ProbeAck, Release, Answer, Grant, ReleaseAck}
-use Rattle.tl_coherence.proofs.simulation.Imports.{GrantAck, Packet, set_at}
+use Rattle.tl_coherence.proofs.simulation.Imports.{Waits, GrantSent, State, SourceState, SourceFree, Asked, InService}
+use Rattle.tl_coherence.proofs.simulation.Imports.{Replied, Acquires, terms_at, Kind, Request, Acquire, Probe, ProbeAck}
+use Rattle.tl_coherence.proofs.simulation.Imports.{Release, Answer, Grant, ReleaseAck, GrantAck, Packet, set_at}
 use Rattle.std.proofs.Common.{◌≡◌, ℕ, Bool, true, false, List, Option, Some, None, refl, sym, ◌∙◌, inl, inr}
-use Rattle.std.specs.Prelude.{if◌then◌else◌}
-use Rattle.std.proofs.lemmas.Bool.{cases_eq, ne_eqb}
-use Rattle.tl_burst.specs.declared.message.Message.TheVariants as message
+use Rattle.std.{specs.Prelude.if◌then◌else◌, proofs.lemmas.Bool.cases_eq, proofs.lemmas.Bool.ne_eqb}
 use Rattle.tl_params.specs.declared.profile.Profile.{Profile}
-use Rattle.tl_client.specs.declared.operation.Op.TheVariants as op
 use Rattle.tl_client.specs.declared.reply.Reply.{Reply}
-use Rattle.tl_client.specs.declared.reply.Reply.TheVariants as reply
 use Rattle.tl_coherence.specs.refinement.AbstractStep.{access_taken, request_taken, acquire_taken, granted_after}
 use Rattle.tl_coherence.specs.refinement.AbstractStep.{last_taken, taken_by_client}
 use Rattle.tl_coherence.specs.protocol.Phase.{AcquirePhase, AcquireOpen}
-use Rattle.tl_coherence.proofs.queues.Tokens.{same_number, set-each}
-use Rattle.tl_coherence.proofs.rank.RankParts.{serving-use}
+use Rattle.tl_coherence.proofs.{queues.Tokens.same_number, queues.Tokens.set-each, rank.RankParts.serving-use}
 
 -- ---- one place of two numbers
 
@@ -65,7 +59,7 @@ strange_request : {w : ℕ} (config : Config) (clients c source : ℕ) (m : Mess
     (h : AbstractState w) (terms : EndConfig)
     → terms_at config c ≡ Some terms → AreStrange config h.state.uses
     → AreStrange config (request_taken clients c source m tracker rest h).state.uses
-strange_request config clients c source (message.A m) tracker rest h terms known before =
+strange_request config clients c source (Message.A m) tracker rest h terms known before =
     strange_access config c source m tracker _ _ rest h terms known before
 strange_request config clients c source m tracker rest h terms known before = before
 
@@ -131,36 +125,36 @@ strangers-kind_taken caching config tracker c GrantAck i rest h terms inv known 
 pub strangers-asked : {w : ℕ} (config : Config) (c : ℕ) (o : Op w) (r : Reply) (h : AbstractState w) (terms : EndConfig)
     → terms_at config c ≡ Some terms
     → AreStrange config h.state.uses → AreStrange config (asked c o r h).state.uses
-strangers-asked config c (op.Load address size) r h terms known before = before
-strangers-asked config c (op.Store address size value) reply.Stored h terms known before = before
-strangers-asked config c (op.Store address size value) (reply.Value v) h terms known before = before
-strangers-asked config c (op.Store address size value) reply.Miss h terms known before = before
-strangers-asked config c (op.Store address size value) (reply.Started source) h terms known before = before
-strangers-asked config c (op.Store address size value) (reply.Busy why) h terms known before = before
-strangers-asked config c (op.Acquire n g) (reply.Started source) h terms known before =
+strangers-asked config c (Op.Load address size) r h terms known before = before
+strangers-asked config c (Op.Store address size value) Reply.Stored h terms known before = before
+strangers-asked config c (Op.Store address size value) (Reply.Value v) h terms known before = before
+strangers-asked config c (Op.Store address size value) Reply.Miss h terms known before = before
+strangers-asked config c (Op.Store address size value) (Reply.Started source) h terms known before = before
+strangers-asked config c (Op.Store address size value) (Reply.Busy why) h terms known before = before
+strangers-asked config c (Op.Acquire n g) (Reply.Started source) h terms known before =
     strange_set config c source (Acquires n) h.state.uses terms known before
-strangers-asked config c (op.Acquire n g) (reply.Value v) h terms known before = before
-strangers-asked config c (op.Acquire n g) reply.Stored h terms known before = before
-strangers-asked config c (op.Acquire n g) reply.Miss h terms known before = before
-strangers-asked config c (op.Acquire n g) (reply.Busy why) h terms known before = before
-strangers-asked config c (op.AcquireWhole n bytes) (reply.Started source) h terms known before =
+strangers-asked config c (Op.Acquire n g) (Reply.Value v) h terms known before = before
+strangers-asked config c (Op.Acquire n g) Reply.Stored h terms known before = before
+strangers-asked config c (Op.Acquire n g) Reply.Miss h terms known before = before
+strangers-asked config c (Op.Acquire n g) (Reply.Busy why) h terms known before = before
+strangers-asked config c (Op.AcquireWhole n bytes) (Reply.Started source) h terms known before =
     strange_set config c source (Acquires n) h.state.uses terms known before
-strangers-asked config c (op.AcquireWhole n bytes) (reply.Value v) h terms known before = before
-strangers-asked config c (op.AcquireWhole n bytes) reply.Stored h terms known before = before
-strangers-asked config c (op.AcquireWhole n bytes) reply.Miss h terms known before = before
-strangers-asked config c (op.AcquireWhole n bytes) (reply.Busy why) h terms known before = before
-strangers-asked config c (op.Release n p) (reply.Started source) h terms known before = before
-strangers-asked config c (op.Release n p) (reply.Value v) h terms known before = before
-strangers-asked config c (op.Release n p) reply.Stored h terms known before = before
-strangers-asked config c (op.Release n p) reply.Miss h terms known before = before
-strangers-asked config c (op.Release n p) (reply.Busy why) h terms known before = before
-strangers-asked config c (op.Access (message.A m)) (reply.Started source) h terms known before =
+strangers-asked config c (Op.AcquireWhole n bytes) (Reply.Value v) h terms known before = before
+strangers-asked config c (Op.AcquireWhole n bytes) Reply.Stored h terms known before = before
+strangers-asked config c (Op.AcquireWhole n bytes) Reply.Miss h terms known before = before
+strangers-asked config c (Op.AcquireWhole n bytes) (Reply.Busy why) h terms known before = before
+strangers-asked config c (Op.Release n p) (Reply.Started source) h terms known before = before
+strangers-asked config c (Op.Release n p) (Reply.Value v) h terms known before = before
+strangers-asked config c (Op.Release n p) Reply.Stored h terms known before = before
+strangers-asked config c (Op.Release n p) Reply.Miss h terms known before = before
+strangers-asked config c (Op.Release n p) (Reply.Busy why) h terms known before = before
+strangers-asked config c (Op.Access (Message.A m)) (Reply.Started source) h terms known before =
     strange_set config c source Asked h.state.uses terms known before
-strangers-asked config c (op.Access (message.A m)) (reply.Value v) h terms known before = before
-strangers-asked config c (op.Access (message.A m)) reply.Stored h terms known before = before
-strangers-asked config c (op.Access (message.A m)) reply.Miss h terms known before = before
-strangers-asked config c (op.Access (message.A m)) (reply.Busy why) h terms known before = before
-strangers-asked config c (op.Access (message.B m)) r h terms known before = before
-strangers-asked config c (op.Access (message.C m)) r h terms known before = before
-strangers-asked config c (op.Access (message.D m)) r h terms known before = before
-strangers-asked config c (op.Access (message.E m)) r h terms known before = before
+strangers-asked config c (Op.Access (Message.A m)) (Reply.Value v) h terms known before = before
+strangers-asked config c (Op.Access (Message.A m)) Reply.Stored h terms known before = before
+strangers-asked config c (Op.Access (Message.A m)) Reply.Miss h terms known before = before
+strangers-asked config c (Op.Access (Message.A m)) (Reply.Busy why) h terms known before = before
+strangers-asked config c (Op.Access (Message.B m)) r h terms known before = before
+strangers-asked config c (Op.Access (Message.C m)) r h terms known before = before
+strangers-asked config c (Op.Access (Message.D m)) r h terms known before = before
+strangers-asked config c (Op.Access (Message.E m)) r h terms known before = before

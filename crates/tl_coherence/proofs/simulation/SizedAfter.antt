@@ -1,23 +1,16 @@
 -- The bytes of each block are 64, and each access that is under way has its source, after every event.
 use Rattle.tl_coherence.proofs.simulation.Imports.{Message, MessageA, Config, Cap, Report, block_at, Op, AbstractState}
-use Rattle.tl_coherence.proofs.simulation.Imports.{asked, kind_taken, IsTypedOp, IsInvariant, NoAcquire, Service}
-use Rattle.tl_coherence.proofs.simulation.Imports.{Waits, GrantSent, Block, State}
-use Rattle.tl_coherence.proofs.simulation.Imports.{Kind, Request}
-use Rattle.tl_coherence.proofs.simulation.Imports.{Acquire, Probe, ProbeAck, Release, Answer, Grant, ReleaseAck}
-use Rattle.tl_coherence.proofs.simulation.Imports.{GrantAck, Packet, set}
-use Rattle.std.proofs.Common.{◌≡◌, ℕ, ◌*◌, Bool, true, false, ◌&&◌, List, Option, Some, refl, sym, ◌∙◌, ap}
-use Rattle.std.proofs.Common.{◌⊎◌, inl, inr}
+use Rattle.tl_coherence.proofs.simulation.Imports.{asked, kind_taken, IsTypedOp, IsInvariant, NoAcquire, Service, Waits}
+use Rattle.tl_coherence.proofs.simulation.Imports.{GrantSent, Block, State, Kind, Request, Acquire, Probe, ProbeAck}
+use Rattle.tl_coherence.proofs.simulation.Imports.{Release, Answer, Grant, ReleaseAck, GrantAck, Packet, set}
+use Rattle.std.proofs.Common.{◌≡◌, ℕ, ◌*◌, Bool, true, false, ◌&&◌, List, Option, Some, refl, sym, ◌∙◌, ap, ◌⊎◌, inl}
+use Rattle.std.proofs.Common.{inr}
 use Rattle.std.specs.Prelude.{◌==◌, if◌then◌else◌, length, ⊤}
 use Rattle.std.proofs.lemmas.Bool.{cases_eq}
-use Rattle.tl_burst.specs.declared.message.Message.TheVariants as message
-use Rattle.tl_params.specs.declared.param.Grow.{Grow}
-use Rattle.tl_params.specs.declared.profile.Profile.{Profile}
-use Rattle.tl_params.specs.declared.perm.Perm.TheVariants as perm
+use Rattle.tl_params.{specs.declared.param.Grow.Grow, specs.declared.profile.Profile.Profile}
+use Rattle.tl_params.{specs.declared.perm.Perm.Perm}
 use Rattle.tl_rules.specs.statement.Conformance.{same_perm}
-use Rattle.tl_client.specs.declared.operation.Op.TheVariants as op
-use Rattle.tl_client.specs.declared.reply.Reply.{Reply}
-use Rattle.tl_client.specs.declared.reply.Reply.TheVariants as reply
-use Rattle.tl_client.specs.statement.Ask.{copy_stored, is_word}
+use Rattle.tl_client.{specs.declared.reply.Reply.Reply, specs.statement.Ask.copy_stored, specs.statement.Ask.is_word}
 use Rattle.tl_client.proofs.caching_client.Stores.{word_room, length-stored}
 use Rattle.tl_manager.proofs.messages.Filled.{length-bytes}
 use Rattle.tl_coherence.specs.refinement.AbstractStep.{performs, access_taken, request_taken, acquire_taken}
@@ -132,7 +125,7 @@ sized_access {w} c source m tracker p o rest h before = go p o
 
 sized_request : {w : ℕ} (clients c source : ℕ) (m : Message w) (tracker : ℕ) (rest : List Packet) (h : AbstractState w)
     → AllSized h.state → AllSized (request_taken clients c source m tracker rest h).state
-sized_request clients c source (message.A m) tracker rest h before = sized_access c source m tracker _ _ rest h before
+sized_request clients c source (Message.A m) tracker rest h before = sized_access c source m tracker _ _ rest h before
 sized_request clients c source m tracker rest h before = before
 
 sized_acquire : {w : ℕ} (clients : ℕ) (p : Profile) (c n : ℕ) (x : AcquirePhase) (tracker : ℕ) (rest : List Packet)
@@ -211,8 +204,8 @@ sized-kind_taken config tracker c GrantAck i rest h before = λ j.
 
 -- what the client's answer says of a Store that is done: it is one of a word, of a block that the client may write
 abbrev pub IsSizedAsk : {w : ℕ} → ℕ → Op w → Reply → AbstractState w → Type 0
-IsSizedAsk c (op.Store address size value) reply.Stored h = (is_word address size ≡ true)
-    × (same_perm ((h.state.block (block_at address)).pair c).held perm.Trunk ≡ true)
+IsSizedAsk c (Op.Store address size value) Reply.Stored h = (is_word address size ≡ true)
+    × (same_perm ((h.state.block (block_at address)).pair c).held Perm.Trunk ≡ true)
 IsSizedAsk c o r h = ⊤
 
 sized_acquiring : (c source : ℕ) (whole : Bool) (g : Grow) (bytes : List ℕ) (b : Block (List ℕ))
@@ -234,8 +227,8 @@ sized_acquiring c source whole g bytes b long h = record { truth = h.truth; wait
 pub sized-asked : {w : ℕ} (caching : ℕ → Bool) (c : ℕ) (o : Op w) (r : Reply) (h : AbstractState w)
     → IsInvariant caching h.state → IsTypedOp o → IsSizedAsk c o r h
     → AllSized h.state → AllSized (asked c o r h).state
-sized-asked caching c (op.Load address size) r h inv typed ask before = before
-sized-asked caching c (op.Store address size value) reply.Stored h inv typed ask before = λ i.
+sized-asked caching c (Op.Load address size) r h inv typed ask before = before
+sized-asked caching c (Op.Store address size value) Reply.Stored h inv typed ask before = λ i.
     let n : ℕ = block_at address in
     let b : Block (List ℕ) = h.state.block n in
     let long : length (b.copy c) ≡ 64 = ap length ((inv.blocks n).copies c (trunk-some (b.pair c).held ask.1))
@@ -244,37 +237,37 @@ sized-asked caching c (op.Store address size value) reply.Stored h inv typed ask
     (sized_same b (stored_block c (copy_stored address size value (b.copy c)) b)
     (length-stored address size value (b.copy c) long (word_room address size ask.0)) (λ d. refl) (λ d e. e) (before n))
     before i
-sized-asked caching c (op.Store address size value) (reply.Value v) h inv typed ask before = before
-sized-asked caching c (op.Store address size value) reply.Miss h inv typed ask before = before
-sized-asked caching c (op.Store address size value) (reply.Started source) h inv typed ask before = before
-sized-asked caching c (op.Store address size value) (reply.Busy why) h inv typed ask before = before
-sized-asked caching c (op.Acquire n g) (reply.Started source) h inv typed ask before = λ i.
+sized-asked caching c (Op.Store address size value) (Reply.Value v) h inv typed ask before = before
+sized-asked caching c (Op.Store address size value) Reply.Miss h inv typed ask before = before
+sized-asked caching c (Op.Store address size value) (Reply.Started source) h inv typed ask before = before
+sized-asked caching c (Op.Store address size value) (Reply.Busy why) h inv typed ask before = before
+sized-asked caching c (Op.Acquire n g) (Reply.Started source) h inv typed ask before = λ i.
     sized_block n _ h.state.block (sized_acquiring c source false g ((h.state.block n).waiting c) (h.state.block n)
     (λ e. absurd cc) (before n)) before i
-sized-asked caching c (op.Acquire n g) (reply.Value v) h inv typed ask before = before
-sized-asked caching c (op.Acquire n g) reply.Stored h inv typed ask before = before
-sized-asked caching c (op.Acquire n g) reply.Miss h inv typed ask before = before
-sized-asked caching c (op.Acquire n g) (reply.Busy why) h inv typed ask before = before
-sized-asked caching c (op.AcquireWhole n bytes) (reply.Started source) h inv typed ask before = λ i.
+sized-asked caching c (Op.Acquire n g) (Reply.Value v) h inv typed ask before = before
+sized-asked caching c (Op.Acquire n g) Reply.Stored h inv typed ask before = before
+sized-asked caching c (Op.Acquire n g) Reply.Miss h inv typed ask before = before
+sized-asked caching c (Op.Acquire n g) (Reply.Busy why) h inv typed ask before = before
+sized-asked caching c (Op.AcquireWhole n bytes) (Reply.Started source) h inv typed ask before = λ i.
     sized_block n _ h.state.block (sized_acquiring c source true _ bytes (h.state.block n) (λ e. typed) (before n))
     before i
-sized-asked caching c (op.AcquireWhole n bytes) (reply.Value v) h inv typed ask before = before
-sized-asked caching c (op.AcquireWhole n bytes) reply.Stored h inv typed ask before = before
-sized-asked caching c (op.AcquireWhole n bytes) reply.Miss h inv typed ask before = before
-sized-asked caching c (op.AcquireWhole n bytes) (reply.Busy why) h inv typed ask before = before
-sized-asked caching c (op.Release n p) (reply.Started source) h inv typed ask before = λ i.
+sized-asked caching c (Op.AcquireWhole n bytes) (Reply.Value v) h inv typed ask before = before
+sized-asked caching c (Op.AcquireWhole n bytes) Reply.Stored h inv typed ask before = before
+sized-asked caching c (Op.AcquireWhole n bytes) Reply.Miss h inv typed ask before = before
+sized-asked caching c (Op.AcquireWhole n bytes) (Reply.Busy why) h inv typed ask before = before
+sized-asked caching c (Op.Release n p) (Reply.Started source) h inv typed ask before = λ i.
     sized_block n _ h.state.block (sized_pair c (after_release p ((h.state.block n).pair c)) (h.state.block n) _ refl
     refl refl refl (before n)) before i
-sized-asked caching c (op.Release n p) (reply.Value v) h inv typed ask before = before
-sized-asked caching c (op.Release n p) reply.Stored h inv typed ask before = before
-sized-asked caching c (op.Release n p) reply.Miss h inv typed ask before = before
-sized-asked caching c (op.Release n p) (reply.Busy why) h inv typed ask before = before
-sized-asked caching c (op.Access (message.A m)) (reply.Started source) h inv typed ask before = before
-sized-asked caching c (op.Access (message.A m)) (reply.Value v) h inv typed ask before = before
-sized-asked caching c (op.Access (message.A m)) reply.Stored h inv typed ask before = before
-sized-asked caching c (op.Access (message.A m)) reply.Miss h inv typed ask before = before
-sized-asked caching c (op.Access (message.A m)) (reply.Busy why) h inv typed ask before = before
-sized-asked caching c (op.Access (message.B m)) r h inv typed ask before = before
-sized-asked caching c (op.Access (message.C m)) r h inv typed ask before = before
-sized-asked caching c (op.Access (message.D m)) r h inv typed ask before = before
-sized-asked caching c (op.Access (message.E m)) r h inv typed ask before = before
+sized-asked caching c (Op.Release n p) (Reply.Value v) h inv typed ask before = before
+sized-asked caching c (Op.Release n p) Reply.Stored h inv typed ask before = before
+sized-asked caching c (Op.Release n p) Reply.Miss h inv typed ask before = before
+sized-asked caching c (Op.Release n p) (Reply.Busy why) h inv typed ask before = before
+sized-asked caching c (Op.Access (Message.A m)) (Reply.Started source) h inv typed ask before = before
+sized-asked caching c (Op.Access (Message.A m)) (Reply.Value v) h inv typed ask before = before
+sized-asked caching c (Op.Access (Message.A m)) Reply.Stored h inv typed ask before = before
+sized-asked caching c (Op.Access (Message.A m)) Reply.Miss h inv typed ask before = before
+sized-asked caching c (Op.Access (Message.A m)) (Reply.Busy why) h inv typed ask before = before
+sized-asked caching c (Op.Access (Message.B m)) r h inv typed ask before = before
+sized-asked caching c (Op.Access (Message.C m)) r h inv typed ask before = before
+sized-asked caching c (Op.Access (Message.D m)) r h inv typed ask before = before
+sized-asked caching c (Op.Access (Message.E m)) r h inv typed ask before = before

@@ -7,29 +7,23 @@ use Rattle.std.proofs.Common.{◌≡◌, ℕ, Bool, true, false, List, [], ◌�
 use Rattle.std.specs.Prelude.{if◌then◌else◌, All, length, Result, Ok, unwrap_or, is_some}
 use Rattle.std.proofs.lemmas.List.Elements.{All-head}
 use Rattle.tl_params.specs.declared.perm.Perm.{Perm}
-use Rattle.tl_params.specs.declared.perm.Perm.TheVariants as perm
 use Rattle.tl_rules.specs.statement.Conformance.{same_perm}
-use Rattle.tl_client.specs.declared.verdict.Verdict.TheVariants as verdict
 use Rattle.tl_client.specs.statement.Ask as ask
 use Rattle.tl_client.specs.statement.Endpoint as client
-use Rattle.tl_client.specs.statement.Endpoint.{zeros, copy_at}
-use Rattle.tl_client.specs.statement.EndpointInvariant.{holds}
+use Rattle.tl_client.{specs.statement.Endpoint.zeros, specs.statement.Endpoint.copy_at}
+use Rattle.tl_client.{specs.statement.EndpointInvariant.holds, specs.laws.Sound.IsSoundIfAny}
+use Rattle.tl_client.{specs.laws.Sound.IsSoundAnswer, proofs.endpoint.Cases.offered-cases}
+use Rattle.tl_client.{proofs.messages.Sound.asked-sound, proofs.messages.Sound.offered-sound}
 use Rattle.tl_client.specs.statement.Offer as offer
-use Rattle.tl_client.specs.laws.Sound.{IsSoundIfAny, IsSoundAnswer}
-use Rattle.tl_client.proofs.endpoint.Cases.{offered-cases}
-use Rattle.tl_client.proofs.messages.Sound.{asked-sound, offered-sound}
 use Rattle.tl_manager.specs.code.Kept as manager
-use Rattle.tl_manager.specs.code.Kept.{Each}
+use Rattle.tl_manager.{specs.code.Kept.Each, proofs.calls.Reactions.reaction_handable}
 use Rattle.tl_manager.specs.statement.Reaction as manager_reaction
 use Rattle.tl_manager.specs.statement.End as manager_end
 use Rattle.tl_manager.specs.statement.Offer as manager_offer
-use Rattle.tl_manager.proofs.calls.Reactions.{reaction_handable}
-use Rattle.tl_coherence.specs.declared.event.Event.{Event}
-use Rattle.tl_coherence.specs.declared.event.Event.TheVariants.{Ask}
-use Rattle.tl_coherence.specs.statement.Headline.{IsTyped}
+use Rattle.tl_coherence.specs.{declared.event.Event.Event, declared.event.Event.TheVariants.Ask}
+use Rattle.tl_coherence.specs.{statement.Headline.IsTyped, statement.System.with_client, statement.System.with_manager}
+use Rattle.tl_coherence.specs.{refinement.SimulationRelation.AreLanes}
 use Rattle.tl_coherence.specs.statement.Step.{client_of, delivered, handed_by, judged, manager_took}
-use Rattle.tl_coherence.specs.statement.System.{with_client, with_manager}
-use Rattle.tl_coherence.specs.refinement.SimulationRelation.{AreLanes}
 use Rattle.tl_coherence.proofs.simulation.BeatsInFlight.{IsGood, IsFitIfAny, IsFitAnswer, all-messages, all-popped}
 use Rattle.tl_coherence.proofs.simulation.BeatsInFlight.{good-message, good-handed, level-terms, fit-asked, fit-taken}
 
@@ -44,14 +38,14 @@ pub copy-long : {w : ℕ} (config : Config) (log : Log w) (mail : AccessMessages
     → SimulationRelation config log mail request s sys → (c n : ℕ) → length (copy_at (sys.clients c) n) ≡ 64
 copy-long {w} config log mail request s sys h c n = go ((s.block n).pair c).held refl
   where
-    there : same_perm ((s.block n).pair c).held perm.None ≡ false → length (copy_at (sys.clients c) n) ≡ 64
+    there : same_perm ((s.block n).pair c).held Perm.None ≡ false → length (copy_at (sys.clients c) n) ≡ 64
     there e = cc (h.copies c n e, (h.invariant.blocks n).copies c e, (h.sized n).truth)
 
     go : (p : Perm) → ((s.block n).pair c).held ≡ p → length (copy_at (sys.clients c) n) ≡ 64
-    go perm.None e = copy_of ((sys.clients c).copies n)
+    go Perm.None e = copy_of ((sys.clients c).copies n)
         ((h.kept c).copies_held n ∙ ap holds ((h.known c).held_is n ∙ e))
-    go perm.Branch e = there (ap (λ p. same_perm p perm.None) e)
-    go perm.Trunk e = there (ap (λ p. same_perm p perm.None) e)
+    go Perm.Branch e = there (ap (λ p. same_perm p Perm.None) e)
+    go Perm.Trunk e = there (ap (λ p. same_perm p Perm.None) e)
 
 -- ---- what is handed out
 
@@ -77,10 +71,10 @@ judged_good : {w : ℕ} (config : Config) (c : ℕ) (ch : Channel) (x : Beat w) 
     → terms_at config c ≡ Some terms → IsSoundAnswer terms.level a → IsFitAnswer config.blocks a
     → sys.channels c ch ≡ x ∷ queue → AllGood config sys
     → AllGood config (judged a c ch x queue e sys).after
-judged_good config c ch x queue (Ok (verdict.Taken, m)) e sys terms width known sound fit first before d at =
+judged_good config c ch x queue (Ok (Verdict.Taken, m)) e sys terms width known sound fit first before d at =
     one_good config c m (with_client c e (with_channel c ch queue sys)) terms width known sound fit
     (all-popped (IsGood config) c ch x queue sys first before) d at
-judged_good config c ch x queue (Ok (verdict.Done source finish, m)) e sys terms width known sound fit first before d
+judged_good config c ch x queue (Ok (Verdict.Done source finish, m)) e sys terms width known sound fit first before d
     at =
     one_good config c m (with_client c e (with_channel c ch queue sys)) terms width known sound fit
     (all-popped (IsGood config) c ch x queue sys first before) d at

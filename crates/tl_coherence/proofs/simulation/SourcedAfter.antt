@@ -1,29 +1,20 @@
 -- Accesses and their sources fit each other after each event.
 use Rattle.tl_coherence.proofs.simulation.Imports.{Message, MessageA, Config, Cap, Report, block_at, Op, AbstractState}
-use Rattle.tl_coherence.proofs.simulation.Imports.{asked, kind_taken, IsInvariant, NoAcquire, Service}
-use Rattle.tl_coherence.proofs.simulation.Imports.{Waits, GrantSent, State, SourceState, SourceFree}
-use Rattle.tl_coherence.proofs.simulation.Imports.{Asked, InService, Replied, Acquires, packet, on, Kind, Request}
-use Rattle.tl_coherence.proofs.simulation.Imports.{Acquire, Probe, ProbeAck, Release, Answer, Grant, ReleaseAck}
-use Rattle.tl_coherence.proofs.simulation.Imports.{GrantAck, Packet, set, set_at}
-use Rattle.std.proofs.Common.{◌≡◌, ℕ, Bool, true, false, List, ◌∷◌, Option, Some, refl, ◌∙◌, ap}
-use Rattle.std.proofs.Common.{inl, inr}
-use Rattle.std.specs.Prelude.{if◌then◌else◌, ⊤}
-use Rattle.std.proofs.lemmas.Bool.{cases_eq, ne_eqb}
-use Rattle.tl_burst.specs.declared.message.Message.TheVariants as message
+use Rattle.tl_coherence.proofs.simulation.Imports.{asked, kind_taken, IsInvariant, NoAcquire, Service, Waits, GrantSent}
+use Rattle.tl_coherence.proofs.simulation.Imports.{State, SourceState, SourceFree, Asked, InService, Replied, Acquires}
+use Rattle.tl_coherence.proofs.simulation.Imports.{packet, on, Kind, Request, Acquire, Probe, ProbeAck, Release, Answer}
+use Rattle.tl_coherence.proofs.simulation.Imports.{Grant, ReleaseAck, GrantAck, Packet, set, set_at}
+use Rattle.std.proofs.Common.{◌≡◌, ℕ, Bool, true, false, List, ◌∷◌, Option, Some, refl, ◌∙◌, ap, inl, inr}
+use Rattle.std.{specs.Prelude.if◌then◌else◌, specs.Prelude.⊤, proofs.lemmas.Bool.cases_eq, proofs.lemmas.Bool.ne_eqb}
 use Rattle.tl_params.specs.declared.profile.Profile.{Profile}
-use Rattle.tl_client.specs.declared.operation.Op.TheVariants as op
-use Rattle.tl_client.specs.declared.reply.Reply.{Reply}
-use Rattle.tl_client.specs.declared.reply.Reply.TheVariants as reply
-use Rattle.tl_client.specs.statement.Send.{access}
-use Rattle.tl_coherence.specs.refinement.AbstractStep.{access_taken, request_taken, acquire_taken}
-use Rattle.tl_coherence.specs.refinement.AbstractStep.{granted_after, last_taken, taken_by_client}
-use Rattle.tl_coherence.specs.protocol.Invariant.{is_asked}
-use Rattle.tl_coherence.specs.protocol.Phase.{AcquirePhase, AcquireOpen}
+use Rattle.tl_client.{specs.declared.reply.Reply.Reply, specs.statement.Send.access}
+use Rattle.tl_coherence.specs.refinement.AbstractStep.{access_taken, request_taken, acquire_taken, granted_after}
+use Rattle.tl_coherence.specs.refinement.AbstractStep.{last_taken, taken_by_client}
+use Rattle.tl_coherence.specs.{protocol.Invariant.is_asked, protocol.Phase.AcquirePhase, protocol.Phase.AcquireOpen}
 use Rattle.tl_coherence.specs.refinement.SimulationRelation.{IsRequest, IsSourced}
-use Rattle.tl_coherence.proofs.simulation.Sized.{each-set_at}
+use Rattle.tl_coherence.proofs.{simulation.Sized.each-set_at, protocol.BothParts.is_asked-is}
+use Rattle.tl_coherence.proofs.{rank.RankParts.serving-use}
 use Rattle.tl_coherence.proofs.queues.Tokens.{same_number, set-same, holds-first}
-use Rattle.tl_coherence.proofs.protocol.BothParts.{is_asked-is}
-use Rattle.tl_coherence.proofs.rank.RankParts.{serving-use}
 
 -- ---- accesses and their sources
 
@@ -64,7 +55,7 @@ sourced_request : {w : ℕ} (config : Config) (clients c source : ℕ) (m : Mess
     → h.state.uses c source ≡ Asked → AreSourced config h.mail.request h.state.uses
     → AreSourced config (request_taken clients c source m tracker rest h).mail.request
     (request_taken clients c source m tracker rest h).state.uses
-sourced_request config clients c source (message.A m) tracker rest h used before =
+sourced_request config clients c source (Message.A m) tracker rest h used before =
     sourced_access config c source m tracker _ _ rest h used before
 sourced_request config clients c source m tracker rest h used before = before
 
@@ -145,36 +136,36 @@ sourced-kind_taken caching config tracker c GrantAck i rest h inv first before =
 
 -- what the client's answer says of the access that starts
 abbrev pub IsSourcedAsk : {w : ℕ} → Config → ℕ → Op w → Reply → Type 0
-IsSourcedAsk config c (op.Access (message.A m)) (reply.Started source) = IsRequest config c source (access source m)
+IsSourcedAsk config c (Op.Access (Message.A m)) (Reply.Started source) = IsRequest config c source (access source m)
 IsSourcedAsk config c o r = ⊤
 
 pub sourced-asked : {w : ℕ} (config : Config) (c : ℕ) (o : Op w) (r : Reply) (h : AbstractState w)
     → IsSourcedAsk config c o r → AreSourced config h.mail.request h.state.uses
     → AreSourced config (asked c o r h).mail.request (asked c o r h).state.uses
-sourced-asked config c (op.Load address size) r h ask before = before
-sourced-asked config c (op.Store address size value) reply.Stored h ask before = before
-sourced-asked config c (op.Store address size value) (reply.Value v) h ask before = before
-sourced-asked config c (op.Store address size value) reply.Miss h ask before = before
-sourced-asked config c (op.Store address size value) (reply.Started source) h ask before = before
-sourced-asked config c (op.Store address size value) (reply.Busy why) h ask before = before
-sourced-asked config c (op.Acquire n g) (reply.Started source) h ask before =
+sourced-asked config c (Op.Load address size) r h ask before = before
+sourced-asked config c (Op.Store address size value) Reply.Stored h ask before = before
+sourced-asked config c (Op.Store address size value) (Reply.Value v) h ask before = before
+sourced-asked config c (Op.Store address size value) Reply.Miss h ask before = before
+sourced-asked config c (Op.Store address size value) (Reply.Started source) h ask before = before
+sourced-asked config c (Op.Store address size value) (Reply.Busy why) h ask before = before
+sourced-asked config c (Op.Acquire n g) (Reply.Started source) h ask before =
     sourced_set config h.mail.request c source (Acquires n) h.state.uses tt before
-sourced-asked config c (op.Acquire n g) (reply.Value v) h ask before = before
-sourced-asked config c (op.Acquire n g) reply.Stored h ask before = before
-sourced-asked config c (op.Acquire n g) reply.Miss h ask before = before
-sourced-asked config c (op.Acquire n g) (reply.Busy why) h ask before = before
-sourced-asked config c (op.AcquireWhole n bytes) (reply.Started source) h ask before =
+sourced-asked config c (Op.Acquire n g) (Reply.Value v) h ask before = before
+sourced-asked config c (Op.Acquire n g) Reply.Stored h ask before = before
+sourced-asked config c (Op.Acquire n g) Reply.Miss h ask before = before
+sourced-asked config c (Op.Acquire n g) (Reply.Busy why) h ask before = before
+sourced-asked config c (Op.AcquireWhole n bytes) (Reply.Started source) h ask before =
     sourced_set config h.mail.request c source (Acquires n) h.state.uses tt before
-sourced-asked config c (op.AcquireWhole n bytes) (reply.Value v) h ask before = before
-sourced-asked config c (op.AcquireWhole n bytes) reply.Stored h ask before = before
-sourced-asked config c (op.AcquireWhole n bytes) reply.Miss h ask before = before
-sourced-asked config c (op.AcquireWhole n bytes) (reply.Busy why) h ask before = before
-sourced-asked config c (op.Release n p) (reply.Started source) h ask before = before
-sourced-asked config c (op.Release n p) (reply.Value v) h ask before = before
-sourced-asked config c (op.Release n p) reply.Stored h ask before = before
-sourced-asked config c (op.Release n p) reply.Miss h ask before = before
-sourced-asked config c (op.Release n p) (reply.Busy why) h ask before = before
-sourced-asked {w} config c (op.Access (message.A m)) (reply.Started source) h ask before = λ d i. elim (cases_eq d c) [
+sourced-asked config c (Op.AcquireWhole n bytes) (Reply.Value v) h ask before = before
+sourced-asked config c (Op.AcquireWhole n bytes) Reply.Stored h ask before = before
+sourced-asked config c (Op.AcquireWhole n bytes) Reply.Miss h ask before = before
+sourced-asked config c (Op.AcquireWhole n bytes) (Reply.Busy why) h ask before = before
+sourced-asked config c (Op.Release n p) (Reply.Started source) h ask before = before
+sourced-asked config c (Op.Release n p) (Reply.Value v) h ask before = before
+sourced-asked config c (Op.Release n p) Reply.Stored h ask before = before
+sourced-asked config c (Op.Release n p) Reply.Miss h ask before = before
+sourced-asked config c (Op.Release n p) (Reply.Busy why) h ask before = before
+sourced-asked {w} config c (Op.Access (Message.A m)) (Reply.Started source) h ask before = λ d i. elim (cases_eq d c) [
   | inl same ↦ elim (cases_eq i source) [
     | inl also ↦ rw (same, also)
         (now _ _ (ap (λ (f : ℕ → Message w). f source) (set-same c (set source (access source m) (h.mail.request c))
@@ -189,11 +180,11 @@ sourced-asked {w} config c (op.Access (message.A m)) (reply.Started source) h as
   where
     now : (m2 : Message w) (u : SourceState) → m2 ≡ access source m → u ≡ Asked → IsSourced config c source m2 u
     now m2 u e f = rw (e, f) ask
-sourced-asked config c (op.Access (message.A m)) (reply.Value v) h ask before = before
-sourced-asked config c (op.Access (message.A m)) reply.Stored h ask before = before
-sourced-asked config c (op.Access (message.A m)) reply.Miss h ask before = before
-sourced-asked config c (op.Access (message.A m)) (reply.Busy why) h ask before = before
-sourced-asked config c (op.Access (message.B m)) r h ask before = before
-sourced-asked config c (op.Access (message.C m)) r h ask before = before
-sourced-asked config c (op.Access (message.D m)) r h ask before = before
-sourced-asked config c (op.Access (message.E m)) r h ask before = before
+sourced-asked config c (Op.Access (Message.A m)) (Reply.Value v) h ask before = before
+sourced-asked config c (Op.Access (Message.A m)) Reply.Stored h ask before = before
+sourced-asked config c (Op.Access (Message.A m)) Reply.Miss h ask before = before
+sourced-asked config c (Op.Access (Message.A m)) (Reply.Busy why) h ask before = before
+sourced-asked config c (Op.Access (Message.B m)) r h ask before = before
+sourced-asked config c (Op.Access (Message.C m)) r h ask before = before
+sourced-asked config c (Op.Access (Message.D m)) r h ask before = before
+sourced-asked config c (Op.Access (Message.E m)) r h ask before = before

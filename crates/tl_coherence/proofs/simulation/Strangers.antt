@@ -7,24 +7,18 @@ use Rattle.tl_coherence.proofs.simulation.Imports.{Grant, ReleaseAck, GrantAck, 
 use Rattle.std.proofs.Common.{◌≡◌, ℕ, ◌<◌, Bool, true, false, List, [], ◌∷◌, refl, sym, ◌∙◌, ap, arith}
 use Rattle.std.specs.Prelude.{◌==◌, ◌&&◌, if◌then◌else◌, Option, Some, None, option_map, slice_get}
 use Rattle.std.proofs.lemmas.Bool.{eqb-true}
-use Rattle.tl_burst.specs.declared.message.Message.TheVariants as message
-use Rattle.tl_params.specs.declared.config.ClientConfig.{ClientConfig}
-use Rattle.tl_params.specs.declared.level.Level.{Level}
+use Rattle.tl_params.{specs.declared.config.ClientConfig.ClientConfig, specs.declared.level.Level.Level}
 use Rattle.tl_manager.specs.code.Kept as kept
-use Rattle.tl_manager.specs.statement.Service.{service_of_block}
-use Rattle.tl_manager.specs.statement.Offer.{level_of}
-use Rattle.tl_manager.proofs.pending.Granted.{of_served}
-use Rattle.tl_coherence.specs.protocol.Invariant.{resting}
+use Rattle.tl_manager.{specs.statement.Service.service_of_block, specs.statement.Offer.level_of}
+use Rattle.tl_manager.{proofs.pending.Granted.of_served}
+use Rattle.tl_coherence.specs.{protocol.Invariant.resting, protocol.Protocol.view, protocol.Tokens.is_acknowledging}
+use Rattle.tl_coherence.specs.{protocol.Packet.count}
 use Rattle.tl_coherence.specs.refinement.ManagerRelation.{client_in, service_with}
 use Rattle.tl_coherence.specs.protocol.Phase.{Own, Other, Granting, Acknowledging, GrantedOther}
-use Rattle.tl_coherence.specs.protocol.Protocol.{view}
-use Rattle.tl_coherence.specs.protocol.Tokens.{is_acknowledging}
-use Rattle.tl_coherence.specs.protocol.Packet.{count}
-use Rattle.tl_coherence.proofs.protocol.Capacities.{acquire_named, grant_named, release_named}
-use Rattle.tl_coherence.proofs.protocol.TokenNames.{shown_there, kind_there}
-use Rattle.tl_coherence.proofs.protocol.Capacities.{release_ack_named, request_named, answer_named}
-use Rattle.tl_coherence.proofs.queues.Distinct.{IsThere, first-there}
-use Rattle.tl_coherence.proofs.simulation.Owned.{sources-own}
+use Rattle.tl_coherence.proofs.protocol.Capacities.{acquire_named, grant_named, release_named, release_ack_named}
+use Rattle.tl_coherence.proofs.protocol.Capacities.{request_named, answer_named}
+use Rattle.tl_coherence.proofs.{protocol.TokenNames.shown_there, protocol.TokenNames.kind_there}
+use Rattle.tl_coherence.proofs.{queues.Distinct.IsThere, queues.Distinct.first-there, simulation.Owned.sources-own}
 
 no_level : (config : Config) (c : ℕ) → terms_at config c ≡ None → level_of config c ≡ None
 no_level config c is = go (slice_get config.clients.items c) is
@@ -83,7 +77,7 @@ module _ {w : ℕ} (config : Config) (log : Log w) (mail : AccessMessages w) (re
       (acknowledged_to (s.block n).service c e) in
       let performable = of_served (kept.IsPerformable config) n (services (system_after config log).manager.trace) _
       served matched.manager_kept.requests in
-      lawless (level_of config c) (message.A (request n)) (no_level config c is) performable.lawful
+      lawless (level_of config c) (Message.A (request n)) (no_level config c is) performable.lawful
     where
       lawless : (o : Option Level) (m : Message w) → o ≡ None → kept.illegal_message_at o m ≡ None → ⊥
       lawless None m h f = absurd cc

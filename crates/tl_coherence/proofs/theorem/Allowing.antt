@@ -1,26 +1,16 @@
 -- What the one-memory machine allows at a delivery: how a Grant and a ReleaseAck end their operations.
 use Rattle.tl_coherence.proofs.theorem.Imports.{Beat, Link, Channel, Config, Grow, Perm, Finish, AbstractState, Log}
 use Rattle.tl_coherence.proofs.theorem.Imports.{system_after, Ends, Machine, pool_of, AcquirePhase, AcquireOpen, packet}
-use Rattle.tl_coherence.proofs.theorem.Imports.{one_memory_after, System, Kind}
-use Rattle.tl_coherence.proofs.theorem.Imports.{Answer, Grant, ReleaseAck, SimulationRelation}
-use Rattle.tl_coherence.proofs.theorem.Imports.{is_caching}
+use Rattle.tl_coherence.proofs.theorem.Imports.{one_memory_after, System, Kind, Answer, Grant, ReleaseAck}
+use Rattle.tl_coherence.proofs.theorem.Imports.{SimulationRelation, is_caching, Message}
 use Rattle.std.proofs.Common.{◌≡◌, ℕ, Bool, true, false, List, ◌∷◌, Option, Some, None, refl, sym, ◌∙◌, ap, subst}
-use Rattle.tl_beat.specs.declared.channel.Channel.TheVariants as channel
-use Rattle.tl_burst.specs.declared.message.Message.TheVariants as message
-use Rattle.tl_burst.specs.declared.message.MessageD.{MessageD}
-use Rattle.tl_burst.specs.statement.Burst.{d_beat_of}
-use Rattle.tl_params.specs.declared.param.Cap.{Cap}
-use Rattle.tl_params.specs.declared.param.Cap.TheVariants as cap
-use Rattle.tl_params.specs.declared.param.Grow.TheVariants as grow
-use Rattle.tl_params.specs.declared.perm.Perm.TheVariants as perm
-use Rattle.tl_params.specs.statement.Param.{cap_right}
+use Rattle.tl_burst.{specs.declared.message.MessageD.MessageD, specs.statement.Burst.d_beat_of}
+use Rattle.tl_params.{specs.declared.param.Cap.Cap, specs.statement.Param.cap_right}
 use Rattle.tl_rules.specs.statement.History.{capped}
-use Rattle.tl_client.specs.declared.verdict.Finish.TheVariants as finish
 use Rattle.tl_manager.proofs.blocks.Recording.{cap-gives}
-use Rattle.tl_coherence.specs.refinement.MemoryRelation.{IsLet, op_of}
+use Rattle.tl_coherence.specs.{refinement.MemoryRelation.IsLet, refinement.MemoryRelation.op_of}
+use Rattle.tl_coherence.specs.{protocol.Phase.grant_fits, protocol.Protocol.is_on}
 use Rattle.tl_coherence.specs.statement.Machine.{EndsOp, Open, Releases, cap_named}
-use Rattle.tl_coherence.specs.protocol.Phase.{grant_fits}
-use Rattle.tl_coherence.specs.protocol.Protocol.{is_on}
 use Rattle.tl_coherence.specs.refinement.PacketMessages.{message_of_kind, block_message}
 use Rattle.tl_coherence.proofs.protocol.HeadOfD.{ack_message, ack-due, grant-due, grant-rendered, grant_message}
 use Rattle.tl_coherence.proofs.links.Ending.{IsEnding}
@@ -28,33 +18,33 @@ use Rattle.tl_coherence.proofs.links.Granting.{granted-at, opened-acquire, relea
 
 -- what is granted to a store of the whole block is Trunk
 whole_trunk : (recorded held : Perm) (d : Bool) (k : Cap) (g : Grow)
-    → grant_fits recorded held d k (AcquireOpen true g) ≡ true → cap_right k ≡ perm.Trunk
-whole_trunk perm.Trunk held d cap.ToT g e = refl
-whole_trunk perm.Trunk held d cap.ToB g e = absurd cc
-whole_trunk perm.Trunk held d cap.ToN g e = absurd cc
-whole_trunk perm.Branch held d cap.ToT g e = refl
-whole_trunk perm.Branch held d cap.ToB grow.NtoB e = absurd cc
-whole_trunk perm.Branch held d cap.ToB grow.NtoT e = absurd cc
-whole_trunk perm.Branch held d cap.ToB grow.BtoT e = absurd cc
-whole_trunk perm.Branch held d cap.ToN g e = absurd cc
-whole_trunk perm.None held d cap.ToT g e = refl
-whole_trunk perm.None held d cap.ToB g e = absurd cc
-whole_trunk perm.None held d cap.ToN grow.NtoB e = absurd cc
-whole_trunk perm.None held d cap.ToN grow.NtoT e = absurd cc
-whole_trunk perm.None held d cap.ToN grow.BtoT e = absurd cc
+    → grant_fits recorded held d k (AcquireOpen true g) ≡ true → cap_right k ≡ Perm.Trunk
+whole_trunk Perm.Trunk held d Cap.ToT g e = refl
+whole_trunk Perm.Trunk held d Cap.ToB g e = absurd cc
+whole_trunk Perm.Trunk held d Cap.ToN g e = absurd cc
+whole_trunk Perm.Branch held d Cap.ToT g e = refl
+whole_trunk Perm.Branch held d Cap.ToB Grow.NtoB e = absurd cc
+whole_trunk Perm.Branch held d Cap.ToB Grow.NtoT e = absurd cc
+whole_trunk Perm.Branch held d Cap.ToB Grow.BtoT e = absurd cc
+whole_trunk Perm.Branch held d Cap.ToN g e = absurd cc
+whole_trunk Perm.None held d Cap.ToT g e = refl
+whole_trunk Perm.None held d Cap.ToB g e = absurd cc
+whole_trunk Perm.None held d Cap.ToN Grow.NtoB e = absurd cc
+whole_trunk Perm.None held d Cap.ToN Grow.NtoT e = absurd cc
+whole_trunk Perm.None held d Cap.ToN Grow.BtoT e = absurd cc
 
 ends_granted : {w : ℕ} (n : ℕ) (bytes : List ℕ) (x : Beat w) (k : Cap) (whole : Bool) (g : Grow) (y : AcquirePhase)
     → y ≡ AcquireOpen whole g → cap_named x ≡ cap_right k
-    → (whole ≡ true → cap_right k ≡ perm.Trunk)
-    → EndsOp (op_of {w = w} y n bytes) None x (finish.Granted (cap_right k))
-ends_granted n bytes x k true g y e named trunk = rw e (ap finish.Granted (trunk refl))
-ends_granted n bytes x k false g y e named trunk = rw e (ap finish.Granted (sym named))
+    → (whole ≡ true → cap_right k ≡ Perm.Trunk)
+    → EndsOp (op_of {w = w} y n bytes) None x (Finish.Granted (cap_right k))
+ends_granted n bytes x k true g y e named trunk = rw e (ap Finish.Granted (trunk refl))
+ends_granted n bytes x k false g y e named trunk = rw e (ap Finish.Granted (sym named))
 
 let_open : {w : ℕ} (n : ℕ) (o : Option ℕ) (opened : Option (Open w)) (x : Beat w) → o ≡ Some n → IsLet o opened
-    → Ends opened x finish.Released
+    → Ends opened x Finish.Released
 let_open {w} n o opened x e is = go (rw e at is)
   where
-    go : IsLet (Some n) opened → Ends opened x finish.Released
+    go : IsLet (Some n) opened → Ends opened x Finish.Released
     go found = rw found.1 refl
 
 -- a Grant, and a ReleaseAck, end their operations as the machine allows
@@ -81,10 +71,10 @@ ends-transfer {w} config log link ch h x source f is end other = go end.first.ki
     tokens : (k : Kind) → end.first.kind ≡ k → (h.state.link c).d ≡ packet k n ∷ end.first.rest
     tokens k e = end.first.tokens ∙ ap (λ (i : Kind). packet i n ∷ end.first.rest) e
 
-    response_is : (k : Kind) → end.first.kind ≡ k → message_of_kind k h.mail h.state c n ≡ message.D end.response
+    response_is : (k : Kind) → end.first.kind ≡ k → message_of_kind k h.mail h.state c n ≡ Message.D end.response
     response_is k e = ap (λ (i : Kind). message_of_kind i h.mail h.state c n) (sym e) ∙ end.response_is
 
-    go : (k : Kind) → end.first.kind ≡ k → is_on channel.D end.first.kind ≡ true
+    go : (k : Kind) → end.first.kind ≡ k → is_on Channel.D end.first.kind ≡ true
         → Ends (m.opened c (pool_of f) source) x f
     go Grant e own =
         let due = grant-due (is_caching config) c n end.first.rest h.state is.invariant (tokens Grant e) in
@@ -92,7 +82,7 @@ ends-transfer {w} config log link ch h x source f is end other = go end.first.ki
         (h.state.block n).truth in
         let same : end.response ≡ sent =
         same-response end.response sent (sym (response_is Grant e) ∙ grant-rendered c n h.state due) in
-        let fin : f ≡ finish.Granted (cap_right due.k) = end.finish_is
+        let fin : f ≡ Finish.Granted (cap_right due.k) = end.finish_is
         ∙ granted-at (d_beat_of end.response end.first.next.k) (sys.clients c) due.data_too due.k
         (ap (λ (i : MessageD w). i.opcode) same)
         (ap (λ (i : MessageD w). i.param) same) in
@@ -105,7 +95,7 @@ ends-transfer {w} config log link ch h x source f is end other = go end.first.ki
         let fits : grant_fits ((h.state.block n).pair c).recorded ((h.state.block n).pair c).held due.data_too due.k
         (AcquireOpen due.whole due.g) ≡ true = due.fits in
         subst (λ (i : Finish). Ends (m.opened c (pool_of i) source) x i) (sym fin)
-        (subst (λ (o : Option (Open w)). Ends o x (finish.Granted (cap_right due.k))) (sym opened)
+        (subst (λ (o : Option (Open w)). Ends o x (Finish.Granted (cap_right due.k))) (sym opened)
         (ends_granted n ((h.state.block n).waiting c) x due.k due.whole due.g ((h.state.block n).pair c).acquiring
         due.wants named
         (λ whole. whole_trunk ((h.state.block n).pair c).recorded ((h.state.block n).pair c).held due.data_too due.k
@@ -116,7 +106,7 @@ ends-transfer {w} config log link ch h x source f is end other = go end.first.ki
     go ReleaseAck e own =
         let sent : MessageD w = ack_message ((h.state.block n).release_source c) in
         let same : end.response ≡ sent = same-response end.response sent (sym (response_is ReleaseAck e)) in
-        let fin : f ≡ finish.Released = end.finish_is ∙ released-at (d_beat_of end.response end.first.next.k)
+        let fin : f ≡ Finish.Released = end.finish_is ∙ released-at (d_beat_of end.response end.first.next.k)
         (sys.clients c) (ap (λ (i : MessageD w). i.opcode) same) in
         let from : source ≡ (h.state.block n).release_source c = end.source_is ∙ ap (λ (i : MessageD w). i.source) same
         in

@@ -4,41 +4,31 @@ use Rattle.tl_coherence.proofs.theorem.Imports.{Log, system_after, Machine, one_
 use Rattle.tl_coherence.proofs.theorem.Imports.{SimulationRelation}
 use Rattle.std.proofs.Common.{◌≡◌, ℕ, Bool, true, false, List, [], ◌∷◌, Option, Some, None, refl, sym, ◌∙◌, ap, subst}
 use Rattle.std.proofs.Common.{◌⊎◌, inl, inr}
-use Rattle.std.specs.Prelude.{All, Ok}
-use Rattle.std.proofs.lemmas.List.Elements.{All-head}
-use Rattle.tl_beat.specs.declared.beat.Beat.TheVariants as beat
+use Rattle.std.{specs.Prelude.All, specs.Prelude.Ok, proofs.lemmas.List.Elements.All-head}
 use Rattle.tl_beat.specs.declared.beat.BeatE.{BeatE}
-use Rattle.tl_beat.specs.declared.channel.Channel.TheVariants as channel
-use Rattle.tl_burst.specs.declared.message.Message.TheVariants as message
 use Rattle.tl_burst.specs.statement.Messages.{channel_of}
-use Rattle.tl_client.specs.declared.verdict.Verdict.{Verdict}
-use Rattle.tl_client.specs.statement.Endpoint.{EndConfig}
+use Rattle.tl_client.{specs.declared.verdict.Verdict.Verdict, specs.statement.Endpoint.EndConfig}
 use Rattle.tl_manager.specs.code.Kept as manager
-use Rattle.tl_manager.specs.statement.Reaction.{reaction}
-use Rattle.tl_manager.proofs.calls.Events.{reaction-ack}
-use Rattle.tl_coherence.specs.refinement.MemoryRelation.{IsAccess}
-use Rattle.tl_coherence.specs.statement.Draining.{is_moving}
+use Rattle.tl_manager.{specs.statement.Reaction.reaction, proofs.calls.Events.reaction-ack}
+use Rattle.tl_coherence.specs.{refinement.MemoryRelation.IsAccess, statement.Draining.is_moving}
+use Rattle.tl_coherence.specs.{statement.OneMemory.performing, statement.OneMemory.accesses_answered}
+use Rattle.tl_coherence.specs.{statement.System.terms_at}
 use Rattle.tl_coherence.specs.statement.Machine.{Performs, Requests, moved}
-use Rattle.tl_coherence.specs.statement.OneMemory.{performing, accesses_answered}
 use Rattle.tl_coherence.specs.statement.Step.{Step, stepped, handed_by, is_to_client}
-use Rattle.tl_coherence.specs.statement.System.{terms_at}
-use Rattle.tl_coherence.proofs.memory.BesideRequests.{IsOnce, once-performs}
-use Rattle.tl_coherence.proofs.links.HeadsOfLinks.{first-of}
+use Rattle.tl_coherence.proofs.{memory.BesideRequests.IsOnce, memory.BesideRequests.once-performs}
+use Rattle.tl_coherence.proofs.{links.HeadsOfLinks.first-of, deliveries.DeliverDUnmoved.unmoved}
+use Rattle.tl_coherence.proofs.{deliveries.Matching.not_moving, deliveries.Matching.stepped-nobody}
+use Rattle.tl_coherence.proofs.{simulation.Moved.client-moves, simulation.Moved.manager-moves}
+use Rattle.tl_coherence.proofs.{deliveries.ReportsAfter.once-followed_c, deliveries.RequestsDelivered.once-delivered_a}
+use Rattle.tl_coherence.proofs.{simulation.SoundAfter.copy-long, queues.Steps.stepped-empty}
 use Rattle.tl_coherence.proofs.simulation.BeatsInFlight.{IsOfClient, IsFitAnswer, fit-taken}
-use Rattle.tl_coherence.proofs.deliveries.DeliverDUnmoved.{unmoved}
-use Rattle.tl_coherence.proofs.deliveries.Matching.{not_moving, stepped-nobody}
-use Rattle.tl_coherence.proofs.simulation.Moved.{client-moves, manager-moves}
-use Rattle.tl_coherence.proofs.deliveries.ReportsAfter.{once-followed_c}
-use Rattle.tl_coherence.proofs.deliveries.RequestsDelivered.{once-delivered_a}
-use Rattle.tl_coherence.proofs.simulation.SoundAfter.{copy-long}
-use Rattle.tl_coherence.proofs.queues.Steps.{stepped-empty}
 
 -- ---- what a client hands out answers no access
 
 ours-quiet : {w : ℕ} (c : ℕ) (m : Message w) → IsOfClient m → accesses_answered (handed_by c (Some m)) ≡ []
 unfolding accesses_answered
-ours-quiet c (message.B m) is = absurd is
-ours-quiet c (message.D m) is = absurd is
+ours-quiet c (Message.B m) is = absurd is
+ours-quiet c (Message.D m) is = absurd is
 ours-quiet c m is = refl
 
 none-quiet : (w c : ℕ) → accesses_answered (handed_by {w = w} c None) ≡ []
@@ -75,7 +65,7 @@ still-none : {w : ℕ} (config : Config) (link : Link) (ch : Channel) (sys : Sys
 unfolding accesses_answered
 still-none config link ch sys still = rw ((unmoved config link ch sys still).handed) refl
 
-ack-none : {w : ℕ} (config : Config) (link : Link) (x : Beat w) (sys : System w) → (y : BeatE) → x ≡ beat.E y
+ack-none : {w : ℕ} (config : Config) (link : Link) (x : Beat w) (sys : System w) → (y : BeatE) → x ≡ Beat.E y
     → accesses_answered (reaction config link x sys.manager).handed ≡ []
 unfolding accesses_answered
 ack-none config link x sys y e = rw (e, reaction-ack config link y sys.manager) refl
@@ -147,21 +137,21 @@ answering-delivered {w} config log link ch h width is = go (is_moving (stepped c
         → is_moving (stepped config (Deliver link at) sys).outcome ≡ true → Then at
     moves at terms [] known none moving =
         absurd (not_moving _ _ (stepped-empty config link at sys terms known none) moving refl)
-    moves channel.A terms (x ∷ queue) known beats moving =
-        let t = manager-moves config link channel.A sys terms x queue known beats refl moving in
-        up channel.A terms x queue refl known beats moving
+    moves Channel.A terms (x ∷ queue) known beats moving =
+        let t = manager-moves config link Channel.A sys terms x queue known beats refl moving in
+        up Channel.A terms x queue refl known beats moving
         (subst (λ (s : Step w). IsOnce (accesses_answered s.handed) h m) t.step_is
         (once-delivered_a config log h sys c terms m width is known is.beside))
-    moves channel.B terms (x ∷ queue) known beats moving = down channel.B terms x queue refl known beats moving
-    moves channel.C terms (x ∷ queue) known beats moving = up channel.C terms x queue refl known beats moving
+    moves Channel.B terms (x ∷ queue) known beats moving = down Channel.B terms x queue refl known beats moving
+    moves Channel.C terms (x ∷ queue) known beats moving = up Channel.C terms x queue refl known beats moving
         (once-followed_c config log h sys c x queue m width is beats is.beside)
-    moves channel.D terms (x ∷ queue) known beats moving = down channel.D terms x queue refl known beats moving
-    moves channel.E terms (x ∷ queue) known beats moving = up channel.E terms x queue refl known beats moving
-        (inl (acked x (first-of config log h c terms channel.E x queue width is known beats).on))
+    moves Channel.D terms (x ∷ queue) known beats moving = down Channel.D terms x queue refl known beats moving
+    moves Channel.E terms (x ∷ queue) known beats moving = up Channel.E terms x queue refl known beats moving
+        (inl (acked x (first-of config log h c terms Channel.E x queue width is known beats).on))
       where
-        acked : (y : Beat w) → channel_of y ≡ channel.E → accesses_answered (reaction config link y sys.manager).handed
+        acked : (y : Beat w) → channel_of y ≡ Channel.E → accesses_answered (reaction config link y sys.manager).handed
             ≡ []
-        acked (beat.E y) e = ack-none config link (beat.E y) sys y refl
+        acked (Beat.E y) e = ack-none config link (Beat.E y) sys y refl
         acked y e = absurd cc
 
     found : (o : Option EndConfig) → terms_at config c ≡ o

@@ -3,39 +3,27 @@ use Rattle.tl_coherence.proofs.theorem.Imports.{Link, Channel, Config, Grow, Per
 use Rattle.tl_coherence.proofs.theorem.Imports.{system_after, AcquirePhase, AcquireOpen, SourceState, is_caching}
 use Rattle.std.proofs.Common.{◌≡◌, subst, ℕ, zero, suc, Bool, true, false, List, ◌∷◌, Option, Some, None, refl, sym}
 use Rattle.std.proofs.Common.{◌∙◌, ap}
-use Rattle.tl_params.specs.declared.perm.Perm.TheVariants as perm
 use Rattle.tl_params.specs.declared.profile.Profile.{Profile}
-use Rattle.tl_params.specs.declared.profile.Profile.TheVariants as profile
-use Rattle.tl_client.specs.declared.operation.Op.{Op}
+use Rattle.tl_client.{specs.declared.operation.Op.Op, specs.declared.reply.Reply.TheVariants.Started}
+use Rattle.tl_client.{specs.statement.Ask.whole_grow, specs.statement.Endpoint.held_at}
 use Rattle.tl_client.specs.declared.operation.Op.TheVariants.{Acquire, AcquireWhole}
-use Rattle.tl_client.specs.declared.reply.Reply.TheVariants.{Started}
-use Rattle.tl_client.specs.statement.Ask.{whole_grow}
-use Rattle.tl_client.specs.statement.Endpoint.{held_at}
 use Rattle.tl_rules.specs.statement.Conformance.{same_perm}
-use Rattle.tl_coherence.specs.declared.event.Event.TheVariants.{Ask}
-use Rattle.tl_coherence.specs.declared.event.Outcome.{Outcome}
-use Rattle.tl_coherence.specs.declared.event.Outcome.TheVariants.{Replied}
+use Rattle.tl_coherence.specs.{declared.event.Event.TheVariants.Ask, declared.event.Outcome.Outcome}
+use Rattle.tl_coherence.specs.{declared.event.Outcome.TheVariants.Replied, statement.Headline.IsGiven}
+use Rattle.tl_coherence.specs.{statement.Load.outstanding, statement.Log.IsLog, protocol.Phase.ClientBlock}
+use Rattle.tl_coherence.specs.{protocol.PhaseSteps.after_acquire}
 use Rattle.tl_coherence.specs.statement.Draining.{LoneAcquire, LoneAcquireWhole, IsDrained, grown_to}
 use Rattle.tl_coherence.specs.refinement.AbstractStep.{asked, abstract_step, abstract_step_by}
-use Rattle.tl_coherence.specs.statement.Headline.{IsGiven}
-use Rattle.tl_coherence.specs.statement.Load.{outstanding}
-use Rattle.tl_coherence.specs.statement.Log.{IsLog}
 use Rattle.tl_coherence.specs.statement.Movable.{next_delivery, drained, with_delivery}
-use Rattle.tl_coherence.specs.protocol.Phase.{ClientBlock}
-use Rattle.tl_coherence.specs.protocol.PhaseSteps.{after_acquire}
 use Rattle.tl_coherence.specs.protocol.Protocol.{Block, State, SourceFree, Acquires, acquire_asked, acquiring_block}
-use Rattle.tl_coherence.proofs.memory.Beside.{set_at-there}
-use Rattle.tl_coherence.proofs.outstanding.Counted.{outstanding-open}
+use Rattle.tl_coherence.proofs.{memory.Beside.set_at-there, outstanding.Counted.outstanding-open}
+use Rattle.tl_coherence.proofs.{links.FromInvariant.matched-given, deliveries.Matching.shadow}
+use Rattle.tl_coherence.proofs.{outstanding.Movement.closed-when-counted, outstanding.Progress.counted}
+use Rattle.tl_coherence.proofs.{manager.UnwaitedRequests.next_tracker, bound.Settling.given-before}
+use Rattle.tl_coherence.proofs.{bound.Settling.given-delivering, protocol.QuiescentProtocol.IsClosed}
+use Rattle.tl_coherence.proofs.{queues.Tokens.set-same, queues.Tokens.set_at-same}
 use Rattle.tl_coherence.proofs.simulation.FollowCases.{delivered-cases, on-first}
-use Rattle.tl_coherence.proofs.links.FromInvariant.{matched-given}
 use Rattle.tl_coherence.proofs.theorem.LoneAcquireSteps.{Brings, IsLone, grown, lone-kind_taken}
-use Rattle.tl_coherence.proofs.deliveries.Matching.{shadow}
-use Rattle.tl_coherence.proofs.outstanding.Movement.{closed-when-counted}
-use Rattle.tl_coherence.proofs.outstanding.Progress.{counted}
-use Rattle.tl_coherence.proofs.manager.UnwaitedRequests.{next_tracker}
-use Rattle.tl_coherence.proofs.bound.Settling.{given-before, given-delivering}
-use Rattle.tl_coherence.proofs.protocol.QuiescentProtocol.{IsClosed}
-use Rattle.tl_coherence.proofs.queues.Tokens.{set-same, set_at-same}
 
 -- ---- logs
 
@@ -169,17 +157,17 @@ alone config log client block source n grow none given drains =
           ((s.block block).waiting client) s closed;
     }) drains
 
-is_trunk : (held : Perm) → same_perm perm.Trunk held ≡ true → held ≡ perm.Trunk
-is_trunk perm.Trunk e = refl
+is_trunk : (held : Perm) → same_perm Perm.Trunk held ≡ true → held ≡ Perm.Trunk
+is_trunk Perm.Trunk e = refl
 is_trunk held e = absurd cc
 
-whole-brings : (p : Profile) (before held : Perm) → grown_to p (whole_grow before) held ≡ true → held ≡ perm.Trunk
-whole-brings profile.One perm.None held e = is_trunk held e
-whole-brings profile.One perm.Branch held e = is_trunk held e
-whole-brings profile.One perm.Trunk held e = is_trunk held e
-whole-brings profile.Two perm.None held e = is_trunk held e
-whole-brings profile.Two perm.Branch held e = is_trunk held e
-whole-brings profile.Two perm.Trunk held e = is_trunk held e
+whole-brings : (p : Profile) (before held : Perm) → grown_to p (whole_grow before) held ≡ true → held ≡ Perm.Trunk
+whole-brings Profile.One Perm.None held e = is_trunk held e
+whole-brings Profile.One Perm.Branch held e = is_trunk held e
+whole-brings Profile.One Perm.Trunk held e = is_trunk held e
+whole-brings Profile.Two Perm.None held e = is_trunk held e
+whole-brings Profile.Two Perm.Branch held e = is_trunk held e
+whole-brings Profile.Two Perm.Trunk held e = is_trunk held e
 
 pub alone_whole : {w : ℕ} → LoneAcquireWhole w
 alone_whole config log client block source n bytes none given drains =

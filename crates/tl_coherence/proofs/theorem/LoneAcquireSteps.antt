@@ -7,16 +7,12 @@ use Rattle.std.proofs.Common.{◌≡◌, subst, ℕ, Bool, true, false, List, �
 use Rattle.std.proofs.Common.{length}
 use Rattle.std.specs.Prelude.{if◌then◌else◌, not, ◌==◌, ◌&&◌, ◌||◌}
 use Rattle.std.proofs.lemmas.Bool.{cases_eq}
-use Rattle.tl_params.specs.declared.param.Cap.{Cap}
-use Rattle.tl_params.specs.declared.param.Cap.TheVariants as cap
-use Rattle.tl_params.specs.declared.param.Grow.TheVariants as grow
-use Rattle.tl_params.specs.declared.param.Report.{Report}
-use Rattle.tl_params.specs.declared.perm.Perm.TheVariants as perm
-use Rattle.tl_params.specs.declared.profile.Profile.{Profile}
-use Rattle.tl_params.specs.declared.profile.Profile.TheVariants as profile
-use Rattle.tl_params.specs.statement.Param.{cap_right}
+use Rattle.tl_params.{specs.declared.param.Cap.Cap, specs.declared.param.Report.Report}
+use Rattle.tl_params.{specs.declared.profile.Profile.Profile, specs.statement.Param.cap_right}
 use Rattle.tl_rules.specs.statement.Conformance.{same_perm}
-use Rattle.tl_coherence.specs.statement.Draining.{grown_to}
+use Rattle.tl_coherence.specs.{statement.Draining.grown_to, protocol.Tokens.shown, protocol.Tokens.is_sent}
+use Rattle.tl_coherence.specs.{refinement.PacketMessages.report_told, protocol.Packet.Packet, protocol.Packet.set}
+use Rattle.tl_coherence.specs.{protocol.Packet.set_at}
 use Rattle.tl_coherence.specs.refinement.AbstractStep.{acquire_taken, gift, granted_after, is_unheld, kind_taken}
 use Rattle.tl_coherence.specs.refinement.AbstractStep.{last_taken, some_below, taken_by_client, with_state}
 use Rattle.tl_coherence.specs.protocol.Invariant.{IsInvariant, cap_asked, is_replied}
@@ -24,28 +20,19 @@ use Rattle.tl_coherence.specs.protocol.Phase.{ClientBlock, Own, Other, NoAcquire
 use Rattle.tl_coherence.specs.protocol.PhaseSteps.{after_grant_sent, after_probe, after_report, is_granted_data}
 use Rattle.tl_coherence.specs.protocol.Protocol.{Service, Free, Waits, GrantSent, GrantTaken, Block, State, SourceFree}
 use Rattle.tl_coherence.specs.protocol.Protocol.{Asked, InService, Replied, Acquires, view, on, is_probed}
-use Rattle.tl_coherence.specs.protocol.Tokens.{shown, is_sent}
-use Rattle.tl_coherence.specs.protocol.Protocol.{acquire_granted, acquire_served, granted_at_once}
-use Rattle.tl_coherence.specs.protocol.Protocol.{granted_pair, probe_taken, report_taken, reported_block, served_block}
-use Rattle.tl_coherence.specs.protocol.Protocol.{served_pair}
-use Rattle.tl_coherence.specs.refinement.PacketMessages.{report_told}
-use Rattle.tl_coherence.specs.protocol.Packet.{Packet, set, set_at}
+use Rattle.tl_coherence.specs.protocol.Protocol.{acquire_granted, acquire_served, granted_at_once, granted_pair}
+use Rattle.tl_coherence.specs.protocol.Protocol.{probe_taken, report_taken, reported_block, served_block, served_pair}
 use Rattle.tl_coherence.specs.refinement.SimulationRelation.{IsGivenAsked, gives_asked}
-use Rattle.tl_coherence.proofs.memory.Beside.{IsElsewhere, place-cases}
-use Rattle.tl_coherence.proofs.protocol.TokenNames.{source_of_acquire}
-use Rattle.tl_coherence.proofs.client.ClientEnd.{is_access}
-use Rattle.tl_coherence.proofs.protocol.HeadOfD.{IsGrantDue, grant-due}
-use Rattle.tl_coherence.proofs.client.GrantMatchesAcquire.{AreGiven}
-use Rattle.tl_coherence.proofs.links.Granting.{held_granted}
-use Rattle.tl_coherence.proofs.manager.ManagerAfter.{others_probed}
-use Rattle.tl_coherence.proofs.queues.Phases.{and_left, and_right}
-use Rattle.tl_coherence.proofs.simulation.Sized.{each-set_at}
-use Rattle.tl_coherence.proofs.simulation.SourcedAfter.{first-asked}
+use Rattle.tl_coherence.proofs.{memory.Beside.IsElsewhere, memory.Beside.place-cases}
+use Rattle.tl_coherence.proofs.{protocol.TokenNames.source_of_acquire, client.ClientEnd.is_access}
+use Rattle.tl_coherence.proofs.{protocol.HeadOfD.IsGrantDue, protocol.HeadOfD.grant-due}
+use Rattle.tl_coherence.proofs.{client.GrantMatchesAcquire.AreGiven, links.Granting.held_granted}
+use Rattle.tl_coherence.proofs.{manager.ManagerAfter.others_probed, queues.Phases.and_left, queues.Phases.and_right}
+use Rattle.tl_coherence.proofs.{simulation.Sized.each-set_at, simulation.SourcedAfter.first-asked}
+use Rattle.tl_coherence.proofs.{rank.RankParts.serving-use, queues.Facts.is_other}
 use Rattle.tl_coherence.proofs.protocol.QuiescentProtocol.{owns_ask, serves_another}
 use Rattle.tl_coherence.proofs.queues.Tokens.{same_number, set-each, set-other, set-same, holds-first, set_at-same}
 use Rattle.tl_coherence.proofs.protocol.BothParts.{is_replied-is, not-sent, taken-unseen, granted-unseen}
-use Rattle.tl_coherence.proofs.rank.RankParts.{serving-use}
-use Rattle.tl_coherence.proofs.queues.Facts.{is_other}
 
 -- what may be held by one who wanted this, and of whom nothing else was asked
 abbrev pub grown : Profile → AcquirePhase → Perm → Bool
@@ -109,21 +96,21 @@ steady_granted d q r k pair j =
 
 grows : (p : Profile) (whole : Bool) (g : Grow) (k : Cap) → cap_fits whole g k ≡ true
     → gives_asked p (AcquireOpen whole g) k ≡ true → grown_to p g (cap_right k) ≡ true
-grows profile.One false grow.NtoB cap.ToB e f = refl
-grows profile.Two false grow.NtoB cap.ToB e f = refl
-grows profile.Two false grow.NtoB cap.ToT e f = refl
-grows profile.One whole grow.NtoT cap.ToT e f = refl
-grows profile.Two whole grow.NtoT cap.ToT e f = refl
-grows profile.One whole grow.BtoT cap.ToT e f = refl
-grows profile.Two whole grow.BtoT cap.ToT e f = refl
+grows Profile.One false Grow.NtoB Cap.ToB e f = refl
+grows Profile.Two false Grow.NtoB Cap.ToB e f = refl
+grows Profile.Two false Grow.NtoB Cap.ToT e f = refl
+grows Profile.One whole Grow.NtoT Cap.ToT e f = refl
+grows Profile.Two whole Grow.NtoT Cap.ToT e f = refl
+grows Profile.One whole Grow.BtoT Cap.ToT e f = refl
+grows Profile.Two whole Grow.BtoT Cap.ToT e f = refl
 grows p whole g k e f = absurd cc
 
 fits_cap : (recorded held : Perm) (d : Bool) (k : Cap) (whole : Bool) (g : Grow)
     → grant_fits recorded held d k (AcquireOpen whole g) ≡ true → cap_fits whole g k ≡ true
 fits_cap recorded held d k whole g f =
-    and_left (cap_fits whole g k) (not (whole && d) && (whole || (d || same_perm held perm.Branch)))
+    and_left (cap_fits whole g k) (not (whole && d) && (whole || (d || same_perm held Perm.Branch)))
     (and_right (same_perm recorded (cap_right k))
-    (cap_fits whole g k && (not (whole && d) && (whole || (d || same_perm held perm.Branch)))) f)
+    (cap_fits whole g k && (not (whole && d) && (whole || (d || same_perm held Perm.Branch)))) f)
 
 brings_granted : (p : Profile) (n : ℕ) (a : AcquirePhase) (u : SourceState) (x : ClientBlock) (q : Perm)
     → u ≡ SourceFree → x.held ≡ q → grown p a q ≡ true → Brings p n a u x

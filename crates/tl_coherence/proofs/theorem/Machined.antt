@@ -5,39 +5,29 @@ use Rattle.tl_coherence.proofs.theorem.Imports.{one_memory_after, System, Kind, 
 use Rattle.tl_coherence.proofs.theorem.Imports.{Release, Answer, Grant, ReleaseAck, GrantAck, SimulationRelation}
 use Rattle.std.proofs.Common.{◌≡◌, ℕ, Bool, true, false, List, [], ◌∷◌, Option, Some, None, refl, sym, ◌∙◌, ap, subst}
 use Rattle.std.specs.Prelude.{if◌then◌else◌, Result, Ok, Err, is_some}
-use Rattle.tl_beat.specs.declared.channel.Channel.TheVariants as channel
 use Rattle.tl_params.specs.declared.rule.Rule.{Rule}
-use Rattle.tl_client.specs.declared.verdict.Verdict.{Verdict}
-use Rattle.tl_client.specs.declared.verdict.Verdict.TheVariants as verdict
-use Rattle.tl_client.specs.statement.Endpoint.{Endpoint, EndConfig}
-use Rattle.tl_client.specs.statement.Offer.{offered}
+use Rattle.tl_client.{specs.declared.verdict.Verdict.Verdict, specs.statement.Endpoint.Endpoint}
+use Rattle.tl_client.{specs.statement.Endpoint.EndConfig, specs.statement.Offer.offered}
 use Rattle.tl_manager.specs.statement.End as manager_end
 use Rattle.tl_manager.specs.statement.Offer as manager
-use Rattle.tl_coherence.specs.declared.event.Event.{Event}
-use Rattle.tl_coherence.specs.declared.event.Event.TheVariants.{Ask}
-use Rattle.tl_coherence.specs.declared.event.Outcome.{Outcome}
-use Rattle.tl_coherence.specs.declared.event.Outcome.TheVariants as outcome
-use Rattle.tl_coherence.specs.statement.Headline.{AreTyped, Continues}
-use Rattle.tl_coherence.specs.statement.Log.{IsLog}
+use Rattle.tl_coherence.specs.{declared.event.Event.Event, declared.event.Event.TheVariants.Ask}
+use Rattle.tl_coherence.specs.{declared.event.Outcome.Outcome, statement.Headline.AreTyped}
+use Rattle.tl_coherence.specs.{statement.Headline.Continues, statement.Log.IsLog, statement.OneMemory.accesses_answered}
+use Rattle.tl_coherence.specs.{statement.OneMemory.performing, statement.System.terms_at}
 use Rattle.tl_coherence.specs.statement.Machine.{IsStep, Performs, Run, is_client, moved}
-use Rattle.tl_coherence.specs.statement.OneMemory.{accesses_answered, performing}
 use Rattle.tl_coherence.specs.statement.Step.{Step, stepped, judged, manager_took, is_to_client}
 use Rattle.tl_coherence.specs.statement.Step as step
-use Rattle.tl_coherence.specs.statement.System.{terms_at}
-use Rattle.tl_coherence.proofs.theorem.Allowing.{ends-transfer}
-use Rattle.tl_coherence.proofs.theorem.AccessEnds.{ends-answer}
-use Rattle.tl_coherence.proofs.deliveries.AskedAfter.{continues-ask}
-use Rattle.tl_coherence.proofs.theorem.Continuing.{performs-delivered}
-use Rattle.tl_coherence.proofs.links.Ending.{IsEnding, ending}
+use Rattle.tl_coherence.proofs.{theorem.Allowing.ends-transfer, theorem.AccessEnds.ends-answer}
+use Rattle.tl_coherence.proofs.{deliveries.AskedAfter.continues-ask, theorem.Continuing.performs-delivered}
+use Rattle.tl_coherence.proofs.{links.Ending.IsEnding, links.Ending.ending, memory.Runs.AllContinue}
+use Rattle.tl_coherence.proofs.{memory.Runs.run-continued, queues.Steps.stepped-asked}
 use Rattle.tl_coherence.proofs.deliveries.Matching.{shadow, matched, stepped-nobody}
-use Rattle.tl_coherence.proofs.memory.Runs.{AllContinue, run-continued}
-use Rattle.tl_coherence.proofs.queues.Steps.{stepped-asked}
 
 -- ---- what a delivery can come to
 
 is_delivered : {w : ℕ} → Outcome w → Bool
-is_delivered (outcome.Replied r) = false
-is_delivered outcome.NoSuchClient = false
+is_delivered (Outcome.Replied r) = false
+is_delivered Outcome.NoSuchClient = false
 is_delivered _ = true
 
 delivered-so : {w : ℕ} (config : Config) (terms : EndConfig) (c : ℕ) (ch : Channel) (beats : List (Beat w))
@@ -49,9 +39,9 @@ delivered-so {w} config terms c ch (x ∷ rest) s = go (is_to_client ch)
     of_client : (r : Result (Verdict × Option (Message w)) Rule) (e : Endpoint w)
         → is_delivered (judged r c ch x rest e s).outcome ≡ true
     of_client (Err rule) e = refl
-    of_client (Ok (verdict.Stalled, m)) e = refl
-    of_client (Ok (verdict.Taken, m)) e = refl
-    of_client (Ok (verdict.Done source f, m)) e = refl
+    of_client (Ok (Verdict.Stalled, m)) e = refl
+    of_client (Ok (Verdict.Taken, m)) e = refl
+    of_client (Ok (Verdict.Done source f, m)) e = refl
 
     of_manager : (a : manager.Reception w × manager_end.End w)
         → is_delivered (manager_took c ch x rest a s).outcome ≡ true
@@ -73,21 +63,21 @@ stepped-so config link ch terms s known = rw known (delivered-so config terms li
 
 step_allowed : {w : ℕ} (config : Config) (link : Link) (ch : Channel) (o : Outcome w) (m : Machine w)
     → is_delivered o ≡ true → is_client config link.0 ≡ true
-    → ((x : Beat w) (source : ℕ) (f : Finish) → o ≡ outcome.Done x source f
-    → (ch ≡ channel.D) × Ends (m.opened link.0 (pool_of f) source) x f)
+    → ((x : Beat w) (source : ℕ) (f : Finish) → o ≡ Outcome.Done x source f
+    → (ch ≡ Channel.D) × Ends (m.opened link.0 (pool_of f) source) x f)
     → IsStep config (Deliver link ch) o m (moved (Deliver link ch) o m)
 unfolding is_delivered
-step_allowed config link channel.D (outcome.Done x source f) m so known done = (known, (done x source f refl).1, refl)
-step_allowed config link channel.A (outcome.Done x source f) m so known done =
+step_allowed config link Channel.D (Outcome.Done x source f) m so known done = (known, (done x source f refl).1, refl)
+step_allowed config link Channel.A (Outcome.Done x source f) m so known done =
     absurd (let e = (done x source f refl).0 in cc)
-step_allowed config link channel.B (outcome.Done x source f) m so known done =
+step_allowed config link Channel.B (Outcome.Done x source f) m so known done =
     absurd (let e = (done x source f refl).0 in cc)
-step_allowed config link channel.C (outcome.Done x source f) m so known done =
+step_allowed config link Channel.C (Outcome.Done x source f) m so known done =
     absurd (let e = (done x source f refl).0 in cc)
-step_allowed config link channel.E (outcome.Done x source f) m so known done =
+step_allowed config link Channel.E (Outcome.Done x source f) m so known done =
     absurd (let e = (done x source f refl).0 in cc)
-step_allowed config link ch (outcome.Replied r) m so known done = absurd cc
-step_allowed config link ch outcome.NoSuchClient m so known done = absurd cc
+step_allowed config link ch (Outcome.Replied r) m so known done = absurd cc
+step_allowed config link ch Outcome.NoSuchClient m so known done = absurd cc
 step_allowed config link ch o m so known done = (known, tt, refl)
 
 -- ---- events
@@ -100,7 +90,7 @@ nobody-continues {w} config log event none =
     rw (stepped-nobody config event (system_after config log) none)
     (one_memory_after config log, [], (rw none refl, refl), same event)
   where
-    same : (e : Event w) → moved e outcome.NoSuchClient (one_memory_after config log) ≡ one_memory_after config log
+    same : (e : Event w) → moved e Outcome.NoSuchClient (one_memory_after config log) ≡ one_memory_after config log
     same (Ask c o) = refl
     same (Deliver link ch) = refl
 
@@ -121,7 +111,7 @@ continues-delivered {w} config log link ch h terms width is known = (
     m = one_memory_after config log
 
     done : (x : Beat w) (source : ℕ) (f : Finish) → (stepped config (Deliver link ch) (system_after config log)).outcome
-        ≡ outcome.Done x source f → (ch ≡ channel.D)
+        ≡ Outcome.Done x source f → (ch ≡ Channel.D)
         × Ends (m.opened link.0 (pool_of f) source) x f
     done x source f e = (end.on_d, go end.first.kind refl)
       where

@@ -204,6 +204,8 @@ pub beat-falls : {w : ℕ} (config : Config) (caching : ℕ → Bool) (ch : Chan
     → rank config size (beats_left mail s (unfinished_at sys')) answer s + 1 ≤ rank config size
     (beats_left mail s (unfinished_at sys)) answer s
 beat-falls {w} config caching ch c mail s sys sys' x queue size answer first more begun inv all lt =
+    let shown_it : shows_it s c first.kind first.number ≡ true = shown_there caching s c ch first.kind first.number inv
+    first.own (rw first.tokens (first-there (packet first.kind first.number) first.rest)) in
     message-less config size (beats_left mail s (unfinished_at sys))
     (beats_left mail s (unfinished_at sys')) answer s less caching inv all c lt first.kind first.number shown_it
     one_less (heavy (is_light first.kind) refl)
@@ -221,10 +223,6 @@ beat-falls {w} config caching ch c mail s sys sys' x queue size answer first mor
         (unfinished_at sys d (channel_for k)) (unfinished_at sys' d (channel_for k))
         (longer d (channel_for k) (cases_eq d c) (same_channels (channel_for k) ch)) in
         omega (arith, more)
-
-    shown_it : shows_it s c first.kind first.number ≡ true
-    shown_it = shown_there caching s c ch first.kind first.number inv first.own
-        (rw first.tokens (first-there (packet first.kind first.number) first.rest))
 
     heavy : (b : Bool) → is_light first.kind ≡ b → b ≡ false
     heavy false e = refl

@@ -69,15 +69,13 @@ module _ {w : ℕ} (config : Config) (log : Log w) (h : AbstractState w) (width 
       → IsLess (kind_taken config (next_tracker (system_after config log)) link.0 d.first.kind d.first.number
       d.first.rest h) sys'
   by-first link ch x queue sys' d lt sixteen received kept =
+      let on : channel_for d.first.kind ≡ ch = kind_channel ch d.first.kind d.first.own in
       by-kind (next_tracker (system_after config log)) link.0 d.first.kind d.first.number d.first.rest sys' lt sixteen
       (subst (λ (i : Channel). packets_on i (h.state.link link.0) ≡ packet d.first.kind d.first.number ∷ d.first.rest)
       (sym on) d.first.tokens)
       (subst (λ (i : Channel). IsReceived link.0 i (system_after config log) sys') (sym on) received)
       (ready-delivered config log h.mail h.request h.state (system_after config log) link ch x queue width matched d)
       kept
-    where
-      on : channel_for d.first.kind ≡ ch
-      on = kind_channel ch d.first.kind d.first.own
 
   -- ---- a delivery
 
@@ -103,31 +101,27 @@ module _ {w : ℕ} (config : Config) (log : Log w) (h : AbstractState w) (width 
           → sys.channels link.0 ch ≡ x ∷ queue → (b : Bool)
           → completes x (unfinished_at sys link.0 ch) ≡ b → IsLess (abstract_step config (Deliver link ch) sys h) sys'
       taken x queue terms known beats true last =
+          let first : IsFirst ch link.0 h.mail h.state sys x queue =
+          first-token (is_caching config) ch link.0 h.mail h.state sys x queue width matched.invariant
+          matched.carried beats in
+          let d : IsDelivery config h.mail h.state sys link ch x queue =
+          record { moves = moving; beats = beats; whole = last; first = first } in
+          let follows : abstract_step config (Deliver link ch) sys h ≡ kind_taken config (next_tracker sys) link.0
+          first.kind first.number first.rest h =
+          cc (followed-moving config link ch sys h x queue moving beats, last, first.tokens) in
           subst (λ (z : AbstractState w). IsLess z sys') (sym follows)
           (by-first link ch x queue sys' d (client_below config link.0 terms known) sixteen
           (grown-received link.0 ch x sys sys' (grown-moved config log h link ch terms x queue width matched known beats
           moving) last)
           (subst Kept follows kept))
-        where
-          first : IsFirst ch link.0 h.mail h.state sys x queue
-          first = first-token (is_caching config) ch link.0 h.mail h.state sys x queue width matched.invariant
-              matched.carried beats
-
-          d : IsDelivery config h.mail h.state sys link ch x queue
-          d = record { moves = moving; beats = beats; whole = last; first = first }
-
-          follows : abstract_step config (Deliver link ch) sys h ≡ kind_taken config (next_tracker sys) link.0
-              first.kind first.number first.rest h
-          follows = cc (followed-moving config link ch sys h x queue moving beats, last, first.tokens)
       taken x queue terms known beats false part =
+          let follows : abstract_step config (Deliver link ch) sys h ≡ h =
+          cc (followed-moving config link ch sys h x queue moving beats, part) in
           subst (λ (z : AbstractState w). IsLess z sys') (sym follows)
           (owed-begun config log h.mail h.request h.state sys' ch link.0 x queue width matched
           (client_below config link.0 terms known) beats part
           (grown-begun link.0 ch x sys sys' (grown-moved config log h link ch terms x queue width matched known beats
           moving) part))
-        where
-          follows : abstract_step config (Deliver link ch) sys h ≡ h
-          follows = cc (followed-moving config link ch sys h x queue moving beats, part)
 
       go : ((x : Beat w) × (queue : List (Beat w)) × (terms : EndConfig)
           × ((sys.channels link.0 ch ≡ x ∷ queue) × (terms_at config link.0 ≡ Some terms)))

@@ -341,6 +341,9 @@ module _ {w : ℕ} (config : Config) (caching : ℕ → Bool) (size : ℕ) (answ
         → IsReceived c Channel.D sys sys' → (s.link c).d ≡ packet Grant n ∷ tokens
         → (s.block n).service ≡ GrantSent c d k → IsLess mail (grant_taken c n whole d k tokens s)
     grant_taken-falls whole d k shown taken first given =
+        let elsewhere : (e : ℕ) → (e ≡ c → ⊥) → length (set c (taken_link n tokens (s.link c)) s.link e).e
+        ≤ length (s.link e).e = λ e ne. acks_as (set c (taken_link n tokens (s.link c)) s.link e) (s.link e)
+        (ap (λ (l : Link). l.e) (set-other c e (taken_link n tokens (s.link c)) s.link ne)) in
         grant-taken-falls config caching n shown.moves mail mail s (grant_taken c n whole d k tokens s) shown.showing c
         Channel.D (unfinished_at sys)
         (unfinished_at sys') (popped n c Channel.D mail (grant_taken c n whole d k tokens s) shown taken) size answer
@@ -352,11 +355,6 @@ module _ {w : ℕ} (config : Config) (caching : ℕ → Bool) (size : ℕ) (answ
         (set-same n (taken_block c whole d k (s.block n)) s.block)
         (λ e i ne. set_at-unlike c ((s.block n).source c) SourceFree s.uses e i ne) (λ e i. refl) elsewhere more
       where
-        elsewhere : (e : ℕ) → (e ≡ c → ⊥) → length (set c (taken_link n tokens (s.link c)) s.link e).e ≤ length
-            (s.link e).e
-        elsewhere e ne = acks_as (set c (taken_link n tokens (s.link c)) s.link e) (s.link e)
-            (ap (λ (l : Link). l.e) (set-other c e (taken_link n tokens (s.link c)) s.link ne))
-
         more : length (set c (taken_link n tokens (s.link c)) s.link c).e ≡ length (s.link c).e + 1
         more =
             let same = ap (λ (l : Link). length l.e) (set-same c (taken_link n tokens (s.link c)) s.link) in

@@ -55,13 +55,12 @@ pub owed-begun : {w : ℕ} (config : Config) (log : Log w) (mail : AccessMessage
     → IsBegun c ch x (unfinished_at (system_after config log)) (unfinished_at sys')
     → owed config mail s sys' + 1 ≤ owed config mail s (system_after config log)
 owed-begun {w} config log mail request s sys' ch c x queue width matched lt beats part begun =
+    let first : IsFirst ch c mail s (system_after config log) x queue =
+    first-token (is_caching config) ch c mail s (system_after config log) x queue width matched.invariant
+    matched.carried beats in
     beat-falls config (is_caching config) ch c mail s (system_after config log) sys' x queue (64 / w) (answer_to mail)
     first
     (not_last (completes x (unfinished_at (system_after config log) c ch)) first.next.k
     (beats_of (message_of_kind first.kind mail s c first.number)) first.next.completes_is part first.next.within) begun
     matched.invariant
     (are-clients config log mail request s matched width) lt
-  where
-    first : IsFirst ch c mail s (system_after config log) x queue
-    first = first-token (is_caching config) ch c mail s (system_after config log) x queue width matched.invariant
-        matched.carried beats

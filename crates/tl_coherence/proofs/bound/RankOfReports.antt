@@ -65,6 +65,9 @@ report-owed {w} config log h sys' tracker c n rest width matched lt first receiv
     last alone (GrantSent q d low) f is = absurd (granted-unseen (c == q) d low (rw f at seen))
     last alone (GrantTaken q) f is = absurd (taken-unseen (c == q) (rw f at seen))
     last alone (Waits q false source low) f is =
+        let v : MessageA w = h.request n in
+        let said : Message w = answers v (protocol.written r b.truth b.memory) in
+        let for : IsFor (Waits q false source low) n v = rw f at (matched.served.requests n) in
         report_answers-owed config log h.mail h.request h.state sys' width matched c n rest lt q source r low
         (performs v) said first f
         (rw (serving-use (is_caching config) h.state n q source low inv f) refl)
@@ -74,15 +77,6 @@ report-owed {w} config log h sys' tracker c n rest width matched lt first receiv
         (settled_all clients (is_caching config) c b.pair (plain-past config) (inv.blocks n).outside alone) for.0 for.3
         (matched.sized n).truth)
         (answer_on_d v _) received is
-      where
-        v : MessageA w
-        v = h.request n
-
-        said : Message w
-        said = answers v (protocol.written r b.truth b.memory)
-
-        for : IsFor (Waits q false source low) n v
-        for = rw f at (matched.served.requests n)
     last alone (Waits q true source low) f is = go (b.pair q).acquiring refl is
       where
         go : (y : AcquirePhase) → (b.pair q).acquiring ≡ y

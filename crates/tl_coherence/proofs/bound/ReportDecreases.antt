@@ -103,6 +103,9 @@ module _ {w : ℕ} (config : Config) (caching : ℕ → Bool) (n : ℕ) (moves :
       → ((d : ℕ) → length (s'.link d).e ≤ length (s.link d).e)
       → rank config size left' answer s' + 1 ≤ rank config size left answer s
   probe-falls k lt sent new is uses lets acks =
+      let pairs : (s'.block n).pair ≡ set c (after_probe k was) (s.block n).pair =
+      ap (λ (b : Block (List ℕ)). b.pair) new in
+      let is_pair : (s'.block n).pair c ≡ after_probe k was = own_at (after_probe k was) pairs in
       pair-falls config caching n moves mail mail' s s' showing c ch rest rest' popped size answer all lt (rw sent refl)
       (ap (λ (b : Block (List ℕ)). b.service) new)
       (other_at (after_probe k was) pairs) (kept_at (λ p. p.acquiring) (after_probe k was) refl pairs c)
@@ -112,21 +115,13 @@ module _ {w : ℕ} (config : Config) (caching : ℕ → Bool) (n : ℕ) (moves :
       was : ClientBlock
       was = (s.block n).pair c
 
-      pairs : (s'.block n).pair ≡ set c (after_probe k was) (s.block n).pair
-      pairs = ap (λ (b : Block (List ℕ)). b.pair) new
-
-      is_pair : (s'.block n).pair c ≡ after_probe k was
-      is_pair = own_at (after_probe k was) pairs
-
       less : (p : ClientBlock) → p ≡ after_probe k was
           → (is_unprobed p.probing ≡ false → same_perm p.recorded Perm.Trunk ≡ false → left' c ProbeAck n ≤ 1)
           → pair_weight size left' n c p + 1 ≤ pair_weight size left n c ((s.block n).pair c)
       less p e reports =
+          let after_probe_report : ClientBlock → Report = λ q. report_at k q.held in
           rw (e, sent) (probed-less size (left c ProbeAck n) (left' c ProbeAck n) was.recorded k
           (after_probe_report was) (λ none. reports (rw e refl) (rw e none)) (is.few c ProbeAck n))
-        where
-          after_probe_report : ClientBlock → Report
-          after_probe_report q = report_at k q.held
 
   pub report-falls : (told r : Report) → c < number → ((s.block n).pair c).probing ≡ ProbeAnswered told
       → 1 ≤ left c ProbeAck n → s'.block n ≡ reported_block c r (s.block n)
@@ -187,32 +182,23 @@ module _ {w : ℕ} (config : Config) (caching : ℕ → Bool) (n : ℕ) (moves :
       → ((d : ℕ) → length (s'.link d).e ≤ length (s.link d).e)
       → rank config size left' answer s' + 1 ≤ rank config size left answer s
   answering-falls q source k told r f lt answered some waits used few new replied unlike lets acks =
-      request-falls config caching n moves mail mail' s s' showing c ch rest rest' popped size answer all block q source
-      opened unlike lets acks
-      (rw (used, replied) (let owed = report-owed told lt answered some in omega (arith, few, owed)))
-    where
-      was : ClientBlock
-      was = (s.block n).pair c
-
-      opened : s.uses q source ≡ SourceFree → ⊥
-      opened e = absurd (let both : InService n ≡ SourceFree = sym used ∙ e in cc)
-
-      pairs : (s'.block n).pair ≡ set c (after_report r was) (s.block n).pair
-      pairs = ap (λ (b : Block (List ℕ)). b.pair) new
-
-      free : (s'.block n).service ≡ Free
-      free = ap (λ (b : Block (List ℕ)). b.service) new
-
-      gone : is_for_access (s'.block n).service ≡ false
-      gone = ap is_for_access free
-
-      block : IsBlockNoMore config caching n moves mail mail' s s' showing c ch rest rest' popped size answer
-      block = record {
+      let was : ClientBlock = (s.block n).pair c in
+      let opened : s.uses q source ≡ SourceFree → ⊥ = λ e. absurd (let both : InService n ≡ SourceFree = sym used ∙ e in
+      cc) in
+      let pairs : (s'.block n).pair ≡ set c (after_report r was) (s.block n).pair =
+      ap (λ (b : Block (List ℕ)). b.pair) new in
+      let free : (s'.block n).service ≡ Free = ap (λ (b : Block (List ℕ)). b.service) new in
+      let gone : is_for_access (s'.block n).service ≡ false = ap is_for_access free in
+      let block : IsBlockNoMore config caching n moves mail mail' s s' showing c ch rest rest' popped size answer =
+      record {
         serves = λ d i e g. absurd (nobody-serving caching s' n d i showing.after gone g);
         acquires = λ d i e g. unserved d i e g (ap (λ (u : Service). is_unserved (view u d)) waits)
             (ap (λ (u : Service). is_unserved (view u d)) free);
         lets = λ d i e g. lets-kept d (kept_at (λ p. p.letting) (after_report r was) refl pairs d);
-      }
+      } in
+      request-falls config caching n moves mail mail' s s' showing c ch rest rest' popped size answer all block q source
+      opened unlike lets acks
+      (rw (used, replied) (let owed = report-owed told lt answered some in omega (arith, few, owed)))
 
   pub granting-falls : (q source at : ℕ) (k gift : Cap) (told r : Report) (data_too : Bool) → c < number
       → ((s.block n).pair c).probing ≡ ProbeAnswered told
@@ -223,15 +209,14 @@ module _ {w : ℕ} (config : Config) (caching : ℕ → Bool) (n : ℕ) (moves :
       → ((d : ℕ) → length (s'.link d).e ≤ length (s.link d).e)
       → rank config size left' answer s' + 1 ≤ rank config size left answer s
   granting-falls q source at k gift told r data_too lt answered some waits used is new uses lets acks =
+      let opened : s.uses q source ≡ SourceFree → ⊥ = λ e. absurd (let both : Acquires n ≡ SourceFree = sym used ∙ e in
+      cc) in
       request-falls config caching n moves mail mail' s s' showing c ch rest rest' popped size answer all block q source
       opened (λ d i ne. uses d i) lets acks
       (rw (uses q source, used) (falls-at q refl))
     where
       was : ClientBlock
       was = (s.block n).pair c
-
-      opened : s.uses q source ≡ SourceFree → ⊥
-      opened e = absurd (let both : Acquires n ≡ SourceFree = sym used ∙ e in cc)
 
       given : (s'.block n).service ≡ GrantSent q data_too gift
       given = ap (λ (b : Block (List ℕ)). b.service) new

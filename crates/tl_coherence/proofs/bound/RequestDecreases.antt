@@ -65,22 +65,21 @@ module _ {w : ℕ} (config : Config) (caching : ℕ → Bool) (n : ℕ) (moves :
   -- a block whose parts in flight are as before owes no more
   pub block-alike : (s'.block n).pair ≡ (s.block n).pair → (s'.block n).service ≡ (s.block n).service
       → IsBlockNoMore config caching n moves mail mail' s s' showing c ch rest rest' popped size answer
-  block-alike pairs service = record {
-    serves = λ d i e f. probes;
-    acquires = λ d i e f.
-        acquire-stays config caching n moves mail mail' s s' showing c ch rest rest' popped size answer d n
-        (wants-used caching s showing.before d i n e)
-        (ap (λ (p : ℕ → ClientBlock). (p d).acquiring) pairs) (ap (λ (u : Service). view u d) service) probes;
-    lets = λ d i e f. let-stays config caching n moves mail mail' s s' showing c ch rest rest' popped size answer d n
-        (ap (λ (p : ℕ → ClientBlock). (p d).letting) pairs);
-  }
-    where
-      probes : probes_weight number size left' n (s'.block n) ≤ probes_weight number size left n (s.block n)
-      probes = total-le number (λ d. pair_weight size left' n d ((s'.block n).pair d))
-          (λ d. pair_weight size left n d ((s.block n).pair d))
-          (λ d lt. pair-stays config caching n moves mail mail' s s' showing c ch rest rest' popped size answer d n
-          (ap (λ (p : ℕ → ClientBlock). (p d).probing) pairs)
-          (ap (λ (p : ℕ → ClientBlock). (p d).recorded) pairs))
+  block-alike pairs service =
+      let probes : probes_weight number size left' n (s'.block n) ≤ probes_weight number size left n (s.block n) =
+      total-le number (λ d. pair_weight size left' n d ((s'.block n).pair d))
+      (λ d. pair_weight size left n d ((s.block n).pair d)) (λ d lt. pair-stays config caching n moves mail mail' s
+      s' showing c ch rest rest' popped size answer d n (ap (λ (p : ℕ → ClientBlock). (p d).probing) pairs)
+      (ap (λ (p : ℕ → ClientBlock). (p d).recorded) pairs)) in
+      record {
+        serves = λ d i e f. probes;
+        acquires = λ d i e f.
+            acquire-stays config caching n moves mail mail' s s' showing c ch rest rest' popped size answer d n
+            (wants-used caching s showing.before d i n e)
+            (ap (λ (p : ℕ → ClientBlock). (p d).acquiring) pairs) (ap (λ (u : Service). view u d) service) probes;
+        lets = λ d i e f. let-stays config caching n moves mail mail' s s' showing c ch rest rest' popped size answer d n
+            (ap (λ (p : ℕ → ClientBlock). (p d).letting) pairs);
+      }
 
   pub answered-falls : (source : ℕ) (f : List ℕ → List ℕ) → s.uses c source ≡ Asked → s'.uses c source ≡ Replied
       → left' c Answer source ≤ answer c source → s'.block n ≡ performed_block f (s.block n)
@@ -88,12 +87,11 @@ module _ {w : ℕ} (config : Config) (caching : ℕ → Bool) (n : ℕ) (moves :
       → ((d : ℕ) → length (s'.link d).e ≤ length (s.link d).e)
       → rank config size left' answer s' + 1 ≤ rank config size left answer s
   answered-falls source f asked replied few new unlike lets acks =
+      let opened : s.uses c source ≡ SourceFree → ⊥ = λ e. absurd (let both : Asked ≡ SourceFree = sym asked ∙ e in cc)
+      in
       request-falls config caching n moves mail mail' s s' showing c ch rest rest' popped size answer all
       (block-alike (ap (λ (b : Block (List ℕ)). b.pair) new) (ap (λ (b : Block (List ℕ)). b.service) new))
       c source opened unlike lets acks (rw (asked, replied) (omega (arith, few)))
-    where
-      opened : s.uses c source ≡ SourceFree → ⊥
-      opened e = absurd (let both : Asked ≡ SourceFree = sym asked ∙ e in cc)
 
   -- ---- a free block comes into service
 
@@ -129,15 +127,13 @@ module _ {w : ℕ} (config : Config) (caching : ℕ → Bool) (n : ℕ) (moves :
         → ((d : ℕ) → length (s'.link d).e ≤ length (s.link d).e)
         → rank config size left' answer s' + 1 ≤ rank config size left answer s
     serving-falls source at k wide narrow sixteen waits asked served some is unlike lets acks =
+        let opened : s.uses c source ≡ SourceFree → ⊥ = λ e. absurd (let both : Asked ≡ SourceFree = sym asked ∙ e in
+        cc) in
+        let probes : probes_weight number size left' n (s'.block n) ≤ 32 =
+        probes-few caching s' showing.after size left' answer is wide narrow number sixteen n in
         request-falls config caching n moves mail mail' s s' showing c ch rest rest' popped size answer all
         (come-into-service (λ d. inl (ap (λ (u : Service). is_unserved (view u d)) waits)))
         c source opened unlike lets acks (rw (asked, served) (omega (arith, some, probes)))
-      where
-        opened : s.uses c source ≡ SourceFree → ⊥
-        opened e = absurd (let both : Asked ≡ SourceFree = sym asked ∙ e in cc)
-
-        probes : probes_weight number size left' n (s'.block n) ≤ 32
-        probes = probes-few caching s' showing.after size left' answer is wide narrow number sixteen n
 
     pub acquire-granted-falls : (source : ℕ) (data_too : Bool) (k : Cap) → (s'.block n).service ≡ GrantSent c data_too k
         → s.uses c source ≡ Acquires n → IsLeft size left' answer s'
@@ -145,13 +141,12 @@ module _ {w : ℕ} (config : Config) (caching : ℕ → Bool) (n : ℕ) (moves :
         → ((d : ℕ) → length (s'.link d).e ≤ length (s.link d).e)
         → rank config size left' answer s' + 1 ≤ rank config size left answer s
     acquire-granted-falls source data_too k given used is uses lets acks =
+        let opened : s.uses c source ≡ SourceFree → ⊥ =
+        λ e. absurd (let both : Acquires n ≡ SourceFree = sym used ∙ e in cc) in
         request-falls config caching n moves mail mail' s s' showing c ch rest rest' popped size answer all
         (come-into-service (λ d. at d (cases_eq d c)))
         c source opened (λ d i ne. uses d i) lets acks (rw (uses c source, used) (less c refl))
       where
-        opened : s.uses c source ≡ SourceFree → ⊥
-        opened e = absurd (let both : Acquires n ≡ SourceFree = sym used ∙ e in cc)
-
         less : (d : ℕ) → d ≡ c → owed_for' d + 1 ≤ owed_for d
         less d e =
             let after : view (s'.block n).service d ≡ Granting data_too k = rw (given, e, same_number c) refl in

@@ -86,12 +86,11 @@ module _ {w : ℕ} (config : Config) (caching : ℕ → Bool) (n : ℕ) (moves :
       → ((d : ℕ) → length (s'.link d).e ≤ length (s.link d).e)
       → rank config size left' answer s' + 1 ≤ rank config size left answer s
   answer-falls source replied closed some same unlike lets acks =
+      let opened : s.uses c source ≡ SourceFree → ⊥ = λ e. absurd (let both : Replied ≡ SourceFree = sym replied ∙ e in
+      cc) in
       request-falls config caching n moves mail mail' s s' showing c ch rest rest' popped size answer all
       (block-same config caching n moves mail mail' s s' showing c ch rest rest' popped size answer all same)
       c source opened unlike lets acks (rw (replied, closed) (omega (arith, some)))
-    where
-      opened : s.uses c source ≡ SourceFree → ⊥
-      opened e = absurd (let both : Replied ≡ SourceFree = sym replied ∙ e in cc)
 
   pub grant-taken-falls : (data_too was_data whole : Bool) (k cap : Cap)
       → (s.block n).service ≡ GrantSent c was_data cap
@@ -103,21 +102,18 @@ module _ {w : ℕ} (config : Config) (caching : ℕ → Bool) (n : ℕ) (moves :
       → length (s'.link c).e ≡ length (s.link c).e + 1
       → rank config size left' answer s' + 1 ≤ rank config size left answer s
   grant-taken-falls data_too was_data whole k cap given used closed some new unlike lets acks more =
+      let opened : s.uses c ((s.block n).source c) ≡ SourceFree → ⊥ =
+      λ e. absurd (let both : Acquires n ≡ SourceFree = sym used ∙ e in cc) in
+      let less : owed_use' config size left left' answer answer s s' c ((s.block n).source c) + 2 ≤ owed_use config size
+      left left' answer answer s s' c ((s.block n).source c) = rw (used, closed, before) (omega (arith, some)) in
       granted-falls config caching n moves mail mail' s s' showing c ch rest rest' popped size answer all block c
       ((s.block n).source c) opened unlike lets acks more less
     where
-      opened : s.uses c ((s.block n).source c) ≡ SourceFree → ⊥
-      opened e = absurd (let both : Acquires n ≡ SourceFree = sym used ∙ e in cc)
-
       taken : (s'.block n).service ≡ GrantTaken c
       taken = ap (λ (b : Block (List ℕ)). b.service) new
 
       before : view (s.block n).service c ≡ Granting was_data cap
       before = rw (given, same_number c) refl
-
-      less : owed_use' config size left left' answer answer s s' c ((s.block n).source c) + 2 ≤ owed_use config size
-          left left' answer answer s s' c ((s.block n).source c)
-      less = rw (used, closed, before) (omega (arith, some))
 
       waiting : (d : ℕ) → (d ≡ c → ⊥) → is_unserved (view (s.block n).service d) ≡ true
       waiting d ne = rw (given, ne_eqb d c ne) refl
@@ -267,18 +263,15 @@ module _ {w : ℕ} (config : Config) (caching : ℕ → Bool) (n : ℕ) (moves :
       → ((d : ℕ) → length (s'.link d).e ≤ length (s.link d).e) → length (s'.link c).e + 1 ≤ length (s.link c).e
       → rank config size left' answer s' + 1 ≤ rank config size left answer s
   grant-ack-falls q lt taken new uses lets acks less =
-      acknowledged-falls config caching n moves mail mail' s s' showing c ch rest rest' popped size answer all block c
-      lt uses lets acks less
-    where
-      free : (s'.block n).service ≡ Free
-      free = ap (λ (b : Block (List ℕ)). b.service) new
-
-      block : IsBlockNoMore config caching n moves mail mail' s s' showing c ch rest rest' popped size answer
-      block = record {
+      let free : (s'.block n).service ≡ Free = ap (λ (b : Block (List ℕ)). b.service) new in
+      let block : IsBlockNoMore config caching n moves mail mail' s s' showing c ch rest rest' popped size answer =
+      record {
         serves = λ d i e f. absurd (nobody-serving caching s n d i showing.before (ap is_for_access taken) e);
         acquires = λ d i e f.
             unserved-stays config caching n moves mail mail' s s' showing c ch rest rest' popped size answer d i n e f
             (ap (λ (u : Service). is_unserved (view u d)) taken ∙ granted_unserved q d)
             (ap (λ (u : Service). is_unserved (view u d)) free);
         lets = λ d i e f. letting_stays d (ap (λ (b : Block (List ℕ)). (b.pair d).letting) new);
-      }
+      } in
+      acknowledged-falls config caching n moves mail mail' s s' showing c ch rest rest' popped size answer all block c
+      lt uses lets acks less

@@ -163,6 +163,9 @@ unfolding drained
 standing config log None given none rest =
     (0, record { so_many = omega arith; few = omega arith; stands = none; given = given })
 standing {w} config log (Some d) given next rest =
+    let same : (n : ℕ) → drained config n (with_delivery config (next_delivery config (system_after config log)) log)
+    ≡ drained config n (delivering config d.0 d.1 log) =
+    λ n. ap (λ (o : Option (Link × Channel)). drained config n (with_delivery config o log)) next in
     let later = rest d next in
     let less = owed-moved config d.0 d.1 (stepped config (Deliver d.0 d.1) (system_after config log)).outcome log given
     (next-moves config log d given next) in
@@ -176,10 +179,6 @@ standing {w} config log (Some d) given next rest =
         given = subst (IsGiven config) (sym (same later.0)) later.1.given;
       },
     )
-  where
-    same : (n : ℕ) → drained config n (with_delivery config (next_delivery config (system_after config log)) log)
-        ≡ drained config n (delivering config d.0 d.1 log)
-    same n = ap (λ (o : Option (Link × Channel)). drained config n (with_delivery config o log)) next
 
 -- it comes to that after as many deliveries as are owed at most
 coming-to-stand : {w : ℕ} (config : Config) (fuel : ℕ) (log : Log w) → IsGiven config log → owed_after config log ≤ fuel

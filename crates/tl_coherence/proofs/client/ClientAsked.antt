@@ -84,6 +84,7 @@ pub end-release_asked : {w : ℕ} (c n source : ℕ) (r : Prune) (copy : List �
     → IsEnd (asked_by mail (release_asked c n source r s) c) c (release_asked c n source r s)
     (kept_for n (prune_right r) (sending (release r source n copy) e))
 end-release_asked {w} c n source r copy mail s e width begins kept end =
+    let f : Endpoint w = kept_for n (prune_right r) (sending (release r source n copy) e) in
     let p = release_message {w = w} r source n copy in
     let event = event_of p.0 p.2 in
     let past : f.past ≡ sent (Message.C p.0) e.past = kept_past n (prune_right r) (sending (release r source n copy) e)
@@ -108,9 +109,6 @@ end-release_asked {w} c n source r copy mail s e width begins kept end =
       live = kept_closed n (prune_right r) (sending (release r source n copy) e) ∙ end.live;
     }
   where
-    f : Endpoint w
-    f = kept_for n (prune_right r) (sending (release r source n copy) e)
-
     new : Block (List ℕ)
     new = releasing_block c source r (s.block n)
 
@@ -171,26 +169,8 @@ end-release_asked {w} c n source r copy mail s e width begins kept end =
 pub end-stored : {w : ℕ} (c n : ℕ) (bytes : List ℕ) (mail : AccessMessages w) (s : State (List ℕ)) (e : Endpoint w)
     → IsWellKept (with_copy n (Some bytes) e) → IsEnd (asked_by mail s c) c s e
     → IsEnd (asked_by mail (block_stored c n bytes s) c) c (block_stored c n bytes s) (with_copy n (Some bytes) e)
-end-stored {w} c n bytes mail s e kept end = record {
-  known = known-same c (asked_by mail s c) (asked_by mail s' c) (unfinished Channel.D e.past) s s' e.past same
-      end.known;
-  opened = opened-same c (asked_by mail s c) (asked_by mail s' c) s s' e.past same end.opened;
-  kept = kept.kept;
-  accounted = kept.accounted;
-  copies = λ i some. copy_of i (cases_eq i n) (sym (ap (λ (p : Perm). same_perm p Perm.None) (same.held i)) ∙ some);
-  waiting = λ i storing. end.waiting i (sym (ap is_whole (same.acquiring i)) ∙ storing) ∙ ap Some
-      (sym (set-part (λ (b : Block (List ℕ)). b.waiting c) n new s.block refl i));
-  live = end.live;
-}
-  where
-    new : Block (List ℕ)
-    new = stored_block c bytes (s.block n)
-
-    s' : State (List ℕ)
-    s' = block_stored c n bytes s
-
-    same : IsSame c (asked_by mail s c) (asked_by mail s' c) s s'
-    same = record {
+end-stored {w} c n bytes mail s e kept end =
+    let same : IsSame c (asked_by mail s c) (asked_by mail s' c) s s' = record {
       held = λ i. set-part (λ (b : Block (List ℕ)). (b.pair c).held) n new s.block refl i;
       acquiring = λ i. set-part (λ (b : Block (List ℕ)). (b.pair c).acquiring) n new s.block refl i;
       letting = λ i. set-part (λ (b : Block (List ℕ)). is_unreleased (b.pair c).letting) n new s.block refl i;
@@ -198,7 +178,24 @@ end-stored {w} c n bytes mail s e kept end = record {
       asks = λ i. asks-same c i mail mail s s' refl (inl refl)
           (λ j used. set-part (λ (b : Block (List ℕ)). (b.pair c).acquiring) n new s.block refl j)
           (λ j used. set-part (λ (b : Block (List ℕ)). b.source c) n new s.block refl j);
+    } in
+    record {
+      known = known-same c (asked_by mail s c) (asked_by mail s' c) (unfinished Channel.D e.past) s s' e.past same
+          end.known;
+      opened = opened-same c (asked_by mail s c) (asked_by mail s' c) s s' e.past same end.opened;
+      kept = kept.kept;
+      accounted = kept.accounted;
+      copies = λ i some. copy_of i (cases_eq i n) (sym (ap (λ (p : Perm). same_perm p Perm.None) (same.held i)) ∙ some);
+      waiting = λ i storing. end.waiting i (sym (ap is_whole (same.acquiring i)) ∙ storing) ∙ ap Some
+          (sym (set-part (λ (b : Block (List ℕ)). b.waiting c) n new s.block refl i));
+      live = end.live;
     }
+  where
+    new : Block (List ℕ)
+    new = stored_block c bytes (s.block n)
+
+    s' : State (List ℕ)
+    s' = block_stored c n bytes s
 
     copy_of : (i : ℕ) → (i ≡ n) ⊎ (i ≡ n → ⊥) → same_perm ((s.block i).pair c).held Perm.None ≡ false
         → cond (i == n) (Some bytes) (e.copies i) ≡ Some ((s'.block i).copy c)

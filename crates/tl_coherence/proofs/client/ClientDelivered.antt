@@ -85,6 +85,12 @@ taken-by : {w : ℕ} (config : Config) (terms : EndConfig) (tracker c : ℕ) (h 
     → IsEndOf c (packet_taken config tracker c (h.state.link c).d h) (taken (Beat.D y) e).after)
     → IsTakenBy config terms tracker c h x e
 taken-by {w} config terms tracker c h m ms x queue e width end next takes lasts =
+    let y : BeatD w = d_beat_of m next.k in
+    let x_is : x ≡ Beat.D y = next.beat_is in
+    let ends_at : x ≡ Beat.D y → completes x (unfinished Channel.D e.past) ≡ ends (Beat.D y) e.past =
+    λ f. ap (λ (z : Beat w). completes z (unfinished Channel.D e.past)) f in
+    let well_y : IsWellKept (taken x e).after → IsWellKept (taken (Beat.D y) e).after =
+    subst (λ (z : Beat w). IsWellKept (taken z e).after) x_is in
     let well = well-taken terms x e (taken x e).after width takes refl (well-of c h e end) in
     record {
       takes = takes;
@@ -98,18 +104,6 @@ taken-by {w} config terms tracker c h m ms x queue e width end next takes lasts 
           (next.last (eqb-true (next.k + 1) (beats_of (Message.D m)) (sym next.completes_is ∙ done))).1
           (well_y well));
     }
-  where
-    y : BeatD w
-    y = d_beat_of m next.k
-
-    x_is : x ≡ Beat.D y
-    x_is = next.beat_is
-
-    ends_at : x ≡ Beat.D y → completes x (unfinished Channel.D e.past) ≡ ends (Beat.D y) e.past
-    ends_at f = ap (λ (z : Beat w). completes z (unfinished Channel.D e.past)) f
-
-    well_y : IsWellKept (taken x e).after → IsWellKept (taken (Beat.D y) e).after
-    well_y = subst (λ (z : Beat w). IsWellKept (taken z e).after) x_is
 
 -- ---- an answer, a Grant, a ReleaseAck
 
@@ -133,6 +127,7 @@ pub answer-delivered : {w : ℕ} (config : Config) (log : Log w) (mail : AccessM
     → IsNext x (unfinished Channel.D (sys.clients c).past) (mail.answer c source) ms queue
     → IsTakenBy config terms tracker c (shadow_of mail request s) x (sys.clients c)
 answer-delivered {w} config log mail request s sys terms tracker c source rest ms x queue width h at beats first next =
+    let e : Endpoint w = sys.clients c in
     let due = answer-due (λ i. is_caching config i) c source rest mail s h.invariant (h.answered c source) first in
     let end = end-matched config log mail request s sys h c in
     let here : IsNext x (unfinished Channel.D e.past) (Message.D due.answer) ms queue =
@@ -146,9 +141,6 @@ answer-delivered {w} config log mail request s sys terms tracker c source rest m
     (end-answer_taken c source y rest mail s e (taken (Beat.D y) e).after
     (plain_end y e last (ap is_grant opcode ∙ kind.0)) last (ap is_grant opcode ∙ kind.0)
     (ap is_release_ack opcode ∙ kind.1) (from ∙ due.from) well end))
-  where
-    e : Endpoint w
-    e = sys.clients c
 
 pub ack-delivered : {w : ℕ} (config : Config) (log : Log w) (mail : AccessMessages w) (request : ℕ → MessageA w)
     (s : State (List ℕ)) (sys : System w) (terms : EndConfig)
@@ -159,6 +151,8 @@ pub ack-delivered : {w : ℕ} (config : Config) (log : Log w) (mail : AccessMess
     queue
     → IsTakenBy config terms tracker c (shadow_of mail request s) x (sys.clients c)
 ack-delivered {w} config log mail request s sys terms tracker c n rest ms x queue width h at beats first next =
+    let e : Endpoint w = sys.clients c in
+    let m : MessageD w = ack_message ((s.block n).release_source c) in
     let let_ = ack-due (λ i. is_caching config i) c n rest s h.invariant first in
     let end = end-matched config log mail request s sys h c in
     taken-by config terms tracker c (shadow_of mail request s) m ms x queue e width end next
@@ -169,12 +163,6 @@ ack-delivered {w} config log mail request s sys terms tracker c n rest ms x queu
     (end-release_ack_taken c n y rest mail s e (taken (Beat.D y) e).after (plain_end y e last (ap is_grant opcode)) last
     (ap is_grant opcode)
     (ap is_release_ack opcode) from (ap (s.lets c) from ∙ let_) well end))
-  where
-    e : Endpoint w
-    e = sys.clients c
-
-    m : MessageD w
-    m = ack_message ((s.block n).release_source c)
 
 grant_blank : {w : ℕ} (data_too : Bool) (k : Cap) (source sink : ℕ) (payload : List ℕ) → IsWidth w → length payload ≡ 64
     → IsBlankAfter (beats_of (Message.D (grant_message {w = w} data_too k source sink payload)))
@@ -203,6 +191,17 @@ pub grant-delivered : {w : ℕ} (config : Config) (log : Log w) (mail : AccessMe
     → IsNext x (unfinished Channel.D (sys.clients c).past) (block_message Grant c n (s.block n)) ms queue
     → IsTakenBy config terms tracker c (shadow_of mail request s) x (sys.clients c)
 grant-delivered {w} config log mail request s sys terms tracker c n rest ms x queue width h at beats first next =
+    let e : Endpoint w = sys.clients c in
+    let m : MessageD w = grant_message due.data_too due.k ((s.block n).source c) (s.block n).tracker (s.block n).truth
+    in
+    let end : IsEnd (asked_by mail s c) c s e = end-matched config log mail request s sys h c in
+    let served : (y : BeatD w) → IsEnd (asked_by mail (grant_taken c n due.whole due.data_too due.k rest s) c) c
+    (grant_taken c n due.whole due.data_too due.k rest s) (taken (Beat.D y) e).after
+    → IsEndOf c (kind_taken config tracker c Grant n rest (shadow_of mail request s)) (taken (Beat.D y) e).after =
+    λ y is. subst (λ (i : Service). IsEndOf c (taken_by_client c n i rest (shadow_of mail request s))
+    (taken (Beat.D y) e).after) (sym due.service)
+    (subst (λ (i : AcquirePhase). IsEnd (asked_by mail (grant_taken c n (is_whole i) due.data_too due.k rest s) c) c
+    (grant_taken c n (is_whole i) due.data_too due.k rest s) (taken (Beat.D y) e).after) (sym due.wants) is) in
     let here : IsNext x (unfinished Channel.D e.past) (Message.D m) ms queue =
     subst (λ (i : Message w). IsNext x (unfinished Channel.D e.past) i ms queue) (grant-rendered c n s due) next in
     taken-by config terms tracker c (shadow_of mail request s) m ms x queue e width end here
@@ -225,17 +224,8 @@ grant-delivered {w} config log mail request s sys terms tracker c n rest ms x qu
           (ap (λ (z : Beat w). z ∷ unfinished Channel.D e.past) (sym y_is) ∙ burst) carries;
     }) (last_end y e last) last well end)))
   where
-    e : Endpoint w
-    e = sys.clients c
-
     due : IsGrantDue c n s
     due = grant-due (λ i. is_caching config i) c n rest s h.invariant first
-
-    m : MessageD w
-    m = grant_message due.data_too due.k ((s.block n).source c) (s.block n).tracker (s.block n).truth
-
-    end : IsEnd (asked_by mail s c) c s e
-    end = end-matched config log mail request s sys h c
 
     fits : IsFitting ((s.block n).pair c).held due.data_too due.k due.whole due.g
     fits = fitting ((s.block n).pair c).recorded ((s.block n).pair c).held due.data_too due.k due.whole due.g due.fits
@@ -250,15 +240,6 @@ grant-delivered {w} config log mail request s sys terms tracker c n rest ms x qu
         → (whole || (data_too || same_perm q Perm.Branch)) ≡ true → same_perm q Perm.None ≡ false
     holds_copy false false Perm.Branch a b f = refl
     holds_copy whole data_too q a b f = absurd cc
-
-    served : (y : BeatD w) → IsEnd (asked_by mail (grant_taken c n due.whole due.data_too due.k rest s) c) c
-        (grant_taken c n due.whole due.data_too due.k rest s) (taken (Beat.D y) e).after
-        → IsEndOf c (kind_taken config tracker c Grant n rest (shadow_of mail request s)) (taken (Beat.D y) e).after
-    served y is =
-        subst (λ (i : Service). IsEndOf c (taken_by_client c n i rest (shadow_of mail request s))
-        (taken (Beat.D y) e).after) (sym due.service)
-        (subst (λ (i : AcquirePhase). IsEnd (asked_by mail (grant_taken c n (is_whole i) due.data_too due.k rest s) c) c
-        (grant_taken c n (is_whole i) due.data_too due.k rest s) (taken (Beat.D y) e).after) (sym due.wants) is)
 
 -- ---- all of channel D
 

@@ -22,6 +22,20 @@ pub end-probe_taken : {w : ℕ} (c n : ℕ) (k : Cap) (rest : List Packet) (mail
     → IsEnd (asked_by mail (probe_taken c n k rest s) c) c (probe_taken c n k rest s)
     (probed (probe_beat n k) n (held_at e n) e).after
 end-probe_taken {w} c n k rest mail s e width well end =
+    let g : Endpoint w = sending (probe_ack OpB.ProbeBlock p (report_for (probe_beat {w = w} n k) p) n (copy_at e n))
+    (with_past (Beat.B (probe_beat n k) ∷ e.past) e) in
+    let f : Endpoint w = (probed (probe_beat n k) n (held_at e n) e).after in
+    let s' : State (List ℕ) = probe_taken c n k rest s in
+    let same : IsSame c (asked_by mail s c) (asked_by mail s' c) s' s' = record {
+      held = λ i. refl;
+      acquiring = λ i. refl;
+      letting = λ i. refl;
+      lets = λ i. refl;
+      asks = λ i. asks-same c i mail mail s s' refl (inl refl)
+          (λ j used. set-part (λ (b : Block (List ℕ)). (b.pair c).acquiring) n new s.block
+          (ap (λ (q : ClientBlock). q.acquiring) pair_is) j)
+          (λ j used. set-part (λ (b : Block (List ℕ)). b.source c) n new s.block refl j);
+    } in
     let known = known-probed (asked_by mail s c) (unfinished Channel.D e.past) c n k rest s e width end.kept.c_whole
     end.known in
     let here : ClientRelation (asked_by mail s c) (unfinished Channel.D f.past) c s' f.past =
@@ -51,33 +65,11 @@ end-probe_taken {w} c n k rest mail s e width well end =
     left : Perm
     left = report_right (report_for (probe_beat {w = w} n k) p)
 
-    g : Endpoint w
-    g = sending (probe_ack OpB.ProbeBlock p (report_for (probe_beat {w = w} n k) p) n (copy_at e n))
-        (with_past (Beat.B (probe_beat n k) ∷ e.past) e)
-
-    f : Endpoint w
-    f = (probed (probe_beat n k) n (held_at e n) e).after
-
     new : Block (List ℕ)
     new = probed_block c k (s.block n)
 
-    s' : State (List ℕ)
-    s' = probe_taken c n k rest s
-
     pair_is : new.pair c ≡ after_probe k ((s.block n).pair c)
     pair_is = set-same c (after_probe k ((s.block n).pair c)) (s.block n).pair
-
-    same : IsSame c (asked_by mail s c) (asked_by mail s' c) s' s'
-    same = record {
-      held = λ i. refl;
-      acquiring = λ i. refl;
-      letting = λ i. refl;
-      lets = λ i. refl;
-      asks = λ i. asks-same c i mail mail s s' refl (inl refl)
-          (λ j used. set-part (λ (b : Block (List ℕ)). (b.pair c).acquiring) n new s.block
-          (ap (λ (q : ClientBlock). q.acquiring) pair_is) j)
-          (λ j used. set-part (λ (b : Block (List ℕ)). b.source c) n new s.block refl j);
-    }
 
     left_is : left ≡ (new.pair c).held
     left_is = cc (report_is w n k p, end.known.held_is n, pair_is)
@@ -91,6 +83,7 @@ end-probe_taken {w} c n k rest mail s e width well end =
         → cond (b && not (holds left)) None (e.copies i) ≡ Some ((s.block i).copy c)
     copy_of i false is some = end.copies i some
     copy_of i true is some =
+        let keeps : (z : Bool) → z ≡ true → cond (not z) None (e.copies i) ≡ e.copies i = λ z q. rw q refl in
         let stays : holds left ≡ true = ap holds left_is ∙ some_held (new.pair c).held some in
         let before : holds p ≡ true =
         reports_held k p (ap (λ (r : Perm). holds r) (ap report_right (sym (report_is w n k p))) ∙ stays) in
@@ -98,6 +91,3 @@ end-probe_taken {w} c n k rest mail s e width well end =
         keeps (holds left) stays ∙ end.copies i
         (held-some ((s.block i).pair c).held (ap (λ (j : ℕ). holds ((s.block j).pair c).held) here ∙ ap holds
         (sym (end.known.held_is n)) ∙ before))
-      where
-        keeps : (z : Bool) → z ≡ true → cond (not z) None (e.copies i) ≡ e.copies i
-        keeps z q = rw q refl

@@ -30,21 +30,22 @@ asks_access : {w : ℕ} (c i : ℕ) (m : MessageA w) (mail : AccessMessages w) (
     → asked_by (record { request = set_at c m.source (Message.A m) mail.request; answer = mail.answer })
     (access_asked c m.source s) c i ≡ cond (m.source == i)
     (Some (a_beat_of m 0)) (asked_by mail s c i)
-asks_access {w} c i m mail s = elim (cases_eq i m.source) [
-  | inl same ↦ ap (asked_by mail' s' c) same ∙ asks-access c m.source m mail' s'
-      (ap is_access (set_at-same c m.source Asked s.uses)) (set_at-same c m.source (Message.A m) mail.request)
-      ∙ sym (chosen (m.source == i) (Some (a_beat_of m 0)) (asked_by mail s c i) (rw same (same_number m.source)))
-  | inr other ↦ asks-same c i mail mail' s s' (set_at-else c m.source i (Message.A m) mail.request other c)
-      (inl (set_at-else c m.source i Asked s.uses other c)) (λ n used. refl) (λ n used. refl)
-      ∙ sym (passed (m.source == i) (Some (a_beat_of m 0)) (asked_by mail s c i)
-      (ne_eqb m.source i (λ e. other (sym e))))
-]
-  where
-    mail' : AccessMessages w
-    mail' = record { request = set_at c m.source (Message.A m) mail.request; answer = mail.answer }
-
-    s' : State (List ℕ)
-    s' = access_asked c m.source s
+asks_access {w} c i m mail s =
+    let mail' : AccessMessages w = record {
+      request = set_at c m.source (Message.A m) mail.request;
+      answer =
+          mail.answer;
+    } in
+    let s' : State (List ℕ) = access_asked c m.source s in
+    elim (cases_eq i m.source) [
+      | inl same ↦ ap (asked_by mail' s' c) same ∙ asks-access c m.source m mail' s'
+          (ap is_access (set_at-same c m.source Asked s.uses)) (set_at-same c m.source (Message.A m) mail.request)
+          ∙ sym (chosen (m.source == i) (Some (a_beat_of m 0)) (asked_by mail s c i) (rw same (same_number m.source)))
+      | inr other ↦ asks-same c i mail mail' s s' (set_at-else c m.source i (Message.A m) mail.request other c)
+          (inl (set_at-else c m.source i Asked s.uses other c)) (λ n used. refl) (λ n used. refl)
+          ∙ sym (passed (m.source == i) (Some (a_beat_of m 0)) (asked_by mail s c i)
+          (ne_eqb m.source i (λ e. other (sym e))))
+    ]
 
 pub end-access_asked : {w : ℕ} (c : ℕ) (m : MessageA w) (mail : AccessMessages w) (s : State (List ℕ)) (e : Endpoint w)
     → IsWidth w → is_acquire m.opcode ≡ false
@@ -52,6 +53,12 @@ pub end-access_asked : {w : ℕ} (c : ℕ) (m : MessageA w) (mail : AccessMessag
     → IsEnd (asked_by (record { request = set_at c m.source (Message.A m) mail.request; answer = mail.answer })
     (access_asked c m.source s) c) c (access_asked c m.source s) (sending (Message.A m) e)
 end-access_asked {w} c m mail s e width plain kept end =
+    let s' : State (List ℕ) = access_asked c m.source s in
+    let asked' : ℕ → Option (BeatA w) =
+    asked_by (record { request = set_at c m.source (Message.A m) mail.request; answer = mail.answer }) s' c in
+    let same : (n : ℕ) → is_wanting ((s.block n).pair c).acquiring
+    ≡ cond (is_acquire m.opcode && (block_at m.address == n)) true (is_wanting ((s.block n).pair c).acquiring) =
+    λ n. rw plain refl in
     let event : IsRequested c m (asked_by mail s c) asked' s s' =
     record {
       held = λ n. refl;
@@ -71,16 +78,6 @@ end-access_asked {w} c m mail s e width plain kept end =
       waiting = end.waiting;
       live = end.live;
     }
-  where
-    s' : State (List ℕ)
-    s' = access_asked c m.source s
-
-    asked' : ℕ → Option (BeatA w)
-    asked' = asked_by (record { request = set_at c m.source (Message.A m) mail.request; answer = mail.answer }) s' c
-
-    same : (n : ℕ) → is_wanting ((s.block n).pair c).acquiring ≡ cond (is_acquire m.opcode && (block_at m.address == n))
-        true (is_wanting ((s.block n).pair c).acquiring)
-    same n = rw plain refl
 
 -- ---- an Acquire
 
@@ -98,30 +95,26 @@ pub asks_acquire : {w : ℕ} (c n source i : ℕ) (whole : Bool) (g : Grow) (byt
     (s : State (List ℕ)) → AreNamed s → is_wanting ((s.block n).pair c).acquiring ≡ false
     → asked_by mail (acquire_asked c n source whole g bytes s) c i ≡ cond (source == i)
     (Some (a_beat_of (acquisition (acquire_opcode whole) g source n) 0)) (asked_by mail s c i)
-asks_acquire {w} c n source i whole g bytes mail s named calm = elim (cases_eq i source) [
-  | inl same ↦ ap (asked_by mail s' c) same
-      ∙ asks-acquire c source n source whole g mail s' (set_at-same c source (Acquires n) s.uses)
-      (ap (λ (b : Block (List ℕ)). (b.pair c).acquiring) (set-same n new s.block)
-      ∙ ap (λ (p : ClientBlock). p.acquiring) (set-same c (after_acquire whole g ((s.block n).pair c))
-      (s.block n).pair))
-      (ap (λ (b : Block (List ℕ)). b.source c) (set-same n new s.block) ∙ set-same c source (s.block n).source)
-      ∙ sym (chosen (source == i) (Some (a_beat_of (acquisition (acquire_opcode whole) g source n) 0))
-      (asked_by mail s c i) (rw same (same_number source)))
-  | inr other ↦ asks-same c i mail mail s s' refl (inl (set_at-else c source i (Acquires n) s.uses other c))
-      (λ j used. ap (λ (b : Block (List ℕ)). (b.pair c).acquiring) (set-other n j new s.block (apart j used)))
-      (λ j used. ap (λ (b : Block (List ℕ)). b.source c) (set-other n j new s.block (apart j used)))
-      ∙ sym (passed (source == i) (Some (a_beat_of (acquisition (acquire_opcode whole) g source n) 0))
-      (asked_by mail s c i) (ne_eqb source i (λ e. other (sym e))))
-]
-  where
-    new : Block (List ℕ)
-    new = acquiring_block c source whole g bytes (s.block n)
-
-    s' : State (List ℕ)
-    s' = acquire_asked c n source whole g bytes s
-
-    apart : (j : ℕ) → s.uses c i ≡ Acquires j → j ≡ n → ⊥
-    apart j used same = unused c n i s named calm (used ∙ ap Acquires same)
+asks_acquire {w} c n source i whole g bytes mail s named calm =
+    let new : Block (List ℕ) = acquiring_block c source whole g bytes (s.block n) in
+    let s' : State (List ℕ) = acquire_asked c n source whole g bytes s in
+    let apart : (j : ℕ) → s.uses c i ≡ Acquires j → j ≡ n → ⊥ =
+    λ j used same. unused c n i s named calm (used ∙ ap Acquires same) in
+    elim (cases_eq i source) [
+      | inl same ↦ ap (asked_by mail s' c) same
+          ∙ asks-acquire c source n source whole g mail s' (set_at-same c source (Acquires n) s.uses)
+          (ap (λ (b : Block (List ℕ)). (b.pair c).acquiring) (set-same n new s.block)
+          ∙ ap (λ (p : ClientBlock). p.acquiring) (set-same c (after_acquire whole g ((s.block n).pair c))
+          (s.block n).pair))
+          (ap (λ (b : Block (List ℕ)). b.source c) (set-same n new s.block) ∙ set-same c source (s.block n).source)
+          ∙ sym (chosen (source == i) (Some (a_beat_of (acquisition (acquire_opcode whole) g source n) 0))
+          (asked_by mail s c i) (rw same (same_number source)))
+      | inr other ↦ asks-same c i mail mail s s' refl (inl (set_at-else c source i (Acquires n) s.uses other c))
+          (λ j used. ap (λ (b : Block (List ℕ)). (b.pair c).acquiring) (set-other n j new s.block (apart j used)))
+          (λ j used. ap (λ (b : Block (List ℕ)). b.source c) (set-other n j new s.block (apart j used)))
+          ∙ sym (passed (source == i) (Some (a_beat_of (acquisition (acquire_opcode whole) g source n) 0))
+          (asked_by mail s c i) (ne_eqb source i (λ e. other (sym e))))
+    ]
 
 pub end-acquire_asked : {w : ℕ} (c n source : ℕ) (whole : Bool) (g : Grow) (bytes : List ℕ) (mail : AccessMessages w)
     (s : State (List ℕ)) (e f : Endpoint w) → IsWidth w → AreNamed s
@@ -132,6 +125,11 @@ pub end-acquire_asked : {w : ℕ} (c n source : ℕ) (whole : Bool) (g : Grow) (
     → IsEnd (asked_by mail s c) c s e
     → IsEnd (asked_by mail (acquire_asked c n source whole g bytes s) c) c (acquire_asked c n source whole g bytes s) f
 end-acquire_asked {w} c n source whole g bytes mail s e f width named idle past copies closed others here kept end =
+    let m : MessageA w = acquisition (acquire_opcode whole) g source n in
+    let asked' : ℕ → Option (BeatA w) = asked_by mail s' c in
+    let calm : is_wanting ((s.block n).pair c).acquiring ≡ false = sym (end.known.acquires n) ∙ idle in
+    let of_block : (i : ℕ) → (is_acquire (acquire_opcode whole) && (block_at (64 * n) == i)) ≡ (i == n) =
+    λ i. rw (acquires-so whole, same_block n) (swapped n i) in
     let event : IsRequested c m (asked_by mail s c) asked' s s' = record {
       held = λ i. set-part (λ (b : Block (List ℕ)). (b.pair c).held) n new s.block
           (ap (λ (p : ClientBlock). p.held) pair_is) i;
@@ -162,26 +160,14 @@ end-acquire_asked {w} c n source whole g bytes mail s e f width named idle past 
       live = closed ∙ end.live;
     }
   where
-    m : MessageA w
-    m = acquisition (acquire_opcode whole) g source n
-
     new : Block (List ℕ)
     new = acquiring_block c source whole g bytes (s.block n)
 
     s' : State (List ℕ)
     s' = acquire_asked c n source whole g bytes s
 
-    asked' : ℕ → Option (BeatA w)
-    asked' = asked_by mail s' c
-
-    calm : is_wanting ((s.block n).pair c).acquiring ≡ false
-    calm = sym (end.known.acquires n) ∙ idle
-
     pair_is : new.pair c ≡ after_acquire whole g ((s.block n).pair c)
     pair_is = set-same c (after_acquire whole g ((s.block n).pair c)) (s.block n).pair
-
-    of_block : (i : ℕ) → (is_acquire (acquire_opcode whole) && (block_at (64 * n) == i)) ≡ (i == n)
-    of_block i = rw (acquires-so whole, same_block n) (swapped n i)
 
     go : (i : ℕ) → is_whole (((s'.block i).pair c).acquiring) ≡ true → (i ≡ n) ⊎ (i ≡ n → ⊥)
         → f.waiting i ≡ Some ((s'.block i).waiting c)

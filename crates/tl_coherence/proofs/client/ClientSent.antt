@@ -89,6 +89,8 @@ pub known-released : {w : ℕ} (c i : ℕ) (m : MessageC w) (p : Perm) (asked as
     → IsWellKept f → IsReleased c i m p asked asked' s s' → ClientRelation asked (unfinished Channel.D t) c s t
     → ClientRelation asked' (unfinished Channel.D f.past) c s' f.past
 known-released {w} c i m p asked asked' s s' t f width past none left well event known =
+    let opens : (n : ℕ) → cond (is_release m.opcode && (block_at m.address == n)) true (pending (ReleaseOf n) t)
+    ≡ cond (i == n) true (pending (ReleaseOf n) t) = λ n. rw (event.releases, event.of_block) refl in
     let some = beats-positive (C m) width in
     known-kept asked' c s' f well
     (λ n. ap (held n) past ∙ left n ∙ ap (λ (q : Perm). cond (n == i) p q) (known.held_is n) ∙ sym (event.held n))
@@ -98,16 +100,18 @@ known-released {w} c i m p asked asked' s s' t f width past none left well event
     (λ (b : Bool). cond (i == n) true b) (known.releases n) ∙ sym (event.letting n))
     (λ source. ap (open_beat source) past ∙ open_beat-c source m t width none ∙ known.opens source ∙ sym
     (event.asks source))
-  where
-    opens : (n : ℕ) → cond (is_release m.opcode && (block_at m.address == n)) true (pending (ReleaseOf n) t) ≡ cond
-        (i == n) true (pending (ReleaseOf n) t)
-    opens n = rw (event.releases, event.of_block) refl
 
 pub opened-released : {w : ℕ} (c i : ℕ) (m : MessageC w) (p : Perm) (asked asked' : ℕ → Option (BeatA w))
     (s s' : State (List ℕ)) (t : History w) → IsWidth w → unfinished Channel.C t ≡ []
     → IsReleased c i m p asked asked' s s' → OpenSourceRelation asked c s t
     → OpenSourceRelation asked' c s' (sent (C m) t)
 opened-released {w} c i m p asked asked' s s' t width none event open_ =
+    let opens : (source : ℕ) → cond (is_release m.opcode && (m.source == source)) true
+    (pending (ReleaseSource source) t) ≡ cond (m.source == source) true (pending (ReleaseSource source) t) =
+    λ source. rw event.releases refl in
+    let names : (source : ℕ) → cond (is_release m.opcode && (m.source == source)) (Some (c_beat_of m 0))
+    (release_of source t) ≡ cond (m.source == source) (Some (c_beat_of m 0)) (release_of source t) =
+    λ source. rw event.releases refl in
     let some = beats-positive (C m) width in
     record {
       requests = λ source. pending-whole (RequestSource source) (C m) t none some ∙ open_.requests source ∙ sym
@@ -131,14 +135,6 @@ opened-released {w} c i m p asked asked' s s' t width none event open_ =
           ∙ size (m.source == source) n source (sym (event.lets source) ∙ is) (open_.sizes source n);
     }
   where
-    opens : (source : ℕ) → cond (is_release m.opcode && (m.source == source)) true (pending (ReleaseSource source) t)
-        ≡ cond (m.source == source) true (pending (ReleaseSource source) t)
-    opens source = rw event.releases refl
-
-    names : (source : ℕ) → cond (is_release m.opcode && (m.source == source)) (Some (c_beat_of m 0))
-        (release_of source t) ≡ cond (m.source == source) (Some (c_beat_of m 0)) (release_of source t)
-    names source = rw event.releases refl
-
     last : (b : Bool) (n : ℕ) (value : BeatC w → ℕ) (source : ℕ) → cond b (Some i) (s.lets c source) ≡ Some n
         → (i ≡ n → value (c_beat_of m 0) ≡ n)
         → (s.lets c source ≡ Some n → option_map value (release_of source t) ≡ Some n)

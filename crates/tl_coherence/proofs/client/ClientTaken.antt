@@ -105,6 +105,9 @@ pub end-release_ack_taken : {w : ℕ} (c n : ℕ) (x : BeatD w) (rest : List Pac
     → s.lets c x.source ≡ Some n → IsWellKept f → IsEnd (asked_by mail s c) c s e
     → IsEnd (asked_by mail (release_ack_taken c n rest s) c) c (release_ack_taken c n rest s) f
 end-release_ack_taken {w} c n x rest mail s e f is last plain acks from let_ well end =
+    let new : Block (List ℕ) = let_go_block c (s.block n) in
+    let pair_is : new.pair c ≡ after_release_ack ((s.block n).pair c) =
+    set-same c (after_release_ack ((s.block n).pair c)) (s.block n).pair in
     let closes = ack_closes n x e.past last plain acks (end.opened.released x.source n let_) in
     let event : IsHeard c x e.past Perm.None (λ k. false) (λ k. n == k) (λ i. false) (λ i. x.source == i)
     (asked_by mail s c) (asked_by mail s' c) s s' = record {
@@ -152,14 +155,8 @@ end-release_ack_taken {w} c n x rest mail s e f is last plain acks from let_ wel
       live = ap (λ (g : Endpoint w). g.closed) is ∙ end.live;
     }
   where
-    new : Block (List ℕ)
-    new = let_go_block c (s.block n)
-
     s' : State (List ℕ)
     s' = release_ack_taken c n rest s
-
-    pair_is : new.pair c ≡ after_release_ack ((s.block n).pair c)
-    pair_is = set-same c (after_release_ack ((s.block n).pair c)) (s.block n).pair
 
     lets_now : (i : ℕ) → (i ≡ (s.block n).release_source c) ⊎ (i ≡ (s.block n).release_source c → ⊥)
         → s'.lets c i ≡ cond (x.source == i) None (s.lets c i)
@@ -320,15 +317,13 @@ end-grant_taken {w} c n whole data_too g k x payload rest mail s e f width named
         ap₂_and : {u v : Bool} → whole ≡ u → data_too ≡ v → (whole && data_too) ≡ (u && v)
         ap₂_and p q = rw (p, q) refl
     copy_here i true false a b same =
+        let and_true : (u : Bool) → u ≡ true → (u && true) ≡ true = λ u p. rw p refl in
         cc (
           chosen ((i == block_at (64 * n)) && true) (e.waiting i) (e.copies i)
               (and_true (i == block_at (64 * n)) (here i same)),
           same,
           end.waiting n (ap is_whole is.wants ∙ a),
         )
-      where
-        and_true : (u : Bool) → u ≡ true → (u && true) ≡ true
-        and_true u p = rw p refl
     copy_here i false true a b same = chosen (i == block_at (64 * n)) (Some payload) (e.copies i) (here i same) ∙ ap
         Some (is.bytes b)
     copy_here i false false a b same = passed ((i == block_at (64 * n)) && false) (e.waiting i) (e.copies i)

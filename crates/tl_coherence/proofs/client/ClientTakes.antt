@@ -99,6 +99,8 @@ pub taken-d : {w : ℕ} (config : Config) (log : Log w) (mail : AccessMessages w
     (sys.clients c).past ≡ None)
     → offered terms Channel.D x (sys.clients c) ≡ taken x (sys.clients c)
 taken-d {w} config log mail request s sys terms c m ms x queue h at beats next first =
+    let moves : x ≡ beat_of (Message.D m) next.k → waits x (sys.clients c).past ≡ false =
+    λ f. ap (λ (y : Beat w). waits y (sys.clients c).past) f in
     let is = terms-are config c terms at in
     let sound = sound-beat config log mail request s sys c Channel.D x queue h beats in
     client-takes terms Channel.D x (sys.clients c) (h.live c) refl (lawful is.level next.beat_is sound.lawful)
@@ -115,9 +117,6 @@ taken-d {w} config log mail request s sys terms c m ms x queue h at beats next f
         sym (ap (λ (l : Option Level). manager.illegal_at l (beat_of (Message.D m) next.k)) e)
         ∙ sym (ap (λ (y : Beat w). manager.illegal_at (level_of config c) y) f) ∙ g in
         ap (λ (y : Beat w). illegal terms.level Channel.D y) f ∙ one
-
-    moves : x ≡ beat_of (Message.D m) next.k → waits x (sys.clients c).past ≡ false
-    moves f = ap (λ (y : Beat w). waits y (sys.clients c).past) f
 
 -- ---- an answer
 

@@ -175,17 +175,13 @@ given_granted : {w : ℕ} (p : Profile) (clients c q n : ℕ) (r : Report) (a : 
     → AreGiven p (granted_after clients p c q n r a rest h).state
 given_granted p clients c q n r NoAcquire rest h is given = given
 given_granted {w} p clients c q n r (AcquireOpen whole g) rest h is given =
+    let b : Block (List ℕ) = h.state.block n in
+    let k : Cap = gift p whole g (is_unheld clients (set c (after_report r (b.pair c)) b.pair)) in
     given-set p n (granted_block c q r (is_granted_data whole g (b.pair q).recorded) k b) h.state given
     (ap (λ (x : ClientBlock). gives_asked p x.acquiring k)
     (set-same q (after_grant_sent k (b.pair q)) (set c (after_report r (b.pair c)) b.pair)) ∙ ap
     (λ (x : AcquirePhase). gives_asked p x k) is
     ∙ gift_given p whole g (is_unheld clients (set c (after_report r (b.pair c)) b.pair)))
-  where
-    b : Block (List ℕ)
-    b = h.state.block n
-
-    k : Cap
-    k = gift p whole g (is_unheld clients (set c (after_report r (b.pair c)) b.pair))
 
 given_last : {w : ℕ} (p : Profile) (clients c n : ℕ) (r : Report) (service : Service) (rest : List Packet)
     (h : AbstractState w) → AreGiven p h.state

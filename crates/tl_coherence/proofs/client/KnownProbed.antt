@@ -63,25 +63,20 @@ pub probe-taken : {w : ℕ} (terms : EndConfig) (n : ℕ) (k : Cap) (e : Endpoin
     → offered terms Channel.B (Beat.B (probe_beat n k)) e ≡ probed (probe_beat n k) n (held_at e n) e
 unfolding offered
 probe-taken {w} terms n k e live lawful inside none released unprobed ungranted =
+    let judged_none : (o : Option Rule) (terms : EndConfig) (x : Beat w) (e : Endpoint w) → o ≡ None
+    → judged o terms x e ≡ (if waits x e.past then silent Verdict.Stalled e else judged_later
+    (broken_later terms x e) x e) = λ o terms x e f. rw f refl in
+    let unstalled : (stalled : Bool) (terms : EndConfig) (x : Beat w) (e : Endpoint w) → stalled ≡ false
+    → (if stalled then silent Verdict.Stalled e else judged_later (broken_later terms x e) x e)
+    ≡ judged_later (broken_later terms x e) x e = λ stalled terms x e f. rw f refl in
+    let later : (o : Option Rule) (x : Beat w) (e : Endpoint w) → o ≡ None → judged_later o x e ≡ taken x e =
+    λ o x e f. rw f refl in
     let x : Beat w = Beat.B (probe_beat n k) in
     judged_none (broken_before terms Channel.B x e) terms x e (before-none terms (probe_beat n k) e live lawful)
     ∙ unstalled (waits x e.past) terms x e (waits-not n k e.past released)
     ∙ later (broken_later terms x e) x e
     (later-none terms n k e (in_order terms.profile n k e.past none unprobed ungranted) inside)
     ∙ ap (λ (i : ℕ). probed (probe_beat n k) i (held_at e i) e) (same_block n)
-  where
-    judged_none : (o : Option Rule) (terms : EndConfig) (x : Beat w) (e : Endpoint w) → o ≡ None
-        → judged o terms x e ≡ (if waits x e.past then silent Verdict.Stalled e else judged_later
-        (broken_later terms x e) x e)
-    judged_none o terms x e f = rw f refl
-
-    unstalled : (stalled : Bool) (terms : EndConfig) (x : Beat w) (e : Endpoint w) → stalled ≡ false
-        → (if stalled then silent Verdict.Stalled e else judged_later (broken_later terms x e) x e) ≡ judged_later
-        (broken_later terms x e) x e
-    unstalled stalled terms x e f = rw f refl
-
-    later : (o : Option Rule) (x : Beat w) (e : Endpoint w) → o ≡ None → judged_later o x e ≡ taken x e
-    later o x e f = rw f refl
 
 -- ---- the ProbeAck
 

@@ -36,39 +36,36 @@ left_alone {w} c h h' e f leaves same end = subst (λ (x : Endpoint w). IsEndOf 
 -- ---- a client is asked
 
 pub own_client : {w : ℕ} (c : ℕ) (e : Endpoint w) (s : System w) → (with_client c e s).clients c ≡ e
-own_client {w} c e s = here (c == c) (same_number c)
-  where
-    here : (b : Bool) → b ≡ true → cond b e (s.clients c) ≡ e
-    here b f = rw f refl
+own_client {w} c e s =
+    let here : (b : Bool) → b ≡ true → cond b e (s.clients c) ≡ e = λ b f. rw f refl in
+    here (c == c) (same_number c)
 
 pub other_client : {w : ℕ} (k c : ℕ) (e : Endpoint w) (s : System w) → (k ≡ c → ⊥)
     → (with_client c e s).clients k ≡ s.clients k
-other_client {w} k c e s ne = there (k == c) (ne_eqb k c ne)
-  where
-    there : (b : Bool) → b ≡ false → cond b e (s.clients k) ≡ s.clients k
-    there b f = rw f refl
+other_client {w} k c e s ne =
+    let there : (b : Bool) → b ≡ false → cond b e (s.clients k) ≡ s.clients k = λ b f. rw f refl in
+    there (k == c) (ne_eqb k c ne)
 
 pub asked_ends : {w : ℕ} (config : Config) (log : Log w) (mail : AccessMessages w) (request : ℕ → MessageA w)
     (s : State (List ℕ)) (sys : System w) (terms : EndConfig) (c k : ℕ)
     (o : Op w) → IsWidth w → SimulationRelation config log mail request s sys
     → AreEnds config (Ask c o) sys (shadow_of mail request s) k (replied c (ask.asked terms o (sys.clients c)) sys)
-asked_ends {w} config log mail request s sys terms c k o width h = elim (cases_eq k c) [
-  | inl same ↦ subst (λ (i : ℕ). AreEnds config (Ask c o) sys (shadow_of mail request s) i (replied c a sys)) (sym same)
-      (subst (λ (x : Endpoint w). IsEndOf c (asked c o a.reply (shadow_of mail request s)) x)
-      (sym (now c ∙ own_client c a.after sys))
-      (end-asked terms c o (shadow_of mail request s) (sys.clients c) width h.invariant.named
-      (end-matched config log mail request s sys h c)))
-  | inr other ↦ left_alone k (shadow_of mail request s) (asked c o a.reply (shadow_of mail request s)) (sys.clients k)
-      ((replied c a sys).after.clients k)
-      (leaves-asked c o a.reply (shadow_of mail request s) k other) (now k ∙ other_client k c a.after sys other)
-      (end-matched config log mail request s sys h k)
-]
-  where
-    a : ask.Asked w
-    a = ask.asked terms o (sys.clients c)
-
-    now : (i : ℕ) → (replied c a sys).after.clients i ≡ (with_client c a.after sys).clients i
-    now i = ap (λ (f : ℕ → Endpoint w). f i) (clients-with_messages (handed_by c a.message) (with_client c a.after sys))
+asked_ends {w} config log mail request s sys terms c k o width h =
+    let a : ask.Asked w = ask.asked terms o (sys.clients c) in
+    let now : (i : ℕ) → (replied c a sys).after.clients i ≡ (with_client c a.after sys).clients i =
+    λ i. ap (λ (f : ℕ → Endpoint w). f i)
+    (clients-with_messages (handed_by c a.message) (with_client c a.after sys)) in
+    elim (cases_eq k c) [
+      | inl same ↦ subst (λ (i : ℕ). AreEnds config (Ask c o) sys (shadow_of mail request s) i (replied c a sys)) (sym same)
+          (subst (λ (x : Endpoint w). IsEndOf c (asked c o a.reply (shadow_of mail request s)) x)
+          (sym (now c ∙ own_client c a.after sys))
+          (end-asked terms c o (shadow_of mail request s) (sys.clients c) width h.invariant.named
+          (end-matched config log mail request s sys h c)))
+      | inr other ↦ left_alone k (shadow_of mail request s) (asked c o a.reply (shadow_of mail request s)) (sys.clients k)
+          ((replied c a sys).after.clients k)
+          (leaves-asked c o a.reply (shadow_of mail request s) k other) (now k ∙ other_client k c a.after sys other)
+          (end-matched config log mail request s sys h k)
+    ]
 
 -- ---- the manager takes a beat
 

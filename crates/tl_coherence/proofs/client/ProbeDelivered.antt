@@ -154,16 +154,13 @@ pub record IsProbed {w : ℕ} (config : Config) (terms : EndConfig) (tracker c n
 stalls : {w : ℕ} (terms : EndConfig) (x : Beat w) (e : Endpoint w) → broken_before terms Channel.B x e ≡ None
     → waits x e.past ≡ true → offered terms Channel.B x e ≡ silent Verdict.Stalled e
 unfolding offered
-stalls {w} terms x e lawful held = judged_none (broken_before terms Channel.B x e) lawful ∙ stalled (waits x e.past)
-    held
-  where
-    judged_none : (o : Option Rule) → o ≡ None → judged o terms x e ≡ cond (waits x e.past) (silent Verdict.Stalled e)
-        (judged_later (broken_later terms x e) x e)
-    judged_none o f = rw f refl
-
-    stalled : (b : Bool) → b ≡ true → cond b (silent Verdict.Stalled e) (judged_later (broken_later terms x e) x e)
-        ≡ silent Verdict.Stalled e
-    stalled b f = rw f refl
+stalls {w} terms x e lawful held =
+    let judged_none : (o : Option Rule) → o ≡ None
+    → judged o terms x e ≡ cond (waits x e.past) (silent Verdict.Stalled e)
+    (judged_later (broken_later terms x e) x e) = λ o f. rw f refl in
+    let stalled : (b : Bool) → b ≡ true → cond b (silent Verdict.Stalled e) (judged_later (broken_later terms x e) x e)
+    ≡ silent Verdict.Stalled e = λ b f. rw f refl in
+    judged_none (broken_before terms Channel.B x e) lawful ∙ stalled (waits x e.past) held
 
 pub first_beat : (k n : ℕ) → k < n → n ≡ 1 → k ≡ 0
 first_beat k n lt one = omega (arith, lt, one)
@@ -195,6 +192,34 @@ pub probe-delivered : {w : ℕ} (config : Config) (log : Log w) (mail : AccessMe
     → IsNext x (unfinished Channel.B (sys.clients c).past) (block_message Probe c n (s.block n)) ms queue
     → IsProbed config terms tracker c n (shadow_of mail request s) x (sys.clients c)
 probe-delivered {w} config log mail request s sys terms tracker c n rest ms x queue width h at beats first next =
+    let sent : is_sent ((s.block n).pair c).probing ≡ true = holds-first Probe (s.link c).b rest (packet Probe n)
+    (λ i. shown Probe c (s.block i)) first refl (h.invariant.transfers c Probe refl) in
+    let before : x ≡ Beat.B (probe_beat n k) → broken_before terms Channel.B x e ≡ None =
+    λ f. cc (f, passes_before terms Channel.B (Beat.B (probe_beat n k)) e (h.live c) refl lawful) in
+    let pends : is_unreleased ((s.block n).pair c).letting ≡ false → waits (Beat.B (probe_beat n k)) e.past ≡ true =
+    λ open_. ap (λ (i : ℕ). pending (ReleaseOf i) e.past) (same_block n) ∙ end.known.releases n ∙ ap not open_ in
+    let taken_is : is_unreleased ((s.block n).pair c).letting ≡ true → offered terms Channel.B (Beat.B (probe_beat n k))
+    e ≡ probed (probe_beat n k) n (held_at e n) e =
+    λ kept. cc (probe-taken terms n k e (h.live c) lawful inside end.kept.b_whole (end.known.releases n
+    ∙ ap not kept) (end.known.probes n) (end.known.grants n ∙ not_coming config log mail request s sys c n h sent))
+    in
+    let same_taken : taken (Beat.B (probe_beat n k)) e ≡ probed (probe_beat n k) n (held_at e n) e =
+    ap (λ (i : ℕ). probed (probe_beat n k) i (held_at e i) e) (same_block n) in
+    let takes : is_unreleased ((s.block n).pair c).letting ≡ true → offered terms Channel.B x e ≡ taken x e =
+    λ kept. cc (beat_is, taken_is kept, same_taken) in
+    let well : is_unreleased ((s.block n).pair c).letting ≡ true
+    → IsWellKept (probed (probe_beat n k) n (held_at e n) e).after =
+    λ kept. subst (λ (o : Offered w). IsWellKept o.after) (taken_is kept)
+    (record {
+      kept = kept-offered terms Channel.B (Beat.B (probe_beat n k)) e width end.kept;
+      accounted =
+          accounted-offered terms Channel.B (Beat.B (probe_beat n k)) e width end.kept end.accounted;
+    }) in
+    let last : is_unreleased ((s.block n).pair c).letting ≡ true → IsEndOf c (packet_taken config tracker c (s.link c).b
+    (shadow_of mail request s)) (taken x e).after = λ kept. subst (λ (xs : List Packet). IsEndOf c (packet_taken
+    config tracker c xs (shadow_of mail request s)) (taken x e).after) (sym first) (subst (λ (o : Offered w).
+    IsEndOf c (kind_taken config tracker c Probe n rest (shadow_of mail request s)) o.after) (sym (ap (λ (y : Beat
+    w). taken y e) beat_is ∙ same_taken)) (end-probe_taken c n k rest mail s e width (well kept) end)) in
     record {
       beat_is = beat_is;
       whole = whole;
@@ -214,18 +239,13 @@ probe-delivered {w} config log mail request s sys terms tracker c n rest ms x qu
     end : IsEnd (asked_by mail s c) c s e
     end = end-matched config log mail request s sys h c
 
-    sent : is_sent ((s.block n).pair c).probing ≡ true
-    sent = holds-first Probe (s.link c).b rest (packet Probe n) (λ i. shown Probe c (s.block i)) first refl
-        (h.invariant.transfers c Probe refl)
-
     beat_is : x ≡ Beat.B (probe_beat n k)
     beat_is = probe-beat c n s x (unfinished Channel.B e.past) ms queue next
 
     whole : completes x (unfinished Channel.B e.past) ≡ true
-    whole = ap (completes x) h_whole ∙ ap (λ (y : Beat w). completes y []) beat_is
-      where
-        h_whole : unfinished Channel.B e.past ≡ []
-        h_whole = end.kept.b_whole
+    whole =
+        let h_whole : unfinished Channel.B e.past ≡ [] = end.kept.b_whole in
+        ap (completes x) h_whole ∙ ap (λ (y : Beat w). completes y []) beat_is
 
     is : AreTermsOf config c terms
     is = terms-are config c terms at
@@ -238,12 +258,6 @@ probe-delivered {w} config log mail request s sys terms tracker c n rest ms x qu
     lawful : illegal terms.level Channel.B (Beat.B (probe_beat {w = w} n k)) ≡ None
     lawful = lawful_at is.level (sound-beat config log mail request s sys c Channel.B x queue h beats).lawful beat_is
 
-    before : x ≡ Beat.B (probe_beat n k) → broken_before terms Channel.B x e ≡ None
-    before f = cc (f, passes_before terms Channel.B (Beat.B (probe_beat n k)) e (h.live c) refl lawful)
-
-    pends : is_unreleased ((s.block n).pair c).letting ≡ false → waits (Beat.B (probe_beat n k)) e.past ≡ true
-    pends open_ = ap (λ (i : ℕ). pending (ReleaseOf i) e.past) (same_block n) ∙ end.known.releases n ∙ ap not open_
-
     inside : nat_le terms.blocks n ≡ false
     inside = cc (
       is.blocks,
@@ -252,36 +266,6 @@ probe-delivered {w} config log mail request s sys terms tracker c n rest ms x qu
       (sound-beat config log mail request s sys c Channel.B x queue h
           beats).inside,
     )
-
-    taken_is : is_unreleased ((s.block n).pair c).letting ≡ true → offered terms Channel.B (Beat.B (probe_beat n k))
-        e ≡ probed (probe_beat n k) n (held_at e n) e
-    taken_is kept = cc (probe-taken terms n k e (h.live c) lawful inside end.kept.b_whole (end.known.releases n
-        ∙ ap not kept) (end.known.probes n) (end.known.grants n ∙ not_coming config log mail request s sys c n h sent))
-
-    same_taken : taken (Beat.B (probe_beat n k)) e ≡ probed (probe_beat n k) n (held_at e n) e
-    same_taken = ap (λ (i : ℕ). probed (probe_beat n k) i (held_at e i) e) (same_block n)
-
-    takes : is_unreleased ((s.block n).pair c).letting ≡ true → offered terms Channel.B x e ≡ taken x e
-    takes kept = cc (beat_is, taken_is kept, same_taken)
-
-    well : is_unreleased ((s.block n).pair c).letting ≡ true
-        → IsWellKept (probed (probe_beat n k) n (held_at e n) e).after
-    well kept = subst (λ (o : Offered w). IsWellKept o.after) (taken_is kept)
-        (record {
-          kept = kept-offered terms Channel.B (Beat.B (probe_beat n k)) e width end.kept;
-          accounted =
-              accounted-offered terms Channel.B (Beat.B (probe_beat n k)) e width end.kept end.accounted;
-        })
-
-    last : is_unreleased ((s.block n).pair c).letting ≡ true
-        → IsEndOf c (packet_taken config tracker c (s.link c).b (shadow_of mail request s)) (taken x e).after
-    last kept =
-        subst (λ (xs : List Packet). IsEndOf c (packet_taken config tracker c xs (shadow_of mail request s))
-        (taken x e).after) (sym first)
-        (subst (λ (o : Offered w). IsEndOf c (kind_taken config tracker c Probe n rest (shadow_of mail request s))
-        o.after)
-        (sym (ap (λ (y : Beat w). taken y e) beat_is ∙ same_taken))
-        (end-probe_taken c n k rest mail s e width (well kept) end))
 
 -- ---- all of channel B
 

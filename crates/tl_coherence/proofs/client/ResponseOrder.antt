@@ -59,15 +59,14 @@ pub grant-legal : {w : ℕ} (p : Profile) (n : ℕ) (x : BeatD w) (r : BeatA w) 
     → pending (ProbeOf n) t ≡ false → pending (GrantSink x.sink) t ≡ false
     → broken_in_order p (Beat.D x) t ≡ None
 grant-legal {w} p n x r t is block fits carried unprobed once =
+    let grants : misgrants p x (request_of x.source t) t ≡ false = rw (is.request, block, fits, carried, unprobed) refl
+    in
     begun p x t is.whole (asked_for x r t is) (size_for x r t is) (never (is_grant x.opcode) grants)
     (never (is_grant x.opcode) once)
   where
     never : (a : Bool) {b : Bool} → b ≡ false → (a && b) ≡ false
     never true e = e
     never false e = refl
-
-    grants : misgrants p x (request_of x.source t) t ≡ false
-    grants = rw (is.request, block, fits, carried, unprobed) refl
 
 -- ---- Releases
 
@@ -81,16 +80,10 @@ pub ack-legal : {w : ℕ} (p : Profile) (x : BeatD w) (t : History w) → unfini
     → x.opcode ≡ OpD.ReleaseAck → pending (ReleaseSource x.source) t ≡ true
     → option_map (λ (y : BeatC w). y.size) (release_of x.source t) ≡ Some x.size
     → broken_in_order p (Beat.D x) t ≡ None
-ack-legal {w} p x t none complete opcode live size = begun p x t none asked sized (rw plain refl) (rw plain refl)
-  where
-    acks : is_release_ack x.opcode ≡ true
-    acks = ap (λ (o : OpD). is_release_ack o) opcode
-
-    plain : is_grant x.opcode ≡ false
-    plain = ap (λ (o : OpD). is_grant o) opcode
-
-    asked : has_request x t ≡ true
-    asked = rw (acks, live, complete) refl
-
-    sized : (x.size == size_asked x t) ≡ true
-    sized = rw (acks, release_size x.size (release_of x.source t) size) (same_number x.size)
+ack-legal {w} p x t none complete opcode live size =
+    let acks : is_release_ack x.opcode ≡ true = ap (λ (o : OpD). is_release_ack o) opcode in
+    let plain : is_grant x.opcode ≡ false = ap (λ (o : OpD). is_grant o) opcode in
+    let asked : has_request x t ≡ true = rw (acks, live, complete) refl in
+    let sized : (x.size == size_asked x t) ≡ true = rw (acks, release_size x.size (release_of x.source t) size)
+    (same_number x.size) in
+    begun p x t none asked sized (rw plain refl) (rw plain refl)

@@ -232,6 +232,12 @@ acquiring-acquired : {w : ℕ} (caching : ℕ → Bool) (c n source : ℕ) (whol
     → ((h.state.block n).pair c).acquiring ≡ NoAcquire → AreAcquired h.request h.state.block
     → AreAcquired h.request (set n (acquiring_block c source whole g bytes (h.state.block n)) h.state.block)
 acquiring-acquired {w} caching c n source whole g bytes h inv calm is =
+    let keeps : KeepsOpen b (acquiring_block c source whole g bytes b) =
+    λ r from k e. (
+      ap (λ (p : ClientBlock). p.acquiring) (set-other c r (after_acquire whole g (b.pair c)) b.pair
+          (apart r from k e)),
+      set-other c r source b.source (apart r from k e),
+    ) in
     unmoved n (acquiring_block c source whole g bytes b) h.state.block h.request refl keeps is
   where
     b : Block (List ℕ)
@@ -243,13 +249,6 @@ acquiring-acquired {w} caching c n source whole g bytes h inv calm is =
         let here : not (is_unacquired (b.pair c).acquiring) ≡ true = rw same at wants in
         let no : false ≡ true = rw calm at here in
         cc
-
-    keeps : KeepsOpen b (acquiring_block c source whole g bytes b)
-    keeps r from k e = (
-      ap (λ (p : ClientBlock). p.acquiring) (set-other c r (after_acquire whole g (b.pair c)) b.pair
-          (apart r from k e)),
-      set-other c r source b.source (apart r from k e),
-    )
 
 pub asked-acquired : {w : ℕ} (caching : ℕ → Bool) (c : ℕ) (o : Op w) (r : Reply) (h : AbstractState w)
     → IsInvariant caching h.state → IsAskable caching c o r h

@@ -162,8 +162,35 @@ CarriesAsked {w} config c h sys o r = (m : Option (Message w)) (e : client.Endpo
 carried_asked : {w : ℕ} (config : Config) (log : Log w) (h : AbstractState w) (sys : System w) (c : ℕ) (o : Op w)
     (r : Reply) → IsWidth w
     → SimulationRelation config log h.mail h.request h.state sys → IsReply o r → CarriesAsked config c h sys o r
-carried_asked {w} config log h sys c o r width is may_be = reply-cases (CarriesAsked config c h sys) o r may_be stored
-    acquires stores releases accesses others
+carried_asked {w} config log h sys c o r width is may_be =
+    let stored : (address size value : ℕ) → CarriesAsked config c h sys (Op.Store address size value) Reply.Stored =
+    λ address size value m e may inv handed queued. carried_as m None _ _ e handed
+    (block_stored-carried (is_caching config) c (block_at address) _ h.mail s sys _ width is.invariant inv
+    (none-carried (is_caching config) (s.block (block_at address)) (is.invariant.blocks (block_at address))
+    (low (block_at address) may)) (handed_as m None e handed queued) is.carried) in
+    let acquires : (n : ℕ) (g : Grow) (source : ℕ)
+    → CarriesAsked config c h sys (Op.Acquire n g) (Reply.Started source) =
+    λ n g source m e may inv handed queued. carried_as m _ _ _ e handed
+    (acquire_asked-carried (is_caching config) c n source false g _
+    (Message.A (acquisition OpA.AcquireBlock g source n)) h.mail s sys _ width is.invariant inv may.2 refl
+    (rendered_acquiring c n source false g _ (s.block n)) (handed_as m _ e handed queued) is.carried) in
+    let stores : (n : ℕ) (bytes : List ℕ) (source : ℕ) → CarriesAsked config c h sys (Op.AcquireWhole n bytes)
+    (Reply.Started source) = λ n bytes source m e may inv handed queued. carried_as m _ _ _ e handed
+    (acquire_asked-carried (is_caching config) c n source true (whole_grow ((s.block n).pair c).held) bytes
+    (Message.A (acquisition OpA.AcquirePerm (whole_grow ((s.block n).pair c).held) source n)) h.mail s sys _ width
+    is.invariant inv may.2 refl (rendered_acquiring c n source true (whole_grow ((s.block n).pair c).held) bytes
+    (s.block n)) (handed_as m _ e handed queued) is.carried) in
+    let releases : (n : ℕ) (p : Prune) (source : ℕ)
+    → CarriesAsked config c h sys (Op.Release n p) (Reply.Started source) =
+    λ n p source m e may inv handed queued. carried_as m _ _ _ e handed
+    (release_asked-carried (is_caching config) c n source p (release p source n (s.block n).truth) h.mail s sys _
+    width is.invariant inv may.3 (release_channel w p source n (s.block n).truth)
+    (rendered_releasing c n source p (s.block n)) (handed_as m _ e handed queued) is.carried) in
+    let accesses : (x : MessageA w) (source : ℕ) → CarriesAsked config c h sys (Op.Access (Message.A x))
+    (Reply.Started source) = λ x source m e may inv handed queued. carried_as m _ _ _ e handed
+    (access_asked-carried (is_caching config) c source (access source x) h.mail s sys _ width is.invariant inv may
+    refl (handed_as m _ e handed queued) is.carried) in
+    reply-cases (CarriesAsked config c h sys) o r may_be stored acquires stores releases accesses others
   where
     s : State (List ℕ)
     s = h.state
@@ -196,45 +223,6 @@ carried_asked {w} config log h sys c o r width is may_be = reply-cases (CarriesA
         owned n trunk = and_left (same_perm ((s.block n).pair c).recorded Perm.Trunk) _
             (trunk_held ((s.block n).pair c) (view (s.block n).service c) ((is.invariant.blocks n).phases c) trunk)
 
-    stored : (address size value : ℕ) → CarriesAsked config c h sys (Op.Store address size value) Reply.Stored
-    stored address size value m e may inv handed queued =
-        carried_as m None _ _ e handed
-        (block_stored-carried (is_caching config) c (block_at address) _ h.mail s sys _ width is.invariant inv
-        (none-carried (is_caching config) (s.block (block_at address)) (is.invariant.blocks (block_at address))
-        (low (block_at address) may))
-        (handed_as m None e handed queued) is.carried)
-
-    acquires : (n : ℕ) (g : Grow) (source : ℕ) → CarriesAsked config c h sys (Op.Acquire n g) (Reply.Started source)
-    acquires n g source m e may inv handed queued =
-        carried_as m _ _ _ e handed
-        (acquire_asked-carried (is_caching config) c n source false g _
-        (Message.A (acquisition OpA.AcquireBlock g source n)) h.mail s sys _ width is.invariant inv may.2 refl
-        (rendered_acquiring c n source false g _ (s.block n)) (handed_as m _ e handed queued) is.carried)
-
-    stores : (n : ℕ) (bytes : List ℕ) (source : ℕ) → CarriesAsked config c h sys (Op.AcquireWhole n bytes)
-        (Reply.Started source)
-    stores n bytes source m e may inv handed queued =
-        carried_as m _ _ _ e handed
-        (acquire_asked-carried (is_caching config) c n source true (whole_grow ((s.block n).pair c).held) bytes
-        (Message.A (acquisition OpA.AcquirePerm (whole_grow ((s.block n).pair c).held) source n)) h.mail s sys _ width
-        is.invariant inv may.2 refl
-        (rendered_acquiring c n source true (whole_grow ((s.block n).pair c).held) bytes (s.block n))
-        (handed_as m _ e handed queued) is.carried)
-
-    releases : (n : ℕ) (p : Prune) (source : ℕ) → CarriesAsked config c h sys (Op.Release n p) (Reply.Started source)
-    releases n p source m e may inv handed queued =
-        carried_as m _ _ _ e handed
-        (release_asked-carried (is_caching config) c n source p (release p source n (s.block n).truth) h.mail s sys _
-        width is.invariant inv may.3
-        (release_channel w p source n (s.block n).truth) (rendered_releasing c n source p (s.block n))
-        (handed_as m _ e handed queued) is.carried)
-
-    accesses : (x : MessageA w) (source : ℕ) → CarriesAsked config c h sys (Op.Access (Message.A x))
-        (Reply.Started source)
-    accesses x source m e may inv handed queued =
-        carried_as m _ _ _ e handed (access_asked-carried (is_caching config) c source (access source x) h.mail s sys _
-        width is.invariant inv may refl (handed_as m _ e handed queued) is.carried)
-
     others : (i : Op w) (j : Reply) → IsPlain i j → CarriesAsked config c h sys i j
     others i j plain m e may inv handed queued =
         let none : m ≡ None = (plain c h).1 m handed in
@@ -262,19 +250,15 @@ carried-ask {w} config log h sys c terms o width is known =
 pub none_answered : {w : ℕ} (c : ℕ) (o : Op w) (r : Reply) (h : AbstractState w) (m : Option (Message w)) → IsReply o r
     → IsHandedOut c o r h m → accesses_answered (handed_by c m) ≡ []
 unfolding accesses_answered
-none_answered {w} c o r h m may_be = reply-cases (λ i j. IsHandedOut c i j h m → accesses_answered (handed_by c m) ≡ [])
-    o r may_be
+none_answered {w} c o r h m may_be =
+    let none : m ≡ None → accesses_answered (handed_by c m) ≡ [] = λ e. rw e refl in
+    let one_a : (x : MessageA w) → m ≡ Some (Message.A x) → accesses_answered (handed_by c m) ≡ [] = λ x e. rw e refl in
+    reply-cases (λ i j. IsHandedOut c i j h m → accesses_answered (handed_by c m) ≡ []) o r may_be
     (λ address size value e. none e) (λ n g source e. one_a (acquisition OpA.AcquireBlock g source n) e)
-    (λ n bytes source e. one_a (acquisition OpA.AcquirePerm (whole_grow ((h.state.block n).pair c).held) source n) e)
-    (λ n p source e. released p source n (h.state.block n).truth e) (λ x source e. one_a (sourced source x) e)
+    (λ n bytes source e. one_a (acquisition OpA.AcquirePerm (whole_grow ((h.state.block n).pair c).held) source n)
+    e) (λ n p source e. released p source n (h.state.block n).truth e) (λ x source e. one_a (sourced source x) e)
     (λ i j plain e. none ((plain c h).1 m e))
   where
-    none : m ≡ None → accesses_answered (handed_by c m) ≡ []
-    none e = rw e refl
-
-    one_a : (x : MessageA w) → m ≡ Some (Message.A x) → accesses_answered (handed_by c m) ≡ []
-    one_a x e = rw e refl
-
     released : (p : Prune) (source n : ℕ) (bytes : List ℕ) → m ≡ Some (release p source n bytes)
         → accesses_answered (handed_by c m) ≡ []
     released Prune.TtoB source n bytes e = rw e refl

@@ -93,13 +93,10 @@ asked-well {w} config log h sys c terms o width is known = asked-cases terms o e
           refl;
       message = refl;
     }
-    load_well address size Perm.Branch f word = read address size word (ap (λ p. same_perm p Perm.None) f)
-      where
-        read : (address size : ℕ) → is_word address size ≡ true → same_perm ((s.block (block_at address)).pair c).held
-            Perm.None ≡ false
-            → IsAskedWell config c (Op.Load address size) h m
-            (only (Reply.Value (loaded address size (copy_at e (block_at address)))) e)
-        read address size word some = record {
+    load_well address size Perm.Branch f word =
+        let read : (address size : ℕ) → is_word address size ≡ true → same_perm ((s.block (block_at address)).pair
+        c).held Perm.None ≡ false → IsAskedWell config c (Op.Load address size) h m (only (Reply.Value (loaded
+        address size (copy_at e (block_at address)))) e) = λ address size word some. record {
           may = tt;
           word = tt;
           source = tt;
@@ -110,7 +107,8 @@ asked-well {w} config log h sys c terms o width is known = asked-cases terms o e
                 (s.block (block_at address)).truth (word_room address size word) (is.beside.memory (block_at address)),
           );
           message = refl;
-        }
+        } in
+        read address size word (ap (λ p. same_perm p Perm.None) f)
     load_well address size Perm.Trunk f word = record {
       may = tt;
       word = tt;
@@ -193,6 +191,9 @@ asked-well {w} config log h sys c terms o width is known = asked-cases terms o e
           message = cc (held_is n);
         }
     well (Op.Release n p) free =
+        let unlet : (source : ℕ) → s.lets c source ≡ None → m.opened c Releases source ≡ None =
+        λ source none. subst (λ (l : Option ℕ). IsLet l (m.opened c Releases source)) none
+        (is.beside.releases c source) in
         let source = source_or_0 (free_release terms e.past) in
         let open_ = (least_free-some (λ i. pending (ReleaseSource i) e.past) 0 terms.sources free.b1).0 in
         let none = no_let (s.lets c source) (sym ((is.opened c).releases source) ∙ open_) in
@@ -208,10 +209,6 @@ asked-well {w} config log h sys c terms o width is known = asked-cases terms o e
           replies = (refl, unlet source none);
           message = cc (copy_is n (some_held p ((s.block n).pair c).held begins));
         }
-      where
-        unlet : (source : ℕ) → s.lets c source ≡ None → m.opened c Releases source ≡ None
-        unlet source none = subst (λ (l : Option ℕ). IsLet l (m.opened c Releases source)) none
-            (is.beside.releases c source)
     well (Op.Access (Message.A x)) free =
         let closed = free_source free.b1 in
         record {

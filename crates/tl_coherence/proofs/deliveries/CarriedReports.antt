@@ -81,6 +81,9 @@ reports-last {w} config log h sys c n rest x queue at tokens whole handed =
     last alone (GrantSent q d low) f later one = absurd (granted-unseen (c == q) d low (rw f at seen))
     last alone (GrantTaken q) f later one = absurd (taken-unseen (c == q) (rw f at seen))
     last alone (Waits q false source low) f later one =
+        let v : MessageA w = h.request n in
+        let said : Message w = answers v (protocol.written r b.truth b.memory) in
+        let for : IsFor (Waits q false source low) n v = rw f at (at.is.served.requests n) in
         carried-shown at.width (report_answers-shown (is_caching config) c q n source r low (performs v) rest said
         h.mail h.state inv later tokens f (rw (serving-use (is_caching config) h.state n q source low inv f) refl)
         (ended-bytes (is_caching config) c q source r low v b (inv.blocks n) (subst (IsWell (is_caching config))
@@ -90,15 +93,6 @@ reports-last {w} config log h sys c n rest x queue at tokens whole handed =
         (inv.blocks n).outside alone) for.0 for.3 (at.is.sized n).truth) (answer_on_d v _)) (last-handing config log h
         sys c q Channel.C x queue said at (one ∙ rw (set_at-same q source said h.mail.answer)
         refl) whole) at.is.carried
-      where
-        v : MessageA w
-        v = h.request n
-
-        said : Message w
-        said = answers v (protocol.written r b.truth b.memory)
-
-        for : IsFor (Waits q false source low) n v
-        for = rw f at (at.is.served.requests n)
     last alone (Waits q true source low) f later one = go (b.pair q).acquiring refl later one
       where
         go : (y : AcquirePhase) → (b.pair q).acquiring ≡ y
@@ -183,6 +177,8 @@ pub carried-followed_c : {w : ℕ} (config : Config) (log : Log w) (h : Abstract
     → SimulationRelation config log h.mail h.request h.state sys → sys.channels c Channel.C ≡ x ∷ queue
     → CarriesAfter config c Channel.C sys (abstract_step config (Deliver (record { 0 = c }) Channel.C) sys h)
 carried-followed_c {w} config log h sys c x queue width is beats =
+    let t : (t : EndConfig) × (terms_at config c ≡ Some t) =
+    client-of config c Channel.C x queue sys beats (is.sound c Channel.C) in
     subst (CarriesAfter config c Channel.C sys)
     (sym (followed-taken config c Channel.C x queue sys h t.0 t.1 beats refl any.up))
     (by-first_c (λ i. CarriesAfter config c Channel.C sys
@@ -200,9 +196,6 @@ carried-followed_c {w} config log h sys c x queue width is beats =
   where
     before : List (Beat w)
     before = unfinished Channel.C (receiver Channel.C c sys)
-
-    t : (t : EndConfig) × (terms_at config c ≡ Some t)
-    t = client-of config c Channel.C x queue sys beats (is.sound c Channel.C)
 
     any : Delivered config c Channel.C before h (packet_taken config (next_tracker sys) c (h.state.link c).c h)
         (pushed_by config c (h.state.link c).c h (packet_taken config (next_tracker sys) c (h.state.link c).c h))

@@ -75,13 +75,11 @@ pub landed-coming : {w : ℕ} (config : Config) (c k : ℕ) (m : MessageA w) (qu
     (s.channels d at))
     → IsLanded c Channel.A (Beat.A (a_beat_of m k)) queue pushes sys (system_after config c k m queue sys)
 landed-coming {w} config c k m queue sys handed pushes is beats done pushed =
+    let base : System w = with_manager (end_after config c k m sys.manager) (with_channel c Channel.A queue sys) in
     landed-manager c Channel.A (Beat.A (a_beat_of m k)) queue pushes
     (reaction config (link_of c) (Beat.A (a_beat_of m k)) sys.manager).handed
     (end_after config c k m sys.manager) sys refl beats (on_a (a_beat_of m k)) (heard-coming config c k m queue sys is)
     (λ d at. ap (λ (i : Handed w). (with_messages i base).channels d at) done ∙ pushed base d at)
-  where
-    base : System w
-    base = with_manager (end_after config c k m sys.manager) (with_channel c Channel.A queue sys)
 
 -- ---- a beat that isn't the last
 
@@ -125,6 +123,22 @@ pub taken-probing : {w : ℕ} (config : Config) (log : Log w) (mail : AccessMess
     (probe_pushes n j (λ d. is_probed c own j ((s.block n).pair d).recorded d)) sys
     (system_after config c k m queue sys)
 taken-probing {w} config log mail request s sys c k n own j m queue is comes beats last kind block done =
+    let test : ℕ → Bool = λ d. is_probed c own j ((s.block n).pair d).recorded d in
+    let pushes : ℕ → Channel → Option (Message w) = probe_pushes n j test in
+    let same : (i : ℕ) → (holders.is_above j (recorded i (block_at m.address) (with_beat c m k sys.manager.trace))
+    && not (is_spared (service_for c m sys.manager.trace) i)) ≡ test i =
+    λ i. rw (
+      block,
+      recorded-beat c k m sys.manager.trace i n,
+      is.managed.recorded_is i n,
+      kind,
+      same_above j
+          ((s.block n).pair i).recorded,
+      swapped c i,
+    ) (and_comm (is_above j ((s.block n).pair i).recorded)
+    (not (own && (i == c)))) in
+    let none : (d : ℕ) → length config.clients.items ≤ d → test d ≡ false =
+    λ d past. rw (beyond-none config log mail request s sys n is d past) (nothing_above j (own && (d == c))) in
     taken-landed c Channel.A (Beat.A (a_beat_of m k)) queue pushes sys (system_after config c k m queue sys)
     (landed-coming config c k m queue sys
     (probes n j (probed config (service_for c m sys.manager.trace) j (with_beat c m k sys.manager.trace))) pushes
@@ -133,28 +147,6 @@ taken-probing {w} config log mail request s sys c k n own j m queue is comes bea
     (λ i. holders.is_above j (recorded i (block_at m.address) (with_beat c m k sys.manager.trace))
     && not (is_spared (service_for c m sys.manager.trace) i)) test v (λ i lt. same i) none d at))
     (ends-coming config c k m sys.manager comes ∙ rw last (is_last k (suc k) (omega arith)))
-  where
-    test : ℕ → Bool
-    test d = is_probed c own j ((s.block n).pair d).recorded d
-
-    pushes : ℕ → Channel → Option (Message w)
-    pushes = probe_pushes n j test
-
-    same : (i : ℕ) → (holders.is_above j (recorded i (block_at m.address) (with_beat c m k sys.manager.trace)) && not
-        (is_spared (service_for c m sys.manager.trace) i)) ≡ test i
-    same i = rw (
-      block,
-      recorded-beat c k m sys.manager.trace i n,
-      is.managed.recorded_is i n,
-      kind,
-      same_above j
-          ((s.block n).pair i).recorded,
-      swapped c i,
-    )
-        (and_comm (is_above j ((s.block n).pair i).recorded) (not (own && (i == c))))
-
-    none : (d : ℕ) → length config.clients.items ≤ d → test d ≡ false
-    none d past = rw (beyond-none config log mail request s sys n is d past) (nothing_above j (own && (d == c)))
 
 -- ---- one message is handed out
 
@@ -187,6 +179,8 @@ pub carried-acquire_taken : {w : ℕ} (config : Config) (log : Log w) (h : Abstr
     (kind_taken config (next_tracker sys) c Acquire n rest h).state
     (system_after config c k (acquire_wanted c n h.state asked) queue sys)
 carried-acquire_taken {w} config log h sys c n k rest queue is first asked comes beats last moves =
+    let inv : IsInvariant (is_caching config) (kind_taken config tracker c Acquire n rest h).state =
+    invariant-taken config log h sys c Acquire n rest is first ready in
     subst (λ (i : AcquirePhase). ChannelRelation (acquire_taken clients config.profile c n i tracker rest h).mail
     (acquire_taken clients config.profile c n i tracker rest h).state after) (sym asked.wants)
     (go (some_below clients (λ d. is_probed c true j (b.pair d).recorded d)) refl
@@ -213,9 +207,6 @@ carried-acquire_taken {w} config log h sys c n k rest queue is first asked comes
 
     ready : IsReady tracker c Acquire n h
     ready = ready-acquire config log h sys c n k is asked comes last moves
-
-    inv : IsInvariant (is_caching config) (kind_taken config tracker c Acquire n rest h).state
-    inv = invariant-taken config log h sys c Acquire n rest is first ready
 
     caps : cap_probed m.opcode m.param ≡ Some j
     caps = caps_asked w asked.whole asked.grow (b.source c) n
@@ -266,6 +257,14 @@ pub unread-bytes : {w : ℕ} (config : Config) (log : Log w) (mail : AccessMessa
     → probes_some (length config.clients.items) c false (cap_probed m.opcode m.param) (s.block n).pair ≡ false
     → (k : Kind) (d : ℕ) → (carries k d (s.block n) ≡ false) ⊎ (performs m (s.block n).truth ≡ (s.block n).truth)
 unread-bytes {w} config log mail request s sys c n m is access none k d =
+    let unheld : (i : ℕ) → cap_probed m.opcode m.param ≡ Some Cap.ToN
+    → same_perm ((s.block n).pair i).recorded Perm.None ≡ true =
+    λ i all. elim (cases_lt i (length config.clients.items)) [
+      | inl lt ↦ none-above ((s.block n).pair i).recorded
+          (some-none (length config.clients.items) (λ j. is_probed c false Cap.ToN ((s.block n).pair j).recorded j)
+          (rw all at none) i lt)
+      | inr past ↦ rw (beyond-none config log mail request s sys n is i past) refl
+    ] in
     elim (leaves-bytes m (s.block n).truth access (is.sized n).truth) [
       | inl same ↦ inr same
       | inr all ↦ inl (none-carried (is_caching config) (s.block n) (is.invariant.blocks n)
@@ -275,15 +274,6 @@ unread-bytes {w} config log mail request s sys c n m is access none k d =
     either : (b : Bool) {x : Bool} → x ≡ true → (b || x) ≡ true
     either true e = refl
     either false e = e
-
-    unheld : (i : ℕ) → cap_probed m.opcode m.param ≡ Some Cap.ToN
-        → same_perm ((s.block n).pair i).recorded Perm.None ≡ true
-    unheld i all = elim (cases_lt i (length config.clients.items)) [
-      | inl lt ↦ none-above ((s.block n).pair i).recorded
-          (some-none (length config.clients.items) (λ j. is_probed c false Cap.ToN ((s.block n).pair j).recorded j)
-          (rw all at none) i lt)
-      | inr past ↦ rw (beyond-none config log mail request s sys n is i past) refl
-    ]
 
 -- after the last beat of an access that was taken
 pub carried-request_taken : {w : ℕ} (config : Config) (log : Log w) (h : AbstractState w) (sys : System w)
@@ -297,6 +287,9 @@ pub carried-request_taken : {w : ℕ} (config : Config) (log : Log w) (h : Abstr
     (kind_taken config (next_tracker sys) c Request source rest h).state
     (system_after config c k asked.request queue sys)
 carried-request_taken {w} config log h sys c source k rest queue is first asked comes beats last moves =
+    let inv : IsInvariant (is_caching config) (kind_taken config tracker c Request source rest h).state =
+    invariant-taken config log h sys c Request source rest is first
+    (ready-request config log h sys c source k is asked comes last moves) in
     subst (λ (i : Message w). Carries (request_taken clients c source i tracker rest h)) (sym asked.is_it)
     (go (probes_some clients c false (cap_probed m.opcode m.param) b.pair) (cap_probed m.opcode m.param) refl refl
     (subst (λ (i : Message w). IsInvariant (is_caching config) (request_taken clients c source i tracker rest h).state)
@@ -325,10 +318,6 @@ carried-request_taken {w} config log h sys c source k rest queue is first asked 
 
     free : b.service ≡ Free
     free = free-last config log h.mail h.request h.state sys c k m is comes last moves
-
-    inv : IsInvariant (is_caching config) (kind_taken config tracker c Request source rest h).state
-    inv = invariant-taken config log h sys c Request source rest is first
-        (ready-request config log h sys c source k is asked comes last moves)
 
     answered : probes_some clients c false (cap_probed m.opcode m.param) b.pair ≡ false
         → IsInvariant (is_caching config) (access_taken c source m tracker false None rest h).state

@@ -57,6 +57,7 @@ ready-a : {w : ℕ} (config : Config) (log : Log w) (mail : AccessMessages w) (r
     → SimulationRelation config log mail request s sys → (d : IsDelivery config mail s sys link Channel.A x queue)
     → IsReady (next_tracker sys) link.0 d.first.kind d.first.number (shadow_of mail request s)
 ready-a {w} config log mail request s sys link x queue width h d =
+    let next_number : (k n : ℕ) → k + 1 ≡ n → n ≡ suc k = λ k n e. omega (arith, e) in
     let arrives = arrival-first config log (shadow_of mail request s) sys link.0 x queue width h d.beats in
     let moves = request-moves config log mail request s sys link x queue h d.moves d.beats arrives in
     let comes = coming-arrival config log (shadow_of mail request s) sys link.0 x queue width h d.beats arrives moves in
@@ -72,9 +73,6 @@ ready-a {w} config log mail request s sys link x queue width h d =
     (sym arrives.is_it.tokens ∙ d.first.tokens))
     (arrives.is_it.ready arrives.next.k comes (next_number arrives.next.k (beats_of (Message.A arrives.request)) last)
     moves_so)
-  where
-    next_number : (k n : ℕ) → k + 1 ≡ n → n ≡ suc k
-    next_number k n e = omega (arith, e)
 
 -- ---- channels C and E
 

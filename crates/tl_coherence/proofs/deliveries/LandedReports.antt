@@ -106,23 +106,17 @@ pub landed-taken : {w : ℕ} (config : Config) (c : ℕ) (ch : Channel) (x : Bea
     (s.channels d at))
     → IsLanded c ch x queue pushes sys (stepped config (Deliver (record { 0 = c }) ch) sys).after
 landed-taken {w} config c ch x queue sys t handed pushes width kept typed down on_ch terms beats up is pushed =
+    let e : End w = left c x (reaction config (record { 0 = c }) x sys.manager) sys.manager in
+    let base : System w = with_manager e (with_channel c ch queue sys) in
+    let step : stepped config (Deliver (record { 0 = c }) ch) sys ≡ handing (Outcome.Moved x)
+    (reaction config (record { 0 = c }) x sys.manager).handed base =
+    step-taken config c ch x queue sys t terms beats down up in
+    let heard : HasTaken c x sys.manager e = manager-heard config (record { 0 = c }) ch x queue sys
+    (stepped config (Deliver (record { 0 = c }) ch) sys) width typed kept
+    (record { takes = up.answer; step_is = step }) in
     subst (λ (i : Step w). IsLanded c ch x queue pushes sys i.after)
     (sym (step ∙ ap (λ (i : Handed w). handing (Outcome.Moved x) i base) is))
     (landed-manager c ch x queue pushes handed e sys down beats on_ch heard (pushed base))
-  where
-    e : End w
-    e = left c x (reaction config (record { 0 = c }) x sys.manager) sys.manager
-
-    base : System w
-    base = with_manager e (with_channel c ch queue sys)
-
-    step : stepped config (Deliver (record { 0 = c }) ch) sys ≡ handing (Outcome.Moved x)
-        (reaction config (record { 0 = c }) x sys.manager).handed base
-    step = step-taken config c ch x queue sys t terms beats down up
-
-    heard : HasTaken c x sys.manager e
-    heard = manager-heard config (record { 0 = c }) ch x queue sys (stepped config (Deliver (record { 0 = c }) ch) sys)
-        width typed kept (record { takes = up.answer; step_is = step })
 
 -- a beat of channel C, or of channel E, is of that channel
 pub on_c : {w : ℕ} (m : MessageC w) (k : ℕ) → IsOn Channel.C (beat_of (Message.C m) k)

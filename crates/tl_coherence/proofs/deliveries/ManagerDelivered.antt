@@ -109,6 +109,14 @@ pub reports-delivered : {w : ℕ} (config : Config) (log : Log w) (h : AbstractS
     (report_told ((h.state.block n).pair c).probing) rest h)) sys.manager x
 unfolding block_message
 reports-delivered {w} config log h sys c n rest x queue ms width is beats tokens next =
+    let r : Report = report_told ((h.state.block n).pair c).probing in
+    let about : (i : MessageC w) × (block_message ProbeAck c n (h.state.block n) ≡ Message.C i)
+    × IsAbout true n (report_code r) (same_perm (report_left r) Perm.Trunk) (h.state.block n).truth i =
+    report-about r n (h.state.block n).truth width (is.sized n).truth in
+    let m : MessageC w = about.0 in
+    let answered : ((h.state.block n).pair c).probing ≡ ProbeAnswered r =
+    answered-is ((h.state.block n).pair c).probing (holds-first ProbeAck (h.state.link c).c rest (packet ProbeAck n)
+    (λ i. shown ProbeAck c (h.state.block i)) tokens refl (is.invariant.transfers c ProbeAck refl)) in
     delivered-c config h _ ProbeAck c n x m ms queue sys.manager width
     (at_manager-matched config log h.mail h.request h.state sys is)
     (head_all (λ y. manager.IsSound config (record { 0 = c }, y)) x queue (sys.channels c Channel.C) beats
@@ -119,22 +127,6 @@ reports-delivered {w} config log h sys c n rest x queue ms width is beats tokens
     answered about.2 before)
     (λ k all before up. reported-last config log h sys c n k rest m is tokens answered up
     (record { width = width; about = about.2; rest = before; last = all; long = (is.sized n).truth }))
-  where
-    r : Report
-    r = report_told ((h.state.block n).pair c).probing
-
-    about : (i : MessageC w) × (block_message ProbeAck c n (h.state.block n) ≡ Message.C i)
-        × IsAbout true n (report_code r) (same_perm (report_left r) Perm.Trunk) (h.state.block n).truth i
-    about = report-about r n (h.state.block n).truth width (is.sized n).truth
-
-    m : MessageC w
-    m = about.0
-
-    answered : ((h.state.block n).pair c).probing ≡ ProbeAnswered r
-    answered = answered-is ((h.state.block n).pair c).probing
-        (holds-first ProbeAck (h.state.link c).c rest (packet ProbeAck n) (λ i. shown ProbeAck c (h.state.block i))
-        tokens refl
-        (is.invariant.transfers c ProbeAck refl))
 
 -- ---- a Release
 
@@ -151,6 +143,15 @@ pub releases-delivered : {w : ℕ} (config : Config) (log : Log w) (h : Abstract
     (with_state (release_taken c n (prune_told ((h.state.block n).pair c).letting) rest h.state) h)) sys.manager x
 unfolding block_message
 releases-delivered {w} config log h sys c n rest x queue ms width is beats tokens next =
+    let r : Prune = prune_told ((h.state.block n).pair c).letting in
+    let about : (i : MessageC w) × (block_message Release c n (h.state.block n) ≡ Message.C i)
+    × IsAbout false n (prune_code r) (same_perm (prune_left r) Perm.Trunk) (h.state.block n).truth i
+    × (i.source ≡ (h.state.block n).release_source c) = release-about r ((h.state.block n).release_source c) n
+    (h.state.block n).truth width (is.sized n).truth in
+    let m : MessageC w = about.0 in
+    let releasing : ((h.state.block n).pair c).letting ≡ ReleaseSent r =
+    releasing-is ((h.state.block n).pair c).letting (holds-first Release (h.state.link c).c rest (packet Release n)
+    (λ i. shown Release c (h.state.block i)) tokens refl (is.invariant.transfers c Release refl)) in
     delivered-c config h _ Release c n x m ms queue sys.manager width
     (at_manager-matched config log h.mail h.request h.state sys is)
     (head_all (λ y. manager.IsSound config (record { 0 = c }, y)) x queue (sys.channels c Channel.C) beats
@@ -170,23 +171,6 @@ releases-delivered {w} config log h sys c n rest x queue ms width is beats token
           ∙ sym (ap (λ (b : Block (List ℕ)). (record { 0 = c }, block_message {w = w} ReleaseAck c n b) ∷ [])
           (set-same n (let_block c r (h.state.block n)) h.state.block)),
     ))
-  where
-    r : Prune
-    r = prune_told ((h.state.block n).pair c).letting
-
-    about : (i : MessageC w) × (block_message Release c n (h.state.block n) ≡ Message.C i)
-        × IsAbout false n (prune_code r) (same_perm (prune_left r) Perm.Trunk) (h.state.block n).truth i
-        × (i.source ≡ (h.state.block n).release_source c)
-    about = release-about r ((h.state.block n).release_source c) n (h.state.block n).truth width (is.sized n).truth
-
-    m : MessageC w
-    m = about.0
-
-    releasing : ((h.state.block n).pair c).letting ≡ ReleaseSent r
-    releasing = releasing-is ((h.state.block n).pair c).letting
-        (holds-first Release (h.state.link c).c rest (packet Release n) (λ i. shown Release c (h.state.block i)) tokens
-        refl
-        (is.invariant.transfers c Release refl))
 
 -- ---- a GrantAck
 
@@ -200,6 +184,13 @@ pub acks-delivered : {w : ℕ} (config : Config) (log : Log w) (h : AbstractStat
     (with_state (grant_ack_taken c n rest h.state) h) [] sys.manager x
 unfolding block_message
 acks-delivered {w} config log h sys c n rest x queue ms width is beats tokens next =
+    let before : List (Beat w) = unfinished Channel.E (on_link c e.trace) in
+    let after : AbstractState w = with_state (grant_ack_taken c n rest h.state) h in
+    let up : IsTakenUp config c Channel.E (Beat.E y) e =
+    takes config c Channel.E (Beat.E y) e (subst (λ (i : Beat w). manager.IsSound config (record { 0 = c }, i))
+    next.beat_is (head_all (λ i. manager.IsSound config (record { 0 = c }, i)) x queue (sys.channels c Channel.E)
+    beats (is.sound c Channel.E))) refl refl is.all_live order.1 refl in
+    let whole : completes {w = w} (Beat.E y) before ≡ true = (whole-e {w = w} y (on_link c e.trace)).1 in
     subst (Delivered config c Channel.E before h after [] e) (sym next.beat_is) (record {
       up = up;
       manager =
@@ -214,12 +205,6 @@ acks-delivered {w} config log h sys c n rest x queue ms width is beats tokens ne
     e : End w
     e = sys.manager
 
-    before : List (Beat w)
-    before = unfinished Channel.E (on_link c e.trace)
-
-    after : AbstractState w
-    after = with_state (grant_ack_taken c n rest h.state) h
-
     y : BeatE
     y = record { sink = (h.state.block n).tracker }
 
@@ -232,17 +217,6 @@ acks-delivered {w} config log h sys c n rest x queue ms width is beats tokens ne
     order : (pending (GrantSink y.sink) (on_link c e.trace) ≡ true)
         × (broken_in_order {w = w} config.profile (Beat.E y) (on_link c e.trace) ≡ None)
     order = ack-order config h.request c n y h.state e is.invariant.named is.served is.manager_kept taken_is refl
-
-    up : IsTakenUp config c Channel.E (Beat.E y) e
-    up =
-        takes config c Channel.E (Beat.E y) e
-        (subst (λ (i : Beat w). manager.IsSound config (record { 0 = c }, i)) next.beat_is
-        (head_all (λ i. manager.IsSound config (record { 0 = c }, i)) x queue (sys.channels c Channel.E) beats
-        (is.sound c Channel.E)))
-        refl refl is.all_live order.1 refl
-
-    whole : completes {w = w} (Beat.E y) before ≡ true
-    whole = (whole-e {w = w} y (on_link c e.trace)).1
 
     acks : IsAcked c n y h.request h.state e.trace
     acks = record {

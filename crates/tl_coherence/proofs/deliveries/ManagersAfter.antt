@@ -147,13 +147,12 @@ at-manager {w} config log link ch h terms x queue width is known down beats movi
     }
   where
     head : manager.IsSound config (record { 0 = link.0 }, x)
-    head = All-head (λ y. manager.IsSound config (record { 0 = link.0 }, y)) x queue (same beats (is.sound link.0 ch))
-      where
-        same : (system_after config log).channels link.0 ch ≡ x ∷ queue
-            → All (λ y. manager.IsSound config (record { 0 = link.0 }, y))
-            ((system_after config log).channels link.0 ch)
-            → All (λ y. manager.IsSound config (record { 0 = link.0 }, y)) (x ∷ queue)
-        same e f = rw e at f
+    head =
+        let same : (system_after config log).channels link.0 ch ≡ x ∷ queue
+        → All (λ y. manager.IsSound config (record { 0 = link.0 }, y))
+        ((system_after config log).channels link.0 ch)
+        → All (λ y. manager.IsSound config (record { 0 = link.0 }, y)) (x ∷ queue) = λ e f. rw e at f in
+        All-head (λ y. manager.IsSound config (record { 0 = link.0 }, y)) x queue (same beats (is.sound link.0 ch))
 
     message_channel : (k : Kind) (i : ℕ) {rest : List Packet} → packets_on ch (h.state.link link.0) ≡ packet k i ∷ rest
         → is_on ch k ≡ true
@@ -219,6 +218,8 @@ pub delivered-last : {w : ℕ} (config : Config) (log : Log w) (link : Link) (ch
     (performing (accesses_answered handed) (one_memory_after config log))
     → IsDelivered config log link ch h
 delivered-last {w} config log link ch h x queue handed pushes down is last gives pushed carried beside =
+    let h' : AbstractState w = kind_taken config (next_tracker sys) link.0 is.first.kind is.first.number is.first.rest h
+    in
     delivered_as config log link ch h h' (is.follows ∙ ap (λ (b : Bool). if b then h' else h) last)
     (subst (λ (y : Step w). ChannelRelation h'.mail h'.state y.after) (sym step_is)
     (carried (taken-landed link.0 ch x queue pushes sys now.after
@@ -228,9 +229,6 @@ delivered-last {w} config log link ch h x queue handed pushes down is last gives
   where
     sys : System w
     sys = system_after config log
-
-    h' : AbstractState w
-    h' = kind_taken config (next_tracker sys) link.0 is.first.kind is.first.number is.first.rest h
 
     e : manager_end.End w
     e = manager_offer.taken link x (reaction config link x sys.manager) sys.manager

@@ -219,44 +219,39 @@ pub matched-event : {w : ℕ} (config : Config) (log : Log w) (h : AbstractState
     (abstract_step config event (system_after config log) h).request
     (abstract_step config event (system_after config log) h).state
     (stepped config event (system_after config log)).after
-matched-event {w} config log h event width typed is = record {
-  invariant = invariant-followed config log h.mail h.request h.state sys event width is;
-  sized = sized-followed config log h sys event width is typed;
-  strangers = strangers-followed config log h sys event width is;
-  carried = all.carried;
-  sound = sound-after config log h.mail h.request h.state sys width is event typed;
-  typed = typed-after config log h.mail h.request h.state sys width is event typed;
-  sourced = sourced-followed config log h sys event width is;
-  answered = answered-followed config log h.mail h.request h.state sys event width is;
-  given = given-followed config log h.mail h.request h.state sys event width is;
-  known = λ c. (end c).known;
-  opened = λ c. (end c).opened;
-  kept = λ c. (end c).kept;
-  accounted = λ c. (end c).accounted;
-  copies = λ c. (end c).copies;
-  waiting = λ c. (end c).waiting;
-  live = λ c. (end c).live;
-  managed = manager.managed;
-  served = manager.served;
-  served_with = manager.served_with;
-  acquired = acquired-followed config log h sys event width is;
-  manager_kept = manager.manager_kept;
-  memory = manager.memory;
-  all_live = manager.all_live;
-  beside = all.beside;
-}
-  where
-    sys : System w
-    sys = system_after config log
-
-    all : IsFollowed config log event h
-    all = followed-all config log event h width is
-
-    end : (c : ℕ) → IsEndOf c (abstract_step config event sys h) ((stepped config event sys).after.clients c)
-    end c = clients-kept config log h.mail h.request h.state sys event width is c
-
-    manager : IsManagerOf config (abstract_step config event sys h) (stepped config event sys).after.manager
-    manager = manager-kept config log h sys event width is (allowed config log h sys event width is)
+matched-event {w} config log h event width typed is =
+    let sys : System w = system_after config log in
+    let all : IsFollowed config log event h = followed-all config log event h width is in
+    let end : (c : ℕ) → IsEndOf c (abstract_step config event sys h) ((stepped config event sys).after.clients c) =
+    λ c. clients-kept config log h.mail h.request h.state sys event width is c in
+    let manager : IsManagerOf config (abstract_step config event sys h) (stepped config event sys).after.manager =
+    manager-kept config log h sys event width is (allowed config log h sys event width is) in
+    record {
+      invariant = invariant-followed config log h.mail h.request h.state sys event width is;
+      sized = sized-followed config log h sys event width is typed;
+      strangers = strangers-followed config log h sys event width is;
+      carried = all.carried;
+      sound = sound-after config log h.mail h.request h.state sys width is event typed;
+      typed = typed-after config log h.mail h.request h.state sys width is event typed;
+      sourced = sourced-followed config log h sys event width is;
+      answered = answered-followed config log h.mail h.request h.state sys event width is;
+      given = given-followed config log h.mail h.request h.state sys event width is;
+      known = λ c. (end c).known;
+      opened = λ c. (end c).opened;
+      kept = λ c. (end c).kept;
+      accounted = λ c. (end c).accounted;
+      copies = λ c. (end c).copies;
+      waiting = λ c. (end c).waiting;
+      live = λ c. (end c).live;
+      managed = manager.managed;
+      served = manager.served;
+      served_with = manager.served_with;
+      acquired = acquired-followed config log h sys event width is;
+      manager_kept = manager.manager_kept;
+      memory = manager.memory;
+      all_live = manager.all_live;
+      beside = all.beside;
+    }
 
 -- ---- after every log
 

@@ -131,6 +131,7 @@ pub beside-followed_c : {w : ℕ} (config : Config) (log : Log w) (h : AbstractS
     (performing (accesses_answered (reaction config (record { 0 = c }) x sys.manager).handed) m)
 unfolding performing
 beside-followed_c {w} config log h sys c x queue m width is beats beside =
+    let before : List (Beat w) = unfinished Channel.C (on_link c sys.manager.trace) in
     by-first_c
     (λ i. MemoryRelation (if completes x before then packet_taken config (next_tracker sys) c i h else h).mail
     (if completes x before then packet_taken config (next_tracker sys) c i h else h).state
@@ -150,9 +151,6 @@ beside-followed_c {w} config log h sys c x queue m width is beats beside =
     (reaction config (record { 0 = c }) x sys.manager).handed m (completes x before) d.handed beside
     (released n rest))
   where
-    before : List (Beat w)
-    before = unfinished Channel.C (on_link c sys.manager.trace)
-
     reported : (n : ℕ) (rest : List Packet) → (h.state.link c).c ≡ packet ProbeAck n ∷ rest
         → MemoryRelation (kind_taken config (next_tracker sys) c ProbeAck n rest h).mail
         (kind_taken config (next_tracker sys) c ProbeAck n rest h).state

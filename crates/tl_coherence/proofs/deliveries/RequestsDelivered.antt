@@ -46,6 +46,7 @@ pub moved-a : {w : ℕ} (config : Config) (h : AbstractState w) (sys : System w)
     → (arrives.next.k + 1 < beats_of (Message.A arrives.request) → P h)
     → P (abstract_delivery config c Channel.A (Outcome.Moved x) sys h)
 moved-a {w} config h sys c x queue P beats arrives last more =
+    let last_is : follow.is_last (sys.channels c Channel.A) rest ≡ completes x rest = rw beats refl in
     subst (λ (b : Bool). P (if b then packet_taken config (next_tracker sys) c (h.state.link c).a h else h))
     (sym last_is) (go (completes x rest) refl)
   where
@@ -54,9 +55,6 @@ moved-a {w} config h sys c x queue P beats arrives last more =
 
     rest : List (Beat w)
     rest = unfinished Channel.A (on_link c sys.manager.trace)
-
-    last_is : follow.is_last (sys.channels c Channel.A) rest ≡ completes x rest
-    last_is = rw beats refl
 
     go : (b : Bool) → completes x rest ≡ b
         → P (if b then packet_taken config (next_tracker sys) c (h.state.link c).a h else h)

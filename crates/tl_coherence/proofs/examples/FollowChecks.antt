@@ -140,6 +140,8 @@ served blocks sources trackers s t c =
 
 abbrev pub flowed : {w : ℕ} → ℕ → ℕ → ℕ → AccessMessages w → State (List ℕ) → System w → List (Beat w) → ℕ → Bool
 flowed {w} blocks sources trackers mail s sys t c =
+    let rest : Channel → List (Beat w) = λ ch. unfinished ch (receiver ch c sys) in
+    let still : Channel → Bool = λ ch. same_beats (unfinished ch t) (rest ch) in
     all_below blocks (λ n.
     same_perm (held n t) (if is_granting (view (s.block n).service c) then ((s.block n).pair c).held else
     ((s.block n).pair c).recorded)
@@ -160,12 +162,6 @@ flowed {w} blocks sources trackers mail s sys t c =
     && implies (pending (ReleaseSource i) t) (is_of 6 (option_map (λ x. x.size) (release_of i t))))))
     && (all_below trackers (λ i. beq (pending (GrantSink i) t) (is_sunk c i (rest Channel.D) (s.tracked i) s))
     && (still Channel.A && (still Channel.B && (still Channel.C && (still Channel.D && still Channel.E))))))
-  where
-    rest : Channel → List (Beat w)
-    rest ch = unfinished ch (receiver ch c sys)
-
-    still : Channel → Bool
-    still ch = same_beats (unfinished ch t) (rest ch)
 
 -- ---- channels, the memory and the protocol by itself
 

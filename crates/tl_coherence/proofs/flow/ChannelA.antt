@@ -43,33 +43,32 @@ module _ {w : ℕ} (config : Config) (log : Log w) (h : AbstractState w) (sys : 
       → (is_empty (unfinished_at sys c Channel.A) ≡ true → k ≡ 0)
       → IsAccess c (a_beat_of asked.request k) (is_empty (unfinished_at sys c Channel.A)) b (asked_by h.mail h.state c)
       (unfinished_at sys c) rest' h.state (replied_if source b)
-  access_of source asked k ms queue next rests b last zeroth = record {
-    access = asked.access;
-    use_is = λ i e. ap (h.state.uses c) (sym (eqb-true asked.request.source i e) ∙ asked.source_is) ∙ asked.used;
-    asked_is = λ i e first. cc (
-      eqb-true asked.request.source i e,
-      asked.source_is,
-      asks-access c source asked.request
-          h.mail h.state (ap is_access asked.used) asked.is_it,
-      zeroth first,
-    );
-    came = λ i. came-so (comes_in_request i) (Message.A asked.request) y (unfinished_at sys c Channel.A) ms queue
-        (asked.request.source == i) next refl (λ j. refl);
-    comes = λ i. cc (
-      rests Channel.A,
-      comes-so (comes_in_request i) y (unfinished_at sys c Channel.A)
-          (asked.request.source == i) refl refl,
-      last,
-    );
-    blocks = λ m. blocks b m;
-    uses = λ i. uses b i;
-    lets = λ i. lets b i;
-    tracked = λ i. tracked b i;
-  }
+  access_of source asked k ms queue next rests b last zeroth =
+      let y : Beat w = Beat.A (a_beat_of asked.request k) in
+      record {
+        access = asked.access;
+        use_is = λ i e. ap (h.state.uses c) (sym (eqb-true asked.request.source i e) ∙ asked.source_is) ∙ asked.used;
+        asked_is = λ i e first. cc (
+          eqb-true asked.request.source i e,
+          asked.source_is,
+          asks-access c source asked.request
+              h.mail h.state (ap is_access asked.used) asked.is_it,
+          zeroth first,
+        );
+        came = λ i. came-so (comes_in_request i) (Message.A asked.request) y (unfinished_at sys c Channel.A) ms queue
+            (asked.request.source == i) next refl (λ j. refl);
+        comes = λ i. cc (
+          rests Channel.A,
+          comes-so (comes_in_request i) y (unfinished_at sys c Channel.A)
+              (asked.request.source == i) refl refl,
+          last,
+        );
+        blocks = λ m. blocks b m;
+        uses = λ i. uses b i;
+        lets = λ i. lets b i;
+        tracked = λ i. tracked b i;
+      }
     where
-      y : Beat w
-      y = Beat.A (a_beat_of asked.request k)
-
       blocks : (z : Bool) (m : ℕ) → (replied_if source z).block m ≡ h.state.block m
       blocks true m = refl
       blocks false m = refl
@@ -94,6 +93,10 @@ module _ {w : ℕ} (config : Config) (log : Log w) (h : AbstractState w) (sys : 
       → (b : Bool) → completes x (unfinished_at sys c Channel.A) ≡ b → MonitorRelation (asked_by h.mail h.state c) rest'
       c (replied_if source b) (x ∷ t)
   own-access source asked x ms queue next rests b last =
+      let last_y : completes (Beat.A (a_beat_of asked.request next.k)) (unfinished_at sys c Channel.A) ≡ b =
+      sym (ap (λ (z : Beat w). completes z (unfinished_at sys c Channel.A)) next.beat_is) ∙ last in
+      let rests_y : AreRests (Beat.A (a_beat_of asked.request next.k)) (unfinished_at sys c) rest' =
+      subst (λ (z : Beat w). AreRests z (unfinished_at sys c) rest') next.beat_is rests in
       subst (λ (z : Beat w). MonitorRelation (asked_by h.mail h.state c) rest' c (replied_if source b) (z ∷ t))
       (sym next.beat_is)
       (flowed-access c (a_beat_of asked.request next.k) (is_empty (unfinished_at sys c Channel.A)) b
@@ -104,12 +107,6 @@ module _ {w : ℕ} (config : Config) (log : Log w) (h : AbstractState w) (sys : 
       (subst (λ (z : Beat w). IsNext z (unfinished_at sys c Channel.A) (Message.A asked.request) ms queue)
       next.beat_is next) rests_y b last_y
       (first-zero (Message.A asked.request) x (unfinished_at sys c Channel.A) ms queue next)) flowed)
-    where
-      last_y : completes (Beat.A (a_beat_of asked.request next.k)) (unfinished_at sys c Channel.A) ≡ b
-      last_y = sym (ap (λ (z : Beat w). completes z (unfinished_at sys c Channel.A)) next.beat_is) ∙ last
-
-      rests_y : AreRests (Beat.A (a_beat_of asked.request next.k)) (unfinished_at sys c) rest'
-      rests_y = subst (λ (z : Beat w). AreRests z (unfinished_at sys c) rest') next.beat_is rests
 
   -- ---- an Acquire
 
@@ -156,6 +153,25 @@ module _ {w : ℕ} (config : Config) (log : Log w) (h : AbstractState w) (sys : 
         → AreRests x (unfinished_at sys c) rest'
         → MonitorRelation asked' rest' c s' (x ∷ t)
     acquired new s' changed uses lets tracked taken x ms queue next rests =
+        let y : BeatA w = a_beat_of (acquire_wanted c n s wanted) 0 in
+        let one : (next.k ≡ 0) × (unfinished_at sys c Channel.A ≡ [])
+        × (completes x (unfinished_at sys c Channel.A) ≡ true) = one-beat (Message.A (acquire_wanted c n s wanted))
+        x (unfinished_at sys c Channel.A) ms queue next
+        (acquisition_beats w wanted.whole wanted.grow ((s.block n).source c) n) in
+        let x_is : x ≡ Beat.A y = next.beat_is ∙ ap (λ (j : ℕ). Beat.A (a_beat_of (acquire_wanted c n s wanted) j))
+        one.0 in
+        let last_y : completes (Beat.A y) (unfinished_at sys c Channel.A) ≡ true =
+        sym (ap (λ (z : Beat w). completes z (unfinished_at sys c Channel.A)) x_is) ∙ one.2 in
+        let rests_y : AreRests (Beat.A y) (unfinished_at sys c) rest' =
+        subst (λ (z : Beat w). AreRests z (unfinished_at sys c) rest') x_is rests in
+        let now : s'.block n ≡ new = changed n ∙ set-same n new s.block in
+        let unsunk : (i : ℕ) → set tracker (Some n) s.tracked i ≡ Some n
+        → sunk_in c i (unfinished_at sys c Channel.D) (s'.block n) ≡ false =
+        λ i e. rw (
+          ap (λ (b : Block (List ℕ)). is_acknowledging (view b.service c)) now
+              ∙ taken.waits_so,
+          none_comes i e,
+        ) (and-false (is_granting (view (s'.block n).service c))) in
         subst (λ (z : Beat w). MonitorRelation asked' rest' c s' (z ∷ t)) (sym x_is)
         (flowed-acquire c n y (asked_by h.mail s c) asked' (unfinished_at sys c) rest' s s' t
         (ap is_empty (flowed.rest_is Channel.A ∙ one.1))
@@ -197,25 +213,6 @@ module _ {w : ℕ} (config : Config) (log : Log w) (h : AbstractState w) (sys : 
           answered = cc (now, taken.pair_probing, quiet);
         }) flowed)
       where
-        y : BeatA w
-        y = a_beat_of (acquire_wanted c n s wanted) 0
-
-        one : (next.k ≡ 0) × (unfinished_at sys c Channel.A ≡ []) × (completes x (unfinished_at sys c Channel.A) ≡ true)
-        one = one-beat (Message.A (acquire_wanted c n s wanted)) x (unfinished_at sys c Channel.A) ms queue next
-            (acquisition_beats w wanted.whole wanted.grow ((s.block n).source c) n)
-
-        x_is : x ≡ Beat.A y
-        x_is = next.beat_is ∙ ap (λ (j : ℕ). Beat.A (a_beat_of (acquire_wanted c n s wanted) j)) one.0
-
-        last_y : completes (Beat.A y) (unfinished_at sys c Channel.A) ≡ true
-        last_y = sym (ap (λ (z : Beat w). completes z (unfinished_at sys c Channel.A)) x_is) ∙ one.2
-
-        rests_y : AreRests (Beat.A y) (unfinished_at sys c) rest'
-        rests_y = subst (λ (z : Beat w). AreRests z (unfinished_at sys c) rest') x_is rests
-
-        now : s'.block n ≡ new
-        now = changed n ∙ set-same n new s.block
-
         -- no Grant that was delivered in part is of the block
         none_comes : (i : ℕ) → set tracker (Some n) s.tracked i ≡ Some n
             → comes_in_grant i (unfinished_at sys c Channel.D) ≡ false
@@ -236,13 +233,6 @@ module _ {w : ℕ} (config : Config) (log : Log w) (h : AbstractState w) (sys : 
                 of : (m : ℕ) × IsGrantDue c m s × (s.tracked i ≡ Some m)
                 of = coming-sink config log h.mail h.request s sys c i is f
 
-        unsunk : (i : ℕ) → set tracker (Some n) s.tracked i ≡ Some n
-            → sunk_in c i (unfinished_at sys c Channel.D) (s'.block n) ≡ false
-        unsunk i e = rw (
-          ap (λ (b : Block (List ℕ)). is_acknowledging (view b.service c)) now ∙ taken.waits_so,
-          none_comes i e,
-        ) (and-false (is_granting (view (s'.block n).service c)))
-
     held_free : held_by c (s.block n) ≡ ((s.block n).pair c).recorded
     held_free = cc free
 
@@ -251,7 +241,11 @@ module _ {w : ℕ} (config : Config) (log : Log w) (h : AbstractState w) (sys : 
         → IsNext x (unfinished_at sys c Channel.A) (Message.A (acquire_wanted c n s wanted)) ms queue
         → AreRests x (unfinished_at sys c) rest'
         → MonitorRelation asked' rest' c (acquire_served c n ((s.block n).source c) tracker k toks s) (x ∷ t)
-    own-acquire_served k toks = acquired new (acquire_served c n ((s.block n).source c) tracker k toks s) (λ m. refl)
+    own-acquire_served k toks =
+        let new : Block (List ℕ) = served_block c true ((s.block n).source c) tracker k (s.block n) in
+        let pair : new.pair c ≡ (s.block n).pair c = rw (same_number c) refl in
+        let seen : view new.service c ≡ Own = rw (same_number c) refl in
+        acquired new (acquire_served c n ((s.block n).source c) tracker k toks s) (λ m. refl)
         (λ i. refl) (λ i. refl) (λ i. refl) (record {
           pair_acquiring = ap (λ (p : ClientBlock). p.acquiring) pair;
           pair_letting = ap (λ (p : ClientBlock). p.letting) pair;
@@ -262,15 +256,6 @@ module _ {w : ℕ} (config : Config) (log : Log w) (h : AbstractState w) (sys : 
           serves = ap is_unserved seen;
           waits_so = ap is_acknowledging seen;
         })
-      where
-        new : Block (List ℕ)
-        new = served_block c true ((s.block n).source c) tracker k (s.block n)
-
-        pair : new.pair c ≡ (s.block n).pair c
-        pair = rw (same_number c) refl
-
-        seen : view new.service c ≡ Own
-        seen = rw (same_number c) refl
 
     -- it is granted at once
     pub own-acquire_granted : (d : Bool) (k : Cap) (toks : List Packet) (x : Beat w) (ms : List (Message w))
@@ -278,7 +263,9 @@ module _ {w : ℕ} (config : Config) (log : Log w) (h : AbstractState w) (sys : 
         → IsNext x (unfinished_at sys c Channel.A) (Message.A (acquire_wanted c n s wanted)) ms queue
         → AreRests x (unfinished_at sys c) rest'
         → MonitorRelation asked' rest' c (acquire_granted c n tracker d k toks s) (x ∷ t)
-    own-acquire_granted d k toks = acquired new (acquire_granted c n tracker d k toks s) (λ m. refl) (λ i. refl)
+    own-acquire_granted d k toks =
+        let seen : view new.service c ≡ Granting d k = rw (same_number c) refl in
+        acquired new (acquire_granted c n tracker d k toks s) (λ m. refl) (λ i. refl)
         (λ i. refl) (λ i. refl) (record {
           pair_acquiring = ap (λ (p : ClientBlock). p.acquiring) pair;
           pair_letting = ap (λ (p : ClientBlock). p.letting) pair;
@@ -295,6 +282,3 @@ module _ {w : ℕ} (config : Config) (log : Log w) (h : AbstractState w) (sys : 
 
         pair : new.pair c ≡ after_grant_sent k ((s.block n).pair c)
         pair = set-same c (after_grant_sent k ((s.block n).pair c)) (s.block n).pair
-
-        seen : view new.service c ≡ Granting d k
-        seen = rw (same_number c) refl

@@ -68,6 +68,13 @@ module _ {w : ℕ} (config : Config) (log : Log w) (h : AbstractState w) (sys : 
       → (asked' : ℕ → Option (BeatA w)) → ((i : ℕ) → asked' i ≡ before i)
       → MonitorRelation asked' rest' c (probe_taken c n (cap_sent ((s.block n).pair c).probing) toks s) (x ∷ t)
   own-probe n tokens x ms queue next rests asked' asks =
+      let k : Cap = cap_sent ((s.block n).pair c).probing in
+      let x_is : x ≡ Beat.B (probe_beat n k) = probe-beat c n s x (unfinished_at sys c Channel.B) ms queue next in
+      let whole : unfinished_at sys c Channel.B ≡ [] = (is.kept c).b_whole in
+      let seen : view (s.block n).service c ≡ Other k = sent_sees k ((s.block n).pair c) (view (s.block n).service c)
+      ((is.invariant.blocks n).phases c)
+      (sent-is ((s.block n).pair c).probing (holds-first Probe (s.link c).b toks (packet Probe n)
+      (λ i. shown Probe c (s.block i)) tokens refl (is.invariant.transfers c Probe refl))) in
       subst (λ (z : Beat w). MonitorRelation asked' rest' c (probe_taken c n k toks s) (z ∷ t)) (sym x_is)
       (flowed-probe c n k toks before asked' (unfinished_at sys c) rest' s t
       (ap is_empty (flowed.rest_is Channel.B ∙ whole))
@@ -75,17 +82,3 @@ module _ {w : ℕ} (config : Config) (log : Log w) (h : AbstractState w) (sys : 
       (subst (λ (z : Beat w). AreRests z (unfinished_at sys c) rest') x_is rests) asks
       (same_block n) seen (waited_as k (s.block n).service c seen)
       (λ m. comes-same m before asked' (unfinished_at sys c Channel.D) asks) flowed)
-    where
-      k : Cap
-      k = cap_sent ((s.block n).pair c).probing
-
-      x_is : x ≡ Beat.B (probe_beat n k)
-      x_is = probe-beat c n s x (unfinished_at sys c Channel.B) ms queue next
-
-      whole : unfinished_at sys c Channel.B ≡ []
-      whole = (is.kept c).b_whole
-
-      seen : view (s.block n).service c ≡ Other k
-      seen = sent_sees k ((s.block n).pair c) (view (s.block n).service c) ((is.invariant.blocks n).phases c)
-          (sent-is ((s.block n).pair c).probing (holds-first Probe (s.link c).b toks (packet Probe n)
-          (λ i. shown Probe c (s.block i)) tokens refl (is.invariant.transfers c Probe refl)))

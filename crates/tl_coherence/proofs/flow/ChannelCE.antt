@@ -198,6 +198,13 @@ module _ {w : ℕ} (config : Config) (log : Log w) (h : AbstractState w) (sys : 
       → MonitorRelation before rest' c (if b then release_taken c n (prune_told ((s.block n).pair c).letting) toks s
       else s) (x ∷ t)
   own-release tokens x ms queue next rests b last =
+      let about : (m : MessageC w) × (block_message Release c n (s.block n) ≡ Message.C m)
+      × IsAbout false n (prune_code r) (same_perm (prune_left r) Perm.Trunk) (s.block n).truth m
+      × (m.source ≡ (s.block n).release_source c) × (m.size ≡ 6) =
+      release_rendered c n (s.block n) width (is.sized n).truth in
+      let m : MessageC w = about.0 in
+      let here : IsNext x (unfinished_at sys c Channel.C) (Message.C m) ms queue =
+      subst (λ (i : Message w). IsNext x (unfinished_at sys c Channel.C) i ms queue) about.1 next in
       subst (λ (z : Beat w). MonitorRelation before rest' c (released_if r b) (z ∷ t)) (sym here.beat_is)
       (flowed-release c n r (c_beat_of m here.k) (is_empty (unfinished_at sys c Channel.C)) b before
       (unfinished_at sys c) rest' s (released_if r b) t (ap is_empty (flowed.rest_is Channel.C))
@@ -228,18 +235,6 @@ module _ {w : ℕ} (config : Config) (log : Log w) (h : AbstractState w) (sys : 
     where
       r : Prune
       r = prune_told ((s.block n).pair c).letting
-
-      about : (m : MessageC w) × (block_message Release c n (s.block n) ≡ Message.C m)
-          × IsAbout false n (prune_code r) (same_perm (prune_left r) Perm.Trunk) (s.block n).truth m
-          × (m.source ≡ (s.block n).release_source c)
-          × (m.size ≡ 6)
-      about = release_rendered c n (s.block n) width (is.sized n).truth
-
-      m : MessageC w
-      m = about.0
-
-      here : IsNext x (unfinished_at sys c Channel.C) (Message.C m) ms queue
-      here = subst (λ (i : Message w). IsNext x (unfinished_at sys c Channel.C) i ms queue) about.1 next
 
       releasing : ((s.block n).pair c).letting ≡ ReleaseSent r
       releasing = releasing-is ((s.block n).pair c).letting
@@ -315,6 +310,15 @@ module _ {w : ℕ} (config : Config) (log : Log w) (h : AbstractState w) (sys : 
       → (asked' : ℕ → Option (BeatA w)) → ((i : ℕ) → asked' i ≡ before i)
       → MonitorRelation asked' rest' c (grant_ack_taken c n toks s) (x ∷ t)
   own-grant_ack tokens x ms queue next rests asked' asks =
+      let y : BeatE = record { sink = (s.block n).tracker } in
+      let here : IsNext x (unfinished_at sys c Channel.E) (Message.E (record { sink = (s.block n).tracker })) ms queue =
+      subst (λ (i : Message w). IsNext x (unfinished_at sys c Channel.E) i ms queue) (ack_rendered c n (s.block n))
+      next in
+      let one : (here.k ≡ 0) × (unfinished_at sys c Channel.E ≡ [])
+      × (completes x (unfinished_at sys c Channel.E) ≡ true) =
+      one-beat (Message.E (record { sink = (s.block n).tracker })) x (unfinished_at sys c Channel.E) ms queue here
+      refl in
+      let x_is : x ≡ Beat.E y = here.beat_is in
       subst (λ (z : Beat w). MonitorRelation asked' rest' c (grant_ack_taken c n toks s) (z ∷ t)) (sym x_is)
       (flowed-grant_ack c n toks y before asked' (unfinished_at sys c) rest' s t
       (ap is_empty (flowed.rest_is Channel.E ∙ one.1))
@@ -326,20 +330,6 @@ module _ {w : ℕ} (config : Config) (log : Log w) (h : AbstractState w) (sys : 
       sys c is)
       (λ k. comes-same k before asked' (unfinished_at sys c Channel.D) asks) flowed)
     where
-      y : BeatE
-      y = record { sink = (s.block n).tracker }
-
-      here : IsNext x (unfinished_at sys c Channel.E) (Message.E (record { sink = (s.block n).tracker })) ms queue
-      here = subst (λ (i : Message w). IsNext x (unfinished_at sys c Channel.E) i ms queue)
-          (ack_rendered c n (s.block n)) next
-
-      one : (here.k ≡ 0) × (unfinished_at sys c Channel.E ≡ []) × (completes x (unfinished_at sys c Channel.E) ≡ true)
-      one = one-beat (Message.E (record { sink = (s.block n).tracker })) x (unfinished_at sys c Channel.E) ms queue here
-          refl
-
-      x_is : x ≡ Beat.E y
-      x_is = here.beat_is
-
       shows : is_acknowledging (view (s.block n).service c) ≡ true
       shows = holds-first GrantAck (s.link c).e toks (packet GrantAck n) (λ i. shown GrantAck c (s.block i)) tokens refl
           (is.invariant.transfers c GrantAck refl)

@@ -134,6 +134,12 @@ module _ {w : ℕ} (config : Config) (log : Log w) (h : AbstractState w) (sys : 
       → (b : Bool) → completes x (unfinished_at sys c Channel.D) ≡ b
       → MonitorRelation (asked_by h.mail (answered_if source b) c) rest' c (answered_if source b) (x ∷ t)
   own-answer source tokens x ms queue next rests b last =
+      let due : IsAnswerDue c source h.mail s = answer-due (is_caching config) c source toks h.mail s is.invariant
+      (is.answered c source) tokens in
+      let here : IsNext x (unfinished_at sys c Channel.D) (Message.D due.answer) ms queue =
+      subst (λ (i : Message w). IsNext x (unfinished_at sys c Channel.D) i ms queue) due.answer_is next in
+      let kind : (is_grant due.answer.opcode ≡ false) × (is_release_ack due.answer.opcode ≡ false) =
+      access_kind due.answer.opcode due.answers_access in
       subst (λ (z : Beat w). MonitorRelation (asked_by h.mail (answered_if source b) c) rest' c (answered_if source b)
       (z ∷ t)) (sym here.beat_is)
       (flowed-answer c (d_beat_of due.answer here.k) (is_empty (unfinished_at sys c Channel.D)) b before
@@ -152,15 +158,6 @@ module _ {w : ℕ} (config : Config) (log : Log w) (h : AbstractState w) (sys : 
         asked_is = λ i e. answer_asks source b i due.answer.source due.from e;
       }) flowed)
     where
-      due : IsAnswerDue c source h.mail s
-      due = answer-due (is_caching config) c source toks h.mail s is.invariant (is.answered c source) tokens
-
-      here : IsNext x (unfinished_at sys c Channel.D) (Message.D due.answer) ms queue
-      here = subst (λ (i : Message w). IsNext x (unfinished_at sys c Channel.D) i ms queue) due.answer_is next
-
-      kind : (is_grant due.answer.opcode ≡ false) × (is_release_ack due.answer.opcode ≡ false)
-      kind = access_kind due.answer.opcode due.answers_access
-
       blocks : (z : Bool) (k : ℕ) → (answered_if source z).block k ≡ s.block k
       blocks true k = refl
       blocks false k = refl
@@ -182,6 +179,13 @@ module _ {w : ℕ} (config : Config) (log : Log w) (h : AbstractState w) (sys : 
       → (asked' : ℕ → Option (BeatA w)) → ((i : ℕ) → asked' i ≡ before i)
       → MonitorRelation asked' rest' c (release_ack_taken c n toks s) (x ∷ t)
   own-release_ack n tokens x ms queue next rests asked' asks =
+      let m : MessageD w = ack_message ((s.block n).release_source c) in
+      let here : IsNext x (unfinished_at sys c Channel.D) (Message.D m) ms queue =
+      ack_next c n s x (unfinished_at sys c Channel.D) ms queue next in
+      let one : (here.k ≡ 0) × (unfinished_at sys c Channel.D ≡ [])
+      × (completes x (unfinished_at sys c Channel.D) ≡ true) =
+      one-beat (Message.D m) x (unfinished_at sys c Channel.D) ms queue here refl in
+      let now : (release_ack_taken c n toks s).block n ≡ new = set-same n new s.block in
       subst (λ (z : Beat w). MonitorRelation asked' rest' c (release_ack_taken c n toks s) (z ∷ t)) (sym here.beat_is)
       (flowed-let_go c n (d_beat_of m here.k) before asked' (unfinished_at sys c) rest' s (release_ack_taken c n toks s)
       t
@@ -209,20 +213,8 @@ module _ {w : ℕ} (config : Config) (log : Log w) (h : AbstractState w) (sys : 
         letting_is = ap (λ (z : Block (List ℕ)). (z.pair c).letting) now ∙ ap (λ (p : ClientBlock). p.letting) pair;
       }) flowed)
     where
-      m : MessageD w
-      m = ack_message ((s.block n).release_source c)
-
-      here : IsNext x (unfinished_at sys c Channel.D) (Message.D m) ms queue
-      here = ack_next c n s x (unfinished_at sys c Channel.D) ms queue next
-
-      one : (here.k ≡ 0) × (unfinished_at sys c Channel.D ≡ []) × (completes x (unfinished_at sys c Channel.D) ≡ true)
-      one = one-beat (Message.D m) x (unfinished_at sys c Channel.D) ms queue here refl
-
       new : Block (List ℕ)
       new = let_go_block c (s.block n)
-
-      now : (release_ack_taken c n toks s).block n ≡ new
-      now = set-same n new s.block
 
       pair : new.pair c ≡ after_release_ack ((s.block n).pair c)
       pair = set-same c (after_release_ack ((s.block n).pair c)) (s.block n).pair
@@ -255,6 +247,11 @@ module _ {w : ℕ} (config : Config) (log : Log w) (h : AbstractState w) (sys : 
       → MonitorRelation (asked_by h.mail (granted_if n whole due.data_too due.k b) c) rest' c
       (granted_if n whole due.data_too due.k b) (x ∷ t)
   own-grant n tokens due whole x ms queue next rests b last =
+      let m : MessageD w = grant_message due.data_too due.k ((s.block n).source c) (s.block n).tracker (s.block n).truth
+      in
+      let here : IsNext x (unfinished_at sys c Channel.D) (Message.D m) ms queue =
+      subst (λ (i : Message w). IsNext x (unfinished_at sys c Channel.D) i ms queue) (grant-rendered c n s due) next
+      in
       subst (λ (z : Beat w). MonitorRelation (asked_by h.mail (s_if b) c) rest' c (s_if b) (z ∷ t)) (sym here.beat_is)
       (flowed-grant c n due.data_too due.k (d_beat_of m here.k) (is_empty (unfinished_at sys c Channel.D)) b before
       (asked_by h.mail (s_if b) c)
@@ -296,13 +293,6 @@ module _ {w : ℕ} (config : Config) (log : Log w) (h : AbstractState w) (sys : 
         answered = ap (λ (z : Block (List ℕ)). is_answered (z.pair c).probing) (now b) ∙ answered b;
       }) flowed)
     where
-      m : MessageD w
-      m = grant_message due.data_too due.k ((s.block n).source c) (s.block n).tracker (s.block n).truth
-
-      here : IsNext x (unfinished_at sys c Channel.D) (Message.D m) ms queue
-      here = subst (λ (i : Message w). IsNext x (unfinished_at sys c Channel.D) i ms queue) (grant-rendered c n s due)
-          next
-
       s_if : Bool → State (List ℕ)
       s_if z = granted_if n whole due.data_too due.k z
 

@@ -63,6 +63,8 @@ pub flowed-access : {w : ℕ} {X : Type 0} (c : ℕ) (y : BeatA w) (first last :
     → IsAccess c y first last asked rest rest' s s'
     → MonitorRelation asked rest c s t → MonitorRelation asked rest' c s' (Beat.A y ∷ t)
 flowed-access {w} {X} c y first last asked rest rest' s s' t first_is last_is rests is before =
+    let grants : (m : ℕ) → granted_by c m asked (rest' Channel.D) (s'.block m) ≡ granted_by c m asked (rest Channel.D)
+    (s.block m) = λ m. cc (rests Channel.D, is.blocks m) in
     flowed-next (Beat.A y) first last asked asked rest rest' c s s' t (record {
       first_is = first_is;
       last_is = last_is;
@@ -144,7 +146,3 @@ flowed-access {w} {X} c y first last asked rest rest' s s' t first_is last_is re
     sinks : (i : ℕ) (o : Option ℕ) → is_sunk c i (rest Channel.D) o s' ≡ is_sunk c i (rest Channel.D) o s
     sinks i None = refl
     sinks i (Some m) = cc (is.blocks m)
-
-    grants : (m : ℕ) → granted_by c m asked (rest' Channel.D) (s'.block m) ≡ granted_by c m asked (rest Channel.D)
-        (s.block m)
-    grants m = cc (rests Channel.D, is.blocks m)

@@ -51,6 +51,27 @@ pub flowed-acquire : {w : ℕ} {X : Type 0} (c n : ℕ) (y : BeatA w) (asked ask
     → IsAcquired c n y asked asked' rest rest' s s'
     → MonitorRelation asked rest c s t → MonitorRelation asked' rest' c s' (Beat.A y ∷ t)
 flowed-acquire {w} {X} c n y asked asked' rest rest' s s' t first_is last_is rests is before =
+    let b : Block X = s.block n in
+    let new : Block X = s'.block n in
+    let none_comes : comes_granting n asked (rest Channel.D) ≡ false =
+    no_coming (is_granting (view b.service c)) (comes_granting n asked (rest Channel.D)) (ap is_granting is.idle)
+    (is.coming n) in
+    let granted_then : granted_by c n asked (rest Channel.D) b ≡ false =
+    neither (is_acknowledging (view b.service c)) (comes_granting n asked (rest Channel.D))
+    (ap is_acknowledging is.idle) none_comes in
+    let grants : (m : ℕ) → granted_by c m asked' (rest' Channel.D) (s'.block m) ≡ granted_by c m asked (rest Channel.D)
+    (s.block m) = λ m. cc (
+      rests Channel.D,
+      comes-same m asked asked' (rest Channel.D) is.asked_is,
+      each-block
+          (λ j z. granted_by c j asked (rest Channel.D) z ≡ granted_by c j asked (rest Channel.D) (s.block j)) n s s'
+          is.elsewhere (neither (is_acknowledging (view new.service c)) (comes_granting n asked (rest Channel.D)) is.waits
+          none_comes ∙ sym granted_then) (λ j ne. refl) m,
+    ) in
+    let tracked : (m : ℕ) → granted_by c m asked' (rest' Channel.D) (s'.block m) ≡ true → grant_sink m t ≡ Some
+    (s'.block m).tracker = λ m e. each-block (λ j z. granted_by c j asked (rest Channel.D) (s.block j) ≡ true →
+    grant_sink j t ≡ Some z.tracker) n s s' is.elsewhere (λ f. absurd (let g : false ≡ true = sym granted_then ∙ f
+    in cc)) (λ j ne f. before.sunk j (before.grants j ∙ f)) m (sym (grants m) ∙ e) in
     flowed-next (Beat.A y) true true asked asked' rest rest' c s s' t (record {
       first_is = first_is;
       last_is = last_is;
@@ -80,12 +101,6 @@ flowed-acquire {w} {X} c n y asked asked' rest rest' s s' t first_is last_is res
       sunk = λ m e. grant_sink-a m y t ∙ tracked m e;
     }) before
   where
-    b : Block X
-    b = s.block n
-
-    new : Block X
-    new = s'.block n
-
     now : (i : ℕ) → (y.source == i) ≡ true → is_requested c i (rest' Channel.A) (s'.uses c i) s' ≡ true
     now i e = cc (is.uses i, is.use_is i e, is.served)
 
@@ -120,26 +135,6 @@ flowed-acquire {w} {X} c n y asked asked' rest rest' s s' t first_is last_is res
           (part-block (λ (z : Block X). (z.pair c).letting) n s s' is.elsewhere is.letting_is),
     )
 
-    none_comes : comes_granting n asked (rest Channel.D) ≡ false
-    none_comes = no_coming (is_granting (view b.service c)) (comes_granting n asked (rest Channel.D))
-        (ap is_granting is.idle) (is.coming n)
-
-    granted_then : granted_by c n asked (rest Channel.D) b ≡ false
-    granted_then = neither (is_acknowledging (view b.service c)) (comes_granting n asked (rest Channel.D))
-        (ap is_acknowledging is.idle) none_comes
-
-    grants : (m : ℕ) → granted_by c m asked' (rest' Channel.D) (s'.block m) ≡ granted_by c m asked (rest Channel.D)
-        (s.block m)
-    grants m = cc (
-      rests Channel.D,
-      comes-same m asked asked' (rest Channel.D) is.asked_is,
-      each-block
-          (λ j z. granted_by c j asked (rest Channel.D) z ≡ granted_by c j asked (rest Channel.D) (s.block j)) n s s'
-          is.elsewhere (neither (is_acknowledging (view new.service c)) (comes_granting n asked (rest Channel.D))
-          is.waits
-          none_comes ∙ sym granted_then) (λ j ne. refl) m,
-    )
-
     answered : (m : ℕ) → is_answered ((s'.block m).pair c).probing ≡ is_answered ((s.block m).pair c).probing
     answered = part-block (λ (z : Block X). is_answered (z.pair c).probing) n s s' is.elsewhere
         (is.answered ∙ sym is.quiet)
@@ -150,10 +145,3 @@ flowed-acquire {w} {X} c n y asked asked' rest rest' s s' t first_is last_is res
         → probe_of m t ≡ Some (probe_beat m (cap_waited z.service))) n s s' is.elsewhere
         (λ e. absurd (let f : false ≡ true = sym is.answered ∙ e in cc))
         (λ m ne e. before.probed m e)
-
-    tracked : (m : ℕ) → granted_by c m asked' (rest' Channel.D) (s'.block m) ≡ true
-        → grant_sink m t ≡ Some (s'.block m).tracker
-    tracked m e = each-block (λ j z. granted_by c j asked (rest Channel.D) (s.block j) ≡ true
-        → grant_sink j t ≡ Some z.tracker) n s s' is.elsewhere
-        (λ f. absurd (let g : false ≡ true = sym granted_then ∙ f in cc))
-        (λ j ne f. before.sunk j (before.grants j ∙ f)) m (sym (grants m) ∙ e)

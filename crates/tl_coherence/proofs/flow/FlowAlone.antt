@@ -51,6 +51,12 @@ pub flowed-grant_ack : {w : ℕ} {X : Type 0} (c n : ℕ) (toks : List Packet) (
     → MonitorRelation asked rest c s t → MonitorRelation asked' rest' c (grant_ack_taken c n toks s) (Beat.E y ∷ t)
 flowed-grant_ack {w} {X} c n toks y asked asked' rest rest' s t first last rests asks sink seen named busy busy_a busy_g
     coming comes before =
+    let requests : (i : ℕ) → is_requested c i (rest' Channel.A) (s'.uses c i) s' ≡ is_requested c i (rest Channel.A)
+    (s.uses c i) s = λ i. cc (
+      rests Channel.A,
+      requested-blocks c i (rest Channel.A) (s.uses c i) s s'
+          (set-part (λ (z : Block X). is_unserved (view z.service c)) n new s.block (sym (ap is_unserved seen))),
+    ) in
     flowed-next (Beat.E y) true true asked asked' rest rest' c s s' t (record {
       first_is = first;
       last_is = last;
@@ -84,14 +90,6 @@ flowed-grant_ack {w} {X} c n toks y asked asked' rest rest' s t first last rests
 
     s' : State X
     s' = grant_ack_taken c n toks s
-
-    requests : (i : ℕ) → is_requested c i (rest' Channel.A) (s'.uses c i) s' ≡ is_requested c i (rest Channel.A)
-        (s.uses c i) s
-    requests i = cc (
-      rests Channel.A,
-      requested-blocks c i (rest Channel.A) (s.uses c i) s s'
-          (set-part (λ (z : Block X). is_unserved (view z.service c)) n new s.block (sym (ap is_unserved seen))),
-    )
 
     lets : (i : ℕ) → is_let_by c i (rest' Channel.C) (s'.lets c i) s' ≡ is_let_by c i (rest Channel.C) (s.lets c i) s
     lets i = cc (

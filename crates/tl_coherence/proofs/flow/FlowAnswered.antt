@@ -201,6 +201,40 @@ pub flowed-let_go : {w : ℕ} {X : Type 0} (c n : ℕ) (y : BeatD w) (asked aske
     → ((i m : ℕ) → is_of m (s.lets c i) ≡ releases_with c i (s.block m)) → IsLetGo c n y asked asked' rest rest' s s'
     → MonitorRelation asked rest c s t → MonitorRelation asked' rest' c s' (Beat.D y ∷ t)
 flowed-let_go {w} {X} c n y asked asked' rest rest' s s' t first_is last_is rests named is before =
+    let of_block : s.lets c y.source ≡ Some n =
+    is_of-is n (s.lets c y.source) (named y.source n
+    ∙ rw (is.letting, is.source) (same_number (b.release_source c))) in
+    let was_let : pending (ReleaseSource y.source) t ≡ true = cc (before.release_sources y.source, of_block, is.letting)
+    in
+    let names : (m : ℕ) → releases m (release_of y.source t) ≡ (n == m) =
+    λ m. of_releases n m (release_of y.source t) (before.released y.source n of_block was_let) in
+    let releases_at : (m : ℕ) → let_of c (rest Channel.C) (s'.block m) ≡ step true true false
+    (is_release_ack y.opcode && releases m (release_of y.source t)) (let_of c (rest Channel.C) (s.block m)) =
+    each-block (λ m z. let_of c (rest Channel.C) z ≡ step true true false
+    (is_release_ack y.opcode && releases m (release_of y.source t)) (let_of c (rest Channel.C) (s.block m))) n s s'
+    is.elsewhere (ap (is_release_pending ((s'.block n).release_source c) (rest Channel.C)) is.letting_is
+    ∙ sym (closed (is_release_ack y.opcode) (releases n (release_of y.source t)) (let_of c (rest Channel.C) b)
+    is.ack (names n ∙ same_number n)))
+    (λ m ne. sym (unclosed_by (is_release_ack y.opcode) (releases m (release_of y.source t))
+    (let_of c (rest Channel.C) (s.block m)) (names m ∙ ne_eqb n m (λ e. ne (sym e))))) in
+    let requests : (i : ℕ) → is_requested c i (rest' Channel.A) (s'.uses c i) s' ≡ is_requested c i (rest Channel.A)
+    (s.uses c i) s = λ i. cc (
+      rests Channel.A,
+      is.uses i,
+      requested-blocks c i (rest Channel.A) (s.uses c i) s s'
+          (part-block (λ (z : Block X). is_unserved (view z.service c)) n s s' is.elsewhere
+          (ap (λ (q : Service). is_unserved (view q c)) is.service)),
+    ) in
+    let acquires : (m : ℕ) → acquired_by c (s'.block m) ≡ acquired_by c (s.block m) =
+    part-block (acquired_by c) n s s' is.elsewhere
+    (ap (λ (l : AcquirePhase). is_wanting l && not (is_unserved (view (s'.block n).service c))) is.acquiring
+    ∙ ap (λ (q : Service). is_wanting (b.pair c).acquiring && not (is_unserved (view q c))) is.service) in
+    let answered : (m : ℕ) → is_answered ((s'.block m).pair c).probing ≡ is_answered ((s.block m).pair c).probing =
+    part-block (λ (z : Block X). is_answered (z.pair c).probing) n s s' is.elsewhere (ap is_answered is.probing) in
+    let still_pending : (i m : ℕ) → s'.lets c i ≡ Some m → is_let_by c i (rest' Channel.C) (s'.lets c i) s' ≡ true
+    → pending (ReleaseSource i) t ≡ true = λ i m e f. before.release_sources i
+    ∙ sym (unclosed_by (is_release_ack y.opcode) (y.source == i) (is_let_by c i (rest Channel.C) (s.lets c i) s)
+    (is_another i m e (y.source == i) refl).0) ∙ sym (lets i (y.source == i) refl) ∙ f in
     flowed-next (Beat.D y) true true asked asked' rest rest' c s s' t (record {
       first_is = first_is;
       last_is = last_is;
@@ -236,46 +270,6 @@ flowed-let_go {w} {X} c n y asked asked' rest rest' s s' t first_is last_is rest
   where
     b : Block X
     b = s.block n
-
-    of_block : s.lets c y.source ≡ Some n
-    of_block = is_of-is n (s.lets c y.source)
-        (named y.source n ∙ rw (is.letting, is.source) (same_number (b.release_source c)))
-
-    was_let : pending (ReleaseSource y.source) t ≡ true
-    was_let = cc (before.release_sources y.source, of_block, is.letting)
-
-    names : (m : ℕ) → releases m (release_of y.source t) ≡ (n == m)
-    names m = of_releases n m (release_of y.source t) (before.released y.source n of_block was_let)
-
-    releases_at : (m : ℕ) → let_of c (rest Channel.C) (s'.block m) ≡ step true true false
-        (is_release_ack y.opcode && releases m (release_of y.source t)) (let_of c (rest Channel.C) (s.block m))
-    releases_at = each-block (λ m z. let_of c (rest Channel.C) z ≡ step true true false
-        (is_release_ack y.opcode && releases m (release_of y.source t))
-        (let_of c (rest Channel.C) (s.block m))) n s s' is.elsewhere
-        (ap (is_release_pending ((s'.block n).release_source c) (rest Channel.C)) is.letting_is
-        ∙ sym (closed (is_release_ack y.opcode) (releases n (release_of y.source t)) (let_of c (rest Channel.C) b)
-        is.ack (names n ∙ same_number n)))
-        (λ m ne. sym (unclosed_by (is_release_ack y.opcode) (releases m (release_of y.source t))
-        (let_of c (rest Channel.C) (s.block m)) (names m ∙ ne_eqb n m (λ e. ne (sym e)))))
-
-    requests : (i : ℕ) → is_requested c i (rest' Channel.A) (s'.uses c i) s' ≡ is_requested c i (rest Channel.A)
-        (s.uses c i) s
-    requests i = cc (
-      rests Channel.A,
-      is.uses i,
-      requested-blocks c i (rest Channel.A) (s.uses c i) s s'
-          (part-block (λ (z : Block X). is_unserved (view z.service c)) n s s' is.elsewhere
-          (ap (λ (q : Service). is_unserved (view q c)) is.service)),
-    )
-
-    acquires : (m : ℕ) → acquired_by c (s'.block m) ≡ acquired_by c (s.block m)
-    acquires = part-block (acquired_by c) n s s' is.elsewhere
-        (ap (λ (l : AcquirePhase). is_wanting l && not (is_unserved (view (s'.block n).service c))) is.acquiring
-        ∙ ap (λ (q : Service). is_wanting (b.pair c).acquiring && not (is_unserved (view q c))) is.service)
-
-    answered : (m : ℕ) → is_answered ((s'.block m).pair c).probing ≡ is_answered ((s.block m).pair c).probing
-    answered = part-block (λ (z : Block X). is_answered (z.pair c).probing) n s s' is.elsewhere
-        (ap is_answered is.probing)
 
     sinks : (i : ℕ) (o : Option ℕ) → is_sunk c i (rest' Channel.D) o s' ≡ is_sunk c i (rest Channel.D) o s
     sinks i None = refl
@@ -326,10 +320,3 @@ flowed-let_go {w} {X} c n y asked asked' rest rest' s s' t first_is last_is rest
     is_another i m e true f =
         absurd (let g : None ≡ Some m = sym (is.lets i ∙ ap (λ (z : Bool). if z then None else s.lets c i) f) ∙ e in cc)
     is_another i m e false f = (f, sym (is.lets i ∙ ap (λ (z : Bool). if z then None else s.lets c i) f) ∙ e)
-
-    still_pending : (i m : ℕ) → s'.lets c i ≡ Some m → is_let_by c i (rest' Channel.C) (s'.lets c i) s' ≡ true
-        → pending (ReleaseSource i) t ≡ true
-    still_pending i m e f = before.release_sources i ∙ sym
-        (unclosed_by (is_release_ack y.opcode) (y.source == i) (is_let_by c i (rest Channel.C) (s.lets c i) s)
-        (is_another i m e (y.source == i) refl).0)
-        ∙ sym (lets i (y.source == i) refl) ∙ f

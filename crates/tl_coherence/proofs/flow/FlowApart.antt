@@ -158,26 +158,22 @@ module _ {w : ℕ} {X : Type 0} (d : ℕ) (asked asked' : ℕ → Option (BeatA 
       → ((i : ℕ) → IsSameUse (s.uses d i) (s'.uses d i)) → ((i : ℕ) → s'.lets d i ≡ s.lets d i)
       → s.tracked tracker ≡ None → ((i : ℕ) → s'.tracked i ≡ set tracker (Some n) s.tracked i) → IsLeft s'
   left-served r n source tracker own k s' changed other free quiet uses lets unused tracked =
+      let new : Block X = served_block r own source tracker k (s.block n) in
       apart-at n new s' changed (same-served d r source tracker own k (s.block n) other free quiet) uses lets
       (sinks-outside n new s' changed (free-outside n free) (outside-waits d r source own k other)
       (λ i. subst (λ (o : Option ℕ). (o ≡ s.tracked i) ⊎ (IsWithin n (s.tracked i) × IsWithin n o)) (sym (tracked i))
       (tracked-new n tracker s.tracked unused i)))
-    where
-      new : Block X
-      new = served_block r own source tracker k (s.block n)
 
   pub left-acquire_granted : (r n tracker : ℕ) (x : Bool) (k : Cap) (toks : List Packet) → (d ≡ r → ⊥)
       → (s.block n).service ≡ Free
       → is_answered ((s.block n).pair d).probing ≡ false → s.tracked tracker ≡ None
       → IsLeft (acquire_granted r n tracker x k toks s)
   left-acquire_granted r n tracker x k toks ne free quiet unused =
+      let new : Block X = granted_at_once r tracker x k (s.block n) in
       apart-at n new (acquire_granted r n tracker x k toks s) (λ m. refl)
       (same-granted_at_once d r tracker x k (s.block n) ne free quiet) (λ i. inl refl) (λ i. refl)
       (sinks-outside n new (acquire_granted r n tracker x k toks s) (λ m. refl) (free-outside n free)
       (outside-sent d r x k ne) (tracked-new n tracker s.tracked unused))
-    where
-      new : Block X
-      new = granted_at_once r tracker x k (s.block n)
 
   -- ---- Probes, ProbeAcks and Releases
 
@@ -315,20 +311,22 @@ module _ {w : ℕ} {X : Type 0} (d : ℕ) (asked asked' : ℕ → Option (BeatA 
         → ((i : ℕ) → s.tracked i ≡ Some n → comes_in_grant i (rest Channel.D) ≡ false)
         → IsAside asked asked' rest d (report_taken c n r toks s) (report_grants c q n r x k toks s)
     left-report_grants q source j k x waits quiet apart even none =
+        let changed : (m : ℕ) → set n new s.block m ≡ set n new between.block m =
+        set-again n (reported_block c r (s.block n)) new s.block in
+        let same : IsSameBlock d (reported_block c r (s.block n)) new = elim (cases_eq d q) [
+          | inl here ↦ rw here (same-given c q source r j k x (s.block n) apart waits even (quiet q apart))
+          | inr other ↦ same-granted d c q source r j k x (s.block n) other waits (unanswered quiet)
+        ] in
+        let sinks : (i : ℕ) → is_sunk d i (rest Channel.D) (s.tracked i) (report_grants c q n r x k toks s)
+        ≡ is_sunk d i (rest Channel.D) (s.tracked i) between =
+        λ i. cc (sunk-elsewhere d i n (rest Channel.D) (s.tracked i) (s.tracked i) between
+        (report_grants c q n r x k toks s) (λ m ne. changed m ∙ set-other n m new between.block ne) (inl refl)
+        (λ e. unsunk_then i) (λ e. ap (sunk_in d i (rest Channel.D)) (set-same n new s.block) ∙ unsunk_now i e)) in
         apart-at d asked asked' rest between asks coming_still n new (report_grants c q n r x k toks s) changed
         (subst (λ (z : Block X). IsSameBlock d z new) (sym new_is) same) (λ i. inl refl) (λ i. refl) sinks
       where
         new : Block X
         new = granted_block c q r x k (s.block n)
-
-        changed : (m : ℕ) → set n new s.block m ≡ set n new between.block m
-        changed = set-again n (reported_block c r (s.block n)) new s.block
-
-        same : IsSameBlock d (reported_block c r (s.block n)) new
-        same = elim (cases_eq d q) [
-          | inl here ↦ rw here (same-given c q source r j k x (s.block n) apart waits even (quiet q apart))
-          | inr other ↦ same-granted d c q source r j k x (s.block n) other waits (unanswered quiet)
-        ]
 
         unsunk_now : (i : ℕ) → s.tracked i ≡ Some n → sunk_in d i (rest Channel.D) new ≡ false
         unsunk_now i e = elim (cases_eq d q) [
@@ -350,9 +348,3 @@ module _ {w : ℕ} {X : Type 0} (d : ℕ) (asked asked' : ℕ → Option (BeatA 
                 || (is_granting (if true && z then Own else Other j) && comes_in_grant i (rest Channel.D))) ≡ false
             waiting true = refl
             waiting false = refl
-
-        sinks : (i : ℕ) → is_sunk d i (rest Channel.D) (s.tracked i) (report_grants c q n r x k toks s) ≡ is_sunk d i
-            (rest Channel.D) (s.tracked i) between
-        sinks i = cc (sunk-elsewhere d i n (rest Channel.D) (s.tracked i) (s.tracked i) between
-            (report_grants c q n r x k toks s) (λ m ne. changed m ∙ set-other n m new between.block ne) (inl refl)
-            (λ e. unsunk_then i) (λ e. ap (sunk_in d i (rest Channel.D)) (set-same n new s.block) ∙ unsunk_now i e))

@@ -72,29 +72,34 @@ pub untouched-acquire_asked : {w : ℕ} {X : Type 0} (c n source : ℕ) (whole :
     → ((i : ℕ) → (i ≡ source → ⊥) → asked' i ≡ asked i)
     → ((m : ℕ) → comes_granting m asked' (rest Channel.D) ≡ comes_granting m asked (rest Channel.D))
     → IsUntouched asked asked' rest c s (acquire_asked c n source whole g bytes s)
-untouched-acquire_asked {w} {X} c n source whole g bytes asked asked' rest s closed calm unserved asks grants = record {
-  held_is = set-part (held_by c) n new s.block
-      (ap (λ (p : ClientBlock). if is_granting (view b.service c) then p.held else p.recorded) pair);
-  requests = requested-now c source (Acquires n) (rest Channel.A) s s' closed (λ i. refl)
-      (ap not (unserved_same n ∙ unserved)) unserved_same;
-  asked_is = asked-now c source asked asked' (rest Channel.A) s closed asks;
-  acquires = set-part (acquired_by c) n new s.block
-      (served (is_wanting (new.pair c).acquiring) (is_unserved (view b.service c)) unserved
-      ∙ sym (served (is_wanting (b.pair c).acquiring) (is_unserved (view b.service c)) unserved));
-  release_sources = λ i. let_by-same c i (rest Channel.C) (s.lets c i) s s'
-      (set-part (λ (z : Block X). (z.pair c).letting) n new s.block letting_same);
-  lets = λ i m e f. f;
-  releases = set-part (let_of c (rest Channel.C)) n new s.block
-      (ap (is_release_pending (b.release_source c) (rest Channel.C))
-      letting_same);
-  sinks = λ i. sunk-as c i (rest Channel.D) (s.tracked i) s s' (set-part (sunk_in c i (rest Channel.D)) n new s.block
-      refl);
-  grants = λ m. cc (grants m, set-part (granted_by c m asked (rest Channel.D)) n new s.block refl m);
-  probes = set-part (λ (z : Block X). is_answered (z.pair c).probing) n new s.block
-      (ap (λ (p : ClientBlock). is_answered p.probing) pair);
-  caps = λ m e. set-part (λ (z : Block X). cap_waited z.service) n new s.block refl m;
-  trackers = λ m e. set-part (λ (z : Block X). z.tracker) n new s.block refl m;
-}
+untouched-acquire_asked {w} {X} c n source whole g bytes asked asked' rest s closed calm unserved asks grants =
+    let s' : State X = acquire_asked c n source whole g bytes s in
+    let letting_same : (new.pair c).letting ≡ (b.pair c).letting = ap (λ (p : ClientBlock). p.letting) pair in
+    let unserved_same : (m : ℕ) → is_unserved (view (s'.block m).service c) ≡ is_unserved (view (s.block m).service c) =
+    set-part (λ (z : Block X). is_unserved (view z.service c)) n new s.block refl in
+    record {
+      held_is = set-part (held_by c) n new s.block
+          (ap (λ (p : ClientBlock). if is_granting (view b.service c) then p.held else p.recorded) pair);
+      requests = requested-now c source (Acquires n) (rest Channel.A) s s' closed (λ i. refl)
+          (ap not (unserved_same n ∙ unserved)) unserved_same;
+      asked_is = asked-now c source asked asked' (rest Channel.A) s closed asks;
+      acquires = set-part (acquired_by c) n new s.block
+          (served (is_wanting (new.pair c).acquiring) (is_unserved (view b.service c)) unserved
+          ∙ sym (served (is_wanting (b.pair c).acquiring) (is_unserved (view b.service c)) unserved));
+      release_sources = λ i. let_by-same c i (rest Channel.C) (s.lets c i) s s'
+          (set-part (λ (z : Block X). (z.pair c).letting) n new s.block letting_same);
+      lets = λ i m e f. f;
+      releases = set-part (let_of c (rest Channel.C)) n new s.block
+          (ap (is_release_pending (b.release_source c) (rest Channel.C))
+          letting_same);
+      sinks = λ i. sunk-as c i (rest Channel.D) (s.tracked i) s s' (set-part (sunk_in c i (rest Channel.D)) n new s.block
+          refl);
+      grants = λ m. cc (grants m, set-part (granted_by c m asked (rest Channel.D)) n new s.block refl m);
+      probes = set-part (λ (z : Block X). is_answered (z.pair c).probing) n new s.block
+          (ap (λ (p : ClientBlock). is_answered p.probing) pair);
+      caps = λ m e. set-part (λ (z : Block X). cap_waited z.service) n new s.block refl m;
+      trackers = λ m e. set-part (λ (z : Block X). z.tracker) n new s.block refl m;
+    }
   where
     b : Block X
     b = s.block n
@@ -102,17 +107,8 @@ untouched-acquire_asked {w} {X} c n source whole g bytes asked asked' rest s clo
     new : Block X
     new = acquiring_block c source whole g bytes b
 
-    s' : State X
-    s' = acquire_asked c n source whole g bytes s
-
     pair : new.pair c ≡ after_acquire whole g (b.pair c)
     pair = set-same c (after_acquire whole g (b.pair c)) b.pair
-
-    letting_same : (new.pair c).letting ≡ (b.pair c).letting
-    letting_same = ap (λ (p : ClientBlock). p.letting) pair
-
-    unserved_same : (m : ℕ) → is_unserved (view (s'.block m).service c) ≡ is_unserved (view (s.block m).service c)
-    unserved_same = set-part (λ (z : Block X). is_unserved (view z.service c)) n new s.block refl
 
     served : (p q : Bool) → q ≡ true → (p && not q) ≡ false
     served true q e = rw e refl
@@ -126,34 +122,42 @@ pub untouched-release_asked : {w : ℕ} {X : Type 0} (c n source : ℕ) (r : Pru
     → ((s.block n).pair c).letting ≡ NoRelease → ((i : ℕ) → is_of n (s.lets c i) ≡ false)
     → is_granting (view (s.block n).service c) ≡ false
     → ((i : ℕ) → asked' i ≡ asked i) → IsUntouched asked asked' rest c s (release_asked c n source r s)
-untouched-release_asked {w} {X} c n source r asked asked' rest s free none kept unused ungranted asks = record {
-  held_is = set-part (held_by c) n new s.block
-      (ap (λ (z : Bool). if z then (new.pair c).held else (new.pair c).recorded) ungranted
-      ∙ ap (λ (p : ClientBlock). p.recorded) pair ∙ sym
-      (ap (λ (z : Bool). if z then (b.pair c).held else (b.pair c).recorded) ungranted));
-  requests = λ i. requested-blocks c i (rest Channel.A) (s.uses c i) s s'
-      (set-part (λ (z : Block X). is_unserved (view z.service c)) n new s.block refl);
-  asked_is = λ i e. asks i;
-  acquires = set-part (acquired_by c) n new s.block
-      (ap (λ (p : ClientBlock). is_wanting p.acquiring && not (is_unserved (view b.service c))) pair);
-  release_sources = lets;
-  lets = λ i m e f. still i m e f;
-  releases = set-part (let_of c (rest Channel.C)) n new s.block
-      (ap (λ (l : ReleasePhase). is_release_pending (new.release_source c) (rest Channel.C) l) letting_is
-      ∙ ap (λ (j : ℕ). comes_in_release j (rest Channel.C)) (set-same c source b.release_source) ∙ none
-      ∙ sym (ap (is_release_pending (b.release_source c) (rest Channel.C)) kept));
-  sinks = λ i. sunk-as c i (rest Channel.D) (s.tracked i) s s' (set-part (sunk_in c i (rest Channel.D)) n new s.block
-      refl);
-  grants = λ m. cc (
-    comes-same m asked asked' (rest Channel.D) asks,
-    set-part (granted_by c m asked (rest Channel.D)) n
-        new s.block refl m,
-  );
-  probes = set-part (λ (z : Block X). is_answered (z.pair c).probing) n new s.block
-      (ap (λ (p : ClientBlock). is_answered p.probing) pair);
-  caps = λ m e. set-part (λ (z : Block X). cap_waited z.service) n new s.block refl m;
-  trackers = λ m e. set-part (λ (z : Block X). z.tracker) n new s.block refl m;
-}
+untouched-release_asked {w} {X} c n source r asked asked' rest s free none kept unused ungranted asks =
+    let still : (i m : ℕ) → is_let_by c i (rest Channel.C) (s.lets c i) s ≡ true → s'.lets c i ≡ Some m
+    → s.lets c i ≡ Some m = λ i m e f. elim (cases_eq i source) [
+      | inl here ↦ absurd (let no : false ≡ true =
+          sym (ap (λ (j : ℕ). is_let_by c j (rest Channel.C) (s.lets c j) s) here
+          ∙ ap (λ (o : Option ℕ). is_let_by c source (rest Channel.C) o s) free) ∙ e in cc)
+      | inr other ↦ sym (set_at-else c source i (Some n) s.lets other c) ∙ f
+    ] in
+    record {
+      held_is = set-part (held_by c) n new s.block
+          (ap (λ (z : Bool). if z then (new.pair c).held else (new.pair c).recorded) ungranted
+          ∙ ap (λ (p : ClientBlock). p.recorded) pair ∙ sym
+          (ap (λ (z : Bool). if z then (b.pair c).held else (b.pair c).recorded) ungranted));
+      requests = λ i. requested-blocks c i (rest Channel.A) (s.uses c i) s s'
+          (set-part (λ (z : Block X). is_unserved (view z.service c)) n new s.block refl);
+      asked_is = λ i e. asks i;
+      acquires = set-part (acquired_by c) n new s.block
+          (ap (λ (p : ClientBlock). is_wanting p.acquiring && not (is_unserved (view b.service c))) pair);
+      release_sources = lets;
+      lets = λ i m e f. still i m e f;
+      releases = set-part (let_of c (rest Channel.C)) n new s.block
+          (ap (λ (l : ReleasePhase). is_release_pending (new.release_source c) (rest Channel.C) l) letting_is
+          ∙ ap (λ (j : ℕ). comes_in_release j (rest Channel.C)) (set-same c source b.release_source) ∙ none
+          ∙ sym (ap (is_release_pending (b.release_source c) (rest Channel.C)) kept));
+      sinks = λ i. sunk-as c i (rest Channel.D) (s.tracked i) s s' (set-part (sunk_in c i (rest Channel.D)) n new s.block
+          refl);
+      grants = λ m. cc (
+        comes-same m asked asked' (rest Channel.D) asks,
+        set-part (granted_by c m asked (rest Channel.D)) n
+            new s.block refl m,
+      );
+      probes = set-part (λ (z : Block X). is_answered (z.pair c).probing) n new s.block
+          (ap (λ (p : ClientBlock). is_answered p.probing) pair);
+      caps = λ m e. set-part (λ (z : Block X). cap_waited z.service) n new s.block refl m;
+      trackers = λ m e. set-part (λ (z : Block X). z.tracker) n new s.block refl m;
+    }
   where
     b : Block X
     b = s.block n
@@ -192,13 +196,4 @@ untouched-release_asked {w} {X} c n source r asked asked' rest s free none kept 
           ∙ sym (ap (λ (o : Option ℕ). is_let_by c source (rest Channel.C) o s) free))
       | inr other ↦ ap (λ (o : Option ℕ). is_let_by c i (rest Channel.C) o s')
           (set_at-else c source i (Some n) s.lets other c) ∙ others i (s.lets c i) (unused i)
-    ]
-
-    still : (i m : ℕ) → is_let_by c i (rest Channel.C) (s.lets c i) s ≡ true → s'.lets c i ≡ Some m
-        → s.lets c i ≡ Some m
-    still i m e f = elim (cases_eq i source) [
-      | inl here ↦ absurd (let no : false ≡ true =
-          sym (ap (λ (j : ℕ). is_let_by c j (rest Channel.C) (s.lets c j) s) here
-          ∙ ap (λ (o : Option ℕ). is_let_by c source (rest Channel.C) o s) free) ∙ e in cc)
-      | inr other ↦ sym (set_at-else c source i (Some n) s.lets other c) ∙ f
     ]

@@ -92,6 +92,15 @@ module _ {w : ℕ} (config : Config) (log : Log w) (h : AbstractState w) (sys : 
 
   own-release : (t : History w) (n source : ℕ) (r : Prune) → IsAskedOn c t (Op.Release n r) (Reply.Started source)
   own-release t n source r may =
+      let before : ℕ → Option (BeatA w) = asked_by h.mail h.state c in
+      let after : ℕ → Option (BeatA w) = asked_by h.mail (release_asked c n source r h.state) c in
+      let new : Block (List ℕ) = releasing_block c source r (h.state.block n) in
+      let asks : (i : ℕ) → after i ≡ before i =
+      λ i. asks-same c i h.mail h.mail h.state (release_asked c n source r h.state) refl (inl refl)
+      (λ j used. set-part (λ (b : Block (List ℕ)). (b.pair c).acquiring) n new h.state.block
+      (ap (λ (p : ClientBlock). p.acquiring) (set-same c (after_release r ((h.state.block n).pair c))
+      (h.state.block n).pair)) j) (λ j used. set-part (λ (b : Block (List ℕ)). b.source c) n new h.state.block refl
+      j) in
       flowed-untouched before after (unfinished_at sys c) c h.state (release_asked c n source r h.state) t
       (untouched-release_asked c n source r before after (unfinished_at sys c) h.state may.1
       (coming-free config log h.mail h.request h.state sys c source width is may.1) may.3
@@ -99,46 +108,27 @@ module _ {w : ℕ} (config : Config) (log : Log w) (h : AbstractState w) (sys : 
       (unserved_ungranted (view (h.state.block n).service c)
       (unserved_calm ((h.state.block n).pair c) (view (h.state.block n).service c) ((is.invariant.blocks n).phases c)
       may.2)) asks)
-    where
-      before : ℕ → Option (BeatA w)
-      before = asked_by h.mail h.state c
-
-      after : ℕ → Option (BeatA w)
-      after = asked_by h.mail (release_asked c n source r h.state) c
-
-      new : Block (List ℕ)
-      new = releasing_block c source r (h.state.block n)
-
-      asks : (i : ℕ) → after i ≡ before i
-      asks i = asks-same c i h.mail h.mail h.state (release_asked c n source r h.state) refl (inl refl)
-          (λ j used. set-part (λ (b : Block (List ℕ)). (b.pair c).acquiring) n new h.state.block
-          (ap (λ (p : ClientBlock). p.acquiring) (set-same c (after_release r ((h.state.block n).pair c))
-          (h.state.block n).pair)) j)
-          (λ j used. set-part (λ (b : Block (List ℕ)). b.source c) n new h.state.block refl j)
 
   own-access : (t : History w) (m : MessageA w) (source : ℕ)
       → IsAskedOn c t (Op.Access (Message.A m)) (Reply.Started source)
   own-access t m source closed =
+      let mail' : AccessMessages w = record {
+        request = set_at c source (access source m) h.mail.request;
+        answer =
+            h.mail.answer;
+      } in
+      let before : ℕ → Option (BeatA w) = asked_by h.mail h.state c in
+      let after : ℕ → Option (BeatA w) = asked_by mail' (access_asked c source h.state) c in
+      let asks : (i : ℕ) → (i ≡ source → ⊥) → after i ≡ before i =
+      λ i ne. asks-same c i h.mail mail' h.state (access_asked c source h.state)
+      (set_at-else c source i (access source m) h.mail.request ne c)
+      (inl (set_at-else c source i Asked h.state.uses ne c)) (λ n used. refl) (λ n used. refl) in
       flowed-untouched before after (unfinished_at sys c) c h.state (access_asked c source h.state) t
       (untouched-access_asked c source before after (unfinished_at sys c) h.state closed
       (not-coming_a config log h.mail h.request h.state sys c source is
       (ap (λ (u : SourceState). waits_on_a c u h.state) closed)) asks
       (λ k. coming-asked config log h.mail h.request h.state sys c k before after is
       (λ i n used. asks i (λ e. acquires_not (h.state.uses c i) n (ap (h.state.uses c) e ∙ closed) used))))
-    where
-      mail' : AccessMessages w
-      mail' = record { request = set_at c source (access source m) h.mail.request; answer = h.mail.answer }
-
-      before : ℕ → Option (BeatA w)
-      before = asked_by h.mail h.state c
-
-      after : ℕ → Option (BeatA w)
-      after = asked_by mail' (access_asked c source h.state) c
-
-      asks : (i : ℕ) → (i ≡ source → ⊥) → after i ≡ before i
-      asks i ne = asks-same c i h.mail mail' h.state (access_asked c source h.state)
-          (set_at-else c source i (access source m) h.mail.request ne c)
-          (inl (set_at-else c source i Asked h.state.uses ne c)) (λ n used. refl) (λ n used. refl)
 
   asked-own : (t : History w) (o : Op w) (r : Reply) → IsReply o r → IsAskedOn c t o r
   asked-own t o r may_be =
@@ -150,42 +140,30 @@ module _ {w : ℕ} (config : Config) (log : Log w) (h : AbstractState w) (sys : 
   -- ---- another one
 
   asked-other : (d : ℕ) (t : History w) (o : Op w) (r : Reply) → (d ≡ c → ⊥) → IsReply o r → IsAskedOn d t o r
-  asked-other d t o r ne may_be = reply-cases (IsAskedOn d t) o r may_be
-      (λ address size value may. left (Op.Store address size value) Reply.Stored
+  asked-other d t o r ne may_be =
+      let before : ℕ → Option (BeatA w) = asked_by h.mail h.state d in
+      let after : Op w → Reply → ℕ → Option (BeatA w) = λ i j. asked_by (asked c i j h).mail (asked c i j h).state d in
+      let coming : IsComing before (unfinished_at sys d Channel.D) d h.state =
+      coming-granting config log h.mail h.request h.state sys d is in
+      let left : (i : Op w) (j : Reply)
+      → (((k : ℕ) → after i j k ≡ before k) → IsAside before (after i j) (unfinished_at sys d) d h.state
+      (asked c i j h).state) → MonitorRelation before (unfinished_at sys d) d h.state t
+      → MonitorRelation (after i j) (unfinished_at sys d) d (asked c i j h).state t =
+      λ i j aside. flowed-aside before (after i j) (unfinished_at sys d) d h.state (asked c i j h).state t
+      (aside (asks-left d h (asked c i j h) (leaves-asked c i j h d ne))) in
+      reply-cases (IsAskedOn d t) o r may_be (λ address size value may. left (Op.Store address size value) Reply.Stored
       (λ asks. left-block_stored d before (after (Op.Store address size value) Reply.Stored) (unfinished_at sys d)
-      h.state asks coming c
-      (block_at address) (copy_stored address size value ((h.state.block (block_at address)).copy c))))
-      (λ n g source may. left (Op.Acquire n g) (Reply.Started source)
-      (λ asks. left-acquire_asked d before (after (Op.Acquire n g) (Reply.Started source)) (unfinished_at sys d) h.state
-      asks coming c n source false g
-      ((h.state.block n).waiting c) ne))
-      (λ n bytes source may. left (Op.AcquireWhole n bytes) (Reply.Started source)
-      (λ asks. left-acquire_asked d before (after (Op.AcquireWhole n bytes) (Reply.Started source))
-      (unfinished_at sys d) h.state asks coming c n source true (whole_grow ((h.state.block n).pair c).held) bytes ne))
-      (λ n p source may. left (Op.Release n p) (Reply.Started source)
-      (λ asks. left-release_asked d before (after (Op.Release n p) (Reply.Started source)) (unfinished_at sys d) h.state
-      asks coming c n source p ne))
-      (λ m source may. left (Op.Access (Message.A m)) (Reply.Started source)
-      (λ asks. left-access_asked d before (after (Op.Access (Message.A m)) (Reply.Started source)) (unfinished_at sys d)
-      h.state asks coming c source ne))
-      (asked-nothing d t)
-    where
-      before : ℕ → Option (BeatA w)
-      before = asked_by h.mail h.state d
-
-      after : Op w → Reply → ℕ → Option (BeatA w)
-      after i j = asked_by (asked c i j h).mail (asked c i j h).state d
-
-      coming : IsComing before (unfinished_at sys d Channel.D) d h.state
-      coming = coming-granting config log h.mail h.request h.state sys d is
-
-      left : (i : Op w) (j : Reply)
-          → (((k : ℕ) → after i j k ≡ before k) → IsAside before (after i j) (unfinished_at sys d) d h.state
-          (asked c i j h).state)
-          → MonitorRelation before (unfinished_at sys d) d h.state t → MonitorRelation (after i j) (unfinished_at sys d)
-          d (asked c i j h).state t
-      left i j aside = flowed-aside before (after i j) (unfinished_at sys d) d h.state (asked c i j h).state t
-          (aside (asks-left d h (asked c i j h) (leaves-asked c i j h d ne)))
+      h.state asks coming c (block_at address) (copy_stored address size value ((h.state.block (block_at
+      address)).copy c)))) (λ n g source may. left (Op.Acquire n g) (Reply.Started source) (λ asks.
+      left-acquire_asked d before (after (Op.Acquire n g) (Reply.Started source)) (unfinished_at sys d) h.state asks
+      coming c n source false g ((h.state.block n).waiting c) ne)) (λ n bytes source may. left (Op.AcquireWhole n
+      bytes) (Reply.Started source) (λ asks. left-acquire_asked d before (after (Op.AcquireWhole n bytes)
+      (Reply.Started source)) (unfinished_at sys d) h.state asks coming c n source true (whole_grow ((h.state.block
+      n).pair c).held) bytes ne)) (λ n p source may. left (Op.Release n p) (Reply.Started source) (λ asks.
+      left-release_asked d before (after (Op.Release n p) (Reply.Started source)) (unfinished_at sys d) h.state asks
+      coming c n source p ne)) (λ m source may. left (Op.Access (Message.A m)) (Reply.Started source) (λ asks.
+      left-access_asked d before (after (Op.Access (Message.A m)) (Reply.Started source)) (unfinished_at sys d)
+      h.state asks coming c source ne)) (asked-nothing d t)
 
   pub flowed-asked : (d : ℕ) (t : History w) (o : Op w) (r : Reply) → IsReply o r → IsAskedOn d t o r
   flowed-asked d t o r may_be = elim (cases_eq d c) [

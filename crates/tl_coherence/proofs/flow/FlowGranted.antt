@@ -144,6 +144,30 @@ pub flowed-grant : {w : ℕ} {X : Type 0} (c n : ℕ) (d : Bool) (k : Cap) (y : 
     → IsGranting c n d k y first last asked asked' rest rest' s s'
     → MonitorRelation asked rest c s t → MonitorRelation asked' rest' c s' (Beat.D y ∷ t)
 flowed-grant {w} {X} c n d k y first last asked asked' rest rest' s s' t first_is last_is rests is before =
+    let b : Block X = s.block n in
+    let grants_at : ℕ → Bool = λ m. is_grant y.opcode && asks_for m (request_of y.source t) in
+    let names : (m : ℕ) → (is_grant y.opcode && asks_for m (request_of y.source t)) ≡ (n == m) =
+    λ m. cc (
+      is.grant,
+      before.asked_is y.source (before.requests y.source
+          ∙ was_requested y.source (same_number y.source)),
+      is.asks m,
+    ) in
+    let apart : (m : ℕ) → (m ≡ n → ⊥) → (is_grant y.opcode && asks_for m (request_of y.source t)) ≡ false =
+    λ m ne. names m ∙ ne_eqb n m (λ e. ne (sym e)) in
+    let granted_then : granted_by c n asked (rest Channel.D) b ≡ not first =
+    cc (is.seen, is.granted n, with_true (not first) (n == n) (same_number n)) in
+    let grants_other : (m : ℕ) → (m ≡ n → ⊥) → granted_by c m asked' (rest' Channel.D) (s.block m)
+    ≡ granted_by c m asked (rest Channel.D) (s.block m) =
+    λ m ne. cc (
+      is.grants m,
+      and_right (not last) (n == m) (ne_eqb n m (λ e. ne (sym e))),
+      is.granted m,
+      and_right
+          (not first) (n == m) (ne_eqb n m (λ e. ne (sym e))),
+    ) in
+    let let_same : (m : ℕ) → let_of c (rest Channel.C) (s'.block m) ≡ let_of c (rest Channel.C) (s.block m) =
+    part-block (let_of c (rest Channel.C)) n s s' is.elsewhere (rw (is.release_source, is.letting_is) refl) in
     flowed-next (Beat.D y) first last asked asked' rest rest' c s s' t (record {
       first_is = first_is;
       last_is = last_is;
@@ -192,40 +216,11 @@ flowed-grant {w} {X} c n d k y first last asked asked' rest rest' s s' t first_i
           (λ m ne e. of_other m y t (apart m ne) ∙ before.sunk m (before.grants m ∙ sym (grants_other m ne) ∙ e));
     }) before
   where
-    b : Block X
-    b = s.block n
-
     new : Block X
     new = s'.block n
 
-    grants_at : ℕ → Bool
-    grants_at m = is_grant y.opcode && asks_for m (request_of y.source t)
-
     was_requested : (i : ℕ) → (y.source == i) ≡ true → is_requested c i (rest Channel.A) (s.uses c i) s ≡ true
     was_requested i e = cc (is.use_is i e, is.seen)
-
-    names : (m : ℕ) → (is_grant y.opcode && asks_for m (request_of y.source t)) ≡ (n == m)
-    names m = cc (
-      is.grant,
-      before.asked_is y.source (before.requests y.source
-          ∙ was_requested y.source (same_number y.source)),
-      is.asks m,
-    )
-
-    apart : (m : ℕ) → (m ≡ n → ⊥) → (is_grant y.opcode && asks_for m (request_of y.source t)) ≡ false
-    apart m ne = names m ∙ ne_eqb n m (λ e. ne (sym e))
-
-    granted_then : granted_by c n asked (rest Channel.D) b ≡ not first
-    granted_then = cc (is.seen, is.granted n, with_true (not first) (n == n) (same_number n))
-
-    grants_other : (m : ℕ) → (m ≡ n → ⊥) → granted_by c m asked' (rest' Channel.D) (s.block m) ≡ granted_by c m asked
-        (rest Channel.D) (s.block m)
-    grants_other m ne = cc (
-      is.grants m,
-      and_right (not last) (n == m) (ne_eqb n m (λ e. ne (sym e))),
-      is.granted m,
-      and_right (not first) (n == m) (ne_eqb n m (λ e. ne (sym e))),
-    )
 
     use_at : (i : ℕ) → is_requested c i (rest' Channel.A) (s'.uses c i) s' ≡ is_requested c i (rest Channel.A)
         (if last && (y.source == i) then SourceFree else s.uses c i) s'
@@ -284,25 +279,20 @@ flowed-grant {w} {X} c n d k y first last asked asked' rest rest' s s' t first_i
           (part-block (λ (z : Block X). (z.pair c).letting) n s s' is.elsewhere is.letting_is),
     )
 
-    let_same : (m : ℕ) → let_of c (rest Channel.C) (s'.block m) ≡ let_of c (rest Channel.C) (s.block m)
-    let_same = part-block (let_of c (rest Channel.C)) n s s' is.elsewhere (rw (is.release_source, is.letting_is) refl)
-
     sinks : (i : ℕ) (z : Bool) (o : Option ℕ) → (y.sink == i) ≡ z → s.tracked i ≡ o
         → is_sunk c i (rest' Channel.D) o s' ≡ step first last (is_grant y.opcode && (y.sink == i)) false
         (is_sunk c i (rest Channel.D) o s)
-    sinks i true o e f = cc (
-      at_n,
-      now_sunk last d k (view new.service c) (comes_in_grant i (rest' Channel.D))
-          is.seen_is (is.comes i ∙ with_true (not last) (y.sink == i) e),
-      opened first last (is_grant y.opcode)
-          (y.sink == i) (is_sunk c i (rest Channel.D) o s) is.grant e then_sunk,
-    )
-      where
-        at_n : o ≡ Some n
-        at_n = sym f ∙ is.tracks i e
-
-        then_sunk : is_sunk c i (rest Channel.D) o s ≡ not first
-        then_sunk = cc (at_n, is.seen, is.came i, with_true (not first) (y.sink == i) e)
+    sinks i true o e f =
+        let at_n : o ≡ Some n = sym f ∙ is.tracks i e in
+        let then_sunk : is_sunk c i (rest Channel.D) o s ≡ not first =
+        cc (at_n, is.seen, is.came i, with_true (not first) (y.sink == i) e) in
+        cc (
+          at_n,
+          now_sunk last d k (view new.service c) (comes_in_grant i (rest' Channel.D)) is.seen_is (is.comes i
+              ∙ with_true (not last) (y.sink == i) e),
+          opened first last (is_grant y.opcode) (y.sink == i)
+              (is_sunk c i (rest Channel.D) o s) is.grant e then_sunk,
+        )
     sinks i false None e f =
         sym (unbegun first last (is_grant y.opcode && (y.sink == i)) false
         (and_right (is_grant y.opcode) (y.sink == i) e))

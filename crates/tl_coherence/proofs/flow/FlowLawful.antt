@@ -61,6 +61,14 @@ report-lawful : {w : ℕ} (config : Config) (log : Log w) (mail : AccessMessages
     → broken_after l config.profile x (flow c log) ≡ None
 unfolding block_message
 report-lawful {w} config log mail request s sys c n toks l x ms queue width is flowed lawful tokens next =
+    let rest : List (Beat w) = unfinished Channel.C (on_link c sys.manager.trace) in
+    let about : (i : MessageC w) × (block_message ProbeAck c n b ≡ Message.C i) × IsAbout true n (report_code r)
+    (same_perm (report_left r) Perm.Trunk) b.truth i = report-about r n b.truth width (is.sized n).truth in
+    let m : MessageC w = about.0 in
+    let told : r ≡ report_at (cap_waited b.service) (b.pair c).recorded =
+    cc (same_report-is r (report_at (cap_waited b.service) (b.pair c).recorded)
+    (seen_cap (λ k. same_report r (report_at k (b.pair c).recorded)) b.service c
+    (report_fits r (b.pair c) (view b.service c) ok_is answered))) in
     next-flows l config.profile (Message.C m) x rest ms queue (flow c log) lawful
     (subst (λ (i : Message w). IsNext x rest i ms queue) about.1 next) ((flowed c).rest_is Channel.C)
     (λ none. report-flows config.profile c n (cap_waited b.service) r (c_beat_of m 0) (asked_by mail s c)
@@ -72,18 +80,8 @@ report-lawful {w} config log mail request s sys c n toks l x ms queue width is f
     b : Block (List ℕ)
     b = s.block n
 
-    rest : List (Beat w)
-    rest = unfinished Channel.C (on_link c sys.manager.trace)
-
     r : Report
     r = report_told (b.pair c).probing
-
-    about : (i : MessageC w) × (block_message ProbeAck c n b ≡ Message.C i) × IsAbout true n (report_code r)
-        (same_perm (report_left r) Perm.Trunk) b.truth i
-    about = report-about r n b.truth width (is.sized n).truth
-
-    m : MessageC w
-    m = about.0
 
     ok_is : ok (b.pair c) (view b.service c) ≡ true
     ok_is = (is.invariant.blocks n).phases c
@@ -91,11 +89,6 @@ report-lawful {w} config log mail request s sys c n toks l x ms queue width is f
     answered : (b.pair c).probing ≡ ProbeAnswered r
     answered = answered-is (b.pair c).probing (holds-first ProbeAck (s.link c).c toks (packet ProbeAck n)
         (λ i. shown ProbeAck c (s.block i)) tokens refl (is.invariant.transfers c ProbeAck refl))
-
-    told : r ≡ report_at (cap_waited b.service) (b.pair c).recorded
-    told = cc (same_report-is r (report_at (cap_waited b.service) (b.pair c).recorded)
-        (seen_cap (λ k. same_report r (report_at k (b.pair c).recorded)) b.service c
-        (report_fits r (b.pair c) (view b.service c) ok_is answered)))
 
     unacked : (y : ReleasePhase) → (b.pair c).letting ≡ y → is_acked y ≡ false
     unacked ReleaseAcked f = absurd (let first = report_first r (b.pair c) (view b.service c) ok_is answered in
@@ -111,6 +104,17 @@ release-lawful : {w : ℕ} (config : Config) (log : Log w) (mail : AccessMessage
     → broken_after l config.profile x (flow c log) ≡ None
 unfolding block_message
 release-lawful {w} config log mail request s sys c n toks l x ms queue width is flowed lawful tokens next =
+    let rest : List (Beat w) = unfinished Channel.C (on_link c sys.manager.trace) in
+    let about : (i : MessageC w) × (block_message Release c n b ≡ Message.C i) × IsAbout false n (prune_code r)
+    (same_perm (prune_left r) Perm.Trunk) b.truth i × (i.source ≡ b.release_source c) =
+    release-about r (b.release_source c) n b.truth width (is.sized n).truth in
+    let m : MessageC w = about.0 in
+    let used : s.lets c (b.release_source c) ≡ Some n =
+    is_of-is n (s.lets c (b.release_source c)) (is.invariant.named.releases c (b.release_source c) n
+    ∙ rw (releasing, same_number (b.release_source c)) refl) in
+    let fits : same_perm (prune_left r) (b.pair c).recorded ≡ true =
+    release_begins r (b.pair c) (view b.service c) ok_is releasing
+    (unanswered (is_caching config) c n toks s is.invariant tokens) in
     next-flows l config.profile (Message.C m) x rest ms queue (flow c log) lawful
     (subst (λ (i : Message w). IsNext x rest i ms queue) about.1 next) ((flowed c).rest_is Channel.C)
     (λ none. release-flows config.profile c n r (c_beat_of m 0) (asked_by mail s c)
@@ -121,18 +125,8 @@ release-lawful {w} config log mail request s sys c n toks l x ms queue width is 
     b : Block (List ℕ)
     b = s.block n
 
-    rest : List (Beat w)
-    rest = unfinished Channel.C (on_link c sys.manager.trace)
-
     r : Prune
     r = prune_told (b.pair c).letting
-
-    about : (i : MessageC w) × (block_message Release c n b ≡ Message.C i) × IsAbout false n (prune_code r)
-        (same_perm (prune_left r) Perm.Trunk) b.truth i × (i.source ≡ b.release_source c)
-    about = release-about r (b.release_source c) n b.truth width (is.sized n).truth
-
-    m : MessageC w
-    m = about.0
 
     ok_is : ok (b.pair c) (view b.service c) ≡ true
     ok_is = (is.invariant.blocks n).phases c
@@ -140,10 +134,6 @@ release-lawful {w} config log mail request s sys c n toks l x ms queue width is 
     releasing : (b.pair c).letting ≡ ReleaseSent r
     releasing = releasing-is (b.pair c).letting (holds-first Release (s.link c).c toks (packet Release n)
         (λ i. shown Release c (s.block i)) tokens refl (is.invariant.transfers c Release refl))
-
-    used : s.lets c (b.release_source c) ≡ Some n
-    used = is_of-is n (s.lets c (b.release_source c)) (is.invariant.named.releases c (b.release_source c) n ∙ rw
-        (releasing, same_number (b.release_source c)) refl)
 
     calm : (y : AcquirePhase) → (b.pair c).acquiring ≡ y → y ≡ NoAcquire
     calm NoAcquire f = refl
@@ -158,10 +148,6 @@ release-lawful {w} config log mail request s sys c n toks l x ms queue width is 
         absurd (let no : false ≡ true = rw releasing at held_back in cc)
     ungranted v f = refl
 
-    fits : same_perm (prune_left r) (b.pair c).recorded ≡ true
-    fits = release_begins r (b.pair c) (view b.service c) ok_is releasing
-        (unanswered (is_caching config) c n toks s is.invariant tokens)
-
 pub flows-c : {w : ℕ} (config : Config) (log : Log w) (mail : AccessMessages w) (request : ℕ → MessageA w)
     (s : State (List ℕ)) (sys : System w) (c : ℕ) (l : Level)
     (x : Beat w) (queue : List (Beat w)) → IsWidth w → SimulationRelation config log mail request s sys
@@ -169,14 +155,13 @@ pub flows-c : {w : ℕ} (config : Config) (log : Log w) (mail : AccessMessages w
     → sys.channels c Channel.C ≡ x ∷ queue → level_of config c ≡ Some l
     → broken_after l config.profile x (flow c log) ≡ None
 flows-c {w} config log mail request s sys c l x queue width is flowed beats level =
+    let lawful : illegal l (channel_of x) x ≡ None = lawful-beat config log mail request s sys c Channel.C l x queue is
+    beats level in
     cc (by-first_c (λ i. broken_after l config.profile x (flow c log) ≡ None) c mail s sys x queue
     (first-token (is_caching config) Channel.C c mail s sys x queue width is.invariant is.carried beats)
     (λ n rest tokens next. report-lawful config log mail request s sys c n rest l x (map (message_of mail s c) rest)
     queue width is flowed lawful tokens next) (λ n rest tokens next. release-lawful config log mail request s sys c n
     rest l x (map (message_of mail s c) rest) queue width is flowed lawful tokens next))
-  where
-    lawful : illegal l (channel_of x) x ≡ None
-    lawful = lawful-beat config log mail request s sys c Channel.C l x queue is beats level
 
 -- ---- channel B
 
@@ -195,19 +180,15 @@ probe-lawful : {w : ℕ} (config : Config) (log : Log w) (mail : AccessMessages 
     → broken_after l config.profile x (flow c log) ≡ None
 unfolding block_message
 probe-lawful {w} config log mail request s sys c n toks l x ms queue is flowed lawful tokens unacknowledged next =
+    let b : Block (List ℕ) = s.block n in
+    let shows : is_sent (b.pair c).probing ≡ true = holds-first Probe (s.link c).b toks (packet Probe n)
+    (λ i. shown Probe c (s.block i)) tokens refl (is.invariant.transfers c Probe refl) in
     next-flows l config.profile (block_message Probe c n b) x (unfinished Channel.B (sys.clients c).past) ms queue
     (flow c log) lawful next ((flowed c).rest_is Channel.B)
     (λ none. probe-flows config.profile c n _ (asked_by mail s c) (λ ch. unfinished ch (receiver ch c sys)) s
     (flow c log) (flowed c) none (same_block n)
     (unanswered_yet (b.pair c).probing shows) unacknowledged
     (not_coming config log mail request s sys c n is shows))
-  where
-    b : Block (List ℕ)
-    b = s.block n
-
-    shows : is_sent (b.pair c).probing ≡ true
-    shows = holds-first Probe (s.link c).b toks (packet Probe n) (λ i. shown Probe c (s.block i)) tokens refl
-        (is.invariant.transfers c Probe refl)
 
 pub flows-b : {w : ℕ} (config : Config) (log : Log w) (mail : AccessMessages w) (request : ℕ → MessageA w)
     (s : State (List ℕ)) (sys : System w) (c : ℕ) (l : Level)

@@ -102,30 +102,26 @@ same-performed d f b = others-same d b (performed_block f b) refl refl (inl refl
 pub same-served : {X : Type 0} (d r source tracker : ℕ) (own : Bool) (k : Cap) (b : Block X) → (own && (d == r)) ≡ false
     → b.service ≡ Free
     → is_unprobed (b.pair d).probing ≡ true → IsSameBlock d b (served_block r own source tracker k b)
-same-served {X} d r source tracker own k b other free quiet = record {
-  held = cc (pair, sees.granting);
-  wanting = ap (λ (p : ClientBlock). is_wanting p.acquiring) pair;
-  unserved = sees.unserved;
-  letting = ap (λ (p : ClientBlock). p.letting) pair;
-  source = refl;
-  acknowledging = sees.acknowledging;
-  answered = ap (λ (p : ClientBlock). is_answered p.probing) pair ∙ nor_now (is_above k (b.pair d).recorded)
-      (b.pair d).probing quiet ∙ sym (quiet_unanswered (b.pair d).probing quiet);
-  cap = λ e. absurd (let f : false ≡ true =
-      sym (ap (λ (p : ClientBlock). is_answered p.probing) pair ∙ nor_now (is_above k (b.pair d).recorded)
-      (b.pair d).probing quiet) ∙ e in cc);
-  tracker = inr (not_in (view b.service d) before);
-}
+same-served {X} d r source tracker own k b other free quiet =
+    let before : is_outside (view b.service d) ≡ true = ap (λ (q : Service). is_outside (view q d)) free in
+    let sees : IsSameView (view b.service d) (view (Waits r own source k) d) =
+    outside-same (view b.service d) (view (Waits r own source k) d) before (outside-waits d r source own k other) in
+    let pair : served_pair r own k b.pair d ≡ after_served k (b.pair d) = rw other refl in
+    record {
+      held = cc (pair, sees.granting);
+      wanting = ap (λ (p : ClientBlock). is_wanting p.acquiring) pair;
+      unserved = sees.unserved;
+      letting = ap (λ (p : ClientBlock). p.letting) pair;
+      source = refl;
+      acknowledging = sees.acknowledging;
+      answered = ap (λ (p : ClientBlock). is_answered p.probing) pair ∙ nor_now (is_above k (b.pair d).recorded)
+          (b.pair d).probing quiet ∙ sym (quiet_unanswered (b.pair d).probing quiet);
+      cap = λ e. absurd (let f : false ≡ true =
+          sym (ap (λ (p : ClientBlock). is_answered p.probing) pair ∙ nor_now (is_above k (b.pair d).recorded)
+          (b.pair d).probing quiet) ∙ e in cc);
+      tracker = inr (not_in (view b.service d) before);
+    }
   where
-    before : is_outside (view b.service d) ≡ true
-    before = ap (λ (q : Service). is_outside (view q d)) free
-
-    sees : IsSameView (view b.service d) (view (Waits r own source k) d)
-    sees = outside-same (view b.service d) (view (Waits r own source k) d) before (outside-waits d r source own k other)
-
-    pair : served_pair r own k b.pair d ≡ after_served k (b.pair d)
-    pair = rw other refl
-
     nor_now : (a : Bool) (p : ProbePhase) → is_unprobed p ≡ true → is_answered (if a then ProbeSent k else p) ≡ false
     nor_now true p e = refl
     nor_now false p e = quiet_unanswered p e
@@ -177,37 +173,30 @@ pub same-given : {X : Type 0} (c q source : ℕ) (r : Report) (j k : Cap) (x : B
     → b.service ≡ Waits q true source j
     → (b.pair q).held ≡ (b.pair q).recorded → is_answered (b.pair q).probing ≡ false
     → IsSameBlock q (reported_block c r b) (granted_block c q r x k b)
-same-given {X} c q source r j k x b other waits even quiet = record {
-  held = cc (now, pair, even, then_, same);
-  wanting = ap (λ (p : ClientBlock). is_wanting p.acquiring) pair ∙ sym
-      (ap (λ (p : ClientBlock). is_wanting p.acquiring) same);
-  unserved = ap is_unserved now ∙ sym (ap is_unserved then_);
-  letting = ap (λ (p : ClientBlock). p.letting) pair ∙ sym (ap (λ (p : ClientBlock). p.letting) same);
-  source = refl;
-  acknowledging = ap is_acknowledging now ∙ sym (ap is_acknowledging then_);
-  answered = cc (pair, same);
-  cap = λ e. absurd (let f : false ≡ true = sym quiet ∙ sym (ap (λ (p : ClientBlock). is_answered p.probing) pair) ∙ e
-      in cc);
-  tracker = inl refl;
-}
+same-given {X} c q source r j k x b other waits even quiet =
+    let old : Block X = reported_block c r b in
+    let same : old.pair q ≡ b.pair q = set-other c q (after_report r (b.pair c)) b.pair other in
+    let now : view new.service q ≡ Granting x k = rw (same_number q) refl in
+    let then_ : view old.service q ≡ Own = rw (waits, same_number q) refl in
+    record {
+      held = cc (now, pair, even, then_, same);
+      wanting = ap (λ (p : ClientBlock). is_wanting p.acquiring) pair ∙ sym
+          (ap (λ (p : ClientBlock). is_wanting p.acquiring) same);
+      unserved = ap is_unserved now ∙ sym (ap is_unserved then_);
+      letting = ap (λ (p : ClientBlock). p.letting) pair ∙ sym (ap (λ (p : ClientBlock). p.letting) same);
+      source = refl;
+      acknowledging = ap is_acknowledging now ∙ sym (ap is_acknowledging then_);
+      answered = cc (pair, same);
+      cap = λ e. absurd (let f : false ≡ true = sym quiet ∙ sym (ap (λ (p : ClientBlock). is_answered p.probing) pair) ∙ e
+          in cc);
+      tracker = inl refl;
+    }
   where
-    old : Block X
-    old = reported_block c r b
-
     new : Block X
     new = granted_block c q r x k b
 
-    same : old.pair q ≡ b.pair q
-    same = set-other c q (after_report r (b.pair c)) b.pair other
-
     pair : new.pair q ≡ after_grant_sent k (b.pair q)
     pair = set-same q (after_grant_sent k (b.pair q)) (set c (after_report r (b.pair c)) b.pair)
-
-    now : view new.service q ≡ Granting x k
-    now = rw (same_number q) refl
-
-    then_ : view old.service q ≡ Own
-    then_ = rw (waits, same_number q) refl
 
 pub same-let : {X : Type 0} (d c : ℕ) (r : Prune) (b : Block X) → (d ≡ c → ⊥) → IsSameBlock d b (let_block c r b)
 same-let d c r b ne = others-same d b (let_block c r b) (set-other c d (after_release_taken r (b.pair c)) b.pair ne)

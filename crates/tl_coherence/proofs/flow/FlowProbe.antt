@@ -42,6 +42,21 @@ pub flowed-probe : {w : ℕ} {X : Type 0} (c n : ℕ) (k : Cap) (toks : List Pac
     → MonitorRelation asked rest c s t → MonitorRelation asked' rest' c (probe_taken c n k toks s)
     (Beat.B (probe_beat n k) ∷ t)
 flowed-probe {w} {X} c n k toks asked asked' rest rest' s t first last rests asks at seen waited comes before =
+    let part_true : is_answered (new.pair c).probing ≡ true =
+    ap (λ (p : ClientBlock). is_answered p.probing) (set-same c (after_probe k (b.pair c)) b.pair) in
+    let requests : (i : ℕ) → is_requested c i (rest' Channel.A) (s'.uses c i) s' ≡ is_requested c i (rest Channel.A)
+    (s.uses c i) s = λ i. cc (
+      rests Channel.A,
+      requested-blocks c i (rest Channel.A) (s.uses c i) s s'
+          (set-part (λ (z : Block X). is_unserved (view z.service c)) n new s.block refl),
+    ) in
+    let grants : (m : ℕ) → granted_by c m asked' (rest' Channel.D) (s'.block m) ≡ granted_by c m asked (rest Channel.D)
+    (s.block m) = λ m. cc (
+      rests Channel.D,
+      comes m,
+      set-part (granted_by c m asked (rest Channel.D)) n new s.block
+          refl m,
+    ) in
     flowed-next (Beat.B y) true true asked asked' rest rest' c s s' t (record {
       first_is = first;
       last_is = last;
@@ -93,17 +108,6 @@ flowed-probe {w} {X} c n k toks asked asked' rest rest' s t first last rests ask
     letting_same : (new.pair c).letting ≡ (b.pair c).letting
     letting_same = part_of (λ (p : ClientBlock). p.letting) c (after_probe k (b.pair c)) b.pair refl
 
-    part_true : is_answered (new.pair c).probing ≡ true
-    part_true = ap (λ (p : ClientBlock). is_answered p.probing) (set-same c (after_probe k (b.pair c)) b.pair)
-
-    requests : (i : ℕ) → is_requested c i (rest' Channel.A) (s'.uses c i) s' ≡ is_requested c i (rest Channel.A)
-        (s.uses c i) s
-    requests i = cc (
-      rests Channel.A,
-      requested-blocks c i (rest Channel.A) (s.uses c i) s s'
-          (set-part (λ (z : Block X). is_unserved (view z.service c)) n new s.block refl),
-    )
-
     lets : (i : ℕ) → is_let_by c i (rest' Channel.C) (s'.lets c i) s' ≡ is_let_by c i (rest Channel.C) (s.lets c i) s
     lets i = cc (
       rests Channel.C,
@@ -115,23 +119,16 @@ flowed-probe {w} {X} c n k toks asked asked' rest rest' s t first last rests ask
     sunk_same i None = refl
     sunk_same i (Some m) = cc (set-part (λ (z : Block X). z.service) n new s.block refl m)
 
-    grants : (m : ℕ) → granted_by c m asked' (rest' Channel.D) (s'.block m) ≡ granted_by c m asked (rest Channel.D)
-        (s.block m)
-    grants m = cc (rests Channel.D, comes m, set-part (granted_by c m asked (rest Channel.D)) n new s.block refl m)
-
     probed : (m : ℕ) → is_answered ((s'.block m).pair c).probing ≡ true
         → (if true && (block_at (64 * n) == m) then Some y else probe_of m t) ≡ Some
         (probe_beat m (cap_waited (s'.block m).service))
-    probed = set-each (λ m z. is_answered (z.pair c).probing ≡ true
-        → (if true && (block_at (64 * n) == m) then Some y else probe_of m t) ≡ Some
-        (probe_beat m (cap_waited z.service))) n new s.block
-        (λ e. chosen (block_at (64 * n) == n) (Some y) (probe_of n t) (rw at (same_number n)) ∙ ap
-        (λ (j : Cap). Some (probe_beat n j)) (sym waited))
+    probed =
+        let chosen : (o : Bool) (p q : Option (BeatB w)) → o ≡ true → (if true && o then p else q) ≡ p =
+        λ o p q e. rw e refl in
+        let unchosen : (o : Bool) (p q : Option (BeatB w)) → o ≡ false → (if true && o then p else q) ≡ q =
+        λ o p q e. rw e refl in
+        set-each (λ m z. is_answered (z.pair c).probing ≡ true → (if true && (block_at (64 * n) == m) then Some y else
+        probe_of m t) ≡ Some (probe_beat m (cap_waited z.service))) n new s.block (λ e. chosen (block_at (64 * n) ==
+        n) (Some y) (probe_of n t) (rw at (same_number n)) ∙ ap (λ (j : Cap). Some (probe_beat n j)) (sym waited))
         (λ m ne e. unchosen (block_at (64 * n) == m) (Some y) (probe_of m t) (rw at (ne_eqb n m (λ f. ne (sym f))))
         ∙ before.probed m e)
-      where
-        chosen : (o : Bool) (p q : Option (BeatB w)) → o ≡ true → (if true && o then p else q) ≡ p
-        chosen o p q e = rw e refl
-
-        unchosen : (o : Bool) (p q : Option (BeatB w)) → o ≡ false → (if true && o then p else q) ≡ q
-        unchosen o p q e = rw e refl

@@ -57,33 +57,29 @@ moved-to_manager : {w : ℕ} (config : Config) (log : Log w) (link : Link) (ch :
     → is_moving (stepped config (Deliver link ch) (system_after config log)).outcome ≡ true
     → IsMovedOn config log link ch h x queue
 unfolding with_messages
-moved-to_manager {w} config log link ch h terms x queue width is known down beats moving = record {
-  first = at.first;
-  on_ch = at.on_it;
-  delivered = λ d. cc (at.step_is, flow_moved link ch (Outcome.Moved x) x log d refl);
-  rests = λ d i. cc (
-    at.step_is,
-    receiver_handed handed base d i,
-    (landed-manager link.0 ch x queue (λ k j. None) [] e
-        sys down at.beats at.on_it at.heard (λ k j. refl)).rests d i,
-  );
-  follows = at.follows;
-}
+moved-to_manager {w} config log link ch h terms x queue width is known down beats moving =
+    let at : IsAtManager config log link ch h x queue = at-manager config log link ch h terms x queue width is known
+    down beats moving in
+    let e : manager_end.End w = manager_offer.taken link x (reaction config link x sys.manager) sys.manager in
+    let base : System w = with_manager e (with_channel link.0 ch queue sys) in
+    record {
+      first = at.first;
+      on_ch = at.on_it;
+      delivered = λ d. cc (at.step_is, flow_moved link ch (Outcome.Moved x) x log d refl);
+      rests = λ d i. cc (
+        at.step_is,
+        receiver_handed handed base d i,
+        (landed-manager link.0 ch x queue (λ k j. None) [] e
+            sys down at.beats at.on_it at.heard (λ k j. refl)).rests d i,
+      );
+      follows = at.follows;
+    }
   where
     sys : System w
     sys = system_after config log
 
-    at : IsAtManager config log link ch h x queue
-    at = at-manager config log link ch h terms x queue width is known down beats moving
-
     handed : Handed w
     handed = (reaction config link x sys.manager).handed
-
-    e : manager_end.End w
-    e = manager_offer.taken link x (reaction config link x sys.manager) sys.manager
-
-    base : System w
-    base = with_manager e (with_channel link.0 ch queue sys)
 
 moved-to_client : {w : ℕ} (config : Config) (log : Log w) (link : Link) (ch : Channel) (h : AbstractState w)
     (terms : EndConfig) (x : Beat w) (queue : List (Beat w))
@@ -92,31 +88,26 @@ moved-to_client : {w : ℕ} (config : Config) (log : Log w) (link : Link) (ch : 
     → (system_after config log).channels link.0 ch ≡ x ∷ queue
     → is_moving (stepped config (Deliver link ch) (system_after config log)).outcome ≡ true
     → IsMovedOn config log link ch h x queue
-moved-to_client {w} config log link ch h terms x queue width is known up beats moving = record {
-  first = first;
-  on_ch = on_ch;
-  delivered = λ d. ap (λ (y : Step w). flow d ((Deliver link ch, y.outcome) ∷ log)) t.step_is
-      ∙ flow_moved link ch (outcome_of x t.verdict_is) x log d
-      (taken_at link ch x t.verdict_is d (sym (ap (λ (y : Step w). is_moving y.outcome) t.step_is) ∙ moving));
-  rests = λ d i. ap (λ (y : Step w). unfinished_at y.after d i) t.step_is
-      ∙ (landed-client link.0 ch x queue t.message (offer.taken x (sys.clients link.0)).after sys up beats on_ch
-      (client-heard terms link.0 ch x queue sys (stepped config (Deliver link ch) sys) width (is.kept link.0) t)).rests
-      d i;
-  follows = cc (followed-moving config link ch sys h x queue moving beats, first.tokens);
-}
-  where
-    sys : System w
-    sys = system_after config log
-
-    t : IsTakenByClient terms link.0 ch x queue sys (stepped config (Deliver link ch) sys)
-    t = client-moves config link ch sys terms x queue known beats up moving
-
-    first : IsFirst ch link.0 h.mail h.state sys x queue
-    first = first-token (is_caching config) ch link.0 h.mail h.state sys x queue width is.invariant is.carried beats
-
-    on_ch : IsOn ch x
-    on_ch = subst (λ (i : Channel). IsOn i x) (first-of config log h link.0 terms ch x queue width is known beats).on
-        (on_it x)
+moved-to_client {w} config log link ch h terms x queue width is known up beats moving =
+    let sys : System w = system_after config log in
+    let t : IsTakenByClient terms link.0 ch x queue sys (stepped config (Deliver link ch) sys) =
+    client-moves config link ch sys terms x queue known beats up moving in
+    let first : IsFirst ch link.0 h.mail h.state sys x queue = first-token (is_caching config) ch link.0 h.mail h.state
+    sys x queue width is.invariant is.carried beats in
+    let on_ch : IsOn ch x = subst (λ (i : Channel). IsOn i x) (first-of config log h link.0 terms ch x queue width is
+    known beats).on (on_it x) in
+    record {
+      first = first;
+      on_ch = on_ch;
+      delivered = λ d. ap (λ (y : Step w). flow d ((Deliver link ch, y.outcome) ∷ log)) t.step_is
+          ∙ flow_moved link ch (outcome_of x t.verdict_is) x log d
+          (taken_at link ch x t.verdict_is d (sym (ap (λ (y : Step w). is_moving y.outcome) t.step_is) ∙ moving));
+      rests = λ d i. ap (λ (y : Step w). unfinished_at y.after d i) t.step_is
+          ∙ (landed-client link.0 ch x queue t.message (offer.taken x (sys.clients link.0)).after sys up beats on_ch
+          (client-heard terms link.0 ch x queue sys (stepped config (Deliver link ch) sys) width (is.kept link.0) t)).rests
+          d i;
+      follows = cc (followed-moving config link ch sys h x queue moving beats, first.tokens);
+    }
 
 pub moved-on : {w : ℕ} (config : Config) (log : Log w) (link : Link) (ch : Channel) (h : AbstractState w) (x : Beat w)
     (queue : List (Beat w)) (terms : EndConfig)

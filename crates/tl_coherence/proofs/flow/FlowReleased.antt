@@ -132,6 +132,44 @@ pub flowed-release : {w : ℕ} {X : Type 0} (c n : ℕ) (r : Prune) (y : BeatC w
     → ((i m : ℕ) → is_of m (s.lets c i) ≡ releases_with c i (s.block m)) → IsReleased c n r y first last rest rest' s s'
     → MonitorRelation asked rest c s t → MonitorRelation asked rest' c s' (Beat.C y ∷ t)
 flowed-release {w} {X} c n r y first last asked rest rest' s s' t first_is last_is rests named is before =
+    let here_at : (block_at y.address == n) ≡ true = rw is.at (same_number n) in
+    let apart : (m : ℕ) → (m ≡ n → ⊥) → (block_at y.address == m) ≡ false =
+    λ m ne. rw is.at (ne_eqb n m (λ e. ne (sym e))) in
+    let then_here : let_of c (rest Channel.C) b ≡ not first = let_then (b.release_source c) first r (rest Channel.C)
+    (b.pair c).letting is.letting (is.came (b.release_source c)
+    ∙ with_true (not first) (y.source == b.release_source c) (rw is.source (same_number (b.release_source c)))) in
+    let open_other : (m : ℕ) → (m ≡ n → ⊥) → (i : ℕ) → i ≡ (s.block m).release_source c → is_unreleased ((s.block
+    m).pair c).letting ≡ false → i ≡ y.source → ⊥ = λ m ne i at begun same. ne (both_some m n (s.lets c i)
+    (is_of-is m (s.lets c i) (named i m ∙ rw (begun, at) (same_number ((s.block m).release_source c)))) (of_block i
+    same)) in
+    let let_rest : (m : ℕ) → (m ≡ n → ⊥) → let_of c (rest' Channel.C) (s.block m) ≡ let_of c (rest Channel.C)
+    (s.block m) = λ m ne. let_other ((s.block m).release_source c) (rest Channel.C) (rest' Channel.C)
+    ((s.block m).pair c).letting (λ begun. comes_other ((s.block m).release_source c)
+    (open_other m ne ((s.block m).release_source c) refl begun)) in
+    let requests : (i : ℕ) → is_requested c i (rest' Channel.A) (s'.uses c i) s' ≡ is_requested c i (rest Channel.A)
+    (s.uses c i) s = λ i. cc (
+      rests Channel.A,
+      is.uses i,
+      requested-blocks c i (rest Channel.A) (s.uses c i) s s'
+          (part-block (λ (z : Block X). is_unserved (view z.service c)) n s s' is.elsewhere
+          (ap (λ (q : Service). is_unserved (view q c)) is.service)),
+    ) in
+    let acquires : (m : ℕ) → acquired_by c (s'.block m) ≡ acquired_by c (s.block m) =
+    part-block (acquired_by c) n s s' is.elsewhere
+    (ap (λ (l : AcquirePhase). is_wanting l && not (is_unserved (view new.service c))) is.acquiring
+    ∙ ap (λ (q : Service). is_wanting (b.pair c).acquiring && not (is_unserved (view q c))) is.service) in
+    let answered : (m : ℕ) → is_answered ((s'.block m).pair c).probing ≡ is_answered ((s.block m).pair c).probing =
+    part-block (λ (z : Block X). is_answered (z.pair c).probing) n s s' is.elsewhere (ap is_answered is.probing) in
+    let not_closed : (m : ℕ) → step first last false (is_probe_ack y.opcode && (block_at y.address == m))
+    (is_answered ((s.block m).pair c).probing) ≡ is_answered ((s.block m).pair c).probing =
+    λ m. rw is.ack (step_quiet first last (is_answered ((s.block m).pair c).probing)) in
+    let grants : (m : ℕ) → granted_by c m asked (rest' Channel.D) (s'.block m) ≡ granted_by c m asked (rest Channel.D)
+    (s.block m) = λ m. cc (
+      rests Channel.D,
+      part-block (granted_by c m asked (rest Channel.D)) n s s' is.elsewhere
+          (ap (λ (q : Service). is_acknowledging (view q c) || comes_granting m asked (rest Channel.D)) is.service) m,
+    )
+    in
     flowed-next (Beat.C y) first last asked asked rest rest' c s s' t (record {
       first_is = first_is;
       last_is = last_is;
@@ -177,17 +215,6 @@ flowed-release {w} {X} c n r y first last asked rest rest' s s' t first_is last_
     new : Block X
     new = s'.block n
 
-    here_at : (block_at y.address == n) ≡ true
-    here_at = rw is.at (same_number n)
-
-    apart : (m : ℕ) → (m ≡ n → ⊥) → (block_at y.address == m) ≡ false
-    apart m ne = rw is.at (ne_eqb n m (λ e. ne (sym e)))
-
-    then_here : let_of c (rest Channel.C) b ≡ not first
-    then_here = let_then (b.release_source c) first r (rest Channel.C) (b.pair c).letting is.letting
-        (is.came (b.release_source c) ∙ with_true (not first) (y.source == b.release_source c)
-        (rw is.source (same_number (b.release_source c))))
-
     -- the source is that of the block's Release, and of no other
     of_block : (i : ℕ) → i ≡ y.source → s.lets c i ≡ Some n
     of_block i e = is_of-is n (s.lets c i)
@@ -204,56 +231,12 @@ flowed-release {w} {X} c n r y first last asked rest rest' s s' t first_is last_
     comes_other i ne = is.comes i ∙ and_right (not last) (y.source == i) (another i ne) ∙ sym
         (is.came i ∙ and_right (not first) (y.source == i) (another i ne))
 
-    open_other : (m : ℕ) → (m ≡ n → ⊥) → (i : ℕ) → i ≡ (s.block m).release_source c
-        → is_unreleased ((s.block m).pair c).letting ≡ false → i ≡ y.source → ⊥
-    open_other m ne i at begun same =
-        ne (both_some m n (s.lets c i)
-        (is_of-is m (s.lets c i) (named i m ∙ rw (begun, at) (same_number ((s.block m).release_source c))))
-        (of_block i same))
-
-    let_rest : (m : ℕ) → (m ≡ n → ⊥) → let_of c (rest' Channel.C) (s.block m) ≡ let_of c (rest Channel.C) (s.block m)
-    let_rest m ne =
-        let_other ((s.block m).release_source c) (rest Channel.C) (rest' Channel.C) ((s.block m).pair c).letting
-        (λ begun. comes_other ((s.block m).release_source c) (open_other m ne ((s.block m).release_source c) refl
-        begun))
-
-    requests : (i : ℕ) → is_requested c i (rest' Channel.A) (s'.uses c i) s' ≡ is_requested c i (rest Channel.A)
-        (s.uses c i) s
-    requests i = cc (
-      rests Channel.A,
-      is.uses i,
-      requested-blocks c i (rest Channel.A) (s.uses c i) s s'
-          (part-block (λ (z : Block X). is_unserved (view z.service c)) n s s' is.elsewhere
-          (ap (λ (q : Service). is_unserved (view q c)) is.service)),
-    )
-
-    acquires : (m : ℕ) → acquired_by c (s'.block m) ≡ acquired_by c (s.block m)
-    acquires = part-block (acquired_by c) n s s' is.elsewhere
-        (ap (λ (l : AcquirePhase). is_wanting l && not (is_unserved (view new.service c))) is.acquiring
-        ∙ ap (λ (q : Service). is_wanting (b.pair c).acquiring && not (is_unserved (view q c))) is.service)
-
-    answered : (m : ℕ) → is_answered ((s'.block m).pair c).probing ≡ is_answered ((s.block m).pair c).probing
-    answered = part-block (λ (z : Block X). is_answered (z.pair c).probing) n s s' is.elsewhere
-        (ap is_answered is.probing)
-
-    not_closed : (m : ℕ) → step first last false (is_probe_ack y.opcode && (block_at y.address == m))
-        (is_answered ((s.block m).pair c).probing) ≡ is_answered ((s.block m).pair c).probing
-    not_closed m = rw is.ack (step_quiet first last (is_answered ((s.block m).pair c).probing))
-
     sinks : (i : ℕ) → is_sunk c i (rest' Channel.D) (s'.tracked i) s' ≡ is_sunk c i (rest Channel.D) (s.tracked i) s
     sinks i = cc (rests Channel.D, is.tracked i, same (s.tracked i))
       where
         same : (o : Option ℕ) → is_sunk c i (rest Channel.D) o s' ≡ is_sunk c i (rest Channel.D) o s
         same None = refl
         same (Some m) = cc (part-block (λ (z : Block X). z.service) n s s' is.elsewhere is.service m)
-
-    grants : (m : ℕ) → granted_by c m asked (rest' Channel.D) (s'.block m) ≡ granted_by c m asked (rest Channel.D)
-        (s.block m)
-    grants m = cc (
-      rests Channel.D,
-      part-block (granted_by c m asked (rest Channel.D)) n s s' is.elsewhere
-          (ap (λ (q : Service). is_acknowledging (view q c) || comes_granting m asked (rest Channel.D)) is.service) m,
-    )
 
     then_by : (i : ℕ) (o : Option ℕ) → s.lets c i ≡ o → i ≡ y.source → is_let_by c i (rest Channel.C) o s ≡ not first
     then_by i o e same = cc (

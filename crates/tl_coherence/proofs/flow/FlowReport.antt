@@ -44,6 +44,10 @@ pub flowed-report_part : {w : ℕ} {X : Type 0} (c : ℕ) (y : BeatC w) (first :
     → ((i : ℕ) → comes_in_release i (rest' Channel.C) ≡ comes_in_release i (rest Channel.C))
     → MonitorRelation asked rest c s t → MonitorRelation asked rest' c s (Beat.C y ∷ t)
 flowed-report_part {w} {X} c y first asked rest rest' s t first_is last_is rests other comes before =
+    let requests : (i : ℕ) → is_requested c i (rest' Channel.A) (s.uses c i) s ≡ is_requested c i (rest Channel.A)
+    (s.uses c i) s = λ i. ap (λ (r : List (Beat w)). is_requested c i r (s.uses c i) s) (rests Channel.A) in
+    let grants : (n : ℕ) → granted_by c n asked (rest' Channel.D) (s.block n) ≡ granted_by c n asked (rest Channel.D)
+    (s.block n) = λ n. ap (λ (r : List (Beat w)). granted_by c n asked r (s.block n)) (rests Channel.D) in
     flowed-next (Beat.C y) first false asked asked rest rest' c s s t (record {
       first_is = first_is;
       last_is = last_is;
@@ -73,13 +77,5 @@ flowed-report_part {w} {X} c y first asked rest rest' s t first_is last_is rests
       sunk = λ n e. grant_sink-c n y t ∙ before.sunk n (before.grants n ∙ sym (grants n) ∙ e);
     }) before
   where
-    requests : (i : ℕ) → is_requested c i (rest' Channel.A) (s.uses c i) s ≡ is_requested c i (rest Channel.A)
-        (s.uses c i) s
-    requests i = ap (λ (r : List (Beat w)). is_requested c i r (s.uses c i) s) (rests Channel.A)
-
     lets : (i : ℕ) → is_let_by c i (rest' Channel.C) (s.lets c i) s ≡ is_let_by c i (rest Channel.C) (s.lets c i) s
     lets i = let_by_rest c i (rest Channel.C) (rest' Channel.C) (s.lets c i) s (comes i)
-
-    grants : (n : ℕ) → granted_by c n asked (rest' Channel.D) (s.block n) ≡ granted_by c n asked (rest Channel.D)
-        (s.block n)
-    grants n = ap (λ (r : List (Beat w)). granted_by c n asked r (s.block n)) (rests Channel.D)

@@ -46,6 +46,27 @@ pub flowed-report : {w : ℕ} {X : Type 0} (c n : ℕ) (r : Report) (toks : List
     → MonitorRelation asked rest c s t → MonitorRelation asked rest' c (report_taken c n r toks s) (Beat.C y ∷ t)
 flowed-report {w} {X} c n r toks y first asked rest rest' s t first_is last_is rests ack other comes at says alone
     before =
+    let apart : (m : ℕ) → (m ≡ n → ⊥) → (block_at y.address == m) ≡ false =
+    λ m ne. rw at (ne_eqb n m (λ e. ne (sym e))) in
+    let requests : (i : ℕ) → is_requested c i (rest' Channel.A) (s'.uses c i) s' ≡ is_requested c i (rest Channel.A)
+    (s.uses c i) s = λ i. cc (
+      rests Channel.A,
+      requested-blocks c i (rest Channel.A) (s.uses c i) s s'
+          (set-part (λ (z : Block X). is_unserved (view z.service c)) n new s.block refl),
+    ) in
+    let acquires : (m : ℕ) → acquired_by c (s'.block m) ≡ acquired_by c (s.block m) =
+    set-part (acquired_by c) n new s.block (ap (λ (z : Bool). z && not (is_unserved (view b.service c)))
+    (part_of (λ (p : ClientBlock). is_wanting p.acquiring) c (after_report r (b.pair c)) b.pair refl)) in
+    let releases : (m : ℕ) → let_of c (rest' Channel.C) (s'.block m) ≡ let_of c (rest Channel.C) (s.block m) =
+    λ m. cc (
+      let_rest ((s'.block m).release_source c) (rest Channel.C) (rest' Channel.C)
+          ((s'.block m).pair c).letting (comes ((s'.block m).release_source c)),
+      set-part (let_of c (rest Channel.C)) n
+          new s.block (ap (is_release_pending (b.release_source c) (rest Channel.C)) letting_same) m,
+    ) in
+    let grants : (m : ℕ) → granted_by c m asked (rest' Channel.D) (s'.block m) ≡ granted_by c m asked (rest Channel.D)
+    (s.block m) = λ m. cc (rests Channel.D, set-part (granted_by c m asked (rest Channel.D)) n new s.block refl m)
+    in
     flowed-next (Beat.C y) first true asked asked rest rest' c s s' t (record {
       first_is = first_is;
       last_is = last_is;
@@ -104,42 +125,15 @@ flowed-report {w} {X} c n r toks y first asked rest rest' s t first_is last_is r
     letting_same : (new.pair c).letting ≡ (b.pair c).letting
     letting_same = part_of (λ (p : ClientBlock). p.letting) c (after_report r (b.pair c)) b.pair refl
 
-    apart : (m : ℕ) → (m ≡ n → ⊥) → (block_at y.address == m) ≡ false
-    apart m ne = rw at (ne_eqb n m (λ e. ne (sym e)))
-
-    requests : (i : ℕ) → is_requested c i (rest' Channel.A) (s'.uses c i) s' ≡ is_requested c i (rest Channel.A)
-        (s.uses c i) s
-    requests i = cc (
-      rests Channel.A,
-      requested-blocks c i (rest Channel.A) (s.uses c i) s s'
-          (set-part (λ (z : Block X). is_unserved (view z.service c)) n new s.block refl),
-    )
-
-    acquires : (m : ℕ) → acquired_by c (s'.block m) ≡ acquired_by c (s.block m)
-    acquires = set-part (acquired_by c) n new s.block (ap (λ (z : Bool). z && not (is_unserved (view b.service c)))
-        (part_of (λ (p : ClientBlock). is_wanting p.acquiring) c (after_report r (b.pair c)) b.pair refl))
-
     lets : (i : ℕ) → is_let_by c i (rest' Channel.C) (s'.lets c i) s' ≡ is_let_by c i (rest Channel.C) (s.lets c i) s
     lets i =
         let_by_rest c i (rest Channel.C) (rest' Channel.C) (s.lets c i) s' (comes i)
         ∙ let_by-same c i (rest Channel.C) (s.lets c i) s s' (set-part (λ (z : Block X). (z.pair c).letting) n new
         s.block letting_same)
 
-    releases : (m : ℕ) → let_of c (rest' Channel.C) (s'.block m) ≡ let_of c (rest Channel.C) (s.block m)
-    releases m = cc (
-      let_rest ((s'.block m).release_source c) (rest Channel.C) (rest' Channel.C)
-          ((s'.block m).pair c).letting (comes ((s'.block m).release_source c)),
-      set-part (let_of c (rest Channel.C)) n
-          new s.block (ap (is_release_pending (b.release_source c) (rest Channel.C)) letting_same) m,
-    )
-
     sunk_same : (i : ℕ) (o : Option ℕ) → is_sunk c i (rest Channel.D) o s' ≡ is_sunk c i (rest Channel.D) o s
     sunk_same i None = refl
     sunk_same i (Some m) = cc (set-part (λ (z : Block X). z.service) n new s.block refl m)
-
-    grants : (m : ℕ) → granted_by c m asked (rest' Channel.D) (s'.block m) ≡ granted_by c m asked (rest Channel.D)
-        (s.block m)
-    grants m = cc (rests Channel.D, set-part (granted_by c m asked (rest Channel.D)) n new s.block refl m)
 
     probed : (m : ℕ) → is_answered ((s'.block m).pair c).probing ≡ true
         → probe_of m t ≡ Some (probe_beat m (cap_waited (s'.block m).service))

@@ -30,14 +30,12 @@ access-lawful : {w : ℕ} (config : Config) (log : Log w) (mail : AccessMessages
     → IsNext x (unfinished Channel.A (on_link c sys.manager.trace)) (mail.request c source) ms queue
     → broken_after l config.profile x (flow c log) ≡ None
 access-lawful {w} config log mail request s sys c source l x ms queue is flowed lawful asked next =
+    let rest : List (Beat w) = unfinished Channel.A (on_link c sys.manager.trace) in
     next-flows l config.profile (Message.A asked.request) x rest ms queue (flow c log) lawful
     (subst (λ (i : Message w). IsNext x rest i ms queue) asked.is_it next) ((flowed c).rest_is Channel.A)
     (λ none. request-flows config.profile c (a_beat_of asked.request 0) (asked_by mail s c)
     (λ ch. unfinished ch (receiver ch c sys)) s (flow c log)
     (flowed c) none asked.access (ap (s.uses c) asked.source_is ∙ asked.used))
-  where
-    rest : List (Beat w)
-    rest = unfinished Channel.A (on_link c sys.manager.trace)
 
 acquire-lawful : {w : ℕ} (config : Config) (log : Log w) (mail : AccessMessages w) (request : ℕ → MessageA w)
     (s : State (List ℕ)) (sys : System w) (c n : ℕ) (l : Level)
@@ -48,6 +46,12 @@ acquire-lawful : {w : ℕ} (config : Config) (log : Log w) (mail : AccessMessage
     → must_wait config (record { 0 = c }) x sys.manager.trace ≡ false
     → broken_after l config.profile x (flow c log) ≡ None
 acquire-lawful {w} config log mail request s sys c n l x ms queue is flowed lawful wanted next moves =
+    let p : ClientBlock = (s.block n).pair c in
+    let well : ok p (view (s.block n).service c) ≡ true = (is.invariant.blocks n).phases c in
+    let idle : view (s.block n).service c ≡ Idle = rw free refl in
+    let settled : ((is_unprobed p.probing && is_unreleased p.letting) && same_perm p.recorded p.held) ≡ true =
+    first_three (is_unprobed p.probing) (is_unreleased p.letting) (same_perm p.recorded p.held) _
+    (asked_alone wanted.whole wanted.grow p (view (s.block n).service c) well idle wanted.wants) in
     next-flows l config.profile (Message.A m) x (unfinished Channel.A (on_link c sys.manager.trace)) ms queue
     (flow c log) lawful next ((flowed c).rest_is Channel.A)
     (λ none. acquire-flows config.profile c n (a_beat_of m 0) (asked_by mail s c)
@@ -62,12 +66,6 @@ acquire-lawful {w} config log mail request s sys c n l x ms queue is flowed lawf
     m : MessageA w
     m = acquire_wanted c n s wanted
 
-    p : ClientBlock
-    p = (s.block n).pair c
-
-    well : ok p (view (s.block n).service c) ≡ true
-    well = (is.invariant.blocks n).phases c
-
     free : (s.block n).service ≡ Free
     free =
         let one = acquisition_beats w wanted.whole wanted.grow ((s.block n).source c) n in
@@ -81,13 +79,6 @@ acquire-lawful {w} config log mail request s sys c n l x ms queue is flowed lawf
         (nat_le config.trackers (length (services sys.manager.trace)))
         (rw ended at moves_so)).0 in
         ap (λ i. (s.block i).service) (sym (same_block n)) ∙ free_at
-
-    idle : view (s.block n).service c ≡ Idle
-    idle = rw free refl
-
-    settled : ((is_unprobed p.probing && is_unreleased p.letting) && same_perm p.recorded p.held) ≡ true
-    settled = first_three (is_unprobed p.probing) (is_unreleased p.letting) (same_perm p.recorded p.held) _
-        (asked_alone wanted.whole wanted.grow p (view (s.block n).service c) well idle wanted.wants)
 
 pub flows-a : {w : ℕ} (config : Config) (log : Log w) (mail : AccessMessages w) (request : ℕ → MessageA w)
     (s : State (List ℕ)) (sys : System w) (c : ℕ) (l : Level)

@@ -117,6 +117,11 @@ ack-lawful : {w : ℕ} (config : Config) (log : Log w) (mail : AccessMessages w)
     → broken_after l config.profile x (flow c log) ≡ None
 unfolding block_message
 ack-lawful {w} config log mail request s sys c n toks l x ms queue is flowed lawful tokens next =
+    let y : BeatE = record { sink = (s.block n).tracker } in
+    let shows : is_acknowledging (view (s.block n).service c) ≡ true =
+    holds-first GrantAck (s.link c).e toks (packet GrantAck n) (λ i. shown GrantAck c (s.block i)) tokens refl
+    (is.invariant.transfers c GrantAck refl) in
+    let taken : (s.block n).service ≡ GrantTaken c = acknowledging-is (s.block n).service c shows in
     next-flows l config.profile (block_message GrantAck c n (s.block n)) x
     (unfinished Channel.E (on_link c sys.manager.trace)) ms queue (flow c log) lawful next
     ((flowed c).rest_is Channel.E)
@@ -124,16 +129,6 @@ ack-lawful {w} config log mail request s sys c n toks l x ms queue is flowed law
     (flow c log) (flowed c) none
     (tracker-of n s is.invariant.named (rw taken refl)) shows (no_grant_coming config log mail request s sys c n is
     taken))
-  where
-    y : BeatE
-    y = record { sink = (s.block n).tracker }
-
-    shows : is_acknowledging (view (s.block n).service c) ≡ true
-    shows = holds-first GrantAck (s.link c).e toks (packet GrantAck n) (λ i. shown GrantAck c (s.block i)) tokens refl
-        (is.invariant.transfers c GrantAck refl)
-
-    taken : (s.block n).service ≡ GrantTaken c
-    taken = acknowledging-is (s.block n).service c shows
 
 pub flows-e : {w : ℕ} (config : Config) (log : Log w) (mail : AccessMessages w) (request : ℕ → MessageA w)
     (s : State (List ℕ)) (sys : System w) (c : ℕ) (l : Level)

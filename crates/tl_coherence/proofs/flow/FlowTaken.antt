@@ -25,11 +25,17 @@ moved-first : {w : ℕ} (config : Config) (log : Log w) (h : AbstractState w) (l
     → o ≡ (stepped config (Deliver link ch) (system_after config log)).outcome → is_moving o ≡ true
     → ((d : ℕ) → flow d ((Deliver link ch, o) ∷ log) ≡ (if link.0 == d then x ∷ flow d log else flow d log))
     → (queue : List (Beat w)) × ((system_after config log).channels link.0 (channel_of x) ≡ x ∷ queue)
-moved-first {w} config log h link ch o x width is o_is moves delivered = (
-  at.1,
-  ap ((system_after config log).channels link.0) (sym (ap (λ (z : Beat w). channel_of z) same) ∙ on) ∙ at.3.0
-      ∙ ap (λ (z : Beat w). z ∷ at.1) same,
-)
+moved-first {w} config log h link ch o x width is o_is moves delivered =
+    let moved : IsMovedOn config log link ch h at.0 at.1 = moved-on config log link ch h at.0 at.1 at.2 width is at.3.0
+    at.3.1 moving (is_to_client ch) refl in
+    let both : (if link.0 == link.0 then x ∷ flow link.0 log else flow link.0 log)
+    ≡ (if link.0 == link.0 then at.0 ∷ flow link.0 log else flow link.0 log) =
+    cc (delivered link.0, o_is, moved.delivered link.0) in
+    let same : at.0 ≡ x = head (link.0 == link.0) (same_number link.0) both in (
+      at.1,
+      ap ((system_after config log).channels link.0) (sym (ap (λ (z : Beat w). channel_of z) same) ∙ on) ∙ at.3.0
+          ∙ ap (λ (z : Beat w). z ∷ at.1) same,
+    )
   where
     moving : is_moving (stepped config (Deliver link ch) (system_after config log)).outcome ≡ true
     moving = sym (ap is_moving o_is) ∙ moves
@@ -38,21 +44,11 @@ moved-first {w} config log h link ch o x width is o_is moves delivered = (
         × (((system_after config log).channels link.0 ch ≡ z ∷ queue) × (terms_at config link.0 ≡ Some terms))
     at = first-moved config link ch (system_after config log) moving
 
-    moved : IsMovedOn config log link ch h at.0 at.1
-    moved = moved-on config log link ch h at.0 at.1 at.2 width is at.3.0 at.3.1 moving (is_to_client ch) refl
-
-    both : (if link.0 == link.0 then x ∷ flow link.0 log else flow link.0 log)
-        ≡ (if link.0 == link.0 then at.0 ∷ flow link.0 log else flow link.0 log)
-    both = cc (delivered link.0, o_is, moved.delivered link.0)
-
     head : (b : Bool) → b ≡ true
         → (if b then x ∷ flow link.0 log else flow link.0 log) ≡ (if b then at.0 ∷ flow link.0 log else flow link.0 log)
         → at.0 ≡ x
     head true e f = first_of_two x at.0 (flow link.0 log) f
     head false e f = absurd cc
-
-    same : at.0 ≡ x
-    same = head (link.0 == link.0) (same_number link.0) both
 
     on : channel_of at.0 ≡ ch
     on = (first-of config log h link.0 at.2 ch at.0 at.1 width is at.3.1 at.3.0).on

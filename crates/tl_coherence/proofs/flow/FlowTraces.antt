@@ -60,18 +60,16 @@ pub levelled : {w : ℕ} (config : Config) (log : Log w) (link : Link) (ch : Cha
     → IsGiven config ((Deliver link ch, o) ∷ log) → is_moving o ≡ true
     → IsLevelled config link.0
 unfolding IsLog
-levelled {w} config log link ch o given moving = record {
-  level = first.2.level;
-  of_link = of_link;
-  in_levels = slice_get-map (λ (c : ClientConfig). c.level) config.clients.items link.0 ∙ of_link;
-}
-  where
-    first : (y : Beat w) × (queue : List (Beat w)) × (terms : EndConfig)
-        × (((system_after config log).channels link.0 ch ≡ y ∷ queue) × (terms_at config link.0 ≡ Some terms))
-    first = first-moved config link ch (system_after config log) (ap is_moving (sym given.is_log.0) ∙ moving)
-
-    of_link : level_of config link.0 ≡ Some first.2.level
-    of_link = (level-terms config link.0 first.2 first.3.1).0
+levelled {w} config log link ch o given moving =
+    let first : (y : Beat w) × (queue : List (Beat w)) × (terms : EndConfig)
+    × (((system_after config log).channels link.0 ch ≡ y ∷ queue) × (terms_at config link.0 ≡ Some terms)) =
+    first-moved config link ch (system_after config log) (ap is_moving (sym given.is_log.0) ∙ moving) in
+    let of_link : level_of config link.0 ≡ Some first.2.level = (level-terms config link.0 first.2 first.3.1).0 in
+    record {
+      level = first.2.level;
+      of_link = of_link;
+      in_levels = slice_get-map (λ (c : ClientConfig). c.level) config.clients.items link.0 ∙ of_link;
+    }
 
 unbroken : (o : Option Rule) (b : Bool) → (is_none o && b) ≡ true → o ≡ None
 unbroken None b e = refl

@@ -53,6 +53,8 @@ moved-flowed : {w : ℕ} (config : Config) (log : Log w) (link : Link) (ch : Cha
     → IsMovedOn config log link ch h x queue
     → AreFlowedAfter config log (Deliver link ch) h
 moved-flowed {w} config log link ch h x queue width is flowed beats moving at d =
+    let Here : AbstractState w → History w → Type 0 = λ z t. MonitorRelation (asked_by z.mail z.state d)
+    (unfinished_at sys' d) d z.state t in
     subst (λ (z : AbstractState w). Here z
     (flow d ((Deliver link ch, (stepped config (Deliver link ch) sys).outcome) ∷ log))) (sym at.follows)
     (subst (λ (t : History w). Here h' t) (sym (at.delivered d))
@@ -76,9 +78,6 @@ moved-flowed {w} config log link ch h x queue width is flowed beats moving at d 
 
     h' : AbstractState w
     h' = if last then kind_taken config (next_tracker sys) c at.first.kind at.first.number at.first.rest h else h
-
-    Here : AbstractState w → History w → Type 0
-    Here z t = MonitorRelation (asked_by z.mail z.state d) (unfinished_at sys' d) d z.state t
 
     ready : last ≡ true → IsReady (next_tracker sys) c at.first.kind at.first.number h
     ready e = ready-delivered config log h.mail h.request h.state sys link ch x queue width is
@@ -165,24 +164,17 @@ asked-flowed {w} config log c o h width is flowed = go (terms_at config c) refl
     go None none = subst After (sym (stepped-nobody config (Ask c o) sys none))
         (λ d. subst (λ (t : History w). MonitorRelation (asked_by h.mail h.state d) (unfinished_at sys d) d h.state t)
         (sym (flow_still (Ask c o) Outcome.NoSuchClient log d refl)) (flowed d))
-    go (Some terms) known = subst After (sym (stepped-asked config c o sys terms known)) (λ d.
-        subst (λ (t : History w). MonitorRelation (asked_by h'.mail h'.state d)
-        (unfinished_at (replied c a sys).after d) d h'.state t)
-        (sym (flow_still (Ask c o) (Outcome.Replied a.reply) log d refl))
-        (flowed-rests (asked_by h'.mail h'.state d) (unfinished_at sys d) (unfinished_at (replied c a sys).after d) d
-        h'.state (flow d log)
-        (λ i. (handed-client c a.message a.after sys (λ j. unfinished-asked terms o (sys.clients c) j width
-        (is.kept c))).rests d i)
-        (flowed-asked config log h sys c width is d (flow d log) o a.reply well.reply well.may (flowed d))))
-      where
-        a : ask.Asked w
-        a = ask.asked terms o (sys.clients c)
-
-        h' : AbstractState w
-        h' = asked c o a.reply h
-
-        well : IsAskedWell config c o h (one_memory_after config log) (ask.asked terms o (sys.clients c))
-        well = asked-well config log h sys c terms o width is known
+    go (Some terms) known =
+        let a : ask.Asked w = ask.asked terms o (sys.clients c) in
+        let h' : AbstractState w = asked c o a.reply h in
+        let well : IsAskedWell config c o h (one_memory_after config log) (ask.asked terms o (sys.clients c)) =
+        asked-well config log h sys c terms o width is known in
+        subst After (sym (stepped-asked config c o sys terms known)) (λ d. subst (λ (t : History w). MonitorRelation
+        (asked_by h'.mail h'.state d) (unfinished_at (replied c a sys).after d) d h'.state t) (sym (flow_still (Ask
+        c o) (Outcome.Replied a.reply) log d refl)) (flowed-rests (asked_by h'.mail h'.state d) (unfinished_at sys
+        d) (unfinished_at (replied c a sys).after d) d h'.state (flow d log) (λ i. (handed-client c a.message
+        a.after sys (λ j. unfinished-asked terms o (sys.clients c) j width (is.kept c))).rests d i) (flowed-asked
+        config log h sys c width is d (flow d log) o a.reply well.reply well.may (flowed d))))
 
 flowed-event : {w : ℕ} (config : Config) (log : Log w) (event : Event w) (h : AbstractState w) → IsWidth w
     → SimulationRelation config log h.mail h.request h.state (system_after config log)

@@ -77,6 +77,14 @@ given-next : {w : ℕ} (config : Config) (log : Log w) → IsGiven config log �
     → (n other : ℕ) → grants n y (flow c log) ≡ true → (other ≡ c → ⊥)
     → leaves (capped y.param) (held n (flow other log)) ≡ true
 given-next {w} config log given c y queue beats n other granted ne =
+    let seen : view b.service c ≡ Granting due.data_too due.k = own_view c due.data_too due.k b.service due.service in
+    let gives : capped y.param ≡ cap_right due.k = ap (λ (z : BeatD w). capped z.param) grant.beat_is
+    ∙ cap-gives due.k in
+    let holds : held n (flow other log) ≡ (b.pair other).recorded = (values other).held_is n
+    ∙ ungranted_holds other b (other_view c other due.data_too due.k b.service due.service ne) in
+    let even : (b.pair c).recorded ≡ cap_right due.k = sym (same_perms (b.pair c).recorded (cap_right due.k) (and_right
+    (is_unreleased (b.pair c).letting) _ (and_right (is_unprobed (b.pair c).probing) _ (granting_alone due.data_too
+    due.k (b.pair c) (view b.service c) ((is.invariant.blocks n).phases c) seen)))) in
     subst (λ (p : Perm). leaves p (held n (flow other log)) ≡ true) (sym gives)
     (subst (λ (p : Perm). leaves (cap_right due.k) p ≡ true) (sym holds)
     (left (cap_right due.k) (b.pair other).recorded even refl))
@@ -98,22 +106,6 @@ given-next {w} config log given c y queue beats n other granted ne =
 
     b : Block (List ℕ)
     b = h.state.block n
-
-    seen : view b.service c ≡ Granting due.data_too due.k
-    seen = own_view c due.data_too due.k b.service due.service
-
-    gives : capped y.param ≡ cap_right due.k
-    gives = ap (λ (z : BeatD w). capped z.param) grant.beat_is ∙ cap-gives due.k
-
-    holds : held n (flow other log) ≡ (b.pair other).recorded
-    holds = (values other).held_is n
-        ∙ ungranted_holds other b (other_view c other due.data_too due.k b.service due.service ne)
-
-    even : (b.pair c).recorded ≡ cap_right due.k
-    even = sym (same_perms (b.pair c).recorded (cap_right due.k)
-        (and_right (is_unreleased (b.pair c).letting) _
-        (and_right (is_unprobed (b.pair c).probing) _
-        (granting_alone due.data_too due.k (b.pair c) (view b.service c) ((is.invariant.blocks n).phases c) seen))))
 
     left : (p q : Perm) → (b.pair c).recorded ≡ p → (b.pair other).recorded ≡ q → leaves p q ≡ true
     left Perm.Trunk q e f = ap (λ (r : Perm). same_perm r Perm.None) (sym f)
@@ -149,6 +141,15 @@ given-moved config log given c (Beat.E y) queue beats = tt
 
 one-writer : {w : ℕ} (config : Config) (log : Log w) → IsGiven config log → IsOneWriter (trace_of log)
 one-writer {w} config log given one other n ne trunk =
+    let h : AbstractState w = shadow config log in
+    let b : Block (List ℕ) = h.state.block n in
+    let at : SimulationRelation config log h.mail h.request h.state (system_after config log) =
+    matched-given config log given in
+    let values : (c : ℕ) → held n (flow c log) ≡ held_by c b =
+    λ c. (flowed config log given.width given.typed given.is_log c).held_is n in
+    let most : (c : ℕ) → perm_le (held_by c b) (b.pair c).recorded ≡ true =
+    λ c. held_by_most c b (view b.service c)
+    (held_at_most (b.pair c) (view b.service c) ((at.invariant.blocks n).phases c)) in
     cc (
       trace-flows other log,
       values other,
@@ -156,22 +157,6 @@ one-writer {w} config log given one other n ne trunk =
           ((at.invariant.blocks n).one_owner one other (trunk_below (held_by one b) (b.pair one).recorded (most one)
           (sym (values one) ∙ sym (ap (held n) (trace-flows one log)) ∙ trunk)) ne),
     )
-  where
-    h : AbstractState w
-    h = shadow config log
-
-    b : Block (List ℕ)
-    b = h.state.block n
-
-    at : SimulationRelation config log h.mail h.request h.state (system_after config log)
-    at = matched-given config log given
-
-    values : (c : ℕ) → held n (flow c log) ≡ held_by c b
-    values c = (flowed config log given.width given.typed given.is_log c).held_is n
-
-    most : (c : ℕ) → perm_le (held_by c b) (b.pair c).recorded ≡ true
-    most c = held_by_most c b (view b.service c)
-        (held_at_most (b.pair c) (view b.service c) ((at.invariant.blocks n).phases c))
 
 pub apart : {w : ℕ} (config : Config) (log : Log w) → IsGiven config log → IsApart log
 apart config log given = record {

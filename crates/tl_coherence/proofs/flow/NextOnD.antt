@@ -81,34 +81,25 @@ module _ {w : ℕ} (config : Config) (log : Log w) (h : AbstractState w) (c : �
   -- a Grant that is on its way is of the block that its request asks for
   granted_block : (i n : ℕ) → IsGrantBeat c i s y (length (unfinished Channel.D (flow c log)))
       → asks_for n (request_of y.source (flow c log)) ≡ true → i ≡ n
-  granted_block i n grant asks = eqb-true i n (sym asked_for ∙ asks)
+  granted_block i n grant asks =
+      let b : Block (List ℕ) = s.block i in
+      let rest_now : List (Beat w) = unfinished Channel.A (receiver Channel.A c (system_after config log)) in
+      let from : y.source ≡ b.source c = ap (λ (z : BeatD w). z.source) grant.beat_is in
+      let requested : is_requested c y.source rest_now (s.uses c y.source) s ≡ true =
+      ap (λ (u : SourceState). is_requested c y.source rest_now u s) (ap (s.uses c) from ∙ due.used)
+      ∙ ap (λ (v : View). not (is_unserved v)) (own_view c due.data_too due.k b.service due.service) in
+      let asked : request_of y.source (flow c log) ≡ asked_by h.mail s c (b.source c) =
+      cc ((flowed c).asked_is y.source ((flowed c).requests y.source ∙ requested), from) in
+      let asked_for : asks_for n (request_of y.source (flow c log)) ≡ (i == n) =
+      cc (
+        asked,
+        asks-acquire c (b.source c) i (b.source c) due.whole due.g h.mail s due.used due.wants refl,
+        same_block i,
+      ) in
+      eqb-true i n (sym asked_for ∙ asks)
     where
-      b : Block (List ℕ)
-      b = s.block i
-
       due : IsGrantDue c i s
       due = grant.due
-
-      rest_now : List (Beat w)
-      rest_now = unfinished Channel.A (receiver Channel.A c (system_after config log))
-
-      from : y.source ≡ b.source c
-      from = ap (λ (z : BeatD w). z.source) grant.beat_is
-
-      requested : is_requested c y.source rest_now (s.uses c y.source) s ≡ true
-      requested = ap (λ (u : SourceState). is_requested c y.source rest_now u s) (ap (s.uses c) from ∙ due.used)
-          ∙ ap (λ (v : View). not (is_unserved v)) (own_view c due.data_too due.k b.service due.service)
-
-      asked : request_of y.source (flow c log) ≡ asked_by h.mail s c (b.source c)
-      asked = cc ((flowed c).asked_is y.source ((flowed c).requests y.source ∙ requested), from)
-
-      asked_for : asks_for n (request_of y.source (flow c log)) ≡ (i == n)
-      asked_for = cc (
-        asked,
-        asks-acquire c (b.source c) i (b.source c) due.whole due.g h.mail s due.used due.wants
-            refl,
-        same_block i,
-      )
 
   -- a beat that grants a block is one of that block's Grant
   pub grant-next : (n : ℕ) → grants n y (flow c log) ≡ true

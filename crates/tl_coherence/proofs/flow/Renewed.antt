@@ -256,45 +256,31 @@ renewed-report {w} config log c n rest h sys is first =
         → AreRenewed h (last_taken clients config.profile c n r service rest h)
     last quiet (Waits q true source k) e = renewed-granted clients config.profile c q n r (b.pair q).acquiring rest h
     last quiet (Waits q false source k) e =
-        renewed-reply q source m (written r b.truth b.memory) h
-        (last_taken clients config.profile c n r (Waits q false source k) rest h)
-        (λ d j. refl) (λ d j. refl) (λ d j. refl) from settled
-        (ap (answers m) (told ∙ ap (λ (i : ℕ). (h.state.block i).truth) (sym for.2)))
-      where
-        m : MessageA w
-        m = h.request n
-
-        with_it : IsServedWith h.mail (Waits q false source k) m
-        with_it = rw e at (is.served_with n)
-
-        from : h.mail.request q source ≡ Message.A m
-        from = with_it
-
-        for : IsFor (Waits q false source k) n m
-        for = rw e at (is.served.requests n)
-
-        told : written r b.truth b.memory ≡ b.truth
-        told = memory-reported (is_caching config) c q source r k b (is.invariant.blocks n) e answered quiet
-
-        new : Block (List ℕ)
-        new = ended_block c r (performs m) b
-
-        other : (d : ℕ) → view b.service d ≡ Other k
-        other d = rw e refl
-
-        low : (d : ℕ) → perm_le (set c (after_report r (b.pair c)) b.pair d).recorded (cap_right k) ≡ true
-        low d = elim (cases_eq d c) [
+        let m : MessageA w = h.request n in
+        let with_it : IsServedWith h.mail (Waits q false source k) m = rw e at (is.served_with n) in
+        let from : h.mail.request q source ≡ Message.A m = with_it in
+        let for : IsFor (Waits q false source k) n m = rw e at (is.served.requests n) in
+        let told : written r b.truth b.memory ≡ b.truth = memory-reported (is_caching config) c q source r k b
+        (is.invariant.blocks n) e answered quiet in
+        let new : Block (List ℕ) = ended_block c r (performs m) b in
+        let other : (d : ℕ) → view b.service d ≡ Other k = λ d. rw e refl in
+        let low : (d : ℕ) → perm_le (set c (after_report r (b.pair c)) b.pair d).recorded (cap_right k) ≡ true =
+        λ d. elim (cases_eq d c) [
           | inl same ↦ rw (same, set-same c (after_report r (b.pair c)) b.pair)
               (reported_within k r (b.pair c) (view b.service c) (ok_is c) (other c) answered)
           | inr ne ↦ rw (set-other c d (after_report r (b.pair c)) b.pair ne)
               (spared_within k (b.pair d) (view b.service d) (ok_is d) (other d)
               (quiet-is (b.pair d).probing (quiet d ne)))
-        ]
-
-        settled : IsSettledFor m (last_taken clients config.profile c n r (Waits q false source k) rest h).state
-        settled d = ap (λ (i : ℕ). leaves (needs m.opcode) ((set n new h.state.block i).pair d).recorded) for.2
-            ∙ ap (λ (z : Block (List ℕ)). leaves (needs m.opcode) (z.pair d).recorded) (set-same n new h.state.block)
-            ∙ leaves_within m.opcode m.param k (set c (after_report r (b.pair c)) b.pair d).recorded for.0 for.3 (low d)
+        ] in
+        let settled : IsSettledFor m (last_taken clients config.profile c n r (Waits q false source k) rest h).state =
+        λ d. ap (λ (i : ℕ). leaves (needs m.opcode) ((set n new h.state.block i).pair d).recorded) for.2
+        ∙ ap (λ (z : Block (List ℕ)). leaves (needs m.opcode) (z.pair d).recorded) (set-same n new h.state.block)
+        ∙ leaves_within m.opcode m.param k (set c (after_report r (b.pair c)) b.pair d).recorded for.0 for.3 (low d)
+        in
+        renewed-reply q source m (written r b.truth b.memory) h
+        (last_taken clients config.profile c n r (Waits q false source k) rest h)
+        (λ d j. refl) (λ d j. refl) (λ d j. refl) from settled
+        (ap (answers m) (told ∙ ap (λ (i : ℕ). (h.state.block i).truth) (sym for.2)))
     last quiet service e = renewed-same h h (λ d j. refl) (λ d j. (refl, refl))
 
     others : (x : Bool) → some_below clients (λ d. not (d == c) && not (is_unprobed (b.pair d).probing)) ≡ x

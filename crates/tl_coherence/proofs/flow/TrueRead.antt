@@ -49,40 +49,20 @@ answered : {w : ℕ} (config : Config) (log : Log w) → IsGiven config log → 
     → WasAnswered config c source m ((shadow config log).mail.answer c source) log
 unfolding shadow system_after WasAnswered
 answered config [] given c source m used request = absurd (closed_first used)
-answered {w} config (x ∷ log) given c source m used request = (
-  opened-now config (x ∷ log) h' sys' is' values c source m used request,
-  elim (renewed-followed config log x.0 h given.width is c source used) [
-    | inl old ↦ inr (subst (λ (r : Message w). WasAnswered config c source m r log) (sym old.1.1)
-        (answered config log before c source m old.0 (sym old.1.0 ∙ request)))
-    | inr new ↦ inl (now new.0 new.1 new.2 new.3 (same_request new.0 m (sym new.1 ∙ request)))
-  ],
-)
-  where
-    before : IsGiven config log
-    before = given-before config x log given
-
-    h : AbstractState w
-    h = shadow config log
-
-    h' : AbstractState w
-    h' = shadow config (x ∷ log)
-
-    sys' : System w
-    sys' = system_after config (x ∷ log)
-
-    is : SimulationRelation config log h.mail h.request h.state (system_after config log)
-    is = matched-given config log before
-
-    is' : SimulationRelation config (x ∷ log) h'.mail h'.request h'.state sys'
-    is' = matched-given config (x ∷ log) given
-
-    values : MonitorRelations (x ∷ log) h'.mail h'.state sys'
-    values = flowed config (x ∷ log) given.width given.typed given.is_log
-
-    now : (i : MessageA w) → h'.mail.request c source ≡ Message.A i → IsSettledFor i h'.state
-        → h'.mail.answer c source ≡ answers i (h.state.block (block_at i.address)).truth → i ≡ m
-        → IsAnswered config m (h'.mail.answer c source) (x ∷ log) log
-    now i asked settled replied same = record {
+answered {w} config (x ∷ log) given c source m used request =
+    let before : IsGiven config log = given-before config x log given in
+    let h : AbstractState w = shadow config log in
+    let h' : AbstractState w = shadow config (x ∷ log) in
+    let sys' : System w = system_after config (x ∷ log) in
+    let is : SimulationRelation config log h.mail h.request h.state (system_after config log) =
+    matched-given config log before in
+    let is' : SimulationRelation config (x ∷ log) h'.mail h'.request h'.state sys' =
+    matched-given config (x ∷ log) given in
+    let values : MonitorRelations (x ∷ log) h'.mail h'.state sys' =
+    flowed config (x ∷ log) given.width given.typed given.is_log in
+    let now : (i : MessageA w) → h'.mail.request c source ≡ Message.A i → IsSettledFor i h'.state
+    → h'.mail.answer c source ≡ answers i (h.state.block (block_at i.address)).truth → i ≡ m
+    → IsAnswered config m (h'.mail.answer c source) (x ∷ log) log = λ i asked settled replied same. record {
       free = λ n. free-now config (x ∷ log) h' sys' is' values c source m used request
           (subst (λ (j : MessageA w). IsSettledFor j h'.state) same settled) n;
       reply_is = subst (λ (j : MessageA w). h'.mail.answer c source ≡ answers j
@@ -94,7 +74,14 @@ answered {w} config (x ∷ log) given c source m used request = (
           (lawful_request config c source m (h'.mail.request c source) (h'.state.uses c source) (is'.sourced c source)
           used request)
           (is.beside.memory (block_at m.address)) (is.sized (block_at m.address)).truth));
-    }
+    } in (
+      opened-now config (x ∷ log) h' sys' is' values c source m used request,
+      elim (renewed-followed config log x.0 h given.width is c source used) [
+        | inl old ↦ inr (subst (λ (r : Message w). WasAnswered config c source m r log) (sym old.1.1)
+            (answered config log before c source m old.0 (sym old.1.0 ∙ request)))
+        | inr new ↦ inl (now new.0 new.1 new.2 new.3 (same_request new.0 m (sym new.1 ∙ request)))
+      ],
+    )
 
 -- ---- its beats
 
@@ -179,6 +166,8 @@ true-next {w} config log given c y queue beats x with_data asks =
     answer : (i : ℕ) (m : MessageA w) (z : MessageD w) → y ≡ d_beat_of z k → y.source ≡ i
         → h.state.uses c i ≡ Replied → h.mail.request c i ≡ Message.A m → h.mail.answer c i ≡ Message.D z → Found
     answer i m z e from used request reply =
+        let used_y : h.state.uses c y.source ≡ Replied = ap (h.state.uses c) from ∙ used in
+        let request_y : h.mail.request c y.source ≡ Message.A m = ap (h.mail.request c) from ∙ request in
         subst (λ (u : BeatA w). WasFound config c y.source u y.lanes k log)
         (same_first x (a_beat_of m 0) (sym asks
         ∙ asked_flow config log h (system_after config log) is values c y.source m used_y request_y))
@@ -188,12 +177,6 @@ true-next {w} config log given c y queue beats x with_data asks =
         (subst (λ (r : Message w). WasAnswered config c y.source m r log)
         (ap (h.mail.answer c) from ∙ reply)
         (answered config log given c y.source m used_y request_y))))
-      where
-        used_y : h.state.uses c y.source ≡ Replied
-        used_y = ap (h.state.uses c) from ∙ used
-
-        request_y : h.mail.request c y.source ≡ Message.A m
-        request_y = ap (h.mail.request c) from ∙ request
 
 true-moved : {w : ℕ} (config : Config) (log : Log w) → IsGiven config log → (c : ℕ) (x : Beat w) (queue : List (Beat w))
     → (system_after config log).channels c (channel_of x) ≡ x ∷ queue → IsTrueRead config c x log

@@ -23,6 +23,11 @@ true-next : {w : ℕ} (config : Config) (log : Log w) → IsGiven config log →
     → (bytes : List ℕ) × IsBlock (one_memory_after config log).memory (block_at y.address) bytes
     × (y.lanes ≡ lanes_at true w bytes (length (unfinished Channel.C (flow c log))))
 true-next {w} config log given c y queue beats with_data =
+    let values : MonitorRelations log h.mail h.state (system_after config log) =
+    flowed config log given.width given.typed given.is_log in
+    let place : (m : Message w) (k : ℕ) → unfinished Channel.C (on_link c (system_after config log).manager.trace)
+    ≡ begun m k → k ≡ length (unfinished Channel.C (flow c log)) =
+    λ m k e. sym (ap length ((values c).rest_is Channel.C ∙ e) ∙ length-begun m k) in
     by-first_c (λ i. True) c h.mail h.state (system_after config log) (Beat.C y) queue
     (first-token (is_caching config) Channel.C c h.mail h.state (system_after config log) (Beat.C y) queue given.width
     is.invariant is.carried beats)
@@ -41,39 +46,25 @@ true-next {w} config log given c y queue beats with_data =
     is : SimulationRelation config log h.mail h.request h.state (system_after config log)
     is = matched-given config log given
 
-    values : MonitorRelations log h.mail h.state (system_after config log)
-    values = flowed config log given.width given.typed given.is_log
-
     True : Type 0
     True = (bytes : List ℕ) × IsBlock (one_memory_after config log).memory (block_at y.address) bytes
         × (y.lanes ≡ lanes_at true w bytes (length (unfinished Channel.C (flow c log))))
 
-    place : (m : Message w) (k : ℕ)
-        → unfinished Channel.C (on_link c (system_after config log).manager.trace) ≡ begun m k
-        → k ≡ length (unfinished Channel.C (flow c log))
-    place m k e = sym (ap length ((values c).rest_is Channel.C ∙ e) ∙ length-begun m k)
-
     about : (n : ℕ) (b : Bool) (param : ℕ) (carries : Bool) (m : MessageC w)
         → IsAbout b n param carries (h.state.block n).truth m → (k : ℕ) → Beat.C y ≡ beat_of (Message.C m) k
         → k ≡ length (unfinished Channel.C (flow c log)) → True
-    about n b param carries m says k beat_is at = (
-      (h.state.block n).truth,
-      subst (λ (i : ℕ). IsBlock (one_memory_after config log).memory i (h.state.block n).truth) (sym of_block)
-          (is.beside.memory n),
-      lanes,
-    )
-      where
-        same : y ≡ c_beat_of m k
-        same = same_beat y (c_beat_of m k) beat_is
-
-        of_block : block_at y.address ≡ n
-        of_block = ap (λ (z : BeatC w). block_at z.address) same ∙ says.block
-
-        data_too : c_carries_data m.opcode ≡ true
-        data_too = sym (ap (λ (z : BeatC w). c_carries_data z.opcode) same) ∙ with_data
-
-        lanes : y.lanes ≡ lanes_at true w (h.state.block n).truth (length (unfinished Channel.C (flow c log)))
-        lanes = cc (same, data_too, says.payload_is (sym says.carries_is ∙ data_too), at)
+    about n b param carries m says k beat_is at =
+        let same : y ≡ c_beat_of m k = same_beat y (c_beat_of m k) beat_is in
+        let of_block : block_at y.address ≡ n = ap (λ (z : BeatC w). block_at z.address) same ∙ says.block in
+        let data_too : c_carries_data m.opcode ≡ true = sym (ap (λ (z : BeatC w). c_carries_data z.opcode) same)
+        ∙ with_data in
+        let lanes : y.lanes ≡ lanes_at true w (h.state.block n).truth (length (unfinished Channel.C (flow c log))) =
+        cc (same, data_too, says.payload_is (sym says.carries_is ∙ data_too), at) in (
+          (h.state.block n).truth,
+          subst (λ (i : ℕ). IsBlock (one_memory_after config log).memory i
+              (h.state.block n).truth) (sym of_block) (is.beside.memory n),
+          lanes,
+        )
 
 true-moved : {w : ℕ} (config : Config) (log : Log w) → IsGiven config log → (c : ℕ) (x : Beat w) (queue : List (Beat w))
     → (system_after config log).channels c (channel_of x) ≡ x ∷ queue

@@ -86,29 +86,26 @@ module _ {w : ℕ} (config : Config) (log : Log w) (h : AbstractState w) (sys : 
 
   -- its request is pending and complete
   pub opened-now : is_some (open_request source (on_link c (trace_of log))) ≡ true
-  opened-now = ap (λ (t : History w). is_some (open_request source t)) (trace-flows c log)
-      ∙ rw (pending_flow, whole, asked_flow) refl
-    where
-      whole : comes_in_request source (unfinished Channel.A (flow c log)) ≡ false
-      whole = cc (
+  opened-now =
+      let whole : comes_in_request source (unfinished Channel.A (flow c log)) ≡ false =
+      cc (
         (values c).rest_is Channel.A,
         not-coming_a config log h.mail h.request h.state sys c source is
             (ap (λ (u : SourceState). waits_on_a c u h.state) used),
-      )
+      ) in
+      ap (λ (t : History w). is_some (open_request source t)) (trace-flows c log)
+      ∙ rw (pending_flow, whole, asked_flow) refl
 
   pub free-now : IsSettledFor m h.state → (n : ℕ)
       → is_free n None (needs m.opcode) (block_at m.address) (trace_of log) ≡ true
-  free-now settled n = cc (free-where n None (needs m.opcode) k (trace_of log)
+  free-now settled n =
+      let k : ℕ = block_at m.address in
+      let b : Block (List ℕ) = h.state.block k in
+      cc (free-where n None (needs m.opcode) k (trace_of log)
       (λ other. ap (λ (t : History w). leaves (needs m.opcode) (held k t)) (trace-flows other log)
       ∙ ap (leaves (needs m.opcode)) ((values other).held_is k) ∙ leaves_below m.opcode (held_by other b)
       (b.pair other).recorded (held_by_most other b (view b.service other)
       (held_at_most (b.pair other) (view b.service other) ((is.invariant.blocks k).phases other))) (settled other)))
-    where
-      k : ℕ
-      k = block_at m.address
-
-      b : Block (List ℕ)
-      b = h.state.block k
 
 -- ---- after one more event
 
@@ -119,6 +116,9 @@ windowed-more : {w : ℕ} (config : Config) (log' : Log w) (h h' : AbstractState
     → AreRenewed h h' → AreWindowed h t → AreWindowed h' (y ∷ t)
 unfolding has_window
 windowed-more {w} config log' h h' sys' y t is values more renewed before n c source m used request =
+    let opened : is_some (open_request source (on_link c (y ∷ t))) ≡ true =
+    subst (λ (s : Trace w). is_some (open_request source (on_link c s)) ≡ true) more
+    (opened-now config log' h' sys' is values c source m used request) in
     rw opened (elim (renewed c source used) [
       | inl old ↦ or_right (is_free n None (needs m.opcode) (block_at m.address) (y ∷ t))
           (has_window n c source (needs m.opcode) (block_at m.address) t)
@@ -129,10 +129,6 @@ windowed-more {w} config log' h h' sys' y t is values more renewed before n c so
           (free-now config log' h' sys' is values c source m used request
           (subst (λ (i : MessageA w). IsSettledFor i h'.state) (same_request new.0 m (sym new.1 ∙ request)) new.2) n))
     ])
-  where
-    opened : is_some (open_request source (on_link c (y ∷ t))) ≡ true
-    opened = subst (λ (s : Trace w). is_some (open_request source (on_link c s)) ≡ true) more
-        (opened-now config log' h' sys' is values c source m used request)
 
 windowed-kept : {w : ℕ} (h h' : AbstractState w) (t : Trace w) → AreKept h h' → AreWindowed h t → AreWindowed h' t
 windowed-kept h h' t kept before n c source m used request = let old = kept c source used in
@@ -156,6 +152,7 @@ pub renewed-followed : {w : ℕ} (config : Config) (log : Log w) (event : Event 
     → SimulationRelation config log h.mail h.request h.state (system_after config log)
     → AreRenewed h (abstract_step config event (system_after config log) h)
 renewed-followed {w} config log event h width is =
+    let sys : System w = system_after config log in
     followed-cases config log h.mail h.request h.state sys event (λ (i : AbstractState w). AreRenewed h i) width is
     (renewed-same h h (λ d j. refl) (λ d j. (refl, refl)))
     (λ terms c o at d j e. inl (kept-asked c o (ask.asked terms o (sys.clients c)).reply h d j e))
@@ -163,9 +160,6 @@ renewed-followed {w} config log event h width is =
     d.first.rest h sys is
     (on-first config h.mail h.state sys link ch x queue d) (ready-delivered config log h.mail h.request h.state sys link
     ch x queue width is d))
-  where
-    sys : System w
-    sys = system_after config log
 
 windowed-event : {w : ℕ} (config : Config) (log : Log w) (h : AbstractState w) (event : Event w) (o : Outcome w)
     → IsWidth w
@@ -230,6 +224,8 @@ answered-next : {w : ℕ} (config : Config) (log : Log w) → IsGiven config log
     → (n : ℕ) (x : BeatA w) → is_access_answer y.opcode ≡ true → request_of y.source (on_link c (trace_of log)) ≡ Some x
     → has_window n c y.source (needs x.opcode) (block_at x.address) (trace_of log) ≡ true
 answered-next {w} config log given c y queue beats n x answers asks =
+    let no_answer : is_access_answer y.opcode ≡ false → Windowed x =
+    λ e. absurd (let no : false ≡ true = sym e ∙ answers in cc) in
     cc (next-on_d config log h c y queue given.width is values beats (Windowed x)
     (λ i due e. answer i due.request (ap (λ (z : BeatD w). z.source) e ∙ due.from) due.used due.request_is)
     (λ i grant. no_answer (ap (λ (z : BeatD w). is_access_answer z.opcode) grant.beat_is
@@ -247,22 +243,15 @@ answered-next {w} config log given c y queue beats n x answers asks =
     Windowed : BeatA w → Type 0
     Windowed z = has_window n c y.source (needs z.opcode) (block_at z.address) (trace_of log) ≡ true
 
-    no_answer : is_access_answer y.opcode ≡ false → Windowed x
-    no_answer e = absurd (let no : false ≡ true = sym e ∙ answers in cc)
-
     answer : (i : ℕ) (m : MessageA w) → y.source ≡ i → h.state.uses c i ≡ Replied
         → h.mail.request c i ≡ Message.A m → Windowed x
     answer i m from used request =
+        let used_y : h.state.uses c y.source ≡ Replied = ap (h.state.uses c) from ∙ used in
+        let request_y : h.mail.request c y.source ≡ Message.A m = ap (h.mail.request c) from ∙ request in
         subst Windowed
         (same_first x (a_beat_of m 0) (sym asks ∙ ap (request_of y.source) (trace-flows c log)
         ∙ asked_flow config log h (system_after config log) is values c y.source m used_y request_y))
         (windowed config log given.width given.typed given.is_log n c y.source m used_y request_y)
-      where
-        used_y : h.state.uses c y.source ≡ Replied
-        used_y = ap (h.state.uses c) from ∙ used
-
-        request_y : h.mail.request c y.source ≡ Message.A m
-        request_y = ap (h.mail.request c) from ∙ request
 
 in_time-moved : {w : ℕ} (config : Config) (log : Log w) → IsGiven config log → (c : ℕ) (x : Beat w)
     (queue : List (Beat w)) → (system_after config log).channels c (channel_of x) ≡ x ∷ queue

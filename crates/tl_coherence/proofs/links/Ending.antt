@@ -113,6 +113,24 @@ ending_d {w} config log link h terms y queue x source f width is known beats don
         sym (ap (λ (i : Beat w). completes i (unfinished Channel.D e.past)) y_is) ∙ part in
         absurd (done_moved x y source f (outcome_is Verdict.Taken None (answer-part z e unended)))
     go true last =
+        let same : x ≡ y → source ≡ z.source → f ≡ finish_at z e → completes y (unfinished Channel.D e.past) ≡ true
+        → IsEnding config log link Channel.D h x source f =
+        λ x_is i j whole. subst (λ (b : Beat w). IsEnding config log link Channel.D h b source f) (sym x_is)
+        (record {
+          on_d = refl;
+          queue = queue;
+          first = first;
+          response = m.0;
+          response_is = m.1;
+          last = whole;
+          beat_is = y_is;
+          source_is = i;
+          finish_is = j;
+          follows = followed-moving config link Channel.D sys h y queue moving beats
+              ∙ ap (λ (b : Bool). if b then packet_taken config (next_tracker sys) c (h.state.link c).d h else h)
+              whole
+              ∙ ap (λ (l : List Packet). packet_taken config (next_tracker sys) c l h) first.tokens;
+        }) in
         let ended : completes (Beat.D z) (unfinished Channel.D e.past) ≡ true =
         sym (ap (λ (i : Beat w). completes i (unfinished Channel.D e.past)) y_is) ∙ last in
         let o : Outcome.Done x source f ≡ Outcome.Done y z.source (finish_at z e) =
@@ -120,25 +138,6 @@ ending_d {w} config log link h terms y queue x source f width is known beats don
         let x_is : x ≡ y = done_beat x y source z.source f (finish_at z e) o in
         same x_is (done_source x y source z.source f (finish_at z e) o)
         (done_finish x y source z.source f (finish_at z e) o) last
-      where
-        same : x ≡ y → source ≡ z.source → f ≡ finish_at z e → completes y (unfinished Channel.D e.past) ≡ true
-            → IsEnding config log link Channel.D h x source f
-        same x_is i j whole = subst (λ (b : Beat w). IsEnding config log link Channel.D h b source f) (sym x_is)
-            (record {
-              on_d = refl;
-              queue = queue;
-              first = first;
-              response = m.0;
-              response_is = m.1;
-              last = whole;
-              beat_is = y_is;
-              source_is = i;
-              finish_is = j;
-              follows = followed-moving config link Channel.D sys h y queue moving beats
-                  ∙ ap (λ (b : Bool). if b then packet_taken config (next_tracker sys) c (h.state.link c).d h else h)
-                  whole
-                  ∙ ap (λ (l : List Packet). packet_taken config (next_tracker sys) c l h) first.tokens;
-            })
 
 pub ending : {w : ℕ} (config : Config) (log : Log w) (link : Link) (ch : Channel) (h : AbstractState w) (x : Beat w)
     (source : ℕ) (f : Finish) → IsWidth w

@@ -189,18 +189,16 @@ heard_here : {w : ℕ} (c : ℕ) (ch : Channel) (x : Beat w) (queue : List (Beat
     → IsInOrder sent (q d at) (carried_on at (p d)) × (carried_on at (p d) ≡ carried_on at (f d))
     → IsInOrder sent (popped_at c ch queue q d at) (carried_on at (heard_at c x p d))
     × (carried_on at (heard_at c x p d) ≡ carried_on at (heard_at c x f d))
-heard_here {w} c ch x queue p q f d at sent on first is = (order, same)
-  where
-    order : IsInOrder sent (popped_at c ch queue q d at) (carried_on at (heard_at c x p d))
-    order = elim (cases_eq d c) [
+heard_here {w} c ch x queue p q f d at sent on first is =
+    let order : IsInOrder sent (popped_at c ch queue q d at) (carried_on at (heard_at c x p d)) = elim (cases_eq d c) [
       | inl here ↦ rw (here, heard_history c ch x p c at on, same_number c)
           (pop_order (same_channel at ch) x queue sent (q c at) (carried_on at (p c))
           (λ e. ap (q c) (same_channel-is at ch e) ∙ first) (rw here at is.0))
       | inr other ↦ rw (heard_history c ch x p d at on, ne_eqb d c other, ne_eqb c d (λ e. other (sym e))) is.0
-    ]
-
-    same : carried_on at (heard_at c x p d) ≡ carried_on at (heard_at c x f d)
-    same = cc (heard_history c ch x p d at on, is.1, heard_history c ch x f d at on)
+    ] in
+    let same : carried_on at (heard_at c x p d) ≡ carried_on at (heard_at c x f d) =
+    cc (heard_history c ch x p d at on, is.1, heard_history c ch x f d at on) in
+    (order, same)
 
 unheard : {w : ℕ} (c : ℕ) (ch : Channel) (x : Beat w) (p : ℕ → History w) (d : ℕ) (at : Channel) → IsOn ch x
     → same_channel at ch ≡ false → carried_on at (heard_at c x p d) ≡ carried_on at (p d)

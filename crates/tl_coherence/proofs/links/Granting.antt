@@ -77,17 +77,15 @@ pub opened-acquire : {w : ℕ} (config : Config) (log : Log w) (h : AbstractStat
     → (one_memory_after config log).opened c Requests source ≡ Some
     (record { asked = op_of ((h.state.block n).pair c).acquiring n ((h.state.block n).waiting c); answer = None })
 opened-acquire {w} config log h sys c source n u is e f =
+    let go : (v : SourceState) → v ≡ Acquires n
+    → IsOpened c source h.mail h.state v ((one_memory_after config log).opened c Requests source)
+    → (one_memory_after config log).opened c Requests source
+    ≡ Some (record {
+      asked = op_of ((h.state.block n).pair c).acquiring n ((h.state.block n).waiting c);
+      answer =
+          None;
+    }) = λ v g i. rw g at i in
     go (h.state.uses c source) (e ∙ f) (is.beside.requests c source)
-  where
-    go : (v : SourceState) → v ≡ Acquires n
-        → IsOpened c source h.mail h.state v ((one_memory_after config log).opened c Requests source)
-        → (one_memory_after config log).opened c Requests source ≡ Some
-        (record {
-          asked = op_of ((h.state.block n).pair c).acquiring n ((h.state.block n).waiting c);
-          answer =
-              None;
-        })
-    go v g i = rw g at i
 
 same_op : {w : ℕ} (x y : Op w) → Some x ≡ Some y → x ≡ y
 same_op x y e = cc
@@ -98,13 +96,11 @@ pub held_granted : {w : ℕ} (config : Config) (tracker c n : ℕ) (rest : List 
     (due : IsGrantDue c n h.state)
     → (((kind_taken config tracker c Grant n rest h).state.block n).pair c).held ≡ cap_right due.k
 held_granted {w} config tracker c n rest h due =
+    let b : Block (List ℕ) = h.state.block n in
     ap (λ (v : Service). ((((taken_by_client c n v rest h).state).block n).pair c).held) due.service
     ∙ ap (λ (i : Block (List ℕ)). (i.pair c).held)
     (set-same n (taken_block c (is_whole (b.pair c).acquiring) due.data_too due.k b) h.state.block)
     ∙ ap (λ (p : ClientBlock). p.held) (set-same c (after_grant due.k (b.pair c)) b.pair)
-  where
-    b : Block (List ℕ)
-    b = h.state.block n
 
 pub granted-holds : {w : ℕ} (config : Config) (log : Log w) (link : Link) (ch : Channel) (h : AbstractState w)
     (x : Beat w) (source : ℕ) (p : Perm) (op : Op w)

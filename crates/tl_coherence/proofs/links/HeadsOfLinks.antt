@@ -133,6 +133,9 @@ first-of {w} config log h c terms Channel.A x queue width is at beats =
     either false e = taken_in _ _ (request-taken config log h (system_after config log) c x queue width is beats arrives
         e) tt
 first-of {w} config log h c terms Channel.B x queue width is at beats =
+    let k : Cap = cap_sent ((h.state.block probed.0).pair c).probing in
+    let is_one : (y : BeatB w) → Beat.B (probe_beat probed.0 k) ≡ Beat.B y → is_probe y.opcode ≡ true =
+    λ y e. ap (λ (z : BeatB w). is_probe z.opcode) (sym (same_b (probe_beat probed.0 k) y e)) in
     record {
       on = ap (λ (y : Beat w). channel_of y) probed.1.beat_is;
       taken =
@@ -153,12 +156,6 @@ first-of {w} config log h c terms Channel.B x queue width is at beats =
         (unrefused_up (taken x (sys.clients c)).answer (kept_up x (sys.clients c)))
     either false e = taken_up (offered terms Channel.B x (sys.clients c)) (silent Verdict.Stalled (sys.clients c))
         (probed.1.waits_for e) tt
-
-    k : Cap
-    k = cap_sent ((h.state.block probed.0).pair c).probing
-
-    is_one : (y : BeatB w) → Beat.B (probe_beat probed.0 k) ≡ Beat.B y → is_probe y.opcode ≡ true
-    is_one y e = ap (λ (z : BeatB w). is_probe z.opcode) (sym (same_b (probe_beat probed.0 k) y e))
 first-of {w} config log h c terms Channel.C x queue width is at beats =
     let sys : System w = system_after config log in
     let on = on_c config log h sys c x queue width is beats in

@@ -83,17 +83,15 @@ module _ {w : ℕ} (config : Config) (log : Log w) (mail : AccessMessages w) (re
     (s : State (List ℕ)) (matched : SimulationRelation config log mail request s (system_after config log))
     (coherent : IsCoherent (system_after config log) log (one_memory_after config log)) (c n : ℕ) where
   pub releasing-started : pending (ReleaseOf n) ((system_after config log).clients c).past ≡ true → IsReleasing c n log
-  releasing-started p = let found = of_let (rw let_by at (matched.beside.releases c source)) in
+  releasing-started p =
+      let not_kept : is_unreleased ((s.block n).pair c).letting ≡ false =
+      not-true (is_unreleased ((s.block n).pair c).letting) (sym ((matched.known c).releases n) ∙ p) in
+      let let_by : s.lets c source ≡ Some n = source_of_release _ s c n matched.invariant not_kept in
+      let found = of_let (rw let_by at (matched.beside.releases c source)) in
       (source, found.0, found.1)
     where
-      not_kept : is_unreleased ((s.block n).pair c).letting ≡ false
-      not_kept = not-true (is_unreleased ((s.block n).pair c).letting) (sym ((matched.known c).releases n) ∙ p)
-
       source : ℕ
       source = (s.block n).release_source c
-
-      let_by : s.lets c source ≡ Some n
-      let_by = source_of_release _ s c n matched.invariant not_kept
 
       of_let : IsLet (Some n) ((one_memory_after config log).opened c Releases source)
           → (prune : Prune) × (started c Releases source log ≡ Some (Release n prune))
@@ -250,20 +248,19 @@ module _ {w : ℕ} (config : Config) (log : Log w) (mail : AccessMessages w) (re
   moves-exactly Channel.D (Beat.D y) rest e first =
       movable-is Channel.D (Beat.D y) rest e ∙ ap not
       (stalled-as-it-waits terms Channel.D (Beat.D y) ((system_after config log).clients c) (first.taken.0 refl))
-  moves-exactly Channel.B (Beat.B y) rest e first = (there, back)
-    where
-      waits : is_movable config c Channel.B (system_after config log) ≡ not
-          (pending (ReleaseOf (block_at y.address)) ((system_after config log).clients c).past)
-      waits = movable-is Channel.B (Beat.B y) rest e ∙ ap not
-          (stalled-as-it-waits terms Channel.B (Beat.B y) ((system_after config log).clients c) (first.taken.0 refl)
-          ∙ rw (first.probes y refl) refl)
-
-      there : is_movable config c Channel.B (system_after config log) ≡ false → IsReleasing c (block_at y.address) log
-      there h = releasing-started config log mail request s matched coherent c (block_at y.address)
-          (not-false _ (sym waits ∙ h))
-
-      back : IsReleasing c (block_at y.address) log → is_movable config c Channel.B (system_after config log) ≡ false
-      back h = waits ∙ ap not (started-releasing config log mail request s matched coherent c (block_at y.address) h)
+  moves-exactly Channel.B (Beat.B y) rest e first =
+      let waits : is_movable config c Channel.B (system_after config log)
+      ≡ not (pending (ReleaseOf (block_at y.address)) ((system_after config log).clients c).past) =
+      movable-is Channel.B (Beat.B y) rest e
+      ∙ ap not (stalled-as-it-waits terms Channel.B (Beat.B y) ((system_after config log).clients c)
+      (first.taken.0 refl) ∙ rw (first.probes y refl) refl) in
+      let there : is_movable config c Channel.B (system_after config log) ≡ false
+      → IsReleasing c (block_at y.address) log = λ h. releasing-started config log mail request s matched coherent c
+      (block_at y.address) (not-false _ (sym waits ∙ h)) in
+      let back : IsReleasing c (block_at y.address) log → is_movable config c Channel.B (system_after config log)
+      ≡ false = λ h. waits ∙ ap not (started-releasing config log mail request s matched coherent c
+      (block_at y.address) h) in
+      (there, back)
   moves-exactly ch x rest e first = absurd (let on = first.on in cc)
 
   pub exact : (ch : Channel) → ((x : Beat w) (rest : List (Beat w)) → (system_after config log).channels c ch ≡ x ∷ rest

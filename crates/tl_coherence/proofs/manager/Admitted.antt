@@ -168,6 +168,12 @@ pub order-acquire : {w : ℕ} (config : Config) (log : Log w) (mail : AccessMess
     (Beat.A (a_beat_of (acquisition (acquire_opcode is_it.whole) is_it.grow ((s.block n).source c) n) k))
     (on_link c sys.manager.trace) ≡ None
 order-acquire {w} config log mail request s sys c n zero is is_it free burst =
+    let p : ClientBlock = (s.block n).pair c in
+    let well : ok p (view (s.block n).service c) ≡ true = (is.invariant.blocks n).phases c in
+    let idle : view (s.block n).service c ≡ Idle = rw free refl in
+    let settled : ((is_unprobed p.probing && is_unreleased p.letting) && same_perm p.recorded p.held) ≡ true =
+    first_three (is_unprobed p.probing) (is_unreleased p.letting) (same_perm p.recorded p.held) _
+    (asked_alone is_it.whole is_it.grow p (view (s.block n).service c) well idle is_it.wants) in
     acquire-legal config.profile n p.recorded
     (a_beat_of (acquisition (acquire_opcode is_it.whole) is_it.grow ((s.block n).source c) n) 0)
     (on_link c sys.manager.trace) (acquires-so is_it.whole) (same_block n) burst
@@ -180,19 +186,6 @@ order-acquire {w} config log mail request s sys c n zero is is_it free burst =
     (grows is_it.grow p.recorded p.held is_it.whole (acquire_fits is_it.whole is_it.grow p (view (s.block n).service c)
     well is_it.wants)
     (and_right (is_unprobed p.probing && is_unreleased p.letting) (same_perm p.recorded p.held) settled))
-  where
-    p : ClientBlock
-    p = (s.block n).pair c
-
-    well : ok p (view (s.block n).service c) ≡ true
-    well = (is.invariant.blocks n).phases c
-
-    idle : view (s.block n).service c ≡ Idle
-    idle = rw free refl
-
-    settled : ((is_unprobed p.probing && is_unreleased p.letting) && same_perm p.recorded p.held) ≡ true
-    settled = first_three (is_unprobed p.probing) (is_unreleased p.letting) (same_perm p.recorded p.held) _
-        (asked_alone is_it.whole is_it.grow p (view (s.block n).service c) well idle is_it.wants)
 order-acquire {w} config log mail request s sys c n (suc i) is is_it free burst =
     later-legal config.profile
     (Message.A (acquisition (acquire_opcode is_it.whole) is_it.grow ((s.block n).source c) n)) i
@@ -257,10 +250,9 @@ open-level config l c e live level = rw live level
 
 -- the first of the beats that are on a channel
 pub head_all : {X : Type 0} (P : X → Type 0) (x : X) (xs ys : List X) → ys ≡ x ∷ xs → All P ys → P x
-head_all P x xs ys e h = first (rw e at h)
-  where
-    first : All P (x ∷ xs) → P x
-    first h = h 0 x (omega arith)
+head_all P x xs ys e h =
+    let first : All P (x ∷ xs) → P x = λ h. h 0 x (omega arith) in
+    first (rw e at h)
 
 -- what the first beat of a channel of a client is by itself
 pub record IsFirstBeat {w : ℕ} (config : Config) (c : ℕ) (x : BeatA w) (sys : System w) : Type 0 where

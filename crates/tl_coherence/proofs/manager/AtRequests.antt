@@ -82,13 +82,11 @@ pub reaction-probing : {w : ℕ} (config : Config) (c k n : ℕ) (j : Cap) (m : 
       memory = e.memory;
     }
 reaction-probing {w} config c k n j m e is last block caps someone =
+    let probing_of : ℕ → List ℕ → Reaction w = λ i ds. record { handed = probes i j ds; memory = e.memory } in
     let one = some-clients (probed config (service_for c m e.trace) j (with_beat c m k e.trace)) someone in
     reaction-probes config (link_of c) (a_beat_of m k) (service_for c m e.trace) j one.0 one.1 e
     (served-last config c k m e is last) caps one.2
     ∙ ap₂ (λ i ds. probing_of i ds) block (sym one.2)
-  where
-    probing_of : ℕ → List ℕ → Reaction w
-    probing_of i ds = record { handed = probes i j ds; memory = e.memory }
 
 pub at_manager-probing : {w : ℕ} (caching : ℕ → Bool) (config : Config) (mail : AccessMessages w) (request : ℕ
     → MessageA w) (c k n : ℕ) (own : Bool) (source : ℕ)
@@ -101,6 +99,16 @@ pub at_manager-probing : {w : ℕ} (caching : ℕ → Bool) (config : Config) (m
     → IsServedWith mail (Waits c own source j) m
     → IsAtManager config mail request s e → IsAtManager config mail (set n m request) u (end_after config c k m e)
 at_manager-probing {w} caching config mail request c k n own source j m s u e inv blocks is someone with known =
+    let probing : Reaction w = record {
+      handed = probes n j (probed config (service_for c m e.trace) j (with_beat c m k e.trace));
+      memory = e.memory;
+    } in
+    let new : Block (List ℕ) = served_block c own source (least_untaken (trackers_of (services e.trace))) j (s.block n)
+    in
+    let served_now : (i : ℕ) → IsServedWith mail (u.block i).service (set n m request i) = λ i. elim (cases_eq i n) [
+      | inl same ↦ rw (same, blocks n, set-same n new s.block, set-same n m request) with
+      | inr other ↦ rw (blocks i, set-other n i new s.block other, set-other n i m request other) (known.served_with i)
+    ] in
     let done = reaction-probing config c k n j m e is.comes is.last is.for.2 is.for.3 someone in
     let kept : IsKept config (end_with c k m probing e) = subst (λ (d : Reaction w). IsKept config (end_with c k m d e))
     done (kept-coming config c k m e is.comes) in
@@ -110,21 +118,6 @@ at_manager-probing {w} caching config mail request c k n own source j m s u e in
     (traced-known request s e.trace known.managed known.served))
     served_now (λ i. known.memory i ∙ sym (ap (λ (b : Block (List ℕ)). b.memory) (blocks i) ∙ set-part
     (λ (b : Block (List ℕ)). b.memory) n new s.block refl i)) known.all_live)
-  where
-    probing : Reaction w
-    probing = record {
-      handed = probes n j (probed config (service_for c m e.trace) j (with_beat c m k e.trace));
-      memory = e.memory;
-    }
-
-    new : Block (List ℕ)
-    new = served_block c own source (least_untaken (trackers_of (services e.trace))) j (s.block n)
-
-    served_now : (i : ℕ) → IsServedWith mail (u.block i).service (set n m request i)
-    served_now i = elim (cases_eq i n) [
-      | inl same ↦ rw (same, blocks n, set-same n new s.block, set-same n m request) with
-      | inr other ↦ rw (blocks i, set-other n i new s.block other, set-other n i m request other) (known.served_with i)
-    ]
 
 -- ---- the last one: the access is answered
 
@@ -136,42 +129,32 @@ pub at_manager-answered : {w : ℕ} (caching : ℕ → Bool) (config : Config) (
     (with_beat c m k e.trace) e.memory
     → IsAtManager config mail request s e → IsAtManager config mail request u (end_after config c k m e)
 at_manager-answered {w} caching config mail request c k n m s u e inv blocks is lawful done known =
+    let answering : Reaction w = performed config (service_for c m e.trace) (with_beat c m k e.trace) e.memory in
+    let new : Block (List ℕ) = performed_block (performs m) (s.block n) in
+    let served_now : (i : ℕ) → IsServedWith mail (u.block i).service (request i) =
+    λ i. rw (ap (λ (b : Block (List ℕ)). b.service) (blocks i) ∙ set-part (λ (b : Block (List ℕ)). b.service) n new
+    s.block refl i) (known.served_with i) in
+    let memory_is : answering.memory ≡ (effect (A m) e.memory).0 =
+    cc (performed-access config (service_for c m e.trace) (with_beat c m k e.trace) e.memory is.access) in
+    let memory_here : bytes_from answering.memory (64 * n) 64 ≡ performs m (s.block n).memory =
+    cc (
+      memory_is,
+      is.block,
+      performed-block (level_of config c) m e.memory is.comes.width lawful,
+      known.memory n,
+    ) in
+    let memory_else : (i : ℕ) → (i ≡ n → ⊥) → bytes_from answering.memory (64 * i) 64 ≡ bytes_from e.memory (64 * i)
+    64 = λ i other. cc (done, memory-coming config c k i m e is.comes (λ f. other (f ∙ is.block))) in
+    let memory_now : (i : ℕ) → bytes_from answering.memory (64 * i) 64 ≡ (u.block i).memory = λ i. elim (cases_eq i n) [
+      | inl same ↦ rw (same, blocks n, set-same n new s.block) memory_here
+      | inr other ↦ rw (blocks i, set-other n i new s.block other) (memory_else i other ∙ known.memory i)
+    ] in
     let kept : IsKept config (end_with c k m answering e) =
     subst (λ (d : Reaction w). IsKept config (end_with c k m d e)) done (kept-coming config c k m e is.comes) in
     subst (λ (d : Reaction w). IsAtManager config mail request u (end_with c k m d e)) (sym done)
     (at_manager-traced caching config mail request u (end_with c k m answering e) inv kept
     (traced-answered config request c k n (performs m) m s u e.memory e blocks is
     (traced-known request s e.trace known.managed known.served)) served_now memory_now known.all_live)
-  where
-    answering : Reaction w
-    answering = performed config (service_for c m e.trace) (with_beat c m k e.trace) e.memory
-
-    new : Block (List ℕ)
-    new = performed_block (performs m) (s.block n)
-
-    served_now : (i : ℕ) → IsServedWith mail (u.block i).service (request i)
-    served_now i = rw (ap (λ (b : Block (List ℕ)). b.service) (blocks i) ∙ set-part (λ (b : Block (List ℕ)). b.service)
-        n new s.block refl i) (known.served_with i)
-
-    memory_is : answering.memory ≡ (effect (A m) e.memory).0
-    memory_is = cc (performed-access config (service_for c m e.trace) (with_beat c m k e.trace) e.memory is.access)
-
-    memory_here : bytes_from answering.memory (64 * n) 64 ≡ performs m (s.block n).memory
-    memory_here = cc (
-      memory_is,
-      is.block,
-      performed-block (level_of config c) m e.memory is.comes.width lawful,
-      known.memory n,
-    )
-
-    memory_else : (i : ℕ) → (i ≡ n → ⊥) → bytes_from answering.memory (64 * i) 64 ≡ bytes_from e.memory (64 * i) 64
-    memory_else i other = cc (done, memory-coming config c k i m e is.comes (λ f. other (f ∙ is.block)))
-
-    memory_now : (i : ℕ) → bytes_from answering.memory (64 * i) 64 ≡ (u.block i).memory
-    memory_now i = elim (cases_eq i n) [
-      | inl same ↦ rw (same, blocks n, set-same n new s.block) memory_here
-      | inr other ↦ rw (blocks i, set-other n i new s.block other) (memory_else i other ∙ known.memory i)
-    ]
 
 -- ---- the last one: the Acquire is granted
 
@@ -185,30 +168,22 @@ pub at_manager-granted : {w : ℕ} (caching : ℕ → Bool) (config : Config) (m
     (with_beat c m k e.trace) e.memory
     → IsAtManager config mail request s e → IsAtManager config mail (set n m request) u (end_after config c k m e)
 at_manager-granted {w} caching config mail request c k n b j m s u e inv blocks is done known =
+    let granting : Reaction w = performed config (service_for c m e.trace) (with_beat c m k e.trace) e.memory in
+    let new : Block (List ℕ) = granted_at_once c (least_untaken (trackers_of (services e.trace))) b j (s.block n) in
+    let served_now : (i : ℕ) → IsServedWith mail (u.block i).service (set n m request i) = λ i. elim (cases_eq i n) [
+      | inl same ↦ rw (same, blocks n, set-same n new s.block) tt
+      | inr other ↦ rw (blocks i, set-other n i new s.block other, set-other n i m request other) (known.served_with i)
+    ] in
+    let memory_now : (i : ℕ) → bytes_from granting.memory (64 * i) 64 ≡ (u.block i).memory =
+    λ i. cc (
+      performed-acquire config (service_for c m e.trace) (with_beat c m k e.trace) e.memory is.acquires,
+      known.memory i,
+      blocks i,
+      set-part (λ (y : Block (List ℕ)). y.memory) n new s.block refl i,
+    ) in
     let kept : IsKept config (end_with c k m granting e) =
     subst (λ (d : Reaction w). IsKept config (end_with c k m d e)) done (kept-coming config c k m e is.comes) in
     subst (λ (d : Reaction w). IsAtManager config mail (set n m request) u (end_with c k m d e)) (sym done)
     (at_manager-traced caching config mail (set n m request) u (end_with c k m granting e) inv kept
     (traced-granted config request c k n b j m s u e.memory e blocks is
     (traced-known request s e.trace known.managed known.served)) served_now memory_now known.all_live)
-  where
-    granting : Reaction w
-    granting = performed config (service_for c m e.trace) (with_beat c m k e.trace) e.memory
-
-    new : Block (List ℕ)
-    new = granted_at_once c (least_untaken (trackers_of (services e.trace))) b j (s.block n)
-
-    served_now : (i : ℕ) → IsServedWith mail (u.block i).service (set n m request i)
-    served_now i = elim (cases_eq i n) [
-      | inl same ↦ rw (same, blocks n, set-same n new s.block) tt
-      | inr other ↦ rw (blocks i, set-other n i new s.block other, set-other n i m request other) (known.served_with i)
-    ]
-
-    memory_now : (i : ℕ) → bytes_from granting.memory (64 * i) 64 ≡ (u.block i).memory
-    memory_now i = cc (
-      performed-acquire config (service_for c m e.trace) (with_beat c m k e.trace) e.memory
-          is.acquires,
-      known.memory i,
-      blocks i,
-      set-part (λ (y : Block (List ℕ)). y.memory) n new s.block refl i,
-    )

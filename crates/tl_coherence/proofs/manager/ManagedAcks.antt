@@ -73,20 +73,19 @@ client_busy s r e = refl
 serving-acked : {w : ℕ} {X : Type 0} (c n : ℕ) (x : BeatE) (request : ℕ → MessageA w) (s : State X) (t : Trace w)
     → IsAcked c n x request s t → ManagerRelation request s t → (i : ℕ)
     → (service_of_block i (services (acked c x t)) ≡ (if i == n then None else service_of_block i (services t)))
-serving-acked {w} c n x request s t is known i = passed ∙ elim (cases_eq i n) [
-  | inl same ↦ rw (same, known.serving_is n, is.taken) here
-  | inr other ↦ rw (ne_eqb i n other, known.serving_is i) (kept other (client_in (s.block i).service) refl)
-]
+serving-acked {w} c n x request s t is known i =
+    let passed : service_of_block i (services (acked c x t)) ≡ if_passes keeps (service_of_block i (services t)) =
+    ap (service_of_block i) (services-e (record { 0 = c }) x t) ∙ serving-filter i keeps (services t) is.apart in
+    let here : if_passes keeps (service_with (Some c) (s.block n).tracker (request n))
+    ≡ (if n == n then None else service_with (Some c) (s.block n).tracker (request n)) =
+    rw (same_number c, is.acquires, is.sink_is, same_number (s.block n).tracker, same_number n) refl in
+    passed ∙ elim (cases_eq i n) [
+      | inl same ↦ rw (same, known.serving_is n, is.taken) here
+      | inr other ↦ rw (ne_eqb i n other, known.serving_is i) (kept other (client_in (s.block i).service) refl)
+    ]
   where
     keeps : manager.Service w → Bool
     keeps v = not (is_ended_by (record { 0 = c }, Beat.E x) v)
-
-    passed : service_of_block i (services (acked c x t)) ≡ if_passes keeps (service_of_block i (services t))
-    passed = ap (service_of_block i) (services-e (record { 0 = c }) x t) ∙ serving-filter i keeps (services t) is.apart
-
-    here : if_passes keeps (service_with (Some c) (s.block n).tracker (request n))
-        ≡ (if n == n then None else service_with (Some c) (s.block n).tracker (request n))
-    here = rw (same_number c, is.acquires, is.sink_is, same_number (s.block n).tracker, same_number n) refl
 
     -- no two blocks have one tracker
     differ : (r : ℕ) → (i ≡ n → ⊥) → client_in (s.block i).service ≡ Some r → ((s.block i).tracker == x.sink) ≡ false
@@ -116,89 +115,93 @@ serving-acked {w} c n x request s t is known i = passed ∙ elim (cases_eq i n) 
 pub managed-acked : {w : ℕ} {X : Type 0} (request : ℕ → MessageA w) (c n : ℕ) (rest : List Packet) (x : BeatE)
     (s : State X) (t : Trace w) → IsAcked c n x request s t → ManagerRelation request s t
     → ManagerRelation request (grant_ack_taken c n rest s) (acked c x t)
-managed-acked {w} {X} request c n rest x s t is known = record {
-  recorded_is = λ d i. beat-keeps (held i) d (record { 0 = c }) (Beat.E x) t (λ h. held_unsaid i (Beat.E x) h refl)
-      ∙ known.recorded_is d i
-      ∙ sym (set-part (λ (b : Block X). (b.pair d).recorded) n new s.block refl i);
-  probes = λ d i. beat-keeps (pending (Key.ProbeOf i)) d (record { 0 = c }) (Beat.E x) t
-      (λ h. pending-quiet (Key.ProbeOf i) (Beat.E x) h refl refl)
-      ∙ known.probes d i ∙ sym (set-part (λ (b : Block X). not (is_unprobed (b.pair d).probing)) n new s.block refl i);
-  acquires = λ d i.
-      beat-keeps (pending (Key.AcquireOf i)) d (record { 0 = c }) (Beat.E x) t
-      (λ h. pending-quiet (Key.AcquireOf i) (Beat.E x) h refl refl) ∙ known.acquires d i
-      ∙ sym (set-part (λ (b : Block X). is_own (view b.service d)) n new s.block
-      (rw is.taken (sym (not_owned (d == c)))) i);
-  grant_acks = λ d i. ((accounted-e (record { 0 = c }) x t is.pends is.apart is.accounted).blocks i).grants d ∙ ap
-      (is_granted_to d u) (serves i) ∙ acks_now d i;
-  serving_is = λ i. serves i ∙ elim (cases_eq i n) [
-    | inl same ↦ rw (same, set-same n new s.block, same_number n) refl
-    | inr other ↦ rw (set-other n i new s.block other, ne_eqb i n other) (known.serving_is i)
-  ];
-}
+managed-acked {w} {X} request c n rest x s t is known =
+    let new : Block X = freed_block (s.block n) in
+    let serves : (i : ℕ) → service_of_block i (services u)
+    ≡ (if i == n then None else service_of_block i (services t)) =
+    λ i. serving-acked c n x request s t is known i in
+    let acks_now : (d i : ℕ) → is_granted_to d u (if i == n then None else service_of_block i (services t))
+    ≡ (is_granting (view (set n new s.block i).service d) || is_acknowledging
+    (view (set n new s.block i).service d)) = λ d i. elim (cases_eq i n) [
+      | inl same ↦ rw (same, set-same n new s.block, same_number n) refl
+      | inr other ↦ rw (set-other n i new s.block other, ne_eqb i n other)
+          (as_before d i other (service_of_block i (services t)) refl (serves i ∙ rw (ne_eqb i n other) refl) ∙ sym
+          ((is.accounted.blocks i).grants d) ∙ known.grant_acks d i)
+    ] in
+    record {
+      recorded_is = λ d i. beat-keeps (held i) d (record { 0 = c }) (Beat.E x) t (λ h. held_unsaid i (Beat.E x) h refl)
+          ∙ known.recorded_is d i
+          ∙ sym (set-part (λ (b : Block X). (b.pair d).recorded) n new s.block refl i);
+      probes = λ d i. beat-keeps (pending (Key.ProbeOf i)) d (record { 0 = c }) (Beat.E x) t
+          (λ h. pending-quiet (Key.ProbeOf i) (Beat.E x) h refl refl)
+          ∙ known.probes d i ∙ sym (set-part (λ (b : Block X). not (is_unprobed (b.pair d).probing)) n new s.block refl i);
+      acquires = λ d i.
+          beat-keeps (pending (Key.AcquireOf i)) d (record { 0 = c }) (Beat.E x) t
+          (λ h. pending-quiet (Key.AcquireOf i) (Beat.E x) h refl refl) ∙ known.acquires d i
+          ∙ sym (set-part (λ (b : Block X). is_own (view b.service d)) n new s.block
+          (rw is.taken (sym (not_owned (d == c)))) i);
+      grant_acks = λ d i. ((accounted-e (record { 0 = c }) x t is.pends is.apart is.accounted).blocks i).grants d ∙ ap
+          (is_granted_to d u) (serves i) ∙ acks_now d i;
+      serving_is = λ i. serves i ∙ elim (cases_eq i n) [
+        | inl same ↦ rw (same, set-same n new s.block, same_number n) refl
+        | inr other ↦ rw (set-other n i new s.block other, ne_eqb i n other) (known.serving_is i)
+      ];
+    }
   where
     u : Trace w
     u = acked c x t
-
-    new : Block X
-    new = freed_block (s.block n)
-
-    serves : (i : ℕ) → service_of_block i (services u) ≡ (if i == n then None else service_of_block i (services t))
-    serves i = serving-acked c n x request s t is known i
 
     -- of another block as before
     as_before : (d i : ℕ) → (i ≡ n → ⊥) → (o : Option (manager.Service w)) → service_of_block i (services t) ≡ o
         → service_of_block i (services u) ≡ o → is_granted_to d u o ≡ is_granted_to d t o
     as_before d i other None e f = refl
     as_before d i other (Some v) e f =
+        let passes : if_passes (λ r. not (is_ended_by (record { 0 = c }, Beat.E x) r)) (Some v) ≡ Some v =
+        ap (if_passes (λ (r : manager.Service w). not (is_ended_by (record { 0 = c }, Beat.E x) r))) (sym e)
+        ∙ sym (ap (service_of_block i) (services-e (record { 0 = c }) x t)
+        ∙ serving-filter i _ (services t) is.apart) ∙ f in
         cc (granted-left (record { 0 = c }) x t v (stays (is_ended_by (record { 0 = c }, Beat.E x) v) refl passes))
       where
-        passes : if_passes (λ r. not (is_ended_by (record { 0 = c }, Beat.E x) r)) (Some v) ≡ Some v
-        passes = ap (if_passes (λ (r : manager.Service w). not (is_ended_by (record { 0 = c }, Beat.E x) r))) (sym e)
-            ∙ sym (ap (service_of_block i) (services-e (record { 0 = c }) x t) ∙ serving-filter i _ (services t)
-            is.apart) ∙ f
-
         stays : (b : Bool) → is_ended_by (record { 0 = c }, Beat.E x) v ≡ b → (if not b then Some v else None) ≡ Some v
             → b ≡ false
         stays true g h = absurd cc
         stays false g h = refl
 
-    acks_now : (d i : ℕ) → is_granted_to d u (if i == n then None else service_of_block i (services t))
-        ≡ (is_granting (view (set n new s.block i).service d)
-        || is_acknowledging (view (set n new s.block i).service d))
-    acks_now d i = elim (cases_eq i n) [
-      | inl same ↦ rw (same, set-same n new s.block, same_number n) refl
-      | inr other ↦ rw (set-other n i new s.block other, ne_eqb i n other)
-          (as_before d i other (service_of_block i (services t)) refl (serves i ∙ rw (ne_eqb i n other) refl) ∙ sym
-          ((is.accounted.blocks i).grants d) ∙ known.grant_acks d i)
-    ]
-
 pub are_served-acked : {w : ℕ} {X : Type 0} (request : ℕ → MessageA w) (c n : ℕ) (rest : List Packet) (x : BeatE)
     (s : State X) (t : Trace w) → IsAcked c n x request s t → ServedSourceRelation request s t
     → ServedSourceRelation request (grant_ack_taken c n rest s) (acked c x t)
-are_served-acked {w} {X} request c n rest x s t is known = record {
-  sources = λ d i.
-      beat-keeps (pending (Key.RequestSource i)) d (record { 0 = c }) (Beat.E x) t
-      (λ h. pending-quiet (Key.RequestSource i) (Beat.E x) h refl refl) ∙ known.sources d i
-      ∙ sym (rw (
-        served_now d (s.uses d i),
-        beat-keeps (unfinished Channel.A) d (record { 0 = c }) (Beat.E x) t
-            (burst-e x),
-      ) refl);
-  sinks = λ d i. sinks-e c x t d i ∙ sinks_now d i;
-  requests = λ i. elim (cases_eq i n) [
-    | inl same ↦ rw (same, set-same n new s.block) tt
-    | inr other ↦ rw (set-other n i new s.block other) (known.requests i)
-  ];
-  asked = λ i p from own low e. beat-keeps (request_of from) p (record { 0 = c }) (Beat.E x) t (request_of-e from x)
-      ∙ asked_now i p from own low e;
-  probes = λ d i e. cc (
-    beat-keeps (probe_of i) d (record { 0 = c }) (Beat.E x) t (probe_of-e i x),
-    known.probes d i
-        (sym (set-part (λ (b : Block X). is_unprobed (b.pair d).probing) n new s.block refl i) ∙ e),
-    set-part
-        (λ (b : Block X). cap_waited b.service) n new s.block (rw is.taken refl) i,
-  );
-}
+are_served-acked {w} {X} request c n rest x s t is known =
+    let asked_now : (i p from : ℕ) (own : Bool) (low : Cap) → (set n new s.block i).service ≡ Waits p own from low
+    → request_of from (on_link p t) ≡ Some (a_beat_of (request i) 0) = λ i p from own low e. elim (cases_eq i n) [
+      | inl same ↦ absurd (let free : Free ≡ Waits p own from low =
+          ap (λ (b : Block X). b.service) (sym (set-same n new s.block)) ∙ (rw same at e) in cc)
+      | inr other ↦ known.asked i p from own low
+          (ap (λ (b : Block X). b.service) (sym (set-other n i new s.block other)) ∙ e)
+    ] in
+    record {
+      sources = λ d i.
+          beat-keeps (pending (Key.RequestSource i)) d (record { 0 = c }) (Beat.E x) t
+          (λ h. pending-quiet (Key.RequestSource i) (Beat.E x) h refl refl) ∙ known.sources d i
+          ∙ sym (rw (
+            served_now d (s.uses d i),
+            beat-keeps (unfinished Channel.A) d (record { 0 = c }) (Beat.E x) t
+                (burst-e x),
+          ) refl);
+      sinks = λ d i. sinks-e c x t d i ∙ sinks_now d i;
+      requests = λ i. elim (cases_eq i n) [
+        | inl same ↦ rw (same, set-same n new s.block) tt
+        | inr other ↦ rw (set-other n i new s.block other) (known.requests i)
+      ];
+      asked = λ i p from own low e. beat-keeps (request_of from) p (record { 0 = c }) (Beat.E x) t (request_of-e from x)
+          ∙ asked_now i p from own low e;
+      probes = λ d i e. cc (
+        beat-keeps (probe_of i) d (record { 0 = c }) (Beat.E x) t (probe_of-e i x),
+        known.probes d i
+            (sym (set-part (λ (b : Block X). is_unprobed (b.pair d).probing) n new s.block refl i) ∙ e),
+        set-part
+            (λ (b : Block X). cap_waited b.service) n new s.block (rw is.taken refl) i,
+      );
+    }
   where
     new : Block X
     new = freed_block (s.block n)
@@ -248,13 +251,4 @@ are_served-acked {w} {X} request c n rest x s t is known = record {
           rw (set-other (s.block n).tracker i None s.tracked other, is.sink_is, ne_eqb (s.block n).tracker i differ)
           (part_none (c == d) (pending (Key.GrantSink i) (on_link d t)) ∙ known.sinks d i ∙ elsewhere d i other
           (s.tracked i) refl)
-    ]
-
-    asked_now : (i p from : ℕ) (own : Bool) (low : Cap) → (set n new s.block i).service ≡ Waits p own from low
-        → request_of from (on_link p t) ≡ Some (a_beat_of (request i) 0)
-    asked_now i p from own low e = elim (cases_eq i n) [
-      | inl same ↦ absurd (let free : Free ≡ Waits p own from low =
-          ap (λ (b : Block X). b.service) (sym (set-same n new s.block)) ∙ (rw same at e) in cc)
-      | inr other ↦ known.asked i p from own low
-          (ap (λ (b : Block X). b.service) (sym (set-other n i new s.block other)) ∙ e)
     ]

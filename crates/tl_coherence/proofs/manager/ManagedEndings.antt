@@ -95,40 +95,35 @@ pub managed-ended : {w : ℕ} {X : Type 0} (request : ℕ → MessageA w) (c q n
     → IsEnding c q n source k r x m request s t → ManagerRelation request s t
     → ManagerRelation request (report_answers c q n source r f rest s)
     (after_sent (record { 0 = q }) (D m) (taken c x t))
-managed-ended {w} {X} request c q n source k r f rest x m s t is known = record {
-  recorded_is = λ d i. recorded-answer (record { 0 = q }) m u is.reply.width is.reply.whole other d i ∙ reported-records
-      request c n r new x s t is.last (λ j. refl) known d i;
-  probes = λ d i. reply-quiet (Key.ProbeOf i) (record { 0 = q }) m u d is.reply.width is.reply.whole (λ e. (refl, refl))
-      ∙ reported-missing request c n r new x s t is.last is.report (λ j. refl) known d i;
-  acquires = λ d i.
-      reply-quiet (Key.AcquireOf i) (record { 0 = q }) m u d is.reply.width is.reply.whole (λ e. (refl, rw other refl))
-      ∙ (quiet-c (record { 0 = c }) x t).acquires d i ∙ known.acquires d i
-      ∙ sym (set-part (λ (b : Block X). is_own (view b.service d)) n new s.block (rw is.waits refl) i);
-  grant_acks = λ d i.
-      reply-quiet (Key.GrantAckOf i) (record { 0 = q }) m u d is.reply.width is.reply.whole (λ e. (rw other refl, refl))
-      ∙ (quiet-c (record { 0 = c }) x t).grants d i ∙ known.grant_acks d i
-      ∙ sym (set-part (λ (b : Block X). is_granting (view b.service d) || is_acknowledging (view b.service d)) n new
-      s.block (rw is.waits refl) i);
-  serving_is = λ i.
-      ap (service_of_block i) (services-answer n (service_for q n request s) m u is.reply is.answers is.access
-      is.accounted) ∙ serving-without n i (services u)
-      ∙ elim (cases_eq n i) [
-        | inl same ↦ rw (← same, same_number n) refl
-        | inr apart ↦
-            let differ : i ≡ n → ⊥ = λ e. apart (sym e) in
-            rw (ne_eqb n i apart, ne_eqb i n differ) (ap (service_of_block i) (quiet-c (record { 0 = c }) x t).serves
-            ∙ known.serving_is i)
-      ];
-}
-  where
-    u : Trace w
-    u = taken c x t
-
-    new : Block X
-    new = ended_block c r f (s.block n)
-
-    other : is_grant m.opcode ≡ false
-    other = answer_kind m.opcode is.answers
+managed-ended {w} {X} request c q n source k r f rest x m s t is known =
+    let u : Trace w = taken c x t in
+    let new : Block X = ended_block c r f (s.block n) in
+    let other : is_grant m.opcode ≡ false = answer_kind m.opcode is.answers in
+    record {
+      recorded_is = λ d i. recorded-answer (record { 0 = q }) m u is.reply.width is.reply.whole other d i ∙ reported-records
+          request c n r new x s t is.last (λ j. refl) known d i;
+      probes = λ d i. reply-quiet (Key.ProbeOf i) (record { 0 = q }) m u d is.reply.width is.reply.whole (λ e. (refl, refl))
+          ∙ reported-missing request c n r new x s t is.last is.report (λ j. refl) known d i;
+      acquires = λ d i.
+          reply-quiet (Key.AcquireOf i) (record { 0 = q }) m u d is.reply.width is.reply.whole (λ e. (refl, rw other refl))
+          ∙ (quiet-c (record { 0 = c }) x t).acquires d i ∙ known.acquires d i
+          ∙ sym (set-part (λ (b : Block X). is_own (view b.service d)) n new s.block (rw is.waits refl) i);
+      grant_acks = λ d i.
+          reply-quiet (Key.GrantAckOf i) (record { 0 = q }) m u d is.reply.width is.reply.whole (λ e. (rw other refl, refl))
+          ∙ (quiet-c (record { 0 = c }) x t).grants d i ∙ known.grant_acks d i
+          ∙ sym (set-part (λ (b : Block X). is_granting (view b.service d) || is_acknowledging (view b.service d)) n new
+          s.block (rw is.waits refl) i);
+      serving_is = λ i.
+          ap (service_of_block i) (services-answer n (service_for q n request s) m u is.reply is.answers is.access
+          is.accounted) ∙ serving-without n i (services u)
+          ∙ elim (cases_eq n i) [
+            | inl same ↦ rw (← same, same_number n) refl
+            | inr apart ↦
+                let differ : i ≡ n → ⊥ = λ e. apart (sym e) in
+                rw (ne_eqb n i apart, ne_eqb i n differ) (ap (service_of_block i) (quiet-c (record { 0 = c }) x t).serves
+                ∙ known.serving_is i)
+          ];
+    }
 
 -- a source that isn't pending has no unfinished request
 pub no-burst : {w : ℕ} (c q : ℕ) (t : Trace w) → IsAccounted t → pending (Key.RequestSource q) (on_link c t) ≡ false
@@ -146,20 +141,30 @@ pub are_served-ended : {w : ℕ} {X : Type 0} (request : ℕ → MessageA w) (c 
     → IsEnding c q n source k r x m request s t → ServedSourceRelation request s t
     → ServedSourceRelation request (report_answers c q n source r f rest s)
     (after_sent (record { 0 = q }) (D m) (taken c x t))
-are_served-ended {w} {X} request c q n source k r f rest x m s t is known = record {
-  sources = λ d i. sources_now d i ((q == d) && (source == i)) refl;
-  sinks = λ d i. reply-quiet (Key.GrantSink i) (record { 0 = q }) m u d is.reply.width is.reply.whole
-      (λ e. (rw other refl, refl))
-      ∙ (quiet-c (record { 0 = c }) x t).sinks d i ∙ known.sinks d i ∙ sym (sinks_now d i);
-  requests = λ i. elim (cases_eq i n) [
-    | inl same ↦ rw (same, set-same n new s.block) tt
-    | inr apart ↦ rw (set-other n i new s.block apart) (known.requests i)
-  ];
-  asked = λ i p source own cap e. request-reply (record { 0 = q }) m u p
-      source ∙ (quiet-c (record { 0 = c }) x t).requests p source ∙ asked_now i p source own cap e;
-  probes = λ d i e. probe-reply (record { 0 = q }) m u d i ∙ (quiet-c (record { 0 = c }) x t).probe d i ∙ probes_now d i
-      e;
-}
+are_served-ended {w} {X} request c q n source k r f rest x m s t is known =
+    let other : is_grant m.opcode ≡ false = answer_kind m.opcode is.answers in
+    let asked_now : (i p source : ℕ) (own : Bool) (cap : Cap) → (set n new s.block i).service ≡ Waits p own source cap
+    → request_of source (on_link p t) ≡ Some (a_beat_of (request i) 0) =
+    λ i p source own cap e. elim (cases_eq i n) [
+      | inl same ↦ absurd (let free : Free ≡ Waits p own source cap =
+          ap (λ (b : Block X). b.service) (sym (set-same n new s.block)) ∙ (rw same at e) in cc)
+      | inr apart ↦ known.asked i p source own cap
+          (ap (λ (b : Block X). b.service) (sym (set-other n i new s.block apart)) ∙ e)
+    ] in
+    record {
+      sources = λ d i. sources_now d i ((q == d) && (source == i)) refl;
+      sinks = λ d i. reply-quiet (Key.GrantSink i) (record { 0 = q }) m u d is.reply.width is.reply.whole
+          (λ e. (rw other refl, refl))
+          ∙ (quiet-c (record { 0 = c }) x t).sinks d i ∙ known.sinks d i ∙ sym (sinks_now d i);
+      requests = λ i. elim (cases_eq i n) [
+        | inl same ↦ rw (same, set-same n new s.block) tt
+        | inr apart ↦ rw (set-other n i new s.block apart) (known.requests i)
+      ];
+      asked = λ i p source own cap e. request-reply (record { 0 = q }) m u p
+          source ∙ (quiet-c (record { 0 = c }) x t).requests p source ∙ asked_now i p source own cap e;
+      probes = λ d i e. probe-reply (record { 0 = q }) m u d i ∙ (quiet-c (record { 0 = c }) x t).probe d i ∙ probes_now d i
+          e;
+    }
   where
     u : Trace w
     u = taken c x t
@@ -172,9 +177,6 @@ are_served-ended {w} {X} request c q n source k r f rest x m s t is known = reco
 
     z : State X
     z = report_answers c q n source r f rest s
-
-    other : is_grant m.opcode ≡ false
-    other = answer_kind m.opcode is.answers
 
     served_now : (d : ℕ) (y : SourceState) → is_served d y z ≡ is_served d y s
     served_now d (Acquires j) = set-part (λ (b : Block X). is_own (view b.service d)) n new s.block (rw is.waits refl) j
@@ -222,15 +224,6 @@ are_served-ended {w} {X} request c q n source k r f rest x m s t is known = reco
         granted_now None = refl
         granted_now (Some j) = set-part (λ (b : Block X). is_granting (view b.service d) || is_acknowledging
             (view b.service d)) n new s.block (rw is.waits refl) j
-
-    asked_now : (i p source : ℕ) (own : Bool) (cap : Cap) → (set n new s.block i).service ≡ Waits p own source cap
-        → request_of source (on_link p t) ≡ Some (a_beat_of (request i) 0)
-    asked_now i p source own cap e = elim (cases_eq i n) [
-      | inl same ↦ absurd (let free : Free ≡ Waits p own source cap =
-          ap (λ (b : Block X). b.service) (sym (set-same n new s.block)) ∙ (rw same at e) in cc)
-      | inr apart ↦ known.asked i p source own cap
-          (ap (λ (b : Block X). b.service) (sym (set-other n i new s.block apart)) ∙ e)
-    ]
 
     probes_now : (d i : ℕ) → is_unprobed ((set n new s.block i).pair d).probing ≡ false
         → probe_of i (on_link d t) ≡ Some (probe_beat i (cap_waited (set n new s.block i).service))

@@ -102,24 +102,29 @@ pub managed-conceded : {w : ℕ} {X : Type 0} (request : ℕ → MessageA w) (c 
     (x : BeatC w) (m : MessageD w) (s : State X) (t : Trace w)
     → IsConceded c q n source k gift r x m request s t → ManagerRelation request s t
     → ManagerRelation request (report_grants c q n r dt gift rest s) (after_sent (record { 0 = q }) (D m) (taken c x t))
-managed-conceded {w} {X} request c q n source k gift r dt rest x m s t is known = record {
-  recorded_is = λ d i. given-records q n (s.block n).tracker m u given d i ∙ records_now d i ∙ sym
-      (pair-over (λ p. p.recorded) q n gives new mid s.block (λ j. refl) d i);
-  probes = λ d i.
-      reply-quiet (Key.ProbeOf i) (record { 0 = q }) m u d given.width given.whole (λ e. (refl, refl))
-      ∙ reported-missing request c n r mid x s t is.last is.report (λ j. refl) known d i
-      ∙ sym (pair-over (λ p. not (is_unprobed p.probing)) q n gives new mid s.block (λ j. refl) d i ∙ probing_same d i
-      ((q == d) && (n == i)) refl);
-  acquires = λ d i. given-acquires q n (s.block n).tracker m u given d i ∙ acquires_now d i;
-  grant_acks = λ d i. given-acks q n (s.block n).tracker m u given d i ∙ acks_now d i;
-  serving_is = λ i.
-      ap (service_of_block i) (services-grant (record { 0 = q }) m u given.width given.whole given.grants
-      ∙ (quiet-c (record { 0 = c }) x t).serves) ∙ known.serving_is i
-      ∙ sym (elim (cases_eq i n) [
-        | inl same ↦ rw (same, set-same n new s.block, is.waits) refl
-        | inr other ↦ rw (set-other n i new s.block other) refl
-      ]);
-}
+managed-conceded {w} {X} request c q n source k gift r dt rest x m s t is known =
+    let given : IsGiven q n (s.block n).tracker m u = conceded-given c q n source k gift r x m request s t is in
+    let records_now : (d i : ℕ) → (if (q == d) && (n == i) then capped m.param else recorded d i u)
+    ≡ (if (q == d) && (n == i) then cap_right gift else ((set n mid s.block i).pair d).recorded) =
+    λ d i. rw (is.cap_is, reported-records request c n r mid x s t is.last (λ j. refl) known d i) refl in
+    record {
+      recorded_is = λ d i. given-records q n (s.block n).tracker m u given d i ∙ records_now d i ∙ sym
+          (pair-over (λ p. p.recorded) q n gives new mid s.block (λ j. refl) d i);
+      probes = λ d i.
+          reply-quiet (Key.ProbeOf i) (record { 0 = q }) m u d given.width given.whole (λ e. (refl, refl))
+          ∙ reported-missing request c n r mid x s t is.last is.report (λ j. refl) known d i
+          ∙ sym (pair-over (λ p. not (is_unprobed p.probing)) q n gives new mid s.block (λ j. refl) d i ∙ probing_same d i
+          ((q == d) && (n == i)) refl);
+      acquires = λ d i. given-acquires q n (s.block n).tracker m u given d i ∙ acquires_now d i;
+      grant_acks = λ d i. given-acks q n (s.block n).tracker m u given d i ∙ acks_now d i;
+      serving_is = λ i.
+          ap (service_of_block i) (services-grant (record { 0 = q }) m u given.width given.whole given.grants
+          ∙ (quiet-c (record { 0 = c }) x t).serves) ∙ known.serving_is i
+          ∙ sym (elim (cases_eq i n) [
+            | inl same ↦ rw (same, set-same n new s.block, is.waits) refl
+            | inr other ↦ rw (set-other n i new s.block other) refl
+          ]);
+    }
   where
     u : Trace w
     u = taken c x t
@@ -132,13 +137,6 @@ managed-conceded {w} {X} request c q n source k gift r dt rest x m s t is known 
 
     gives : ClientBlock
     gives = after_grant_sent gift ((s.block n).pair q)
-
-    given : IsGiven q n (s.block n).tracker m u
-    given = conceded-given c q n source k gift r x m request s t is
-
-    records_now : (d i : ℕ) → (if (q == d) && (n == i) then capped m.param else recorded d i u)
-        ≡ (if (q == d) && (n == i) then cap_right gift else ((set n mid s.block i).pair d).recorded)
-    records_now d i = rw (is.cap_is, reported-records request c n r mid x s t is.last (λ j. refl) known d i) refl
 
     others : q ≡ c → ⊥
     others e = is.apart (sym e)
@@ -225,19 +223,28 @@ pub are_served-conceded : {w : ℕ} {X : Type 0} (request : ℕ → MessageA w) 
     → IsConceded c q n source k gift r x m request s t → ServedSourceRelation request s t
     → ServedSourceRelation request (report_grants c q n r dt gift rest s)
     (after_sent (record { 0 = q }) (D m) (taken c x t))
-are_served-conceded {w} {X} request c q n source k gift r dt rest x m s t is known = record {
-  sources = λ d i. sources_now d i ((q == d) && (source == i)) refl;
-  sinks = λ d i. given-sinks q n (s.block n).tracker m u given d i ∙ sinks_now d i
-      ((q == d) && ((s.block n).tracker == i)) refl;
-  requests = λ i. elim (cases_eq i n) [
-    | inl same ↦ rw (same, set-same n new s.block) (is.grant.acquires, is.block_is)
-    | inr other ↦ rw (set-other n i new s.block other) (known.requests i)
-  ];
-  asked = λ i p from own low e. request-reply (record { 0 = q }) m u p from ∙ (quiet-c (record { 0 = c }) x t).requests
-      p from ∙ asked_now i p from own low e;
-  probes = λ d i e. probe-reply (record { 0 = q }) m u d i ∙ (quiet-c (record { 0 = c }) x t).probe d i ∙ probes_now d i
-      e;
-}
+are_served-conceded {w} {X} request c q n source k gift r dt rest x m s t is known =
+    let given : IsGiven q n (s.block n).tracker m u = conceded-given c q n source k gift r x m request s t is in
+    let asked_now : (i p from : ℕ) (own : Bool) (low : Cap) → (set n new s.block i).service ≡ Waits p own from low
+    → request_of from (on_link p t) ≡ Some (a_beat_of (request i) 0) = λ i p from own low e. elim (cases_eq i n) [
+      | inl same ↦ absurd (let sent : GrantSent q dt gift ≡ Waits p own from low =
+          ap (λ (b : Block X). b.service) (sym (set-same n new s.block)) ∙ (rw same at e) in cc)
+      | inr other ↦ known.asked i p from own low
+          (ap (λ (b : Block X). b.service) (sym (set-other n i new s.block other)) ∙ e)
+    ] in
+    record {
+      sources = λ d i. sources_now d i ((q == d) && (source == i)) refl;
+      sinks = λ d i. given-sinks q n (s.block n).tracker m u given d i ∙ sinks_now d i
+          ((q == d) && ((s.block n).tracker == i)) refl;
+      requests = λ i. elim (cases_eq i n) [
+        | inl same ↦ rw (same, set-same n new s.block) (is.grant.acquires, is.block_is)
+        | inr other ↦ rw (set-other n i new s.block other) (known.requests i)
+      ];
+      asked = λ i p from own low e. request-reply (record { 0 = q }) m u p from ∙ (quiet-c (record { 0 = c }) x t).requests
+          p from ∙ asked_now i p from own low e;
+      probes = λ d i e. probe-reply (record { 0 = q }) m u d i ∙ (quiet-c (record { 0 = c }) x t).probe d i ∙ probes_now d i
+          e;
+    }
   where
     u : Trace w
     u = taken c x t
@@ -256,9 +263,6 @@ are_served-conceded {w} {X} request c q n source k gift r dt rest x m s t is kno
 
     z : State X
     z = report_grants c q n r dt gift rest s
-
-    given : IsGiven q n (s.block n).tracker m u
-    given = conceded-given c q n source k gift r x m request s t is
 
     -- a request of another client or source
     unlike : (d i j : ℕ) → ((q == d) && (source == i)) ≡ false → s.uses d i ≡ Acquires j → j ≡ n → (d == q) ≡ false
@@ -335,15 +339,6 @@ are_served-conceded {w} {X} request c q n source k gift r dt rest x m s t is kno
         (sym (ap (λ o. is_granted q o z) (tracker-of n s is.named (rw is.waits refl)) ∙ granted_here))
     sinks_now d i false e = rw e ((quiet-c (record { 0 = c }) x t).sinks d i ∙ known.sinks d i ∙ granted_now d i e
         (s.tracked i) refl)
-
-    asked_now : (i p from : ℕ) (own : Bool) (low : Cap) → (set n new s.block i).service ≡ Waits p own from low
-        → request_of from (on_link p t) ≡ Some (a_beat_of (request i) 0)
-    asked_now i p from own low e = elim (cases_eq i n) [
-      | inl same ↦ absurd (let sent : GrantSent q dt gift ≡ Waits p own from low =
-          ap (λ (b : Block X). b.service) (sym (set-same n new s.block)) ∙ (rw same at e) in cc)
-      | inr other ↦ known.asked i p from own low
-          (ap (λ (b : Block X). b.service) (sym (set-other n i new s.block other)) ∙ e)
-    ]
 
     others : q ≡ c → ⊥
     others e = is.apart (sym e)

@@ -147,6 +147,7 @@ pub managed-released : {w : ℕ} {X : Type 0} (request : ℕ → MessageA w) (c 
     → ManagerRelation request s t → ManagerRelation request (release_taken c n r rest s)
     (after_sent (record { 0 = c }) (D m) ((record { 0 = c }, Beat.C x) ∷ t))
 managed-released {w} request c n r rest x m s t is answer known =
+    let u : Trace w = (record { 0 = c }, Beat.C x) ∷ t in
     managed-still request s (release_taken c n r rest s) t (after_sent (record { 0 = c }) (D m) u)
     (released-quiet c x m t answer) (still-released c n r rest s)
     (λ d i. recorded-answer (record { 0 = c }) m u answer.width answer.whole answer.none d i ∙ recorded-last c n
@@ -158,9 +159,6 @@ managed-released {w} request c n r rest x m s t is answer known =
     ∙ missing-release c x t answer.other d i ∙ known.probes d i
     ∙ sym (probing-released (λ p. not (is_unprobed p.probing)) (λ q p. refl) c n r rest s d i))
     known
-  where
-    u : Trace w
-    u = (record { 0 = c }, Beat.C x) ∷ t
 
 pub are_served-released : {w : ℕ} {X : Type 0} (request : ℕ → MessageA w) (c n : ℕ) (r : Prune) (rest : List Packet)
     (x : BeatC w) (m : MessageD w) (s : State X) (t : Trace w) → IsReleased c x m t

@@ -162,6 +162,29 @@ pub released-left : {w : ℕ} (config : Config) (c n k : ℕ) (r : Prune) (rest 
     (left c (Beat.C (c_beat_of m k)) (reaction config (record { 0 = c }) (Beat.C (c_beat_of m k)) e) e)
 unfolding with_handed
 released-left {w} config c n k r rest m h e up end is =
+    let x : BeatC w = c_beat_of m k in
+    let carries : Bool = same_perm (prune_left r) Perm.Trunk in
+    let after : State (List ℕ) = release_taken c n r rest h.state in
+    let does : Reaction w = record {
+      handed = (record { 0 = c }, release_ack x.source) ∷ [];
+      memory =
+          memory_with (record { 0 = c }) x e;
+    } in
+    let done : reaction config (record { 0 = c }) (Beat.C x) e ≡ does = reaction-released config c n k r m h e end in
+    let answer : (i : MessageD w) × (release_ack x.source ≡ Message.D i) × (is_release_ack i.opcode ≡ true)
+    × (is_grant i.opcode ≡ false) = release_is x.source in
+    let released : IsReleased c x answer.0 e.trace = record {
+      width = end.width;
+      other = end.about.reports;
+      ack = answer.2;
+      none = answer.3;
+      whole =
+          (whole-taken c (record { 0 = c }) (Beat.C x) e.trace refl (is.manager_kept.whole c)).1;
+    } in
+    let still : (i : ℕ) → IsServedWith h.mail (after.block i).service (h.request i) = λ i. elim (cases_eq i n) [
+      | inl same ↦ rw (same, set-same n (let_block c r (h.state.block n)) h.state.block) (is.served_with n)
+      | inr other ↦ rw (set-other n i (let_block c r (h.state.block n)) h.state.block other) (is.served_with i)
+    ] in
     subst (λ (d : Reaction w). IsManagerOf config (with_state after h) (left c (Beat.C x) d e)) (sym done) (record {
       managed =
           subst (λ (i : Message w). ManagerRelation h.request after
@@ -182,47 +205,8 @@ released-left {w} config c n k r rest m h e up end is =
       all_live = is.all_live;
     })
   where
-    x : BeatC w
-    x = c_beat_of m k
-
     truth : List ℕ
     truth = (h.state.block n).truth
-
-    carries : Bool
-    carries = same_perm (prune_left r) Perm.Trunk
-
-    after : State (List ℕ)
-    after = release_taken c n r rest h.state
-
-    does : Reaction w
-    does = record {
-      handed = (record { 0 = c }, release_ack x.source) ∷ [];
-      memory =
-          memory_with (record { 0 = c }) x e;
-    }
-
-    done : reaction config (record { 0 = c }) (Beat.C x) e ≡ does
-    done = reaction-released config c n k r m h e end
-
-    answer : (i : MessageD w) × (release_ack x.source ≡ Message.D i) × (is_release_ack i.opcode ≡ true)
-        × (is_grant i.opcode ≡ false)
-    answer = release_is x.source
-
-    released : IsReleased c x answer.0 e.trace
-    released = record {
-      width = end.width;
-      other = end.about.reports;
-      ack = answer.2;
-      none = answer.3;
-      whole =
-          (whole-taken c (record { 0 = c }) (Beat.C x) e.trace refl (is.manager_kept.whole c)).1;
-    }
-
-    still : (i : ℕ) → IsServedWith h.mail (after.block i).service (h.request i)
-    still i = elim (cases_eq i n) [
-      | inl same ↦ rw (same, set-same n (let_block c r (h.state.block n)) h.state.block) (is.served_with n)
-      | inr other ↦ rw (set-other n i (let_block c r (h.state.block n)) h.state.block other) (is.served_with i)
-    ]
 
 -- ---- which ProbeAcks are missing
 
@@ -257,20 +241,16 @@ pub reaction-reported : {w : ℕ} (config : Config) (c n k : ℕ) (r : Report) (
     → reaction config (record { 0 = c }) (Beat.C (c_beat_of m k)) e ≡ nothing
     (memory_with (record { 0 = c }) (c_beat_of m k) e)
 reaction-reported {w} config c n k r m h e end others managed =
+    let x : BeatC w = c_beat_of m k in
+    let carries : Bool = same_perm (report_left r) Perm.Trunk in
     reaction-report config (record { 0 = c }) x e (ends-it true c n (report_code r) carries truth k m e end)
     end.about.releases end.about.reports
     (ap (λ i. is_settled config i ((record { 0 = c }, Beat.C x) ∷ e.trace)) end.about.block
     ∙ settled-is config c n (report_right r) x h e (last-of true c n (report_code r) carries truth k (report_right r) m
     e end (reported-report r)) end.about.reports managed ∙ rw others refl)
   where
-    x : BeatC w
-    x = c_beat_of m k
-
     truth : List ℕ
     truth = (h.state.block n).truth
-
-    carries : Bool
-    carries = same_perm (report_left r) Perm.Trunk
 
 pub reported-left : {w : ℕ} (config : Config) (c n k : ℕ) (r : Report) (rest : List Packet) (m : MessageC w)
     (h : AbstractState w) (e : End w) → IsTakenUp config c Channel.C (Beat.C (c_beat_of m k)) e
@@ -280,6 +260,18 @@ pub reported-left : {w : ℕ} (config : Config) (c n k : ℕ) (r : Report) (rest
     (left c (Beat.C (c_beat_of m k)) (reaction config (record { 0 = c }) (Beat.C (c_beat_of m k)) e) e)
 unfolding with_handed
 reported-left {w} config c n k r rest m h e up end others is =
+    let x : BeatC w = c_beat_of m k in
+    let carries : Bool = same_perm (report_left r) Perm.Trunk in
+    let after : State (List ℕ) = report_taken c n r rest h.state in
+    let does : Reaction w = nothing (memory_with (record { 0 = c }) x e) in
+    let last : IsLastOf c n (report_right r) x e.trace =
+    last-of true c n (report_code r) carries truth k (report_right r) m e end (reported-report r) in
+    let done : reaction config (record { 0 = c }) (Beat.C x) e ≡ does =
+    reaction-reported config c n k r m h e end others is.managed in
+    let still : (i : ℕ) → IsServedWith h.mail (after.block i).service (h.request i) = λ i. elim (cases_eq i n) [
+      | inl same ↦ rw (same, set-same n (reported_block c r (h.state.block n)) h.state.block) (is.served_with n)
+      | inr other ↦ rw (set-other n i (reported_block c r (h.state.block n)) h.state.block other) (is.served_with i)
+    ] in
     subst (λ (d : Reaction w). IsManagerOf config (with_state after h) (left c (Beat.C x) d e)) (sym done) (record {
       managed = managed-reported h.request c n r rest x h.state e.trace last end.about.reports is.managed;
       served = are_served-reported h.request c n r rest x h.state e.trace is.served;
@@ -292,32 +284,8 @@ reported-left {w} config c n k r rest m h e up end others is =
       all_live = is.all_live;
     })
   where
-    x : BeatC w
-    x = c_beat_of m k
-
     truth : List ℕ
     truth = (h.state.block n).truth
-
-    carries : Bool
-    carries = same_perm (report_left r) Perm.Trunk
-
-    after : State (List ℕ)
-    after = report_taken c n r rest h.state
-
-    does : Reaction w
-    does = nothing (memory_with (record { 0 = c }) x e)
-
-    last : IsLastOf c n (report_right r) x e.trace
-    last = last-of true c n (report_code r) carries truth k (report_right r) m e end (reported-report r)
-
-    done : reaction config (record { 0 = c }) (Beat.C x) e ≡ does
-    done = reaction-reported config c n k r m h e end others is.managed
-
-    still : (i : ℕ) → IsServedWith h.mail (after.block i).service (h.request i)
-    still i = elim (cases_eq i n) [
-      | inl same ↦ rw (same, set-same n (reported_block c r (h.state.block n)) h.state.block) (is.served_with n)
-      | inr other ↦ rw (set-other n i (reported_block c r (h.state.block n)) h.state.block other) (is.served_with i)
-    ]
 
 -- ---- a GrantAck
 
@@ -328,6 +296,13 @@ pub acked-left : {w : ℕ} (config : Config) (c n : ℕ) (rest : List Packet) (x
     (left c (Beat.E x) (reaction config (record { 0 = c }) (Beat.E x) e) e)
 unfolding with_handed
 acked-left {w} config c n rest x h e width up acks is =
+    let after : State (List ℕ) = grant_ack_taken c n rest h.state in
+    let done : reaction config (record { 0 = c }) (Beat.E x) e ≡ nothing e.memory =
+    reaction-ack config (record { 0 = c }) x e in
+    let still : (i : ℕ) → IsServedWith h.mail (after.block i).service (h.request i) = λ i. elim (cases_eq i n) [
+      | inl same ↦ rw (same, set-same n (freed_block (h.state.block n)) h.state.block) tt
+      | inr other ↦ rw (set-other n i (freed_block (h.state.block n)) h.state.block other) (is.served_with i)
+    ] in
     subst (λ (d : Reaction w). IsManagerOf config (with_state after h) (left c (Beat.E x) d e)) (sym done) (record {
       managed = managed-acked h.request c n rest x h.state e.trace acks is.managed;
       served = are_served-acked h.request c n rest x h.state e.trace acks is.served;
@@ -338,15 +313,3 @@ acked-left {w} config c n rest x h e width up acks is =
           h.state.block refl i);
       all_live = is.all_live;
     })
-  where
-    after : State (List ℕ)
-    after = grant_ack_taken c n rest h.state
-
-    done : reaction config (record { 0 = c }) (Beat.E x) e ≡ nothing e.memory
-    done = reaction-ack config (record { 0 = c }) x e
-
-    still : (i : ℕ) → IsServedWith h.mail (after.block i).service (h.request i)
-    still i = elim (cases_eq i n) [
-      | inl same ↦ rw (same, set-same n (freed_block (h.state.block n)) h.state.block) tt
-      | inr other ↦ rw (set-other n i (freed_block (h.state.block n)) h.state.block other) (is.served_with i)
-    ]

@@ -75,6 +75,38 @@ pub ended-left : {w : ℕ} (config : Config) (c q n source k : ℕ) (low : Cap) 
     (left c (Beat.C (c_beat_of m k)) (reaction config (record { 0 = c }) (Beat.C (c_beat_of m k)) e) e)
 unfolding with_handed
 ended-left {w} config c q n source k low r rest m h e at =
+    let x : BeatC w = c_beat_of m k in
+    let new : Block (List ℕ) = ended_block c r (performs (h.request n)) (h.state.block n) in
+    let after : State (List ℕ) = report_answers c q n source r (performs (h.request n)) rest h.state in
+    let said : Message w = answers (h.request n) (protocol.written r (h.state.block n).truth (h.state.block n).memory)
+    in
+    let does : Reaction w = record {
+      handed = (record { 0 = q }, said) ∷ [];
+      memory =
+          (effect (Message.A (h.request n)) (memory_with (record { 0 = c }) x e)).0;
+    } in
+    let done : reaction config (record { 0 = c }) (Beat.C x) e ≡ does =
+    reaction-ended config c q n source k low r m h e at in
+    let for : IsFor (Waits q false source low) n (h.request n) = settling-for config c q n source k false low r m h e at
+    in
+    let reply : (i : MessageD w) × (said ≡ Message.D i) × (is_access_answer i.opcode ≡ true)
+    × (is_release_ack i.opcode ≡ false) × (i.source ≡ (h.request n).source) = answer_is (h.request n) _ in
+    let ending : IsEnding c q n source low r x reply.0 h.request h.state e.trace = record {
+      last = settling-last config c q n source k false low r m h e at;
+      report = at.end.about.reports;
+      waits = at.waits;
+      settled = settling-quiet config c q n source k false low r m h e at;
+      named = at.named;
+      reply = settling-reply config c q n source k false low r m reply.0 h e at reply.4 reply.3;
+      answers = reply.2;
+      accounted = (settling-ready config c q n source k false low r m h e at).accounted;
+      access = for.0;
+      source_is = for.1;
+    } in
+    let still : (i : ℕ) → IsServedWith h.mail (after.block i).service (h.request i) = λ i. elim (cases_eq i n) [
+      | inl same ↦ rw (same, set-same n new h.state.block) tt
+      | inr other ↦ rw (set-other n i new h.state.block other) (at.is.served_with i)
+    ] in
     subst (λ (d : Reaction w). IsManagerOf config (with_answer q source said (with_state after h))
     (left c (Beat.C x) d e)) (sym done) (record {
       managed =
@@ -96,55 +128,6 @@ ended-left {w} config c q n source k low r rest m h e at =
           i);
       all_live = at.is.all_live;
     })
-  where
-    x : BeatC w
-    x = c_beat_of m k
-
-    new : Block (List ℕ)
-    new = ended_block c r (performs (h.request n)) (h.state.block n)
-
-    after : State (List ℕ)
-    after = report_answers c q n source r (performs (h.request n)) rest h.state
-
-    said : Message w
-    said = answers (h.request n) (protocol.written r (h.state.block n).truth (h.state.block n).memory)
-
-    does : Reaction w
-    does = record {
-      handed = (record { 0 = q }, said) ∷ [];
-      memory =
-          (effect (Message.A (h.request n)) (memory_with (record { 0 = c }) x e)).0;
-    }
-
-    done : reaction config (record { 0 = c }) (Beat.C x) e ≡ does
-    done = reaction-ended config c q n source k low r m h e at
-
-    for : IsFor (Waits q false source low) n (h.request n)
-    for = settling-for config c q n source k false low r m h e at
-
-    reply : (i : MessageD w) × (said ≡ Message.D i) × (is_access_answer i.opcode ≡ true)
-        × (is_release_ack i.opcode ≡ false) × (i.source ≡ (h.request n).source)
-    reply = answer_is (h.request n) _
-
-    ending : IsEnding c q n source low r x reply.0 h.request h.state e.trace
-    ending = record {
-      last = settling-last config c q n source k false low r m h e at;
-      report = at.end.about.reports;
-      waits = at.waits;
-      settled = settling-quiet config c q n source k false low r m h e at;
-      named = at.named;
-      reply = settling-reply config c q n source k false low r m reply.0 h e at reply.4 reply.3;
-      answers = reply.2;
-      accounted = (settling-ready config c q n source k false low r m h e at).accounted;
-      access = for.0;
-      source_is = for.1;
-    }
-
-    still : (i : ℕ) → IsServedWith h.mail (after.block i).service (h.request i)
-    still i = elim (cases_eq i n) [
-      | inl same ↦ rw (same, set-same n new h.state.block) tt
-      | inr other ↦ rw (set-other n i new h.state.block other) (at.is.served_with i)
-    ]
 
 -- ---- an Acquire
 
@@ -219,6 +202,23 @@ pub reaction-conceded : {w : ℕ} (config : Config) (c q n source k : ℕ) (low 
           memory_with (record { 0 = c }) (c_beat_of m k) e;
     }
 reaction-conceded {w} config c q n source k low r whole g m h e at wanted =
+    let u : Trace w = trace_with c k m e in
+    let memory : Memory = memory_with (record { 0 = c }) (c_beat_of m k) e in
+    let unheld : Bool = is_unheld (length config.clients.items) (pairs_after c r (h.state.block n).pair) in
+    let for : IsFor (Waits q true source low) n (h.request n) = settling-for config c q n source k true low r m h e at
+    in
+    let none : holders.is_unheld config n u ≡ unheld =
+    cc (nobody-same config (λ d. has_copy (recorded d n u))
+    (λ d. not (same_perm (pairs_after c r (h.state.block n).pair d).recorded Perm.None))
+    (λ d. ap has_copy (settling-records config c q n source k true low r m h e at d)
+    ∙ has_copy-is (pairs_after c r (h.state.block n).pair d).recorded)) in
+    let mine : (pairs_after c r (h.state.block n).pair q).recorded ≡ ((h.state.block n).pair q).recorded =
+    ap (λ (p : ClientBlock). p.recorded) (set-other c q (after_report r ((h.state.block n).pair c))
+    (h.state.block n).pair (λ f. wanted.apart (sym f))) in
+    let sent : grant_of (GrantSent q (is_granted_data whole g ((h.state.block n).pair q).recorded)
+    (gift config.profile whole g unheld)) (h.request n).source (h.state.block n).tracker (block_in memory n)
+    ≡ grant_after config c q n source r whole g h =
+    rw (for.1, settling-memory config c q n source k true low r m h e at) refl in
     cc (
       settling-reaction config c q n source k true low r m h e at,
       performed-acquire config
@@ -228,33 +228,6 @@ reaction-conceded {w} config c q n source k low r whole g m h e at wanted =
           (settling-records config c q n source k true low r m h e at q ∙ mine),
       sent,
     )
-  where
-    u : Trace w
-    u = trace_with c k m e
-
-    memory : Memory
-    memory = memory_with (record { 0 = c }) (c_beat_of m k) e
-
-    unheld : Bool
-    unheld = is_unheld (length config.clients.items) (pairs_after c r (h.state.block n).pair)
-
-    for : IsFor (Waits q true source low) n (h.request n)
-    for = settling-for config c q n source k true low r m h e at
-
-    none : holders.is_unheld config n u ≡ unheld
-    none = cc (nobody-same config (λ d. has_copy (recorded d n u))
-        (λ d. not (same_perm (pairs_after c r (h.state.block n).pair d).recorded Perm.None))
-        (λ d. ap has_copy (settling-records config c q n source k true low r m h e at d)
-        ∙ has_copy-is (pairs_after c r (h.state.block n).pair d).recorded))
-
-    mine : (pairs_after c r (h.state.block n).pair q).recorded ≡ ((h.state.block n).pair q).recorded
-    mine = ap (λ (p : ClientBlock). p.recorded) (set-other c q (after_report r ((h.state.block n).pair c))
-        (h.state.block n).pair (λ f. wanted.apart (sym f)))
-
-    sent : grant_of (GrantSent q (is_granted_data whole g ((h.state.block n).pair q).recorded)
-        (gift config.profile whole g unheld)) (h.request n).source
-        (h.state.block n).tracker (block_in memory n) ≡ grant_after config c q n source r whole g h
-    sent = rw (for.1, settling-memory config c q n source k true low r m h e at) refl
 
 pub conceded-left : {w : ℕ} (config : Config) (c q n source k : ℕ) (low : Cap) (r : Report) (whole : Bool) (g : Grow)
     (rest : List Packet) (m : MessageC w)
@@ -266,62 +239,26 @@ pub conceded-left : {w : ℕ} (config : Config) (c q n source k : ℕ) (low : Ca
     (left c (Beat.C (c_beat_of m k)) (reaction config (record { 0 = c }) (Beat.C (c_beat_of m k)) e) e)
 unfolding with_handed
 conceded-left {w} config c q n source k low r whole g rest m h e at wanted =
-    subst (λ (d : Reaction w). IsManagerOf config (with_state after h) (left c (Beat.C x) d e)) (sym done) (record {
-      managed =
-          subst (λ (i : Message w). ManagerRelation h.request after
-          (with_handed ((record { 0 = q }, i) ∷ []) (trace_with c k m e))) (sym reply.1)
-          (managed-conceded h.request c q n source low given r data_too rest x reply.0 h.state e.trace conceded
-          at.is.managed);
-      served =
-          subst (λ (i : Message w). ServedSourceRelation h.request after
-          (with_handed ((record { 0 = q }, i) ∷ []) (trace_with c k m e))) (sym reply.1)
-          (are_served-conceded h.request c q n source low given r data_too rest x reply.0 h.state e.trace conceded
-          at.is.served);
-      served_with = λ i. still i;
-      manager_kept = kept-left config c x does e at.end.width at.up done at.is.manager_kept;
-      memory = λ i.
-          blocks-now e.memory does.memory n new h.state (settling-memory config c q n source k true low r m h e at)
-          (others-left config c n x does e at.end.width at.up done at.is.manager_kept at.end.about.block) at.is.memory
-          i;
-      all_live = at.is.all_live;
-    })
-  where
-    x : BeatC w
-    x = c_beat_of m k
-
-    data_too : Bool
-    data_too = is_granted_data whole g ((h.state.block n).pair q).recorded
-
-    given : Cap
-    given = gift_after config c n r whole g h
-
-    new : Block (List ℕ)
-    new = granted_block c q r data_too given (h.state.block n)
-
-    after : State (List ℕ)
-    after = report_grants c q n r data_too given rest h.state
-
-    does : Reaction w
-    does = record {
+    let x : BeatC w = c_beat_of m k in
+    let data_too : Bool = is_granted_data whole g ((h.state.block n).pair q).recorded in
+    let given : Cap = gift_after config c n r whole g h in
+    let new : Block (List ℕ) = granted_block c q r data_too given (h.state.block n) in
+    let after : State (List ℕ) = report_grants c q n r data_too given rest h.state in
+    let does : Reaction w = record {
       handed = (record { 0 = q }, grant_after config c q n source r whole g h) ∷ [];
       memory =
           memory_with (record { 0 = c }) x e;
-    }
-
-    done : reaction config (record { 0 = c }) (Beat.C x) e ≡ does
-    done = reaction-conceded config c q n source k low r whole g m h e at wanted
-
-    for : IsFor (Waits q true source low) n (h.request n)
-    for = settling-for config c q n source k true low r m h e at
-
-    reply : (i : MessageD w) × (grant_after config c q n source r whole g h ≡ Message.D i) × (is_grant i.opcode ≡ true)
-        × (is_release_ack i.opcode ≡ false)
-        × (i.source ≡ source) × (i.sink ≡ (h.state.block n).tracker) × (i.param ≡ cap_code given)
-    reply = given_is q data_too given source (h.state.block n).tracker
-        (protocol.written r (h.state.block n).truth (h.state.block n).memory)
-
-    conceded : IsConceded c q n source low given r x reply.0 h.request h.state e.trace
-    conceded = record {
+    } in
+    let done : reaction config (record { 0 = c }) (Beat.C x) e ≡ does =
+    reaction-conceded config c q n source k low r whole g m h e at wanted in
+    let for : IsFor (Waits q true source low) n (h.request n) = settling-for config c q n source k true low r m h e at
+    in
+    let reply : (i : MessageD w) × (grant_after config c q n source r whole g h ≡ Message.D i)
+    × (is_grant i.opcode ≡ true) × (is_release_ack i.opcode ≡ false) × (i.source ≡ source)
+    × (i.sink ≡ (h.state.block n).tracker) × (i.param ≡ cap_code given) =
+    given_is q data_too given source (h.state.block n).tracker
+    (protocol.written r (h.state.block n).truth (h.state.block n).memory) in
+    let conceded : IsConceded c q n source low given r x reply.0 h.request h.state e.trace = record {
       last = settling-last config c q n source k true low r m h e at;
       report = at.end.about.reports;
       waits = at.waits;
@@ -341,10 +278,27 @@ conceded-left {w} config c q n source k low r whole g rest m h e at wanted =
       block_is = for.2;
       asked = at.is.served.asked n q source true low at.waits;
       cap_is = ap capped reply.6 ∙ cap-gives given;
-    }
-
-    still : (i : ℕ) → IsServedWith h.mail (after.block i).service (h.request i)
-    still i = elim (cases_eq i n) [
+    } in
+    let still : (i : ℕ) → IsServedWith h.mail (after.block i).service (h.request i) = λ i. elim (cases_eq i n) [
       | inl same ↦ rw (same, set-same n new h.state.block) tt
       | inr other ↦ rw (set-other n i new h.state.block other) (at.is.served_with i)
-    ]
+    ] in
+    subst (λ (d : Reaction w). IsManagerOf config (with_state after h) (left c (Beat.C x) d e)) (sym done) (record {
+      managed =
+          subst (λ (i : Message w). ManagerRelation h.request after
+          (with_handed ((record { 0 = q }, i) ∷ []) (trace_with c k m e))) (sym reply.1)
+          (managed-conceded h.request c q n source low given r data_too rest x reply.0 h.state e.trace conceded
+          at.is.managed);
+      served =
+          subst (λ (i : Message w). ServedSourceRelation h.request after
+          (with_handed ((record { 0 = q }, i) ∷ []) (trace_with c k m e))) (sym reply.1)
+          (are_served-conceded h.request c q n source low given r data_too rest x reply.0 h.state e.trace conceded
+          at.is.served);
+      served_with = λ i. still i;
+      manager_kept = kept-left config c x does e at.end.width at.up done at.is.manager_kept;
+      memory = λ i.
+          blocks-now e.memory does.memory n new h.state (settling-memory config c q n source k true low r m h e at)
+          (others-left config c n x does e at.end.width at.up done at.is.manager_kept at.end.about.block) at.is.memory
+          i;
+      all_live = at.is.all_live;
+    })

@@ -259,19 +259,15 @@ pub ack-order : {w : ℕ} (config : Config) (request : ℕ → MessageA w) (c n 
     → x.sink ≡ (s.block n).tracker → (pending (Key.GrantSink x.sink) (on_link c e.trace) ≡ true)
     × (broken_in_order {w = w} config.profile (Beat.E x) (on_link c e.trace) ≡ None)
 unfolding broken_order
-ack-order {w} config request c n x s e named served kept taken_is sink = (
-  pends,
-  rw ((whole-e {w = w} x (on_link c e.trace)).0, (kept.whole c).1)
-      (ack_rule (pending (Key.GrantSink x.sink) (on_link c e.trace)) false pends refl),
-)
-  where
-    awaits : (b : Bool) → b ≡ true
-        → (is_granting (if b then Acknowledging else GrantedOther) || is_acknowledging
-        (if b then Acknowledging else GrantedOther)) ≡ true
-    awaits b f = rw f refl
-
-    pends : pending (Key.GrantSink x.sink) (on_link c e.trace) ≡ true
-    pends =
-        served.sinks c x.sink ∙ ap (λ i. is_granted c (s.tracked i) s) sink ∙ ap (λ o. is_granted c o s)
-        (tracker-of n s named (rw taken_is refl))
-        ∙ rw taken_is (awaits (c == c) (same_number c))
+ack-order {w} config request c n x s e named served kept taken_is sink =
+    let awaits : (b : Bool) → b ≡ true
+    → (is_granting (if b then Acknowledging else GrantedOther) || is_acknowledging
+    (if b then Acknowledging else GrantedOther)) ≡ true = λ b f. rw f refl in
+    let pends : pending (Key.GrantSink x.sink) (on_link c e.trace) ≡ true = served.sinks c x.sink
+    ∙ ap (λ i. is_granted c (s.tracked i) s) sink
+    ∙ ap (λ o. is_granted c o s) (tracker-of n s named (rw taken_is refl))
+    ∙ rw taken_is (awaits (c == c) (same_number c)) in (
+      pends,
+      rw ((whole-e {w = w} x (on_link c e.trace)).0, (kept.whole c).1)
+          (ack_rule (pending (Key.GrantSink x.sink) (on_link c e.trace)) false pends refl),
+    )

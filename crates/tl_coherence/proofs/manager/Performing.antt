@@ -68,6 +68,30 @@ pub traced-answered : {w : ℕ} {X : Type 0} (config : Config) (request : ℕ �
     → IsAnswering config c k n m s e → IsTraced request s e.trace
     → IsTraced request u (with_answer config c k m memory e.trace)
 traced-answered {w} {X} config request c k n f m s u memory e blocks is known =
+    let after : Trace w = with_answer config c k m memory e.trace in
+    let new : Block X = performed_block f (s.block n) in
+    let here : u.block n ≡ new = blocks n ∙ set-same n new s.block in
+    let reply : (r : MessageD w) × (access_answer m (answer_of (A m) (effect (A m) memory).1) ≡ D r)
+    × (is_grant r.opcode ≡ false) = answer_of_d m (answer_of (A m) (effect (A m) memory).1) in
+    let after_is : after ≡ after_sent (link_of c) (D reply.0) t =
+    ap (λ (d : Reaction w). with_handed d.handed t) (performed-access config (service_for c m e.trace) t memory
+    is.access) ∙ one-handed c (access_answer m (answer_of (A m) (effect (A m) memory).1)) t
+    ∙ ap (λ (i : Message w). after_sent (link_of c) i t) reply.1 in
+    let recorded_same : (d i : ℕ) → recorded d i after ≡ recorded d i e.trace = λ d i. ap (recorded d i) after_is
+    ∙ recorded-reply c reply.0 t d i is.comes.width whole reply.2 ∙ recorded-beat c k m e.trace d i in
+    let missing_same : (d i : ℕ) → pending (ProbeOf i) (on_link d after) ≡ pending (ProbeOf i) (on_link d e.trace) =
+    λ d i. cc (
+      after_is,
+      reply-quiet (ProbeOf i) (link_of c) reply.0 t d is.comes.width (whole c)
+          (λ g. (refl, refl)),
+      missing-beat c k m e.trace d i,
+    ) in
+    let asked_same : (r src : ℕ) → request_of src (on_link r after) ≡ request_of src (on_link r t) =
+    λ r src. cc (after_is, request-reply (link_of c) reply.0 t r src) in
+    let served : (i : ℕ) → service_of_block i (services after)
+    ≡ (if not (is_acquire m.opcode) && (block_at m.address == i) then None else service_of_block i (services t)) =
+    λ i. performed-serving config (block_at m.address) i (service_for c m e.trace) t memory
+    (ready-last config c k m e is.comes is.last) in
     traced-at n request request s u e.trace after (record {
       other_blocks = λ i ne. blocks i ∙ set-other n i new s.block ne;
       other_requests = λ i ne. refl;
@@ -92,47 +116,8 @@ traced-answered {w} {X} config request c k n f m s u memory e blocks is known =
     t : Trace w
     t = with_beat c m k e.trace
 
-    after : Trace w
-    after = with_answer config c k m memory e.trace
-
-    new : Block X
-    new = performed_block f (s.block n)
-
-    here : u.block n ≡ new
-    here = blocks n ∙ set-same n new s.block
-
-    reply : (r : MessageD w) × (access_answer m (answer_of (A m) (effect (A m) memory).1) ≡ D r)
-        × (is_grant r.opcode ≡ false)
-    reply = answer_of_d m (answer_of (A m) (effect (A m) memory).1)
-
-    after_is : after ≡ after_sent (link_of c) (D reply.0) t
-    after_is =
-        ap (λ (d : Reaction w). with_handed d.handed t) (performed-access config (service_for c m e.trace) t memory
-        is.access) ∙ one-handed c (access_answer m (answer_of (A m) (effect (A m) memory).1)) t
-        ∙ ap (λ (i : Message w). after_sent (link_of c) i t) reply.1
-
     whole : (d : ℕ) → unfinished Channel.D (on_link d t) ≡ []
     whole d = (whole-taken d (link_of c) (Beat.A (a_beat_of m k)) e.trace refl (is.comes.kept.whole d)).1
-
-    recorded_same : (d i : ℕ) → recorded d i after ≡ recorded d i e.trace
-    recorded_same d i = ap (recorded d i) after_is ∙ recorded-reply c reply.0 t d i is.comes.width whole
-        reply.2 ∙ recorded-beat c k m e.trace d i
-
-    missing_same : (d i : ℕ) → pending (ProbeOf i) (on_link d after) ≡ pending (ProbeOf i) (on_link d e.trace)
-    missing_same d i = cc (
-      after_is,
-      reply-quiet (ProbeOf i) (link_of c) reply.0 t d is.comes.width (whole c)
-          (λ g. (refl, refl)),
-      missing-beat c k m e.trace d i,
-    )
-
-    asked_same : (r src : ℕ) → request_of src (on_link r after) ≡ request_of src (on_link r t)
-    asked_same r src = cc (after_is, request-reply (link_of c) reply.0 t r src)
-
-    served : (i : ℕ) → service_of_block i (services after) ≡ (if not (is_acquire m.opcode) && (block_at m.address == i)
-        then None else service_of_block i (services t))
-    served i = performed-serving config (block_at m.address) i (service_for c m e.trace) t memory
-        (ready-last config c k m e is.comes is.last)
 
 -- ---- an Acquire
 
@@ -167,6 +152,32 @@ pub traced-granted : {w : ℕ} {X : Type 0} (config : Config) (request : ℕ →
     → IsGranting config c k n j m s e → IsTraced request s e.trace
     → IsTraced (set n m request) u (with_answer config c k m memory e.trace)
 traced-granted {w} {X} config request c k n b j m s u memory e blocks is known =
+    let tracker : ℕ = least_untaken (trackers_of (services e.trace)) in
+    let new : Block X = granted_at_once c tracker b j (s.block n) in
+    let here : u.block n ≡ new = blocks n ∙ set-same n new s.block in
+    let recorded_now : (d : ℕ)
+    → recorded d n after ≡ (set c (after_grant_sent j ((s.block n).pair c)) (s.block n).pair d).recorded =
+    λ d. elim (cases_eq d c) [
+      | inl same ↦ rw (same, set-same c (after_grant_sent j ((s.block n).pair c)) (s.block n).pair)
+          (recorded_own n ∙ rw (same_number n) refl)
+      | inr ne ↦ recorded_apart d n ne ∙ known.recorded_is d n ∙ ap (λ (p : ClientBlock). p.recorded)
+          (sym (set-other c d (after_grant_sent j ((s.block n).pair c)) (s.block n).pair ne))
+    ] in
+    let missing_same : (d i : ℕ) → pending (ProbeOf i) (on_link d after) ≡ pending (ProbeOf i) (on_link d e.trace) =
+    λ d i. cc (
+      after_is,
+      reply-quiet (ProbeOf i) (link_of c) reply.0 t d is.comes.width (whole c)
+          (λ g. (refl, refl)),
+      missing-beat c k m e.trace d i,
+    ) in
+    let quiet_same : (d : ℕ) → is_unprobed (set c (after_grant_sent j ((s.block n).pair c)) (s.block n).pair d).probing
+    ≡ is_unprobed ((s.block n).pair d).probing = λ d. set-part (λ (p : ClientBlock). is_unprobed p.probing) c
+    (after_grant_sent j ((s.block n).pair c)) (s.block n).pair refl d in
+    let asked_same : (r src : ℕ) → request_of src (on_link r after) ≡ request_of src (on_link r t) =
+    λ r src. cc (after_is, request-reply (link_of c) reply.0 t r src) in
+    let served : (i : ℕ) → service_of_block i (services after) ≡ service_of_block i (services t) =
+    λ i. performed-serving config (block_at m.address) i (service_for c m e.trace) t memory
+    (ready-last config c k m e is.comes is.last) ∙ rw is.acquires refl in
     traced-at n request (set n m request) s u e.trace after (record {
       other_blocks = λ i ne. blocks i ∙ set-other n i new s.block ne;
       other_requests = λ i ne. set-other n i m request ne;
@@ -188,20 +199,11 @@ traced-granted {w} {X} config request c k n b j m s u memory e blocks is known =
           (λ same h. is.unwaited i src o l (g ∙ ap (λ z. Waits z o src l) same) h);
     }) known
   where
-    tracker : ℕ
-    tracker = least_untaken (trackers_of (services e.trace))
-
     t : Trace w
     t = with_beat c m k e.trace
 
     after : Trace w
     after = with_answer config c k m memory e.trace
-
-    new : Block X
-    new = granted_at_once c tracker b j (s.block n)
-
-    here : u.block n ≡ new
-    here = blocks n ∙ set-same n new s.block
 
     reply : (r : MessageD w) × (grant config (service_for c m e.trace) t memory ≡ D r) × (is_grant r.opcode ≡ true)
         × (r.source ≡ m.source) × (capped r.param ≡ cap_right j)
@@ -233,15 +235,6 @@ traced-granted {w} {X} config request c k n b j m s u memory e blocks is known =
         ap (recorded d i) after_is ∙ ap (held i) (other_link d (link_of c) (D reply.0) t (ne_eqb c d differ))
         ∙ recorded-beat c k m e.trace d i
 
-    recorded_now : (d : ℕ) → recorded d n after ≡ (set c (after_grant_sent j ((s.block n).pair c)) (s.block n).pair
-        d).recorded
-    recorded_now d = elim (cases_eq d c) [
-      | inl same ↦ rw (same, set-same c (after_grant_sent j ((s.block n).pair c)) (s.block n).pair)
-          (recorded_own n ∙ rw (same_number n) refl)
-      | inr ne ↦ recorded_apart d n ne ∙ known.recorded_is d n ∙ ap (λ (p : ClientBlock). p.recorded)
-          (sym (set-other c d (after_grant_sent j ((s.block n).pair c)) (s.block n).pair ne))
-    ]
-
     recorded_other : (d i : ℕ) → (i ≡ n → ⊥) → recorded d i after ≡ recorded d i e.trace
     recorded_other d i ne =
         let differ : n ≡ i → ⊥ = λ f. ne (sym f) in
@@ -249,23 +242,3 @@ traced-granted {w} {X} config request c k n b j m s u memory e blocks is known =
           | inl same ↦ rw same (recorded_own i ∙ rw (ne_eqb n i differ) refl)
           | inr apart ↦ recorded_apart d i apart
         ]
-
-    missing_same : (d i : ℕ) → pending (ProbeOf i) (on_link d after) ≡ pending (ProbeOf i) (on_link d e.trace)
-    missing_same d i = cc (
-      after_is,
-      reply-quiet (ProbeOf i) (link_of c) reply.0 t d is.comes.width (whole c)
-          (λ g. (refl, refl)),
-      missing-beat c k m e.trace d i,
-    )
-
-    quiet_same : (d : ℕ) → is_unprobed (set c (after_grant_sent j ((s.block n).pair c)) (s.block n).pair d).probing
-        ≡ is_unprobed ((s.block n).pair d).probing
-    quiet_same d = set-part (λ (p : ClientBlock). is_unprobed p.probing) c (after_grant_sent j ((s.block n).pair c))
-        (s.block n).pair refl d
-
-    asked_same : (r src : ℕ) → request_of src (on_link r after) ≡ request_of src (on_link r t)
-    asked_same r src = cc (after_is, request-reply (link_of c) reply.0 t r src)
-
-    served : (i : ℕ) → service_of_block i (services after) ≡ service_of_block i (services t)
-    served i = performed-serving config (block_at m.address) i (service_for c m e.trace) t memory
-        (ready-last config c k m e is.comes is.last) ∙ rw is.acquires refl

@@ -47,6 +47,38 @@ pub traced-probing : {w : ℕ} {X : Type 0} (config : Config) (request : ℕ →
     → IsProbing config c k n own source j m s e → IsTraced request s e.trace
     → IsTraced (set n m request) u (with_probes config c k m n j e.trace)
 traced-probing {w} {X} config request c k n own source j m s u e blocks is known =
+    let tracker : ℕ = least_untaken (trackers_of (services e.trace)) in
+    let new : Block X = served_block c own source tracker j (s.block n) in
+    let service_now : Block X → Option (Service w) =
+    λ b. service_with (client_in b.service) b.tracker (set n m request n) in
+    let here : u.block n ≡ new = blocks n ∙ set-same n new s.block in
+    let recorded_same : (d i : ℕ) → recorded d i after ≡ recorded d i e.trace =
+    λ d i. probes-keep (held i) d n j asked_clients t (λ h. held_unsaid i (Beat.B (probe_beat n j)) h refl)
+    ∙ recorded-beat c k m e.trace d i in
+    -- who is probed
+    let test : ℕ → Bool = λ d. holders.is_above j (recorded d (block_at m.address) t) && not
+    (is_spared (service_for c m e.trace) d) in
+    let test_is : (d : ℕ) → test d ≡ (is_above j ((s.block n).pair d).recorded && not (own && (d == c))) =
+    λ d. rw (
+      is.for.2,
+      recorded-beat c k m e.trace d n,
+      known.recorded_is d n,
+      is.for.0,
+      same_above j
+          ((s.block n).pair d).recorded,
+      swapped c d,
+    ) refl in
+    let missing_now : (d : ℕ) → pending (ProbeOf n) (on_link d after)
+    ≡ not (is_unprobed (served_pair c own j (s.block n).pair d).probing) =
+    λ d. elim (cases_lt d (length config.clients.items)) [
+      | inl lt ↦
+          ap (pending (ProbeOf n)) (probes-within d n j 0 (length config.clients.items) test t (omega arith)
+          (omega (arith, lt))) ∙ probed_or d (test d) ∙ test_is d ∙ quiet_now d (own && (d == c))
+      | inr le ↦
+          ap (pending (ProbeOf n)) (probes-beyond d n j 0 (length config.clients.items) test t (omega (arith, le)))
+          ∙ missing_before d
+          ∙ sym (rw (is.beyond d le, nothing-above j) refl) ∙ quiet_now d (own && (d == c))
+    ] in
     traced-at n request (set n m request) s u e.trace after (record {
       other_blocks = λ i ne. blocks i ∙ set-other n i new s.block ne;
       other_requests = λ i ne. set-other n i m request ne;
@@ -73,9 +105,6 @@ traced-probing {w} {X} config request c k n own source j m s u e blocks is known
           (λ same g. is.unwaited i src o l (f ∙ ap (λ z. Waits z o src l) same) (sym is.for.1 ∙ g));
     }) known
   where
-    tracker : ℕ
-    tracker = least_untaken (trackers_of (services e.trace))
-
     t : Trace w
     t = with_beat c m k e.trace
 
@@ -85,22 +114,9 @@ traced-probing {w} {X} config request c k n own source j m s u e blocks is known
     after : Trace w
     after = with_probes config c k m n j e.trace
 
-    new : Block X
-    new = served_block c own source tracker j (s.block n)
-
-    service_now : Block X → Option (Service w)
-    service_now b = service_with (client_in b.service) b.tracker (set n m request n)
-
-    here : u.block n ≡ new
-    here = blocks n ∙ set-same n new s.block
-
     spared : (b : Bool) (p : ClientBlock) → (if b then p else after_served j p).recorded ≡ p.recorded
     spared true p = refl
     spared false p = refl
-
-    recorded_same : (d i : ℕ) → recorded d i after ≡ recorded d i e.trace
-    recorded_same d i = probes-keep (held i) d n j asked_clients t (λ h. held_unsaid i (Beat.B (probe_beat n j)) h refl)
-        ∙ recorded-beat c k m e.trace d i
 
     asked_same : (r src : ℕ) → request_of src (on_link r after) ≡ request_of src (on_link r t)
     asked_same r src = probes-keep (request_of src) r n j asked_clients t (request_of-b src n j)
@@ -108,28 +124,12 @@ traced-probing {w} {X} config request c k n own source j m s u e blocks is known
     asked_now : (r src : ℕ) (o : Bool) (l : Cap) → Waits c own source j ≡ Waits r o src l
         → request_of src (on_link r after) ≡ Some (a_beat_of (set n m request n) 0)
     asked_now r src o l f =
+        let number_is : (r src : ℕ) (o : Bool) (l : Cap) → Waits c own source j ≡ Waits r o src l → src ≡ source =
+        λ r src o l f. cc in
         let client : r ≡ c = cc in
         let number : src ≡ m.source = number_is r src o l f ∙ sym is.for.1 in
         rw (client, number) (asked_same c m.source ∙ request-own config c k m e is.comes) ∙ ap
         (λ (i : MessageA w). Some (a_beat_of i 0)) (sym (set-same n m request))
-      where
-        number_is : (r src : ℕ) (o : Bool) (l : Cap) → Waits c own source j ≡ Waits r o src l → src ≡ source
-        number_is r src o l f = cc
-
-    -- who is probed
-    test : ℕ → Bool
-    test d = holders.is_above j (recorded d (block_at m.address) t) && not (is_spared (service_for c m e.trace) d)
-
-    test_is : (d : ℕ) → test d ≡ (is_above j ((s.block n).pair d).recorded && not (own && (d == c)))
-    test_is d = rw (
-      is.for.2,
-      recorded-beat c k m e.trace d n,
-      known.recorded_is d n,
-      is.for.0,
-      same_above j
-          ((s.block n).pair d).recorded,
-      swapped c d,
-    ) refl
 
     missing_before : (d : ℕ) → pending (ProbeOf n) (on_link d t) ≡ false
     missing_before d = missing-beat c k m e.trace d n ∙ known.probes d n ∙ ap not (is.quiet d)
@@ -150,15 +150,3 @@ traced-probing {w} {X} config request c k n own source j m s u e blocks is known
         sent_or : (b : Bool) → (b && true) ≡ not (is_unprobed (if b then ProbeSent j else ((s.block n).pair d).probing))
         sent_or true = refl
         sent_or false = sym (ap not (is.quiet d))
-
-    missing_now : (d : ℕ) → pending (ProbeOf n) (on_link d after) ≡ not
-        (is_unprobed (served_pair c own j (s.block n).pair d).probing)
-    missing_now d = elim (cases_lt d (length config.clients.items)) [
-      | inl lt ↦
-          ap (pending (ProbeOf n)) (probes-within d n j 0 (length config.clients.items) test t (omega arith)
-          (omega (arith, lt))) ∙ probed_or d (test d) ∙ test_is d ∙ quiet_now d (own && (d == c))
-      | inr le ↦
-          ap (pending (ProbeOf n)) (probes-beyond d n j 0 (length config.clients.items) test t (omega (arith, le)))
-          ∙ missing_before d
-          ∙ sym (rw (is.beyond d le, nothing-above j) refl) ∙ quiet_now d (own && (d == c))
-    ]

@@ -54,7 +54,14 @@ pub memory-granted : (caching : ℕ → Bool) (q : ℕ) (d : Bool) (k : Cap) (ne
     → new.service ≡ GrantSent q d k
     → (new.pair q).recorded ≡ cap_right k → same_perm (cap_right k) Perm.None ≡ false
     → new.memory ≡ new.truth
-memory-granted caching q d k new well granted given some = well.memory nobody
+memory-granted caching q d k new well granted given some =
+    let own_view : is_granting (view new.service q) ≡ true = rw (granted, same_number q) refl in
+    let nobody : (i : ℕ) → is_out (new.pair i) (view new.service i) ≡ false = λ i. elim (cases_eq i q) [
+      | inl same ↦ rw same (ap (λ x. same_perm (new.pair q).recorded Perm.Trunk && not x) own_view ∙ and-false
+          (same_perm (new.pair q).recorded Perm.Trunk))
+      | inr other ↦ ap (λ x. x && not (is_granting (view new.service i))) (not_trunk i other)
+    ] in
+    well.memory nobody
   where
     not_trunk : (i : ℕ) → (i ≡ q → ⊥) → same_perm (new.pair i).recorded Perm.Trunk ≡ false
     not_trunk i other = false_from_ne_true (same_perm (new.pair i).recorded Perm.Trunk) (λ top.
@@ -62,16 +69,6 @@ memory-granted caching q d k new well granted given some = well.memory nobody
         let none : same_perm (cap_right k) Perm.None ≡ true = rw given at alone in
         let differ : false ≡ true = sym some ∙ none in
         cc)
-
-    own_view : is_granting (view new.service q) ≡ true
-    own_view = rw (granted, same_number q) refl
-
-    nobody : (i : ℕ) → is_out (new.pair i) (view new.service i) ≡ false
-    nobody i = elim (cases_eq i q) [
-      | inl same ↦ rw same (ap (λ x. same_perm (new.pair q).recorded Perm.Trunk && not x) own_view ∙ and-false
-          (same_perm (new.pair q).recorded Perm.Trunk))
-      | inr other ↦ ap (λ x. x && not (is_granting (view new.service i))) (not_trunk i other)
-    ]
 
 payload-same : (d : Bool) (f : Memory) (n : ℕ) (truth : List ℕ) → bytes_from f (64 * n) 64 ≡ truth
     → grant_payload d f n ≡ (if d then truth else handing.no_payload)
@@ -106,6 +103,26 @@ pub handed-granted : {w : ℕ} (config : Config) (log : Log w) (mail : AccessMes
     ) ∷ []
 unfolding block_message
 handed-granted {w} config log mail request s sys caching c n k is asked comes last none well =
+    let b : Block (List ℕ) = s.block n in
+    let m : MessageA w = acquire_wanted c n s asked in
+    let e : End w = sys.manager in
+    let u : Trace w = with_beat c m k e.trace in
+    let unheld : Bool = is_unheld (length config.clients.items) b.pair in
+    let gift_is : Cap = gift config.profile asked.whole asked.grow unheld in
+    let data_too : Bool = is_granted_data asked.whole asked.grow (b.pair c).recorded in
+    let new : Block (List ℕ) = granted_at_once c (next_tracker sys) data_too gift_is b in
+    let recorded_now : (new.pair c).recorded ≡ cap_right gift_is =
+    ap (λ (p : ClientBlock). p.recorded) (set-same c (after_grant_sent gift_is (b.pair c)) b.pair) in
+    let given : cap_granted config.profile m.opcode m.param (holders.is_unheld config (block_at m.address) u)
+    ≡ gift_is = cc (same_block n, unheld-same config log mail request s sys c k n m is) in
+    let carried : handing.is_granted_data m.opcode m.param (recorded c (block_at m.address) u) ≡ data_too =
+    cc (
+      same_block n,
+      recorded-beat c k m e.trace c n,
+      is.managed.recorded_is c n,
+      data-same asked.whole asked.grow
+          (b.pair c).recorded,
+    ) in
     ap (λ (d : Reaction w). d.handed) (reaction-performed config log mail request s sys c k n true m is comes last
     (acquires-so asked.whole) (same_block n) none
     ∙ performed-acquire config (service_for c m e.trace) u e.memory (acquires-so asked.whole))
@@ -115,42 +132,3 @@ handed-granted {w} config log mail request s sys caching c n k is asked comes la
     (same_block n)
     (is.memory n ∙ memory-granted caching c data_too gift_is new well refl recorded_now
     (gives-some config.profile asked.whole asked.grow unheld)))
-  where
-    b : Block (List ℕ)
-    b = s.block n
-
-    m : MessageA w
-    m = acquire_wanted c n s asked
-
-    e : End w
-    e = sys.manager
-
-    u : Trace w
-    u = with_beat c m k e.trace
-
-    unheld : Bool
-    unheld = is_unheld (length config.clients.items) b.pair
-
-    gift_is : Cap
-    gift_is = gift config.profile asked.whole asked.grow unheld
-
-    data_too : Bool
-    data_too = is_granted_data asked.whole asked.grow (b.pair c).recorded
-
-    new : Block (List ℕ)
-    new = granted_at_once c (next_tracker sys) data_too gift_is b
-
-    recorded_now : (new.pair c).recorded ≡ cap_right gift_is
-    recorded_now = ap (λ (p : ClientBlock). p.recorded) (set-same c (after_grant_sent gift_is (b.pair c)) b.pair)
-
-    given : cap_granted config.profile m.opcode m.param (holders.is_unheld config (block_at m.address) u) ≡ gift_is
-    given = cc (same_block n, unheld-same config log mail request s sys c k n m is)
-
-    carried : handing.is_granted_data m.opcode m.param (recorded c (block_at m.address) u) ≡ data_too
-    carried = cc (
-      same_block n,
-      recorded-beat c k m e.trace c n,
-      is.managed.recorded_is c n,
-      data-same asked.whole
-          asked.grow (b.pair c).recorded,
-    )

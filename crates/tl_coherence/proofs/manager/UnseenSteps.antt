@@ -128,14 +128,12 @@ at_manager-to_client {w} config log h sys link ch terms is there up kept =
         → IsManagerOf config (packet_taken config (next_tracker sys) c xs h) sys.manager
     taken [] e inv = known
     taken (y ∷ ys) e inv =
+        let here : is_on ch y.kind ≡ false → ⊥ =
+        λ off. first_counts y ys (rw e at (is.invariant.own_kinds c ch y.kind y.number off)) in
+        let first : on y.kind (h.state.link c) ≡ packet y.kind y.number ∷ ys =
+        on-channel ch y.kind (h.state.link c) (true_from_ne_false (is_on ch y.kind) here) ∙ e in
         at_manager-client_taken (is_caching config) config (next_tracker sys) c y.kind y.number ys h sys.manager
         (to_clients ch y.kind up here) is.invariant first inv known
-      where
-        here : is_on ch y.kind ≡ false → ⊥
-        here off = first_counts y ys (rw e at (is.invariant.own_kinds c ch y.kind y.number off))
-
-        first : on y.kind (h.state.link c) ≡ packet y.kind y.number ∷ ys
-        first = on-channel ch y.kind (h.state.link c) (true_from_ne_false (is_on ch y.kind) here) ∙ e
 
     go : (b : Bool) → IsInvariant (is_caching config) (if b then packet_taken config (next_tracker sys) c
         (packets_on ch (h.state.link c)) h else h).state

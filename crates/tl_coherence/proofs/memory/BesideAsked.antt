@@ -94,6 +94,12 @@ pub beside-acquire_asked : {w : ℕ} (caching : ℕ → Bool) (c n source : ℕ)
     → MemoryRelation mail (acquire_asked c n source whole g bytes s)
     (with_open c Requests source (Some (record { asked = o; answer = None })) m)
 beside-acquire_asked {w} caching c n source whole g bytes o mail s m inv calm is h =
+    let after : ClientBlock = after_acquire whole g ((s.block n).pair c) in
+    let new : Block (List ℕ) = acquiring_block c source whole g bytes (s.block n) in
+    let s' : State (List ℕ) = acquire_asked c n source whole g bytes s in
+    let m' : Machine w = with_open c Requests source (Some (record { asked = o; answer = None })) m in
+    let opened_as : AcquirePhase → List ℕ → Option (Open w) =
+    λ x y. Some (record { asked = op_of x n y; answer = None }) in
     beside-used c source (Acquires n) mail mail s s' m m' (record {
       memory = λ i. truth_as m.memory n i new s.block refl (h.memory i);
       uses = λ d i. refl;
@@ -112,27 +118,13 @@ beside-acquire_asked {w} caching c n source whole g bytes o mail s m inv calm is
       acquires = acquires-else c n source new after s s' (λ i. refl) (λ d. refl)
           (λ d ne. set-other c d bytes (s.block n).waiting ne) (λ i ne e. calm-none caching s c n i inv calm e);
     }) h
-  where
-    after : ClientBlock
-    after = after_acquire whole g ((s.block n).pair c)
-
-    new : Block (List ℕ)
-    new = acquiring_block c source whole g bytes (s.block n)
-
-    s' : State (List ℕ)
-    s' = acquire_asked c n source whole g bytes s
-
-    m' : Machine w
-    m' = with_open c Requests source (Some (record { asked = o; answer = None })) m
-
-    opened_as : AcquirePhase → List ℕ → Option (Open w)
-    opened_as x y = Some (record { asked = op_of x n y; answer = None })
 
 pub beside-release_asked : {w : ℕ} (c n source : ℕ) (r : Prune) (mail : AccessMessages w) (s : State (List ℕ))
     (m : Machine w) → MemoryRelation mail s m
     → MemoryRelation mail (release_asked c n source r s)
     (with_open c Releases source (Some (record { asked = Op.Release n r; answer = None })) m)
 beside-release_asked {w} c n source r mail s m h =
+    let new : Block (List ℕ) = releasing_block c source r (s.block n) in
     beside-let c source (Some n) mail s (release_asked c n source r s) m
     (with_open c Releases source (Some (record { asked = Op.Release n r; answer = None })) m) (record {
       memory = λ i. truth_as m.memory n i new s.block refl (h.memory i);
@@ -149,9 +141,6 @@ beside-release_asked {w} c n source r mail s m h =
         set-part (λ (b : Block (List ℕ)). b.waiting d) n new s.block refl i,
       );
     }) h
-  where
-    new : Block (List ℕ)
-    new = releasing_block c source r (s.block n)
 
 pub beside-access_asked : {w : ℕ} (c source : ℕ) (a : MessageA w) (mail : AccessMessages w) (s : State (List ℕ))
     (m : Machine w) → MemoryRelation mail s m
@@ -194,6 +183,7 @@ pub beside-block_stored : {w : ℕ} (caching : ℕ → Bool) (c address size val
     (copy_stored address size value ((s.block (block_at address)).copy c)) s)
     (record m { memory = with_number address size value m.memory })
 beside-block_stored {w} caching c address size value mail s m inv sized word trunk h =
+    let s' : State (List ℕ) = block_stored c n (copy_stored address size value copy) s in
     beside-still mail s s' m (record m { memory = with_number address size value m.memory }) (record {
       memory = λ i. bytes i (cases_eq i n);
       uses = λ d i. refl;
@@ -214,9 +204,6 @@ beside-block_stored {w} caching c address size value mail s m inv sized word tru
 
     new : Block (List ℕ)
     new = stored_block c (copy_stored address size value copy) (s.block n)
-
-    s' : State (List ℕ)
-    s' = block_stored c n (copy_stored address size value copy) s
 
     same : copy ≡ (s.block n).truth
     same = (inv.blocks n).copies c (trunk-some ((s.block n).pair c).held trunk)

@@ -103,6 +103,9 @@ beside_served : {w : ℕ} (config : Config) (c source : ℕ) (x : MessageA w) (t
     (m : Machine w) → IsPerformed config c source x mail s m
     → MemoryRelation mail s m → MemoryRelation mail (access_served c (block_at x.address) source tracker k rest s) m
 beside_served {w} config c source x tracker k rest mail s m is h =
+    let n : ℕ = block_at x.address in
+    let new : Block (List ℕ) = served_block c false source tracker k (s.block n) in
+    let s' : State (List ℕ) = access_served c n source tracker k rest s in
     beside-used c source (InService n) mail mail s s' m m (record {
       memory = λ i. subst (λ (bytes : List ℕ). IsBlock m.memory i bytes)
           (sym (set-part (λ (b : Block (List ℕ)). b.truth) n new s.block refl i)) (h.memory i);
@@ -120,15 +123,6 @@ beside_served {w} config c source x tracker k rest mail s m is h =
             set-part (λ (b : Block (List ℕ)). b.waiting d) n new s.block refl j,
           ));
     }) h
-  where
-    n : ℕ
-    n = block_at x.address
-
-    new : Block (List ℕ)
-    new = served_block c false source tracker k (s.block n)
-
-    s' : State (List ℕ)
-    s' = access_served c n source tracker k rest s
 
 beside_answered : {w : ℕ} (config : Config) (c source : ℕ) (x : MessageA w) (rest : List Packet)
     (mail : AccessMessages w) (s : State (List ℕ)) (m : Machine w) → IsPerformed config c source x mail s m
@@ -141,6 +135,7 @@ beside_answered : {w : ℕ} (config : Config) (c source : ℕ) (x : MessageA w) 
     })
     (access_answered c (block_at x.address) source (performs x) rest s) (performing ((c, source) ∷ []) m)
 beside_answered {w} config c source x rest mail s m is same h =
+    let new : Block (List ℕ) = performed_block (performs x) (s.block n) in
     beside-performed config c source x (s.block n).memory mail s (access_answered c n source (performs x) rest s) m is
     (λ f block. reply_same same)
     (λ i ne. ap (λ (b : Block (List ℕ)). b.truth) (set-other n i new s.block ne))
@@ -154,9 +149,6 @@ beside_answered {w} config c source x rest mail s m is same h =
   where
     n : ℕ
     n = block_at x.address
-
-    new : Block (List ℕ)
-    new = performed_block (performs x) (s.block n)
 
     reply_same : ((s.block n).memory ≡ (s.block n).truth) ⊎ (cap_probed x.opcode x.param ≡ None)
         → (effect (Message.A x) (bytes_at n (s.block n).truth)).1
@@ -202,15 +194,13 @@ pub beside-acquire : {w : ℕ} (clients : ℕ) (p : Profile) (c n : ℕ) (x : Ac
     (acquire_taken clients p c n x tracker rest h).state m
 beside-acquire clients p c n NoAcquire tracker rest h m beside = beside
 beside-acquire {w} clients p c n (AcquireOpen whole g) tracker rest h m beside =
+    let b : Block (List ℕ) = h.state.block n in
     either _ _ _ (beside_block n (served_block c true (b.source c) tracker _ b) h.mail h.state _ m (λ i. refl)
     (λ d i. refl) (λ d i. refl) refl
     (λ d. served_acquiring c true _ b.pair d) (λ d. refl) beside)
     (beside_block n (granted_at_once c tracker _ _ b) h.mail h.state _ m (λ i. refl) (λ d i. refl) (λ d i. refl) refl
     (λ d. same_acquiring c (after_grant_sent _ (b.pair c)) b.pair refl d) (λ d. refl) beside)
   where
-    b : Block (List ℕ)
-    b = h.state.block n
-
     either : (y : Bool) (s t : State (List ℕ)) → MemoryRelation h.mail s m → MemoryRelation h.mail t m
         → MemoryRelation h.mail (if y then s else t) m
     either true s t f g = f
@@ -239,6 +229,14 @@ beside_ended : {w : ℕ} (caching : ℕ → Bool) (config : Config) (c q n sourc
     (report_answers c q n source r (performs (h.request n)) rest h.state)
     (performing ((q, source) ∷ []) m)
 beside_ended {w} caching config c q n source r k rest h m inv waits answered settled is at beside =
+    let b : Block (List ℕ) = h.state.block n in
+    let x : MessageA w = h.request n in
+    let new : Block (List ℕ) = ended_block c r (performs x) b in
+    let s' : State (List ℕ) = report_answers c q n source r (performs x) rest h.state in
+    let told : written r b.truth b.memory ≡ b.truth = memory-reported caching c q source r k b (inv.blocks n) waits
+    answered settled in
+    let reply_same : (effect (Message.A x) (bytes_at (block_at x.address) (h.state.block (block_at x.address)).truth)).1
+    ≡ (effect (Message.A x) (bytes_at (block_at x.address) (written r b.truth b.memory))).1 = cc (at, told) in
     beside-performed config q source x (written r b.truth b.memory) h.mail h.state s' m is (λ f block. reply_same)
     (λ i ne. ap (λ (y : Block (List ℕ)). y.truth) (set-other n i new h.state.block (λ e. ne (e ∙ sym at))))
     (subst (λ (j : ℕ). (set n new h.state.block j).truth ≡ performs x (h.state.block j).truth) (sym at)
@@ -249,25 +247,6 @@ beside_ended {w} caching config c q n source r k rest h m inv waits answered set
           (same_acquiring c (after_report r (b.pair c)) b.pair refl d) i,
       set-part (λ (y : Block (List ℕ)). y.waiting d) n new h.state.block refl i,
     )) beside
-  where
-    b : Block (List ℕ)
-    b = h.state.block n
-
-    x : MessageA w
-    x = h.request n
-
-    new : Block (List ℕ)
-    new = ended_block c r (performs x) b
-
-    s' : State (List ℕ)
-    s' = report_answers c q n source r (performs x) rest h.state
-
-    told : written r b.truth b.memory ≡ b.truth
-    told = memory-reported caching c q source r k b (inv.blocks n) waits answered settled
-
-    reply_same : (effect (Message.A x) (bytes_at (block_at x.address) (h.state.block (block_at x.address)).truth)).1
-        ≡ (effect (Message.A x) (bytes_at (block_at x.address) (written r b.truth b.memory))).1
-    reply_same = cc (at, told)
 
 beside_last : {w : ℕ} (caching : ℕ → Bool) (config : Config) (clients : ℕ) (p : Profile) (c n : ℕ) (r : Report)
     (v : Service) (rest : List Packet) (h : AbstractState w)

@@ -152,6 +152,19 @@ pub beside-request_taken : {w : ℕ} (config : Config) (log : Log w) (h : Abstra
     (performing (accesses_answered (reaction config (link_of c) (Beat.A (a_beat_of asked.request k))
     sys.manager).handed) machine)
 beside-request_taken {w} config log h sys c source k rest machine is asked comes last beside =
+    let m : MessageA w = asked.request in
+    let n : ℕ = block_at m.address in
+    let b : Block (List ℕ) = h.state.block n in
+    let tracker : ℕ = next_tracker sys in
+    let done : Handed w = (reaction config (link_of c) (Beat.A (a_beat_of m k)) sys.manager).handed in
+    let performed_so : IsPerformed config c source m h.mail h.state machine = record {
+      width = comes.width;
+      request = asked.is_it;
+      sent = (ap Some asked.source_is, asked.lawful, asked.blank);
+      access = asked.access;
+      opened = rw asked.used at (beside.requests c source);
+      long = (is.sized n).truth;
+    } in
     subst (λ (i : Message w). MemoryRelation (request_taken clients c source i tracker rest h).mail
     (request_taken clients c source i tracker rest h).state
     (performing (accesses_answered done) machine)) (sym asked.is_it)
@@ -161,33 +174,8 @@ beside-request_taken {w} config log h sys c source k rest machine is asked comes
     (beside-request (is_caching config) config c source tracker m rest h machine is.invariant (plain-past config)
     performed_so beside))
   where
-    m : MessageA w
-    m = asked.request
-
-    n : ℕ
-    n = block_at m.address
-
-    b : Block (List ℕ)
-    b = h.state.block n
-
     clients : ℕ
     clients = length config.clients.items
-
-    tracker : ℕ
-    tracker = next_tracker sys
-
-    done : Handed w
-    done = (reaction config (link_of c) (Beat.A (a_beat_of m k)) sys.manager).handed
-
-    performed_so : IsPerformed config c source m h.mail h.state machine
-    performed_so = record {
-      width = comes.width;
-      request = asked.is_it;
-      sent = (ap Some asked.source_is, asked.lawful, asked.blank);
-      access = asked.access;
-      opened = rw asked.used at (beside.requests c source);
-      long = (is.sized n).truth;
-    }
 
 -- ---- an Acquire
 

@@ -27,18 +27,17 @@ pub beside-answer : {w : ℕ} (c source : ℕ) (rest : List Packet) (mail : Acce
     (m : Machine w) → s.uses c source ≡ Replied → MemoryRelation mail s m
     → MemoryRelation mail (answer_taken c source rest s) (after_end c Requests source (m.opened c Requests source) m)
 beside-answer {w} c source rest mail s m used h =
+    let replied : (u : SourceState) → u ≡ Replied → IsOpened c source mail s u (m.opened c Requests source)
+    → IsOpened c source mail s Replied (m.opened c Requests source) = λ u e i. rw e at i in
     go (m.opened c Requests source) refl (replied (s.uses c source) used (h.requests c source))
   where
-    replied : (u : SourceState) → u ≡ Replied → IsOpened c source mail s u (m.opened c Requests source)
-        → IsOpened c source mail s Replied (m.opened c Requests source)
-    replied u e i = rw e at i
-
     go : (o : Option (Open w)) → m.opened c Requests source ≡ o
         → IsOpened c source mail s Replied (m.opened c Requests source)
         → MemoryRelation mail (answer_taken c source rest s) (after_end c Requests source o m)
     go None e i = absurd (let no : Some (record { asked = Op.Access (Message.A i.1.0); answer = Some i.0 }) ≡ None =
         sym i.1.2 ∙ e in cc)
     go (Some o) e i =
+        let some_is : (x y : Open w) → Some x ≡ Some y → x ≡ y = λ x y e. cc in
         let asked : o ≡ record { asked = Op.Access (Message.A i.1.0); answer = Some i.0 } =
         some_is o (record { asked = Op.Access (Message.A i.1.0); answer = Some i.0 }) (sym e ∙ i.1.2) in
         subst (λ (y : Open w). MemoryRelation mail (answer_taken c source rest s)
@@ -55,9 +54,6 @@ beside-answer {w} c source rest mail s m used h =
           answers = λ d j else_. refl;
           acquires = λ d j else_. same_acquire d s (answer_taken c source rest s) (s.uses d j) (λ k. (refl, refl));
         }) h)
-      where
-        some_is : (x y : Open w) → Some x ≡ Some y → x ≡ y
-        some_is x y e = cc
 
 -- the client's Acquire of the block is the one with its source
 only_source : (caching : ℕ → Bool) (s : State (List ℕ)) (c n i : ℕ) → IsInvariant caching s
@@ -77,6 +73,8 @@ pub beside-grant : {w : ℕ} (caching : ℕ → Bool) (c n : ℕ) (d : Bool) (k 
     → MemoryRelation mail (grant_taken c n (is_whole ((s.block n).pair c).acquiring) d k rest s)
     (after_end c Requests ((s.block n).source c) (m.opened c Requests ((s.block n).source c)) m)
 beside-grant {w} caching c n d k rest mail s m inv wants h =
+    let s' : State (List ℕ) = grant_taken c n whole d k rest s in
+    let ended : Machine w = with_open c Requests source None (with_memory (memory_after asked m.memory) m) in
     subst (λ (o : Option (Open w)). MemoryRelation mail s' (after_end c Requests source o m)) (sym opened)
     (beside-used c source SourceFree mail mail s s' m ended (record {
       memory = λ i. block_now i (cases_eq i n);
@@ -103,24 +101,17 @@ beside-grant {w} caching c n d k rest mail s m inv wants h =
     new : Block (List ℕ)
     new = taken_block c whole d k b
 
-    s' : State (List ℕ)
-    s' = grant_taken c n whole d k rest s
-
     asked : Op w
     asked = op_of (b.pair c).acquiring n (b.waiting c)
-
-    ended : Machine w
-    ended = with_open c Requests source None (with_memory (memory_after asked m.memory) m)
 
     used : s.uses c source ≡ Acquires n
     used = acquires_of-is n (s.uses c source) (inv.named.acquires c source n ∙ rw (wants, same_number source) refl)
 
     opened : m.opened c Requests source ≡ Some (record { asked = asked; answer = None })
-    opened = acquires (s.uses c source) used (h.requests c source)
-      where
-        acquires : (u : SourceState) → u ≡ Acquires n → IsOpened c source mail s u (m.opened c Requests source)
-            → IsOpened c source mail s (Acquires n) (m.opened c Requests source)
-        acquires u e i = rw e at i
+    opened =
+        let acquires : (u : SourceState) → u ≡ Acquires n → IsOpened c source mail s u (m.opened c Requests source)
+        → IsOpened c source mail s (Acquires n) (m.opened c Requests source) = λ u e i. rw e at i in
+        acquires (s.uses c source) used (h.requests c source)
 
     here : (x : AcquirePhase) (waits : List ℕ) → is_wanting x ≡ true
         → IsBlock (memory_after (op_of {w = w} x n waits) m.memory) n (granted_truth (is_whole x) waits b.truth)
@@ -149,6 +140,8 @@ pub beside-release_ack : {w : ℕ} (caching : ℕ → Bool) (c n : ℕ) (rest : 
     → MemoryRelation mail (release_ack_taken c n rest s) (after_end c Releases ((s.block n).release_source c)
     (m.opened c Releases ((s.block n).release_source c)) m)
 beside-release_ack {w} caching c n rest mail s m inv acked h =
+    let new : Block (List ℕ) = let_go_block c (s.block n) in
+    let s' : State (List ℕ) = release_ack_taken c n rest s in
     subst (λ (o : Option (Open w)). MemoryRelation mail s' (after_end c Releases source o m)) (sym released.1)
     (beside-let c source None mail s s' m (with_open c Releases source None m) (record {
       memory = λ i. subst (λ (bytes : List ℕ). IsBlock m.memory i bytes)
@@ -168,18 +161,11 @@ beside-release_ack {w} caching c n rest mail s m inv acked h =
     source : ℕ
     source = (s.block n).release_source c
 
-    new : Block (List ℕ)
-    new = let_go_block c (s.block n)
-
-    s' : State (List ℕ)
-    s' = release_ack_taken c n rest s
-
     let_is : s.lets c source ≡ Some n
     let_is = is_of-is n (s.lets c source) (inv.named.releases c source n ∙ rw (acked, same_number source) refl)
 
     released : IsLet (Some n) (m.opened c Releases source)
-    released = go (s.lets c source) let_is (h.releases c source)
-      where
-        go : (l : Option ℕ) → l ≡ Some n → IsLet l (m.opened c Releases source)
-            → IsLet (Some n) (m.opened c Releases source)
-        go l e i = rw e at i
+    released =
+        let go : (l : Option ℕ) → l ≡ Some n → IsLet l (m.opened c Releases source)
+        → IsLet (Some n) (m.opened c Releases source) = λ l e i. rw e at i in
+        go (s.lets c source) let_is (h.releases c source)

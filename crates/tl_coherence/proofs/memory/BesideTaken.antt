@@ -44,13 +44,11 @@ pub memory-unprobed : (clients : ℕ) (caching : ℕ → Bool) (c : ℕ) (k : Ca
     → ((d : ℕ) → clients ≤ d → caching d ≡ false) → IsWell caching b → same_cap k Cap.ToT ≡ false
     → some_below clients (λ d. is_probed c false k (b.pair d).recorded d) ≡ false → b.memory ≡ b.truth
 memory-unprobed clients caching c k b plain well low none =
-    well.memory (λ d. not_out (b.pair d) (view b.service d) (never_above k (b.pair d).recorded low (unprobed d)))
-  where
-    unprobed : (d : ℕ) → is_above k (b.pair d).recorded ≡ false
-    unprobed d = elim (cases_lt d clients) [
+    let unprobed : (d : ℕ) → is_above k (b.pair d).recorded ≡ false = λ d. elim (cases_lt d clients) [
       | inl lt ↦ some-none clients (λ i. is_probed c false k (b.pair i).recorded i) none d lt
       | inr le ↦ rw (well.outside d (plain d le)) (nothing-above k)
-    ]
+    ] in
+    well.memory (λ d. not_out (b.pair d) (view b.service d) (never_above k (b.pair d).recorded low (unprobed d)))
 
 low_test : ClientBlock → View → Bool
 low_test p v = implies (is_other v && (not (same_perm (report_left (report_told p.probing)) Perm.Trunk) && not
@@ -151,6 +149,22 @@ pub beside-performed : {w : ℕ} (config : Config) (c source : ℕ) (a : Message
     → MemoryRelation (record { request = mail.request; answer = set_at c source (answers a bytes) mail.answer }) s'
     (performing ((c, source) ∷ []) m)
 beside-performed {w} config c source a bytes mail s s' m is same_reply others changed uses lets acquires h =
+    let mail' : AccessMessages w =
+    record { request = mail.request; answer = set_at c source (answers a bytes) mail.answer } in
+    let now : Open w = record {
+      asked = Op.Access (Message.A is.opened.0);
+      answer =
+          Some (effect (Message.A is.opened.0) m.memory).1;
+    } in
+    let reply_is : (effect (Message.A is.opened.0) m.memory).1 ≡ (effect (Message.A a) (bytes_at n bytes)).1 =
+    cc (
+      effect_is,
+      reply-performed (level_of config c) a m.memory (s.block n).truth is.width is.sent.1 (h.memory n)
+          is.long,
+      same_reply m.memory (h.memory n),
+    ) in
+    let reaches : IsReach a (effect (Message.A is.opened.0) m.memory).1 =
+    subst (λ (y : Memory × memory.AccessResult). IsReach a y.1) (sym effect_is) (reply_reach a m.memory) in
     subst (λ (z : Machine w). MemoryRelation mail' s' z)
     (sym (performing-one c source (Message.A is.opened.0) m is.opened.2))
     (beside-used c source Replied mail mail' s s' m (done_at c source (Message.A is.opened.0) m) (record {
@@ -185,16 +199,6 @@ beside-performed {w} config c source a bytes mail s s' m is same_reply others ch
     n : ℕ
     n = block_at a.address
 
-    mail' : AccessMessages w
-    mail' = record { request = mail.request; answer = set_at c source (answers a bytes) mail.answer }
-
-    now : Open w
-    now = record {
-      asked = Op.Access (Message.A is.opened.0);
-      answer =
-          Some (effect (Message.A is.opened.0) m.memory).1;
-    }
-
     as_asked : a ≡ sourced source is.opened.0
     as_asked = same_message a (sourced source is.opened.0) (sym is.request ∙ is.opened.1)
 
@@ -216,17 +220,6 @@ beside-performed {w} config c source a bytes mail s s' m is same_reply others ch
         subst (λ (y : Memory × memory.AccessResult). IsBlock y.0 i (s'.block i).truth) (sym effect_is)
         (subst (λ (z : List ℕ). IsBlock (effect (Message.A a) m.memory).0 i z) (sym (others i other))
         (blocks.1 i other))
-
-    reply_is : (effect (Message.A is.opened.0) m.memory).1 ≡ (effect (Message.A a) (bytes_at n bytes)).1
-    reply_is = cc (
-      effect_is,
-      reply-performed (level_of config c) a m.memory (s.block n).truth is.width is.sent.1
-          (h.memory n) is.long,
-      same_reply m.memory (h.memory n),
-    )
-
-    reaches : IsReach a (effect (Message.A is.opened.0) m.memory).1
-    reaches = subst (λ (y : Memory × memory.AccessResult). IsReach a y.1) (sym effect_is) (reply_reach a m.memory)
 
     same_acquires : (d : ℕ) (u : SourceState) → IsSameAcquire d s s' u
     same_acquires d (Acquires k) = acquires d k

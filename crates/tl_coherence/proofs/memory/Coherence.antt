@@ -158,23 +158,22 @@ pub coherent-matched : {w : ℕ} (config : Config) (log : Log w) (mail : AccessM
     (s : State (List ℕ))
     → SimulationRelation config log mail request s (system_after config log)
     → IsCoherent (system_after config log) log (one_memory_after config log)
-coherent-matched {w} config log mail request s h = record {
-  one_writer = λ c d n differ writes.
-      let top = trunk_is ((s.block n).pair c).held ((s.block n).pair c).recorded (sym ((h.known c).held_is n) ∙ writes)
-      (held_at_most ((s.block n).pair c) (view (s.block n).service c) ((h.invariant.blocks n).phases c)) in
-      let none = (h.invariant.blocks n).one_owner c d top (λ e. differ (sym e)) in
-      (h.known d).held_is n ∙ none_is ((s.block n).pair d).held ((s.block n).pair d).recorded none
-      (held_at_most ((s.block n).pair d) (view (s.block n).service d) ((h.invariant.blocks n).phases d));
-  copies = λ c n bytes copy.
-      let some : same_perm ((s.block n).pair c).held Perm.None ≡ false =
-      held-some ((s.block n).pair c).held
-      (sym (sym (ap is_some copy) ∙ (h.kept c).copies_held n ∙ ap holds ((h.known c).held_is n))) in
-      let same : (s.block n).truth ≡ bytes = sym ((h.invariant.blocks n).copies c some) ∙ some_is ((s.block n).copy c)
-      bytes (sym (h.copies c n some) ∙ copy) in
-      subst (λ (b : List ℕ). IsBlock (one_memory_after config log).memory n b) same (h.beside.memory n);
-  kept = λ c n. (h.kept c).copies_held n;
-  opened = λ c pool source. opened-started config log c pool source;
-}
-  where
-    some_is : (x y : List ℕ) → Some x ≡ Some y → x ≡ y
-    some_is x y e = cc
+coherent-matched {w} config log mail request s h =
+    let some_is : (x y : List ℕ) → Some x ≡ Some y → x ≡ y = λ x y e. cc in
+    record {
+      one_writer = λ c d n differ writes.
+          let top = trunk_is ((s.block n).pair c).held ((s.block n).pair c).recorded (sym ((h.known c).held_is n) ∙ writes)
+          (held_at_most ((s.block n).pair c) (view (s.block n).service c) ((h.invariant.blocks n).phases c)) in
+          let none = (h.invariant.blocks n).one_owner c d top (λ e. differ (sym e)) in
+          (h.known d).held_is n ∙ none_is ((s.block n).pair d).held ((s.block n).pair d).recorded none
+          (held_at_most ((s.block n).pair d) (view (s.block n).service d) ((h.invariant.blocks n).phases d));
+      copies = λ c n bytes copy.
+          let some : same_perm ((s.block n).pair c).held Perm.None ≡ false =
+          held-some ((s.block n).pair c).held
+          (sym (sym (ap is_some copy) ∙ (h.kept c).copies_held n ∙ ap holds ((h.known c).held_is n))) in
+          let same : (s.block n).truth ≡ bytes = sym ((h.invariant.blocks n).copies c some) ∙ some_is ((s.block n).copy c)
+          bytes (sym (h.copies c n some) ∙ copy) in
+          subst (λ (b : List ℕ). IsBlock (one_memory_after config log).memory n b) same (h.beside.memory n);
+      kept = λ c n. (h.kept c).copies_held n;
+      opened = λ c pool source. opened-started config log c pool source;
+    }

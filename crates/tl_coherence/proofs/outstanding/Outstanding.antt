@@ -101,6 +101,12 @@ module _ {w : ℕ} (config : Config) (log : Log w) (h : AbstractState w) (width 
       → IsCounted (Deliver link ch) (stepped config (Deliver link ch) (system_after config log)).outcome
       (abstract_step config (Deliver link ch) (system_after config log) h)
   counted-manager link ch terms x queue known down beats moving =
+      let at : IsAtManager config log link ch h x queue = at-manager config log link ch h terms x queue width matched
+      known down beats moving in
+      let ends : Ends (Outcome.Moved x) (is_e ch) false = subst (λ (i : Channel). Ends (Outcome.Moved x) (is_e i) false)
+      at.of_it (moved-ends x) in
+      let kinds : (is_ending at.first.kind ≡ is_e ch) × (is_letting_go at.first.kind ≡ false) =
+      manager-kind ch at.first.kind down at.first.own in
       subst (λ (o : Outcome w). IsCounted (Deliver link ch) o
       (abstract_step config (Deliver link ch) (system_after config log) h))
       (sym (ap (λ (y : Step w). y.outcome) at.step_is))
@@ -112,15 +118,6 @@ module _ {w : ℕ} (config : Config) (log : Log w) (h : AbstractState w) (width 
       (on_same ch at.first.kind (h.state.link link.0) at.first.own ∙ at.first.tokens)
       (λ last. (ends.0 ∙ sym kinds.0, ends.1 ∙ sym kinds.1))
       (λ part. (ends.0 ∙ part_apart ch link.0 x queue at.first part, ends.1))))
-    where
-      at : IsAtManager config log link ch h x queue
-      at = at-manager config log link ch h terms x queue width matched known down beats moving
-
-      ends : Ends (Outcome.Moved x) (is_e ch) false
-      ends = subst (λ (i : Channel). Ends (Outcome.Moved x) (is_e i) false) at.of_it (moved-ends x)
-
-      kinds : (is_ending at.first.kind ≡ is_e ch) × (is_letting_go at.first.kind ≡ false)
-      kinds = manager-kind ch at.first.kind down at.first.own
 
   -- ---- what a client takes
 
@@ -140,6 +137,13 @@ module _ {w : ℕ} (config : Config) (log : Log w) (h : AbstractState w) (width 
       → IsCounted (Deliver link ch) (stepped config (Deliver link ch) (system_after config log)).outcome
       (abstract_step config (Deliver link ch) (system_after config log) h)
   counted-client link ch terms x queue known beats moving first t ends =
+      let done : Bool = completes x (unfinished ch (receiver ch link.0 (system_after config log))) in
+      let follows : abstract_step config (Deliver link ch) (system_after config log) h
+      ≡ (if done then kind_taken config (next_tracker (system_after config log)) link.0 first.kind first.number
+      first.rest h else h) = cc (
+        followed-moving config link ch (system_after config log) h x queue moving beats,
+        first.tokens,
+      ) in
       subst (λ (o : Outcome w). IsCounted (Deliver link ch) o
       (abstract_step config (Deliver link ch) (system_after config log) h))
       (sym (ap (λ (y : Step w). y.outcome) t.step_is))
@@ -148,14 +152,6 @@ module _ {w : ℕ} (config : Config) (log : Log w) (h : AbstractState w) (width 
       first.number first.rest done (client_below config link.0 terms known)
       (on_same ch first.kind (h.state.link link.0) first.own ∙ first.tokens) (ends t.verdict_is t.message t.answer).0
       (ends t.verdict_is t.message t.answer).1))
-    where
-      done : Bool
-      done = completes x (unfinished ch (receiver ch link.0 (system_after config log)))
-
-      follows : abstract_step config (Deliver link ch) (system_after config log)
-          h ≡ (if done then kind_taken config (next_tracker (system_after config log)) link.0 first.kind first.number
-          first.rest h else h)
-      follows = cc (followed-moving config link ch (system_after config log) h x queue moving beats, first.tokens)
 
   counted-b : (link : Link) (terms : EndConfig) (x : Beat w) (queue : List (Beat w))
       → terms_at config link.0 ≡ Some terms → (system_after config log).channels link.0 Channel.B ≡ x ∷ queue
@@ -163,18 +159,16 @@ module _ {w : ℕ} (config : Config) (log : Log w) (h : AbstractState w) (width 
       → IsCounted (Deliver link Channel.B) (stepped config (Deliver link Channel.B) (system_after config log)).outcome
       (abstract_step config (Deliver link Channel.B) (system_after config log) h)
   counted-b link terms x queue known beats moving =
+      let first : IsFirst Channel.B link.0 h.mail h.state (system_after config log) x queue =
+      first-token (is_caching config) Channel.B link.0 h.mail h.state (system_after config log) x queue width
+      matched.invariant matched.carried beats in
+      let probe : (channel_of x ≡ Channel.B) × ((is_ending first.kind ≡ false) × (is_letting_go first.kind ≡ false)) =
+      first-probe link.0 h (system_after config log) x queue first in
       counted-client link Channel.B terms x queue known beats moving first
       (client-moves config link Channel.B (system_after config log) terms x queue known beats refl moving)
       (λ v m answer.
       let none = probe-ends x ((system_after config log).clients link.0) v m probe.0 answer in
       (λ last. (none.0 ∙ sym probe.1.0, none.1 ∙ sym probe.1.1), λ part. none))
-    where
-      first : IsFirst Channel.B link.0 h.mail h.state (system_after config log) x queue
-      first = first-token (is_caching config) Channel.B link.0 h.mail h.state (system_after config log) x queue width
-          matched.invariant matched.carried beats
-
-      probe : (channel_of x ≡ Channel.B) × ((is_ending first.kind ≡ false) × (is_letting_go first.kind ≡ false))
-      probe = first-probe link.0 h (system_after config log) x queue first
 
   -- a response, by the opcode of its message
   response-ends : (c : ℕ) (k : Kind) (mm : MessageD w) (i : ℕ) (x : Beat w) → x ≡ Beat.D (d_beat_of mm i)

@@ -67,6 +67,12 @@ pub release_ack_taken-kept : {X : Type 0} (caching : ℕ → Bool) (c n : ℕ) (
     → IsInvariant caching s → (s.link c).d ≡ packet ReleaseAck n ∷ rest
     → ((s.block n).pair c).letting ≡ ReleaseAcked → IsInvariant caching (release_ack_taken c n rest s)
 release_ack_taken-kept {X} caching c n rest s inv first acked =
+    let old : ℕ → ClientBlock = (s.block n).pair in
+    let after : ClientBlock = after_release_ack (old c) in
+    let new : Block X = let_go_block c (s.block n) in
+    let source : ℕ = (s.block n).release_source c in
+    let used : s.lets c source ≡ Some n =
+    is_of-is n (s.lets c source) (inv.named.releases c source n ∙ rw (acked, same_number source) refl) in
     invariant-moved caching n new (set c here s.link) (moves_at c (let_go_moves n)) (set_at c source None s.lets)
     s.tracked s inv
     (event-at caching c n new here (let_go_moves n) s (record {
@@ -91,23 +97,8 @@ release_ack_taken-kept {X} caching c n rest s inv first acked =
       trackers = names-block is_of tracks_with s.tracked n new s.block (λ i. refl) inv.named.trackers;
     })
   where
-    old : ℕ → ClientBlock
-    old = (s.block n).pair
-
-    after : ClientBlock
-    after = after_release_ack (old c)
-
-    new : Block X
-    new = let_go_block c (s.block n)
-
     here : Link
     here = record (s.link c) { d = rest }
-
-    source : ℕ
-    source = (s.block n).release_source c
-
-    used : s.lets c source ≡ Some n
-    used = is_of-is n (s.lets c source) (inv.named.releases c source n ∙ rw (acked, same_number source) refl)
 
     moved : AreMoved (let_go_moves n) (s.link c) here
     moved Channel.D = first
@@ -164,6 +155,9 @@ pub grant_ack_taken-kept : {X : Type 0} (caching : ℕ → Bool) (c n : ℕ) (re
     → (s.block n).service ≡ GrantTaken c
     → IsInvariant caching (grant_ack_taken c n rest s)
 grant_ack_taken-kept {X} caching c n rest s inv first taken =
+    let new : Block X = freed_block (s.block n) in
+    let used : s.tracked tracker ≡ Some n = is_of-is n (s.tracked tracker) (inv.named.trackers tracker n
+    ∙ rw (taken, same_number tracker) refl) in
     invariant-moved caching n new (set c here s.link) (moves_at c (freed_moves n)) s.lets (set tracker None s.tracked) s
     inv
     (event-at caching c n new here (freed_moves n) s (record {
@@ -185,17 +179,11 @@ grant_ack_taken-kept {X} caching c n rest s inv first taken =
           (λ m ne. rw used (sym (ne_eqb m n ne))) (λ i ne. rw (taken, ne_eqb i tracker ne) refl) inv.named.trackers;
     })
   where
-    new : Block X
-    new = freed_block (s.block n)
-
     here : Link
     here = record (s.link c) { e = rest }
 
     tracker : ℕ
     tracker = (s.block n).tracker
-
-    used : s.tracked tracker ≡ Some n
-    used = is_of-is n (s.tracked tracker) (inv.named.trackers tracker n ∙ rw (taken, same_number tracker) refl)
 
     moved : AreMoved (freed_moves n) (s.link c) here
     moved Channel.E = first

@@ -57,6 +57,7 @@ pub access_answered-kept : {X : Type 0} (caching : ℕ → Bool) (c n source : �
     → s.uses c source ≡ Asked
     → Spares f (s.block n) → IsInvariant caching (access_answered c n source f rest s)
 access_answered-kept {X} caching c n source f rest s inv first asked spared =
+    let new : Block X = performed_block f (s.block n) in
     invariant-moved_use caching n new (set c here s.link) (moves_at c (answer_moves source)) c source Replied s.tracked
     s inv
     (event-at caching c n new here (answer_moves source) s (record {
@@ -81,9 +82,6 @@ access_answered-kept {X} caching c n source f rest s inv first asked spared =
       trackers = names-block is_of tracks_with s.tracked n new s.block (λ i. refl) inv.named.trackers;
     })
   where
-    new : Block X
-    new = performed_block f (s.block n)
-
     here : Link
     here = answered_link (packet Answer source) rest (s.link c)
 

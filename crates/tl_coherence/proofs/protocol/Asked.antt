@@ -95,28 +95,26 @@ releasing-block caching c source r b h inside calm kept fits =
 
 pub stored-block : {X : Type 0} (caching : ℕ → Bool) (c : ℕ) (bytes : X) (b : Block X) → IsWell caching b
     → same_perm (b.pair c).held Perm.Trunk ≡ true → IsWell caching (stored_block c bytes b)
-stored-block caching c bytes b h may = record {
-  phases = h.phases;
-  awaited = h.awaited;
-  asked_cap = h.asked_cap;
-  own_source = h.own_source;
-  alone = h.alone;
-  one_owner = h.one_owner;
-  outside = h.outside;
-  copies = λ d some. elim (cases_eq d c) [
-    | inl same ↦ rw same (set-same c bytes b.copy)
-    | inr other ↦ absurd (let none =
-        nothing_below (b.pair d).held (b.pair d).recorded (held_at_most (b.pair d) (view b.service d) (h.phases d))
-        (h.one_owner c d owns other) in let differs : true ≡ false = sym none ∙ some in cc)
-  ];
-  memory = λ none. absurd (let differs : true ≡ false = sym out ∙ none c in cc);
-}
-  where
-    out : is_out (b.pair c) (view b.service c) ≡ true
-    out = held_out (b.pair c) (view b.service c) (h.phases c) may
-
-    owns : same_perm (b.pair c).recorded Perm.Trunk ≡ true
-    owns = and_left (same_perm (b.pair c).recorded Perm.Trunk) (not (is_granting (view b.service c))) out
+stored-block caching c bytes b h may =
+    let out : is_out (b.pair c) (view b.service c) ≡ true = held_out (b.pair c) (view b.service c) (h.phases c) may in
+    let owns : same_perm (b.pair c).recorded Perm.Trunk ≡ true = and_left (same_perm (b.pair c).recorded Perm.Trunk)
+    (not (is_granting (view b.service c))) out in
+    record {
+      phases = h.phases;
+      awaited = h.awaited;
+      asked_cap = h.asked_cap;
+      own_source = h.own_source;
+      alone = h.alone;
+      one_owner = h.one_owner;
+      outside = h.outside;
+      copies = λ d some. elim (cases_eq d c) [
+        | inl same ↦ rw same (set-same c bytes b.copy)
+        | inr other ↦ absurd (let none =
+            nothing_below (b.pair d).held (b.pair d).recorded (held_at_most (b.pair d) (view b.service d) (h.phases d))
+            (h.one_owner c d owns other) in let differs : true ≡ false = sym none ∙ some in cc)
+      ];
+      memory = λ none. absurd (let differs : true ≡ false = sym out ∙ none c in cc);
+    }
 
 -- ---- the whole
 
@@ -177,6 +175,9 @@ pub acquire_asked-kept : {X : Type 0} (caching : ℕ → Bool) (c n source : ℕ
     → grow_fits ((s.block n).pair c).held (AcquireOpen whole g) ≡ true
     → IsInvariant caching (acquire_asked c n source whole g bytes s)
 acquire_asked-kept {X} caching c n source whole g bytes s inv inside closed calm kept fits =
+    let old : ℕ → ClientBlock = (s.block n).pair in
+    let after : ClientBlock = after_acquire whole g (old c) in
+    let new : Block X = acquiring_block c source whole g bytes (s.block n) in
     invariant-moved_use caching n new (set c here s.link) (moves_at c (acquire_moves n)) c source (Acquires n) s.tracked
     s inv
     (event-at caching c n new here (acquire_moves n) s (record {
@@ -205,15 +206,6 @@ acquire_asked-kept {X} caching c n source whole g bytes s inv inside closed calm
       trackers = names-block is_of tracks_with s.tracked n new s.block (λ i. refl) inv.named.trackers;
     })
   where
-    old : ℕ → ClientBlock
-    old = (s.block n).pair
-
-    after : ClientBlock
-    after = after_acquire whole g (old c)
-
-    new : Block X
-    new = acquiring_block c source whole g bytes (s.block n)
-
     here : Link
     here = with_a (packet Acquire n) (s.link c)
 
@@ -247,6 +239,9 @@ pub release_asked-kept : {X : Type 0} (caching : ℕ → Bool) (c n source : ℕ
     → ((s.block n).pair c).acquiring ≡ NoAcquire → ((s.block n).pair c).letting ≡ NoRelease
     → same_perm ((s.block n).pair c).held (prune_left r) ≡ true → IsInvariant caching (release_asked c n source r s)
 release_asked-kept {X} caching c n source r s inv inside closed calm kept fits =
+    let old : ℕ → ClientBlock = (s.block n).pair in
+    let after : ClientBlock = after_release r (old c) in
+    let new : Block X = releasing_block c source r (s.block n) in
     invariant-moved caching n new (set c here s.link) (moves_at c (release_moves n)) (set_at c source (Some n) s.lets)
     s.tracked s inv
     (event-at caching c n new here (release_moves n) s (record {
@@ -274,15 +269,6 @@ release_asked-kept {X} caching c n source r s inv inside closed calm kept fits =
       trackers = names-block is_of tracks_with s.tracked n new s.block (λ i. refl) inv.named.trackers;
     })
   where
-    old : ℕ → ClientBlock
-    old = (s.block n).pair
-
-    after : ClientBlock
-    after = after_release r (old c)
-
-    new : Block X
-    new = releasing_block c source r (s.block n)
-
     here : Link
     here = with_c (packet Release n) (s.link c)
 
@@ -299,6 +285,7 @@ pub block_stored-kept : {X : Type 0} (caching : ℕ → Bool) (c n : ℕ) (bytes
     → same_perm ((s.block n).pair c).held Perm.Trunk ≡ true
     → IsInvariant caching (block_stored c n bytes s)
 block_stored-kept {X} caching c n bytes s inv may =
+    let new : Block X = stored_block c bytes (s.block n) in
     invariant-moved caching n new s.link (λ d ch. Stays) s.lets s.tracked s inv (record {
       well = stored-block caching c bytes (s.block n) (inv.blocks n) may;
       moved = λ d ch. refl;
@@ -306,6 +293,3 @@ block_stored-kept {X} caching c n bytes s inv may =
       fits = λ d k t. same_again (shown k d (s.block n));
       in_order = λ d m e. absurd (let f : Stays ≡ Pushes ProbeAck m = e in cc);
     }) (λ d. (refl, refl)) (names-kept n new s.link s inv.named (λ d i. refl) (λ d i. refl) (λ d i. refl) (λ i. refl))
-  where
-    new : Block X
-    new = stored_block c bytes (s.block n)

@@ -32,38 +32,36 @@ pub record IsGrantable {X : Type 0} (r : ℕ) (whole : Bool) (g : Grow) (gift : 
 pub granted_at_once-block : {X : Type 0} (caching : ℕ → Bool) (r tracker : ℕ) (whole : Bool) (g : Grow) (gift : Cap)
     (b : Block X) → IsWell caching b → IsGrantable r whole g gift b
     → IsWell caching (granted_at_once r tracker (is_granted_data whole g (b.pair r).recorded) gift b)
-granted_at_once-block caching r tracker whole g gift b h is = record {
-  phases = λ d. elim (cases_eq d r) [
-    | inl same ↦ rw (same, set-same r after b.pair, same_number r)
-        (grant_at_once-ok whole g gift (b.pair r) (view b.service r) (h.phases r) (idle r) is.wants is.fits)
-    | inr other ↦ rw (set-other r d after b.pair other, ne_eqb d r other)
-        (granted_other-ok (b.pair d) (view b.service d) (h.phases d) (idle d) (is.low d other))
-  ];
-  awaited = tt;
-  asked_cap = tt;
-  own_source = tt;
-  alone = λ i j trunk probed ne. rw (quiet_same j) (quiet j);
-  one_owner = λ i j trunk ne. owner (gives whole g gift is.fits) i j trunk ne;
-  outside = outside-set caching r after b.pair (busy-inside caching r b.pair (λ p. not (is_unacquired p.acquiring)) refl
-      (rw is.wants refl) h.outside) h.outside;
-  copies = λ d some. h.copies d (rw (held_same d) at some);
-  memory = λ none. h.memory (λ d. not_out (b.pair d) (view b.service d) (low d (cases_eq d r)));
-}
+granted_at_once-block caching r tracker whole g gift b h is =
+    let quiet : (d : ℕ) → is_unprobed (b.pair d).probing ≡ true =
+    λ d. quiet_at_rest (b.pair d) (view b.service d) (h.phases d) (idle d) in
+    let quiet_same : (d : ℕ) → is_unprobed (set r after b.pair d).probing ≡ is_unprobed (b.pair d).probing =
+    set-part (λ (p : ClientBlock). is_unprobed p.probing) r after b.pair refl in
+    let held_same : (d : ℕ) → (set r after b.pair d).held ≡ (b.pair d).held =
+    set-part (λ (p : ClientBlock). p.held) r after b.pair refl in
+    record {
+      phases = λ d. elim (cases_eq d r) [
+        | inl same ↦ rw (same, set-same r after b.pair, same_number r)
+            (grant_at_once-ok whole g gift (b.pair r) (view b.service r) (h.phases r) (idle r) is.wants is.fits)
+        | inr other ↦ rw (set-other r d after b.pair other, ne_eqb d r other)
+            (granted_other-ok (b.pair d) (view b.service d) (h.phases d) (idle d) (is.low d other))
+      ];
+      awaited = tt;
+      asked_cap = tt;
+      own_source = tt;
+      alone = λ i j trunk probed ne. rw (quiet_same j) (quiet j);
+      one_owner = λ i j trunk ne. owner (gives whole g gift is.fits) i j trunk ne;
+      outside = outside-set caching r after b.pair (busy-inside caching r b.pair (λ p. not (is_unacquired p.acquiring)) refl
+          (rw is.wants refl) h.outside) h.outside;
+      copies = λ d some. h.copies d (rw (held_same d) at some);
+      memory = λ none. h.memory (λ d. not_out (b.pair d) (view b.service d) (low d (cases_eq d r)));
+    }
   where
     after : ClientBlock
     after = after_grant_sent gift (b.pair r)
 
     idle : (d : ℕ) → view b.service d ≡ Idle
     idle d = rw is.free refl
-
-    quiet : (d : ℕ) → is_unprobed (b.pair d).probing ≡ true
-    quiet d = quiet_at_rest (b.pair d) (view b.service d) (h.phases d) (idle d)
-
-    quiet_same : (d : ℕ) → is_unprobed (set r after b.pair d).probing ≡ is_unprobed (b.pair d).probing
-    quiet_same = set-part (λ (p : ClientBlock). is_unprobed p.probing) r after b.pair refl
-
-    held_same : (d : ℕ) → (set r after b.pair d).held ≡ (b.pair d).held
-    held_same = set-part (λ (p : ClientBlock). p.held) r after b.pair refl
 
     low : (d : ℕ) → (d ≡ r) ⊎ (d ≡ r → ⊥) → same_perm (b.pair d).recorded Perm.Trunk ≡ false
     low d (inl same) = rw same (asked_low whole g (b.pair r) (view b.service r) (h.phases r) (idle r) is.wants)
@@ -135,6 +133,10 @@ pub acquire_granted-kept : {X : Type 0} (caching : ℕ → Bool) (r n tracker : 
     → IsInvariant caching (acquire_granted r n tracker (is_granted_data whole g ((s.block n).pair r).recorded) gift rest
     s)
 acquire_granted-kept {X} caching r n tracker whole g gift rest s inv first is unused =
+    let with_data : Bool = is_granted_data whole g ((s.block n).pair r).recorded in
+    let old : ℕ → ClientBlock = (s.block n).pair in
+    let after : ClientBlock = after_grant_sent gift (old r) in
+    let new : Block X = granted_at_once r tracker with_data gift (s.block n) in
     invariant-moved caching n new (set r here s.link) (moves_at r (once_moves n)) s.lets
     (set tracker (Some n) s.tracked) s inv
     (event-at caching r n new here (once_moves n) s (record {
@@ -159,18 +161,6 @@ acquire_granted-kept {X} caching r n tracker whole g gift rest s inv first is un
           (λ m ne. rw unused (ne_eqb m n ne)) (λ i ne. rw (is.free, ne_eqb i tracker ne) refl) inv.named.trackers;
     })
   where
-    with_data : Bool
-    with_data = is_granted_data whole g ((s.block n).pair r).recorded
-
-    old : ℕ → ClientBlock
-    old = (s.block n).pair
-
-    after : ClientBlock
-    after = after_grant_sent gift (old r)
-
-    new : Block X
-    new = granted_at_once r tracker with_data gift (s.block n)
-
     here : Link
     here = answered_link (packet Grant n) rest (s.link r)
 

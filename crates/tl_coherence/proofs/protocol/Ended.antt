@@ -174,6 +174,27 @@ pub report_answers-kept : {X : Type 0} (caching : ℕ → Bool) (c q n : ℕ) (r
     → (s.link c).c ≡ packet ProbeAck n ∷ rest → IsLastOf c q r f source k (s.block n)
     → IsInvariant caching (report_answers c q n source r f rest s)
 report_answers-kept {X} caching c q n r f source k rest s inv first last =
+    let links : ℕ → Link = ended_link c q (packet Answer source) rest s.link in
+    let used : s.uses q source ≡ InService n = serves_of-is n (s.uses q source) (inv.named.serves q source n
+    ∙ rw (last.waits, same_number q, same_number source) refl) in
+    let acquires_same : (d i : ℕ) → acquires_with d i new ≡ acquires_with d i (s.block n) =
+    λ d i. rw (set-part (λ (p : ClientBlock). p.acquiring) c after old refl d) refl in
+    let first_at : (d : ℕ) → (d == c) ≡ true → (s.link d).c ≡ packet ProbeAck n ∷ rest =
+    λ d e. rw (eqb-true d c e) first in
+    let answered_at : (d : ℕ) → (d == c) ≡ true → (old d).probing ≡ ProbeAnswered r =
+    λ d e. rw (eqb-true d c e) last.answered in
+    -- the link and the pair of a client, by whether it is c
+    let popped : (d : ℕ) → popped_link c rest s.link d ≡ (if d == c then record (s.link d) { c = rest } else s.link d) =
+    λ d. elim (cases_eq d c) [
+      | inl same ↦ rw (same, same_number c) refl
+      | inr ne ↦ rw (ne_eqb d c ne) refl
+    ] in
+    let by_link : (d : ℕ) (ch : Channel) → IsMoved (ended_move (d == c) (d == q) n source ch) (packets_on ch (s.link d))
+    (packets_on ch (if d == q then with_d (packet Answer source) (if d == c then record (s.link d) { c = rest } else
+    s.link d) else (if d == c then record (s.link d) { c = rest } else s.link d)))
+    → IsMoved (ended_move (d == c) (d == q) n source ch) (packets_on ch (s.link d)) (packets_on ch (links d)) =
+    λ d ch h. subst (λ (l : Link). IsMoved (ended_move (d == c) (d == q) n source ch) (packets_on ch (s.link d))
+    (packets_on ch (if d == q then with_d (packet Answer source) l else l))) (sym (popped d)) h in
     invariant-moved_use caching n new links (λ d. ended_move (d == c) (d == q) n source) q source Replied
     (set tracker None s.tracked) s inv (record {
       well = ended-block caching c q r f source k (s.block n) (inv.blocks n) last;
@@ -208,47 +229,15 @@ report_answers-kept {X} caching c q n r f source k rest s inv first last =
     new : Block X
     new = ended_block c r f (s.block n)
 
-    links : ℕ → Link
-    links = ended_link c q (packet Answer source) rest s.link
-
     tracker : ℕ
     tracker = (s.block n).tracker
-
-    used : s.uses q source ≡ InService n
-    used = serves_of-is n (s.uses q source)
-        (inv.named.serves q source n ∙ rw (last.waits, same_number q, same_number source) refl)
 
     tracked : s.tracked tracker ≡ Some n
     tracked = is_of-is n (s.tracked tracker) (inv.named.trackers tracker n ∙ rw (last.waits, same_number tracker) refl)
 
-    acquires_same : (d i : ℕ) → acquires_with d i new ≡ acquires_with d i (s.block n)
-    acquires_same d i = rw (set-part (λ (p : ClientBlock). p.acquiring) c after old refl d) refl
-
     never_pushed : (x : Bool) (m : ℕ) → (if x then Pops ProbeAck n else Stays) ≡ Pushes ProbeAck m → ⊥
     never_pushed true m e = cc
     never_pushed false m e = cc
-
-    first_at : (d : ℕ) → (d == c) ≡ true → (s.link d).c ≡ packet ProbeAck n ∷ rest
-    first_at d e = rw (eqb-true d c e) first
-
-    answered_at : (d : ℕ) → (d == c) ≡ true → (old d).probing ≡ ProbeAnswered r
-    answered_at d e = rw (eqb-true d c e) last.answered
-
-    -- the link and the pair of a client, by whether it is c
-    popped : (d : ℕ) → popped_link c rest s.link d ≡ (if d == c then record (s.link d) { c = rest } else s.link d)
-    popped d = elim (cases_eq d c) [
-      | inl same ↦ rw (same, same_number c) refl
-      | inr ne ↦ rw (ne_eqb d c ne) refl
-    ]
-
-    by_link : (d : ℕ) (ch : Channel)
-        → IsMoved (ended_move (d == c) (d == q) n source ch) (packets_on ch (s.link d))
-        (packets_on ch (if d == q then with_d (packet Answer source) (if d == c then record (s.link d) { c = rest } else
-        s.link d) else (if d == c then record (s.link d) { c = rest } else s.link d)))
-        → IsMoved (ended_move (d == c) (d == q) n source ch) (packets_on ch (s.link d)) (packets_on ch (links d))
-    by_link d ch h =
-        subst (λ (l : Link). IsMoved (ended_move (d == c) (d == q) n source ch) (packets_on ch (s.link d))
-        (packets_on ch (if d == q then with_d (packet Answer source) l else l))) (sym (popped d)) h
 
     pair_is : (d : ℕ) → set c after old d ≡ (if d == c then after_report r (old d) else old d)
     pair_is d = elim (cases_eq d c) [

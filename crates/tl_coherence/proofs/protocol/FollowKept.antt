@@ -82,6 +82,10 @@ ack_taken-kept {w} caching clients p c n rest h inv plain first long serving =
         → (b.pair q).acquiring ≡ AcquireOpen whole g
         → IsInvariant caching (granted_after clients p c q n r (AcquireOpen whole g) rest h).state
     granted q source k waits quiet whole g wants =
+        let after : ℕ → ClientBlock = set c (after_report r (b.pair c)) b.pair in
+        let given : Cap = gift p whole g (is_unheld clients after) in
+        let fits : grow_fits (b.pair q).held (AcquireOpen whole g) ≡ true =
+        acquire_fits whole g (b.pair q) (view b.service q) ((inv.blocks n).phases q) wants in
         report_grants-kept caching c q n r whole g given source k rest h.state inv first (record {
           waits = waits;
           answered = answered;
@@ -96,15 +100,6 @@ ack_taken-kept {w} caching clients p c n rest h inv plain first long serving =
           ];
         })
       where
-        after : ℕ → ClientBlock
-        after = set c (after_report r (b.pair c)) b.pair
-
-        given : Cap
-        given = gift p whole g (is_unheld clients after)
-
-        fits : grow_fits (b.pair q).held (AcquireOpen whole g) ≡ true
-        fits = acquire_fits whole g (b.pair q) (view b.service q) ((inv.blocks n).phases q) wants
-
         differ : c ≡ q → ⊥
         differ e = let other : false ≡ true = rw (waits, e, same_number q) at seen in cc
 

@@ -74,31 +74,37 @@ pub granted-block : {X : Type 0} (caching : ℕ → Bool) (c q : ℕ) (r : Repor
     (source : ℕ) (k : Cap) (b : Block X) → IsWell caching b
     → IsLast c q r whole g gift source k b
     → IsWell caching (granted_block c q r (is_granted_data whole g (b.pair q).recorded) gift b)
-granted-block {X} caching c q r whole g gift source k b h last = record {
-  phases = λ d. elim (cases_eq d q) [
-    | inl same ↦ rw (same, granted_here, granting_view q with_data gift)
-        (grant_last-ok whole g gift (b.pair q) (view b.service q) (h.phases q) own last.wants last.fits)
-    | inr ne ↦ rw (granted_elsewhere d ne, granted_view q d with_data gift ne) (reported_phase d ne (cases_eq d c))
-  ];
-  awaited = tt;
-  asked_cap = tt;
-  own_source = tt;
-  alone = λ i j trunk probed ne. all_quiet j;
-  one_owner = λ i j trunk ne. owner (gives whole g gift last.fits) i j trunk ne;
-  outside = λ d plain. elim (cases_eq d q) [
-    | inl same ↦ absurd (not_calm (b.pair q) last.wants (h.outside q (rw same at plain)))
-    | inr ne ↦ rw (granted_elsewhere d ne) (elim (cases_eq d c) [
-      | inl also ↦ absurd (not_quiet (b.pair c) last.answered (h.outside c (rw also at plain)))
-      | inr neither ↦ rw (set-other c d after b.pair neither) (h.outside d plain)
-    ])
-  ];
-  copies = λ d some. h.copies d (rw (held_same d) at some);
-  memory = λ none. memory_is (same_perm (report_left r) Perm.Trunk) refl;
-}
+granted-block {X} caching c q r whole g gift source k b h last =
+    let with_data : Bool = is_granted_data whole g (b.pair q).recorded in
+    let all_quiet : (j : ℕ) → is_unprobed (granted_pair c q r gift b.pair j).probing ≡ true = λ j. elim (cases_eq j q) [
+      | inl same ↦ rw (same, granted_here) (own_quiet (b.pair q) (view b.service q) (h.phases q) own)
+      | inr ne ↦ rw (granted_elsewhere j ne) (elim (cases_eq j c) [
+        | inl also ↦ rw (also, set-same c after b.pair) refl
+        | inr neither ↦ rw (set-other c j after b.pair neither) (last.settled j neither)
+      ])
+    ] in
+    record {
+      phases = λ d. elim (cases_eq d q) [
+        | inl same ↦ rw (same, granted_here, granting_view q with_data gift)
+            (grant_last-ok whole g gift (b.pair q) (view b.service q) (h.phases q) own last.wants last.fits)
+        | inr ne ↦ rw (granted_elsewhere d ne, granted_view q d with_data gift ne) (reported_phase d ne (cases_eq d c))
+      ];
+      awaited = tt;
+      asked_cap = tt;
+      own_source = tt;
+      alone = λ i j trunk probed ne. all_quiet j;
+      one_owner = λ i j trunk ne. owner (gives whole g gift last.fits) i j trunk ne;
+      outside = λ d plain. elim (cases_eq d q) [
+        | inl same ↦ absurd (not_calm (b.pair q) last.wants (h.outside q (rw same at plain)))
+        | inr ne ↦ rw (granted_elsewhere d ne) (elim (cases_eq d c) [
+          | inl also ↦ absurd (not_quiet (b.pair c) last.answered (h.outside c (rw also at plain)))
+          | inr neither ↦ rw (set-other c d after b.pair neither) (h.outside d plain)
+        ])
+      ];
+      copies = λ d some. h.copies d (rw (held_same d) at some);
+      memory = λ none. memory_is (same_perm (report_left r) Perm.Trunk) refl;
+    }
   where
-    with_data : Bool
-    with_data = is_granted_data whole g (b.pair q).recorded
-
     after : ClientBlock
     after = after_report r (b.pair c)
 
@@ -137,15 +143,6 @@ granted-block {X} caching c q r whole g gift source k b h last = record {
         set-part (λ (p : ClientBlock). p.held) c after b.pair refl q in
         set-part (λ (p : ClientBlock). p.held) q (after_grant_sent gift (b.pair q)) (set c after b.pair) (sym first)
         d ∙ set-part (λ (p : ClientBlock). p.held) c after b.pair refl d
-
-    all_quiet : (j : ℕ) → is_unprobed (granted_pair c q r gift b.pair j).probing ≡ true
-    all_quiet j = elim (cases_eq j q) [
-      | inl same ↦ rw (same, granted_here) (own_quiet (b.pair q) (view b.service q) (h.phases q) own)
-      | inr ne ↦ rw (granted_elsewhere j ne) (elim (cases_eq j c) [
-        | inl also ↦ rw (also, set-same c after b.pair) refl
-        | inr neither ↦ rw (set-other c j after b.pair neither) (last.settled j neither)
-      ])
-    ]
 
     -- those who aren't granted have no Trunk
     low_elsewhere : (d : ℕ) → (d ≡ q → ⊥) → same_perm (set c after b.pair d).recorded Perm.Trunk ≡ false
@@ -229,20 +226,16 @@ pub room-trunk : {X : Type 0} (caching : ℕ → Bool) (c q : ℕ) (r : Report) 
     → ((d : ℕ) → (d ≡ c → ⊥) → is_unprobed (b.pair d).probing ≡ true) → (b.pair q).acquiring ≡ AcquireOpen whole g
     → grows_to_trunk g ≡ true → (c ≡ q → ⊥) → (d : ℕ) → (d ≡ q → ⊥)
     → same_perm (set c (after_report r (b.pair c)) b.pair d).recorded Perm.None ≡ true
-room-trunk caching c q r whole g source k b h waits answered settled wants trunk apart d ne = elim (cases_eq d c) [
-  | inl same ↦ rw (same, set-same c (after_report r (b.pair c)) b.pair)
-      (low_none k (report_right r) cap_is (reported_within k r (b.pair c) (view b.service c) (h.phases c) (seen c apart)
-      answered))
-  | inr neither ↦ rw (set-other c d (after_report r (b.pair c)) b.pair neither)
-      (low_none k (b.pair d).recorded cap_is (spared_within k (b.pair d) (view b.service d) (h.phases d) (seen d ne)
-      (quiet-is (b.pair d).probing (settled d neither))))
-]
-  where
-    seen : (i : ℕ) → (i ≡ q → ⊥) → view b.service i ≡ Other k
-    seen i differs = rw waits (other_view q source i k differs)
-
-    asked : IsAskedCap (Waits q true source k) b.pair
-    asked = rw waits at h.asked_cap
-
-    cap_is : k ≡ Cap.ToN
-    cap_is = asks_none k whole g trunk (rw wants at asked)
+room-trunk caching c q r whole g source k b h waits answered settled wants trunk apart d ne =
+    let seen : (i : ℕ) → (i ≡ q → ⊥) → view b.service i ≡ Other k =
+    λ i differs. rw waits (other_view q source i k differs) in
+    let asked : IsAskedCap (Waits q true source k) b.pair = rw waits at h.asked_cap in
+    let cap_is : k ≡ Cap.ToN = asks_none k whole g trunk (rw wants at asked) in
+    elim (cases_eq d c) [
+      | inl same ↦ rw (same, set-same c (after_report r (b.pair c)) b.pair)
+          (low_none k (report_right r) cap_is (reported_within k r (b.pair c) (view b.service c) (h.phases c) (seen c apart)
+          answered))
+      | inr neither ↦ rw (set-other c d (after_report r (b.pair c)) b.pair neither)
+          (low_none k (b.pair d).recorded cap_is (spared_within k (b.pair d) (view b.service d) (h.phases d) (seen d ne)
+          (quiet-is (b.pair d).probing (settled d neither))))
+    ]

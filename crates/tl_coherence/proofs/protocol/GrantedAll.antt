@@ -86,6 +86,25 @@ pub report_grants-kept : {X : Type 0} (caching : ℕ → Bool) (c q n : ℕ) (r 
     → (s.link c).c ≡ packet ProbeAck n ∷ rest → IsLast c q r whole g gift source k (s.block n)
     → IsInvariant caching (report_grants c q n r (is_granted_data whole g ((s.block n).pair q).recorded) gift rest s)
 report_grants-kept {X} caching c q n r whole g gift source k rest s inv first last =
+    let links : ℕ → Link = granted_link c q n rest s.link in
+    let links_q : links q ≡ at_q = set-same q at_q (set c at_c s.link) in
+    let links_c : links c ≡ at_c = set-other q c at_q (set c at_c s.link) apart ∙ set-same c at_c s.link in
+    let links_other : (d : ℕ) → (d ≡ q → ⊥) → (d ≡ c → ⊥) → links d ≡ s.link d =
+    λ d m o. set-other q d at_q (set c at_c s.link) m ∙ set-other c d at_c s.link o in
+    let moved : (d : ℕ) (ch : Channel) → IsMoved (granted_moves n c q d ch) (packets_on ch (s.link d))
+    (packets_on ch (links d)) = λ d ch. elim (cases_eq d q) [
+      | inl same ↦ rw same (moved_as (granted_moves n c q q ch) (granted_moves n 0 1 1 ch) (packets_on ch (s.link q))
+          (packets_on ch (links q))
+          (packets_on ch at_q) (moves_of_sender n c q ch apart_too) (ap (packets_on ch) links_q) (moved_q ch))
+      | inr m ↦ elim (cases_eq d c) [
+        | inl same ↦ rw same (moved_as (granted_moves n c q c ch) (granted_moves n 1 0 1 ch) (packets_on ch (s.link c))
+            (packets_on ch (links c))
+            (packets_on ch at_c) (moves_of_reporter n c q ch apart) (ap (packets_on ch) links_c) (moved_c ch))
+        | inr o ↦ moved_as (granted_moves n c q d ch) Stays (packets_on ch (s.link d)) (packets_on ch (links d))
+            (packets_on ch (s.link d))
+            (moves_of_other n c q d ch o m) (ap (packets_on ch) (links_other d m o)) refl
+      ]
+    ] in
     invariant-moved caching n new links (granted_moves n c q) s.lets s.tracked s inv (record {
       well = granted-block caching c q r whole g gift source k (s.block n) (inv.blocks n) last;
       moved = λ d ch. moved d ch;
@@ -101,9 +120,6 @@ report_grants-kept {X} caching c q n r whole g gift source k rest s inv first la
 
     new : Block X
     new = granted_block c q r with_data gift (s.block n)
-
-    links : ℕ → Link
-    links = granted_link c q n rest s.link
 
     apart : c ≡ q → ⊥
     apart e =
@@ -144,15 +160,6 @@ report_grants-kept {X} caching c q n r whole g gift source k rest s inv first la
     at_c : Link
     at_c = record (s.link c) { c = rest }
 
-    links_q : links q ≡ at_q
-    links_q = set-same q at_q (set c at_c s.link)
-
-    links_c : links c ≡ at_c
-    links_c = set-other q c at_q (set c at_c s.link) apart ∙ set-same c at_c s.link
-
-    links_other : (d : ℕ) → (d ≡ q → ⊥) → (d ≡ c → ⊥) → links d ≡ s.link d
-    links_other d m o = set-other q d at_q (set c at_c s.link) m ∙ set-other c d at_c s.link o
-
     moved_q : (ch : Channel) → IsMoved (granted_moves n 0 1 1 ch) (packets_on ch (s.link q)) (packets_on ch at_q)
     moved_q Channel.A = refl
     moved_q ch = refl
@@ -160,22 +167,6 @@ report_grants-kept {X} caching c q n r whole g gift source k rest s inv first la
     moved_c : (ch : Channel) → IsMoved (granted_moves n 1 0 1 ch) (packets_on ch (s.link c)) (packets_on ch at_c)
     moved_c Channel.C = first
     moved_c ch = refl
-
-    moved : (d : ℕ) (ch : Channel) → IsMoved (granted_moves n c q d ch) (packets_on ch (s.link d))
-        (packets_on ch (links d))
-    moved d ch = elim (cases_eq d q) [
-      | inl same ↦ rw same (moved_as (granted_moves n c q q ch) (granted_moves n 0 1 1 ch) (packets_on ch (s.link q))
-          (packets_on ch (links q))
-          (packets_on ch at_q) (moves_of_sender n c q ch apart_too) (ap (packets_on ch) links_q) (moved_q ch))
-      | inr m ↦ elim (cases_eq d c) [
-        | inl same ↦ rw same (moved_as (granted_moves n c q c ch) (granted_moves n 1 0 1 ch) (packets_on ch (s.link c))
-            (packets_on ch (links c))
-            (packets_on ch at_c) (moves_of_reporter n c q ch apart) (ap (packets_on ch) links_c) (moved_c ch))
-        | inr o ↦ moved_as (granted_moves n c q d ch) Stays (packets_on ch (s.link d)) (packets_on ch (links d))
-            (packets_on ch (s.link d))
-            (moves_of_other n c q d ch o m) (ap (packets_on ch) (links_other d m o)) refl
-      ]
-    ]
 
     agrees_as : (j : Kind) (m p : Move) (a b x y : Bool) → m ≡ p → a ≡ x → b ≡ y → agrees p j n x y ≡ true
         → agrees m j n a b ≡ true

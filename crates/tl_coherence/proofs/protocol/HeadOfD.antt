@@ -105,10 +105,9 @@ acquire-used caching c n s inv wanting =
 -- how the client of a Grant sees the block
 pub own_view : (c : ℕ) (d : Bool) (k : Cap) (service : Service) → service ≡ GrantSent c d k
     → view service c ≡ Granting d k
-own_view c d k service e = ap (λ (x : Service). view x c) e ∙ here (c == c) (same_number c)
-  where
-    here : (x : Bool) → x ≡ true → (if x then Granting d k else GrantedOther) ≡ Granting d k
-    here x f = rw f refl
+own_view c d k service e =
+    let here : (x : Bool) → x ≡ true → (if x then Granting d k else GrantedOther) ≡ Granting d k = λ x f. rw f refl in
+    ap (λ (x : Service). view x c) e ∙ here (c == c) (same_number c)
 
 pub grant-due : (caching : ℕ → Bool) (c n : ℕ) (rest : List Packet) (s : State (List ℕ)) → IsInvariant caching s
     → (s.link c).d ≡ packet Grant n ∷ rest → IsGrantDue c n s

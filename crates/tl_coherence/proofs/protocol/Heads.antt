@@ -93,15 +93,17 @@ pub asked-first : {w : ℕ} (config : Config) (log : Log w) (mail : AccessMessag
     (s : State (List ℕ)) (sys : System w) (c source : ℕ) (rest : List Packet)
     → SimulationRelation config log mail request s sys → (s.link c).a ≡ packet Request source ∷ rest
     → IsAsked config c source mail s
-asked-first {w} config log mail request s sys c source rest is first = record {
-  request = of.request;
-  is_it = of.is_it;
-  source_is = of.source_is;
-  used = used;
-  access = asked-access config log mail request s sys c source of.request is used of.is_it;
-  lawful = rw of.is_it at sourced.1;
-  blank = rw of.is_it at sourced.2;
-}
+asked-first {w} config log mail request s sys c source rest is first =
+    let of : IsOfSource source (mail.request c source) = of_source source (mail.request c source) sourced.0 in
+    record {
+      request = of.request;
+      is_it = of.is_it;
+      source_is = of.source_is;
+      used = used;
+      access = asked-access config log mail request s sys c source of.request is used of.is_it;
+      lawful = rw of.is_it at sourced.1;
+      blank = rw of.is_it at sourced.2;
+    }
   where
     used : s.uses c source ≡ Asked
     used = is_asked-is (s.uses c source) (holds-first Request (s.link c).a rest (packet Request source)
@@ -109,9 +111,6 @@ asked-first {w} config log mail request s sys c source rest is first = record {
 
     sourced : IsRequest config c source (mail.request c source)
     sourced = rw used at (is.sourced c source)
-
-    of : IsOfSource source (mail.request c source)
-    of = of_source source (mail.request c source) sourced.0
 
 -- ---- an Acquire that is wanted
 
@@ -127,28 +126,24 @@ pub record IsWanted (w c n : ℕ) (s : State (List ℕ)) : Type 0 where
 pub wanted-first : {w : ℕ} (config : Config) (log : Log w) (mail : AccessMessages w) (request : ℕ → MessageA w)
     (s : State (List ℕ)) (sys : System w) (c n : ℕ) (rest : List Packet)
     → SimulationRelation config log mail request s sys → (s.link c).a ≡ packet Acquire n ∷ rest → IsWanted w c n s
-wanted-first {w} config log mail request s sys c n rest is first = record {
-  whole = asks.0;
-  grow = asks.1;
-  wants = asks.2;
-  unserved = and_right (is_wanting (b.pair c).acquiring) (is_unserved (view b.service c)) shows;
-  used = acquires_of-is n (s.uses c (b.source c)) (is.invariant.named.acquires c (b.source c) n ∙ rw
-      (wants, same_number (b.source c)) refl);
-  renders = rendered-acquire c n b asks.0 asks.1 asks.2;
-}
-  where
-    b : Block (List ℕ)
-    b = s.block n
-
-    shows : (is_wanting (b.pair c).acquiring && is_unserved (view b.service c)) ≡ true
-    shows = holds-first Acquire (s.link c).a rest (packet Acquire n) (λ i. shown Acquire c (s.block i)) first refl
-        (is.invariant.transfers c Acquire refl)
-
-    wants : is_wanting (b.pair c).acquiring ≡ true
-    wants = and_left (is_wanting (b.pair c).acquiring) (is_unserved (view b.service c)) shows
-
-    asks : (whole : Bool) × (g : Grow) × ((b.pair c).acquiring ≡ AcquireOpen whole g)
-    asks = wanting-is (b.pair c).acquiring wants
+wanted-first {w} config log mail request s sys c n rest is first =
+    let b : Block (List ℕ) = s.block n in
+    let shows : (is_wanting (b.pair c).acquiring && is_unserved (view b.service c)) ≡ true =
+    holds-first Acquire (s.link c).a rest (packet Acquire n) (λ i. shown Acquire c (s.block i)) first refl
+    (is.invariant.transfers c Acquire refl) in
+    let wants : is_wanting (b.pair c).acquiring ≡ true =
+    and_left (is_wanting (b.pair c).acquiring) (is_unserved (view b.service c)) shows in
+    let asks : (whole : Bool) × (g : Grow) × ((b.pair c).acquiring ≡ AcquireOpen whole g) =
+    wanting-is (b.pair c).acquiring wants in
+    record {
+      whole = asks.0;
+      grow = asks.1;
+      wants = asks.2;
+      unserved = and_right (is_wanting (b.pair c).acquiring) (is_unserved (view b.service c)) shows;
+      used = acquires_of-is n (s.uses c (b.source c)) (is.invariant.named.acquires c (b.source c) n ∙ rw
+          (wants, same_number (b.source c)) refl);
+      renders = rendered-acquire c n b asks.0 asks.1 asks.2;
+    }
 
 -- all that no beat of it carries is zero
 narrow : (w : ℕ) → IsWidth w → 2 ^ w - 1 < 2 ^ (w * 1)
@@ -183,14 +178,12 @@ pub front-of : {w : ℕ} (config : Config) (log : Log w) (mail : AccessMessages 
     → message_of mail s c first ≡ Message.A m → sys.channels c Channel.A ≡ x ∷ queue
     → IsNext x (unfinished Channel.A (on_link c sys.manager.trace)) (Message.A m) (map (message_of mail s c) rest) queue
 front-of {w} config log mail request s sys c first rest m x queue width is tokens is_it beats =
+    let carried_so : (ms ns : List (Message w)) (q r : List (Beat w)) → ms ≡ ns → q ≡ r
+    → IsCarried (unfinished Channel.A (on_link c sys.manager.trace)) ms q
+    → IsCarried (unfinished Channel.A (on_link c sys.manager.trace)) ns r = λ ms ns q r e f h. rw (← e, ← f) h in
     carried-next x (unfinished Channel.A (on_link c sys.manager.trace)) (Message.A m) (map (message_of mail s c) rest)
     queue (λ i. beats-positive i width)
     (carried_so (messages_on Channel.A mail s c) (Message.A m ∷ map (message_of mail s c) rest)
     (sys.channels c Channel.A) (x ∷ queue)
     (ap (map (message_of mail s c)) tokens ∙ ap (λ (i : Message w). i ∷ map (message_of mail s c) rest) is_it) beats
     (is.carried c Channel.A))
-  where
-    carried_so : (ms ns : List (Message w)) (q r : List (Beat w)) → ms ≡ ns → q ≡ r
-        → IsCarried (unfinished Channel.A (on_link c sys.manager.trace)) ms q
-        → IsCarried (unfinished Channel.A (on_link c sys.manager.trace)) ns r
-    carried_so ms ns q r e f h = rw (← e, ← f) h

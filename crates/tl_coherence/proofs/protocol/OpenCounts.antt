@@ -31,6 +31,7 @@ pub marked-set : {B : Type 0} (test : B → Bool) (clients : ℕ) (sources : ℕ
     → marked test clients sources (set_at c k x f) + one_if (test (f c k)) ≡ marked test clients sources f + one_if
     (test x)
 marked-set {B} test clients sources c k x f few lt =
+    let row : ℕ → (ℕ → B) → ℕ = λ d g. total (sources d) (λ i. one_if (test (g i))) in
     let inner : row c (set k x (f c)) + one_if (test (f c k)) ≡ row c (f c) + one_if (test (set k x (f c) k)) =
     total-at (sources c) k (λ i. one_if (test (set k x (f c) i))) (λ i. one_if (test (f c i))) lt
     (λ i ne. ap (λ (y : B). one_if (test y)) (set-other k i x (f c) ne)) in
@@ -42,9 +43,6 @@ marked-set {B} test clients sources c k x f few lt =
     (λ d ne. ap (row d) (set-other c d (set k x (f c)) f ne)) in
     let changed : row c (set_at c k x f c) ≡ row c (set k x (f c)) = ap (row c) (set-same c (set k x (f c)) f) in
     omega (arith, inner, here, outer, changed)
-  where
-    row : ℕ → (ℕ → B) → ℕ
-    row d g = total (sources d) (λ i. one_if (test (g i)))
 
 -- no place changes, as the test has it
 pub marked-same : {B : Type 0} (test : B → Bool) (clients : ℕ) (sources : ℕ → ℕ) (f g : ℕ → ℕ → B)

@@ -85,6 +85,11 @@ pub probe_taken-kept : {X : Type 0} (caching : ℕ → Bool) (c n : ℕ) (k : Ca
     → (s.link c).b ≡ packet Probe n ∷ rest → ((s.block n).pair c).probing ≡ ProbeSent k
     → ((s.block n).pair c).letting ≡ NoRelease → IsInvariant caching (probe_taken c n k rest s)
 probe_taken-kept {X} caching c n k rest s inv first sent kept =
+    let after : ClientBlock = after_probe k ((s.block n).pair c) in
+    let new : Block X = probed_block c k (s.block n) in
+    let number_is : (m : ℕ) → Pushes ProbeAck n ≡ Pushes ProbeAck m → m ≡ n = λ m e. cc in
+    let ordered : (m : ℕ) → m ≡ n → count Release m (s.link c).c ≡ 0 =
+    λ m e. rw e (inv.transfers c Release refl n ∙ rw kept refl) in
     invariant-moved caching n new (set c here s.link) (moves_at c (probe_moves n)) s.lets s.tracked s inv
     (event-at caching c n new here (probe_moves n) s (record {
       well = probed-block caching c k (s.block n) (inv.blocks n) sent kept;
@@ -101,12 +106,6 @@ probe_taken-kept {X} caching c n k rest s inv first sent kept =
     (λ d i. rw (set-part (λ (p : ClientBlock). p.acquiring) c after (s.block n).pair refl d) refl) (λ d i. refl)
     (λ d i. rw (set-part (λ (p : ClientBlock). p.letting) c after (s.block n).pair refl d) refl) (λ i. refl))
   where
-    after : ClientBlock
-    after = after_probe k ((s.block n).pair c)
-
-    new : Block X
-    new = probed_block c k (s.block n)
-
     here : Link
     here = probed_link n rest (s.link c)
 
@@ -117,9 +116,3 @@ probe_taken-kept {X} caching c n k rest s inv first sent kept =
     own : (ch : Channel) → is_own_move ch (probe_moves n ch) ≡ true
     own Channel.A = refl
     own ch = refl
-
-    number_is : (m : ℕ) → Pushes ProbeAck n ≡ Pushes ProbeAck m → m ≡ n
-    number_is m e = cc
-
-    ordered : (m : ℕ) → m ≡ n → count Release m (s.link c).c ≡ 0
-    ordered m e = rw e (inv.transfers c Release refl n ∙ rw kept refl)

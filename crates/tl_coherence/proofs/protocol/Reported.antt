@@ -169,6 +169,9 @@ pub report_taken-kept : {X : Type 0} (caching : ℕ → Bool) (c n : ℕ) (r : R
     → ((s.block n).pair c).probing ≡ ProbeAnswered r → (w : ℕ) → (w ≡ c → ⊥)
     → is_unprobed ((s.block n).pair w).probing ≡ false → IsInvariant caching (report_taken c n r rest s)
 report_taken-kept {X} caching c n r rest s inv first answered w apart missing =
+    let old : ℕ → ClientBlock = (s.block n).pair in
+    let after : ClientBlock = after_report r (old c) in
+    let new : Block X = reported_block c r (s.block n) in
     invariant-moved caching n new (set c here s.link) (moves_at c (report_moves n)) s.lets s.tracked s inv
     (event-at caching c n new here (report_moves n) s (record {
       well = reported-block caching c r (s.block n) (inv.blocks n) answered w apart missing;
@@ -184,15 +187,6 @@ report_taken-kept {X} caching c n r rest s inv first answered w apart missing =
     (λ d i. rw (set-part (λ (p : ClientBlock). p.acquiring) c after old refl d) refl) (λ d i. refl)
     (λ d i. rw (set-part (λ (p : ClientBlock). p.letting) c after old refl d) refl) (λ i. refl))
   where
-    old : ℕ → ClientBlock
-    old = (s.block n).pair
-
-    after : ClientBlock
-    after = after_report r (old c)
-
-    new : Block X
-    new = reported_block c r (s.block n)
-
     here : Link
     here = record (s.link c) { c = rest }
 
@@ -243,6 +237,9 @@ pub release_taken-kept : {X : Type 0} (caching : ℕ → Bool) (c n : ℕ) (r : 
     → IsInvariant caching s → (s.link c).c ≡ packet Release n ∷ rest
     → ((s.block n).pair c).letting ≡ ReleaseSent r → IsInvariant caching (release_taken c n r rest s)
 release_taken-kept {X} caching c n r rest s inv first releasing =
+    let old : ℕ → ClientBlock = (s.block n).pair in
+    let after : ClientBlock = after_release_taken r (old c) in
+    let new : Block X = let_block c r (s.block n) in
     invariant-moved caching n new (set c here s.link) (moves_at c (let_moves n)) s.lets s.tracked s inv
     (event-at caching c n new here (let_moves n) s (record {
       well = let-block caching c r (s.block n) (inv.blocks n) releasing (release_first caching c n rest s inv first);
@@ -259,15 +256,6 @@ release_taken-kept {X} caching c n r rest s inv first releasing =
     (λ d i. rw (set-part (λ (p : ClientBlock). is_unreleased p.letting) c after old (rw releasing refl) d) refl)
     (λ i. refl))
   where
-    old : ℕ → ClientBlock
-    old = (s.block n).pair
-
-    after : ClientBlock
-    after = after_release_taken r (old c)
-
-    new : Block X
-    new = let_block c r (s.block n)
-
     here : Link
     here = let_link n rest (s.link c)
 

@@ -77,32 +77,31 @@ pub served-block : {X : Type 0} (caching : ℕ → Bool) (r : ℕ) (own : Bool) 
     → IsWell caching b → b.service ≡ Free → Probes own k (b.pair r)
     → IsOwnSource (Waits r own source k) b.source → (w : ℕ) → is_probed r own k (b.pair w).recorded w ≡ true
     → IsWell caching (served_block r own source tracker k b)
-served-block caching r own source tracker k b h free asks sourced w probed = record {
-  phases = λ d. phase d (own && (d == r)) refl;
-  awaited = (w, sent (own && (w == r)) probed);
-  asked_cap = asked own asks;
-  own_source = sourced;
-  alone = λ i j trunk sent_ ne. left j (own && (j == r)) (h.one_owner i j (rw (recorded_same i) at trunk) ne);
-  one_owner = λ i j trunk ne. rw (recorded_same j) (h.one_owner i j (rw (recorded_same i) at trunk) ne);
-  outside = λ d plain. bare d (own && (d == r)) (h.outside d plain);
-  copies = λ d some. h.copies d (rw (held_same d) at some);
-  memory = λ none. h.memory (λ d.
-      let before : is_granting (view b.service d) ≡ false = rw (idle d) refl in
-      sym (out_same (b.pair d) (served_pair r own k b.pair d) (view b.service d) (view (Waits r own source k) d)
-      (recorded_same d) (never_granting r source own k d ∙ sym before)) ∙ none d);
-}
+served-block caching r own source tracker k b h free asks sourced w probed =
+    let recorded_same : (d : ℕ) → (served_pair r own k b.pair d).recorded ≡ (b.pair d).recorded =
+    unprobed_part (λ p. p.recorded) r own k b.pair (λ p. refl) in
+    let held_same : (d : ℕ) → (served_pair r own k b.pair d).held ≡ (b.pair d).held =
+    unprobed_part (λ p. p.held) r own k b.pair (λ p. refl) in
+    record {
+      phases = λ d. phase d (own && (d == r)) refl;
+      awaited = (w, sent (own && (w == r)) probed);
+      asked_cap = asked own asks;
+      own_source = sourced;
+      alone = λ i j trunk sent_ ne. left j (own && (j == r)) (h.one_owner i j (rw (recorded_same i) at trunk) ne);
+      one_owner = λ i j trunk ne. rw (recorded_same j) (h.one_owner i j (rw (recorded_same i) at trunk) ne);
+      outside = λ d plain. bare d (own && (d == r)) (h.outside d plain);
+      copies = λ d some. h.copies d (rw (held_same d) at some);
+      memory = λ none. h.memory (λ d.
+          let before : is_granting (view b.service d) ≡ false = rw (idle d) refl in
+          sym (out_same (b.pair d) (served_pair r own k b.pair d) (view b.service d) (view (Waits r own source k) d)
+          (recorded_same d) (never_granting r source own k d ∙ sym before)) ∙ none d);
+    }
   where
     idle : (d : ℕ) → view b.service d ≡ Idle
     idle d = rw free refl
 
     quiet : (d : ℕ) → is_unprobed (b.pair d).probing ≡ true
     quiet d = quiet_at_rest (b.pair d) (view b.service d) (h.phases d) (idle d)
-
-    recorded_same : (d : ℕ) → (served_pair r own k b.pair d).recorded ≡ (b.pair d).recorded
-    recorded_same = unprobed_part (λ p. p.recorded) r own k b.pair (λ p. refl)
-
-    held_same : (d : ℕ) → (served_pair r own k b.pair d).held ≡ (b.pair d).held
-    held_same = unprobed_part (λ p. p.held) r own k b.pair (λ p. refl)
 
     acquiring : (o : Bool) → o ≡ true → Probes o k (b.pair r) → (d : ℕ) → d ≡ r → ok (b.pair d) Own ≡ true
     acquiring false e a d f = absurd cc
@@ -244,25 +243,26 @@ served-event : {X : Type 0} (caching : ℕ → Bool) (r n : ℕ) (own : Bool) (s
     → is_probed r own k ((s.block n).pair w).recorded w ≡ true
     → IsEvent caching n (served_block r own source tracker k (s.block n))
     (served_link r own n k rest (s.block n) s.link) (served_moves r own n source k (s.block n).pair) s
-served-event caching r n own source tracker k rest s inv first free asks sourced w probed = record {
-  well = served-block caching r own source tracker k (s.block n) (inv.blocks n) free asks sourced w probed;
-  moved = λ d ch. any_moved ch (if d == r then Pops (kind_served own) (number_served own n source) else Stays) n
-      (s.link d) rest (d == r)
-      (is_probed r own k ((s.block n).pair d).recorded d) (pops d) (stays (d == r));
-  own = λ d ch. any_own ch n source own (d == r) (is_probed r own k ((s.block n).pair d).recorded d);
-  fits = λ d j t. before j d (shown j d (served_block r own source tracker k (s.block n)))
-      (served_moves r own n source k (s.block n).pair d (channel_for j))
-      (any_shows n source j own (d == r) k ((s.block n).pair d) t (wants own asks d) (quiet d));
-  in_order = λ d m e. absurd (let f : Stays ≡ Pushes ProbeAck m = e in cc);
-}
+served-event caching r n own source tracker k rest s inv first free asks sourced w probed =
+    let before : (j : Kind) (d : ℕ) (after : Bool) (m : Move) → agrees m j n (shows j ((s.block n).pair d) Idle) after
+    ≡ true → agrees m j n (shown j d (s.block n)) after ≡ true = λ j d after m h. rw free h in
+    let quiet : (d : ℕ) → is_unprobed ((s.block n).pair d).probing ≡ true =
+    λ d. quiet_at_rest ((s.block n).pair d) (view (s.block n).service d) ((inv.blocks n).phases d) (rw free refl) in
+    let pops : (d : ℕ) → (d == r) ≡ true
+    → IsMoved (if d == r then Pops (kind_served own) (number_served own n source) else Stays) (s.link d).a rest =
+    λ d e. rw (e, eqb-true d r e) first in
+    record {
+      well = served-block caching r own source tracker k (s.block n) (inv.blocks n) free asks sourced w probed;
+      moved = λ d ch. any_moved ch (if d == r then Pops (kind_served own) (number_served own n source) else Stays) n
+          (s.link d) rest (d == r)
+          (is_probed r own k ((s.block n).pair d).recorded d) (pops d) (stays (d == r));
+      own = λ d ch. any_own ch n source own (d == r) (is_probed r own k ((s.block n).pair d).recorded d);
+      fits = λ d j t. before j d (shown j d (served_block r own source tracker k (s.block n)))
+          (served_moves r own n source k (s.block n).pair d (channel_for j))
+          (any_shows n source j own (d == r) k ((s.block n).pair d) t (wants own asks d) (quiet d));
+      in_order = λ d m e. absurd (let f : Stays ≡ Pushes ProbeAck m = e in cc);
+    }
   where
-    before : (j : Kind) (d : ℕ) (after : Bool) (m : Move) → agrees m j n (shows j ((s.block n).pair d) Idle)
-        after ≡ true → agrees m j n (shown j d (s.block n)) after ≡ true
-    before j d after m h = rw free h
-
-    quiet : (d : ℕ) → is_unprobed ((s.block n).pair d).probing ≡ true
-    quiet d = quiet_at_rest ((s.block n).pair d) (view (s.block n).service d) ((inv.blocks n).phases d) (rw free refl)
-
     wants : (o : Bool) → Probes o k ((s.block n).pair r) → (d : ℕ) → o ≡ true → (d == r) ≡ true
         → is_wanting ((s.block n).pair d).acquiring ≡ true
     wants false a d e f = absurd cc
@@ -271,10 +271,6 @@ served-event caching r n own source tracker k rest s inv first free asks sourced
     stays : (x : Bool) → x ≡ false → (if x then Pops (kind_served own) (number_served own n source) else Stays) ≡ Stays
     stays true e = absurd cc
     stays false e = refl
-
-    pops : (d : ℕ) → (d == r) ≡ true
-        → IsMoved (if d == r then Pops (kind_served own) (number_served own n source) else Stays) (s.link d).a rest
-    pops d e = rw (e, eqb-true d r e) first
 
 -- no access is taken or answered where an Acquire is taken
 bare_move : (x p : Bool) (n : ℕ)
@@ -306,6 +302,7 @@ pub acquire_served-kept : {X : Type 0} (caching : ℕ → Bool) (r n source trac
     → (w : ℕ) → is_probed r true k ((s.block n).pair w).recorded w ≡ true
     → IsInvariant caching (acquire_served r n source tracker k rest s)
 acquire_served-kept {X} caching r n source tracker whole g k rest s inv first free wants low unused sourced w probed =
+    let new : Block X = served_block r true source tracker k (s.block n) in
     invariant-moved caching n new (served_link r true n k rest (s.block n) s.link)
     (served_moves r true n source k (s.block n).pair) s.lets (set tracker (Some n) s.tracked) s inv
     (served-event caching r n true source tracker k rest s inv first free (whole, g, wants, low) sourced w probed)
@@ -321,9 +318,6 @@ acquire_served-kept {X} caching r n source tracker whole g k rest s inv first fr
           (rw (same_number n, same_number tracker) refl)
           (λ m ne. rw unused (not_named n m ne)) (λ i ne. rw (free, ne_eqb i tracker ne) refl) inv.named.trackers;
     })
-  where
-    new : Block X
-    new = served_block r true source tracker k (s.block n)
 
 -- an access
 pub access_served-kept : {X : Type 0} (caching : ℕ → Bool) (r n source tracker : ℕ) (k : Cap) (rest : List Packet)
@@ -333,6 +327,7 @@ pub access_served-kept : {X : Type 0} (caching : ℕ → Bool) (r n source track
     → (w : ℕ) → is_probed r false k ((s.block n).pair w).recorded w ≡ true
     → IsInvariant caching (access_served r n source tracker k rest s)
 access_served-kept {X} caching r n source tracker k rest s inv first free asked low unused w probed =
+    let new : Block X = served_block r false source tracker k (s.block n) in
     invariant-moved_use caching n new (served_link r false n k rest (s.block n) s.link)
     (served_moves r false n source k (s.block n).pair) r source (InService n) (set tracker (Some n) s.tracked) s inv
     (served-event caching r n false source tracker k rest s inv first free low tt w probed)
@@ -354,6 +349,3 @@ access_served-kept {X} caching r n source tracker k rest s inv first free asked 
           (rw (same_number n, same_number tracker) refl)
           (λ m ne. rw unused (not_named n m ne)) (λ i ne. rw (free, ne_eqb i tracker ne) refl) inv.named.trackers;
     })
-  where
-    new : Block X
-    new = served_block r false source tracker k (s.block n)

@@ -43,6 +43,11 @@ pub grant_taken-kept : {X : Type 0} (caching : ℕ → Bool) (c n : ℕ) (d whol
     → (s.block n).service ≡ GrantSent c d k → ((s.block n).pair c).acquiring ≡ AcquireOpen whole g
     → IsInvariant caching (grant_taken c n whole d k rest s)
 grant_taken-kept {X} caching c n d whole g k rest s inv first granting wants =
+    let old : ℕ → ClientBlock = (s.block n).pair in
+    let after : ClientBlock = after_grant k (old c) in
+    let new : Block X = taken_block c whole d k (s.block n) in
+    let used : s.uses c source ≡ Acquires n = acquires_of-is n (s.uses c source) (inv.named.acquires c source n
+    ∙ rw (wants, same_number source) refl) in
     invariant-moved_use caching n new (set c here s.link) (moves_at c (taken_moves n)) c source SourceFree s.tracked s
     inv
     (event-at caching c n new here (taken_moves n) s (record {
@@ -66,23 +71,11 @@ grant_taken-kept {X} caching c n d whole g k rest s inv first granting wants =
       trackers = names-block is_of tracks_with s.tracked n new s.block (λ i. rw granting refl) inv.named.trackers;
     })
   where
-    old : ℕ → ClientBlock
-    old = (s.block n).pair
-
-    after : ClientBlock
-    after = after_grant k (old c)
-
-    new : Block X
-    new = taken_block c whole d k (s.block n)
-
     here : Link
     here = taken_link n rest (s.link c)
 
     source : ℕ
     source = (s.block n).source c
-
-    used : s.uses c source ≡ Acquires n
-    used = acquires_of-is n (s.uses c source) (inv.named.acquires c source n ∙ rw (wants, same_number source) refl)
 
     moved : AreMoved (taken_moves n) (s.link c) here
     moved Channel.D = first

@@ -280,18 +280,17 @@ pushes_at c pushes d ch = if d == c then pushes ch else None
 
 pub moved-at : (c : ℕ) (moves : Channel → Move) (l : Link) (link : ℕ → Link) → AreMoved moves (link c) l → (d : ℕ)
     → AreMoved (moves_at c moves d) (link d) (set c l link d)
-moved-at c moves l link h d ch = elim (cases_eq d c) [
-  | inl same ↦ rw same (popped (c == c) (set c l link c) (same_number c) (set-same c l link))
-  | inr other ↦ still (d == c) (set c l link d) (ne_eqb d c other) (set-other c d l link other)
-]
-  where
-    popped : (b : Bool) (k : Link) → b ≡ true → k ≡ l → IsMoved (if b then moves ch else Stays) (packets_on ch (link c))
-        (packets_on ch k)
-    popped b k e f = rw (e, f) (h ch)
-
-    still : (b : Bool) (k : Link) → b ≡ false → k ≡ link d
-        → IsMoved (if b then moves ch else Stays) (packets_on ch (link d)) (packets_on ch k)
-    still b k e f = rw (e, f) refl
+moved-at c moves l link h d ch =
+    let popped : (b : Bool) (k : Link) → b ≡ true → k ≡ l
+    → IsMoved (if b then moves ch else Stays) (packets_on ch (link c)) (packets_on ch k) =
+    λ b k e f. rw (e, f) (h ch) in
+    let still : (b : Bool) (k : Link) → b ≡ false → k ≡ link d
+    → IsMoved (if b then moves ch else Stays) (packets_on ch (link d)) (packets_on ch k) =
+    λ b k e f. rw (e, f) refl in
+    elim (cases_eq d c) [
+      | inl same ↦ rw same (popped (c == c) (set c l link c) (same_number c) (set-same c l link))
+      | inr other ↦ still (d == c) (set c l link d) (ne_eqb d c other) (set-other c d l link other)
+    ]
 
 pub fits-at : {w : ℕ} (c : ℕ) (ch : Channel) (pushes : Channel → Option (Message w)) (moves : Channel → Move)
     (render : ℕ → Kind → ℕ → Message w)

@@ -30,10 +30,14 @@ channels-handed {w} l None s d at = go (d == l)
     go : (b : Bool) → s.channels d at ≡ behind (if b then None else None) (s.channels d at)
     go true = refl
     go false = refl
-channels-handed {w} l (Some m) s d at = elim (cases_eq d l) [
-  | inl same ↦ rw same (here (l == l) (same_number l) (same_channel at (channel_of_message m)) refl)
-  | inr other ↦ there (d == l) (ne_eqb d l other)
-]
+channels-handed {w} l (Some m) s d at =
+    let there : (b : Bool) → b ≡ false
+    → (if b && same_channel at (channel_of_message m) then s.channels l (channel_of_message m) ++ more else
+    s.channels d at) ≡ behind (if b then pushes_of (Some m) at else None) (s.channels d at) = λ b e. rw e refl in
+    elim (cases_eq d l) [
+      | inl same ↦ rw same (here (l == l) (same_number l) (same_channel at (channel_of_message m)) refl)
+      | inr other ↦ there (d == l) (ne_eqb d l other)
+    ]
   where
     more : List (Beat w)
     more = beats_from m 0 (beats_of m)
@@ -43,11 +47,6 @@ channels-handed {w} l (Some m) s d at = elim (cases_eq d l) [
         (if b then (if y then Some m else None) else None) (s.channels l at)
     here b e true f = rw (e, same_channel-is at (channel_of_message m) f) refl
     here b e false f = rw e refl
-
-    there : (b : Bool) → b ≡ false
-        → (if b && same_channel at (channel_of_message m) then s.channels l (channel_of_message m) ++ more else
-        s.channels d at) ≡ behind (if b then pushes_of (Some m) at else None) (s.channels d at)
-    there b e = rw e refl
 
 -- ---- the whole after a beat was taken
 

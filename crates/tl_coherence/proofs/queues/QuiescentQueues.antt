@@ -114,16 +114,13 @@ pub next-movable : {w : ℕ} (config : Config) (s : System w) (d : Link × Chann
     → is_movable config d.0.0 d.1 s ≡ true
 unfolding next_delivery
 next-movable {w} config s d next =
+    let IsIt : Type 0 = is_movable config d.0.0 d.1 s ≡ true in
+    let on : (ch : Channel) → movable_on config ch s ≡ Some d → IsIt =
+    λ ch e. first-some config ch 0 (length config.clients.items) s d e in
     by-either (movable_on config Channel.E s) _ d IsIt (on Channel.E)
     (by-either (movable_on config Channel.D s) _ d IsIt (on Channel.D)
     (by-either (movable_on config Channel.C s) _ d IsIt (on Channel.C)
     (by-either (movable_on config Channel.B s) _ d IsIt (on Channel.B) (on Channel.A)))) next
-  where
-    IsIt : Type 0
-    IsIt = is_movable config d.0.0 d.1 s ≡ true
-
-    on : (ch : Channel) → movable_on config ch s ≡ Some d → IsIt
-    on ch e = first-some config ch 0 (length config.clients.items) s d e
 
 -- ---- a channel without a beat
 

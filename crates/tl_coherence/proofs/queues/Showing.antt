@@ -158,10 +158,9 @@ pub none-carried : (caching : ℕ → Bool) (b : Block (List ℕ)) → IsWell ca
     → ((d : ℕ) → (same_perm (b.pair d).held Perm.Trunk || same_perm (b.pair d).recorded Perm.None) ≡ true)
     → (k : Kind) (d : ℕ) → carries k d b ≡ false
 none-carried caching b well low k d =
+    let is : (i : ℕ) → (not (is_told (b.pair i)) && not (is_granting (view b.service i))) ≡ true =
+    λ i. untold (b.pair i) (view b.service i) (well.phases i) (low i) in
     uncarried k d b (not-true (is_told (b.pair d))
     (and_left (not (is_told (b.pair d))) (not (is_granting (view b.service d))) (is d)))
     (ungiven b.service (λ i. not-true (is_granting (view b.service i))
     (and_right (not (is_told (b.pair i))) (not (is_granting (view b.service i))) (is i))))
-  where
-    is : (i : ℕ) → (not (is_told (b.pair i)) && not (is_granting (view b.service i))) ≡ true
-    is i = untold (b.pair i) (view b.service i) (well.phases i) (low i)

@@ -85,6 +85,13 @@ module _ {w : ℕ} (config : Config) (caching : ℕ → Bool) (n : ℕ) (moves :
       → probes_weight number size left' n (s'.block n) + 1 ≤ probes_weight number size left n (s.block n)
       → rank config size left' answer s' + 1 ≤ rank config size left answer s
   service-falls q own source k waits served uses lets acks acquiring letting less =
+      let none_more : IsNoMore config size left left' answer answer s s' = record {
+        uses = λ d i. use-stays config caching n moves mail mail' s s' showing c ch rest rest' popped size answer block
+            d i (uses d i);
+        lets = λ d i. let-all config caching n moves mail mail' s s' showing c ch rest rest' popped size answer block d
+            i (lets d i);
+        acks = acks;
+      } in
       use-falls config size left left' answer answer s s' q who.at (all.clients q who.at (open_use own n _ who.used))
       (all.sources q who.at (open_use own n _ who.used)) none_more (strict own who.used waits)
     where
@@ -101,15 +108,6 @@ module _ {w : ℕ} (config : Config) (caching : ℕ → Bool) (n : ℕ) (moves :
             answer d n
             (wants-used caching s showing.before d i n e) (acquiring d) (ap (λ (x : Service). view x d) served) no_more;
         lets = λ d i e f. letting d i e;
-      }
-
-      none_more : IsNoMore config size left left' answer answer s s'
-      none_more = record {
-        uses = λ d i. use-stays config caching n moves mail mail' s s' showing c ch rest rest' popped size answer block
-            d i (uses d i);
-        lets = λ d i. let-all config caching n moves mail mail' s s' showing c ch rest rest' popped size answer block d
-            i (lets d i);
-        acks = acks;
       }
 
       strict : (o : Bool) → s.uses q who.at ≡ (if o then Acquires n else InService n)
@@ -169,6 +167,7 @@ module _ {w : ℕ} (config : Config) (caching : ℕ → Bool) (n : ℕ) (moves :
       (beats_left mail s rest) n c ((s.block n).pair c)
       → rank config size (beats_left mail' s' rest') answer s' + 1 ≤ rank config size (beats_left mail s rest) answer s
   pair-falls lt probed served others acquiring letting uses lets acks less =
+      let who : IsWaited (s.block n).service = waited-probing caching s c n showing.before probed in
       service-falls config caching n moves mail mail' s s' showing c ch rest rest' popped size answer all who.client
       who.own who.source who.cap who.is served uses lets acks
       (λ d. wanted d (cases_eq d c)) (λ d i e. let-stays config caching n moves mail mail' s s' showing c ch rest rest'
@@ -178,9 +177,6 @@ module _ {w : ℕ} (config : Config) (caching : ℕ → Bool) (n : ℕ) (moves :
       (λ d. pair_weight size (beats_left mail' s' rest') n d ((s'.block n).pair d)) lt (λ d h. each d (cases_eq d c))
       less)
     where
-      who : IsWaited (s.block n).service
-      who = waited-probing caching s c n showing.before probed
-
       wanted : (d : ℕ) → (d ≡ c) ⊎ (d ≡ c → ⊥) → ((s'.block n).pair d).acquiring ≡ ((s.block n).pair d).acquiring
       wanted d (inl same) = rw same acquiring
       wanted d (inr differs) = rw (others d differs) refl
@@ -200,22 +196,21 @@ module _ {w : ℕ} (config : Config) (caching : ℕ → Bool) (n : ℕ) (moves :
   -- a block that is as before owes no more
   pub block-same : (s'.block n ≡ s.block n) → IsBlockNoMore config caching n moves mail mail' s s' showing c ch rest
       rest' popped size answer
-  block-same same = record {
-    serves = λ d i e f. probes;
-    acquires = λ d i e f. acquire-stays config caching n moves mail mail' s s' showing c ch rest rest' popped size
-        answer d n
-        (wants-used caching s showing.before d i n e) (rw same refl) (rw same refl) probes;
-    lets = λ d i e f. let-stays config caching n moves mail mail' s s' showing c ch rest rest' popped size answer d n
-        (rw same refl);
-  }
-    where
-      probes : probes_weight (length config.clients.items) size (beats_left mail' s' rest') n
-          (s'.block n) ≤ probes_weight (length config.clients.items) size (beats_left mail s rest) n (s.block n)
-      probes = total-le (length config.clients.items) (λ d. pair_weight size (beats_left mail' s' rest') n d
-          ((s'.block n).pair d))
-          (λ d. pair_weight size (beats_left mail s rest) n d ((s.block n).pair d))
-          (λ d lt. pair-stays config caching n moves mail mail' s s' showing c ch rest rest' popped size answer d n
-          (rw same refl) (rw same refl))
+  block-same same =
+      let probes : probes_weight (length config.clients.items) size (beats_left mail' s' rest') n (s'.block n)
+      ≤ probes_weight (length config.clients.items) size (beats_left mail s rest) n (s.block n) =
+      total-le (length config.clients.items) (λ d. pair_weight size (beats_left mail' s' rest') n d
+      ((s'.block n).pair d)) (λ d. pair_weight size (beats_left mail s rest) n d ((s.block n).pair d))
+      (λ d lt. pair-stays config caching n moves mail mail' s s' showing c ch rest rest' popped size answer d n
+      (rw same refl) (rw same refl)) in
+      record {
+        serves = λ d i e f. probes;
+        acquires = λ d i e f. acquire-stays config caching n moves mail mail' s s' showing c ch rest rest' popped size
+            answer d n
+            (wants-used caching s showing.before d i n e) (rw same refl) (rw same refl) probes;
+        lets = λ d i e f. let-stays config caching n moves mail mail' s s' showing c ch rest rest' popped size answer d n
+            (rw same refl);
+      }
 
   module _ (block : IsBlockNoMore config caching n moves mail mail' s s' showing c ch rest rest' popped size answer)
     where

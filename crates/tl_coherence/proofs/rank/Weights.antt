@@ -105,11 +105,10 @@ module _ {X : Type 0} (caching : ℕ → Bool) (s : State X) (inv : IsInvariant 
       → (((d : ℕ) → d < clients → pair_weight n left m d ((s.block m).pair d) ≤ 2)
       → probes_weight clients n left m (s.block m) ≤ bound) → probes_weight clients n left m (s.block m) ≤ bound
   unfolding writes_probed
-  probes-within m bound wide light = go (some_below clients (writes_probed m)) refl
+  probes-within m bound wide light =
+      let weight : ℕ → ℕ = λ d. pair_weight n left m d ((s.block m).pair d) in
+      go (some_below clients (writes_probed m)) refl
     where
-      weight : ℕ → ℕ
-      weight d = pair_weight n left m d ((s.block m).pair d)
-
       go : (b : Bool) → some_below clients (writes_probed m) ≡ b
           → total clients (λ d. pair_weight n left m d ((s.block m).pair d)) ≤ bound
       go false none = light (λ d lt. each d (is_unprobed ((s.block m).pair d).probing) refl
@@ -132,6 +131,8 @@ module _ {X : Type 0} (caching : ℕ → Bool) (s : State X) (inv : IsInvariant 
               → is_unprobed ((s.block m).pair d).probing ≡ false
               → total clients (λ i. pair_weight n left m i ((s.block m).pair i)) ≤ bound
           alone d trunk probed =
+              let at_most : (d : ℕ) → total clients (λ i. if i == d then n + 1 else 0) ≤ n + 1 =
+              λ d. one-at-most clients d (n + 1) in
               let others = total-le clients (λ i. pair_weight n left m i ((s.block m).pair i))
               (λ i. if i == d then n + 1 else 0) (λ i lt. at i (cases_eq i d)) in
               omega (arith, others, at_most d, few, wide)
@@ -144,9 +145,6 @@ module _ {X : Type 0} (caching : ℕ → Bool) (s : State X) (inv : IsInvariant 
                   let z = quiet-pair n (left i ProbeAck m) ((s.block m).pair i).recorded ((s.block m).pair i).probing
                   ((inv.blocks m).alone d i trunk probed ne) in
                   rw (ne_eqb i d ne) (omega (arith, z))
-
-              at_most : (d : ℕ) → total clients (λ i. if i == d then n + 1 else 0) ≤ n + 1
-              at_most d = one-at-most clients d (n + 1)
 
   pub probes-few : (m : ℕ) → probes_weight clients n left m (s.block m) ≤ 32
   probes-few m = probes-within m 32 (omega arith)
@@ -209,6 +207,7 @@ module _ {X : Type 0} (caching : ℕ → Bool) (s : State X) (inv : IsInvariant 
       ≤ (n + 33) * (total sources (λ i. one_if (is_used (s.uses c i))) + length (s.link c).e) + (n + 1) * total sources
       (λ i. one_if (is_let (s.lets c i)))
   client-few sources c =
+      let one-each : (k l : ℕ) → 1 ≤ k → l ≤ k * l = λ k l le. grind (arith, le) in
       let uses = times-total (n + 33) sources (λ i. use_weight clients n left answer s c i (s.uses c i))
       (λ i. one_if (is_used (s.uses c i))) (λ i. use-few c i (s.uses c i) refl) in
       let lets = times-total (n + 1) sources (λ i. let_weight left s c (s.lets c i)) (λ i. one_if (is_let (s.lets c i)))
@@ -218,9 +217,6 @@ module _ {X : Type 0} (caching : ℕ → Bool) (s : State X) (inv : IsInvariant 
       ≡ (n + 33) * total sources
       (λ i. one_if (is_used (s.uses c i))) + (n + 33) * length (s.link c).e = grind arith in
       omega (arith, uses, lets, acks, split)
-    where
-      one-each : (k l : ℕ) → 1 ≤ k → l ≤ k * l
-      one-each k l le = grind (arith, le)
 
   pub potential-few : (config : Config) → length config.clients.items ≡ clients
       → rank config n left answer s ≤ (n + 33) * open_requests config s + (n + 1) * open_releases config s

@@ -179,12 +179,10 @@ pub block_stored-carried : {w : ℕ} (caching : ℕ → Bool) (c n : ℕ) (bytes
     → ((k : Kind) (d : ℕ) → carries k d (s.block n) ≡ false) → IsHanded (pushes_at c (pushes_of None)) sys sys'
     → ChannelRelation mail s sys → ChannelRelation mail (block_stored c n bytes s) sys'
 block_stored-carried {w} caching c n bytes mail s sys sys' width inv inv' none handed h =
+    let new : Block (List ℕ) = stored_block c bytes (s.block n) in
     carried-event caching n still_moves mail mail s (block_stored c n bytes s) sys sys' width
     (showing-block caching n new still_moves mail mail s (block_stored c n bytes s) inv inv' (λ d ch. refl) (λ i. refl)
     (alike-bytes (s.block n) new refl refl refl refl refl (λ k d. inl (none k d))) (λ d i e f. refl) (λ d i e f. refl))
     (queued-handed (pushes_at c (pushes_of None)) still_moves mail (block_stored c n bytes s) sys sys' handed
     (λ d at. no_push (d == c) (λ k i. message_of mail (block_stored c n bytes s) d (packet k i))))
     h
-  where
-    new : Block (List ℕ)
-    new = stored_block c bytes (s.block n)

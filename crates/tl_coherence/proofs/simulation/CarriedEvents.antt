@@ -30,20 +30,19 @@ pub access_answered-shown : {w : ℕ} (caching : ℕ → Bool) (c n source : ℕ
     → ((k : Kind) (d : ℕ) → (carries k d (s.block n) ≡ false) ⊎ (f (s.block n).truth ≡ (s.block n).truth))
     → channel_of_message m ≡ Channel.D → IsShown caching n c Channel.A (pushes_at c (pushes_of (Some m))) mail
     (record { request = mail.request; answer = set_at c source m mail.answer }) s (access_answered c n source f rest s)
-access_answered-shown {w} caching c n source f rest m mail s inv inv' first used bytes chan = record {
-  moves = (moves_at c (answer_moves source));
-  showing = showing-block caching n new (moves_at c (answer_moves source)) mail mail' s s' inv inv'
-      (moved-at c (answer_moves source) (answered_link (packet Answer source) rest (s.link c)) s.link moved) (λ i. refl)
-      (alike-bytes (s.block n) new refl refl refl refl refl bytes) (λ d i e g. refl)
-      (λ d i e g. answers d i e (cases_eq d c) (cases_eq i source));
-  fits = fits-at c Channel.A (pushes_of (Some m)) (answer_moves source) (λ d k i. message_of mail' s' d (packet k i))
-      (λ at. fits_pushed (same_channel at Channel.A) m Channel.D at (answer_moves source at)
-      (λ k i. message_of mail' s' c (packet k i)) chan (fits at));
-}
+access_answered-shown {w} caching c n source f rest m mail s inv inv' first used bytes chan =
+    let new : Block (List ℕ) = performed_block f (s.block n) in
+    record {
+      moves = (moves_at c (answer_moves source));
+      showing = showing-block caching n new (moves_at c (answer_moves source)) mail mail' s s' inv inv'
+          (moved-at c (answer_moves source) (answered_link (packet Answer source) rest (s.link c)) s.link moved) (λ i. refl)
+          (alike-bytes (s.block n) new refl refl refl refl refl bytes) (λ d i e g. refl)
+          (λ d i e g. answers d i e (cases_eq d c) (cases_eq i source));
+      fits = fits-at c Channel.A (pushes_of (Some m)) (answer_moves source) (λ d k i. message_of mail' s' d (packet k i))
+          (λ at. fits_pushed (same_channel at Channel.A) m Channel.D at (answer_moves source at)
+          (λ k i. message_of mail' s' c (packet k i)) chan (fits at));
+    }
   where
-    new : Block (List ℕ)
-    new = performed_block f (s.block n)
-
     mail' : AccessMessages w
     mail' = record { request = mail.request; answer = set_at c source m mail.answer }
 
@@ -138,17 +137,16 @@ pub report_taken-shown : {w : ℕ} (caching : ℕ → Bool) (c n : ℕ) (r : Rep
     (mail : AccessMessages w) (s : State (List ℕ)) → IsInvariant caching s
     → IsInvariant caching (report_taken c n r rest s) → (s.link c).c ≡ packet ProbeAck n ∷ rest
     → IsShown caching n c Channel.C (λ d at. None) mail mail s (report_taken c n r rest s)
-report_taken-shown {w} caching c n r rest mail s inv inv' first = record {
-  moves = (moves_at c (report_moves n));
-  showing = showing-block caching n new (moves_at c (report_moves n)) mail mail s s' inv inv'
-      (moved-at c (report_moves n) (record (s.link c) { c = rest }) s.link moved) (λ i. refl)
-      (alike-reported c r (s.block n)) (λ i j e f. refl) (λ i j e f. refl);
-  fits = λ d at. fits d at (d == c);
-}
+report_taken-shown {w} caching c n r rest mail s inv inv' first =
+    let new : Block (List ℕ) = reported_block c r (s.block n) in
+    record {
+      moves = (moves_at c (report_moves n));
+      showing = showing-block caching n new (moves_at c (report_moves n)) mail mail s s' inv inv'
+          (moved-at c (report_moves n) (record (s.link c) { c = rest }) s.link moved) (λ i. refl)
+          (alike-reported c r (s.block n)) (λ i j e f. refl) (λ i j e f. refl);
+      fits = λ d at. fits d at (d == c);
+    }
   where
-    new : Block (List ℕ)
-    new = reported_block c r (s.block n)
-
     s' : State (List ℕ)
     s' = report_taken c n r rest s
 

@@ -71,44 +71,33 @@ pub report_answers-shown : {w : ℕ} (caching : ℕ → Bool) (c q n source : �
     → IsShown caching n c Channel.C (pushes_at q (pushes_of (Some m))) mail
     (record { request = mail.request; answer = set_at q source m mail.answer }) s
     (report_answers c q n source r f rest s)
-report_answers-shown {w} caching c q n source r k f rest m mail s inv inv' first waits used bytes chan = record {
-  moves = moves;
-  showing = showing-block caching n new moves mail mail' s s' inv inv' (λ d ch. moved d ch) (λ i. refl)
-      (alike-ended c q source r k f (s.block n) waits bytes) (λ d i e g. refl)
-      (λ d i e g. answers d i e (cases_eq d q) (cases_eq i source));
-  fits = λ d at. fits d at;
-}
+report_answers-shown {w} caching c q n source r k f rest m mail s inv inv' first waits used bytes chan =
+    let new : Block (List ℕ) = ended_block c r f (s.block n) in
+    let mail' : AccessMessages w = record { request = mail.request; answer = set_at q source m mail.answer } in
+    let s' : State (List ℕ) = report_answers c q n source r f rest s in
+    let moves : ℕ → Channel → Move = λ d. ended_move (d == c) (d == q) n source in
+    let moved : (d : ℕ) (ch : Channel) → IsMoved (moves d ch) (packets_on ch (s.link d)) (packets_on ch (s'.link d)) =
+    λ d ch. rw (popped_is c d rest s.link) (ended_moved ch (d == c) (d == q) n source (s.link d) rest
+    (first_of_c c d (packet ProbeAck n) rest s.link first)) in
+    let answer_is : (d : ℕ) → (d == q) ≡ true → set_at q source m mail.answer d source ≡ m =
+    λ d e. rw (e, same_number source) refl in
+    let fits : (d : ℕ) (at : Channel) → Fits ((d == c) && same_channel at Channel.C) (pushes_at q (pushes_of (Some m)) d
+    at) (moves d at) (λ j l. message_of mail' s' d (packet j l)) = λ d at. rw chan (ended_fits n source m at (d ==
+    c) (d == q) (λ j l. message_of mail' s' d (packet j l)) (answer_is d)) in
+    record {
+      moves = moves;
+      showing = showing-block caching n new moves mail mail' s s' inv inv' (λ d ch. moved d ch) (λ i. refl)
+          (alike-ended c q source r k f (s.block n) waits bytes) (λ d i e g. refl)
+          (λ d i e g. answers d i e (cases_eq d q) (cases_eq i source));
+      fits = λ d at. fits d at;
+    }
   where
-    new : Block (List ℕ)
-    new = ended_block c r f (s.block n)
-
-    mail' : AccessMessages w
-    mail' = record { request = mail.request; answer = set_at q source m mail.answer }
-
-    s' : State (List ℕ)
-    s' = report_answers c q n source r f rest s
-
-    moves : ℕ → Channel → Move
-    moves d = ended_move (d == c) (d == q) n source
-
-    moved : (d : ℕ) (ch : Channel) → IsMoved (moves d ch) (packets_on ch (s.link d)) (packets_on ch (s'.link d))
-    moved d ch = rw (popped_is c d rest s.link) (ended_moved ch (d == c) (d == q) n source (s.link d) rest
-        (first_of_c c d (packet ProbeAck n) rest s.link first))
-
     answers : (d i : ℕ) → is_replied (s.uses d i) ≡ true → (d ≡ q) ⊎ (d ≡ q → ⊥) → (i ≡ source) ⊎ (i ≡ source → ⊥)
         → set_at q source m mail.answer d i ≡ mail.answer d i
     answers d i e (inl same) (inl also) = absurd (let g : is_replied (s.uses q source) ≡ true = rw (same, also) at e in
         let no : false ≡ true = sym used ∙ g in cc)
     answers d i e (inl same) (inr other) = rw (same, same_number q, ne_eqb i source other) refl
     answers d i e (inr other) j = rw (ne_eqb d q other) refl
-
-    answer_is : (d : ℕ) → (d == q) ≡ true → set_at q source m mail.answer d source ≡ m
-    answer_is d e = rw (e, same_number source) refl
-
-    fits : (d : ℕ) (at : Channel) → Fits ((d == c) && same_channel at Channel.C) (pushes_at q (pushes_of (Some m)) d at)
-        (moves d at) (λ j l. message_of mail' s' d (packet j l))
-    fits d at = rw chan (ended_fits n source m at (d == c) (d == q) (λ j l. message_of mail' s' d (packet j l))
-        (answer_is d))
 
 -- ---- the last report, for which an Acquire is granted
 
@@ -196,29 +185,23 @@ pub report_grants-shown : {w : ℕ} (caching : ℕ → Bool) (c q n source : ℕ
     → channel_of_message m ≡ Channel.D
     → block_message Grant q n (granted_block c q r d gift (s.block n)) ≡ m
     → IsShown caching n c Channel.C (pushes_at q (pushes_of (Some m))) mail mail s (report_grants c q n r d gift rest s)
-report_grants-shown {w} caching c q n source r d k gift rest m mail s inv inv' first waits apart chan is = record {
-  moves = moves;
-  showing = showing-block caching n new moves mail mail s s' inv inv'
-      (λ i ch. granted_moved n c q i ch rest s.link apart first) (λ i. refl)
-      (alike-granted c q source r true d k gift (s.block n) waits apart) (λ i j e f. refl) (λ i j e f. refl);
-  fits = λ i at. fits i at;
-}
-  where
-    new : Block (List ℕ)
-    new = granted_block c q r d gift (s.block n)
-
-    s' : State (List ℕ)
-    s' = report_grants c q n r d gift rest s
-
-    moves : ℕ → Channel → Move
-    moves i = granted_moves n c q i
-
-    grant_is : (i : ℕ) → (i == q) ≡ true → block_message {w = w} Grant i n (set n new s.block n) ≡ m
-    grant_is i e = elim (cases_eq i q) [
+report_grants-shown {w} caching c q n source r d k gift rest m mail s inv inv' first waits apart chan is =
+    let new : Block (List ℕ) = granted_block c q r d gift (s.block n) in
+    let s' : State (List ℕ) = report_grants c q n r d gift rest s in
+    let moves : ℕ → Channel → Move = λ i. granted_moves n c q i in
+    let grant_is : (i : ℕ) → (i == q) ≡ true → block_message {w = w} Grant i n (set n new s.block n) ≡ m =
+    λ i e. elim (cases_eq i q) [
       | inl same ↦ rw same (ap (block_message Grant q n) (set-same n new s.block) ∙ is)
       | inr other ↦ absurd (let f : false ≡ true = sym (ne_eqb i q other) ∙ e in cc)
-    ]
-
-    fits : (i : ℕ) (at : Channel) → Fits ((i == c) && same_channel at Channel.C) (pushes_at q (pushes_of (Some m)) i at)
-        (moves i at) (λ j l. message_of mail s' i (packet j l))
-    fits i at = rw chan (granted_fits n m at c q i (λ j l. message_of mail s' i (packet j l)) (grant_is i))
+    ] in
+    let fits : (i : ℕ) (at : Channel)
+    → Fits ((i == c) && same_channel at Channel.C) (pushes_at q (pushes_of (Some m)) i at) (moves i at)
+    (λ j l. message_of mail s' i (packet j l)) =
+    λ i at. rw chan (granted_fits n m at c q i (λ j l. message_of mail s' i (packet j l)) (grant_is i)) in
+    record {
+      moves = moves;
+      showing = showing-block caching n new moves mail mail s s' inv inv'
+          (λ i ch. granted_moved n c q i ch rest s.link apart first) (λ i. refl)
+          (alike-granted c q source r true d k gift (s.block n) waits apart) (λ i j e f. refl) (λ i j e f. refl);
+      fits = λ i at. fits i at;
+    }

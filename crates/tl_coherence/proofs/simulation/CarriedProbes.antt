@@ -217,39 +217,30 @@ served-shown : {w : ℕ} (caching : ℕ → Bool) (r n : ℕ) (own : Bool) (sour
     → ((d : ℕ) → s'.link d ≡ served_link r own n k rest (s.block n) s.link d)
     → IsShown caching n r Channel.A (probe_pushes n k (λ d. is_probed r own k ((s.block n).pair d).recorded d)) mail
     mail s s'
-served-shown {w} caching r n own source tracker k rest mail s s' inv inv' first free blocks links = record {
-  moves = moves;
-  showing = showing-block caching n new moves mail mail s s' inv inv' (λ d ch. moved d ch) blocks
-      (alike-served caching r own source tracker k (s.block n) (inv.blocks n) free) (λ i j e f. refl) (λ i j e f. refl);
-  fits = λ d at. fits d at;
-}
-  where
-    new : Block (List ℕ)
-    new = served_block r own source tracker k (s.block n)
-
-    test : ℕ → Bool
-    test d = is_probed r own k ((s.block n).pair d).recorded d
-
-    moves : ℕ → Channel → Move
-    moves = served_moves r own n source k (s.block n).pair
-
-    first_at : (d : ℕ) → (d == r) ≡ true → (s.link d).a ≡ packet (kind_served own) (number_served own n source) ∷ rest
-    first_at d e = elim (cases_eq d r) [
+served-shown {w} caching r n own source tracker k rest mail s s' inv inv' first free blocks links =
+    let new : Block (List ℕ) = served_block r own source tracker k (s.block n) in
+    let test : ℕ → Bool = λ d. is_probed r own k ((s.block n).pair d).recorded d in
+    let moves : ℕ → Channel → Move = served_moves r own n source k (s.block n).pair in
+    let first_at : (d : ℕ) → (d == r) ≡ true → (s.link d).a ≡ packet (kind_served own) (number_served own n source)
+    ∷ rest = λ d e. elim (cases_eq d r) [
       | inl same ↦ rw same first
       | inr other ↦ absurd (let f : false ≡ true = sym (ne_eqb d r other) ∙ e in cc)
-    ]
-
-    moved : (d : ℕ) (ch : Channel) → IsMoved (moves d ch) (packets_on ch (s.link d)) (packets_on ch (s'.link d))
-    moved d ch = rw (links d) (served_moved ch (d == r) (test d) (kind_served own) (number_served own n source) n
-        (s.link d) rest (first_at d))
-
-    render_is : (d : ℕ) → test d ≡ true → block_message {w = w} Probe d n (s'.block n) ≡ probe_of_block n k
-    render_is d e = cc (blocks n, set-same n new s.block, sent_rendered r own source tracker n k d (s.block n) e)
-
-    fits : (d : ℕ) (at : Channel) → Fits ((d == r) && same_channel at Channel.A) (probe_pushes n k test d at)
-        (moves d at) (λ j l. message_of mail s' d (packet j l))
-    fits d at = rw (pushes_is {w = w} n k test d at) (served_fits n k at (d == r) (test d) (kind_served own)
-        (number_served own n source) (λ j l. message_of mail s' d (packet j l)) (render_is d))
+    ] in
+    let moved : (d : ℕ) (ch : Channel) → IsMoved (moves d ch) (packets_on ch (s.link d)) (packets_on ch (s'.link d)) =
+    λ d ch. rw (links d) (served_moved ch (d == r) (test d) (kind_served own) (number_served own n source) n
+    (s.link d) rest (first_at d)) in
+    let render_is : (d : ℕ) → test d ≡ true → block_message {w = w} Probe d n (s'.block n) ≡ probe_of_block n k =
+    λ d e. cc (blocks n, set-same n new s.block, sent_rendered r own source tracker n k d (s.block n) e) in
+    let fits : (d : ℕ) (at : Channel) → Fits ((d == r) && same_channel at Channel.A) (probe_pushes n k test d at)
+    (moves d at) (λ j l. message_of mail s' d (packet j l)) =
+    λ d at. rw (pushes_is {w = w} n k test d at) (served_fits n k at (d == r) (test d) (kind_served own)
+    (number_served own n source) (λ j l. message_of mail s' d (packet j l)) (render_is d)) in
+    record {
+      moves = moves;
+      showing = showing-block caching n new moves mail mail s s' inv inv' (λ d ch. moved d ch) blocks
+          (alike-served caching r own source tracker k (s.block n) (inv.blocks n) free) (λ i j e f. refl) (λ i j e f. refl);
+      fits = λ d at. fits d at;
+    }
 
 pub acquire_served-shown : {w : ℕ} (caching : ℕ → Bool) (r n source tracker : ℕ) (k : Cap) (rest : List Packet)
     (mail : AccessMessages w) (s : State (List ℕ))

@@ -52,17 +52,16 @@ pub release_ack_taken-shown : {w : ℕ} (caching : ℕ → Bool) (c n : ℕ) (re
     (s : State (List ℕ)) → IsInvariant caching s
     → IsInvariant caching (release_ack_taken c n rest s) → (s.link c).d ≡ packet ReleaseAck n ∷ rest
     → IsShown caching n c Channel.D (pushes_at c (pushes_of None)) mail mail s (release_ack_taken c n rest s)
-release_ack_taken-shown {w} caching c n rest mail s inv inv' first = record {
-  moves = (moves_at c (let_go_moves n));
-  showing = showing-block caching n new (moves_at c (let_go_moves n)) mail mail s s' inv inv'
-      (moved-at c (let_go_moves n) (record (s.link c) { d = rest }) s.link moved) (λ i. refl)
-      (alike-let_go c (s.block n)) (λ i j e f. refl) (λ i j e f. refl);
-  fits = fits-at c Channel.D (pushes_of None) (let_go_moves n) (λ i j l. message_of mail s' i (packet j l)) fits;
-}
+release_ack_taken-shown {w} caching c n rest mail s inv inv' first =
+    let new : Block (List ℕ) = let_go_block c (s.block n) in
+    record {
+      moves = (moves_at c (let_go_moves n));
+      showing = showing-block caching n new (moves_at c (let_go_moves n)) mail mail s s' inv inv'
+          (moved-at c (let_go_moves n) (record (s.link c) { d = rest }) s.link moved) (λ i. refl)
+          (alike-let_go c (s.block n)) (λ i j e f. refl) (λ i j e f. refl);
+      fits = fits-at c Channel.D (pushes_of None) (let_go_moves n) (λ i j l. message_of mail s' i (packet j l)) fits;
+    }
   where
-    new : Block (List ℕ)
-    new = let_go_block c (s.block n)
-
     s' : State (List ℕ)
     s' = release_ack_taken c n rest s
 
@@ -117,17 +116,16 @@ pub grant_ack_taken-shown : {w : ℕ} (caching : ℕ → Bool) (c n : ℕ) (rest
     → IsInvariant caching (grant_ack_taken c n rest s) → (s.link c).e ≡ packet GrantAck n ∷ rest
     → (s.block n).service ≡ GrantTaken c
     → IsShown caching n c Channel.E (λ d at. None) mail mail s (grant_ack_taken c n rest s)
-grant_ack_taken-shown {w} caching c n rest mail s inv inv' first sent = record {
-  moves = (moves_at c (freed_moves n));
-  showing = showing-block caching n new (moves_at c (freed_moves n)) mail mail s s' inv inv'
-      (moved-at c (freed_moves n) (record (s.link c) { e = rest }) s.link moved) (λ i. refl)
-      (alike-freed c (s.block n) sent) (λ i j e f. refl) (λ i j e f. refl);
-  fits = λ d at. fits d at (d == c);
-}
+grant_ack_taken-shown {w} caching c n rest mail s inv inv' first sent =
+    let new : Block (List ℕ) = freed_block (s.block n) in
+    record {
+      moves = (moves_at c (freed_moves n));
+      showing = showing-block caching n new (moves_at c (freed_moves n)) mail mail s s' inv inv'
+          (moved-at c (freed_moves n) (record (s.link c) { e = rest }) s.link moved) (λ i. refl)
+          (alike-freed c (s.block n) sent) (λ i j e f. refl) (λ i j e f. refl);
+      fits = λ d at. fits d at (d == c);
+    }
   where
-    new : Block (List ℕ)
-    new = freed_block (s.block n)
-
     s' : State (List ℕ)
     s' = grant_ack_taken c n rest s
 

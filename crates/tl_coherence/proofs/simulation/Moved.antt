@@ -111,14 +111,12 @@ pub client-moves : {w : ℕ} (config : Config) (link : Link) (ch : Channel) (sys
     → is_moving (stepped config (Deliver link ch) sys).outcome ≡ true
     → IsTakenByClient terms link.0 ch x queue sys (stepped config (Deliver link ch) sys)
 client-moves {w} config link ch sys terms x queue known first up moving =
+    let same : (a b : Step w) → a ≡ b → IsTakenByClient terms link.0 ch x queue sys b
+    → IsTakenByClient terms link.0 ch x queue sys a = λ a b e h. rw e h in
     let step = stepped-to-client config link ch sys terms x queue known first up in
     same (stepped config (Deliver link ch) sys)
     (client_took link.0 ch x queue (offer.offered terms ch x (sys.clients link.0)) sys) step
     (client_moves terms link.0 ch x queue sys (ap (λ (y : Step w). is_moving y.outcome) (sym step) ∙ moving))
-  where
-    same : (a b : Step w) → a ≡ b → IsTakenByClient terms link.0 ch x queue sys b
-        → IsTakenByClient terms link.0 ch x queue sys a
-    same a b e h = rw e h
 
 pub client-heard : {w : ℕ} (terms : client.EndConfig) (c : ℕ) (ch : Channel) (x : Beat w) (queue : List (Beat w))
     (sys : System w) (step : Step w) → IsWidth w → client_kept.IsEndpointInvariant (sys.clients c)
@@ -184,14 +182,12 @@ pub manager-moves : {w : ℕ} (config : Config) (link : Link) (ch : Channel) (sy
     → is_moving (stepped config (Deliver link ch) sys).outcome ≡ true
     → IsTakenByManager config link ch x queue sys (stepped config (Deliver link ch) sys)
 manager-moves {w} config link ch sys terms x queue known first down moving =
+    let same : (a b : Step w) → a ≡ b → IsTakenByManager config link ch x queue sys b
+    → IsTakenByManager config link ch x queue sys a = λ a b e h. rw e h in
     let step = stepped-to-manager config link ch sys terms x queue known first down in
     same (stepped config (Deliver link ch) sys)
     (manager_took link.0 ch x queue (manager_offer.offered config link ch x sys.manager) sys) step
     (manager_moves config link ch x queue sys (ap (λ (y : Step w). is_moving y.outcome) (sym step) ∙ moving))
-  where
-    same : (a b : Step w) → a ≡ b → IsTakenByManager config link ch x queue sys b
-        → IsTakenByManager config link ch x queue sys a
-    same a b e h = rw e h
 
 pub manager-heard : {w : ℕ} (config : Config) (link : Link) (ch : Channel) (x : Beat w) (queue : List (Beat w))
     (sys : System w) (step : Step w) → IsWidth w

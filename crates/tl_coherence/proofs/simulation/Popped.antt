@@ -62,23 +62,21 @@ pub popped-received : {w : ℕ} (c : ℕ) (ch : Channel) (pushes : ℕ → Chann
     → ((d : ℕ) (at : Channel) → Fits ((d == c) && same_channel at ch) (pushes d at) (moves d at) (render d))
     → ((d : ℕ) → AreMoved (moves d) (s.link d) (s'.link d))
     → IsPopped c ch moves (unfinished_at sys) (unfinished_at sys') s s'
-popped-received {w} c ch pushes moves render s s' sys sys' received fits moved = record {
-  first = head.first;
-  tokens = head.is;
-  none = received c ch ∙ ap (λ (b : Bool). if b then [] else unfinished_at sys c ch) here;
-  unpopped = λ d at ne. not_popped (pushes d at) (moves d at) (render d)
-      (fits_by ((d == c) && same_channel at ch) false (pushes d at) (moves d at) (render d) (elsewhere c d ch at ne)
-      (fits d at));
-  rests = λ d at ne. cc (received d at, elsewhere c d ch at ne);
-}
-  where
-    here : ((c == c) && same_channel ch ch) ≡ true
-    here = rw (same_number c, same_channel-refl ch) refl
-
-    head : IsHead (packets_on ch (s.link c)) (packets_on ch (s'.link c))
-    head = popped_first (pushes c ch) (moves c ch) (render c) (packets_on ch (s.link c)) (packets_on ch (s'.link c))
-        (fits_by ((c == c) && same_channel ch ch) true (pushes c ch) (moves c ch) (render c) here (fits c ch))
-        (moved c ch)
+popped-received {w} c ch pushes moves render s s' sys sys' received fits moved =
+    let here : ((c == c) && same_channel ch ch) ≡ true = rw (same_number c, same_channel-refl ch) refl in
+    let head : IsHead (packets_on ch (s.link c)) (packets_on ch (s'.link c)) =
+    popped_first (pushes c ch) (moves c ch) (render c) (packets_on ch (s.link c)) (packets_on ch (s'.link c))
+    (fits_by ((c == c) && same_channel ch ch) true (pushes c ch) (moves c ch) (render c) here (fits c ch))
+    (moved c ch) in
+    record {
+      first = head.first;
+      tokens = head.is;
+      none = received c ch ∙ ap (λ (b : Bool). if b then [] else unfinished_at sys c ch) here;
+      unpopped = λ d at ne. not_popped (pushes d at) (moves d at) (render d)
+          (fits_by ((d == c) && same_channel at ch) false (pushes d at) (moves d at) (render d) (elsewhere c d ch at ne)
+          (fits d at));
+      rests = λ d at ne. cc (received d at, elsewhere c d ch at ne);
+    }
 
 -- ---- who has something open
 

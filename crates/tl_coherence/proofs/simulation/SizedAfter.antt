@@ -133,13 +133,11 @@ sized_acquire : {w : ℕ} (clients : ℕ) (p : Profile) (c n : ℕ) (x : Acquire
     → AllSized (acquire_taken clients p c n x tracker rest h).state
 sized_acquire clients p c n NoAcquire tracker rest h before = before
 sized_acquire {w} clients p c n (AcquireOpen whole g) tracker rest h before =
+    let b : Block (List ℕ) = h.state.block n in
     either _ _ _ (λ i. sized_block n _ h.state.block (sized_served c true (b.source c) tracker _ b (before n)) before i)
     (λ i. sized_block n _ h.state.block (sized_pair c (after_grant_sent _ (b.pair c)) b _ refl refl refl refl
     (before n)) before i)
   where
-    b : Block (List ℕ)
-    b = h.state.block n
-
     either : (x : Bool) (s t : State (List ℕ)) → AllSized s → AllSized t → AllSized (if x then s else t)
     either true s t f g = f
     either false s t f g = g

@@ -112,28 +112,26 @@ good-after {w} config log mail request s sys width h event typed =
         → AllGood config (with_messages (handed_by c (ask.asked terms o (sys.clients c)).message)
         (with_client c (ask.asked terms o (sys.clients c)).after sys))
     asked_good c o terms known typed_op =
+        let fitted : terms.blocks ≡ config.blocks → IsFitIfAny terms.blocks (ask.asked terms o (sys.clients c)).message
+        → IsFitIfAny config.blocks (ask.asked terms o (sys.clients c)).message =
+        λ e f. subst (λ (n : ℕ). IsFitIfAny n (ask.asked terms o (sys.clients c)).message) e f in
         one_good config c (ask.asked terms o (sys.clients c)).message
         (with_client c (ask.asked terms o (sys.clients c)).after sys) terms width known
         (asked-sound terms o (sys.clients c) width)
         (fitted (level-terms config c terms known).1
         (fit-asked terms o (sys.clients c) typed_op (copy-long config log mail request s sys h c))) before
-      where
-        fitted : terms.blocks ≡ config.blocks → IsFitIfAny terms.blocks (ask.asked terms o (sys.clients c)).message
-            → IsFitIfAny config.blocks (ask.asked terms o (sys.clients c)).message
-        fitted e f = subst (λ (n : ℕ). IsFitIfAny n (ask.asked terms o (sys.clients c)).message) e f
 
     offered_fit : (c : ℕ) (ch : Channel) (x : Beat w) (terms : client.EndConfig) → terms_at config c ≡ Some terms
         → IsFitAnswer config.blocks (offer.offered terms ch x (sys.clients c)).answer
     offered_fit c ch x terms known =
+        let fitted : terms.blocks ≡ config.blocks
+        → IsFitAnswer terms.blocks (offer.offered terms ch x (sys.clients c)).answer
+        → IsFitAnswer config.blocks (offer.offered terms ch x (sys.clients c)).answer =
+        λ e f. subst (λ (n : ℕ). IsFitAnswer n (offer.offered terms ch x (sys.clients c)).answer) e f in
         let same = (level-terms config c terms known).1 in
         fitted same (offered-cases terms ch x (sys.clients c) (λ o. IsFitAnswer terms.blocks o.answer) (λ rule. tt) tt
         (λ passed. fit-taken terms.blocks x (sys.clients c) passed.inside
         (copy-long config log mail request s sys h c)))
-      where
-        fitted : terms.blocks ≡ config.blocks
-            → IsFitAnswer terms.blocks (offer.offered terms ch x (sys.clients c)).answer
-            → IsFitAnswer config.blocks (offer.offered terms ch x (sys.clients c)).answer
-        fitted e f = subst (λ (n : ℕ). IsFitAnswer n (offer.offered terms ch x (sys.clients c)).answer) e f
 
     delivered_good : (c : ℕ) (ch : Channel) (terms : client.EndConfig) (beats : List (Beat w))
         → sys.channels c ch ≡ beats → terms_at config c ≡ Some terms
@@ -149,13 +147,11 @@ good-after {w} config log mail request s sys width h event typed =
             (offered-sound terms ch x (sys.clients c))
             (offered_fit c ch x terms known) first before
         to false =
+            let same : sys.channels c ch ≡ x ∷ queue → All (IsGood config c) (sys.channels c ch)
+            → All (IsGood config c) (x ∷ queue) = λ e f. rw e at f in
             let head : IsGood config c x = All-head (IsGood config c) x queue (same first (before c ch)) in
             manager_good config (record { 0 = c }) ch x queue (manager_offer.judged config (record { 0 = c }) ch x
             sys.manager) sys.manager sys width head.sound h.manager_kept.sound first before
-          where
-            same : sys.channels c ch ≡ x ∷ queue → All (IsGood config c) (sys.channels c ch)
-                → All (IsGood config c) (x ∷ queue)
-            same e f = rw e at f
 
     go : (o : Option client.EndConfig) → terms_at config (client_of event) ≡ o → (ev : Event w) → ev ≡ event
         → IsTyped ev → AllGood config (stepped_at config o ev sys).after

@@ -55,27 +55,20 @@ bytes_come : {w : ℕ} (o : Option Level) (m : MessageA w) (bytes : List ℕ) (b
     → illegal_message_at o (Message.A m) ≡ None → length bytes ≡ 2 ^ m.size
     → beats ≡ burst_of (Message.D (answer_message OpD.AccessAckData (as_payload (m.address % w) bytes) m))
     → take (2 ^ m.size) (drop (m.address % w) (payload_of beats)) ≡ bytes
-bytes_come {w} o m bytes beats width lawful long burst = cc (whole, long, bytes_again (m.address % w) bytes)
-  where
-    d : MessageD w
-    d = answer_message OpD.AccessAckData (as_payload (m.address % w) bytes) m
-
-    carried : m.address % w + 2 ^ m.size ≤ w * data_beats w m.size
-    carried = room_in_beats w m.size m.address width m.small (aligned o m width lawful)
-
-    room : w * data_beats w m.size ≤ 64
-    room = data_room w m.size width m.small
-
-    blank : IsBlankAfter (beats_of (Message.D d)) (Message.D d)
-    blank = (
+bytes_come {w} o m bytes beats width lawful long burst =
+    let d : MessageD w = answer_message OpD.AccessAckData (as_payload (m.address % w) bytes) m in
+    let carried : m.address % w + 2 ^ m.size ≤ w * data_beats w m.size =
+    room_in_beats w m.size m.address width m.small (aligned o m width lawful) in
+    let room : w * data_beats w m.size ≤ 64 = data_room w m.size width m.small in
+    let blank : IsBlankAfter (beats_of (Message.D d)) (Message.D d) = (
       payload-zero (m.address % w) (2 ^ m.size) (w * data_beats w m.size) bytes long carried room,
       pow_pos
           (data_beats w m.size),
-    )
-
-    whole : payload_of beats ≡ as_payload (m.address % w) bytes
-    whole = payload-d d beats width (payload-long (m.address % w) (2 ^ m.size) bytes long
-        (omega (arith, carried, room))) (burst, blank)
+    ) in
+    let whole : payload_of beats ≡ as_payload (m.address % w) bytes =
+    payload-d d beats width (payload-long (m.address % w) (2 ^ m.size) bytes long (omega (arith, carried, room)))
+    (burst, blank) in
+    cc (whole, long, bytes_again (m.address % w) bytes)
 
 -- ---- how the client ends an access that is answered
 
@@ -141,31 +134,29 @@ record IsOver {w : ℕ} (config : Config) (log : Log w) (c source : ℕ) (h : Ab
 over : {w : ℕ} (config : Config) (log : Log w) (c source : ℕ) (h : AbstractState w)
     → SimulationRelation config log h.mail h.request h.state (system_after config log)
     → h.state.uses c source ≡ Replied → IsOver config log c source h
-over {w} config log c source h is used = record {
-  asked = open_.1.0;
-  reply = open_.0;
-  request = open_.1.1;
-  lawful = (subst (IsRequest config c source) open_.1.1 (sourced_request config c source (h.mail.request c source)
-      (h.state.uses c source) used (is.sourced c source))).1;
-  opened = open_.1.2;
-  answer = answers.0;
-  reach = answers.1;
-  pending_is = request_open source (a_beat_of (sourced source open_.1.0) 0) ((system_after config log).clients c).past
-      ((is.known c).opens source ∙ asked_replied (h.state.uses c source) (h.mail.request c source)
-      (block_message Acquire c (block_used (h.state.uses c source))
-      (h.state.block (block_used (h.state.uses c source)))) used ∙ ap first_of open_.1.1);
-}
-  where
-    opened_as : (u : SourceState) → u ≡ Replied
-        → IsOpened c source h.mail h.state u ((one_memory_after config log).opened c Requests source)
-        → IsOpened c source h.mail h.state Replied ((one_memory_after config log).opened c Requests source)
-    opened_as u e i = rw e at i
-
-    open_ : IsOpened c source h.mail h.state Replied ((one_memory_after config log).opened c Requests source)
-    open_ = opened_as (h.state.uses c source) used (is.beside.requests c source)
-
-    answers : Answers (Message.A (sourced source open_.1.0)) open_.0 (h.mail.answer c source)
-    answers = subst (λ (i : Message w). Answers i open_.0 (h.mail.answer c source)) open_.1.1 open_.2
+over {w} config log c source h is used =
+    let opened_as : (u : SourceState) → u ≡ Replied
+    → IsOpened c source h.mail h.state u ((one_memory_after config log).opened c Requests source)
+    → IsOpened c source h.mail h.state Replied ((one_memory_after config log).opened c Requests source) =
+    λ u e i. rw e at i in
+    let open_ : IsOpened c source h.mail h.state Replied ((one_memory_after config log).opened c Requests source) =
+    opened_as (h.state.uses c source) used (is.beside.requests c source) in
+    let answers : Answers (Message.A (sourced source open_.1.0)) open_.0 (h.mail.answer c source) =
+    subst (λ (i : Message w). Answers i open_.0 (h.mail.answer c source)) open_.1.1 open_.2 in
+    record {
+      asked = open_.1.0;
+      reply = open_.0;
+      request = open_.1.1;
+      lawful = (subst (IsRequest config c source) open_.1.1 (sourced_request config c source (h.mail.request c source)
+          (h.state.uses c source) used (is.sourced c source))).1;
+      opened = open_.1.2;
+      answer = answers.0;
+      reach = answers.1;
+      pending_is = request_open source (a_beat_of (sourced source open_.1.0) 0) ((system_after config log).clients c).past
+          ((is.known c).opens source ∙ asked_replied (h.state.uses c source) (h.mail.request c source)
+          (block_message Acquire c (block_used (h.state.uses c source))
+          (h.state.block (block_used (h.state.uses c source)))) used ∙ ap first_of open_.1.1);
+    }
 
 -- the beats of the response, whole
 whole_response : {w : ℕ} (config : Config) (log : Log w) (link : Link) (ch : Channel) (h : AbstractState w) (x : Beat w)
@@ -187,17 +178,26 @@ pub ends-answer : {w : ℕ} (config : Config) (log : Log w) (link : Link) (ch : 
     → (end : IsEnding config log link ch h x source f) → end.first.kind ≡ Answer
     → Ends ((one_memory_after config log).opened link.0 (pool_of f) source) x f
 ends-answer {w} config log link ch h x source f width is end e =
+    let sys : System w = system_after config log in
+    let m : Machine w = one_memory_after config log in
+    let it : IsOver config log c n h = over config log c n h is due.used in
+    let asked_is : request_of end.response.source (sys.clients c).past ≡ Some (a_beat_of (sourced n it.asked) 0) =
+    ap (λ (i : ℕ). request_of i (sys.clients c).past) (sym end.source_is ∙ from) ∙ it.pending_is in
+    let payload : List ℕ = payload_of (Beat.D (d_beat_of end.response end.first.next.k) ∷ unfinished Channel.D
+    (sys.clients c).past) in
+    let fin : f ≡ finish_with (Message.A it.asked) it.reply =
+    cc (
+      end.finish_is,
+      asked_is,
+      ends_answered (level_of config c) (sourced n it.asked) end.response it.reply _
+          width it.lawful (response_is ∙ it.answer) it.reach (whole_response config log link ch h x source f end),
+      finish_sourced n it.asked it.reply,
+    ) in
     subst (λ (i : Finish). Ends (m.opened c (pool_of i) source) x i) (sym fin)
     (subst (λ (i : ℕ). Ends (m.opened c (pool_of (finish_with (Message.A it.asked) it.reply)) i) x
     (finish_with (Message.A it.asked) it.reply)) (sym from)
     (open_ends c n m it.asked it.reply x it.opened))
   where
-    sys : System w
-    sys = system_after config log
-
-    m : Machine w
-    m = one_memory_after config log
-
     c : ℕ
     c = link.0
 
@@ -208,26 +208,8 @@ ends-answer {w} config log link ch h x source f width is end e =
     due = answer-due (is_caching config) c n end.first.rest h.mail h.state is.invariant (is.answered c n)
         (end.first.tokens ∙ ap (λ (i : Kind). packet i n ∷ end.first.rest) e)
 
-    it : IsOver config log c n h
-    it = over config log c n h is due.used
-
     response_is : Message.D end.response ≡ h.mail.answer c n
     response_is = sym end.response_is ∙ ap (λ (i : Kind). message_of_kind i h.mail h.state c n) e
 
     from : source ≡ n
     from = cc (end.source_is, same-response end.response due.answer (response_is ∙ due.answer_is), due.from)
-
-    asked_is : request_of end.response.source (sys.clients c).past ≡ Some (a_beat_of (sourced n it.asked) 0)
-    asked_is = ap (λ (i : ℕ). request_of i (sys.clients c).past) (sym end.source_is ∙ from) ∙ it.pending_is
-
-    payload : List ℕ
-    payload = payload_of (Beat.D (d_beat_of end.response end.first.next.k) ∷ unfinished Channel.D (sys.clients c).past)
-
-    fin : f ≡ finish_with (Message.A it.asked) it.reply
-    fin = cc (
-      end.finish_is,
-      asked_is,
-      ends_answered (level_of config c) (sourced n it.asked) end.response it.reply _
-          width it.lawful (response_is ∙ it.answer) it.reach (whole_response config log link ch h x source f end),
-      finish_sourced n it.asked it.reply,
-    )

@@ -42,10 +42,9 @@ ends_granted n bytes x k false g y e named trunk = rw e (ap Finish.Granted (sym 
 
 let_open : {w : ℕ} (n : ℕ) (o : Option ℕ) (opened : Option (Open w)) (x : Beat w) → o ≡ Some n → IsLet o opened
     → Ends opened x Finish.Released
-let_open {w} n o opened x e is = go (rw e at is)
-  where
-    go : IsLet (Some n) opened → Ends opened x Finish.Released
-    go found = rw found.1 refl
+let_open {w} n o opened x e is =
+    let go : IsLet (Some n) opened → Ends opened x Finish.Released = λ found. rw found.1 refl in
+    go (rw e at is)
 
 -- a Grant, and a ReleaseAck, end their operations as the machine allows
 pub ends-transfer : {w : ℕ} (config : Config) (log : Log w) (link : Link) (ch : Channel) (h : AbstractState w)

@@ -95,12 +95,11 @@ answering-delivered {w} config log link ch h width is = go (is_moving (stepped c
 
     head : (at : Channel) (x : Beat w) (queue : List (Beat w)) → sys.channels c at ≡ x ∷ queue
         → manager.IsSound config (record { 0 = c }, x)
-    head at x queue beats = All-head (λ y. manager.IsSound config (record { 0 = c }, y)) x queue
-        (same beats (is.sound c at))
-      where
-        same : sys.channels c at ≡ x ∷ queue → All (λ y. manager.IsSound config (record { 0 = c }, y))
-            (sys.channels c at) → All (λ y. manager.IsSound config (record { 0 = c }, y)) (x ∷ queue)
-        same e f = rw e at f
+    head at x queue beats =
+        let same : sys.channels c at ≡ x ∷ queue → All (λ y. manager.IsSound config (record { 0 = c }, y))
+        (sys.channels c at) → All (λ y. manager.IsSound config (record { 0 = c }, y)) (x ∷ queue) =
+        λ e f. rw e at f in
+        All-head (λ y. manager.IsSound config (record { 0 = c }, y)) x queue (same beats (is.sound c at))
 
     -- a client takes it
     down : (at : Channel) (terms : EndConfig) (x : Beat w) (queue : List (Beat w)) → is_to_client at ≡ true

@@ -45,21 +45,18 @@ nothing_open config log given none =
 
 lone_asked : (p : Profile) (c n source : ℕ) (whole : Bool) (g : Grow) (bytes : List ℕ) (s : State (List ℕ)) → IsClosed s
     → IsLone p c n source (AcquireOpen whole g) (acquire_asked c n source whole g bytes s)
-lone_asked p c n source whole g bytes s closed = record {
-  others = λ d i else_. set_at-there c source (Acquires n) s.uses d i else_ ∙ closed.uses d i;
-  brings = wanting (s'.uses c source) ((s'.block n).pair c) (set_at-same c source (Acquires n) s.uses)
-      (ap (λ (b : Block (List ℕ)). (b.pair c).acquiring)
-      (set-same n (acquiring_block c source whole g bytes (s.block n)) s.block)
-      ∙ ap (λ (x : ClientBlock). x.acquiring) (set-same c (after_acquire whole g ((s.block n).pair c))
-      (s.block n).pair));
-}
-  where
-    s' : State (List ℕ)
-    s' = acquire_asked c n source whole g bytes s
-
-    wanting : (u : SourceState) (x : ClientBlock) → u ≡ Acquires n → x.acquiring ≡ AcquireOpen whole g
-        → Brings p n (AcquireOpen whole g) u x
-    wanting u x e f = rw e (refl, f)
+lone_asked p c n source whole g bytes s closed =
+    let s' : State (List ℕ) = acquire_asked c n source whole g bytes s in
+    let wanting : (u : SourceState) (x : ClientBlock) → u ≡ Acquires n → x.acquiring ≡ AcquireOpen whole g
+    → Brings p n (AcquireOpen whole g) u x = λ u x e f. rw e (refl, f) in
+    record {
+      others = λ d i else_. set_at-there c source (Acquires n) s.uses d i else_ ∙ closed.uses d i;
+      brings = wanting (s'.uses c source) ((s'.block n).pair c) (set_at-same c source (Acquires n) s.uses)
+          (ap (λ (b : Block (List ℕ)). (b.pair c).acquiring)
+          (set-same n (acquiring_block c source whole g bytes (s.block n)) s.block)
+          ∙ ap (λ (x : ClientBlock). x.acquiring) (set-same c (after_acquire whole g ((s.block n).pair c))
+          (s.block n).pair));
+    }
 
 -- what is asked for wants this, and is alone
 record Begins {w : ℕ} (config : Config) (log : Log w) (c n source : ℕ) (op : Op w) (a : AcquirePhase) : Type 0 where
@@ -124,10 +121,9 @@ lone_drained config (suc k) log c n source a is =
 
 brought : (p : Profile) (n : ℕ) (a : AcquirePhase) (u : SourceState) (x : ClientBlock) → u ≡ SourceFree
     → Brings p n a u x → grown p a x.held ≡ true
-brought p n a u x e is = go (rw e at is)
-  where
-    go : Brings p n a SourceFree x → grown p a x.held ≡ true
-    go i = i
+brought p n a u x e is =
+    let go : Brings p n a SourceFree x → grown p a x.held ≡ true = λ i. i in
+    go (rw e at is)
 
 alone-drained : {w : ℕ} (config : Config) (log : Log w) (c block source n : ℕ) (op : Op w) (a : AcquirePhase)
     → Begins config log c block source op a

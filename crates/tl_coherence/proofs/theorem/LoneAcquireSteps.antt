@@ -151,13 +151,12 @@ module _ (p : Profile) (c n source : ℕ) (a : AcquirePhase) where
 
   own_acquire : (s : State (List ℕ)) (d i m : ℕ) → IsLone p c n source a s → s.uses d i ≡ Acquires m
       → IsOwn s d i × (m ≡ n)
-  own_acquire s d i m is e = elim (lone_use s is d i) [
-    | inl none ↦ absurd (let no : SourceFree ≡ Acquires m = sym none ∙ e in cc)
-    | inr own ↦ (own, same m (sym e ∙ own.2))
-  ]
-    where
-      same : (k : ℕ) → Acquires k ≡ Acquires n → k ≡ n
-      same k f = cc
+  own_acquire s d i m is e =
+      let same : (k : ℕ) → Acquires k ≡ Acquires n → k ≡ n = λ k f. cc in
+      elim (lone_use s is d i) [
+        | inl none ↦ absurd (let no : SourceFree ≡ Acquires m = sym none ∙ e in cc)
+        | inr own ↦ (own, same m (sym e ∙ own.2))
+      ]
 
   -- its client isn't probed
   unprobed : (caching : ℕ → Bool) (s : State (List ℕ)) → IsInvariant caching s → IsLone p c n source a s
@@ -252,39 +251,35 @@ module _ (p : Profile) (c n source : ℕ) (a : AcquirePhase) where
   lone_grant : {w : ℕ} (config : Config) (tracker d m : ℕ) (rest : List Packet) (h : AbstractState w)
       → AreGiven p h.state → IsGrantDue d m h.state
       → IsLone p c n source a h.state → IsLone p c n source a (kind_taken config tracker d Grant m rest h).state
-  lone_grant {w} config tracker d m rest h given due is = record {
-    others = λ e i else_. uses_are e i ∙ each-set_at (λ j k (v : SourceState). IsElsewhere c source j k
-        → v ≡ SourceFree) d src SourceFree h.state.uses (λ any. refl) is.others e i else_;
-    brings = brings_granted p n a (after.uses c source) ((after.block n).pair c) (cap_right due.k)
-        (uses_are c source ∙ ap₂ (set_at d src SourceFree h.state.uses) (sym mine.0.0) (sym mine.0.1) ∙ set_at-same d
-        src SourceFree h.state.uses)
-        (ap₂ (λ (i j : ℕ). ((after.block i).pair j).held) (sym mine.1) (sym mine.0.0) ∙ held_granted config tracker d m
-        rest h due)
-        (subst (λ (x : AcquirePhase). grown p x (cap_right due.k) ≡ true) wants
-        (grows p due.whole due.g due.k (fits_cap ((h.state.block m).pair d).recorded ((h.state.block m).pair d).held
-        due.data_too due.k due.whole due.g due.fits) gives));
-  }
+  lone_grant {w} config tracker d m rest h given due is =
+      let after : State (List ℕ) = (kind_taken config tracker d Grant m rest h).state in
+      let uses_are : (e i : ℕ) → after.uses e i ≡ set_at d src SourceFree h.state.uses e i =
+      λ e i. ap (λ (v : Service). (taken_by_client d m v rest h).state.uses e i) due.service in
+      let given_as : IsGivenAsked p (GrantSent d due.data_too due.k) (h.state.block m).pair =
+      subst (λ (v : Service). IsGivenAsked p v (h.state.block m).pair) due.service (given m) in
+      let gives : gives_asked p (AcquireOpen due.whole due.g) due.k ≡ true =
+      ap (λ (x : AcquirePhase). gives_asked p x due.k) (sym due.wants) ∙ given_as in
+      record {
+        others = λ e i else_. uses_are e i ∙ each-set_at (λ j k (v : SourceState). IsElsewhere c source j k
+            → v ≡ SourceFree) d src SourceFree h.state.uses (λ any. refl) is.others e i else_;
+        brings = brings_granted p n a (after.uses c source) ((after.block n).pair c) (cap_right due.k)
+            (uses_are c source ∙ ap₂ (set_at d src SourceFree h.state.uses) (sym mine.0.0) (sym mine.0.1) ∙ set_at-same d
+            src SourceFree h.state.uses)
+            (ap₂ (λ (i j : ℕ). ((after.block i).pair j).held) (sym mine.1) (sym mine.0.0) ∙ held_granted config tracker d m
+            rest h due)
+            (subst (λ (x : AcquirePhase). grown p x (cap_right due.k) ≡ true) wants
+            (grows p due.whole due.g due.k (fits_cap ((h.state.block m).pair d).recorded ((h.state.block m).pair d).held
+            due.data_too due.k due.whole due.g due.fits) gives));
+      }
     where
       src : ℕ
       src = (h.state.block m).source d
 
-      after : State (List ℕ)
-      after = (kind_taken config tracker d Grant m rest h).state
-
       mine : IsOwn h.state d src × (m ≡ n)
       mine = own_acquire h.state d src m is due.used
 
-      uses_are : (e i : ℕ) → after.uses e i ≡ set_at d src SourceFree h.state.uses e i
-      uses_are e i = ap (λ (v : Service). (taken_by_client d m v rest h).state.uses e i) due.service
-
       wants : AcquireOpen due.whole due.g ≡ a
       wants = sym due.wants ∙ ap₂ (λ (i j : ℕ). ((h.state.block i).pair j).acquiring) mine.1 mine.0.0 ∙ mine.0.3
-
-      given_as : IsGivenAsked p (GrantSent d due.data_too due.k) (h.state.block m).pair
-      given_as = subst (λ (v : Service). IsGivenAsked p v (h.state.block m).pair) due.service (given m)
-
-      gives : gives_asked p (AcquireOpen due.whole due.g) due.k ≡ true
-      gives = ap (λ (x : AcquirePhase). gives_asked p x due.k) (sym due.wants) ∙ given_as
 
   -- It stays alone, and keeps what it has brought, whatever message is taken.
   pub lone-kind_taken : {w : ℕ} (caching : ℕ → Bool) (config : Config) (tracker d : ℕ) (k : Kind) (i : ℕ)

@@ -104,6 +104,16 @@ module _ {w : ℕ} (config : Config) (log : Log w) (link : Link) (ch : Channel) 
       → is_free n None (needs x.opcode) (block_at x.address) (trace_of after) ≡ true
   unfolding shadow system_after
   free-after q source one access still x asks n =
+      let used : h'.state.uses q source ≡ Replied = replied q source h'.mail h'.state (h'.state.uses q source)
+      ((one_memory_after config after).opened q Requests source) (Message.A access.0) answer
+      (is'.beside.requests q source) opened in
+      let free : (m : MessageA w) → h'.mail.request q source ≡ Message.A m → IsSettledFor m h'.state
+      → is_free n None (needs x.opcode) (block_at x.address) (trace_of after) ≡ true =
+      λ m request settled. subst (λ (z : BeatA w). is_free n None (needs z.opcode) (block_at z.address)
+      (trace_of after) ≡ true)
+      (same_first x (a_beat_of m 0) (sym asks ∙ ap (request_of source) (trace-flows q after)
+      ∙ asked_flow config after h' (system_after config after) is' values q source m used request))
+      (free-now config after h' (system_after config after) is' values q source m used request settled n) in
       elim (renewed-followed config log event h given.width is q source used) [
         | inl old ↦ absurd (unreplied q source h.mail h.state (h.state.uses q source)
             ((one_memory_after config log).opened q Requests source) (Message.A access.0) (is.beside.requests q source)
@@ -121,35 +131,20 @@ module _ {w : ℕ} (config : Config) (log : Log w) (link : Link) (ch : Channel) 
           (with_memory (effect (Message.A access.0) (one_memory_after config log).memory).0
           (one_memory_after config log))
 
-      used : h'.state.uses q source ≡ Replied
-      used = replied q source h'.mail h'.state (h'.state.uses q source)
-          ((one_memory_after config after).opened q Requests source) (Message.A access.0) answer
-          (is'.beside.requests q source) opened
-
-      free : (m : MessageA w) → h'.mail.request q source ≡ Message.A m → IsSettledFor m h'.state
-          → is_free n None (needs x.opcode) (block_at x.address) (trace_of after) ≡ true
-      free m request settled =
-          subst (λ (z : BeatA w). is_free n None (needs z.opcode) (block_at z.address) (trace_of after) ≡ true)
-          (same_first x (a_beat_of m 0) (sym asks ∙ ap (request_of source) (trace-flows q after)
-          ∙ asked_flow config after h' (system_after config after) is' values q source m used request))
-          (free-now config after h' (system_after config after) is' values q source m used request settled n)
-
 pub performed_free : {w : ℕ} → PerformedFree w
 performed_free {w} config log link ch o given c source rest x answers asks =
+    let found : (q s : ℕ) → accesses config log link ch o given ≡ (q, s) ∷ []
+    → IsAccess s ((shadow config log).mail.request q s) None ((one_memory_after config log).opened q Requests s)
+    → moved (Deliver link ch) (stepped config (Deliver link ch) (system_after config log)).outcome
+    (one_memory_after config log) ≡ one_memory_after config log → (◌≡◌ {A = ℕ × ℕ} (q, s) (c, source)) × (rest ≡ [])
+    → (rest ≡ []) × ((n : ℕ) → is_free n None (needs x.opcode) (block_at x.address)
+    (trace_of ((Deliver link ch, o) ∷ log)) ≡ true) =
+    λ q s one access still same. (
+      same.1,
+      λ n. free-after config log link ch o given q s one access still x
+          (ap (λ (a : ℕ × ℕ). request_of a.1 (on_link a.0 (trace_of ((Deliver link ch, o) ∷ log)))) same.0 ∙ asks) n,
+    ) in
     elim (answering-delivered config log link ch (shadow config log) given.width (is config log link ch o given)) [
       | inl none ↦ absurd (nothing_one (c, source) rest (sym answers ∙ none))
       | inr one ↦ found one.0 one.1 one.2 one.3 one.4 (same_one (c, source) (one.0, one.1) rest (sym answers ∙ one.2))
     ]
-  where
-    found : (q s : ℕ) → accesses config log link ch o given ≡ (q, s) ∷ []
-        → IsAccess s ((shadow config log).mail.request q s) None ((one_memory_after config log).opened q Requests s)
-        → moved (Deliver link ch) (stepped config (Deliver link ch) (system_after config log)).outcome
-        (one_memory_after config log) ≡ one_memory_after config log → (◌≡◌ {A = ℕ × ℕ} (q, s) (c, source)) × (rest ≡ [])
-        → (rest ≡ [])
-        × ((n : ℕ) → is_free n None (needs x.opcode) (block_at x.address) (trace_of ((Deliver link ch, o) ∷ log))
-        ≡ true)
-    found q s one access still same = (
-      same.1,
-      λ n. free-after config log link ch o given q s one access still x
-          (ap (λ (a : ℕ × ℕ). request_of a.1 (on_link a.0 (trace_of ((Deliver link ch, o) ∷ log)))) same.0 ∙ asks) n,
-    )

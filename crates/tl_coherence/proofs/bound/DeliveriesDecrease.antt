@@ -101,8 +101,7 @@ module _ {w : ℕ} (config : Config) (log : Log w) (h : AbstractState w) (width 
           → sys.channels link.0 ch ≡ x ∷ queue → (b : Bool)
           → completes x (unfinished_at sys link.0 ch) ≡ b → IsLess (abstract_step config (Deliver link ch) sys h) sys'
       taken x queue terms known beats true last =
-          let first : IsFirst ch link.0 h.mail h.state sys x queue =
-          first-token (is_caching config) ch link.0 h.mail h.state sys x queue width matched.invariant
+          let first = first-token (is_caching config) ch link.0 h.mail h.state sys x queue width matched.invariant
           matched.carried beats in
           let d : IsDelivery config h.mail h.state sys link ch x queue =
           record { moves = moving; beats = beats; whole = last; first = first } in
@@ -155,7 +154,5 @@ module _ {w : ℕ} (config : Config) (log : Log w) (h : AbstractState w) (width 
 
       less : (c : ℕ) (k : Kind) (m : ℕ) → left sys' c k m ≤ left sys c k m
       less c k m =
-          let as_much : left sys' c k m ≡ left sys c k m = ap
-          (λ (rest : List (Beat w)). beats_of (message_of_kind k h.mail h.state c m) - taken_of rest
-          (is_front k m (packets_on (channel_for k) (h.state.link c)))) (same.rests c (channel_for k)) in
+          let as_much : left sys' c k m ≡ left sys c k m = cc (same.rests c (channel_for k)) in
           omega (arith, as_much)

@@ -40,15 +40,13 @@ grown-moved {w} config log h link ch terms x queue width is known beats moving =
 
     go : (b : Bool) → is_to_client ch ≡ b → IsGrown link.0 ch x sys (stepped config (Deliver link ch) sys).after
     go true up =
-        let t : IsTakenByClient terms link.0 ch x queue sys (stepped config (Deliver link ch) sys) =
-        client-moves config link ch sys terms x queue known beats up moving in
+        let t = client-moves config link ch sys terms x queue known beats up moving in
         subst (λ (y : Step w). IsGrown link.0 ch x sys y.after) (sym t.step_is)
         (landed-client link.0 ch x queue t.message (offer.taken x (sys.clients link.0)).after sys up beats on_ch
         (client-heard terms link.0 ch x queue sys (stepped config (Deliver link ch) sys) width (is.kept link.0)
         t)).rests
     go false down =
-        let at : IsAtManager config log link ch h x queue = at-manager config log link ch h terms x queue width is known
-        down beats moving in
+        let at = at-manager config log link ch h terms x queue width is known down beats moving in
         subst (λ (y : Step w). IsGrown link.0 ch x sys y.after) (sym at.step_is)
         (rests-manager link.0 ch x queue (reaction config link x sys.manager).handed
         (manager_offer.taken link x (reaction config link x sys.manager) sys.manager) sys down on_ch at.heard)

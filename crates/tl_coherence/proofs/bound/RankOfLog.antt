@@ -55,8 +55,7 @@ pub owed-begun : {w : ℕ} (config : Config) (log : Log w) (mail : AccessMessage
     → IsBegun c ch x (unfinished_at (system_after config log)) (unfinished_at sys')
     → owed config mail s sys' + 1 ≤ owed config mail s (system_after config log)
 owed-begun {w} config log mail request s sys' ch c x queue width matched lt beats part begun =
-    let first : IsFirst ch c mail s (system_after config log) x queue =
-    first-token (is_caching config) ch c mail s (system_after config log) x queue width matched.invariant
+    let first = first-token (is_caching config) ch c mail s (system_after config log) x queue width matched.invariant
     matched.carried beats in
     beat-falls config (is_caching config) ch c mail s (system_after config log) sys' x queue (64 / w) (answer_to mail)
     first

@@ -103,8 +103,7 @@ module _ {w : ℕ} (config : Config) (caching : ℕ → Bool) (n : ℕ) (moves :
       → ((d : ℕ) → length (s'.link d).e ≤ length (s.link d).e)
       → rank config size left' answer s' + 1 ≤ rank config size left answer s
   probe-falls k lt sent new is uses lets acks =
-      let pairs : (s'.block n).pair ≡ set c (after_probe k was) (s.block n).pair =
-      ap (λ (b : Block (List ℕ)). b.pair) new in
+      let pairs = ap (λ (b : Block (List ℕ)). b.pair) new in
       let is_pair : (s'.block n).pair c ≡ after_probe k was = own_at (after_probe k was) pairs in
       pair-falls config caching n moves mail mail' s s' showing c ch rest rest' popped size answer all lt (rw sent refl)
       (ap (λ (b : Block (List ℕ)). b.service) new)
@@ -185,8 +184,7 @@ module _ {w : ℕ} (config : Config) (caching : ℕ → Bool) (n : ℕ) (moves :
       let was : ClientBlock = (s.block n).pair c in
       let opened : s.uses q source ≡ SourceFree → ⊥ = λ e. absurd (let both : InService n ≡ SourceFree = sym used ∙ e in
       cc) in
-      let pairs : (s'.block n).pair ≡ set c (after_report r was) (s.block n).pair =
-      ap (λ (b : Block (List ℕ)). b.pair) new in
+      let pairs = ap (λ (b : Block (List ℕ)). b.pair) new in
       let free : (s'.block n).service ≡ Free = ap (λ (b : Block (List ℕ)). b.service) new in
       let gone : is_for_access (s'.block n).service ≡ false = ap is_for_access free in
       let block : IsBlockNoMore config caching n moves mail mail' s s' showing c ch rest rest' popped size answer =

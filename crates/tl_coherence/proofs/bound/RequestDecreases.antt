@@ -28,8 +28,7 @@ owner_quiet caching s n r inv own = go (is_unprobed ((s.block n).pair r).probing
     go : (b : Bool) → is_unprobed ((s.block n).pair r).probing ≡ b → b ≡ true
     go true e = refl
     go false e =
-        let other : is_other (view (s.block n).service r) ≡ true =
-        serves_another ((s.block n).pair r) (view (s.block n).service r) ((inv.blocks n).phases r) e in
+        let other = serves_another ((s.block n).pair r) (view (s.block n).service r) ((inv.blocks n).phases r) e in
         let no : false ≡ true = rw own at other in
         absurd cc
 
@@ -66,8 +65,7 @@ module _ {w : ℕ} (config : Config) (caching : ℕ → Bool) (n : ℕ) (moves :
   pub block-alike : (s'.block n).pair ≡ (s.block n).pair → (s'.block n).service ≡ (s.block n).service
       → IsBlockNoMore config caching n moves mail mail' s s' showing c ch rest rest' popped size answer
   block-alike pairs service =
-      let probes : probes_weight number size left' n (s'.block n) ≤ probes_weight number size left n (s.block n) =
-      total-le number (λ d. pair_weight size left' n d ((s'.block n).pair d))
+      let probes = total-le number (λ d. pair_weight size left' n d ((s'.block n).pair d))
       (λ d. pair_weight size left n d ((s.block n).pair d)) (λ d lt. pair-stays config caching n moves mail mail' s
       s' showing c ch rest rest' popped size answer d n (ap (λ (p : ℕ → ClientBlock). (p d).probing) pairs)
       (ap (λ (p : ℕ → ClientBlock). (p d).recorded) pairs)) in
@@ -129,8 +127,7 @@ module _ {w : ℕ} (config : Config) (caching : ℕ → Bool) (n : ℕ) (moves :
     serving-falls source at k wide narrow sixteen waits asked served some is unlike lets acks =
         let opened : s.uses c source ≡ SourceFree → ⊥ = λ e. absurd (let both : Asked ≡ SourceFree = sym asked ∙ e in
         cc) in
-        let probes : probes_weight number size left' n (s'.block n) ≤ 32 =
-        probes-few caching s' showing.after size left' answer is wide narrow number sixteen n in
+        let probes = probes-few caching s' showing.after size left' answer is wide narrow number sixteen n in
         request-falls config caching n moves mail mail' s s' showing c ch rest rest' popped size answer all
         (come-into-service (λ d. inl (ap (λ (u : Service). is_unserved (view u d)) waits)))
         c source opened unlike lets acks (rw (asked, served) (omega (arith, some, probes)))

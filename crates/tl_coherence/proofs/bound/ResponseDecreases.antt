@@ -51,8 +51,7 @@ granted_unserved q d = go (d == q)
 acquired_with : (caching : ℕ → Bool) (s : State (List ℕ)) (n c i : ℕ) → IsInvariant caching s → s.uses c i ≡ Acquires n
     → i ≡ (s.block n).source c
 acquired_with caching s n c i inv e =
-    let named : acquires_with c i (s.block n) ≡ true =
-    sym (inv.named.acquires c i n) ∙ (ap (acquires_of n) e ∙ same_number n) in
+    let named : acquires_with c i (s.block n) ≡ true = cc (inv.named.acquires c i n, e, same_number n) in
     eqb-true i ((s.block n).source c) (and_right (is_wanting ((s.block n).pair c).acquiring) (i == (s.block n).source c)
     named)
 

@@ -239,10 +239,8 @@ end_store c address size value Perm.None h e is end kept = end
 end_store c address size value Perm.Branch h e is end kept = end
 end_store {w} c address size value Perm.Trunk h e is end kept =
     let n = block_at address in
-    let same : copy_at e n ≡ (h.state.block n).copy c =
-    ap (λ (o : Option (List ℕ)). unwrap_or o zeros) (end.copies n (rw is refl)) in
-    let bytes : copy_stored address size value (copy_at e n) ≡ copy_stored address size value
-    ((h.state.block n).copy c) = ap (copy_stored address size value) same in
+    let same = ap (λ (o : Option (List ℕ)). unwrap_or o zeros) (end.copies n (rw is refl)) in
+    let bytes = ap (copy_stored address size value) same in
     subst (λ (x : List ℕ). IsWellKept (with_copy n (Some x) e)
     → IsEnd (asked_by h.mail (block_stored c n (copy_stored address size value ((h.state.block n).copy c)) h.state) c) c
     (block_stored c n (copy_stored address size value ((h.state.block n).copy c)) h.state) (with_copy n (Some x) e))

@@ -192,8 +192,7 @@ pub grant-delivered : {w : ℕ} (config : Config) (log : Log w) (mail : AccessMe
     → IsTakenBy config terms tracker c (shadow_of mail request s) x (sys.clients c)
 grant-delivered {w} config log mail request s sys terms tracker c n rest ms x queue width h at beats first next =
     let e : Endpoint w = sys.clients c in
-    let m : MessageD w = grant_message due.data_too due.k ((s.block n).source c) (s.block n).tracker (s.block n).truth
-    in
+    let m = grant_message due.data_too due.k ((s.block n).source c) (s.block n).tracker (s.block n).truth in
     let end : IsEnd (asked_by mail s c) c s e = end-matched config log mail request s sys h c in
     let served : (y : BeatD w) → IsEnd (asked_by mail (grant_taken c n due.whole due.data_too due.k rest s) c) c
     (grant_taken c n due.whole due.data_too due.k rest s) (taken (Beat.D y) e).after

@@ -70,9 +70,8 @@ taken_ends : {w : ℕ} (config : Config) (log : Log w) (mail : AccessMessages w)
     (shadow_of mail request s)) (taken x (sys.clients link.0)).after)
     → AreEnds config (Deliver link ch) sys (shadow_of mail request s) k (client_took link.0 ch x queue o sys)
 taken_ends {w} config log mail request s sys link ch k x queue o width h beats up takes more last =
-    let moves : (is_moving (client_took link.0 ch x queue t sys).outcome ≡ true) × ((client_took link.0 ch x queue t
-    sys).after.clients ≡ (with_client link.0 t.after (with_channel link.0 ch queue sys)).clients) = moved t.answer
-    link.0 ch x queue t.after sys (kept_up x (sys.clients link.0)) (taken_now x (sys.clients link.0)) in
+    let moves = moved t.answer link.0 ch x queue t.after sys (kept_up x (sys.clients link.0))
+    (taken_now x (sys.clients link.0)) in
     subst (λ (y : Offered w). AreEnds config (Deliver link ch) sys before k (client_took link.0 ch x queue y sys))
     (sym takes)
     (subst (λ (b : Bool). IsEndOf k (if b && is_last (sys.channels link.0 ch) rest_now then event else before)

@@ -106,8 +106,7 @@ pub end-release_ack_taken : {w : ℕ} (c n : ℕ) (x : BeatD w) (rest : List Pac
     → IsEnd (asked_by mail (release_ack_taken c n rest s) c) c (release_ack_taken c n rest s) f
 end-release_ack_taken {w} c n x rest mail s e f is last plain acks from let_ well end =
     let new : Block (List ℕ) = let_go_block c (s.block n) in
-    let pair_is : new.pair c ≡ after_release_ack ((s.block n).pair c) =
-    set-same c (after_release_ack ((s.block n).pair c)) (s.block n).pair in
+    let pair_is = set-same c (after_release_ack ((s.block n).pair c)) (s.block n).pair in
     let closes = ack_closes n x e.past last plain acks (end.opened.released x.source n let_) in
     let event : IsHeard c x e.past Perm.None (λ k. false) (λ k. n == k) (λ i. false) (λ i. x.source == i)
     (asked_by mail s c) (asked_by mail s' c) s s' = record {

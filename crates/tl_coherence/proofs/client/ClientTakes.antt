@@ -113,9 +113,7 @@ taken-d {w} config log mail request s sys terms c m ms x queue h at beats next f
     lawful : level_of config c ≡ Some terms.level → x ≡ beat_of (Message.D m) next.k
         → manager.illegal_at (level_of config c) x ≡ None → illegal terms.level Channel.D x ≡ None
     lawful e f g =
-        let one : manager.illegal_at (Some terms.level) (beat_of (Message.D m) next.k) ≡ None =
-        sym (ap (λ (l : Option Level). manager.illegal_at l (beat_of (Message.D m) next.k)) e)
-        ∙ sym (ap (λ (y : Beat w). manager.illegal_at (level_of config c) y) f) ∙ g in
+        let one : manager.illegal_at (Some terms.level) (beat_of (Message.D m) next.k) ≡ None = cc (e, f, g) in
         ap (λ (y : Beat w). illegal terms.level Channel.D y) f ∙ one
 
 -- ---- an answer
@@ -136,8 +134,7 @@ pub answer-first : {w : ℕ} (p : Profile) (c source : ℕ) (mail : AccessMessag
     → broken_in_order p (beat_of (Message.D due.answer) 0) e.past ≡ None
 answer-first {w} p c source mail s e end due whole =
     let kind = access_kind due.answer.opcode due.answers_access in
-    let asks : asked_by mail s c source ≡ Some (a_beat_of due.request 0) =
-    asks-access c source due.request mail s (ap is_access due.used) due.request_is in
+    let asks = asks-access c source due.request mail s (ap is_access due.used) due.request_is in
     let live = live_request source (a_beat_of due.request 0) e.past (end.known.opens source ∙ asks) in
     answer-legal p (d_beat_of due.answer 0) (a_beat_of due.request 0) e.past (record {
       whole = whole;
@@ -214,8 +211,7 @@ grant-first {w} p c n mail s e end due given whole =
     let r : BeatA w = a_beat_of (acquisition (acquire_opcode due.whole) due.g source n) 0 in
     let fits = fitting ((s.block n).pair c).recorded ((s.block n).pair c).held due.data_too due.k due.whole due.g
     due.fits in
-    let asks : asked_by mail s c source ≡ Some r = asks-acquire c source n source due.whole due.g mail s due.used
-    due.wants refl in
+    let asks = asks-acquire c source n source due.whole due.g mail s due.used due.wants refl in
     let live = live_request source r e.past (end.known.opens source ∙ asks) in
     grant-legal p n (d_beat_of (grant_message due.data_too due.k source (s.block n).tracker (s.block n).truth) 0) r
     e.past (record {

@@ -69,8 +69,7 @@ gift_given Profile.Two whole g unheld = refl
 not_granting : (caching : ℕ → Bool) (c n : ℕ) (s : State (List ℕ)) → IsInvariant caching s
     → ((s.block n).pair c).acquiring ≡ NoAcquire → (d : Bool) (k : Cap) → (s.block n).service ≡ GrantSent c d k → ⊥
 not_granting caching c n s inv calm d k sent =
-    let asks : not (is_unacquired ((s.block n).pair c).acquiring) ≡ true =
-    granting_asks d k ((s.block n).pair c) (view (s.block n).service c) ((inv.blocks n).phases c)
+    let asks = granting_asks d k ((s.block n).pair c) (view (s.block n).service c) ((inv.blocks n).phases c)
     (own_view c d k (s.block n).service sent) in
     let no : false ≡ true = sym (ap (λ (a : AcquirePhase). not (is_unacquired a)) calm) ∙ asks in
     cc

@@ -203,8 +203,7 @@ probe-delivered {w} config log mail request s sys terms tracker c n rest ms x qu
     λ kept. cc (probe-taken terms n k e (h.live c) lawful inside end.kept.b_whole (end.known.releases n
     ∙ ap not kept) (end.known.probes n) (end.known.grants n ∙ not_coming config log mail request s sys c n h sent))
     in
-    let same_taken : taken (Beat.B (probe_beat n k)) e ≡ probed (probe_beat n k) n (held_at e n) e =
-    ap (λ (i : ℕ). probed (probe_beat n k) i (held_at e i) e) (same_block n) in
+    let same_taken = ap (λ (i : ℕ). probed (probe_beat n k) i (held_at e i) e) (same_block n) in
     let takes : is_unreleased ((s.block n).pair c).letting ≡ true → offered terms Channel.B x e ≡ taken x e =
     λ kept. cc (beat_is, taken_is kept, same_taken) in
     let well : is_unreleased ((s.block n).pair c).letting ≡ true

@@ -70,10 +70,9 @@ delivered-e {w} config log link h terms x queue width matched known beats moving
     go true last =
         let unpushed : (d : ℕ) (at : Channel) → (after_taken config link Channel.E x queue sys []).channels d at
         ≡ (with_channel link.0 Channel.E queue sys).channels d at = λ d at. refl in
-        let quiet : MemoryRelation h.mail (grant_ack_taken link.0 n is.first.rest h.state)
-        (performing [] (one_memory_after config log)) = beside_block n (freed_block (h.state.block n)) h.mail
-        h.state (grant_ack_taken link.0 n is.first.rest h.state) (one_memory_after config log) (λ i. refl)
-        (λ d i. refl) (λ d i. refl) refl (λ d. refl) (λ d. refl) matched.beside in
+        let quiet = beside_block n (freed_block (h.state.block n)) h.mail h.state
+        (grant_ack_taken link.0 n is.first.rest h.state) (one_memory_after config log) (λ i. refl) (λ d i. refl)
+        (λ d i. refl) refl (λ d. refl) (λ d. refl) matched.beside in
         delivered-last config log link Channel.E h x queue [] (λ d at. None) refl is last gives (λ d at. unpushed d at)
         (λ taken. subst (λ (k : Kind). ChannelRelation (kind_taken config (next_tracker sys) link.0 k n is.first.rest
         h).mail

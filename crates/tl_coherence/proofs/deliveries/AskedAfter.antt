@@ -277,8 +277,7 @@ beside-ask {w} config log h c terms o width is known =
     let x = ask.asked terms o (sys.clients c) in
     let well = asked-well config log h sys c terms o width is known in
     let none : accesses_answered (stepped config (Ask c o) sys).handed ≡ [] =
-    ap (λ (y : Step w). accesses_answered y.handed) (stepped-asked config c o sys terms known)
-    ∙ none_answered c o x.reply h x.message well.reply well.message in
+    cc (stepped-asked config c o sys terms known, none_answered c o x.reply h x.message well.reply well.message) in
     subst (λ (l : List (ℕ × ℕ)). MemoryRelation (asked c o x.reply h).mail (asked c o x.reply h).state
     (performing l (after_reply c o x.reply (one_memory_after config log)))) (sym none)
     (beside-asked (is_caching config) c o x.reply h (one_memory_after config log) is.invariant is.sized well.reply

@@ -166,8 +166,7 @@ asked-well {w} config log h sys c terms o width is known = asked-cases terms o e
         let closed = free_source free.b1 in
         let still = transfers n free.b2 in
         let begins : same_perm (grow_left g) ((s.block n).pair c).held ≡ true =
-        ap (same_perm (grow_left g)) (sym (held_is n)) ∙ not-false (same_perm (grow_left g) (held_at e n)) free.b3
-        in
+        cc (held_is n, not-false (same_perm (grow_left g) (held_at e n)) free.b3) in
         record {
           may = (caching free.b4, closed, still.0, still.1, begins);
           word = tt;
@@ -180,8 +179,7 @@ asked-well {w} config log h sys c terms o width is known = asked-cases terms o e
     well (Op.AcquireWhole n bytes) free =
         let closed = free_source free.b1 in
         let still = transfers n free.b2 in
-        let begins : same_perm Perm.Trunk ((s.block n).pair c).held ≡ false =
-        ap (same_perm Perm.Trunk) (sym (held_is n)) ∙ free.b3 in
+        let begins : same_perm Perm.Trunk ((s.block n).pair c).held ≡ false = cc (held_is n, free.b3) in
         record {
           may = (caching free.b4, closed, still.0, still.1, begins);
           word = tt;
@@ -199,8 +197,7 @@ asked-well {w} config log h sys c terms o width is known = asked-cases terms o e
         let none = no_let (s.lets c source) (sym ((is.opened c).releases source) ∙ open_) in
         let still = transfers n free.b2 in
         let begins : same_perm (prune_left p) ((s.block n).pair c).held ≡ true =
-        ap (same_perm (prune_left p)) (sym (held_is n)) ∙ not-false (same_perm (prune_left p) (held_at e n)) free.b3
-        in
+        cc (held_is n, not-false (same_perm (prune_left p) (held_at e n)) free.b3) in
         record {
           may = (caching free.b4, none, still.0, still.1, swap_perms ((s.block n).pair c).held (prune_left p) ∙ begins);
           word = tt;

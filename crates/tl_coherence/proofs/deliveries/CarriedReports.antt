@@ -177,8 +177,7 @@ pub carried-followed_c : {w : ℕ} (config : Config) (log : Log w) (h : Abstract
     → SimulationRelation config log h.mail h.request h.state sys → sys.channels c Channel.C ≡ x ∷ queue
     → CarriesAfter config c Channel.C sys (abstract_step config (Deliver (record { 0 = c }) Channel.C) sys h)
 carried-followed_c {w} config log h sys c x queue width is beats =
-    let t : (t : EndConfig) × (terms_at config c ≡ Some t) =
-    client-of config c Channel.C x queue sys beats (is.sound c Channel.C) in
+    let t = client-of config c Channel.C x queue sys beats (is.sound c Channel.C) in
     subst (CarriesAfter config c Channel.C sys)
     (sym (followed-taken config c Channel.C x queue sys h t.0 t.1 beats refl any.up))
     (by-first_c (λ i. CarriesAfter config c Channel.C sys

@@ -96,8 +96,7 @@ pub carried-more : {w : ℕ} (config : Config) (log : Log w) (mail : AccessMessa
     → ChannelRelation mail s (system_after config c k m queue sys)
 carried-more {w} config log mail request s sys c k m queue is comes beats part =
     let x : Beat w = Beat.A (a_beat_of m k) in
-    let done : (reaction config (link_of c) x sys.manager).handed ≡ [] =
-    ap (λ (d : Reaction w). d.handed) (reaction-part config (link_of c) x sys.manager part) in
+    let done = ap (λ (d : Reaction w). d.handed) (reaction-part config (link_of c) x sys.manager part) in
     carried-part mail s c Channel.A x queue (λ d at. None) sys (system_after config c k m queue sys) comes.width
     (landed-coming config c k m queue sys [] (λ d at. None) comes beats done nothing-handed) (λ d at. refl) part
     is.carried
@@ -179,8 +178,7 @@ pub carried-acquire_taken : {w : ℕ} (config : Config) (log : Log w) (h : Abstr
     (kind_taken config (next_tracker sys) c Acquire n rest h).state
     (system_after config c k (acquire_wanted c n h.state asked) queue sys)
 carried-acquire_taken {w} config log h sys c n k rest queue is first asked comes beats last moves =
-    let inv : IsInvariant (is_caching config) (kind_taken config tracker c Acquire n rest h).state =
-    invariant-taken config log h sys c Acquire n rest is first ready in
+    let inv = invariant-taken config log h sys c Acquire n rest is first ready in
     subst (λ (i : AcquirePhase). ChannelRelation (acquire_taken clients config.profile c n i tracker rest h).mail
     (acquire_taken clients config.profile c n i tracker rest h).state after) (sym asked.wants)
     (go (some_below clients (λ d. is_probed c true j (b.pair d).recorded d)) refl
@@ -287,8 +285,7 @@ pub carried-request_taken : {w : ℕ} (config : Config) (log : Log w) (h : Abstr
     (kind_taken config (next_tracker sys) c Request source rest h).state
     (system_after config c k asked.request queue sys)
 carried-request_taken {w} config log h sys c source k rest queue is first asked comes beats last moves =
-    let inv : IsInvariant (is_caching config) (kind_taken config tracker c Request source rest h).state =
-    invariant-taken config log h sys c Request source rest is first
+    let inv = invariant-taken config log h sys c Request source rest is first
     (ready-request config log h sys c source k is asked comes last moves) in
     subst (λ (i : Message w). Carries (request_taken clients c source i tracker rest h)) (sym asked.is_it)
     (go (probes_some clients c false (cap_probed m.opcode m.param) b.pair) (cap_probed m.opcode m.param) refl refl

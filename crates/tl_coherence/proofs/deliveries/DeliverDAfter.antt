@@ -103,8 +103,7 @@ pub responded-answer : {w : ℕ} (config : Config) (log : Log w) (h : AbstractSt
 unfolding accesses_answered
 responded-answer {w} config log h sys c source rest x queue due width matched first is =
     let plain = access_kind due.answer.opcode due.answers_access in
-    let none : acked {w = w} is.y.opcode is.y.sink ≡ None =
-    acked_none is.y.opcode is.y.sink (ap is_grant is.opcode ∙ plain.0) in
+    let none = acked_none is.y.opcode is.y.sink (ap is_grant is.opcode ∙ plain.0) in
     let pool : pool_of (finish_at is.y (sys.clients c)) ≡ Requests =
     finish_pool_is c x queue sys due.answer is ∙ rw plain.1 refl in
     let from : is.y.source ≡ source = is.source ∙ due.from in
@@ -135,8 +134,7 @@ pub responded-release_ack : {w : ℕ} (config : Config) (log : Log w) (h : Abstr
 unfolding accesses_answered
 responded-release_ack {w} config log h sys c n rest x queue width matched first open_ is =
     let none : acked {w = w} is.y.opcode is.y.sink ≡ None = acked_none is.y.opcode is.y.sink (ap is_grant is.opcode) in
-    let pool : pool_of (finish_at is.y (sys.clients c)) ≡ Releases =
-    finish_pool_is c x queue sys (ack_message ((h.state.block n).release_source c)) is in
+    let pool = finish_pool_is c x queue sys (ack_message ((h.state.block n).release_source c)) is in
     let inv = invariant-taken config log h sys c ReleaseAck n rest matched first tt in
     record {
       carried = subst (λ (m : Option (Message w)). ChannelRelation h.mail (release_ack_taken c n rest h.state)

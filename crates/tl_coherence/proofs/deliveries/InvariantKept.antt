@@ -61,13 +61,10 @@ ready-a {w} config log mail request s sys link x queue width h d =
     let arrives = arrival-first config log (shadow_of mail request s) sys link.0 x queue width h d.beats in
     let moves = request-moves config log mail request s sys link x queue h d.moves d.beats arrives in
     let comes = coming-arrival config log (shadow_of mail request s) sys link.0 x queue width h d.beats arrives moves in
-    let last : arrives.next.k + 1 ≡ beats_of (Message.A arrives.request) =
-    eqb-true (arrives.next.k + 1) (beats_of (Message.A arrives.request)) (sym arrives.next.completes_is ∙ d.whole)
-    in
+    let last = eqb-true (arrives.next.k + 1) (beats_of (Message.A arrives.request)) (sym arrives.next.completes_is
+    ∙ d.whole) in
     let moves_so : must_wait config (record { 0 = link.0 }) (Beat.A (a_beat_of arrives.request arrives.next.k))
-    sys.manager.trace ≡ false =
-    sym (ap (λ (y : Beat w). must_wait config (record { 0 = link.0 }) y sys.manager.trace) arrives.next.beat_is) ∙ moves
-    in
+    sys.manager.trace ≡ false = cc (arrives.next.beat_is, moves) in
     subst (λ (y : Packet). IsReady (next_tracker sys) link.0 y.kind y.number (shadow_of mail request s))
     (head_is (packet arrives.kind arrives.number) (packet d.first.kind d.first.number) arrives.rest d.first.rest
     (sym arrives.is_it.tokens ∙ d.first.tokens))

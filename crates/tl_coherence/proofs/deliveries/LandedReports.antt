@@ -108,9 +108,7 @@ pub landed-taken : {w : ℕ} (config : Config) (c : ℕ) (ch : Channel) (x : Bea
 landed-taken {w} config c ch x queue sys t handed pushes width kept typed down on_ch terms beats up is pushed =
     let e : End w = left c x (reaction config (record { 0 = c }) x sys.manager) sys.manager in
     let base : System w = with_manager e (with_channel c ch queue sys) in
-    let step : stepped config (Deliver (record { 0 = c }) ch) sys ≡ handing (Outcome.Moved x)
-    (reaction config (record { 0 = c }) x sys.manager).handed base =
-    step-taken config c ch x queue sys t terms beats down up in
+    let step = step-taken config c ch x queue sys t terms beats down up in
     let heard : HasTaken c x sys.manager e = manager-heard config (record { 0 = c }) ch x queue sys
     (stepped config (Deliver (record { 0 = c }) ch) sys) width typed kept
     (record { takes = up.answer; step_is = step }) in

@@ -110,9 +110,7 @@ pub reports-delivered : {w : ℕ} (config : Config) (log : Log w) (h : AbstractS
 unfolding block_message
 reports-delivered {w} config log h sys c n rest x queue ms width is beats tokens next =
     let r : Report = report_told ((h.state.block n).pair c).probing in
-    let about : (i : MessageC w) × (block_message ProbeAck c n (h.state.block n) ≡ Message.C i)
-    × IsAbout true n (report_code r) (same_perm (report_left r) Perm.Trunk) (h.state.block n).truth i =
-    report-about r n (h.state.block n).truth width (is.sized n).truth in
+    let about = report-about r n (h.state.block n).truth width (is.sized n).truth in
     let m : MessageC w = about.0 in
     let answered : ((h.state.block n).pair c).probing ≡ ProbeAnswered r =
     answered-is ((h.state.block n).pair c).probing (holds-first ProbeAck (h.state.link c).c rest (packet ProbeAck n)
@@ -144,10 +142,8 @@ pub releases-delivered : {w : ℕ} (config : Config) (log : Log w) (h : Abstract
 unfolding block_message
 releases-delivered {w} config log h sys c n rest x queue ms width is beats tokens next =
     let r : Prune = prune_told ((h.state.block n).pair c).letting in
-    let about : (i : MessageC w) × (block_message Release c n (h.state.block n) ≡ Message.C i)
-    × IsAbout false n (prune_code r) (same_perm (prune_left r) Perm.Trunk) (h.state.block n).truth i
-    × (i.source ≡ (h.state.block n).release_source c) = release-about r ((h.state.block n).release_source c) n
-    (h.state.block n).truth width (is.sized n).truth in
+    let about = release-about r ((h.state.block n).release_source c) n (h.state.block n).truth width (is.sized n).truth
+    in
     let m : MessageC w = about.0 in
     let releasing : ((h.state.block n).pair c).letting ≡ ReleaseSent r =
     releasing-is ((h.state.block n).pair c).letting (holds-first Release (h.state.link c).c rest (packet Release n)
@@ -186,8 +182,7 @@ unfolding block_message
 acks-delivered {w} config log h sys c n rest x queue ms width is beats tokens next =
     let before : List (Beat w) = unfinished Channel.E (on_link c e.trace) in
     let after : AbstractState w = with_state (grant_ack_taken c n rest h.state) h in
-    let up : IsTakenUp config c Channel.E (Beat.E y) e =
-    takes config c Channel.E (Beat.E y) e (subst (λ (i : Beat w). manager.IsSound config (record { 0 = c }, i))
+    let up = takes config c Channel.E (Beat.E y) e (subst (λ (i : Beat w). manager.IsSound config (record { 0 = c }, i))
     next.beat_is (head_all (λ i. manager.IsSound config (record { 0 = c }, i)) x queue (sys.channels c Channel.E)
     beats (is.sound c Channel.E))) refl refl is.all_live order.1 refl in
     let whole : completes {w = w} (Beat.E y) before ≡ true = (whole-e {w = w} y (on_link c e.trace)).1 in

@@ -218,8 +218,7 @@ pub delivered-last : {w : ℕ} (config : Config) (log : Log w) (link : Link) (ch
     (performing (accesses_answered handed) (one_memory_after config log))
     → IsDelivered config log link ch h
 delivered-last {w} config log link ch h x queue handed pushes down is last gives pushed carried beside =
-    let h' : AbstractState w = kind_taken config (next_tracker sys) link.0 is.first.kind is.first.number is.first.rest h
-    in
+    let h' = kind_taken config (next_tracker sys) link.0 is.first.kind is.first.number is.first.rest h in
     delivered_as config log link ch h h' (is.follows ∙ ap (λ (b : Bool). if b then h' else h) last)
     (subst (λ (y : Step w). ChannelRelation h'.mail h'.state y.after) (sym step_is)
     (carried (taken-landed link.0 ch x queue pushes sys now.after

@@ -51,9 +51,8 @@ delivered-a {w} config log c h terms width is at =
     let sys : System w = system_after config log in
     let m : Machine w = one_memory_after config log in
     let event : Event w = Deliver (record { 0 = c }) Channel.A in
-    let still : moved event (stepped config event sys).outcome m ≡ m =
-    delivery-a config log h sys c terms (λ (step : Step w). moved event step.outcome m ≡ m) width is at (λ e. refl)
-    (λ x queue e waits. refl) (λ x queue e arrives moves. refl) in
+    let still = delivery-a config log h sys c terms (λ (step : Step w). moved event step.outcome m ≡ m) width is at
+    (λ e. refl) (λ x queue e waits. refl) (λ x queue e arrives moves. refl) in
     record {
       carried = carried-delivered_a config log h sys c terms width is at;
       beside = beside-delivered_a config log h sys c terms (moved event (stepped config event sys).outcome m) width is
@@ -224,8 +223,7 @@ matched-event {w} config log h event width typed is =
     let all : IsFollowed config log event h = followed-all config log event h width is in
     let end : (c : ℕ) → IsEndOf c (abstract_step config event sys h) ((stepped config event sys).after.clients c) =
     λ c. clients-kept config log h.mail h.request h.state sys event width is c in
-    let manager : IsManagerOf config (abstract_step config event sys h) (stepped config event sys).after.manager =
-    manager-kept config log h sys event width is (allowed config log h sys event width is) in
+    let manager = manager-kept config log h sys event width is (allowed config log h sys event width is) in
     record {
       invariant = invariant-followed config log h.mail h.request h.state sys event width is;
       sized = sized-followed config log h sys event width is typed;

@@ -201,8 +201,7 @@ delivered-b {w} config log link h terms x queue width is known beats moving =
             (λ d i. refl) (λ d i. refl) refl (λ d. same_acquiring c (after_probe k b_pair) (h.state.block n).pair refl
             d) (λ d. refl) is.beside))
         by_letting false open_ =
-            let stalled : (offer.taken x e).answer ≡ Ok (Verdict.Stalled, None) =
-            ap (λ (o : offer.Offered w). o.answer) (sym t.takes ∙ probed.waits_for open_) in
+            let stalled = ap (λ (o : offer.Offered w). o.answer) (sym t.takes ∙ probed.waits_for open_) in
             let differ = (same_answers Verdict.Taken Verdict.Stalled (Some (handed_for y e)) None
             (offer.taken x e).answer answers stalled).0 in
             absurd (taken_stalls differ)

@@ -147,10 +147,8 @@ carried-delivered_a {w} config log h sys c terms width is client =
     let comes = coming-arrival config log h sys c x queue width is beats arrives moves in
     let k : ℕ = arrives.next.k in
     let m : MessageA w = arrives.request in
-    let first : sys.channels c Channel.A ≡ Beat.A (a_beat_of m k) ∷ queue =
-    beats ∙ ap (λ (y : Beat w). y ∷ queue) arrives.next.beat_is in
-    let same : system_after config c k m queue sys ≡ (step_moved config c k m x queue sys).after =
-    ap (λ (y : Beat w). (step_moved config c k m y queue sys).after) (sym arrives.next.beat_is) in
+    let first : sys.channels c Channel.A ≡ Beat.A (a_beat_of m k) ∷ queue = cc (beats, arrives.next.beat_is) in
+    let same = ap (λ (y : Beat w). (step_moved config c k m y queue sys).after) (sym arrives.next.beat_is) in
     moved-a config h sys c x queue (λ (i : AbstractState w). ChannelRelation i.mail i.state
     (step_moved config c k m x queue sys).after) beats arrives
     (λ last.
@@ -180,9 +178,7 @@ beside-delivered_a {w} config log h sys c terms machine width is client beside =
     let comes = coming-arrival config log h sys c x queue width is beats arrives moves in
     let k : ℕ = arrives.next.k in
     let m : MessageA w = arrives.request in
-    let same : (reaction config (link_of c) (Beat.A (a_beat_of m k)) sys.manager).handed
-    ≡ (reaction config (link_of c) x sys.manager).handed =
-    ap (λ (y : Beat w). (reaction config (link_of c) y sys.manager).handed) (sym arrives.next.beat_is) in
+    let same = ap (λ (y : Beat w). (reaction config (link_of c) y sys.manager).handed) (sym arrives.next.beat_is) in
     moved-a config h sys c x queue (λ (i : AbstractState w). MemoryRelation i.mail i.state
     (performing (accesses_answered (reaction config (link_of c) x sys.manager).handed) machine)) beats arrives
     (λ last.
@@ -193,8 +189,7 @@ beside-delivered_a {w} config log h sys c terms machine width is client beside =
     (performing (accesses_answered i) machine))
     same (arrives.is_it.beside k machine comes last beside))
     (λ more.
-    let part : (reaction config (link_of c) (Beat.A (a_beat_of m k)) sys.manager).handed ≡ [] =
-    ap (λ (d : Reaction w). d.handed) (reaction-part config (link_of c) (Beat.A (a_beat_of m k)) sys.manager
+    let part = ap (λ (d : Reaction w). d.handed) (reaction-part config (link_of c) (Beat.A (a_beat_of m k)) sys.manager
     (ends-coming config c k m sys.manager comes ∙ not_last k (beats_of (Message.A m)) more)) in
     subst (λ (i : Handed w). MemoryRelation h.mail h.state (performing (accesses_answered i) machine)) (sym part ∙ same)
     beside))
@@ -213,16 +208,13 @@ once-delivered_a {w} config log h sys c terms machine width is client beside =
     let comes = coming-arrival config log h sys c x queue width is beats arrives moves in
     let k : ℕ = arrives.next.k in
     let m : MessageA w = arrives.request in
-    let same : (reaction config (link_of c) (Beat.A (a_beat_of m k)) sys.manager).handed
-    ≡ (reaction config (link_of c) x sys.manager).handed =
-    ap (λ (y : Beat w). (reaction config (link_of c) y sys.manager).handed) (sym arrives.next.beat_is) in
+    let same = ap (λ (y : Beat w). (reaction config (link_of c) y sys.manager).handed) (sym arrives.next.beat_is) in
     moved-a config h sys c x queue
     (λ (i : AbstractState w). IsOnce (accesses_answered (reaction config (link_of c) x sys.manager).handed) h
     machine) beats arrives
     (λ last. subst (λ (i : Handed w). IsOnce (accesses_answered i) h machine) same
     (arrives.is_it.once k machine comes last beside))
     (λ more.
-    let part : (reaction config (link_of c) (Beat.A (a_beat_of m k)) sys.manager).handed ≡ [] =
-    ap (λ (d : Reaction w). d.handed) (reaction-part config (link_of c) (Beat.A (a_beat_of m k)) sys.manager
+    let part = ap (λ (d : Reaction w). d.handed) (reaction-part config (link_of c) (Beat.A (a_beat_of m k)) sys.manager
     (ends-coming config c k m sys.manager comes ∙ not_last k (beats_of (Message.A m)) more)) in
     inl (ap accesses_answered (sym same ∙ part))))

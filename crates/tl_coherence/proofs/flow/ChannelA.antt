@@ -154,14 +154,10 @@ module _ {w : ℕ} (config : Config) (log : Log w) (h : AbstractState w) (sys : 
         → MonitorRelation asked' rest' c s' (x ∷ t)
     acquired new s' changed uses lets tracked taken x ms queue next rests =
         let y : BeatA w = a_beat_of (acquire_wanted c n s wanted) 0 in
-        let one : (next.k ≡ 0) × (unfinished_at sys c Channel.A ≡ [])
-        × (completes x (unfinished_at sys c Channel.A) ≡ true) = one-beat (Message.A (acquire_wanted c n s wanted))
-        x (unfinished_at sys c Channel.A) ms queue next
+        let one = one-beat (Message.A (acquire_wanted c n s wanted)) x (unfinished_at sys c Channel.A) ms queue next
         (acquisition_beats w wanted.whole wanted.grow ((s.block n).source c) n) in
-        let x_is : x ≡ Beat.A y = next.beat_is ∙ ap (λ (j : ℕ). Beat.A (a_beat_of (acquire_wanted c n s wanted) j))
-        one.0 in
-        let last_y : completes (Beat.A y) (unfinished_at sys c Channel.A) ≡ true =
-        sym (ap (λ (z : Beat w). completes z (unfinished_at sys c Channel.A)) x_is) ∙ one.2 in
+        let x_is : x ≡ Beat.A y = cc (next.beat_is, one.0) in
+        let last_y : completes (Beat.A y) (unfinished_at sys c Channel.A) ≡ true = cc (x_is, one.2) in
         let rests_y : AreRests (Beat.A y) (unfinished_at sys c) rest' =
         subst (λ (z : Beat w). AreRests z (unfinished_at sys c) rest') x_is rests in
         let now : s'.block n ≡ new = changed n ∙ set-same n new s.block in
@@ -223,10 +219,8 @@ module _ {w : ℕ} (config : Config) (log : Log w) (h : AbstractState w) (sys : 
             go true f = absurd (elim (cases_eq i tracker) [
               | inl same ↦ let no : None ≡ Some of.0 = sym unused ∙ sym (ap s.tracked same) ∙ of.2 in cc
               | inr other ↦
-                  let here : of.0 ≡ n = same_Some of.0 n (sym of.2 ∙ sym (set-other tracker i (Some n) s.tracked other)
-                  ∙ e) in
-                  let no : GrantSent c of.1.data_too of.1.k ≡ Free =
-                  sym of.1.service ∙ ap (λ (j : ℕ). (s.block j).service) here ∙ free in
+                  let here = same_Some of.0 n (sym of.2 ∙ sym (set-other tracker i (Some n) s.tracked other) ∙ e) in
+                  let no : GrantSent c of.1.data_too of.1.k ≡ Free = cc (of.1.service, here, free) in
                   cc
             ])
               where

@@ -71,8 +71,7 @@ module _ {w : ℕ} (config : Config) (log : Log w) (h : AbstractState w) (sys : 
       let k : Cap = cap_sent ((s.block n).pair c).probing in
       let x_is : x ≡ Beat.B (probe_beat n k) = probe-beat c n s x (unfinished_at sys c Channel.B) ms queue next in
       let whole : unfinished_at sys c Channel.B ≡ [] = (is.kept c).b_whole in
-      let seen : view (s.block n).service c ≡ Other k = sent_sees k ((s.block n).pair c) (view (s.block n).service c)
-      ((is.invariant.blocks n).phases c)
+      let seen = sent_sees k ((s.block n).pair c) (view (s.block n).service c) ((is.invariant.blocks n).phases c)
       (sent-is ((s.block n).pair c).probing (holds-first Probe (s.link c).b toks (packet Probe n)
       (λ i. shown Probe c (s.block i)) tokens refl (is.invariant.transfers c Probe refl))) in
       subst (λ (z : Beat w). MonitorRelation asked' rest' c (probe_taken c n k toks s) (z ∷ t)) (sym x_is)

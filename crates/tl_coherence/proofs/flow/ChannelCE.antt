@@ -66,8 +66,7 @@ released_ungranted : (r : Prune) (p : ClientBlock) (v : View) → ok p v ≡ tru
     → is_granting v ≡ false
 released_ungranted r p (Granting d k) well open_ =
     let alone = granting_alone d k p (Granting d k) well refl in
-    let held_back : is_unreleased p.letting ≡ true =
-    and_left (is_unreleased p.letting) _ (and_right (is_unprobed p.probing) _ alone) in
+    let held_back = and_left (is_unreleased p.letting) _ (and_right (is_unprobed p.probing) _ alone) in
     absurd (let no : false ≡ true = rw open_ at held_back in cc)
 released_ungranted r p v well open_ = refl
 
@@ -198,10 +197,7 @@ module _ {w : ℕ} (config : Config) (log : Log w) (h : AbstractState w) (sys : 
       → MonitorRelation before rest' c (if b then release_taken c n (prune_told ((s.block n).pair c).letting) toks s
       else s) (x ∷ t)
   own-release tokens x ms queue next rests b last =
-      let about : (m : MessageC w) × (block_message Release c n (s.block n) ≡ Message.C m)
-      × IsAbout false n (prune_code r) (same_perm (prune_left r) Perm.Trunk) (s.block n).truth m
-      × (m.source ≡ (s.block n).release_source c) × (m.size ≡ 6) =
-      release_rendered c n (s.block n) width (is.sized n).truth in
+      let about = release_rendered c n (s.block n) width (is.sized n).truth in
       let m : MessageC w = about.0 in
       let here : IsNext x (unfinished_at sys c Channel.C) (Message.C m) ms queue =
       subst (λ (i : Message w). IsNext x (unfinished_at sys c Channel.C) i ms queue) about.1 next in
@@ -314,10 +310,8 @@ module _ {w : ℕ} (config : Config) (log : Log w) (h : AbstractState w) (sys : 
       let here : IsNext x (unfinished_at sys c Channel.E) (Message.E (record { sink = (s.block n).tracker })) ms queue =
       subst (λ (i : Message w). IsNext x (unfinished_at sys c Channel.E) i ms queue) (ack_rendered c n (s.block n))
       next in
-      let one : (here.k ≡ 0) × (unfinished_at sys c Channel.E ≡ [])
-      × (completes x (unfinished_at sys c Channel.E) ≡ true) =
-      one-beat (Message.E (record { sink = (s.block n).tracker })) x (unfinished_at sys c Channel.E) ms queue here
-      refl in
+      let one = one-beat (Message.E (record { sink = (s.block n).tracker })) x (unfinished_at sys c Channel.E) ms queue
+      here refl in
       let x_is : x ≡ Beat.E y = here.beat_is in
       subst (λ (z : Beat w). MonitorRelation asked' rest' c (grant_ack_taken c n toks s) (z ∷ t)) (sym x_is)
       (flowed-grant_ack c n toks y before asked' (unfinished_at sys c) rest' s t

@@ -134,12 +134,10 @@ module _ {w : ℕ} (config : Config) (log : Log w) (h : AbstractState w) (sys : 
       → (b : Bool) → completes x (unfinished_at sys c Channel.D) ≡ b
       → MonitorRelation (asked_by h.mail (answered_if source b) c) rest' c (answered_if source b) (x ∷ t)
   own-answer source tokens x ms queue next rests b last =
-      let due : IsAnswerDue c source h.mail s = answer-due (is_caching config) c source toks h.mail s is.invariant
-      (is.answered c source) tokens in
+      let due = answer-due (is_caching config) c source toks h.mail s is.invariant (is.answered c source) tokens in
       let here : IsNext x (unfinished_at sys c Channel.D) (Message.D due.answer) ms queue =
       subst (λ (i : Message w). IsNext x (unfinished_at sys c Channel.D) i ms queue) due.answer_is next in
-      let kind : (is_grant due.answer.opcode ≡ false) × (is_release_ack due.answer.opcode ≡ false) =
-      access_kind due.answer.opcode due.answers_access in
+      let kind = access_kind due.answer.opcode due.answers_access in
       subst (λ (z : Beat w). MonitorRelation (asked_by h.mail (answered_if source b) c) rest' c (answered_if source b)
       (z ∷ t)) (sym here.beat_is)
       (flowed-answer c (d_beat_of due.answer here.k) (is_empty (unfinished_at sys c Channel.D)) b before
@@ -180,11 +178,8 @@ module _ {w : ℕ} (config : Config) (log : Log w) (h : AbstractState w) (sys : 
       → MonitorRelation asked' rest' c (release_ack_taken c n toks s) (x ∷ t)
   own-release_ack n tokens x ms queue next rests asked' asks =
       let m : MessageD w = ack_message ((s.block n).release_source c) in
-      let here : IsNext x (unfinished_at sys c Channel.D) (Message.D m) ms queue =
-      ack_next c n s x (unfinished_at sys c Channel.D) ms queue next in
-      let one : (here.k ≡ 0) × (unfinished_at sys c Channel.D ≡ [])
-      × (completes x (unfinished_at sys c Channel.D) ≡ true) =
-      one-beat (Message.D m) x (unfinished_at sys c Channel.D) ms queue here refl in
+      let here = ack_next c n s x (unfinished_at sys c Channel.D) ms queue next in
+      let one = one-beat (Message.D m) x (unfinished_at sys c Channel.D) ms queue here refl in
       let now : (release_ack_taken c n toks s).block n ≡ new = set-same n new s.block in
       subst (λ (z : Beat w). MonitorRelation asked' rest' c (release_ack_taken c n toks s) (z ∷ t)) (sym here.beat_is)
       (flowed-let_go c n (d_beat_of m here.k) before asked' (unfinished_at sys c) rest' s (release_ack_taken c n toks s)
@@ -235,8 +230,7 @@ module _ {w : ℕ} (config : Config) (log : Log w) (h : AbstractState w) (sys : 
     where
       apart : (j : ℕ) → s.uses c i ≡ Acquires j → j ≡ n → ⊥
       apart j used same =
-          let no : acquires_of n (Acquires n) ≡ false = sym (ap (acquires_of n) (used ∙ ap Acquires same)) ∙ unused-else
-          c n i s is.invariant.named e in
+          let no : acquires_of n (Acquires n) ≡ false = cc (used, same, unused-else c n i s is.invariant.named e) in
           let yes : true ≡ false = sym (same_number n) ∙ no in cc
 
   pub own-grant : (n : ℕ) → (s.link c).d ≡ packet Grant n ∷ toks → (due : IsGrantDue c n s) → (whole : Bool)

@@ -43,8 +43,7 @@ waiting_acquire : {w : ℕ} (config : Config) (log : Log w) (mail : AccessMessag
     → (s.link c).a ≡ packet Acquire n ∷ rest → IsWaiting {w = w} c s (block_message Acquire c n (s.block n))
 unfolding IsWaiting
 waiting_acquire {w} config log mail request s sys c n rest h first =
-    let shows : (is_wanting ((s.block n).pair c).acquiring && is_unserved (view (s.block n).service c)) ≡ true =
-    holds-first Acquire (s.link c).a rest (packet Acquire n) (λ i. shown Acquire c (s.block i)) first refl
+    let shows = holds-first Acquire (s.link c).a rest (packet Acquire n) (λ i. shown Acquire c (s.block i)) first refl
     (h.invariant.transfers c Acquire refl) in
     let wants = and_left (is_wanting ((s.block n).pair c).acquiring) (is_unserved (view (s.block n).service c)) shows in
     let asks = wanting-is ((s.block n).pair c).acquiring wants in (

@@ -53,11 +53,9 @@ pub flowed-acquire : {w : ℕ} {X : Type 0} (c n : ℕ) (y : BeatA w) (asked ask
 flowed-acquire {w} {X} c n y asked asked' rest rest' s s' t first_is last_is rests is before =
     let b : Block X = s.block n in
     let new : Block X = s'.block n in
-    let none_comes : comes_granting n asked (rest Channel.D) ≡ false =
-    no_coming (is_granting (view b.service c)) (comes_granting n asked (rest Channel.D)) (ap is_granting is.idle)
-    (is.coming n) in
-    let granted_then : granted_by c n asked (rest Channel.D) b ≡ false =
-    neither (is_acknowledging (view b.service c)) (comes_granting n asked (rest Channel.D))
+    let none_comes = no_coming (is_granting (view b.service c)) (comes_granting n asked (rest Channel.D))
+    (ap is_granting is.idle) (is.coming n) in
+    let granted_then = neither (is_acknowledging (view b.service c)) (comes_granting n asked (rest Channel.D))
     (ap is_acknowledging is.idle) none_comes in
     let grants : (m : ℕ) → granted_by c m asked' (rest' Channel.D) (s'.block m) ≡ granted_by c m asked (rest Channel.D)
     (s.block m) = λ m. cc (

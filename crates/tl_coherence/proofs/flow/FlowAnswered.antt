@@ -201,16 +201,13 @@ pub flowed-let_go : {w : ℕ} {X : Type 0} (c n : ℕ) (y : BeatD w) (asked aske
     → ((i m : ℕ) → is_of m (s.lets c i) ≡ releases_with c i (s.block m)) → IsLetGo c n y asked asked' rest rest' s s'
     → MonitorRelation asked rest c s t → MonitorRelation asked' rest' c s' (Beat.D y ∷ t)
 flowed-let_go {w} {X} c n y asked asked' rest rest' s s' t first_is last_is rests named is before =
-    let of_block : s.lets c y.source ≡ Some n =
-    is_of-is n (s.lets c y.source) (named y.source n
+    let of_block = is_of-is n (s.lets c y.source) (named y.source n
     ∙ rw (is.letting, is.source) (same_number (b.release_source c))) in
     let was_let : pending (ReleaseSource y.source) t ≡ true = cc (before.release_sources y.source, of_block, is.letting)
     in
     let names : (m : ℕ) → releases m (release_of y.source t) ≡ (n == m) =
     λ m. of_releases n m (release_of y.source t) (before.released y.source n of_block was_let) in
-    let releases_at : (m : ℕ) → let_of c (rest Channel.C) (s'.block m) ≡ step true true false
-    (is_release_ack y.opcode && releases m (release_of y.source t)) (let_of c (rest Channel.C) (s.block m)) =
-    each-block (λ m z. let_of c (rest Channel.C) z ≡ step true true false
+    let releases_at = each-block (λ m z. let_of c (rest Channel.C) z ≡ step true true false
     (is_release_ack y.opcode && releases m (release_of y.source t)) (let_of c (rest Channel.C) (s.block m))) n s s'
     is.elsewhere (ap (is_release_pending ((s'.block n).release_source c) (rest Channel.C)) is.letting_is
     ∙ sym (closed (is_release_ack y.opcode) (releases n (release_of y.source t)) (let_of c (rest Channel.C) b)
@@ -225,8 +222,7 @@ flowed-let_go {w} {X} c n y asked asked' rest rest' s s' t first_is last_is rest
           (part-block (λ (z : Block X). is_unserved (view z.service c)) n s s' is.elsewhere
           (ap (λ (q : Service). is_unserved (view q c)) is.service)),
     ) in
-    let acquires : (m : ℕ) → acquired_by c (s'.block m) ≡ acquired_by c (s.block m) =
-    part-block (acquired_by c) n s s' is.elsewhere
+    let acquires = part-block (acquired_by c) n s s' is.elsewhere
     (ap (λ (l : AcquirePhase). is_wanting l && not (is_unserved (view (s'.block n).service c))) is.acquiring
     ∙ ap (λ (q : Service). is_wanting (b.pair c).acquiring && not (is_unserved (view q c))) is.service) in
     let answered : (m : ℕ) → is_answered ((s'.block m).pair c).probing ≡ is_answered ((s.block m).pair c).probing =

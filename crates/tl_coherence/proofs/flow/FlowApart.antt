@@ -311,8 +311,7 @@ module _ {w : ℕ} {X : Type 0} (d : ℕ) (asked asked' : ℕ → Option (BeatA 
         → ((i : ℕ) → s.tracked i ≡ Some n → comes_in_grant i (rest Channel.D) ≡ false)
         → IsAside asked asked' rest d (report_taken c n r toks s) (report_grants c q n r x k toks s)
     left-report_grants q source j k x waits quiet apart even none =
-        let changed : (m : ℕ) → set n new s.block m ≡ set n new between.block m =
-        set-again n (reported_block c r (s.block n)) new s.block in
+        let changed = set-again n (reported_block c r (s.block n)) new s.block in
         let same : IsSameBlock d (reported_block c r (s.block n)) new = elim (cases_eq d q) [
           | inl here ↦ rw here (same-given c q source r j k x (s.block n) apart waits even (quiet q apart))
           | inr other ↦ same-granted d c q source r j k x (s.block n) other waits (unanswered quiet)

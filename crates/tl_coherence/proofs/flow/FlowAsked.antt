@@ -75,8 +75,7 @@ pub untouched-acquire_asked : {w : ℕ} {X : Type 0} (c n source : ℕ) (whole :
 untouched-acquire_asked {w} {X} c n source whole g bytes asked asked' rest s closed calm unserved asks grants =
     let s' : State X = acquire_asked c n source whole g bytes s in
     let letting_same : (new.pair c).letting ≡ (b.pair c).letting = ap (λ (p : ClientBlock). p.letting) pair in
-    let unserved_same : (m : ℕ) → is_unserved (view (s'.block m).service c) ≡ is_unserved (view (s.block m).service c) =
-    set-part (λ (z : Block X). is_unserved (view z.service c)) n new s.block refl in
+    let unserved_same = set-part (λ (z : Block X). is_unserved (view z.service c)) n new s.block refl in
     record {
       held_is = set-part (held_by c) n new s.block
           (ap (λ (p : ClientBlock). if is_granting (view b.service c) then p.held else p.recorded) pair);

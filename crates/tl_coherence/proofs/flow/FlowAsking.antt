@@ -143,8 +143,7 @@ module _ {w : ℕ} (config : Config) (log : Log w) (h : AbstractState w) (sys : 
   asked-other d t o r ne may_be =
       let before : ℕ → Option (BeatA w) = asked_by h.mail h.state d in
       let after : Op w → Reply → ℕ → Option (BeatA w) = λ i j. asked_by (asked c i j h).mail (asked c i j h).state d in
-      let coming : IsComing before (unfinished_at sys d Channel.D) d h.state =
-      coming-granting config log h.mail h.request h.state sys d is in
+      let coming = coming-granting config log h.mail h.request h.state sys d is in
       let left : (i : Op w) (j : Reply)
       → (((k : ℕ) → after i j k ≡ before k) → IsAside before (after i j) (unfinished_at sys d) d h.state
       (asked c i j h).state) → MonitorRelation before (unfinished_at sys d) d h.state t

@@ -145,8 +145,7 @@ coming-granting {w} config log mail request s sys c h n = go (unfinished Channel
         let asks = asks-acquire c ((s.block of.0).source c) of.0 ((s.block of.0).source c) of.1.whole of.1.g mail s
         of.1.used of.1.wants refl in
         let here : (block_at (64 * of.0) == n) ≡ true =
-        sym (ap (λ (i : ℕ). asks_for n (asked_by mail s c i)) of.2 ∙ ap (asks_for n) asks)
-        ∙ and_right (is_grant x.opcode) (asks_for n (asked_by mail s c x.source)) f in
+        cc (of.2, asks, and_right (is_grant x.opcode) (asks_for n (asked_by mail s c x.source)) f) in
         let same : of.0 ≡ n = sym (same_block of.0) ∙ eqb-true (block_at (64 * of.0)) n here in
         ap (λ (i : ℕ). is_granting (view (s.block i).service c)) (sym same) ∙ ap is_granting
         (own_view c of.1.data_too of.1.k (s.block of.0).service of.1.service)
@@ -279,9 +278,8 @@ coming-free {w} config log mail request s sys c source width h free =
             let same : source ≡ (s.block of.0).release_source c =
             sym (eqb-true x.source source (and_right (is_release x.opcode) (x.source == source) f)) ∙ of.2 in
             let letting = releasing-is ((s.block of.0).pair c).letting of.1 in
-            let used : s.lets c ((s.block of.0).release_source c) ≡ Some of.0 =
-            is_of-is of.0 (s.lets c ((s.block of.0).release_source c))
-            (h.invariant.named.releases c ((s.block of.0).release_source c) of.0 ∙ rw
-            (letting, same_number ((s.block of.0).release_source c)) refl) in
+            let used = is_of-is of.0 (s.lets c ((s.block of.0).release_source c))
+            (h.invariant.named.releases c ((s.block of.0).release_source c) of.0
+            ∙ rw (letting, same_number ((s.block of.0).release_source c)) refl) in
             absurd (let no : None ≡ Some of.0 = sym free ∙ ap (s.lets c) same ∙ used in cc)
     go beats e = refl

@@ -152,10 +152,9 @@ module _ {w : ℕ} (config : Config) (log : Log w) (h : AbstractState w) (sys : 
             → FlowedAs (granted_after (length config.clients.items) config.profile c q n r a toks h)
         granted q source k waits quiet NoAcquire wants l = absurd cc
         granted q source k waits quiet (AcquireOpen whole g) wants l =
-            let even : ((s.block n).pair q).held ≡ ((s.block n).pair q).recorded = same_perms ((s.block n).pair
-            q).recorded ((s.block n).pair q).held (and_right (is_unreleased ((s.block n).pair q).letting) _
-            (and_right (is_unprobed ((s.block n).pair q).probing) _ (own_alone ((s.block n).pair q) (view (s.block
-            n).service q) ((is.invariant.blocks n).phases q) own))) in
+            let even = same_perms ((s.block n).pair q).recorded ((s.block n).pair q).held (and_right (is_unreleased
+            ((s.block n).pair q).letting) _ (and_right (is_unprobed ((s.block n).pair q).probing) _ (own_alone
+            ((s.block n).pair q) (view (s.block n).service q) ((is.invariant.blocks n).phases q) own))) in
             let x = is_granted_data whole g ((s.block n).pair q).recorded in
             let j = gift config.profile whole g
             (is_unheld (length config.clients.items) (set c (after_report r ((s.block n).pair c)) (s.block n).pair))

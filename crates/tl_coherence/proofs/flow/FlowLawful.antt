@@ -62,8 +62,7 @@ report-lawful : {w : ℕ} (config : Config) (log : Log w) (mail : AccessMessages
 unfolding block_message
 report-lawful {w} config log mail request s sys c n toks l x ms queue width is flowed lawful tokens next =
     let rest : List (Beat w) = unfinished Channel.C (on_link c sys.manager.trace) in
-    let about : (i : MessageC w) × (block_message ProbeAck c n b ≡ Message.C i) × IsAbout true n (report_code r)
-    (same_perm (report_left r) Perm.Trunk) b.truth i = report-about r n b.truth width (is.sized n).truth in
+    let about = report-about r n b.truth width (is.sized n).truth in
     let m : MessageC w = about.0 in
     let told : r ≡ report_at (cap_waited b.service) (b.pair c).recorded =
     cc (same_report-is r (report_at (cap_waited b.service) (b.pair c).recorded)
@@ -105,15 +104,11 @@ release-lawful : {w : ℕ} (config : Config) (log : Log w) (mail : AccessMessage
 unfolding block_message
 release-lawful {w} config log mail request s sys c n toks l x ms queue width is flowed lawful tokens next =
     let rest : List (Beat w) = unfinished Channel.C (on_link c sys.manager.trace) in
-    let about : (i : MessageC w) × (block_message Release c n b ≡ Message.C i) × IsAbout false n (prune_code r)
-    (same_perm (prune_left r) Perm.Trunk) b.truth i × (i.source ≡ b.release_source c) =
-    release-about r (b.release_source c) n b.truth width (is.sized n).truth in
+    let about = release-about r (b.release_source c) n b.truth width (is.sized n).truth in
     let m : MessageC w = about.0 in
-    let used : s.lets c (b.release_source c) ≡ Some n =
-    is_of-is n (s.lets c (b.release_source c)) (is.invariant.named.releases c (b.release_source c) n
+    let used = is_of-is n (s.lets c (b.release_source c)) (is.invariant.named.releases c (b.release_source c) n
     ∙ rw (releasing, same_number (b.release_source c)) refl) in
-    let fits : same_perm (prune_left r) (b.pair c).recorded ≡ true =
-    release_begins r (b.pair c) (view b.service c) ok_is releasing
+    let fits = release_begins r (b.pair c) (view b.service c) ok_is releasing
     (unanswered (is_caching config) c n toks s is.invariant tokens) in
     next-flows l config.profile (Message.C m) x rest ms queue (flow c log) lawful
     (subst (λ (i : Message w). IsNext x rest i ms queue) about.1 next) ((flowed c).rest_is Channel.C)
@@ -155,8 +150,7 @@ pub flows-c : {w : ℕ} (config : Config) (log : Log w) (mail : AccessMessages w
     → sys.channels c Channel.C ≡ x ∷ queue → level_of config c ≡ Some l
     → broken_after l config.profile x (flow c log) ≡ None
 flows-c {w} config log mail request s sys c l x queue width is flowed beats level =
-    let lawful : illegal l (channel_of x) x ≡ None = lawful-beat config log mail request s sys c Channel.C l x queue is
-    beats level in
+    let lawful = lawful-beat config log mail request s sys c Channel.C l x queue is beats level in
     cc (by-first_c (λ i. broken_after l config.profile x (flow c log) ≡ None) c mail s sys x queue
     (first-token (is_caching config) Channel.C c mail s sys x queue width is.invariant is.carried beats)
     (λ n rest tokens next. report-lawful config log mail request s sys c n rest l x (map (message_of mail s c) rest)

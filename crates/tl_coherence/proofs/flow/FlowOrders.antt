@@ -38,9 +38,7 @@ pub request-flows : {w : ℕ} {X : Type 0} (p : Profile) (c : ℕ) (x : BeatA w)
 unfolding broken_order
 request-flows {w} p c x asked rest s t flowed whole plain used =
     let none : unfinished Channel.A t ≡ [] = flowed.rest_is Channel.A ∙ whole in
-    let free : pending (Key.RequestSource x.source) t ≡ false =
-    flowed.requests x.source ∙ ap (λ (u : SourceState). is_requested c x.source (rest Channel.A) u s) used ∙ ap
-    (comes_in_request x.source) whole in
+    let free : pending (Key.RequestSource x.source) t ≡ false = cc (flowed.requests x.source, used, whole) in
     rw (none, plain, free) refl
 
 pub acquire-flows : {w : ℕ} {X : Type 0} (p : Profile) (c n : ℕ) (x : BeatA w) (asked : ℕ → Option (BeatA w))
@@ -73,8 +71,7 @@ unfolding broken_order
 probe-flows {w} p c n x asked rest s t flowed whole block unanswered open_ none_comes =
     let none : unfinished Channel.B t ≡ [] = flowed.rest_is Channel.B ∙ whole in
     let probes : pending (Key.ProbeOf n) t ≡ false = flowed.probes n ∙ unanswered in
-    let grants : pending (Key.GrantAckOf n) t ≡ false =
-    flowed.grants n ∙ ap (λ (b : Bool). b || comes_granting n asked (rest Channel.D)) open_ ∙ none_comes in
+    let grants : pending (Key.GrantAckOf n) t ≡ false = cc (flowed.grants n, open_, none_comes) in
     rw (none, block) (unprobed (is_probe x.opcode) (pending (Key.ProbeOf n) t) (pending (Key.GrantAckOf n) t) probes
     grants)
 
@@ -122,9 +119,7 @@ release-flows {w} p c n r x asked rest s t flowed whole is block param used lets
     let free : pending (Key.ReleaseSource x.source) t ≡ false =
     flowed.release_sources x.source ∙ ap (λ (o : Option ℕ). is_let_by c x.source (rest Channel.C) o s) used ∙ unlet
     x.source (rest Channel.C) ((s.block n).pair c).letting whole (ap is_acked lets) in
-    let once : pending (Key.AcquireOf n) t ≡ false =
-    flowed.acquires n ∙ ap (λ (a : AcquirePhase). is_wanting a && not (is_unserved (view (s.block n).service c)))
-    calm in
+    let once : pending (Key.AcquireOf n) t ≡ false = cc (flowed.acquires n, calm) in
     let again : pending (Key.ReleaseOf n) t ≡ false = flowed.releases n ∙ unlet ((s.block n).release_source c)
     (rest Channel.C) ((s.block n).pair c).letting whole (ap is_acked lets) in
     let prunes : prunes_from (prune_of x.param) (held n t) ≡ true =
@@ -144,12 +139,8 @@ pub grant_ack-flows : {w : ℕ} {X : Type 0} (p : Profile) (c n : ℕ) (x : Beat
 unfolding broken_order
 grant_ack-flows {w} p c n x asked rest s t flowed whole tracked acknowledging none_comes =
     let none : unfinished Channel.E t ≡ [] = flowed.rest_is Channel.E ∙ whole in
-    let sunk : pending (Key.GrantSink x.sink) t ≡ true =
-    flowed.sinks x.sink ∙ ap (λ (o : Option ℕ). is_sunk c x.sink (rest Channel.D) o s) tracked
-    ∙ ap (λ (b : Bool). b || (is_granting (view (s.block n).service c) && comes_in_grant x.sink (rest Channel.D)))
-    acknowledging in
-    let apart : comes_in_grant x.sink (unfinished Channel.D t) ≡ false =
-    ap (comes_in_grant x.sink) (flowed.rest_is Channel.D) ∙ none_comes in
+    let sunk : pending (Key.GrantSink x.sink) t ≡ true = cc (flowed.sinks x.sink, tracked, acknowledging) in
+    let apart : comes_in_grant x.sink (unfinished Channel.D t) ≡ false = cc (flowed.rest_is Channel.D, none_comes) in
     rw (none, sunk, apart) refl
 
 -- ---- each beat of a message

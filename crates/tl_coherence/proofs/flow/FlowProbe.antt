@@ -42,8 +42,7 @@ pub flowed-probe : {w : ℕ} {X : Type 0} (c n : ℕ) (k : Cap) (toks : List Pac
     → MonitorRelation asked rest c s t → MonitorRelation asked' rest' c (probe_taken c n k toks s)
     (Beat.B (probe_beat n k) ∷ t)
 flowed-probe {w} {X} c n k toks asked asked' rest rest' s t first last rests asks at seen waited comes before =
-    let part_true : is_answered (new.pair c).probing ≡ true =
-    ap (λ (p : ClientBlock). is_answered p.probing) (set-same c (after_probe k (b.pair c)) b.pair) in
+    let part_true = ap (λ (p : ClientBlock). is_answered p.probing) (set-same c (after_probe k (b.pair c)) b.pair) in
     let requests : (i : ℕ) → is_requested c i (rest' Channel.A) (s'.uses c i) s' ≡ is_requested c i (rest Channel.A)
     (s.uses c i) s = λ i. cc (
       rests Channel.A,

@@ -58,8 +58,7 @@ moved-to_manager : {w : ℕ} (config : Config) (log : Log w) (link : Link) (ch :
     → IsMovedOn config log link ch h x queue
 unfolding with_messages
 moved-to_manager {w} config log link ch h terms x queue width is known down beats moving =
-    let at : IsAtManager config log link ch h x queue = at-manager config log link ch h terms x queue width is known
-    down beats moving in
+    let at = at-manager config log link ch h terms x queue width is known down beats moving in
     let e : manager_end.End w = manager_offer.taken link x (reaction config link x sys.manager) sys.manager in
     let base : System w = with_manager e (with_channel link.0 ch queue sys) in
     record {
@@ -90,8 +89,7 @@ moved-to_client : {w : ℕ} (config : Config) (log : Log w) (link : Link) (ch : 
     → IsMovedOn config log link ch h x queue
 moved-to_client {w} config log link ch h terms x queue width is known up beats moving =
     let sys : System w = system_after config log in
-    let t : IsTakenByClient terms link.0 ch x queue sys (stepped config (Deliver link ch) sys) =
-    client-moves config link ch sys terms x queue known beats up moving in
+    let t = client-moves config link ch sys terms x queue known beats up moving in
     let first : IsFirst ch link.0 h.mail h.state sys x queue = first-token (is_caching config) ch link.0 h.mail h.state
     sys x queue width is.invariant is.carried beats in
     let on_ch : IsOn ch x = subst (λ (i : Channel). IsOn i x) (first-of config log h link.0 terms ch x queue width is

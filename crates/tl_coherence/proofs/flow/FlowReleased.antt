@@ -154,8 +154,7 @@ flowed-release {w} {X} c n r y first last asked rest rest' s s' t first_is last_
           (part-block (λ (z : Block X). is_unserved (view z.service c)) n s s' is.elsewhere
           (ap (λ (q : Service). is_unserved (view q c)) is.service)),
     ) in
-    let acquires : (m : ℕ) → acquired_by c (s'.block m) ≡ acquired_by c (s.block m) =
-    part-block (acquired_by c) n s s' is.elsewhere
+    let acquires = part-block (acquired_by c) n s s' is.elsewhere
     (ap (λ (l : AcquirePhase). is_wanting l && not (is_unserved (view new.service c))) is.acquiring
     ∙ ap (λ (q : Service). is_wanting (b.pair c).acquiring && not (is_unserved (view q c))) is.service) in
     let answered : (m : ℕ) → is_answered ((s'.block m).pair c).probing ≡ is_answered ((s.block m).pair c).probing =

@@ -54,8 +54,7 @@ flowed-report {w} {X} c n r toks y first asked rest rest' s t first_is last_is r
       requested-blocks c i (rest Channel.A) (s.uses c i) s s'
           (set-part (λ (z : Block X). is_unserved (view z.service c)) n new s.block refl),
     ) in
-    let acquires : (m : ℕ) → acquired_by c (s'.block m) ≡ acquired_by c (s.block m) =
-    set-part (acquired_by c) n new s.block (ap (λ (z : Bool). z && not (is_unserved (view b.service c)))
+    let acquires = set-part (acquired_by c) n new s.block (ap (λ (z : Bool). z && not (is_unserved (view b.service c)))
     (part_of (λ (p : ClientBlock). is_wanting p.acquiring) c (after_report r (b.pair c)) b.pair refl)) in
     let releases : (m : ℕ) → let_of c (rest' Channel.C) (s'.block m) ≡ let_of c (rest Channel.C) (s.block m) =
     λ m. cc (

@@ -49,8 +49,7 @@ acquire-lawful {w} config log mail request s sys c n l x ms queue is flowed lawf
     let p : ClientBlock = (s.block n).pair c in
     let well : ok p (view (s.block n).service c) ≡ true = (is.invariant.blocks n).phases c in
     let idle : view (s.block n).service c ≡ Idle = rw free refl in
-    let settled : ((is_unprobed p.probing && is_unreleased p.letting) && same_perm p.recorded p.held) ≡ true =
-    first_three (is_unprobed p.probing) (is_unreleased p.letting) (same_perm p.recorded p.held) _
+    let settled = first_three (is_unprobed p.probing) (is_unreleased p.letting) (same_perm p.recorded p.held) _
     (asked_alone wanted.whole wanted.grow p (view (s.block n).service c) well idle wanted.wants) in
     next-flows l config.profile (Message.A m) x (unfinished Channel.A (on_link c sys.manager.trace)) ms queue
     (flow c log) lawful next ((flowed c).rest_is Channel.A)

@@ -48,8 +48,7 @@ flow-answer : {w : ℕ} (config : Config) (log : Log w) (mail : AccessMessages w
     (flow c log) ≡ None
 flow-answer {w} config log mail request s sys c source h flowed due whole =
     let kind = access_kind due.answer.opcode due.answers_access in
-    let asks : asked_by mail s c source ≡ Some (a_beat_of due.request 0) =
-    asks-access c source due.request mail s (ap is_access due.used) due.request_is in
+    let asks = asks-access c source due.request mail s (ap is_access due.used) due.request_is in
     let live = (flowed c).requests source ∙ ap
     (λ (u : SourceState). is_requested c source (unfinished Channel.A (on_link c sys.manager.trace)) u s) due.used
     in
@@ -104,15 +103,10 @@ flow-grant {w} config log mail request s sys c n h flowed due given whole =
     let r : BeatA w = a_beat_of (acquisition (acquire_opcode due.whole) due.g source n) 0 in
     let fits = fitting ((s.block n).pair c).recorded ((s.block n).pair c).held due.data_too due.k due.whole due.g
     due.fits in
-    let asks : asked_by mail s c source ≡ Some r = asks-acquire c source n source due.whole due.g mail s due.used
-    due.wants refl in
+    let asks = asks-acquire c source n source due.whole due.g mail s due.used due.wants refl in
     let mine = own_view c due.data_too due.k (s.block n).service due.service in
-    let live : pending (RequestSource source) (flow c log) ≡ true =
-    (flowed c).requests source ∙ ap
-    (λ (u : SourceState). is_requested c source (unfinished Channel.A (on_link c sys.manager.trace)) u s)
-    due.used ∙ ap (λ (v : View). not (is_unserved v)) mine in
-    let held_now : held n (flow c log) ≡ ((s.block n).pair c).held = (flowed c).held_is n
-    ∙ ap (λ (v : View). if is_granting v then ((s.block n).pair c).held else ((s.block n).pair c).recorded) mine in
+    let live : pending (RequestSource source) (flow c log) ≡ true = cc ((flowed c).requests source, due.used, mine) in
+    let held_now : held n (flow c log) ≡ ((s.block n).pair c).held = cc ((flowed c).held_is n, mine) in
     grant-legal config.profile n (d_beat_of (grant_message due.data_too due.k source sink (s.block n).truth) 0) r
     (flow c log) (record {
       whole = (flowed c).rest_is Channel.D ∙ whole;
@@ -203,14 +197,10 @@ not-coming_c {w} config log mail request s sys c n h let_ acked = go (s.link c).
     differ i releasing false e = refl
     differ i releasing true e =
         let open_ = open_release ((s.block i).pair c).letting releasing in
-        let lets : s.lets c ((s.block i).release_source c) ≡ Some i =
-        is_of-is i (s.lets c ((s.block i).release_source c))
-        (h.invariant.named.releases c ((s.block i).release_source c) i
-        ∙ and_from (not (is_unreleased ((s.block i).pair c).letting))
-        ((s.block i).release_source c == (s.block i).release_source c) open_
-        (same_number ((s.block i).release_source c))) in
-        let same : i ≡ n = same_Some i n (sym lets ∙ ap (s.lets c) (eqb-true ((s.block i).release_source c) source e)
-        ∙ let_) in
+        let lets = is_of-is i (s.lets c ((s.block i).release_source c)) (h.invariant.named.releases c ((s.block
+        i).release_source c) i ∙ and_from (not (is_unreleased ((s.block i).pair c).letting)) ((s.block
+        i).release_source c == (s.block i).release_source c) open_ (same_number ((s.block i).release_source c))) in
+        let same = same_Some i n (sym lets ∙ ap (s.lets c) (eqb-true ((s.block i).release_source c) source e) ∙ let_) in
         absurd (apart ((s.block n).pair c).letting acked
         (sym (ap (λ (j : ℕ). is_releasing ((s.block j).pair c).letting) same) ∙ releasing))
 
@@ -251,8 +241,7 @@ flow-ack {w} config log mail request s sys c n h flowed let_ acked whole =
     let source = (s.block n).release_source c in
     let rest = unfinished Channel.C (on_link c sys.manager.trace) in
     let live : pending (ReleaseSource source) (flow c log) ≡ true =
-    (flowed c).release_sources source ∙ ap (λ (o : Option ℕ). is_let_by c source rest o s) let_ ∙ let_acked
-    ((s.block n).pair c).letting source rest acked in
+    cc ((flowed c).release_sources source, let_, let_acked ((s.block n).pair c).letting source rest acked) in
     ack-legal config.profile (d_beat_of (ack_message source) 0) (flow c log) ((flowed c).rest_is Channel.D ∙ whole)
     (ap (λ (b : List (Beat w)). comes_in_release source b) ((flowed c).rest_is Channel.C) ∙ not-coming_c config log mail
     request s sys c n h let_ acked)

@@ -118,9 +118,8 @@ ack-lawful : {w : ℕ} (config : Config) (log : Log w) (mail : AccessMessages w)
 unfolding block_message
 ack-lawful {w} config log mail request s sys c n toks l x ms queue is flowed lawful tokens next =
     let y : BeatE = record { sink = (s.block n).tracker } in
-    let shows : is_acknowledging (view (s.block n).service c) ≡ true =
-    holds-first GrantAck (s.link c).e toks (packet GrantAck n) (λ i. shown GrantAck c (s.block i)) tokens refl
-    (is.invariant.transfers c GrantAck refl) in
+    let shows = holds-first GrantAck (s.link c).e toks (packet GrantAck n) (λ i. shown GrantAck c (s.block i)) tokens
+    refl (is.invariant.transfers c GrantAck refl) in
     let taken : (s.block n).service ≡ GrantTaken c = acknowledging-is (s.block n).service c shows in
     next-flows l config.profile (block_message GrantAck c n (s.block n)) x
     (unfinished Channel.E (on_link c sys.manager.trace)) ms queue (flow c log) lawful next

@@ -26,8 +26,7 @@ moved-first : {w : ℕ} (config : Config) (log : Log w) (h : AbstractState w) (l
     → ((d : ℕ) → flow d ((Deliver link ch, o) ∷ log) ≡ (if link.0 == d then x ∷ flow d log else flow d log))
     → (queue : List (Beat w)) × ((system_after config log).channels link.0 (channel_of x) ≡ x ∷ queue)
 moved-first {w} config log h link ch o x width is o_is moves delivered =
-    let moved : IsMovedOn config log link ch h at.0 at.1 = moved-on config log link ch h at.0 at.1 at.2 width is at.3.0
-    at.3.1 moving (is_to_client ch) refl in
+    let moved = moved-on config log link ch h at.0 at.1 at.2 width is at.3.0 at.3.1 moving (is_to_client ch) refl in
     let both : (if link.0 == link.0 then x ∷ flow link.0 log else flow link.0 log)
     ≡ (if link.0 == link.0 then at.0 ∷ flow link.0 log else flow link.0 log) =
     cc (delivered link.0, o_is, moved.delivered link.0) in

@@ -61,9 +61,7 @@ pub levelled : {w : ℕ} (config : Config) (log : Log w) (link : Link) (ch : Cha
     → IsLevelled config link.0
 unfolding IsLog
 levelled {w} config log link ch o given moving =
-    let first : (y : Beat w) × (queue : List (Beat w)) × (terms : EndConfig)
-    × (((system_after config log).channels link.0 ch ≡ y ∷ queue) × (terms_at config link.0 ≡ Some terms)) =
-    first-moved config link ch (system_after config log) (ap is_moving (sym given.is_log.0) ∙ moving) in
+    let first = first-moved config link ch (system_after config log) (ap is_moving (sym given.is_log.0) ∙ moving) in
     let of_link : level_of config link.0 ≡ Some first.2.level = (level-terms config link.0 first.2 first.3.1).0 in
     record {
       level = first.2.level;

@@ -167,8 +167,7 @@ asked-flowed {w} config log c o h width is flowed = go (terms_at config c) refl
     go (Some terms) known =
         let a : ask.Asked w = ask.asked terms o (sys.clients c) in
         let h' : AbstractState w = asked c o a.reply h in
-        let well : IsAskedWell config c o h (one_memory_after config log) (ask.asked terms o (sys.clients c)) =
-        asked-well config log h sys c terms o width is known in
+        let well = asked-well config log h sys c terms o width is known in
         subst After (sym (stepped-asked config c o sys terms known)) (λ d. subst (λ (t : History w). MonitorRelation
         (asked_by h'.mail h'.state d) (unfinished_at (replied c a sys).after d) d h'.state t) (sym (flow_still (Ask
         c o) (Outcome.Replied a.reply) log d refl)) (flowed-rests (asked_by h'.mail h'.state d) (unfinished_at sys

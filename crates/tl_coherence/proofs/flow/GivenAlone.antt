@@ -78,8 +78,7 @@ given-next : {w : ℕ} (config : Config) (log : Log w) → IsGiven config log �
     → leaves (capped y.param) (held n (flow other log)) ≡ true
 given-next {w} config log given c y queue beats n other granted ne =
     let seen : view b.service c ≡ Granting due.data_too due.k = own_view c due.data_too due.k b.service due.service in
-    let gives : capped y.param ≡ cap_right due.k = ap (λ (z : BeatD w). capped z.param) grant.beat_is
-    ∙ cap-gives due.k in
+    let gives : capped y.param ≡ cap_right due.k = cc (grant.beat_is, cap-gives due.k) in
     let holds : held n (flow other log) ≡ (b.pair other).recorded = (values other).held_is n
     ∙ ungranted_holds other b (other_view c other due.data_too due.k b.service due.service ne) in
     let even : (b.pair c).recorded ≡ cap_right due.k = sym (same_perms (b.pair c).recorded (cap_right due.k) (and_right
@@ -143,8 +142,7 @@ one-writer : {w : ℕ} (config : Config) (log : Log w) → IsGiven config log �
 one-writer {w} config log given one other n ne trunk =
     let h : AbstractState w = shadow config log in
     let b : Block (List ℕ) = h.state.block n in
-    let at : SimulationRelation config log h.mail h.request h.state (system_after config log) =
-    matched-given config log given in
+    let at = matched-given config log given in
     let values : (c : ℕ) → held n (flow c log) ≡ held_by c b =
     λ c. (flowed config log given.width given.typed given.is_log c).held_is n in
     let most : (c : ℕ) → perm_le (held_by c b) (b.pair c).recorded ≡ true =

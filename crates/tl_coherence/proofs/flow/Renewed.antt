@@ -260,8 +260,7 @@ renewed-report {w} config log c n rest h sys is first =
         let with_it : IsServedWith h.mail (Waits q false source k) m = rw e at (is.served_with n) in
         let from : h.mail.request q source ≡ Message.A m = with_it in
         let for : IsFor (Waits q false source k) n m = rw e at (is.served.requests n) in
-        let told : written r b.truth b.memory ≡ b.truth = memory-reported (is_caching config) c q source r k b
-        (is.invariant.blocks n) e answered quiet in
+        let told = memory-reported (is_caching config) c q source r k b (is.invariant.blocks n) e answered quiet in
         let new : Block (List ℕ) = ended_block c r (performs m) b in
         let other : (d : ℕ) → view b.service d ≡ Other k = λ d. rw e refl in
         let low : (d : ℕ) → perm_le (set c (after_report r (b.pair c)) b.pair d).recorded (cap_right k) ≡ true =

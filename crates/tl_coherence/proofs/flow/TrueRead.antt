@@ -54,12 +54,9 @@ answered {w} config (x ∷ log) given c source m used request =
     let h : AbstractState w = shadow config log in
     let h' : AbstractState w = shadow config (x ∷ log) in
     let sys' : System w = system_after config (x ∷ log) in
-    let is : SimulationRelation config log h.mail h.request h.state (system_after config log) =
-    matched-given config log before in
-    let is' : SimulationRelation config (x ∷ log) h'.mail h'.request h'.state sys' =
-    matched-given config (x ∷ log) given in
-    let values : MonitorRelations (x ∷ log) h'.mail h'.state sys' =
-    flowed config (x ∷ log) given.width given.typed given.is_log in
+    let is = matched-given config log before in
+    let is' = matched-given config (x ∷ log) given in
+    let values = flowed config (x ∷ log) given.width given.typed given.is_log in
     let now : (i : MessageA w) → h'.mail.request c source ≡ Message.A i → IsSettledFor i h'.state
     → h'.mail.answer c source ≡ answers i (h.state.block (block_at i.address)).truth → i ≡ m
     → IsAnswered config m (h'.mail.answer c source) (x ∷ log) log = λ i asked settled replied same. record {

@@ -23,8 +23,7 @@ true-next : {w : ℕ} (config : Config) (log : Log w) → IsGiven config log →
     → (bytes : List ℕ) × IsBlock (one_memory_after config log).memory (block_at y.address) bytes
     × (y.lanes ≡ lanes_at true w bytes (length (unfinished Channel.C (flow c log))))
 true-next {w} config log given c y queue beats with_data =
-    let values : MonitorRelations log h.mail h.state (system_after config log) =
-    flowed config log given.width given.typed given.is_log in
+    let values = flowed config log given.width given.typed given.is_log in
     let place : (m : Message w) (k : ℕ) → unfinished Channel.C (on_link c (system_after config log).manager.trace)
     ≡ begun m k → k ≡ length (unfinished Channel.C (flow c log)) =
     λ m k e. sym (ap length ((values c).rest_is Channel.C ∙ e) ∙ length-begun m k) in
@@ -56,8 +55,7 @@ true-next {w} config log given c y queue beats with_data =
     about n b param carries m says k beat_is at =
         let same : y ≡ c_beat_of m k = same_beat y (c_beat_of m k) beat_is in
         let of_block : block_at y.address ≡ n = ap (λ (z : BeatC w). block_at z.address) same ∙ says.block in
-        let data_too : c_carries_data m.opcode ≡ true = sym (ap (λ (z : BeatC w). c_carries_data z.opcode) same)
-        ∙ with_data in
+        let data_too : c_carries_data m.opcode ≡ true = cc (same, with_data) in
         let lanes : y.lanes ≡ lanes_at true w (h.state.block n).truth (length (unfinished Channel.C (flow c log))) =
         cc (same, data_too, says.payload_is (sym says.carries_is ∙ data_too), at) in (
           (h.state.block n).truth,

@@ -40,8 +40,7 @@ module _ {w : ℕ} (config : Config) (log : Log w) (given : IsGiven config log) 
 
   pub first-writable : IsWritable x
   first-writable =
-      let lawful : illegal terms.level (channel_of x) x ≡ None =
-      lawful-beat config log (shadow config log).mail (shadow config log).request (shadow config log).state
+      let lawful = lawful-beat config log (shadow config log).mail (shadow config log).request (shadow config log).state
       (system_after config log) c ch terms.level x queue is beats (level-terms config c terms known).0 in
       subst IsWritable (sym first.next.beat_is) (legal-writable terms.level (channel_of x) _ first.next.k given.width
       (ap (λ (y : Beat w). illegal terms.level (channel_of x) y) (sym first.next.beat_is) ∙ lawful))

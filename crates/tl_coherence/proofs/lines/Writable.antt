@@ -98,8 +98,7 @@ roomy {w} l ch (A x) width mask e =
     let k = keeps l ch (A x) e in
     let param : x.param < 8 = below x.param 8 (a_has_param x.opcode x.param) (a-large x.opcode x.param)
     (not-false (a_has_param x.opcode x.param) k.two) in
-    let size : x.size ≤ 6 = request_small w x.size l x.opcode width (not-false (a_has_size w l x.opcode x.size) k.three)
-    in
+    let size = request_small w x.size l x.opcode width (not-false (a_has_size w l x.opcode x.size) k.three) in
     (param, omega arith, mask)
 roomy {w} l ch (B x) width mask e =
     let k = keeps l ch (B x) e in

@@ -109,8 +109,7 @@ ending_d {w} config log link h terms y queue x source f width is known beats don
 
     go : (b : Bool) → completes y (unfinished Channel.D e.past) ≡ b → IsEnding config log link Channel.D h x source f
     go false part =
-        let unended : completes (Beat.D z) (unfinished Channel.D e.past) ≡ false =
-        sym (ap (λ (i : Beat w). completes i (unfinished Channel.D e.past)) y_is) ∙ part in
+        let unended : completes (Beat.D z) (unfinished Channel.D e.past) ≡ false = cc (y_is, part) in
         absurd (done_moved x y source f (outcome_is Verdict.Taken None (answer-part z e unended)))
     go true last =
         let same : x ≡ y → source ≡ z.source → f ≡ finish_at z e → completes y (unfinished Channel.D e.past) ≡ true
@@ -131,10 +130,8 @@ ending_d {w} config log link h terms y queue x source f width is known beats don
               whole
               ∙ ap (λ (l : List Packet). packet_taken config (next_tracker sys) c l h) first.tokens;
         }) in
-        let ended : completes (Beat.D z) (unfinished Channel.D e.past) ≡ true =
-        sym (ap (λ (i : Beat w). completes i (unfinished Channel.D e.past)) y_is) ∙ last in
-        let o : Outcome.Done x source f ≡ Outcome.Done y z.source (finish_at z e) =
-        outcome_is (Verdict.Done z.source (finish_at z e)) (acked z.opcode z.sink) (answer-last z e ended) in
+        let ended : completes (Beat.D z) (unfinished Channel.D e.past) ≡ true = cc (y_is, last) in
+        let o = outcome_is (Verdict.Done z.source (finish_at z e)) (acked z.opcode z.sink) (answer-last z e ended) in
         let x_is : x ≡ y = done_beat x y source z.source f (finish_at z e) o in
         same x_is (done_source x y source z.source f (finish_at z e) o)
         (done_finish x y source z.source f (finish_at z e) o) last

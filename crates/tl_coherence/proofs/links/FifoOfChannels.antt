@@ -273,8 +273,7 @@ moved-passing {w} config log link ch terms x queue width typed logged known beat
         by_manager : IsTakenByManager config link ch x queue sys (stepped config (Deliver link ch) sys)
             → IsPassing (stepped config (Deliver link ch) sys).after f'
         by_manager t =
-            let e : manager_end.End w = manager_offer.taken link x (manager_reaction.reaction config link x sys.manager)
-            sys.manager in
+            let e = manager_offer.taken link x (manager_reaction.reaction config link x sys.manager) sys.manager in
             let now : System w = with_manager e (with_channel c ch queue sys) in
             subst (λ (y : Step w). IsPassing y.after (λ d. flow d ((Deliver link ch, y.outcome) ∷ log))) (sym t.step_is)
             (passing-same (λ d. (sys.clients d).past) (λ d. on_link d e.trace) _ _ (with_messages handed now).channels

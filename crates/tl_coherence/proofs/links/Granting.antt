@@ -141,17 +141,15 @@ granted-holds {w} config log link ch h x source p op width is done asked = go en
         let due = grant-due (is_caching config) c n end.first.rest h.state is.invariant (tokens Grant e) in
         let m : MessageD w = grant_message due.data_too due.k ((h.state.block n).source c) (h.state.block n).tracker
         (h.state.block n).truth in
-        let same : end.response ≡ m =
-        same-response end.response m (sym (response_is Grant e) ∙ grant-rendered c n h.state due) in
+        let same = same-response end.response m (sym (response_is Grant e) ∙ grant-rendered c n h.state due) in
         let cap_is : p ≡ cap_right due.k = same_grant p (cap_right due.k)
         (end.finish_is ∙ granted-at (d_beat_of end.response end.first.next.k) (sys.clients c) due.data_too due.k
         (ap (λ (i : MessageD w). i.opcode) same) (ap (λ (i : MessageD w). i.param) same)) in
         let from : source ≡ (h.state.block n).source c = end.source_is ∙ ap (λ (i : MessageD w). i.source) same in
         let opened = opened-acquire config log h sys c source n (h.state.uses c source) is refl
         (ap (h.state.uses c) from ∙ due.used) in
-        let op_is : op ≡ op_of ((h.state.block n).pair c).acquiring n ((h.state.block n).waiting c) =
-        same_op op _ (sym asked ∙ sym (opened-started config log c Requests source) ∙ ap
-        (λ (o : Option (Open w)). option_map (λ i. i.asked) o) opened) in
+        let op_is = same_op op _ (sym asked ∙ sym (opened-started config log c Requests source)
+        ∙ ap (λ (o : Option (Open w)). option_map (λ i. i.asked) o) opened) in
         let block_is : op_block op ≡ n = ap op_block op_is ∙ acquired_block w ((h.state.block n).pair c).acquiring n
         ((h.state.block n).waiting c) in
         ap (λ (i : ℕ). held i ((stepped config (Deliver link ch) sys).after.clients c).past)
@@ -168,8 +166,7 @@ granted-holds {w} config log link ch h x source p op width is done asked = go en
     go Answer e own =
         let due = answer-due (is_caching config) c n end.first.rest h.mail h.state is.invariant (is.answered c n)
         (tokens Answer e) in
-        let same : end.response ≡ due.answer =
-        same-response end.response due.answer (sym (response_is Answer e) ∙ due.answer_is) in
+        let same = same-response end.response due.answer (sym (response_is Answer e) ∙ due.answer_is) in
         absurd (answer_at (d_beat_of end.response end.first.next.k) (sys.clients c) p
         (ap (λ (i : MessageD w). is_access_answer i.opcode) same ∙ due.answers_access) end.finish_is)
     go ReleaseAck e own =

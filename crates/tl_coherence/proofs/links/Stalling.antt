@@ -84,8 +84,7 @@ module _ {w : ℕ} (config : Config) (log : Log w) (mail : AccessMessages w) (re
     (coherent : IsCoherent (system_after config log) log (one_memory_after config log)) (c n : ℕ) where
   pub releasing-started : pending (ReleaseOf n) ((system_after config log).clients c).past ≡ true → IsReleasing c n log
   releasing-started p =
-      let not_kept : is_unreleased ((s.block n).pair c).letting ≡ false =
-      not-true (is_unreleased ((s.block n).pair c).letting) (sym ((matched.known c).releases n) ∙ p) in
+      let not_kept = not-true (is_unreleased ((s.block n).pair c).letting) (sym ((matched.known c).releases n) ∙ p) in
       let let_by : s.lets c source ≡ Some n = source_of_release _ s c n matched.invariant not_kept in
       let found = of_let (rw let_by at (matched.beside.releases c source)) in
       (source, found.0, found.1)
@@ -199,12 +198,10 @@ movable-moves {w} config log c ch exactly movable =
         → is_moving (outcome_of_delivery config log c ch) ≡ true
     go (Some terms) e (x ∷ rest) f g =
         let is : IsExact config log c ch = exactly (ap is_some e) in
-        let same : outcome_of_delivery config log c ch ≡ (delivered config terms c ch (sys.channels c ch) sys).outcome =
-        ap (λ (o : Option EndConfig). (stepped_at config o (Deliver (record { 0 = c }) ch) sys).outcome) e in
+        let same = ap (λ (o : Option EndConfig). (stepped_at config o (Deliver (record { 0 = c }) ch) sys).outcome) e in
         let some : is_emptiness (outcome_of_delivery config log c ch) ≡ false = is.empty ∙ ap is_empty f in
-        let unstalled : is_stall (outcome_of_delivery config log c ch) ≡ false = is.stalled
-        ∙ ap (λ (b : Bool). not (is_empty (sys.channels c ch)) && not b) movable ∙ and-false
-        (not (is_empty (sys.channels c ch))) in
+        let unstalled : is_stall (outcome_of_delivery config log c ch) ≡ false =
+        cc (is.stalled, movable, and-false (not (is_empty (sys.channels c ch)))) in
         ap is_moving same ∙ moving-else config terms c ch (sys.channels c ch) sys (sym (ap is_emptiness same) ∙ some)
         (sym (ap is_stall same) ∙ unstalled)
     go o e beats f g = absurd cc

@@ -50,8 +50,7 @@ asking-served {w} {X} caching request s c source n tracker (Waits q own src k) i
         let sourced : IsOwnSource (Waits c true source k) (s.block n).source =
         rw waits_so at (inv.blocks n).own_source in
         let own_view : view (s.block n).service c ≡ Own = rw (waits_so, same_number c) refl in
-        let wants : is_wanting ((s.block n).pair c).acquiring ≡ true =
-        not-calm ((s.block n).pair c).acquiring (own_wants ((s.block n).pair c) (view (s.block n).service c)
+        let wants = not-calm ((s.block n).pair c).acquiring (own_wants ((s.block n).pair c) (view (s.block n).service c)
         ((inv.blocks n).phases c) own_view) in
         let used = acquires_of-is n (s.uses c source)
         (inv.named.acquires c source n ∙ rw (wants, ← sourced, same_number source) refl) in
@@ -109,8 +108,7 @@ served-waits {X} caching s c source (Acquires n) inv f e = go (s.block n).servic
         let mine = and_left own (c == r) both in
         let client = eqb-true c r (and_right own (c == r) both) in
         let sourced : IsOwnSource (Waits r true src k) (s.block n).source = rw (g, mine) at (inv.blocks n).own_source in
-        let number : source ≡ src = eqb-true source ((s.block n).source c) named ∙ ap (s.block n).source client ∙ sym
-        sourced in
+        let number : source ≡ src = cc (eqb-true source ((s.block n).source c) named, client, sourced) in
         record { block = n; own = true; cap = k; waits_so = g ∙ rw (client, number, mine) refl }
 
 sources-traced : {w : ℕ} {X : Type 0} (caching : ℕ → Bool) (config : Config) (request : ℕ → MessageA w) (s : State X)
@@ -127,8 +125,7 @@ sources-traced {w} {X} caching config request s e inv kept is c source = one_tru
     at_block n v Free f found asks granted = absurd (let no : None ≡ Some v = found in cc)
     at_block n v (Waits r own src k) f found asks granted =
         let v_is = some_is (at_service r (s.block n).tracker (request n)) v found in
-        let here : is_asking c source t (at_service r (s.block n).tracker (request n)) ≡ true =
-        ap (is_asking c source t) v_is ∙ asks in
+        let here : is_asking c source t (at_service r (s.block n).tracker (request n)) ≡ true = cc (v_is, asks) in
         asking-served caching request s c source n (s.block n).tracker (Waits r own src k) inv f
         (rw f at (is.requests n)) refl r refl
         (and_left (r == c) _ here) (and_left ((request n).source == source) _ (and_right (r == c) _ here))
@@ -136,16 +133,14 @@ sources-traced {w} {X} caching config request s e inv kept is c source = one_tru
       where
         ungranted : (u : manager.Service w) → is_asking c source t u ≡ true → waits.is_granted t u ≡ true → ⊥
         ungranted u g h =
-            let none : not (waits.is_granted t u) ≡ true =
-            and_right (u.request.source == source) _ (and_right (u.link.0 == c) _ g) in
+            let none = and_right (u.request.source == source) _ (and_right (u.link.0 == c) _ g) in
             let no : false ≡ true = rw h at none in
             cc
     at_block n v (GrantTaken q) f found asks granted = absurd (ungranted v asks granted)
       where
         ungranted : (u : manager.Service w) → is_asking c source t u ≡ true → waits.is_granted t u ≡ true → ⊥
         ungranted u g h =
-            let none : not (waits.is_granted t u) ≡ true =
-            and_right (u.request.source == source) _ (and_right (u.link.0 == c) _ g) in
+            let none = and_right (u.request.source == source) _ (and_right (u.link.0 == c) _ g) in
             let no : false ≡ true = rw h at none in
             cc
 
@@ -231,8 +226,7 @@ sinks-traced {w} {X} caching config request s e inv kept is c sink =
         let client = eqb-true v.link.0 c (and_left (v.link.0 == c) _ one.passes) in
         let number = eqb-true v.tracker sink (and_left (v.tracker == sink) _ (and_right (v.link.0 == c) _ one.passes))
         in
-        let yes : waits.is_granted t v ≡ true = and_right (v.tracker == sink) _ (and_right (v.link.0 == c) _ one.passes)
-        in
+        let yes = and_right (v.tracker == sink) _ (and_right (v.link.0 == c) _ one.passes) in
         let granted : is_granted_in (s.block n).service ≡ true =
         sym (granted-is caching config request s e inv kept is n v one.serves) ∙ yes in
         let of = client_of (client_in (s.block n).service) (s.block n).tracker (request n) v
@@ -250,8 +244,7 @@ sinks-traced {w} {X} caching config request s e inv kept is c sink =
     with_granted (Some n) f g =
         let to = granted-to c (s.block n).service g in
         let v : manager.Service w = at_service c (s.block n).tracker (request n) in
-        let found : service_of_block n (services t) ≡ Some v =
-        is.serving_is n ∙ ap (λ (o : Option ℕ). service_with o (s.block n).tracker (request n)) to.1 in
+        let found : service_of_block n (services t) ≡ Some v = cc (is.serving_is n, to.1) in
         let granted : waits.is_granted t v ≡ true = granted-is caching config request s e inv kept is n v found ∙ to.0
         in
         let tracks : tracks_with sink (s.block n) ≡ true = sym (inv.named.trackers sink n) ∙ rw (f, same_number n) refl

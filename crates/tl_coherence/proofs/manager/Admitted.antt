@@ -87,9 +87,8 @@ release-comes {w} config log mail request s sys c n is kept = go (s.link c).c re
         rw f (release_comes w (prune_told ((s.block x.number).pair c).letting) ((s.block x.number).release_source c)
         x.number n i (s.block x.number).truth (λ same.
         let first : (s.link c).c ≡ packet Release x.number ∷ xs = e ∙ ap (λ (k : Kind). packet k x.number ∷ xs) f in
-        let shows : is_releasing ((s.block x.number).pair c).letting ≡ true =
-        holds-first Release (s.link c).c xs (packet Release x.number) (λ j. shown Release c (s.block j)) first refl
-        (is.invariant.transfers c Release refl) in
+        let shows = holds-first Release (s.link c).c xs (packet Release x.number) (λ j. shown Release c (s.block j))
+        first refl (is.invariant.transfers c Release refl) in
         let no : true ≡ false = sym shows ∙ ap (λ j. is_releasing ((s.block j).pair c).letting) same ∙ kept in
         cc))
     kinds k x xs e f i = absurd (apart x xs e (rw f refl))
@@ -171,8 +170,7 @@ order-acquire {w} config log mail request s sys c n zero is is_it free burst =
     let p : ClientBlock = (s.block n).pair c in
     let well : ok p (view (s.block n).service c) ≡ true = (is.invariant.blocks n).phases c in
     let idle : view (s.block n).service c ≡ Idle = rw free refl in
-    let settled : ((is_unprobed p.probing && is_unreleased p.letting) && same_perm p.recorded p.held) ≡ true =
-    first_three (is_unprobed p.probing) (is_unreleased p.letting) (same_perm p.recorded p.held) _
+    let settled = first_three (is_unprobed p.probing) (is_unreleased p.letting) (same_perm p.recorded p.held) _
     (asked_alone is_it.whole is_it.grow p (view (s.block n).service c) well idle is_it.wants) in
     acquire-legal config.profile n p.recorded
     (a_beat_of (acquisition (acquire_opcode is_it.whole) is_it.grow ((s.block n).source c) n) 0)
@@ -222,8 +220,7 @@ free-untracked {w} caching request s t inv is = go (s.tracked i) refl
               request n;
         }) found in
         let none : is_one_of (s.block n).tracker (trackers_of (services t)) ≡ false =
-        ap (λ j. is_one_of j (trackers_of (services t))) (sym same) ∙ least_free-is_free (trackers_of (services t))
-        in
+        cc (same, least_free-is_free (trackers_of (services t))) in
         cc
 
     taken : (n : ℕ) (service : Service) → (s.block n).service ≡ service → is_busy service ≡ true
@@ -270,8 +267,7 @@ pub first-beat : {w : ℕ} (config : Config) (log : Log w) (mail : AccessMessage
 first-beat {w} config log mail request s sys c x queue is beats =
     let sound : IsSound config (link_of c, Beat.A x) = head_all (λ y. IsSound config (link_of c, y)) (Beat.A x) queue
     (sys.channels c Channel.A) beats (is.sound c Channel.A) in
-    let typed : AreLanes (Beat.A x) = head_all AreLanes (Beat.A x) queue (sys.channels c Channel.A) beats
-    (is.typed c Channel.A) in
+    let typed = head_all AreLanes (Beat.A x) queue (sys.channels c Channel.A) beats (is.typed c Channel.A) in
     let l = leveled (level_of config c) (Beat.A x) sound.lawful in
     record { level = l.0; level_is = l.1; lawful = l.2; inside = sound.inside; clean = sound.clean; typed = typed }
 

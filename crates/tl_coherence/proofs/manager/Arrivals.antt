@@ -183,8 +183,7 @@ pub ready-last : {w : ℕ} (config : Config) (c k : ℕ) (m : MessageA w) (e : E
 ready-last {w} config c k m e is last =
     let served = served-last config c k m e is last in
     let found = made (link_of c) (a_beat_of m k) e.trace served.last (le-leb m.size 6 m.small) in
-    let same : service_made (link_of c) (a_beat_of m k) e.trace found.0 ≡ service_for c m e.trace =
-    some_is (service_made (link_of c) (a_beat_of m k) e.trace found.0) (service_for c m e.trace)
+    let same = some_is (service_made (link_of c) (a_beat_of m k) e.trace found.0) (service_for c m e.trace)
     (sym found.1.made ∙ served.made) in
     subst (λ (v : Service w). IsReady config (block_at m.address) v (with_beat c m k e.trace)) same
     (request-ready config (link_of c) (a_beat_of m k) e found.0 (taken-coming config c k m e is) found.1)

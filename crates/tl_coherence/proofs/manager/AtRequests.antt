@@ -61,8 +61,7 @@ unfolding with_handed
 at_manager-more {w} caching config mail request s c k m e inv is more unwaited known =
     let part : ends (Beat.A (a_beat_of m k)) (on_link c e.trace) ≡ false =
     ends-coming config c k m e is ∙ not_last k (beats_of (A m)) more in
-    let done : reaction config (link_of c) (Beat.A (a_beat_of m k)) e ≡ nothing e.memory =
-    reaction-part config (link_of c) (Beat.A (a_beat_of m k)) e part in
+    let done = reaction-part config (link_of c) (Beat.A (a_beat_of m k)) e part in
     let kept : IsKept config (end_with c k m (nothing e.memory) e) =
     subst (λ (d : Reaction w). IsKept config (end_with c k m d e)) done (kept-coming config c k m e is) in
     subst (λ (d : Reaction w). IsAtManager config mail request s (end_with c k m d e)) (sym done)
@@ -103,8 +102,7 @@ at_manager-probing {w} caching config mail request c k n own source j m s u e in
       handed = probes n j (probed config (service_for c m e.trace) j (with_beat c m k e.trace));
       memory = e.memory;
     } in
-    let new : Block (List ℕ) = served_block c own source (least_untaken (trackers_of (services e.trace))) j (s.block n)
-    in
+    let new = served_block c own source (least_untaken (trackers_of (services e.trace))) j (s.block n) in
     let served_now : (i : ℕ) → IsServedWith mail (u.block i).service (set n m request i) = λ i. elim (cases_eq i n) [
       | inl same ↦ rw (same, blocks n, set-same n new s.block, set-same n m request) with
       | inr other ↦ rw (blocks i, set-other n i new s.block other, set-other n i m request other) (known.served_with i)

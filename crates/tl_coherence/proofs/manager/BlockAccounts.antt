@@ -120,8 +120,7 @@ granted-is {w} {X} caching config request s e inv kept is n v found = go (s.bloc
         ∙ ap not (quiet_unless ((s.block n).pair c) (view (s.block n).service c) ((inv.blocks n).phases c)
         (granted_views (s.block n).service c f)))
         in
-        let awaited : is_awaited config n t (Some v) ≡ true =
-        ap (is_awaited config n t) (sym found) ∙ kept.steady.awaited n in
+        let awaited : is_awaited config n t (Some v) ≡ true = cc (found, kept.steady.awaited n) in
         only (waits.is_granted t v) (rw settled at awaited)
       where
         only : (b : Bool) → (b || false) ≡ true → b ≡ true

@@ -36,8 +36,7 @@ nobody-some config test = go (some_below (length config.clients.items) test) ref
         let one = some-found (length config.clients.items) test e in
         let among : is_one_of one.0 (clients_where config test) ≡ true =
         among-where config test one.0 ∙ rw (lt-ltb one.0 (length config.clients.items) one.1, one.2) refl in
-        let none : is_one_of one.0 (clients_where config test) ≡ false =
-        nobody-is (clients_where config test) f one.0 in
+        let none = nobody-is (clients_where config test) f one.0 in
         absurd cc
     go true e false f = refl
     go false e x f = sym f ∙ (nobody-where config test).1 (some-none (length config.clients.items) test e)
@@ -67,8 +66,7 @@ pub waits-used : {X : Type 0} (caching : ℕ → Bool) (s : State X) (n r source
 waits-used caching s n r source true k inv e =
     let sourced : IsOwnSource (Waits r true source k) (s.block n).source = rw e at (inv.blocks n).own_source in
     let own_view : view (s.block n).service r ≡ Own = rw (e, same_number r) refl in
-    let wants : is_wanting ((s.block n).pair r).acquiring ≡ true =
-    not-calm ((s.block n).pair r).acquiring (own_wants ((s.block n).pair r) (view (s.block n).service r)
+    let wants = not-calm ((s.block n).pair r).acquiring (own_wants ((s.block n).pair r) (view (s.block n).service r)
     ((inv.blocks n).phases r) own_view) in
     acquires_of-is n (s.uses r source) (inv.named.acquires r source n ∙ rw (wants, ← sourced, same_number source) refl)
 waits-used caching s n r source false k inv e =

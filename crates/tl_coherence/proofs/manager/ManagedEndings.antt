@@ -194,9 +194,8 @@ are_served-ended {w} {X} request c q n source k r f rest x m s t is known =
         let client : q ≡ d = eqb-true q d p.0 in
         let mine : source ≡ i = eqb-true source i p.1 in
         let free : pending (Key.RequestSource i) (on_link d v) ≡ false = source_now d i ∙ rw e refl in
-        let none : comes_in_request i (unfinished Channel.A (on_link d v)) ≡ false =
-        no-burst d i v (accounted-answer n (service_for q n request s) m u is.reply is.answers is.access is.accounted)
-        free in
+        let none = no-burst d i v (accounted-answer n (service_for q n request s) m u is.reply is.answers is.access
+        is.accounted) free in
         rw (free, none, ← client, ← mine, set_at-same q source Replied s.uses) refl
     sources_now d i false e =
         source_now d i ∙ rw (

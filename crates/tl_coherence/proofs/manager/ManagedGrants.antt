@@ -297,8 +297,7 @@ are_served-conceded {w} {X} request c q n source k gift r dt rest x m s t is kno
         let client : q ≡ d = eqb-true q d p.0 in
         let mine : source ≡ i = eqb-true source i p.1 in
         let free : pending (Key.RequestSource i) (on_link d v) ≡ false = source_now d i ∙ rw e refl in
-        let none : comes_in_request i (unfinished Channel.A (on_link d v)) ≡ false =
-        no-burst d i v (accounted-grant n (service_for q n request s) m u is.grant is.accounted) free in
+        let none = no-burst d i v (accounted-grant n (service_for q n request s) m u is.grant is.accounted) free in
         let served : is_served d (s.uses d i) z ≡ false = rw (← client, ← mine) answered in
         free ∙ sym (ap (λ b. b || comes_in_request i (unfinished Channel.A (on_link d v))) served ∙ none)
     sources_now d i false e =

@@ -171,8 +171,7 @@ released-left {w} config c n k r rest m h e up end is =
           memory_with (record { 0 = c }) x e;
     } in
     let done : reaction config (record { 0 = c }) (Beat.C x) e ≡ does = reaction-released config c n k r m h e end in
-    let answer : (i : MessageD w) × (release_ack x.source ≡ Message.D i) × (is_release_ack i.opcode ≡ true)
-    × (is_grant i.opcode ≡ false) = release_is x.source in
+    let answer = release_is x.source in
     let released : IsReleased c x answer.0 e.trace = record {
       width = end.width;
       other = end.about.reports;
@@ -264,10 +263,8 @@ reported-left {w} config c n k r rest m h e up end others is =
     let carries : Bool = same_perm (report_left r) Perm.Trunk in
     let after : State (List ℕ) = report_taken c n r rest h.state in
     let does : Reaction w = nothing (memory_with (record { 0 = c }) x e) in
-    let last : IsLastOf c n (report_right r) x e.trace =
-    last-of true c n (report_code r) carries truth k (report_right r) m e end (reported-report r) in
-    let done : reaction config (record { 0 = c }) (Beat.C x) e ≡ does =
-    reaction-reported config c n k r m h e end others is.managed in
+    let last = last-of true c n (report_code r) carries truth k (report_right r) m e end (reported-report r) in
+    let done = reaction-reported config c n k r m h e end others is.managed in
     let still : (i : ℕ) → IsServedWith h.mail (after.block i).service (h.request i) = λ i. elim (cases_eq i n) [
       | inl same ↦ rw (same, set-same n (reported_block c r (h.state.block n)) h.state.block) (is.served_with n)
       | inr other ↦ rw (set-other n i (reported_block c r (h.state.block n)) h.state.block other) (is.served_with i)
@@ -297,8 +294,7 @@ pub acked-left : {w : ℕ} (config : Config) (c n : ℕ) (rest : List Packet) (x
 unfolding with_handed
 acked-left {w} config c n rest x h e width up acks is =
     let after : State (List ℕ) = grant_ack_taken c n rest h.state in
-    let done : reaction config (record { 0 = c }) (Beat.E x) e ≡ nothing e.memory =
-    reaction-ack config (record { 0 = c }) x e in
+    let done = reaction-ack config (record { 0 = c }) x e in
     let still : (i : ℕ) → IsServedWith h.mail (after.block i).service (h.request i) = λ i. elim (cases_eq i n) [
       | inl same ↦ rw (same, set-same n (freed_block (h.state.block n)) h.state.block) tt
       | inr other ↦ rw (set-other n i (freed_block (h.state.block n)) h.state.block other) (is.served_with i)

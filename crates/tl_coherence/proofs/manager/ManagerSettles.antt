@@ -78,19 +78,15 @@ ended-left {w} config c q n source k low r rest m h e at =
     let x : BeatC w = c_beat_of m k in
     let new : Block (List ℕ) = ended_block c r (performs (h.request n)) (h.state.block n) in
     let after : State (List ℕ) = report_answers c q n source r (performs (h.request n)) rest h.state in
-    let said : Message w = answers (h.request n) (protocol.written r (h.state.block n).truth (h.state.block n).memory)
-    in
+    let said = answers (h.request n) (protocol.written r (h.state.block n).truth (h.state.block n).memory) in
     let does : Reaction w = record {
       handed = (record { 0 = q }, said) ∷ [];
       memory =
           (effect (Message.A (h.request n)) (memory_with (record { 0 = c }) x e)).0;
     } in
-    let done : reaction config (record { 0 = c }) (Beat.C x) e ≡ does =
-    reaction-ended config c q n source k low r m h e at in
-    let for : IsFor (Waits q false source low) n (h.request n) = settling-for config c q n source k false low r m h e at
-    in
-    let reply : (i : MessageD w) × (said ≡ Message.D i) × (is_access_answer i.opcode ≡ true)
-    × (is_release_ack i.opcode ≡ false) × (i.source ≡ (h.request n).source) = answer_is (h.request n) _ in
+    let done = reaction-ended config c q n source k low r m h e at in
+    let for = settling-for config c q n source k false low r m h e at in
+    let reply = answer_is (h.request n) _ in
     let ending : IsEnding c q n source low r x reply.0 h.request h.state e.trace = record {
       last = settling-last config c q n source k false low r m h e at;
       report = at.end.about.reports;
@@ -205,15 +201,13 @@ reaction-conceded {w} config c q n source k low r whole g m h e at wanted =
     let u : Trace w = trace_with c k m e in
     let memory : Memory = memory_with (record { 0 = c }) (c_beat_of m k) e in
     let unheld : Bool = is_unheld (length config.clients.items) (pairs_after c r (h.state.block n).pair) in
-    let for : IsFor (Waits q true source low) n (h.request n) = settling-for config c q n source k true low r m h e at
-    in
+    let for = settling-for config c q n source k true low r m h e at in
     let none : holders.is_unheld config n u ≡ unheld =
     cc (nobody-same config (λ d. has_copy (recorded d n u))
     (λ d. not (same_perm (pairs_after c r (h.state.block n).pair d).recorded Perm.None))
     (λ d. ap has_copy (settling-records config c q n source k true low r m h e at d)
     ∙ has_copy-is (pairs_after c r (h.state.block n).pair d).recorded)) in
-    let mine : (pairs_after c r (h.state.block n).pair q).recorded ≡ ((h.state.block n).pair q).recorded =
-    ap (λ (p : ClientBlock). p.recorded) (set-other c q (after_report r ((h.state.block n).pair c))
+    let mine = ap (λ (p : ClientBlock). p.recorded) (set-other c q (after_report r ((h.state.block n).pair c))
     (h.state.block n).pair (λ f. wanted.apart (sym f))) in
     let sent : grant_of (GrantSent q (is_granted_data whole g ((h.state.block n).pair q).recorded)
     (gift config.profile whole g unheld)) (h.request n).source (h.state.block n).tracker (block_in memory n)
@@ -249,14 +243,9 @@ conceded-left {w} config c q n source k low r whole g rest m h e at wanted =
       memory =
           memory_with (record { 0 = c }) x e;
     } in
-    let done : reaction config (record { 0 = c }) (Beat.C x) e ≡ does =
-    reaction-conceded config c q n source k low r whole g m h e at wanted in
-    let for : IsFor (Waits q true source low) n (h.request n) = settling-for config c q n source k true low r m h e at
-    in
-    let reply : (i : MessageD w) × (grant_after config c q n source r whole g h ≡ Message.D i)
-    × (is_grant i.opcode ≡ true) × (is_release_ack i.opcode ≡ false) × (i.source ≡ source)
-    × (i.sink ≡ (h.state.block n).tracker) × (i.param ≡ cap_code given) =
-    given_is q data_too given source (h.state.block n).tracker
+    let done = reaction-conceded config c q n source k low r whole g m h e at wanted in
+    let for = settling-for config c q n source k true low r m h e at in
+    let reply = given_is q data_too given source (h.state.block n).tracker
     (protocol.written r (h.state.block n).truth (h.state.block n).memory) in
     let conceded : IsConceded c q n source low given r x reply.0 h.request h.state e.trace = record {
       last = settling-last config c q n source k true low r m h e at;

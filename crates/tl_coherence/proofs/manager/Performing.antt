@@ -71,8 +71,7 @@ traced-answered {w} {X} config request c k n f m s u memory e blocks is known =
     let after : Trace w = with_answer config c k m memory e.trace in
     let new : Block X = performed_block f (s.block n) in
     let here : u.block n ≡ new = blocks n ∙ set-same n new s.block in
-    let reply : (r : MessageD w) × (access_answer m (answer_of (A m) (effect (A m) memory).1) ≡ D r)
-    × (is_grant r.opcode ≡ false) = answer_of_d m (answer_of (A m) (effect (A m) memory).1) in
+    let reply = answer_of_d m (answer_of (A m) (effect (A m) memory).1) in
     let after_is : after ≡ after_sent (link_of c) (D reply.0) t =
     ap (λ (d : Reaction w). with_handed d.handed t) (performed-access config (service_for c m e.trace) t memory
     is.access) ∙ one-handed c (access_answer m (answer_of (A m) (effect (A m) memory).1)) t

@@ -111,8 +111,7 @@ handed-granted {w} config log mail request s sys caching c n k is asked comes la
     let gift_is : Cap = gift config.profile asked.whole asked.grow unheld in
     let data_too : Bool = is_granted_data asked.whole asked.grow (b.pair c).recorded in
     let new : Block (List ℕ) = granted_at_once c (next_tracker sys) data_too gift_is b in
-    let recorded_now : (new.pair c).recorded ≡ cap_right gift_is =
-    ap (λ (p : ClientBlock). p.recorded) (set-same c (after_grant_sent gift_is (b.pair c)) b.pair) in
+    let recorded_now = ap (λ (p : ClientBlock). p.recorded) (set-same c (after_grant_sent gift_is (b.pair c)) b.pair) in
     let given : cap_granted config.profile m.opcode m.param (holders.is_unheld config (block_at m.address) u)
     ≡ gift_is = cc (same_block n, unheld-same config log mail request s sys c k n m is) in
     let carried : handing.is_granted_data m.opcode m.param (recorded c (block_at m.address) u) ≡ data_too =

@@ -85,8 +85,7 @@ pub at_manager-request_taken : {w : ℕ} (config : Config) (log : Log w) (h : Ab
     → IsManagerOf config (kind_taken config (next_tracker sys) c Request source rest h)
     (end_after config c k asked.request sys.manager)
 at_manager-request_taken {w} config log h sys c source k rest is first asked comes last moves =
-    let inv : IsInvariant (is_caching config) (kind_taken config tracker c Request source rest h).state =
-    invariant-taken config log h sys c Request source rest is first
+    let inv = invariant-taken config log h sys c Request source rest is first
     (ready-request config log h sys c source k is asked comes last moves) in
     subst (λ (i : Message w). IsManagerOf config (request_taken clients c source i tracker rest h) after)
     (sym asked.is_it)
@@ -236,8 +235,7 @@ pub at_manager-acquire_taken : {w : ℕ} (config : Config) (log : Log w) (h : Ab
     → IsManagerOf config (kind_taken config (next_tracker sys) c Acquire n rest h)
     (end_after config c k (acquire_wanted c n h.state asked) sys.manager)
 at_manager-acquire_taken {w} config log h sys c n k rest is first asked comes last moves =
-    let inv : IsInvariant (is_caching config) (kind_taken config tracker c Acquire n rest h).state =
-    invariant-taken config log h sys c Acquire n rest is first ready in
+    let inv = invariant-taken config log h sys c Acquire n rest is first ready in
     subst (λ (i : AcquirePhase). IsManagerOf config (acquire_taken clients config.profile c n i tracker rest h) after)
     (sym asked.wants)
     (go (some_below clients (λ d. is_probed c true j (b.pair d).recorded d)) refl

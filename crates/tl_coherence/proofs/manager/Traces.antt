@@ -55,8 +55,7 @@ traced-at {w} {X} n request after s u t v at is = record {
     | inl same ↦ let here : (u.block n).service ≡ Waits r own source k = rw same at e in
         rw same (at.asked_here r source own k here)
     | inr other ↦
-        let before : (s.block i).service ≡ Waits r own source k =
-        ap (λ (b : Block X). b.service) (sym (at.other_blocks i other)) ∙ e in
+        let before : (s.block i).service ≡ Waits r own source k = cc (at.other_blocks i other, e) in
         at.asked_else i r source own k other before ∙ is.asked i r source own k before ∙ ap
         (λ (m : MessageA w). Some (a_beat_of m 0)) (sym (at.other_requests i other))
   ];

@@ -160,9 +160,8 @@ at_manager-access : {w : ℕ} (caching : ℕ → Bool) (config : Config) (c sour
     → h.state.uses c source ≡ SourceFree → IsInvariant caching (access_asked c source h.state)
     → IsManagerOf config h e → IsManagerOf config (asked c (Op.Access (Message.A m)) (Reply.Started source) h) e
 at_manager-access {w} caching config c source m h e inv closed after is =
-    let now : IsAtManager config h.mail h.request (access_asked c source h.state) e =
-    at_manager-untouched caching config h.mail h.request h.state (access_asked c source h.state) e after (λ i. refl) is
-    in
+    let now = at_manager-untouched caching config h.mail h.request h.state (access_asked c source h.state) e after
+    (λ i. refl) is in
     record {
       managed = now.managed;
       served = now.served;

@@ -66,8 +66,7 @@ pub calm-none : (caching : ℕ → Bool) (s : State (List ℕ)) (c n i : ℕ) �
 calm-none caching s c n i inv calm e =
     let named = inv.named.acquires c i n in
     let yes : acquires_of n (s.uses c i) ≡ true = ap (acquires_of n) e ∙ same_number n in
-    let no : (is_wanting ((s.block n).pair c).acquiring && (i == (s.block n).source c)) ≡ false =
-    ap (λ (x : AcquirePhase). is_wanting x && (i == (s.block n).source c)) calm in
+    let no = ap (λ (x : AcquirePhase). is_wanting x && (i == (s.block n).source c)) calm in
     let differ : true ≡ false = sym yes ∙ named ∙ no in cc
 
 -- ---- what is asked

@@ -233,8 +233,7 @@ beside_ended {w} caching config c q n source r k rest h m inv waits answered set
     let x : MessageA w = h.request n in
     let new : Block (List ℕ) = ended_block c r (performs x) b in
     let s' : State (List ℕ) = report_answers c q n source r (performs x) rest h.state in
-    let told : written r b.truth b.memory ≡ b.truth = memory-reported caching c q source r k b (inv.blocks n) waits
-    answered settled in
+    let told = memory-reported caching c q source r k b (inv.blocks n) waits answered settled in
     let reply_same : (effect (Message.A x) (bytes_at (block_at x.address) (h.state.block (block_at x.address)).truth)).1
     ≡ (effect (Message.A x) (bytes_at (block_at x.address) (written r b.truth b.memory))).1 = cc (at, told) in
     beside-performed config q source x (written r b.truth b.memory) h.mail h.state s' m is (λ f block. reply_same)

@@ -38,8 +38,7 @@ beside-answer {w} c source rest mail s m used h =
         sym i.1.2 ∙ e in cc)
     go (Some o) e i =
         let some_is : (x y : Open w) → Some x ≡ Some y → x ≡ y = λ x y e. cc in
-        let asked : o ≡ record { asked = Op.Access (Message.A i.1.0); answer = Some i.0 } =
-        some_is o (record { asked = Op.Access (Message.A i.1.0); answer = Some i.0 }) (sym e ∙ i.1.2) in
+        let asked = some_is o (record { asked = Op.Access (Message.A i.1.0); answer = Some i.0 }) (sym e ∙ i.1.2) in
         subst (λ (y : Open w). MemoryRelation mail (answer_taken c source rest s)
         (after_end c Requests source (Some y) m)) (sym asked)
         (beside-used c source SourceFree mail mail s (answer_taken c source rest s) m
@@ -60,11 +59,9 @@ only_source : (caching : ℕ → Bool) (s : State (List ℕ)) (c n i : ℕ) → 
     → (i ≡ (s.block n).source c → ⊥) → s.uses c i ≡ Acquires n → ⊥
 only_source caching s c n i inv ne e =
     let yes : acquires_of n (s.uses c i) ≡ true = ap (acquires_of n) e ∙ same_number n in
-    let named : acquires_of n (s.uses c i) ≡ (is_wanting ((s.block n).pair c).acquiring && (i == (s.block n).source c))
-    = inv.named.acquires c i n in
+    let named = inv.named.acquires c i n in
     let no : (is_wanting ((s.block n).pair c).acquiring && (i == (s.block n).source c)) ≡ false =
-    ap (λ (b : Bool). is_wanting ((s.block n).pair c).acquiring && b) (ne_eqb i ((s.block n).source c) ne)
-    ∙ and-false (is_wanting ((s.block n).pair c).acquiring) in
+    cc (ne_eqb i ((s.block n).source c) ne, and-false (is_wanting ((s.block n).pair c).acquiring)) in
     let differ : true ≡ false = sym yes ∙ named ∙ no in cc
 
 pub beside-grant : {w : ℕ} (caching : ℕ → Bool) (c n : ℕ) (d : Bool) (k : Cap) (rest : List Packet)

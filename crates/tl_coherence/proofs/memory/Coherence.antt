@@ -168,8 +168,7 @@ coherent-matched {w} config log mail request s h =
           (h.known d).held_is n ∙ none_is ((s.block n).pair d).held ((s.block n).pair d).recorded none
           (held_at_most ((s.block n).pair d) (view (s.block n).service d) ((h.invariant.blocks n).phases d));
       copies = λ c n bytes copy.
-          let some : same_perm ((s.block n).pair c).held Perm.None ≡ false =
-          held-some ((s.block n).pair c).held
+          let some = held-some ((s.block n).pair c).held
           (sym (sym (ap is_some copy) ∙ (h.kept c).copies_held n ∙ ap holds ((h.known c).held_is n))) in
           let same : (s.block n).truth ≡ bytes = sym ((h.invariant.blocks n).copies c some) ∙ some_is ((s.block n).copy c)
           bytes (sym (h.copies c n some) ∙ copy) in

@@ -31,8 +31,7 @@ counted-first config =
     total-zero (clients_in config) (λ c. total (sources_in config c) (λ i. 0) + 0)
     (λ c few. let none : total (sources_in config c) (λ i. 0) ≡ 0 =
     total-zero (sources_in config c) (λ i. 0) (λ i lt. refl) in omega (arith, none)) in
-    let releases_none : open_releases config first_state ≡ 0 =
-    total-zero (clients_in config) (λ c. total (sources_in config c) (λ i. 0))
+    let releases_none = total-zero (clients_in config) (λ c. total (sources_in config c) (λ i. 0))
     (λ c few. total-zero (sources_in config c) (λ i. 0) (λ i lt. refl)) in
     record { requests_are = omega (arith, requests_none); releases_are = omega (arith, releases_none) }
 

@@ -53,9 +53,8 @@ none-counted config s closed no_acks =
     (λ i lt. ap (λ (u : SourceState). one_if (is_used u)) (closed.uses c i)) in
     let acks : length (s.link c).e ≡ 0 = ap length (no_acks c) in
     omega (arith, uses, acks)) in
-    let releases : open_releases config s ≡ 0 =
-    total-zero (clients_in config) (λ c. total (sources_in config c) (λ i. one_if (is_let (s.lets c i)))) (λ c few.
-    total-zero (sources_in config c) (λ i. one_if (is_let (s.lets c i)))
+    let releases = total-zero (clients_in config) (λ c. total (sources_in config c) (λ i. one_if (is_let (s.lets c i))))
+    (λ c few. total-zero (sources_in config c) (λ i. one_if (is_let (s.lets c i)))
     (λ i lt. ap (λ (o : Option ℕ). one_if (is_let o)) (closed.lets c i))) in
     omega (arith, requests, releases)
 

@@ -149,11 +149,9 @@ module _ {X : Type 0} (config : Config) (s : State X) where
   grant-taken c n whole d k rest few lt used =
       let u = marked-set is_used (clients_in config) (sources_in config) c ((s.block n).source c) SourceFree s.uses few
       lt in
-      let was : one_if (is_used (s.uses c ((s.block n).source c))) ≡ 1 =
-      ap (λ (x : SourceState). one_if (is_used x)) used in
+      let was = ap (λ (x : SourceState). one_if (is_used x)) used in
       let a = acks-set (clients_in config) c (taken_link n rest (s.link c)) s.link few in
-      let more : length ((s.link c).e ++ packet GrantAck n ∷ []) ≡ length (s.link c).e + 1 =
-      length-append (s.link c).e (packet GrantAck n ∷ []) in
+      let more = length-append (s.link c).e (packet GrantAck n ∷ []) in
       record {
         requests = omega (
           arith,
@@ -174,8 +172,7 @@ module _ {X : Type 0} (config : Config) (s : State X) where
   release-ack-taken c n rest few lt used =
       let l = marked-set is_let (clients_in config) (sources_in config) c ((s.block n).release_source c) None s.lets few
       lt in
-      let was : one_if (is_let (s.lets c ((s.block n).release_source c))) ≡ 1 =
-      ap (λ (x : Option ℕ). one_if (is_let x)) used in
+      let was = ap (λ (x : Option ℕ). one_if (is_let x)) used in
       let a = acks-same (clients_in config) (release_ack_taken c n rest s).link s.link
       (set_e c (record (s.link c) { d = rest }) s.link refl) in
       record {

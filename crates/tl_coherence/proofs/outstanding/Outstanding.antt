@@ -101,12 +101,10 @@ module _ {w : ℕ} (config : Config) (log : Log w) (h : AbstractState w) (width 
       → IsCounted (Deliver link ch) (stepped config (Deliver link ch) (system_after config log)).outcome
       (abstract_step config (Deliver link ch) (system_after config log) h)
   counted-manager link ch terms x queue known down beats moving =
-      let at : IsAtManager config log link ch h x queue = at-manager config log link ch h terms x queue width matched
-      known down beats moving in
+      let at = at-manager config log link ch h terms x queue width matched known down beats moving in
       let ends : Ends (Outcome.Moved x) (is_e ch) false = subst (λ (i : Channel). Ends (Outcome.Moved x) (is_e i) false)
       at.of_it (moved-ends x) in
-      let kinds : (is_ending at.first.kind ≡ is_e ch) × (is_letting_go at.first.kind ≡ false) =
-      manager-kind ch at.first.kind down at.first.own in
+      let kinds = manager-kind ch at.first.kind down at.first.own in
       subst (λ (o : Outcome w). IsCounted (Deliver link ch) o
       (abstract_step config (Deliver link ch) (system_after config log) h))
       (sym (ap (λ (y : Step w). y.outcome) at.step_is))
@@ -159,11 +157,9 @@ module _ {w : ℕ} (config : Config) (log : Log w) (h : AbstractState w) (width 
       → IsCounted (Deliver link Channel.B) (stepped config (Deliver link Channel.B) (system_after config log)).outcome
       (abstract_step config (Deliver link Channel.B) (system_after config log) h)
   counted-b link terms x queue known beats moving =
-      let first : IsFirst Channel.B link.0 h.mail h.state (system_after config log) x queue =
-      first-token (is_caching config) Channel.B link.0 h.mail h.state (system_after config log) x queue width
-      matched.invariant matched.carried beats in
-      let probe : (channel_of x ≡ Channel.B) × ((is_ending first.kind ≡ false) × (is_letting_go first.kind ≡ false)) =
-      first-probe link.0 h (system_after config log) x queue first in
+      let first = first-token (is_caching config) Channel.B link.0 h.mail h.state (system_after config log) x queue
+      width matched.invariant matched.carried beats in
+      let probe = first-probe link.0 h (system_after config log) x queue first in
       counted-client link Channel.B terms x queue known beats moving first
       (client-moves config link Channel.B (system_after config log) terms x queue known beats refl moving)
       (λ v m answer.

@@ -71,8 +71,7 @@ release_ack_taken-kept {X} caching c n rest s inv first acked =
     let after : ClientBlock = after_release_ack (old c) in
     let new : Block X = let_go_block c (s.block n) in
     let source : ℕ = (s.block n).release_source c in
-    let used : s.lets c source ≡ Some n =
-    is_of-is n (s.lets c source) (inv.named.releases c source n ∙ rw (acked, same_number source) refl) in
+    let used = is_of-is n (s.lets c source) (inv.named.releases c source n ∙ rw (acked, same_number source) refl) in
     invariant-moved caching n new (set c here s.link) (moves_at c (let_go_moves n)) (set_at c source None s.lets)
     s.tracked s inv
     (event-at caching c n new here (let_go_moves n) s (record {
@@ -156,8 +155,7 @@ pub grant_ack_taken-kept : {X : Type 0} (caching : ℕ → Bool) (c n : ℕ) (re
     → IsInvariant caching (grant_ack_taken c n rest s)
 grant_ack_taken-kept {X} caching c n rest s inv first taken =
     let new : Block X = freed_block (s.block n) in
-    let used : s.tracked tracker ≡ Some n = is_of-is n (s.tracked tracker) (inv.named.trackers tracker n
-    ∙ rw (taken, same_number tracker) refl) in
+    let used = is_of-is n (s.tracked tracker) (inv.named.trackers tracker n ∙ rw (taken, same_number tracker) refl) in
     invariant-moved caching n new (set c here s.link) (moves_at c (freed_moves n)) s.lets (set tracker None s.tracked) s
     inv
     (event-at caching c n new here (freed_moves n) s (record {

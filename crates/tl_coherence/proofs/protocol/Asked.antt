@@ -97,8 +97,7 @@ pub stored-block : {X : Type 0} (caching : ℕ → Bool) (c : ℕ) (bytes : X) (
     → same_perm (b.pair c).held Perm.Trunk ≡ true → IsWell caching (stored_block c bytes b)
 stored-block caching c bytes b h may =
     let out : is_out (b.pair c) (view b.service c) ≡ true = held_out (b.pair c) (view b.service c) (h.phases c) may in
-    let owns : same_perm (b.pair c).recorded Perm.Trunk ≡ true = and_left (same_perm (b.pair c).recorded Perm.Trunk)
-    (not (is_granting (view b.service c))) out in
+    let owns = and_left (same_perm (b.pair c).recorded Perm.Trunk) (not (is_granting (view b.service c))) out in
     record {
       phases = h.phases;
       awaited = h.awaited;

@@ -35,10 +35,8 @@ pub granted_at_once-block : {X : Type 0} (caching : ℕ → Bool) (r tracker : �
 granted_at_once-block caching r tracker whole g gift b h is =
     let quiet : (d : ℕ) → is_unprobed (b.pair d).probing ≡ true =
     λ d. quiet_at_rest (b.pair d) (view b.service d) (h.phases d) (idle d) in
-    let quiet_same : (d : ℕ) → is_unprobed (set r after b.pair d).probing ≡ is_unprobed (b.pair d).probing =
-    set-part (λ (p : ClientBlock). is_unprobed p.probing) r after b.pair refl in
-    let held_same : (d : ℕ) → (set r after b.pair d).held ≡ (b.pair d).held =
-    set-part (λ (p : ClientBlock). p.held) r after b.pair refl in
+    let quiet_same = set-part (λ (p : ClientBlock). is_unprobed p.probing) r after b.pair refl in
+    let held_same = set-part (λ (p : ClientBlock). p.held) r after b.pair refl in
     record {
       phases = λ d. elim (cases_eq d r) [
         | inl same ↦ rw (same, set-same r after b.pair, same_number r)

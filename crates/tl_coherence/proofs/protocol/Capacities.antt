@@ -104,8 +104,7 @@ module _ {X : Type 0} (caching : ℕ → Bool) (s : State X) (c sources trackers
 
   pub few_on_a : length (s.link c).a ≤ sources
   few_on_a =
-      let all : passing (λ x. true) (s.link c).a ≤ sources =
-      few (λ x. true) (λ x. name s c x.kind x.number) (λ i. asked_by i (s.uses c i)) sources (s.link c).a
+      let all = few (λ x. true) (λ x. name s c x.kind x.number) (λ i. asked_by i (s.uses c i)) sources (s.link c).a
       (once caching s c Channel.A inv) (λ x there pass. asked_token x there) in
       rw (all-pass (s.link c).a) at all
 
@@ -210,31 +209,25 @@ module _ {X : Type 0} (caching : ℕ → Bool) (s : State X) (c sources trackers
 
   pub few_on_b : length (s.link c).b ≤ trackers
   few_on_b =
-      let all : passing (λ x. true) (s.link c).b ≤ trackers =
-      few (λ x. true) (λ x. name s c x.kind x.number) (λ i. of_block Probe (s.tracked i)) trackers (s.link c).b
-      (once caching s c Channel.B inv)
-      (λ x there pass. tracked_there Channel.B Probe x refl refl there
+      let all = few (λ x. true) (λ x. name s c x.kind x.number) (λ i. of_block Probe (s.tracked i)) trackers
+      (s.link c).b (once caching s c Channel.B inv) (λ x there pass. tracked_there Channel.B Probe x refl refl there
       (probe_alone x.kind (only_kind Channel.B x there))) in
       rw (all-pass (s.link c).b) at all
 
   pub few_on_e : length (s.link c).e ≤ trackers
   few_on_e =
-      let all : passing (λ x. true) (s.link c).e ≤ trackers =
-      few (λ x. true) (λ x. name s c x.kind x.number) (λ i. of_block GrantAck (s.tracked i)) trackers (s.link c).e
-      (once caching s c Channel.E inv)
-      (λ x there pass. tracked_there Channel.E GrantAck x refl refl there
-      (ack_alone x.kind (only_kind Channel.E x there))) in
+      let all = few (λ x. true) (λ x. name s c x.kind x.number) (λ i. of_block GrantAck (s.tracked i)) trackers
+      (s.link c).e (once caching s c Channel.E inv) (λ x there pass. tracked_there Channel.E GrantAck x refl refl
+      there (ack_alone x.kind (only_kind Channel.E x there))) in
       rw (all-pass (s.link c).e) at all
 
   pub few_on_c : length (s.link c).c ≤ sources + trackers
   few_on_c =
-      let releases : passing (λ x. same_kind x.kind Release) (s.link c).c ≤ sources =
-      few (λ x. same_kind x.kind Release) (λ x. name s c x.kind x.number) (λ i. of_block Release (s.lets c i)) sources
-      (s.link c).c (once caching s c Channel.C inv)
+      let releases = few (λ x. same_kind x.kind Release) (λ x. name s c x.kind x.number)
+      (λ i. of_block Release (s.lets c i)) sources (s.link c).c (once caching s c Channel.C inv)
       (λ x there pass. released_there Channel.C Release x refl refl there (kind_is x.kind Release pass)) in
-      let reports : passing (λ x. not (same_kind x.kind Release)) (s.link c).c ≤ trackers =
-      few (λ x. not (same_kind x.kind Release)) (λ x. name s c x.kind x.number) (λ i. of_block ProbeAck (s.tracked i))
-      trackers (s.link c).c (once caching s c Channel.C inv)
+      let reports = few (λ x. not (same_kind x.kind Release)) (λ x. name s c x.kind x.number)
+      (λ i. of_block ProbeAck (s.tracked i)) trackers (s.link c).c (once caching s c Channel.C inv)
       (λ x there pass. tracked_there Channel.C ProbeAck x refl refl there
       (report_or_release x.kind (only_kind Channel.C x there) pass)) in
       omega (arith, pass-or-not (λ x. same_kind x.kind Release) (s.link c).c, releases, reports)

@@ -84,8 +84,7 @@ ack_taken-kept {w} caching clients p c n rest h inv plain first long serving =
     granted q source k waits quiet whole g wants =
         let after : ℕ → ClientBlock = set c (after_report r (b.pair c)) b.pair in
         let given : Cap = gift p whole g (is_unheld clients after) in
-        let fits : grow_fits (b.pair q).held (AcquireOpen whole g) ≡ true =
-        acquire_fits whole g (b.pair q) (view b.service q) ((inv.blocks n).phases q) wants in
+        let fits = acquire_fits whole g (b.pair q) (view b.service q) ((inv.blocks n).phases q) wants in
         report_grants-kept caching c q n r whole g given source k rest h.state inv first (record {
           waits = waits;
           answered = answered;

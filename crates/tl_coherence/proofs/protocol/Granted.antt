@@ -139,8 +139,7 @@ granted-block {X} caching c q r whole g gift source k b h last =
 
     held_same : (d : ℕ) → (granted_pair c q r gift b.pair d).held ≡ (b.pair d).held
     held_same d =
-        let first : (set c after b.pair q).held ≡ (b.pair q).held =
-        set-part (λ (p : ClientBlock). p.held) c after b.pair refl q in
+        let first = set-part (λ (p : ClientBlock). p.held) c after b.pair refl q in
         set-part (λ (p : ClientBlock). p.held) q (after_grant_sent gift (b.pair q)) (set c after b.pair) (sym first)
         d ∙ set-part (λ (p : ClientBlock). p.held) c after b.pair refl d
 

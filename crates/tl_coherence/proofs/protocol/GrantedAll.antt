@@ -124,8 +124,7 @@ report_grants-kept {X} caching c q n r whole g gift source k rest s inv first la
     apart : c ≡ q → ⊥
     apart e =
         let own : view (s.block n).service q ≡ Own = rw (last.waits, same_number q) refl in
-        let quiet : is_unprobed ((s.block n).pair q).probing ≡ true =
-        own_quiet ((s.block n).pair q) (view (s.block n).service q) ((inv.blocks n).phases q) own in
+        let quiet = own_quiet ((s.block n).pair q) (view (s.block n).service q) ((inv.blocks n).phases q) own in
         let answered : ((s.block n).pair q).probing ≡ ProbeAnswered r = rw e at last.answered in
         let differs : is_unprobed (ProbeAnswered r) ≡ true = rw answered at quiet in
         absurd cc
@@ -201,15 +200,13 @@ report_grants-kept {X} caching c q n r whole g gift source k rest s inv first la
 
     acquiring_same : (d : ℕ) → (new.pair d).acquiring ≡ (old d).acquiring
     acquiring_same d =
-        let first_ : (set c after old q).acquiring ≡ (old q).acquiring =
-        set-part (λ (p : ClientBlock). p.acquiring) c after old refl q in
+        let first_ = set-part (λ (p : ClientBlock). p.acquiring) c after old refl q in
         set-part (λ (p : ClientBlock). p.acquiring) q (after_grant_sent gift (old q)) (set c after old) (sym first_)
         d ∙ set-part (λ (p : ClientBlock). p.acquiring) c after old refl d
 
     letting_same : (d : ℕ) → (new.pair d).letting ≡ (old d).letting
     letting_same d =
-        let first_ : (set c after old q).letting ≡ (old q).letting =
-        set-part (λ (p : ClientBlock). p.letting) c after old refl q in
+        let first_ = set-part (λ (p : ClientBlock). p.letting) c after old refl q in
         set-part (λ (p : ClientBlock). p.letting) q (after_grant_sent gift (old q)) (set c after old) (sym first_)
         d ∙ set-part (λ (p : ClientBlock). p.letting) c after old refl d
 

@@ -176,11 +176,9 @@ pub ack-due : (caching : ℕ → Bool) (c n : ℕ) (rest : List Packet) (s : Sta
     → (s.link c).d ≡ packet ReleaseAck n ∷ rest
     → s.lets c ((s.block n).release_source c) ≡ Some n
 ack-due caching c n rest s inv first =
-    let acked : is_acked ((s.block n).pair c).letting ≡ true =
-    holds-first ReleaseAck (s.link c).d rest (packet ReleaseAck n) (λ i. shown ReleaseAck c (s.block i)) first refl
-    (inv.transfers c ReleaseAck refl) in
-    let live : not (is_unreleased ((s.block n).pair c).letting) ≡ true =
-    acked_open ((s.block n).pair c).letting acked in
+    let acked = holds-first ReleaseAck (s.link c).d rest (packet ReleaseAck n) (λ i. shown ReleaseAck c (s.block i))
+    first refl (inv.transfers c ReleaseAck refl) in
+    let live = acked_open ((s.block n).pair c).letting acked in
     is_of-is n (s.lets c ((s.block n).release_source c))
     (inv.named.releases c ((s.block n).release_source c) n
     ∙ and_from (not (is_unreleased ((s.block n).pair c).letting))

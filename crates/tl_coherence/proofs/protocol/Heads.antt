@@ -73,9 +73,8 @@ asked-access {w} config log mail request s sys c source m is used mailed = go (i
         let wants : is_wanting (b.pair c).acquiring ≡ true = sym ((is.known c).acquires n) ∙ (is.kept c).outstanding
         source n mine in
         let asks = wanting-is (b.pair c).acquiring wants in
-        let used_too : s.uses c (b.source c) ≡ Acquires n =
-        acquires_of-is n (s.uses c (b.source c)) (is.invariant.named.acquires c (b.source c) n ∙ rw
-        (wants, same_number (b.source c)) refl) in
+        let used_too = acquires_of-is n (s.uses c (b.source c)) (is.invariant.named.acquires c (b.source c) n
+        ∙ rw (wants, same_number (b.source c)) refl) in
         let opens_too : open_beat (b.source c) (sys.clients c).past ≡ Some
         (a_beat_of (acquisition (acquire_opcode asks.0) asks.1 (b.source c) n) 0) =
         (is.known c).opens (b.source c) ∙ rw used_too (ap first_of (rendered-acquire c n b asks.0 asks.1 asks.2)) in
@@ -128,13 +127,10 @@ pub wanted-first : {w : ℕ} (config : Config) (log : Log w) (mail : AccessMessa
     → SimulationRelation config log mail request s sys → (s.link c).a ≡ packet Acquire n ∷ rest → IsWanted w c n s
 wanted-first {w} config log mail request s sys c n rest is first =
     let b : Block (List ℕ) = s.block n in
-    let shows : (is_wanting (b.pair c).acquiring && is_unserved (view b.service c)) ≡ true =
-    holds-first Acquire (s.link c).a rest (packet Acquire n) (λ i. shown Acquire c (s.block i)) first refl
+    let shows = holds-first Acquire (s.link c).a rest (packet Acquire n) (λ i. shown Acquire c (s.block i)) first refl
     (is.invariant.transfers c Acquire refl) in
-    let wants : is_wanting (b.pair c).acquiring ≡ true =
-    and_left (is_wanting (b.pair c).acquiring) (is_unserved (view b.service c)) shows in
-    let asks : (whole : Bool) × (g : Grow) × ((b.pair c).acquiring ≡ AcquireOpen whole g) =
-    wanting-is (b.pair c).acquiring wants in
+    let wants = and_left (is_wanting (b.pair c).acquiring) (is_unserved (view b.service c)) shows in
+    let asks = wanting-is (b.pair c).acquiring wants in
     record {
       whole = asks.0;
       grow = asks.1;

@@ -84,11 +84,9 @@ module _ {X : Type 0} (caching : ℕ → Bool) (s : State X) (inv : IsInvariant 
           let not_it : serves_with c source (s.block n) ≡ false = rw (free n) refl in
           absurd (let both : true ≡ false = sym it ∙ named ∙ not_it in cc)
       use_is c source (Acquires n) e =
-          let named : acquires_of n (s.uses c source) ≡ acquires_with c source (s.block n) =
-          inv.named.acquires c source n in
+          let named = inv.named.acquires c source n in
           let it : acquires_of n (s.uses c source) ≡ true = rw e (same_number n) in
-          let wants : is_wanting ((s.block n).pair c).acquiring ≡ true =
-          and_left (is_wanting ((s.block n).pair c).acquiring) _ (sym named ∙ it) in
+          let wants = and_left (is_wanting ((s.block n).pair c).acquiring) _ (sym named ∙ it) in
           absurd (not_shown c n Acquire refl (bare.a c) (rw (free n, wants) refl))
 
       let_of : (c n : ℕ) (x : ReleasePhase) → ((s.block n).pair c).letting ≡ x → not (is_unreleased x) ≡ true → ⊥

@@ -98,8 +98,7 @@ pub reported-block : {X : Type 0} (caching : ℕ → Bool) (c : ℕ) (r : Report
     → IsWell caching (reported_block c r b)
 reported-block caching c r b h answered w apart missing =
     let after : ClientBlock = after_report r (b.pair c) in
-    let begins : same_perm (report_left r) (b.pair c).recorded ≡ true =
-    report_begins r (b.pair c) (view b.service c) (h.phases c) answered in
+    let begins = report_begins r (b.pair c) (view b.service c) (h.phases c) answered in
     let held_same = set-part (λ (p : ClientBlock). p.held) c after b.pair refl in
     record {
       phases = λ d. elim (cases_eq d c) [
@@ -124,8 +123,7 @@ pub let-block : {X : Type 0} (caching : ℕ → Bool) (c : ℕ) (r : Prune) (b :
     → IsWell caching (let_block c r b)
 let-block caching c r b h releasing first =
     let after : ClientBlock = after_release_taken r (b.pair c) in
-    let begins : same_perm (prune_left r) (b.pair c).recorded ≡ true =
-    release_begins r (b.pair c) (view b.service c) (h.phases c) releasing first in
+    let begins = release_begins r (b.pair c) (view b.service c) (h.phases c) releasing first in
     let held_same = set-part (λ (p : ClientBlock). p.held) c after b.pair refl in
     record {
       phases = λ d. elim (cases_eq d c) [

@@ -78,10 +78,8 @@ pub served-block : {X : Type 0} (caching : ℕ → Bool) (r : ℕ) (own : Bool) 
     → IsOwnSource (Waits r own source k) b.source → (w : ℕ) → is_probed r own k (b.pair w).recorded w ≡ true
     → IsWell caching (served_block r own source tracker k b)
 served-block caching r own source tracker k b h free asks sourced w probed =
-    let recorded_same : (d : ℕ) → (served_pair r own k b.pair d).recorded ≡ (b.pair d).recorded =
-    unprobed_part (λ p. p.recorded) r own k b.pair (λ p. refl) in
-    let held_same : (d : ℕ) → (served_pair r own k b.pair d).held ≡ (b.pair d).held =
-    unprobed_part (λ p. p.held) r own k b.pair (λ p. refl) in
+    let recorded_same = unprobed_part (λ p. p.recorded) r own k b.pair (λ p. refl) in
+    let held_same = unprobed_part (λ p. p.held) r own k b.pair (λ p. refl) in
     record {
       phases = λ d. phase d (own && (d == r)) refl;
       awaited = (w, sent (own && (w == r)) probed);

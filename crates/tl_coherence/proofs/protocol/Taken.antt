@@ -105,9 +105,8 @@ taken-block {X} caching c d whole g k b h granting wants = record {
     other_copy : (i : ℕ) → (i ≡ c → ⊥) → (all : Bool) → whole ≡ all → same_perm (b.pair i).held Perm.None ≡ false
         → b.copy i ≡ granted_truth whole (b.waiting c) b.truth
     other_copy i ne true e some =
-        let none : same_perm (b.pair i).held Perm.None ≡ true =
-        nothing_below (b.pair i).held (b.pair i).recorded (held_at_most (b.pair i) (view b.service i) (h.phases i))
-        (h.one_owner c i (owns e) ne) in
+        let none = nothing_below (b.pair i).held (b.pair i).recorded
+        (held_at_most (b.pair i) (view b.service i) (h.phases i)) (h.one_owner c i (owns e) ne) in
         absurd cc
     other_copy i ne false e some = rw e (h.copies i some)
 

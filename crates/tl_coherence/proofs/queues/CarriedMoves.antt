@@ -35,8 +35,7 @@ carried-moved {w} (Pushes k n) xs ys f g m q after r rest width moved queued new
 carried-moved {w} (Pops k n) xs ys f g m q after r rest width moved (x, beats, whole, none) new kept h =
     let same : (ms ns : List (Message w)) → ms ≡ ns → IsCarried r ms q → IsCarried r ns (x ∷ after) =
     λ ms ns e i. rw (← e, ← beats) i in
-    let before : IsCarried r (f (packet k n) ∷ map f ys) (x ∷ after) =
-    same (map f xs) (f (packet k n) ∷ map f ys) (ap (map f) moved) h in
+    let before = same (map f xs) (f (packet k n) ∷ map f ys) (ap (map f) moved) h in
     let next = carried-next x r (f (packet k n)) (map f ys) after (λ i. beats-positive i width) before in
     let last = next.last (eqb-true (next.k + 1) (beats_of (f (packet k n))) (sym next.completes_is ∙ whole)) in
     rw (none, kept) last.2

@@ -174,10 +174,8 @@ pub of_phase : (f : ClientBlock → View → Bool) → each_phase f ≡ true →
 unfolding each_phase ok
 of_phase f e p v h =
     let rest = and_right (ok_first p.probing v) (ok_second p.probing p.letting p.acquiring v && ok_third p v) h in
-    let first : ok_first p.probing v ≡ true =
-    and_left (ok_first p.probing v) (ok_second p.probing p.letting p.acquiring v && ok_third p v) h in
-    let second : ok_second p.probing p.letting p.acquiring v ≡ true =
-    and_left (ok_second p.probing p.letting p.acquiring v) (ok_third p v) rest in
+    let first = and_left (ok_first p.probing v) (ok_second p.probing p.letting p.acquiring v && ok_third p v) h in
+    let second = and_left (ok_second p.probing p.letting p.acquiring v) (ok_third p v) rest in
     let third : ok_third p v ≡ true = and_right (ok_second p.probing p.letting p.acquiring v) (ok_third p v) rest in
     let last = λ (probing : ProbePhase) (letting : ReleasePhase) (acquiring : AcquirePhase) (u : View)
     (recorded held : Perm).

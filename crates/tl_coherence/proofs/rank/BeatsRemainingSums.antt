@@ -158,8 +158,7 @@ untold p v h none = go p.probing refl
         → b ≡ false
     answered r e false f = refl
     answered r e true f =
-        let recorded : same_perm p.recorded Perm.Trunk ≡ true =
-        and_left (same_perm p.recorded Perm.Trunk) _ (data_carried p v h (rw e f)) in
+        let recorded = and_left (same_perm p.recorded Perm.Trunk) _ (data_carried p v h (rw e f)) in
         absurd (let both : false ≡ true = sym none ∙ recorded in cc)
 
     go : (x : ProbePhase) → p.probing ≡ x → same_perm (report_left (report_told x)) Perm.Trunk ≡ false

@@ -197,9 +197,7 @@ module _ {w : ℕ} (config : Config) (caching : ℕ → Bool) (n : ℕ) (moves :
   pub block-same : (s'.block n ≡ s.block n) → IsBlockNoMore config caching n moves mail mail' s s' showing c ch rest
       rest' popped size answer
   block-same same =
-      let probes : probes_weight (length config.clients.items) size (beats_left mail' s' rest') n (s'.block n)
-      ≤ probes_weight (length config.clients.items) size (beats_left mail s rest) n (s.block n) =
-      total-le (length config.clients.items) (λ d. pair_weight size (beats_left mail' s' rest') n d
+      let probes = total-le (length config.clients.items) (λ d. pair_weight size (beats_left mail' s' rest') n d
       ((s'.block n).pair d)) (λ d. pair_weight size (beats_left mail s rest) n d ((s.block n).pair d))
       (λ d lt. pair-stays config caching n moves mail mail' s s' showing c ch rest rest' popped size answer d n
       (rw same refl) (rw same refl)) in

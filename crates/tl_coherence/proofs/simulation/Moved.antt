@@ -86,8 +86,7 @@ client_moves {w} terms c ch x queue sys moving = go (offer.offered terms ch x (s
         (with_client c o.after (with_channel c ch queue sys))
         → IsTakenByClient terms c ch x queue sys (judged o.answer c ch x queue o.after sys)
     made v m e taken heard is =
-        let takes : o ≡ offer.taken x (sys.clients c) = offered-taken terms ch x (sys.clients c) (ap is_taken e ∙ taken)
-        in
+        let takes = offered-taken terms ch x (sys.clients c) (ap is_taken e ∙ taken) in
         record {
           verdict_is = v;
           message = m;
@@ -240,8 +239,7 @@ carried-part {w} mail s c ch x queue pushes sys sys' width is none part h d at =
     first : (ms : List (Message w)) → IsCarried (rest c ch) ms (x ∷ queue) → IsCarried (grown x (rest c ch)) ms queue
     first [] i = absurd (let e : x ∷ queue ≡ [] = i.1 in cc)
     first (m ∷ ms) i =
-        let next : IsNext x (rest c ch) m ms queue = carried-next x (rest c ch) m ms queue (λ n. beats-positive n width)
-        i in
+        let next = carried-next x (rest c ch) m ms queue (λ n. beats-positive n width) i in
         let more = next.more (before next.k (beats_of m) next.within (sym next.completes_is ∙ part)) in
         rw (more.0) more.1
       where

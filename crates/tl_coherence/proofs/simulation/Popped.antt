@@ -64,8 +64,7 @@ pub popped-received : {w : ℕ} (c : ℕ) (ch : Channel) (pushes : ℕ → Chann
     → IsPopped c ch moves (unfinished_at sys) (unfinished_at sys') s s'
 popped-received {w} c ch pushes moves render s s' sys sys' received fits moved =
     let here : ((c == c) && same_channel ch ch) ≡ true = rw (same_number c, same_channel-refl ch) refl in
-    let head : IsHead (packets_on ch (s.link c)) (packets_on ch (s'.link c)) =
-    popped_first (pushes c ch) (moves c ch) (render c) (packets_on ch (s.link c)) (packets_on ch (s'.link c))
+    let head = popped_first (pushes c ch) (moves c ch) (render c) (packets_on ch (s.link c)) (packets_on ch (s'.link c))
     (fits_by ((c == c) && same_channel ch ch) true (pushes c ch) (moves c ch) (render c) here (fits c ch))
     (moved c ch) in
     record {

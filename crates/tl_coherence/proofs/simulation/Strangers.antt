@@ -72,9 +72,8 @@ module _ {w : ℕ} (config : Config) (log : Log w) (mail : AccessMessages w) (re
   not_acknowledging : (n : ℕ) → shown GrantAck c (s.block n) ≡ true → ⊥
   not_acknowledging n e =
       let served : service_of_block n (services (system_after config log).manager.trace) ≡ service_with (Some c)
-      (s.block n).tracker (request n) =
-      matched.managed.serving_is n ∙ ap (λ (o : Option ℕ). service_with o (s.block n).tracker (request n))
-      (acknowledged_to (s.block n).service c e) in
+      (s.block n).tracker (request n) = cc (matched.managed.serving_is n, acknowledged_to (s.block n).service c e)
+      in
       let performable = of_served (kept.IsPerformable config) n (services (system_after config log).manager.trace) _
       served matched.manager_kept.requests in
       lawless (level_of config c) (Message.A (request n)) (no_level config c is) performable.lawful

@@ -57,17 +57,15 @@ bytes_come : {w : ℕ} (o : Option Level) (m : MessageA w) (bytes : List ℕ) (b
     → take (2 ^ m.size) (drop (m.address % w) (payload_of beats)) ≡ bytes
 bytes_come {w} o m bytes beats width lawful long burst =
     let d : MessageD w = answer_message OpD.AccessAckData (as_payload (m.address % w) bytes) m in
-    let carried : m.address % w + 2 ^ m.size ≤ w * data_beats w m.size =
-    room_in_beats w m.size m.address width m.small (aligned o m width lawful) in
+    let carried = room_in_beats w m.size m.address width m.small (aligned o m width lawful) in
     let room : w * data_beats w m.size ≤ 64 = data_room w m.size width m.small in
     let blank : IsBlankAfter (beats_of (Message.D d)) (Message.D d) = (
       payload-zero (m.address % w) (2 ^ m.size) (w * data_beats w m.size) bytes long carried room,
       pow_pos
           (data_beats w m.size),
     ) in
-    let whole : payload_of beats ≡ as_payload (m.address % w) bytes =
-    payload-d d beats width (payload-long (m.address % w) (2 ^ m.size) bytes long (omega (arith, carried, room)))
-    (burst, blank) in
+    let whole = payload-d d beats width (payload-long (m.address % w) (2 ^ m.size) bytes long
+    (omega (arith, carried, room))) (burst, blank) in
     cc (whole, long, bytes_again (m.address % w) bytes)
 
 -- ---- how the client ends an access that is answered
@@ -139,8 +137,7 @@ over {w} config log c source h is used =
     → IsOpened c source h.mail h.state u ((one_memory_after config log).opened c Requests source)
     → IsOpened c source h.mail h.state Replied ((one_memory_after config log).opened c Requests source) =
     λ u e i. rw e at i in
-    let open_ : IsOpened c source h.mail h.state Replied ((one_memory_after config log).opened c Requests source) =
-    opened_as (h.state.uses c source) used (is.beside.requests c source) in
+    let open_ = opened_as (h.state.uses c source) used (is.beside.requests c source) in
     let answers : Answers (Message.A (sourced source open_.1.0)) open_.0 (h.mail.answer c source) =
     subst (λ (i : Message w). Answers i open_.0 (h.mail.answer c source)) open_.1.1 open_.2 in
     record {

@@ -79,20 +79,18 @@ ends-transfer {w} config log link ch h x source f is end other = go end.first.ki
         let due = grant-due (is_caching config) c n end.first.rest h.state is.invariant (tokens Grant e) in
         let sent : MessageD w = grant_message due.data_too due.k ((h.state.block n).source c) (h.state.block n).tracker
         (h.state.block n).truth in
-        let same : end.response ≡ sent =
-        same-response end.response sent (sym (response_is Grant e) ∙ grant-rendered c n h.state due) in
-        let fin : f ≡ Finish.Granted (cap_right due.k) = end.finish_is
-        ∙ granted-at (d_beat_of end.response end.first.next.k) (sys.clients c) due.data_too due.k
-        (ap (λ (i : MessageD w). i.opcode) same)
-        (ap (λ (i : MessageD w). i.param) same) in
+        let same = same-response end.response sent (sym (response_is Grant e) ∙ grant-rendered c n h.state due) in
+        let fin : f ≡ Finish.Granted (cap_right due.k) =
+        cc (
+          end.finish_is,
+          granted-at (d_beat_of end.response end.first.next.k) (sys.clients c) due.data_too due.k
+              (ap (λ (i : MessageD w). i.opcode) same) (ap (λ (i : MessageD w). i.param) same),
+        ) in
         let from : source ≡ (h.state.block n).source c = end.source_is ∙ ap (λ (i : MessageD w). i.source) same in
         let opened = opened-acquire config log h sys c source n (h.state.uses c source) is refl
         (ap (h.state.uses c) from ∙ due.used) in
-        let named : cap_named x ≡ cap_right due.k =
-        ap (λ (y : Beat w). cap_named y) end.beat_is ∙ ap (λ (i : MessageD w). capped i.param) same ∙ cap-gives
-        due.k in
-        let fits : grant_fits ((h.state.block n).pair c).recorded ((h.state.block n).pair c).held due.data_too due.k
-        (AcquireOpen due.whole due.g) ≡ true = due.fits in
+        let named : cap_named x ≡ cap_right due.k = cc (end.beat_is, same, cap-gives due.k) in
+        let fits = due.fits in
         subst (λ (i : Finish). Ends (m.opened c (pool_of i) source) x i) (sym fin)
         (subst (λ (o : Option (Open w)). Ends o x (Finish.Granted (cap_right due.k))) (sym opened)
         (ends_granted n ((h.state.block n).waiting c) x due.k due.whole due.g ((h.state.block n).pair c).acquiring
@@ -107,8 +105,7 @@ ends-transfer {w} config log link ch h x source f is end other = go end.first.ki
         let same : end.response ≡ sent = same-response end.response sent (sym (response_is ReleaseAck e)) in
         let fin : f ≡ Finish.Released = end.finish_is ∙ released-at (d_beat_of end.response end.first.next.k)
         (sys.clients c) (ap (λ (i : MessageD w). i.opcode) same) in
-        let from : source ≡ (h.state.block n).release_source c = end.source_is ∙ ap (λ (i : MessageD w). i.source) same
-        in
+        let from : source ≡ (h.state.block n).release_source c = cc (end.source_is, same) in
         let lets : h.state.lets c source ≡ Some n = ap (h.state.lets c) from ∙ ack-due (is_caching config) c n
         end.first.rest h.state is.invariant (tokens ReleaseAck e) in
         subst (λ (i : Finish). Ends (m.opened c (pool_of i) source) x i) (sym fin)

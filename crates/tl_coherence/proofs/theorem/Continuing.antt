@@ -121,11 +121,8 @@ answering-delivered {w} config log link ch h width is = go (is_moving (stepped c
         → IsOnce (accesses_answered (reaction config link x sys.manager).handed) h m → Then at
     up at terms x queue theirs known beats moving once =
         let t = manager-moves config link at sys terms x queue known beats theirs moving in
-        let same : accesses_answered (stepped config (Deliver link at) sys).handed ≡ accesses_answered
-        (reaction config link x sys.manager).handed =
-        ap (λ (s : Step w). accesses_answered s.handed) t.step_is in
-        let still : moved (Deliver link at) (stepped config (Deliver link at) sys).outcome m ≡ m =
-        ap (λ (s : Step w). moved (Deliver link at) s.outcome m) t.step_is in
+        let same = ap (λ (s : Step w). accesses_answered s.handed) t.step_is in
+        let still = ap (λ (s : Step w). moved (Deliver link at) s.outcome m) t.step_is in
         elim once [
           | inl none ↦ inl (same ∙ none)
           | inr one ↦ inr (one.0, one.1, same ∙ one.2, one.3, still)

@@ -257,8 +257,7 @@ module _ (p : Profile) (c n source : ℕ) (a : AcquirePhase) where
       λ e i. ap (λ (v : Service). (taken_by_client d m v rest h).state.uses e i) due.service in
       let given_as : IsGivenAsked p (GrantSent d due.data_too due.k) (h.state.block m).pair =
       subst (λ (v : Service). IsGivenAsked p v (h.state.block m).pair) due.service (given m) in
-      let gives : gives_asked p (AcquireOpen due.whole due.g) due.k ≡ true =
-      ap (λ (x : AcquirePhase). gives_asked p x due.k) (sym due.wants) ∙ given_as in
+      let gives : gives_asked p (AcquireOpen due.whole due.g) due.k ≡ true = cc (due.wants, given_as) in
       record {
         others = λ e i else_. uses_are e i ∙ each-set_at (λ j k (v : SourceState). IsElsewhere c source j k
             → v ≡ SourceFree) d src SourceFree h.state.uses (λ any. refl) is.others e i else_;

@@ -99,10 +99,8 @@ module _ {X : Type 0} (config : Config) (size : ℕ) (left left' : Left) (answer
 
       acquire_owes : (m : ℕ) → s.uses c ((s.block m).source c) ≡ Acquires m
           → acquire_weight size (left' c Acquire m) (left' c Grant m) (probes_weight number size left' m (s.block m))
-          (view (s.block m).service c) + 1
-          ≤ acquire_weight size (left c Acquire m) (left c Grant m) (probes_weight number size left m (s.block m))
-          (view (s.block m).service c)
-          → Falls
+          (view (s.block m).service c) + 1 ≤ acquire_weight size (left c Acquire m) (left c Grant m)
+          (probes_weight number size left m (s.block m)) (view (s.block m).service c) → Falls
       acquire_owes m used less =
           use_owes c ((s.block m).source c) (λ closed. absurd (let both : Acquires m ≡ SourceFree = sym used ∙ closed in
           cc)) (rw used less)
@@ -122,11 +120,9 @@ module _ {X : Type 0} (config : Config) (size : ℕ) (left left' : Left) (answer
       grant_less : (m : ℕ) → left' c Grant m + 1 ≤ left c Grant m → shown Grant c (s.block m) ≡ true → Falls
       grant_less m less e = acquire_owes m (grant_named caching s c m inv e) (go (view (s.block m).service c) e)
         where
-          go : (v : View) → is_granting v ≡ true
-              → acquire_weight size (left' c Acquire m) (left' c Grant m)
-              (probes_weight number size left' m (s.block m))
-              v + 1 ≤ acquire_weight size
-              (left c Acquire m) (left c Grant m) (probes_weight number size left m (s.block m)) v
+          go : (v : View) → is_granting v ≡ true → acquire_weight size (left' c Acquire m) (left' c Grant m)
+              (probes_weight number size left' m (s.block m)) v + 1 ≤ acquire_weight size (left c Acquire m)
+              (left c Grant m) (probes_weight number size left m (s.block m)) v
           go (Granting d k) f = omega (arith, less)
           go v f = absurd cc
 
@@ -149,10 +145,10 @@ module _ {X : Type 0} (config : Config) (size : ℕ) (left left' : Left) (answer
           probed = not-answered ((s.block m).pair c).probing e
 
           who : IsWaited (s.block m).service
-          who = waited-probing caching s c m inv probed
+          who = waited-probing c m inv probed
 
           asker : IsAsking m who.client who.own who.source s
-          asker = asking caching s m who.client who.own who.source who.cap inv who.is
+          asker = asking m who.client who.own who.source who.cap inv who.is
 
           here : pair_weight size left' m c ((s.block m).pair c) + 1 ≤ pair_weight size left m c ((s.block m).pair c)
           here = go ((s.block m).pair c).probing e
@@ -177,8 +173,7 @@ module _ {X : Type 0} (config : Config) (size : ℕ) (left left' : Left) (answer
 
       -- whichever message it is, of those that have more than one beat
       pub message-less : (k : Kind) (m : ℕ) → shows_it s c k m ≡ true → left' c k m + 1 ≤ left c k m
-          → is_light k ≡ false
-          → Falls
+          → is_light k ≡ false → Falls
       message-less Request m e less heavy = request_less m less e
       message-less Answer m e less heavy = answer_less m less e
       message-less Acquire m e less heavy = acquire_less m less e
@@ -194,17 +189,15 @@ taken_more : {w : ℕ} (b : Bool) (rest rest' : List (Beat w)) → length rest �
 taken_more true rest rest' le = le
 taken_more false rest rest' le = omega arith
 
-pub beat-falls : {w : ℕ} (config : Config) (caching : ℕ → Bool) (ch : Channel) (c : ℕ) (mail : AccessMessages w)
-    (s : State (List ℕ)) (sys sys' : System w) (x : Beat w)
-    (queue : List (Beat w)) (size : ℕ) (answer : ℕ → ℕ → ℕ)
-    → (first : IsFirst ch c mail s sys x queue)
+pub beat-falls : {w : ℕ} {config : Config} {caching : ℕ → Bool} {ch : Channel} {c : ℕ} {mail : AccessMessages w}
+    {s : State (List ℕ)} {sys : System w} (sys' : System w) {x : Beat w} {queue : List (Beat w)} (size : ℕ) (answer : ℕ
+    → ℕ → ℕ) → (first : IsFirst ch c mail s sys x queue)
     → first.next.k + 1 < beats_of (message_of_kind first.kind mail s c first.number)
-    → IsBegun c ch x (unfinished_at sys) (unfinished_at sys')
-    → IsInvariant caching s → AreClients config s → c < length config.clients.items
-    → rank config size (beats_left mail s (unfinished_at sys')) answer s + 1 ≤ rank config size
-    (beats_left mail s (unfinished_at sys)) answer s
-beat-falls {w} config caching ch c mail s sys sys' x queue size answer first more begun inv all lt =
-    let shown_it : shows_it s c first.kind first.number ≡ true = shown_there caching s c ch first.kind first.number inv
+    → IsBegun c ch x (unfinished_at sys) (unfinished_at sys') → IsInvariant caching s → AreClients config s
+    → c < length config.clients.items → rank config size (beats_left mail s (unfinished_at sys')) answer s + 1
+    ≤ rank config size (beats_left mail s (unfinished_at sys)) answer s
+beat-falls {w} {config} {caching} {ch} {c} {mail} {s} {sys} sys' {x} {queue} size answer first more begun inv all lt =
+    let shown_it : shows_it s c first.kind first.number ≡ true = shown_there c ch first.kind first.number inv
     first.own (rw first.tokens (first-there (packet first.kind first.number) first.rest)) in
     message-less config size (beats_left mail s (unfinished_at sys))
     (beats_left mail s (unfinished_at sys')) answer s less caching inv all c lt first.kind first.number shown_it
@@ -250,6 +243,6 @@ beat-falls {w} config caching ch c mail s sys sys' x queue size answer first mor
     one_less : beats_left mail s (unfinished_at sys') c first.kind first.number + 1 ≤ beats_left mail s
         (unfinished_at sys) c first.kind first.number
     one_less =
-        let all = first-left ch c mail s sys x queue first in
+        let all = first-left first in
         let t = taken (is_front first.kind first.number (packets_on (channel_for first.kind) (s.link c))) front in
         omega (arith, all, t, more)

@@ -1,15 +1,15 @@
 -- What is owed in a world falls at every delivery that moves a beat, and rises at none.
-use Rattle.tl_coherence.proofs.bound.Imports.{IsWidth, Beat, Link, Channel, beats_of, completes, Config, Deliver}
+use Rattle.tl_coherence.proofs.bound.Imports.{IsWidth, Beat, Link, Channel, completes, Config, Deliver}
 use Rattle.tl_coherence.proofs.bound.Imports.{is_moving, AbstractState, kind_taken, Log, system_after, channel_for}
-use Rattle.tl_coherence.proofs.bound.Imports.{packet, packets_on, message_of_kind, stepped, System, Kind, Request}
+use Rattle.tl_coherence.proofs.bound.Imports.{packet, packets_on, stepped, System, Kind, Request}
 use Rattle.tl_coherence.proofs.bound.Imports.{Acquire, Probe, ProbeAck, Release, Answer, Grant, ReleaseAck, GrantAck}
 use Rattle.tl_coherence.proofs.bound.Imports.{Packet, SimulationRelation, is_caching}
-use Rattle.std.proofs.Common.{◌≡◌, ℕ, ◌+◌, ◌-◌, ◌<◌, ◌≤◌, Bool, true, false, List, ◌∷◌, refl, sym, ap, subst, arith}
+use Rattle.std.proofs.Common.{◌≡◌, ℕ, ◌+◌, ◌<◌, ◌≤◌, Bool, true, false, List, ◌∷◌, refl, sym, subst, arith}
 use Rattle.std.specs.Prelude.{◌/◌, length, Some}
 use Rattle.tl_client.specs.statement.Endpoint.{EndConfig}
 use Rattle.tl_coherence.specs.{refinement.AbstractStep.abstract_step, statement.System.terms_at}
 use Rattle.tl_coherence.proofs.{bound.Beginnings.none-more, rank.RankDecreases.stays, simulation.FollowCases.IsDelivery}
-use Rattle.tl_coherence.proofs.{protocol.FollowKept.IsReady, queues.FirstToken.IsFirst, queues.FirstToken.first-token}
+use Rattle.tl_coherence.proofs.{protocol.FollowKept.IsReady, queues.FirstToken.first-token}
 use Rattle.tl_coherence.proofs.{deliveries.InvariantKept.ready-delivered, deliveries.Matching.matched-event}
 use Rattle.tl_coherence.proofs.{outstanding.Outstanding.first-moved, bound.RankOfLog.owed, bound.RankOfLog.owed-begun}
 use Rattle.tl_coherence.proofs.{bound.RankAfter.IsKeptAfter, bound.RankAfter.kept-matched}
@@ -19,7 +19,7 @@ use Rattle.tl_coherence.proofs.{queues.QuiescentQueues.client_below}
 use Rattle.tl_coherence.proofs.bound.PartialMessages.{grown-moved, grown-received, grown-begun}
 use Rattle.tl_coherence.proofs.deliveries.DeliverDAfter.{followed-moving, followed-still}
 use Rattle.tl_coherence.proofs.deliveries.DeliverDUnmoved.{IsUnmoved, unmoved}
-use Rattle.tl_coherence.proofs.protocol.BeatsRemaining.{beats_left, taken_of, is_front}
+use Rattle.tl_coherence.proofs.protocol.BeatsRemaining.{beats_left}
 use Rattle.tl_coherence.proofs.bound.RankByKind.{probe-owed, release-owed, answer-owed, release_ack-owed}
 use Rattle.tl_coherence.proofs.bound.RankByKind.{grant_ack-owed, grant-owed, acquire-owed}
 use Rattle.tl_coherence.proofs.simulation.Popped.{unfinished_at, IsReceived, kind_channel}
@@ -36,8 +36,7 @@ module _ {w : ℕ} (config : Config) (log : Log w) (h : AbstractState w) (width 
   -- ---- the last beat of a message
 
   by-kind : (tracker c : ℕ) (k : Kind) (i : ℕ) (rest : List Packet) (sys' : System w) → c < length config.clients.items
-      → length config.clients.items ≤ 16
-      → packets_on (channel_for k) (h.state.link c) ≡ packet k i ∷ rest
+      → length config.clients.items ≤ 16 → packets_on (channel_for k) (h.state.link c) ≡ packet k i ∷ rest
       → IsReceived c (channel_for k) (system_after config log) sys' → IsReady tracker c k i h
       → Kept (kind_taken config tracker c k i rest h) → IsLess (kind_taken config tracker c k i rest h) sys'
   by-kind tracker c Request i rest sys' lt sixteen first received ready kept =
@@ -65,8 +64,7 @@ module _ {w : ℕ} (config : Config) (log : Log w) (h : AbstractState w) (width 
       → link.0 < length config.clients.items → length config.clients.items ≤ 16
       → IsReceived link.0 ch (system_after config log) sys'
       → Kept (kind_taken config (next_tracker (system_after config log)) link.0 d.first.kind d.first.number d.first.rest
-      h)
-      → IsLess (kind_taken config (next_tracker (system_after config log)) link.0 d.first.kind d.first.number
+      h) → IsLess (kind_taken config (next_tracker (system_after config log)) link.0 d.first.kind d.first.number
       d.first.rest h) sys'
   by-first link ch x queue sys' d lt sixteen received kept =
       let on : channel_for d.first.kind ≡ ch = kind_channel ch d.first.kind d.first.own in
@@ -94,8 +92,8 @@ module _ {w : ℕ} (config : Config) (log : Log w) (h : AbstractState w) (width 
       kept : Kept (abstract_step config (Deliver link ch) sys h)
       kept =
           let h' : AbstractState w = abstract_step config (Deliver link ch) sys h in
-          kept-matched config ((Deliver link ch, (stepped config (Deliver link ch) sys).outcome) ∷ log) h'.mail
-          h'.request h'.state sys' (matched-event config log h (Deliver link ch) width tt matched)
+          kept-matched
+          (matched-event h (Deliver link ch) width tt matched)
 
       taken : (x : Beat w) (queue : List (Beat w)) (terms : EndConfig) → terms_at config link.0 ≡ Some terms
           → sys.channels link.0 ch ≡ x ∷ queue → (b : Bool)
@@ -110,16 +108,16 @@ module _ {w : ℕ} (config : Config) (log : Log w) (h : AbstractState w) (width 
           cc (followed-moving config link ch sys h x queue moving beats, last, first.tokens) in
           subst (λ (z : AbstractState w). IsLess z sys') (sym follows)
           (by-first link ch x queue sys' d (client_below config link.0 terms known) sixteen
-          (grown-received link.0 ch x sys sys' (grown-moved config log h link ch terms x queue width matched known beats
+          (grown-received link.0 ch x sys sys' (grown-moved h link ch terms x queue width matched known beats
           moving) last)
           (subst Kept follows kept))
       taken x queue terms known beats false part =
           let follows : abstract_step config (Deliver link ch) sys h ≡ h =
           cc (followed-moving config link ch sys h x queue moving beats, part) in
           subst (λ (z : AbstractState w). IsLess z sys') (sym follows)
-          (owed-begun config log h.mail h.request h.state sys' ch link.0 x queue width matched
+          (owed-begun sys' queue width matched
           (client_below config link.0 terms known) beats part
-          (grown-begun link.0 ch x sys sys' (grown-moved config log h link ch terms x queue width matched known beats
+          (grown-begun link.0 ch x sys sys' (grown-moved h link ch terms x queue width matched known beats
           moving) part))
 
       go : ((x : Beat w) × (queue : List (Beat w)) × (terms : EndConfig)

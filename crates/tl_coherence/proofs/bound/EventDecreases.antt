@@ -41,9 +41,8 @@ use Rattle.tl_coherence.proofs.queues.Tokens.{same_number, set-same, set-other, 
 
 -- of the message that comes first some beat is left
 pub left-first : {w : ℕ} (ch : Channel) (c : ℕ) (k : Kind) (n : ℕ) (tokens : List Packet) (mail : AccessMessages w)
-    (s : State (List ℕ)) (sys : System w)
-    → ChannelRelation mail s sys → is_on ch k ≡ true → packets_on ch (s.link c) ≡ packet k n ∷ tokens
-    → 1 ≤ beats_left mail s (unfinished_at sys) c k n
+    (s : State (List ℕ)) (sys : System w) → ChannelRelation mail s sys → is_on ch k ≡ true
+    → packets_on ch (s.link c) ≡ packet k n ∷ tokens → 1 ≤ beats_left mail s (unfinished_at sys) c k n
 left-first {w} ch c k n tokens mail s sys carried own first =
     go (subst (λ (ts : List Packet). IsCarried (unfinished_at sys c ch) (map (message_of mail s c) ts)
     (sys.channels c ch)) first (carried c ch))
@@ -62,7 +61,7 @@ pub shown-first : {X : Type 0} (caching : ℕ → Bool) (ch : Channel) (c : ℕ)
     (s : State X) → IsInvariant caching s
     → is_on ch k ≡ true → packets_on ch (s.link c) ≡ packet k n ∷ tokens → shows_it s c k n ≡ true
 shown-first caching ch c k n tokens s inv own first =
-    shown_there caching s c ch k n inv own (rw first (first-there (packet k n) tokens))
+    shown_there c ch k n inv own (rw first (first-there (packet k n) tokens))
 
 -- ---- what stays
 
@@ -85,9 +84,8 @@ acks_set c l link e d = acks_as (set c l link d) (link d) (set-part (λ k. k.e) 
 
 acks_ended : (c q : ℕ) (x : Packet) (rest : List Packet) (link : ℕ → Link) (d : ℕ)
     → length (ended_link c q x rest link d).e ≤ length (link d).e
-acks_ended c q x rest link d =
-    acks_as (ended_link c q x rest link d) (link d) (go (d == q) ∙ set-part (λ k. k.e) c (record (link c) { c = rest })
-    link refl d)
+acks_ended c q x rest link d = acks_as (ended_link c q x rest link d) (link d) (go (d == q)
+    ∙ set-part (λ k. k.e) c (record (link c) { c = rest }) link refl d)
   where
     go : (b : Bool) → (if b then with_d x (popped_link c rest link d) else popped_link c rest link d).e
         ≡ (popped_link c rest link d).e
@@ -151,9 +149,8 @@ module _ {w : ℕ} (config : Config) (caching : ℕ → Bool) (size : ℕ) (answ
         → (shown : IsShown caching n c Channel.B pushes mail mail s (probe_taken c n k tokens s))
         → IsReceived c Channel.B sys sys' → c < number → ((s.block n).pair c).probing ≡ ProbeSent k
         → IsLeftAfter mail (probe_taken c n k tokens s) → IsLess mail (probe_taken c n k tokens s)
-    probe_taken-falls k shown taken lt sent is =
-        probe-falls config caching n shown.moves mail mail s (probe_taken c n k tokens s) shown.showing c Channel.B
-        (unfinished_at sys) (unfinished_at sys')
+    probe_taken-falls k shown taken lt sent is = probe-falls config caching n shown.moves mail mail s
+        (probe_taken c n k tokens s) shown.showing c Channel.B (unfinished_at sys) (unfinished_at sys')
         (popped n c Channel.B mail (probe_taken c n k tokens s) shown taken) size answer all k lt sent
         (set-same n (probed_block c k (s.block n)) s.block) is (λ d i. refl) (λ d i. refl)
         (acks_set c (probed_link n tokens (s.link c)) s.link refl)
@@ -179,9 +176,8 @@ module _ {w : ℕ} (config : Config) (caching : ℕ → Bool) (size : ℕ) (answ
     pub report_answers-falls : (mail' : AccessMessages w) (q source : ℕ) (k : Cap) (r : Report) (f : List ℕ → List ℕ)
         → (shown : IsShown caching n c Channel.C pushes mail mail' s (report_answers c q n source r f tokens s))
         → IsReceived c Channel.C sys sys' → c < number → (s.link c).c ≡ packet ProbeAck n ∷ tokens
-        → (s.block n).service ≡ Waits q false source k
-        → beats_left mail' (report_answers c q n source r f tokens s) (unfinished_at sys') q Answer source ≤ answer q
-        source → IsLess mail' (report_answers c q n source r f tokens s)
+        → (s.block n).service ≡ Waits q false source k → beats_left mail' (report_answers c q n source r f tokens s)
+        (unfinished_at sys') q Answer source ≤ answer q source → IsLess mail' (report_answers c q n source r f tokens s)
     report_answers-falls mail' q source k r f shown taken lt first waits few =
         let told = report_first shown.showing.before first in
         answering-falls config caching n shown.moves mail mail' s (report_answers c q n source r f tokens s)
@@ -196,13 +192,12 @@ module _ {w : ℕ} (config : Config) (caching : ℕ → Bool) (size : ℕ) (answ
 
     pub report_grants-falls : (q source : ℕ) (k gift : Cap) (r : Report) (d : Bool)
         → (shown : IsShown caching n c Channel.C pushes mail mail s (report_grants c q n r d gift tokens s))
-        → IsReceived c Channel.C sys sys' → c < number
-        → (s.link c).c ≡ packet ProbeAck n ∷ tokens → (s.block n).service ≡ Waits q true source k
-        → IsLeftAfter mail (report_grants c q n r d gift tokens s)
+        → IsReceived c Channel.C sys sys' → c < number → (s.link c).c ≡ packet ProbeAck n ∷ tokens
+        → (s.block n).service ≡ Waits q true source k → IsLeftAfter mail (report_grants c q n r d gift tokens s)
         → IsLess mail (report_grants c q n r d gift tokens s)
     report_grants-falls q source k gift r d shown taken lt first waits is =
         let told = report_first shown.showing.before first in
-        let who : IsAsking n q true source s = asking caching s n q true source k shown.showing.before waits in
+        let who : IsAsking n q true source s = asking n q true source k shown.showing.before waits in
         granting-falls config caching n shown.moves mail mail s (report_grants c q n r d gift tokens s) shown.showing c
         Channel.C (unfinished_at sys) (unfinished_at sys')
         (popped n c Channel.C mail (report_grants c q n r d gift tokens s) shown taken) size answer all q who.at source
@@ -215,13 +210,11 @@ module _ {w : ℕ} (config : Config) (caching : ℕ → Bool) (size : ℕ) (answ
 
     pub access_answered-falls : (mail' : AccessMessages w) (source : ℕ) (f : List ℕ → List ℕ)
         → (shown : IsShown caching n c Channel.A pushes mail mail' s (access_answered c n source f tokens s))
-        → IsReceived c Channel.A sys sys'
-        → s.uses c source ≡ Asked → beats_left mail' (access_answered c n source f tokens s) (unfinished_at sys') c
-        Answer source ≤ answer c source
-        → IsLess mail' (access_answered c n source f tokens s)
-    access_answered-falls mail' source f shown taken asked few =
-        answered-falls config caching n shown.moves mail mail' s (access_answered c n source f tokens s) shown.showing c
-        Channel.A (unfinished_at sys) (unfinished_at sys')
+        → IsReceived c Channel.A sys sys' → s.uses c source ≡ Asked
+        → beats_left mail' (access_answered c n source f tokens s) (unfinished_at sys') c Answer source
+        ≤ answer c source → IsLess mail' (access_answered c n source f tokens s)
+    access_answered-falls mail' source f shown taken asked few = answered-falls config caching n shown.moves mail mail'
+        s (access_answered c n source f tokens s) shown.showing c Channel.A (unfinished_at sys) (unfinished_at sys')
         (popped n c Channel.A mail' (access_answered c n source f tokens s) shown taken) size answer all source f asked
         (set_at-same c source Replied s.uses) few (set-same n (performed_block f (s.block n)) s.block)
         (λ d i ne. set_at-unlike c source Replied s.uses d i ne) (λ d i. refl)
@@ -229,8 +222,7 @@ module _ {w : ℕ} (config : Config) (caching : ℕ → Bool) (size : ℕ) (answ
 
     pub access_served-falls : (source tracker : ℕ) (k : Cap) → 1 ≤ size → size ≤ 16 → number ≤ 16
         → (shown : IsShown caching n c Channel.A pushes mail mail s (access_served c n source tracker k tokens s))
-        → IsReceived c Channel.A sys sys'
-        → (s.link c).a ≡ packet Request source ∷ tokens → (s.block n).service ≡ Free
+        → IsReceived c Channel.A sys sys' → (s.link c).a ≡ packet Request source ∷ tokens → (s.block n).service ≡ Free
         → IsLeftAfter mail (access_served c n source tracker k tokens s)
         → IsLess mail (access_served c n source tracker k tokens s)
     access_served-falls source tracker k wide narrow sixteen shown taken first free is =
@@ -255,9 +247,8 @@ module _ {w : ℕ} (config : Config) (caching : ℕ → Bool) (size : ℕ) (answ
 
     pub acquire_granted-falls : (tracker : ℕ) (d : Bool) (k : Cap)
         → (shown : IsShown caching n c Channel.A pushes mail mail s (acquire_granted c n tracker d k tokens s))
-        → IsReceived c Channel.A sys sys'
-        → (s.link c).a ≡ packet Acquire n ∷ tokens
-        → (s.block n).service ≡ Free → IsLeftAfter mail (acquire_granted c n tracker d k tokens s)
+        → IsReceived c Channel.A sys sys' → (s.link c).a ≡ packet Acquire n ∷ tokens → (s.block n).service ≡ Free
+        → IsLeftAfter mail (acquire_granted c n tracker d k tokens s)
         → IsLess mail (acquire_granted c n tracker d k tokens s)
     acquire_granted-falls tracker d k shown taken first free is =
         let new = set-same n (granted_at_once c tracker d k (s.block n)) s.block in
@@ -274,8 +265,7 @@ module _ {w : ℕ} (config : Config) (caching : ℕ → Bool) (size : ℕ) (answ
 
     pub acquire_served-falls : (source tracker : ℕ) (k : Cap) → 1 ≤ size → size ≤ 16 → number ≤ 16
         → (shown : IsShown caching n c Channel.A pushes mail mail s (acquire_served c n source tracker k tokens s))
-        → IsReceived c Channel.A sys sys'
-        → (s.link c).a ≡ packet Acquire n ∷ tokens → (s.block n).service ≡ Free
+        → IsReceived c Channel.A sys sys' → (s.link c).a ≡ packet Acquire n ∷ tokens → (s.block n).service ≡ Free
         → IsLeftAfter mail (acquire_served c n source tracker k tokens s)
         → IsLess mail (acquire_served c n source tracker k tokens s)
     acquire_served-falls source tracker k wide narrow sixteen shown taken first free is =
@@ -312,13 +302,12 @@ module _ {w : ℕ} (config : Config) (caching : ℕ → Bool) (size : ℕ) (answ
     pub answer_taken-falls : (shown : IsShown caching 0 c Channel.D pushes mail mail s (answer_taken c n tokens s))
         → IsReceived c Channel.D sys sys'
         → (s.link c).d ≡ packet Answer n ∷ tokens → IsLess mail (answer_taken c n tokens s)
-    answer_taken-falls shown taken first =
-        answer-falls config caching 0 shown.moves mail mail s (answer_taken c n tokens s) shown.showing c Channel.D
-        (unfinished_at sys) (unfinished_at sys')
+    answer_taken-falls shown taken first = answer-falls config caching 0 shown.moves mail mail s
+        (answer_taken c n tokens s) shown.showing c Channel.D (unfinished_at sys) (unfinished_at sys')
         (popped 0 c Channel.D mail (answer_taken c n tokens s) shown taken) size answer all n
         (answer_named caching s c n shown.showing.before (shown-first caching Channel.D c Answer n tokens s
-        shown.showing.before refl first))
-        (set_at-same c n SourceFree s.uses) (left-first Channel.D c Answer n tokens mail s sys carried refl first) refl
+        shown.showing.before refl first)) (set_at-same c n SourceFree s.uses)
+        (left-first Channel.D c Answer n tokens mail s sys carried refl first) refl
         (λ d i ne. set_at-unlike c n SourceFree s.uses d i ne) (λ d i. refl)
         (acks_set c (record (s.link c) { d = tokens }) s.link refl)
 
@@ -365,12 +354,10 @@ module _ {w : ℕ} (config : Config) (caching : ℕ → Bool) (size : ℕ) (answ
         → (shown : IsShown caching n c Channel.E pushes mail mail s (grant_ack_taken c n tokens s))
         → IsReceived c Channel.E sys sys' → c < number → (s.link c).e ≡ packet GrantAck n ∷ tokens
         → (s.block n).service ≡ GrantTaken q → IsLess mail (grant_ack_taken c n tokens s)
-    grant_ack_taken-falls q shown taken lt first given =
-        grant-ack-falls config caching n shown.moves mail mail s (grant_ack_taken c n tokens s) shown.showing c
-        Channel.E (unfinished_at sys)
-        (unfinished_at sys') (popped n c Channel.E mail (grant_ack_taken c n tokens s) shown taken) size answer all
-        q lt given (set-same n (freed_block (s.block n)) s.block) (λ d i. refl) (λ d i. refl)
-        (λ d. fewer d (cases_eq d c)) less
+    grant_ack_taken-falls q shown taken lt first given = grant-ack-falls config caching n shown.moves mail mail s
+        (grant_ack_taken c n tokens s) shown.showing c Channel.E (unfinished_at sys) (unfinished_at sys')
+        (popped n c Channel.E mail (grant_ack_taken c n tokens s) shown taken) size answer all q lt given
+        (set-same n (freed_block (s.block n)) s.block) (λ d i. refl) (λ d i. refl) (λ d. fewer d (cases_eq d c)) less
       where
         less : length (set c (record (s.link c) { e = tokens }) s.link c).e + 1 ≤ length (s.link c).e
         less =

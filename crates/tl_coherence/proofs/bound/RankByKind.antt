@@ -35,8 +35,7 @@ module _ {w : ℕ} (config : Config) (log : Log w) (h : AbstractState w) (sys' :
 
   pub probe-owed : (h.state.link c).b ≡ packet Probe n ∷ rest → IsReceived c Channel.B (system_after config log) sys'
       → Kept Probe → TakenFalls Probe
-  probe-owed first received kept =
-      probe_taken-owed config log h.mail h.request h.state sys' width matched c n rest lt
+  probe-owed first received kept = probe_taken-owed config log h.mail h.request h.state sys' width matched c n rest lt
       (cap_sent ((h.state.block n).pair c).probing) first
       (sent-is ((h.state.block n).pair c).probing (shown-first (is_caching config) Channel.B c Probe n rest h.state
       matched.invariant refl first)) received kept
@@ -58,20 +57,17 @@ module _ {w : ℕ} (config : Config) (log : Log w) (h : AbstractState w) (sys' :
 
   pub grant_ack-owed : (h.state.link c).e ≡ packet GrantAck n ∷ rest → IsReceived c Channel.E (system_after config log)
       sys' → Kept GrantAck → TakenFalls GrantAck
-  grant_ack-owed first received kept =
-      grant_ack_taken-owed config log h.mail h.request h.state sys' width matched c n rest lt first
-      (acknowledging-is (h.state.block n).service c (shown-first (is_caching config) Channel.E c GrantAck n rest h.state
-      matched.invariant refl first)) received kept
+  grant_ack-owed first received kept = grant_ack_taken-owed config log h.mail h.request h.state sys' width matched c n
+      rest lt first (acknowledging-is (h.state.block n).service c (shown-first (is_caching config) Channel.E c GrantAck
+      n rest h.state matched.invariant refl first)) received kept
 
   -- a Grant
   pub grant-owed : (h.state.link c).d ≡ packet Grant n ∷ rest → IsReceived c Channel.D (system_after config log) sys'
       → Kept Grant → TakenFalls Grant
   grant-owed first received kept =
       subst (λ (z : AbstractState w). owed config z.mail z.state sys' + 1 ≤ owed config h.mail h.state
-      (system_after config log)) (sym same)
-      (grant_taken-owed config log h.mail h.request h.state sys' width matched c n rest lt due.whole due.data_too due.k
-      first due.service
-      (bare (is_caching config) c n h due matched.invariant) received
+      (system_after config log)) (sym same) (grant_taken-owed config log h.mail h.request h.state sys' width matched c n
+      rest lt due.whole due.data_too due.k first due.service (bare h due matched.invariant) received
       (subst (λ (z : AbstractState w). IsKeptAfter config z.mail z.state) same kept))
     where
       due : IsGrantDue c n h.state
@@ -102,18 +98,16 @@ module _ {w : ℕ} (config : Config) (log : Log w) (h : AbstractState w) (sys' :
       taken x = acquire_taken (length config.clients.items) config.profile c n x tracker rest h
 
       state_of : Bool → Grow → Bool → State (List ℕ)
-      state_of whole g probes = if probes
-          then acquire_served c n (b.source c) tracker (cap_asked (AcquireOpen whole g)) rest h.state
-          else acquire_granted c n tracker (is_granted_data whole g (b.pair c).recorded)
+      state_of whole g probes = if probes then acquire_served c n (b.source c) tracker (cap_asked (AcquireOpen whole g))
+          rest h.state else acquire_granted c n tracker (is_granted_data whole g (b.pair c).recorded)
           (gift config.profile whole g (is_unheld (length config.clients.items) b.pair)) rest h.state
 
       each : (whole : Bool) (g : Grow) (probes : Bool) → IsKeptAfter config h.mail (state_of whole g probes)
           → owed config h.mail (state_of whole g probes) sys' + 1 ≤ owed config h.mail h.state (system_after config log)
       each whole g true is = acquire_served-owed config log h.mail h.request h.state sys' width matched c n rest lt
           (b.source c) tracker (cap_asked (AcquireOpen whole g)) sixteen first free received is
-      each whole g false is =
-          acquire_granted-owed config log h.mail h.request h.state sys' width matched c n rest lt tracker
-          (is_granted_data whole g (b.pair c).recorded)
+      each whole g false is = acquire_granted-owed config log h.mail h.request h.state sys' width matched c n rest lt
+          tracker (is_granted_data whole g (b.pair c).recorded)
           (gift config.profile whole g (is_unheld (length config.clients.items) b.pair)) first free received is
 
       go : (x : AcquirePhase) → (b.pair c).acquiring ≡ x → IsKeptAfter config (taken x).mail (taken x).state

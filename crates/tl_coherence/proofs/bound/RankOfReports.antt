@@ -85,17 +85,15 @@ report-owed {w} config log h sys' tracker c n rest width matched lt first receiv
         go NoAcquire g then_kept =
             absurd (let wants = own_wants (b.pair q) (view b.service q) ((inv.blocks n).phases q)
             (rw (f, same_number q) refl) in let none : false ≡ true = rw g at wants in cc)
-        go (AcquireOpen whole grow) g then_kept =
-            report_grants-owed config log h.mail h.request h.state sys' width matched c n rest lt q source low
-            (gift_after config c n r whole grow h) r
+        go (AcquireOpen whole grow) g then_kept = report_grants-owed config log h.mail h.request h.state sys' width
+            matched c n rest lt q source low (gift_after config c n r whole grow h) r
             (is_granted_data whole grow (b.pair q).recorded) first f (seen_apart q source low c (rw f at seen)) received
             then_kept
 
     others : (y : Bool) → some_below clients (others_probed c b.pair) ≡ y
         → Kept (if y then with_state (report_taken c n r rest h.state) h else last_taken clients config.profile c n r
-        b.service rest h)
-        → Falls (if y then with_state (report_taken c n r rest h.state) h else last_taken clients config.profile c n r
-        b.service rest h)
+        b.service rest h) → Falls (if y then with_state (report_taken c n r rest h.state) h else last_taken clients
+        config.profile c n r b.service rest h)
     others true f is = report_taken-owed config log h.mail h.request h.state sys' width matched c n rest lt r first
         received is
     others false f is = last f b.service refl is

@@ -15,21 +15,18 @@ use Rattle.tl_coherence.proofs.deliveries.CarriedRequests.{unread-bytes, answer_
 use Rattle.tl_coherence.proofs.bound.RankAfter.{IsKeptAfter, access_answered-owed, access_served-owed}
 
 pub request-owed : {w : ℕ} (config : Config) (log : Log w) (h : AbstractState w) (sys' : System w)
-    (tracker c source : ℕ) (rest : List Packet) (m : MessageA w)
-    → IsWidth w → SimulationRelation config log h.mail h.request h.state (system_after config log)
-    → c < length config.clients.items → length config.clients.items ≤ 16
-    → (h.state.link c).a ≡ packet Request source ∷ rest
-    → h.mail.request c source ≡ Message.A m → is_acquire m.opcode ≡ false
-    → (h.state.block (block_at m.address)).service ≡ Free
-    → IsReceived c Channel.A (system_after config log) sys'
+    (tracker c source : ℕ) (rest : List Packet) (m : MessageA w) → IsWidth w
+    → SimulationRelation config log h.mail h.request h.state (system_after config log) → c < length config.clients.items
+    → length config.clients.items ≤ 16 → (h.state.link c).a ≡ packet Request source ∷ rest
+    → h.mail.request c source ≡ Message.A m → is_acquire m.opcode ≡ false → (h.state.block (block_at m.address)).service
+    ≡ Free → IsReceived c Channel.A (system_after config log) sys'
     → IsKeptAfter config (kind_taken config tracker c Request source rest h).mail
     (kind_taken config tracker c Request source rest h).state
     → owed config (kind_taken config tracker c Request source rest h).mail
     (kind_taken config tracker c Request source rest h).state sys' + 1 ≤ owed config h.mail h.state
     (system_after config log)
 request-owed {w} config log h sys' tracker c source rest m width matched lt sixteen first is_it access free received
-    kept =
-    subst (λ (i : Message w). Falls (request_taken clients c source i tracker rest h)) (sym is_it)
+    kept = subst (λ (i : Message w). Falls (request_taken clients c source i tracker rest h)) (sym is_it)
     (go (probes_some clients c false (cap_probed m.opcode m.param) b.pair) (cap_probed m.opcode m.param) refl refl
     (subst (λ (i : Message w). Kept (request_taken clients c source i tracker rest h)) is_it kept))
   where
@@ -55,9 +52,8 @@ request-owed {w} config log h sys' tracker c source rest m width matched lt sixt
     answered : probes_some clients c false (cap_probed m.opcode m.param) b.pair ≡ false
         → Kept (access_taken c source m tracker false None rest h)
         → Falls (access_taken c source m tracker false None rest h)
-    answered none is =
-        access_answered-owed config log h.mail h.request h.state sys' width matched c n rest lt source (performs m)
-        (answers m b.memory) first used
+    answered none is = access_answered-owed config log h.mail h.request h.state sys' width matched c n rest lt source
+        (performs m) (answers m b.memory) first used
         (unread-bytes config log h.mail h.request h.state (system_after config log) c n m matched access none)
         (answer_on_d m (answer_of (Message.A m) (effect (Message.A m) (bytes_at n b.memory)).1)) received is
 

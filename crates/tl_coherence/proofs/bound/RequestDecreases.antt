@@ -14,16 +14,15 @@ use Rattle.tl_coherence.proofs.{queues.Channels.IsShowing, protocol.BeatsRemaini
 use Rattle.tl_coherence.proofs.{protocol.BeatsRemaining.beats_left, rank.RankParts.AreClients}
 use Rattle.tl_coherence.proofs.{rank.RankParts.request-falls, protocol.QuiescentProtocol.serves_another}
 use Rattle.tl_coherence.proofs.{queues.Sums.total-le, queues.Tokens.same_number, queues.Tokens.set-part}
-use Rattle.tl_coherence.proofs.{queues.Facts.is_other}
 use Rattle.tl_coherence.proofs.rank.Frames.{IsBlockNoMore, acquire-stays, let-stays, pair-stays, unserved-stays}
 use Rattle.tl_coherence.proofs.rank.Frames.{wants-used}
 use Rattle.tl_coherence.proofs.bound.ReportDecreases.{is_for_access, nobody-serving}
 use Rattle.tl_coherence.proofs.rank.Weights.{IsLeft, probes-few, probes-fewer}
 
 -- a client whose own Acquire is in service isn't probed for it
-owner_quiet : (caching : ℕ → Bool) (s : State (List ℕ)) (n r : ℕ) → IsInvariant caching s
+owner_quiet : {caching : ℕ → Bool} {s : State (List ℕ)} (n r : ℕ) → IsInvariant caching s
     → view (s.block n).service r ≡ Own → is_unprobed ((s.block n).pair r).probing ≡ true
-owner_quiet caching s n r inv own = go (is_unprobed ((s.block n).pair r).probing) refl
+owner_quiet {s} n r inv own = go (is_unprobed ((s.block n).pair r).probing) refl
   where
     go : (b : Bool) → is_unprobed ((s.block n).pair r).probing ≡ b → b ≡ true
     go true e = refl
@@ -73,9 +72,10 @@ module _ {w : ℕ} (config : Config) (caching : ℕ → Bool) (n : ℕ) (moves :
         serves = λ d i e f. probes;
         acquires = λ d i e f.
             acquire-stays config caching n moves mail mail' s s' showing c ch rest rest' popped size answer d n
-            (wants-used caching s showing.before d i n e)
+            (wants-used showing.before d i n e)
             (ap (λ (p : ℕ → ClientBlock). (p d).acquiring) pairs) (ap (λ (u : Service). view u d) service) probes;
-        lets = λ d i e f. let-stays config caching n moves mail mail' s s' showing c ch rest rest' popped size answer d n
+        lets = λ d i e f. let-stays config caching n moves mail mail' s s' showing c ch rest rest' popped size answer d
+            n
             (ap (λ (p : ℕ → ClientBlock). (p d).letting) pairs);
       }
 
@@ -102,7 +102,7 @@ module _ {w : ℕ} (config : Config) (caching : ℕ → Bool) (n : ℕ) (moves :
     come-into-service : ((d : ℕ) → (is_unserved (view (s'.block n).service d) ≡ true) ⊎ (owed_for' d ≤ owed_for d))
         → IsBlockNoMore config caching n moves mail mail' s s' showing c ch rest rest' popped size answer
     come-into-service each = record {
-      serves = λ d i e f. absurd (nobody-serving caching s n d i showing.before none_before e);
+      serves = λ d i e f. absurd (nobody-serving n d i showing.before none_before e);
       acquires = λ d i e f. acquire d i e f (each d);
       lets = λ d i e f. let-stays config caching n moves mail mail' s s' showing c ch rest rest' popped size answer d n
           (letting d);
@@ -111,8 +111,7 @@ module _ {w : ℕ} (config : Config) (caching : ℕ → Bool) (n : ℕ) (moves :
         acquire : (d i : ℕ) → s.uses d i ≡ Acquires n → s'.uses d i ≡ Acquires n
             → (is_unserved (view (s'.block n).service d) ≡ true) ⊎ (owed_for' d ≤ owed_for d) → owed_for' d ≤ owed_for d
         acquire d i e f (inl waits) = unserved-stays config caching n moves mail mail' s s' showing c ch rest rest'
-            popped size answer d i n e f
-            (ap (λ (u : Service). is_unserved (view u d)) free) waits
+            popped size answer d i n e f (ap (λ (u : Service). is_unserved (view u d)) free) waits
         acquire d i e f (inr less) = less
 
     idle : (d : ℕ) → view (s.block n).service d ≡ Idle
@@ -133,9 +132,8 @@ module _ {w : ℕ} (config : Config) (caching : ℕ → Bool) (n : ℕ) (moves :
         c source opened unlike lets acks (rw (asked, served) (omega (arith, some, probes)))
 
     pub acquire-granted-falls : (source : ℕ) (data_too : Bool) (k : Cap) → (s'.block n).service ≡ GrantSent c data_too k
-        → s.uses c source ≡ Acquires n → IsLeft size left' answer s'
-        → ((d i : ℕ) → s'.uses d i ≡ s.uses d i) → ((d i : ℕ) → s'.lets d i ≡ s.lets d i)
-        → ((d : ℕ) → length (s'.link d).e ≤ length (s.link d).e)
+        → s.uses c source ≡ Acquires n → IsLeft size left' answer s' → ((d i : ℕ) → s'.uses d i ≡ s.uses d i)
+        → ((d i : ℕ) → s'.lets d i ≡ s.lets d i) → ((d : ℕ) → length (s'.link d).e ≤ length (s.link d).e)
         → rank config size left' answer s' + 1 ≤ rank config size left answer s
     acquire-granted-falls source data_too k given used is uses lets acks =
         let opened : s.uses c source ≡ SourceFree → ⊥ =
@@ -156,11 +154,10 @@ module _ {w : ℕ} (config : Config) (caching : ℕ → Bool) (n : ℕ) (moves :
         at d (inr ne) = inl (rw (given, ne_eqb d c ne) refl)
 
     pub acquire-served-falls : (source at : ℕ) (k : Cap) → 1 ≤ size → size ≤ 16 → number ≤ 16
-        → (s'.block n).service ≡ Waits c true at k
-        → s.uses c source ≡ Acquires n → 1 ≤ left c Acquire n → IsLeft size left' answer s'
-        → ((d i : ℕ) → s'.uses d i ≡ s.uses d i) → ((d i : ℕ) → s'.lets d i ≡ s.lets d i)
-        → ((d : ℕ) → length (s'.link d).e ≤ length (s.link d).e)
-        → rank config size left' answer s' + 1 ≤ rank config size left answer s
+        → (s'.block n).service ≡ Waits c true at k → s.uses c source ≡ Acquires n → 1 ≤ left c Acquire n
+        → IsLeft size left' answer s' → ((d i : ℕ) → s'.uses d i ≡ s.uses d i) → ((d i : ℕ) → s'.lets d i ≡ s.lets d i)
+        → ((d : ℕ) → length (s'.link d).e ≤ length (s.link d).e) → rank config size left' answer s' + 1
+        ≤ rank config size left answer s
     acquire-served-falls source at k wide narrow sixteen waits used some is uses lets acks =
         request-falls config caching n moves mail mail' s s' showing c ch rest rest' popped size answer all
         (come-into-service (λ d. each d (cases_eq d c)))
@@ -174,7 +171,7 @@ module _ {w : ℕ} (config : Config) (caching : ℕ → Bool) (n : ℕ) (moves :
 
         probes : probes_weight number size left' n (s'.block n) ≤ 30
         probes = probes-fewer caching s' showing.after size left' answer is wide narrow number sixteen n c
-            (all.clients c source opened) (owner_quiet caching s' n c showing.after own)
+            (all.clients c source opened) (owner_quiet n c showing.after own)
 
         less : owed_for' c + 1 ≤ owed_for c
         less = rw (own, idle c) (omega (arith, probes, some))
@@ -186,13 +183,11 @@ module _ {w : ℕ} (config : Config) (caching : ℕ → Bool) (n : ℕ) (moves :
 
   -- the parts of Releases, in a block that is served or granted
   pub served-letting : (own : Bool) (source tracker : ℕ) (k : Cap) → s'.block n ≡ served_block c own source tracker k
-      (s.block n) → (d : ℕ)
-      → ((s'.block n).pair d).letting ≡ ((s.block n).pair d).letting
+      (s.block n) → (d : ℕ) → ((s'.block n).pair d).letting ≡ ((s.block n).pair d).letting
   served-letting own source tracker k new d = ap (λ (b : Block (List ℕ)). (b.pair d).letting) new ∙ served_letting c own
       k (s.block n).pair d
 
   pub granted-letting : (tracker : ℕ) (data_too : Bool) (k : Cap) → s'.block n ≡ granted_at_once c tracker data_too k
-      (s.block n) → (d : ℕ)
-      → ((s'.block n).pair d).letting ≡ ((s.block n).pair d).letting
+      (s.block n) → (d : ℕ) → ((s'.block n).pair d).letting ≡ ((s.block n).pair d).letting
   granted-letting tracker data_too k new d = ap (λ (b : Block (List ℕ)). (b.pair d).letting) new ∙ set-part
       (λ p. p.letting) c (after_grant_sent k ((s.block n).pair c)) (s.block n).pair refl d

@@ -134,28 +134,26 @@ unanswered source request answer u e = tt
 answered-used : {w : ℕ} (c source : ℕ) (u : SourceState) (mail : AccessMessages w) (s s' : State (List ℕ))
     → is_unanswered u ≡ true → s'.uses ≡ set_at c source u s.uses → AreAnswered mail s → AreAnswered mail s'
 answered-used c source u mail s s' none uses h =
-    answered-at c source mail mail s s'
-    (λ d i other. (
+    answered-at c source mail mail s s' (λ d i other. (
       refl,
       refl,
-      ap (λ (f : ℕ → ℕ → SourceState). f d i) uses ∙ set_at-apart c source u s.uses d i
-          other,
-    ))
-    (unanswered source (mail.request c source) (mail.answer c source) (s'.uses c source)
-    (ap is_unanswered (ap (λ (f : ℕ → ℕ → SourceState). f c source) uses ∙ set_at-same c source u s.uses) ∙ none)) h
+      ap (λ (f : ℕ → ℕ → SourceState). f d i) uses
+          ∙ set_at-apart c source u s.uses d i other,
+    )) (unanswered source (mail.request c source) (mail.answer c source)
+    (s'.uses c source) (ap is_unanswered (ap (λ (f : ℕ → ℕ → SourceState). f c source) uses
+    ∙ set_at-same c source u s.uses) ∙ none)) h
 
 -- an access that is answered
 answered-now : {w : ℕ} (c source : ℕ) (x : Message w) (mail : AccessMessages w) (s s' : State (List ℕ))
-    → s'.uses ≡ set_at c source Replied s.uses
-    → IsAnswer source (mail.request c source) x → AreAnswered mail s
+    → s'.uses ≡ set_at c source Replied s.uses → IsAnswer source (mail.request c source) x → AreAnswered mail s
     → AreAnswered (record { request = mail.request; answer = set_at c source x mail.answer }) s'
 answered-now {w} c source x mail s s' uses new h =
     answered-at c source mail (record { request = mail.request; answer = set_at c source x mail.answer }) s s'
     (λ d i other. (
       refl,
       set_at-apart c source x mail.answer d i other,
-      ap (λ (f : ℕ → ℕ → SourceState). f d i)
-          uses ∙ set_at-apart c source Replied s.uses d i other,
+      ap (λ (f : ℕ → ℕ → SourceState). f d i) uses
+          ∙ set_at-apart c source Replied s.uses d i other,
     ))
     (rw (
       ap (λ (f : ℕ → ℕ → SourceState). f c source) uses ∙ set_at-same c source Replied s.uses,
@@ -217,8 +215,7 @@ answered-asked c (Op.Access (Message.E m)) r h all = all
 -- ---- messages that are taken
 
 answered_request : {w : ℕ} (clients c source tracker : ℕ) (m : MessageA w) (rest : List Packet) (h : AbstractState w)
-    → h.mail.request c source ≡ Message.A m
-    → is_acquire m.opcode ≡ false → m.source ≡ source → AreAnsweredIn h
+    → h.mail.request c source ≡ Message.A m → is_acquire m.opcode ≡ false → m.source ≡ source → AreAnsweredIn h
     → AreAnsweredIn (request_taken clients c source (Message.A m) tracker rest h)
 answered_request {w} clients c source tracker m rest h is access from all =
     go (probes_some clients c false (cap_probed m.opcode m.param) (h.state.block n).pair) (cap_probed m.opcode m.param)
@@ -239,8 +236,7 @@ answered_request {w} clients c source tracker m rest h is access from all =
     go b o = now
 
 answered_acquire : {w : ℕ} (clients : ℕ) (p : Profile) (c n tracker : ℕ) (x : AcquirePhase) (rest : List Packet)
-    (h : AbstractState w) → AreAnsweredIn h
-    → AreAnsweredIn (acquire_taken clients p c n x tracker rest h)
+    (h : AbstractState w) → AreAnsweredIn h → AreAnsweredIn (acquire_taken clients p c n x tracker rest h)
 answered_acquire clients p c n tracker NoAcquire rest h all = all
 answered_acquire {w} clients p c n tracker (AcquireOpen whole g) rest h all =
     go (some_below clients (λ i. is_probed c true (cap_asked (AcquireOpen whole g)) (b.pair i).recorded i))
@@ -248,22 +244,19 @@ answered_acquire {w} clients p c n tracker (AcquireOpen whole g) rest h all =
     b : Block (List ℕ)
     b = h.state.block n
 
-    go : (x : Bool)
-        → AreAnswered h.mail (if x then acquire_served c n (b.source c) tracker (cap_asked (AcquireOpen whole g)) rest
-        h.state else acquire_granted c n tracker
+    go : (x : Bool) → AreAnswered h.mail (if x then acquire_served c n (b.source c) tracker
+        (cap_asked (AcquireOpen whole g)) rest h.state else acquire_granted c n tracker
         (is_granted_data whole g (b.pair c).recorded) (gift p whole g (is_unheld clients b.pair)) rest h.state)
     go true = all
     go false = all
 
 answered_granted : {w : ℕ} (clients : ℕ) (p : Profile) (c q n : ℕ) (r : Report) (x : AcquirePhase) (rest : List Packet)
-    (h : AbstractState w) → AreAnsweredIn h
-    → AreAnsweredIn (granted_after clients p c q n r x rest h)
+    (h : AbstractState w) → AreAnsweredIn h → AreAnsweredIn (granted_after clients p c q n r x rest h)
 answered_granted clients p c q n r NoAcquire rest h all = all
 answered_granted clients p c q n r (AcquireOpen whole g) rest h all = all
 
 answered_last : {w : ℕ} (clients : ℕ) (p : Profile) (c n : ℕ) (r : Report) (service : Service) (rest : List Packet)
-    (h : AbstractState w)
-    → IsServedWith h.mail service (h.request n) → IsFor service n (h.request n) → AreAnsweredIn h
+    (h : AbstractState w) → IsServedWith h.mail service (h.request n) → IsFor service n (h.request n) → AreAnsweredIn h
     → AreAnsweredIn (last_taken clients p c n r service rest h)
 answered_last clients p c n r Free rest h with for all = all
 answered_last clients p c n r (GrantSent q d k) rest h with for all = all
@@ -272,15 +265,13 @@ answered_last clients p c n r (Waits q true source k) rest h with for all =
     answered_granted clients p c q n r ((h.state.block n).pair q).acquiring rest h all
 answered_last {w} clients p c n r (Waits q false source k) rest h with for all =
     answered-now q source (follow.answers (h.request n) (written r (h.state.block n).truth (h.state.block n).memory))
-    h.mail h.state
-    (last_taken clients p c n r (Waits q false source k) rest h).state refl
+    h.mail h.state (last_taken clients p c n r (Waits q false source k) rest h).state refl
     (rw with (answers-access source (h.request n) (written r (h.state.block n).truth (h.state.block n).memory) for.0
     for.1)) all
 
 answered_ack : {w : ℕ} (clients : ℕ) (p : Profile) (c n : ℕ) (r : Report) (rest : List Packet) (h : AbstractState w)
     → IsServedWith h.mail (h.state.block n).service (h.request n) → IsFor (h.state.block n).service n (h.request n)
-    → AreAnsweredIn h
-    → AreAnsweredIn (ack_taken clients p c n r rest h)
+    → AreAnsweredIn h → AreAnsweredIn (ack_taken clients p c n r rest h)
 answered_ack {w} clients p c n r rest h with for all =
     go (some_below clients (λ i. not (i == c) && not (is_unprobed ((h.state.block n).pair i).probing)))
   where
@@ -295,28 +286,27 @@ answered_grant c n (GrantSent q d k) rest h all = answered-used c ((h.state.bloc
     (taken_by_client c n (GrantSent q d k) rest h).state refl refl all
 answered_grant c n service rest h all = all
 
-pub answered-kind_taken : {w : ℕ} (config : Config) (log : Log w) (tracker c : ℕ) (k : Kind) (i : ℕ)
-    (rest : List Packet) (h : AbstractState w) (sys : System w)
+pub answered-kind_taken : {w : ℕ} {config : Config} {log : Log w} (tracker c : ℕ) (k : Kind) (i : ℕ)
+    (rest : List Packet) (h : AbstractState w) {sys : System w}
     → SimulationRelation config log h.mail h.request h.state sys → on k (h.state.link c) ≡ packet k i ∷ rest
     → AreAnswered (kind_taken config tracker c k i rest h).mail (kind_taken config tracker c k i rest h).state
-answered-kind_taken {w} config log tracker c Request i rest h sys is first =
-    let asked = asked-first config log h.mail h.request h.state sys c i rest is first in
+answered-kind_taken {w} {config} {log} tracker c Request i rest h {sys} is first =
+    let asked = asked-first c i rest is first in
     subst (λ (m : Message w). AreAnsweredIn (request_taken (length config.clients.items) c i m tracker rest h))
     (sym asked.is_it)
     (answered_request (length config.clients.items) c i tracker asked.request rest h asked.is_it asked.access
     asked.source_is is.answered)
-answered-kind_taken config log tracker c Acquire n rest h sys is first =
+answered-kind_taken {config} tracker c Acquire n rest h is first =
     answered_acquire (length config.clients.items) config.profile c n tracker ((h.state.block n).pair c).acquiring rest
     h is.answered
-answered-kind_taken config log tracker c Probe n rest h sys is first = is.answered
-answered-kind_taken config log tracker c ProbeAck n rest h sys is first =
+answered-kind_taken tracker c Probe n rest h is first = is.answered
+answered-kind_taken {config} tracker c ProbeAck n rest h is first =
     answered_ack (length config.clients.items) config.profile c n (report_told ((h.state.block n).pair c).probing) rest
     h (is.served_with n) (is.served.requests n) is.answered
-answered-kind_taken config log tracker c Release n rest h sys is first = is.answered
-answered-kind_taken config log tracker c Answer i rest h sys is first =
+answered-kind_taken tracker c Release n rest h is first = is.answered
+answered-kind_taken {config} tracker c Answer i rest h is first =
     answered-used c i SourceFree h.mail h.state (kind_taken config tracker c Answer i rest h).state refl refl
     is.answered
-answered-kind_taken config log tracker c Grant n rest h sys is first =
-    answered_grant c n (h.state.block n).service rest h is.answered
-answered-kind_taken config log tracker c ReleaseAck n rest h sys is first = is.answered
-answered-kind_taken config log tracker c GrantAck n rest h sys is first = is.answered
+answered-kind_taken tracker c Grant n rest h is first = answered_grant c n (h.state.block n).service rest h is.answered
+answered-kind_taken tracker c ReleaseAck n rest h is first = is.answered
+answered-kind_taken tracker c GrantAck n rest h is first = is.answered

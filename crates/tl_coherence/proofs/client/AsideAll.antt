@@ -48,8 +48,7 @@ asked_access Asked e = refl
 asked_access u e = absurd cc
 
 leaves-request : {w : ℕ} (clients c source tracker : ℕ) (m : Message w) (rest : List Packet) (h : AbstractState w)
-    (d : ℕ) → is_access (h.state.uses c source) ≡ true
-    → Leaves d h (request_taken clients c source m tracker rest h)
+    (d : ℕ) → is_access (h.state.uses c source) ≡ true → Leaves d h (request_taken clients c source m tracker rest h)
 leaves-request {w} clients c source tracker (Message.A m) rest h d access =
     go (probes_some clients c false (cap_probed m.opcode m.param) (h.state.block (block_at m.address)).pair)
     (cap_probed m.opcode m.param)
@@ -77,11 +76,9 @@ leaves-acquire {w} clients p c n tracker (AcquireOpen whole g) rest h d =
     b : Block (List ℕ)
     b = h.state.block n
 
-    go : (x : Bool)
-        → IsAside d h.mail h.mail h.state (if x then acquire_served c n (b.source c) tracker
+    go : (x : Bool) → IsAside d h.mail h.mail h.state (if x then acquire_served c n (b.source c) tracker
         (cap_asked (AcquireOpen whole g)) rest h.state else acquire_granted c n tracker
-        (is_granted_data whole g (b.pair c).recorded)
-        (gift p whole g (is_unheld clients b.pair)) rest h.state)
+        (is_granted_data whole g (b.pair c).recorded) (gift p whole g (is_unheld clients b.pair)) rest h.state)
     go true = aside-acquire_served c n (b.source c) tracker d (cap_asked (AcquireOpen whole g)) rest h.mail h.state
     go false = aside-acquire_granted c n tracker d (is_granted_data whole g (b.pair c).recorded)
         (gift p whole g (is_unheld clients b.pair)) rest h.mail h.state
@@ -101,9 +98,8 @@ leaves-granted clients p c q n r (AcquireOpen whole g) rest h d =
     (gift p whole g (is_unheld clients (set c (after_report r (b.pair c)) b.pair))) rest h.mail h.state
 
 leaves-last : {w : ℕ} (clients : ℕ) (p : Profile) (c n : ℕ) (r : Report) (service : Service) (rest : List Packet)
-    (h : AbstractState w) (d : ℕ)
-    → ((q source : ℕ) (k : Cap) → service ≡ Waits q false source k → is_access (h.state.uses q source) ≡ true)
-    → Leaves d h (last_taken clients p c n r service rest h)
+    (h : AbstractState w) (d : ℕ) → ((q source : ℕ) (k : Cap) → service ≡ Waits q false source k
+    → is_access (h.state.uses q source) ≡ true) → Leaves d h (last_taken clients p c n r service rest h)
 leaves-last clients p c n r (Waits q true source k) rest h d access =
     leaves-granted clients p c q n r ((h.state.block n).pair q).acquiring rest h d
 leaves-last clients p c n r (Waits q false source k) rest h d access =
@@ -112,10 +108,9 @@ leaves-last clients p c n r (Waits q false source k) rest h d access =
     h.state (access q source k refl)
 leaves-last clients p c n r service rest h d access = leaves-none d h
 
-leaves-ack : {w : ℕ} (caching : ℕ → Bool) (clients : ℕ) (p : Profile) (c n : ℕ) (r : Report) (rest : List Packet)
-    (h : AbstractState w) (d : ℕ)
-    → IsInvariant caching h.state → Leaves d h (ack_taken clients p c n r rest h)
-leaves-ack {w} caching clients p c n r rest h d inv =
+leaves-ack : {w : ℕ} {caching : ℕ → Bool} (clients : ℕ) (p : Profile) (c n : ℕ) (r : Report) (rest : List Packet)
+    (h : AbstractState w) (d : ℕ) → IsInvariant caching h.state → Leaves d h (ack_taken clients p c n r rest h)
+leaves-ack {w} clients p c n r rest h d inv =
     go (some_below clients (λ i. not (i == c) && not (is_unprobed ((h.state.block n).pair i).probing)))
   where
     served : (q source : ℕ) (k : Cap) → (h.state.block n).service ≡ Waits q false source k
@@ -139,29 +134,25 @@ is_for_manager Release = true
 is_for_manager GrantAck = true
 is_for_manager _ = false
 
-pub leaves-at_manager : {w : ℕ} (caching : ℕ → Bool) (config : Config) (tracker c : ℕ) (k : Kind) (i : ℕ)
-    (rest : List Packet) (h : AbstractState w) (d : ℕ)
-    → is_for_manager k ≡ true → IsInvariant caching h.state
-    → on k (h.state.link c) ≡ packet k i ∷ rest
-    → Leaves d h (kind_taken config tracker c k i rest h)
-leaves-at_manager caching config tracker c Request i rest h d for inv first =
+pub leaves-at_manager : {w : ℕ} {caching : ℕ → Bool} (config : Config) (tracker c : ℕ) (k : Kind) (i : ℕ)
+    (rest : List Packet) (h : AbstractState w) (d : ℕ) → is_for_manager k ≡ true → IsInvariant caching h.state
+    → on k (h.state.link c) ≡ packet k i ∷ rest → Leaves d h (kind_taken config tracker c k i rest h)
+leaves-at_manager config tracker c Request i rest h d for inv first =
     leaves-request (length config.clients.items) c i tracker (h.mail.request c i) rest h d
     (asked_access (h.state.uses c i) (holds-first Request (h.state.link c).a rest (packet Request i)
     (λ j. is_asked (h.state.uses c j)) first refl (inv.requests c)))
-leaves-at_manager caching config tracker c Acquire n rest h d for inv first =
+leaves-at_manager config tracker c Acquire n rest h d for inv first =
     leaves-acquire (length config.clients.items) config.profile c n tracker ((h.state.block n).pair c).acquiring rest h
     d
-leaves-at_manager caching config tracker c ProbeAck n rest h d for inv first =
-    leaves-ack caching (length config.clients.items) config.profile c n (report_told ((h.state.block n).pair c).probing)
+leaves-at_manager {caching} config tracker c ProbeAck n rest h d for inv first =
+    leaves-ack (length config.clients.items) config.profile c n (report_told ((h.state.block n).pair c).probing)
     rest h d inv
-leaves-at_manager caching config tracker c Release n rest h d for inv first =
+leaves-at_manager config tracker c Release n rest h d for inv first =
     aside-release_taken c n d (prune_told ((h.state.block n).pair c).letting) rest h.mail h.state
-    (releasing-open ((h.state.block n).pair c).letting
-    (holds-first Release (h.state.link c).c rest (packet Release n) (λ j. shown Release c (h.state.block j)) first refl
-    (inv.transfers c Release refl)))
-leaves-at_manager caching config tracker c GrantAck n rest h d for inv first =
-    aside-grant_ack_taken c n d rest h.mail h.state
-leaves-at_manager caching config tracker c k n rest h d for inv first = absurd cc
+    (releasing-open ((h.state.block n).pair c).letting (holds-first Release (h.state.link c).c rest (packet Release n)
+    (λ j. shown Release c (h.state.block j)) first refl (inv.transfers c Release refl)))
+leaves-at_manager config tracker c GrantAck n rest h d for inv first = aside-grant_ack_taken c n d rest h.mail h.state
+leaves-at_manager config tracker c k n rest h d for inv first = absurd cc
 
 -- ---- messages that a client takes, as another sees it
 

@@ -48,12 +48,12 @@ acquires_something w (AcquireOpen true g) source n = refl
 acquires_something w (AcquireOpen false g) source n = refl
 
 -- a source that asks for nothing is closed
-pub closed-source : {w : ℕ} (config : Config) (c source : ℕ) (mail : AccessMessages w) (s : State (List ℕ))
+pub closed-source : {w : ℕ} (config : Config) (c : ℕ) {source : ℕ} (mail : AccessMessages w) (s : State (List ℕ))
     → IsSourced config c source (mail.request c source) (s.uses c source)
     → IsAnswered source (mail.request c source) (mail.answer c source) (s.uses c source)
     → is_some (asked_by mail s c source) ≡ false → s.uses c source ≡ SourceFree
 unfolding block_message
-closed-source {w} config c source mail s sourced answered none = go (s.uses c source) refl sourced answered none
+closed-source {w} config c {source} mail s sourced answered none = go (s.uses c source) refl sourced answered none
   where
     go : (u : SourceState) → s.uses c source ≡ u → IsSourced config c source (mail.request c source) u
         → IsAnswered source (mail.request c source) (mail.answer c source) u
@@ -110,20 +110,18 @@ record IsAt {w : ℕ} (config : Config) (c : ℕ) (terms : EndConfig) (h : Abstr
   level_is : level_of config c ≡ Some terms.level
   closes : (source : ℕ) → is_some (asked_by h.mail h.state c source) ≡ false → h.state.uses c source ≡ SourceFree
 
-free_use : {w : ℕ} (config : Config) (c source : ℕ) (terms : EndConfig) (h : AbstractState w) (e : Endpoint w)
-    → IsAt config c terms h e
-    → pending (RequestSource source) e.past ≡ false → h.state.uses c source ≡ SourceFree
-free_use config c source terms h e at free = at.closes source (sym (at.end.opened.requests source) ∙ free)
+free_use : {w : ℕ} {config : Config} {c : ℕ} (source : ℕ) {terms : EndConfig} {h : AbstractState w} {e : Endpoint w}
+    → IsAt config c terms h e → pending (RequestSource source) e.past ≡ false → h.state.uses c source ≡ SourceFree
+free_use source at free = at.closes source (sym (at.end.opened.requests source) ∙ free)
 
 done_may : {w : ℕ} (config : Config) (c : ℕ) (terms : EndConfig) (o : Op w) (h : AbstractState w) (e : Endpoint w)
-    → IsAt config c terms h e → NotBusy terms o e
-    → IsAskable (is_caching config) c o (done terms o e).reply h
+    → IsAt config c terms h e → NotBusy terms o e → IsAskable (is_caching config) c o (done terms o e).reply h
 done_may config c terms (Op.Store address size value) h e at free = store_may (is_caching config) c address size value
     (held_at e (block_at address)) e h (at.end.known.held_is (block_at address))
 done_may config c terms (Op.Acquire n g) h e at free =
     let idle = or_parts (pending (AcquireOf n) e.past) (pending (ReleaseOf n) e.past) free.b2 in (
       caches config c terms.level at.level_is (not-false (has_transfers terms.level) free.b4),
-      free_use config c (source_or_0 (free_request terms e.past)) terms h e at
+      free_use (source_or_0 (free_request terms e.past)) at
           (least_free-some (λ s. pending (RequestSource s) e.past) 0 terms.sources free.b1).0,
       calm-is ((h.state.block n).pair c).acquiring (sym (at.end.known.acquires n) ∙ idle.0),
       kept-letting ((h.state.block n).pair c).letting (sym (at.end.known.releases n) ∙ idle.1),
@@ -133,7 +131,7 @@ done_may config c terms (Op.Acquire n g) h e at free =
 done_may config c terms (Op.AcquireWhole n bytes) h e at free =
     let idle = or_parts (pending (AcquireOf n) e.past) (pending (ReleaseOf n) e.past) free.b2 in (
       caches config c terms.level at.level_is (not-false (has_transfers terms.level) free.b4),
-      free_use config c (source_or_0 (free_request terms e.past)) terms h e at
+      free_use (source_or_0 (free_request terms e.past)) at
           (least_free-some (λ s. pending (RequestSource s) e.past) 0 terms.sources free.b1).0,
       calm-is ((h.state.block n).pair c).acquiring (sym (at.end.known.acquires n) ∙ idle.0),
       kept-letting ((h.state.block n).pair c).letting (sym (at.end.known.releases n) ∙ idle.1),
@@ -152,22 +150,20 @@ done_may config c terms (Op.Release n r) h e at free =
           (sym (at.end.known.held_is n))
           ∙ not-false (same_perm (prune_left r) (held_at e n)) free.b3,
     )
-done_may config c terms (Op.Access (Message.A m)) h e at free =
-    free_use config c (source_or_0 (free_request terms e.past)) terms h e at
+done_may config c terms (Op.Access (Message.A m)) h e at free = free_use (source_or_0 (free_request terms e.past)) at
     (least_free-some (λ s. pending (RequestSource s) e.past) 0 terms.sources free.b1).0
 done_may config c terms o h e at free = tt
 
 -- What a client answers to an operation, the protocol allows.
-pub askable : {w : ℕ} (config : Config) (log : Log w) (mail : AccessMessages w) (request : ℕ → MessageA w)
-    (s : State (List ℕ)) (sys : System w) (terms : EndConfig) (c : ℕ)
-    (o : Op w) → SimulationRelation config log mail request s sys
-    → terms_at config c ≡ Some terms
+pub askable : {w : ℕ} {config : Config} {log : Log w} {mail : AccessMessages w} {request : ℕ → MessageA w}
+    {s : State (List ℕ)} {sys : System w} (terms : EndConfig) (c : ℕ) (o : Op w)
+    → SimulationRelation config log mail request s sys → terms_at config c ≡ Some terms
     → IsAskable (is_caching config) c o (ask.asked terms o (sys.clients c)).reply (shadow_of mail request s)
-askable {w} config log mail request s sys terms c o h at =
+askable {w} {config} {log} {mail} {request} {s} {sys} terms c o h at =
     asked-cases terms o (sys.clients c) (λ (x : ask.Asked w). IsAskable (is_caching config) c o x.reply
     (shadow_of mail request s)) (λ b. busy_may (is_caching config) c o b (shadow_of mail request s))
     (done_may config c terms o (shadow_of mail request s) (sys.clients c) (record {
-      end = end-matched config log mail request s sys h c;
+      end = end-matched h c;
       level_is = (terms-are config c terms at).level;
-      closes = λ source none. closed-source config c source mail s (h.sourced c source) (h.answered c source) none;
+      closes = λ source none. closed-source config c mail s (h.sourced c source) (h.answered c source) none;
     }))

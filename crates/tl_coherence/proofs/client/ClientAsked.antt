@@ -1,5 +1,5 @@
 -- A client's end after it was asked for an operation: what it does is what the protocol does.
-use Rattle.tl_coherence.proofs.client.Imports.{IsWidth, BeatA, Message, MessageC, unfinished, AcquireOf, ReleaseOf}
+use Rattle.tl_coherence.proofs.client.Imports.{IsWidth, BeatA, Message, MessageC, AcquireOf, ReleaseOf}
 use Rattle.tl_coherence.proofs.client.Imports.{Perm, sent, block_at, is_release, held, pending, same_perm, Op}
 use Rattle.tl_coherence.proofs.client.Imports.{copy_stored, whole_grow, EndConfig, Endpoint, copy_at, held_at, sending}
 use Rattle.tl_coherence.proofs.client.Imports.{acquisition, same_block, AbstractState, ClientBlock, is_unreleased}
@@ -9,7 +9,7 @@ use Rattle.std.proofs.Common.{◌≡◌, subst, ℕ, Bool, true, false, not, ◌
 use Rattle.std.proofs.Common.{◌∙◌, ap, ◌⊎◌, inl, inr}
 use Rattle.std.specs.Prelude.{◌==◌, unwrap_or}
 use Rattle.std.proofs.lemmas.Bool.{cases_eq, eqb-true, ne_eqb, or_parts, not-false}
-use Rattle.tl_beat.{specs.declared.channel.Channel.Channel, specs.declared.opcode.OpA.OpA}
+use Rattle.tl_beat.{specs.declared.opcode.OpA.OpA}
 use Rattle.tl_beat.{specs.declared.opcode.OpC.OpC}
 use Rattle.tl_params.specs.declared.param.Prune.{Prune}
 use Rattle.tl_params.specs.statement.Param.{prune_code, prune_left, prune_right}
@@ -77,13 +77,12 @@ release_message Prune.BtoN source n copy = (
   },
 )
 
-pub end-release_asked : {w : ℕ} (c n source : ℕ) (r : Prune) (copy : List ℕ) (mail : AccessMessages w)
-    (s : State (List ℕ)) (e : Endpoint w) → IsWidth w
-    → same_perm (prune_left r) (held n e.past) ≡ true
+pub end-release_asked : {w : ℕ} {c : ℕ} (n source : ℕ) (r : Prune) (copy : List ℕ) (mail : AccessMessages w)
+    {s : State (List ℕ)} {e : Endpoint w} → IsWidth w → same_perm (prune_left r) (held n e.past) ≡ true
     → IsWellKept (kept_for n (prune_right r) (sending (release r source n copy) e)) → IsEnd (asked_by mail s c) c s e
     → IsEnd (asked_by mail (release_asked c n source r s) c) c (release_asked c n source r s)
     (kept_for n (prune_right r) (sending (release r source n copy) e))
-end-release_asked {w} c n source r copy mail s e width begins kept end =
+end-release_asked {w} {c} n source r copy mail {s} {e} width begins kept end =
     let f : Endpoint w = kept_for n (prune_right r) (sending (release r source n copy) e) in
     let p = release_message {w = w} r source n copy in
     let event = event_of p.0 p.2 in
@@ -93,9 +92,9 @@ end-release_asked {w} c n source r copy mail s e width begins kept end =
     λ i. ap (λ (x : Message w). held i (sent x e.past)) (sym p.1) ∙ held-release i r source n copy e.past width
     end.kept.c_whole in
     record {
-      known = known-released c n p.0 (prune_right r) (asked_by mail s c) asked' s s' e.past f width past
+      known = known-released width past
           end.kept.c_whole left kept event end.known;
-      opened = rw past (opened-released c n p.0 (prune_right r) (asked_by mail s c) asked' s s' e.past width
+      opened = rw past (opened-released width
           end.kept.c_whole event end.opened);
       kept = kept.kept;
       accounted = kept.accounted;
@@ -153,9 +152,8 @@ end-release_asked {w} c n source r copy mail s e width begins kept end =
     kept_some Perm.None x y some = absurd cc
     kept_some q x y some = refl
 
-    copy_of : (i : ℕ) (b : Bool) → (i == n) ≡ b → same_perm (cond b (prune_right r) ((s.block i).pair c).held)
-        Perm.None ≡ false
-        → cond (b && not (holds (prune_right r))) None (e.copies i) ≡ Some ((s.block i).copy c)
+    copy_of : (i : ℕ) (b : Bool) → (i == n) ≡ b → same_perm (cond b (prune_right r) ((s.block i).pair c).held) Perm.None
+        ≡ false → cond (b && not (holds (prune_right r))) None (e.copies i) ≡ Some ((s.block i).copy c)
     copy_of i true same some =
         let before : holds ((s.block n).pair c).held ≡ true =
         ap holds (sym (end.known.held_is n)) ∙ falls_to r (held n e.past) begins in
@@ -166,10 +164,11 @@ end-release_asked {w} c n source r copy mail s e width begins kept end =
 
 -- ---- a store
 
-pub end-stored : {w : ℕ} (c n : ℕ) (bytes : List ℕ) (mail : AccessMessages w) (s : State (List ℕ)) (e : Endpoint w)
+pub end-stored : {w : ℕ} {c : ℕ} (n : ℕ) (bytes : List ℕ) (mail : AccessMessages w) {s : State (List ℕ)}
+    {e : Endpoint w}
     → IsWellKept (with_copy n (Some bytes) e) → IsEnd (asked_by mail s c) c s e
     → IsEnd (asked_by mail (block_stored c n bytes s) c) c (block_stored c n bytes s) (with_copy n (Some bytes) e)
-end-stored {w} c n bytes mail s e kept end =
+end-stored {w} {c} n bytes mail {s} {e} kept end =
     let same : IsSame c (asked_by mail s c) (asked_by mail s' c) s s' = record {
       held = λ i. set-part (λ (b : Block (List ℕ)). (b.pair c).held) n new s.block refl i;
       acquiring = λ i. set-part (λ (b : Block (List ℕ)). (b.pair c).acquiring) n new s.block refl i;
@@ -180,9 +179,9 @@ end-stored {w} c n bytes mail s e kept end =
           (λ j used. set-part (λ (b : Block (List ℕ)). b.source c) n new s.block refl j);
     } in
     record {
-      known = known-same c (asked_by mail s c) (asked_by mail s' c) (unfinished Channel.D e.past) s s' e.past same
+      known = known-same same
           end.known;
-      opened = opened-same c (asked_by mail s c) (asked_by mail s' c) s s' e.past same end.opened;
+      opened = opened-same same end.opened;
       kept = kept.kept;
       accounted = kept.accounted;
       copies = λ i some. copy_of i (cases_eq i n) (sym (ap (λ (p : Perm). same_perm p Perm.None) (same.held i)) ∙ some);
@@ -244,7 +243,7 @@ end_store {w} c address size value Perm.Trunk h e is end kept =
     subst (λ (x : List ℕ). IsWellKept (with_copy n (Some x) e)
     → IsEnd (asked_by h.mail (block_stored c n (copy_stored address size value ((h.state.block n).copy c)) h.state) c) c
     (block_stored c n (copy_stored address size value ((h.state.block n).copy c)) h.state) (with_copy n (Some x) e))
-    (sym bytes) (λ k. end-stored c n (copy_stored address size value ((h.state.block n).copy c)) h.mail h.state e k end)
+    (sym bytes) (λ k. end-stored n (copy_stored address size value ((h.state.block n).copy c)) h.mail k end)
     kept
 
 end_done : {w : ℕ} (terms : EndConfig) (c : ℕ) (o : Op w) (h : AbstractState w) (e : Endpoint w) → IsWidth w
@@ -257,25 +256,25 @@ end_done terms c (Op.Store address size value) h e width named end free kept =
 end_done terms c (Op.Acquire n g) h e width named end free kept =
     let idle = or_parts (pending (AcquireOf n) e.past) (pending (ReleaseOf n) e.past) free.b2 in
     let source = source_or_0 (free_request terms e.past) in
-    end-acquire_asked c n source false g ((h.state.block n).waiting c) h.mail h.state e
-    (sending (Message.A (acquisition OpA.AcquireBlock g source n)) e) width named
+    end-acquire_asked n source false g ((h.state.block n).waiting c) h.mail
+    width named
     idle.0 refl refl refl (λ i other. refl) (λ whole. absurd cc) kept end
 end_done {w} terms c (Op.AcquireWhole n bytes) h e width named end free kept =
     let idle = or_parts (pending (AcquireOf n) e.past) (pending (ReleaseOf n) e.past) free.b2 in
     let source = source_or_0 (free_request terms e.past) in
     let m : Perm → Message w = λ p. Message.A (acquisition OpA.AcquirePerm (whole_grow p) source n) in
     let f : Endpoint w = with_waiting n (Some bytes) (sending (m (held_at e n)) e) in
-    end-acquire_asked c n source true (whole_grow ((h.state.block n).pair c).held) bytes h.mail h.state e f width named
+    end-acquire_asked n source true (whole_grow ((h.state.block n).pair c).held) bytes h.mail width named
     idle.0 (ap (λ (p : Perm). sent (m p) e.past) (end.known.held_is n)) refl refl
     (λ i other. passed (i == n) (Some bytes) (e.waiting i) (ne_eqb i n other))
     (λ whole. chosen (n == n) (Some bytes) (e.waiting n) (same_number n)) kept end
 end_done terms c (Op.Release n r) h e width named end free kept =
-    end-release_asked c n (source_or_0 (free_release terms e.past)) r (copy_at e n) h.mail h.state e width
+    end-release_asked n (source_or_0 (free_release terms e.past)) r (copy_at e n) h.mail width
     (not-false (same_perm (prune_left r) (held_at e n)) free.b3) kept end
 end_done terms c (Op.Access (Message.A m)) h e width named end free kept =
     let source = source_or_0 (free_request terms e.past) in
     let plain = no_acquire terms.level m.opcode (not-false (is_access_of terms.level m.opcode) free.b4) in
-    end-access_asked c (sourced source m) h.mail h.state e width plain.0 kept end
+    end-access_asked (sourced source m) h.mail width plain.0 kept end
 end_done terms c (Op.Access (Message.B m)) h e width named end free kept = end
 end_done terms c (Op.Access (Message.C m)) h e width named end free kept = end
 end_done terms c (Op.Access (Message.D m)) h e width named end free kept = end

@@ -22,21 +22,17 @@ abbrev pub ends_grant : {w : ℕ} → BeatD w → History w → ℕ → Bool
 ends_grant x t k = ends (Beat.D x) t && grants k x t
 
 -- what is open of Releases of block k, and with Release source i
-release_now : {w : ℕ} (k : ℕ) (x : BeatD w) (t : History w)
-    → pending (ReleaseOf k) (Beat.D x ∷ t) ≡ cond
-    (ends (Beat.D x) t && (is_release_ack x.opcode && releases k (release_of x.source t))) false
+release_now : {w : ℕ} (k : ℕ) (x : BeatD w) (t : History w) → pending (ReleaseOf k) (Beat.D x ∷ t)
+    ≡ cond (ends (Beat.D x) t && (is_release_ack x.opcode && releases k (release_of x.source t))) false
     (pending (ReleaseOf k) t)
 release_now k x t = pending-closed (ReleaseOf k) (Beat.D x) t refl
 
-source_now : {w : ℕ} (i : ℕ) (x : BeatD w) (t : History w)
-    → pending (RequestSource i) (Beat.D x ∷ t) ≡ cond
-    (ends (Beat.D x) t && (not (is_release_ack x.opcode) && (x.source == i))) false
-    (pending (RequestSource i) t)
+source_now : {w : ℕ} (i : ℕ) (x : BeatD w) (t : History w) → pending (RequestSource i) (Beat.D x ∷ t)
+    ≡ cond (ends (Beat.D x) t && (not (is_release_ack x.opcode) && (x.source == i))) false (pending (RequestSource i) t)
 source_now i x t = pending-closed (RequestSource i) (Beat.D x) t refl
 
-release_source_now : {w : ℕ} (i : ℕ) (x : BeatD w) (t : History w)
-    → pending (ReleaseSource i) (Beat.D x ∷ t) ≡ cond
-    (ends (Beat.D x) t && (is_release_ack x.opcode && (x.source == i))) false (pending (ReleaseSource i) t)
+release_source_now : {w : ℕ} (i : ℕ) (x : BeatD w) (t : History w) → pending (ReleaseSource i) (Beat.D x ∷ t)
+    ≡ cond (ends (Beat.D x) t && (is_release_ack x.opcode && (x.source == i))) false (pending (ReleaseSource i) t)
 release_source_now i x t = pending-closed (ReleaseSource i) (Beat.D x) t refl
 
 -- ---- by what the beat closes
@@ -109,33 +105,29 @@ given_cond : (a b : Bool) (p q r : Perm) → a ≡ b → (b ≡ true → p ≡ q
 given_cond a true p q r e f = rw (e, f refl) refl
 given_cond a false p q r e f = rw e refl
 
-pub known-heard : {w : ℕ} (c : ℕ) (x : BeatD w) (t : History w) (p : Perm)
-    (closes_block closes_release closes_source closes_let : ℕ → Bool)
-    (asked asked' : ℕ → Option (BeatA w)) (s s' : State (List ℕ)) (f : Endpoint w)
-    → IsEcho x t f.past → IsWellKept f
+pub known-heard : {w : ℕ} {c : ℕ} {x : BeatD w} {t : History w} {p : Perm}
+    {closes_block closes_release closes_source closes_let : ℕ → Bool} {asked asked' : ℕ → Option (BeatA w)}
+    {s s' : State (List ℕ)} {f : Endpoint w} → IsEcho x t f.past → IsWellKept f
     → IsHeard c x t p closes_block closes_release closes_source closes_let asked asked' s s'
     → ClientRelation asked (unfinished Channel.D t) c s t → ClientRelation asked' (unfinished Channel.D f.past) c s'
     f.past
-known-heard {w} c x t p closes_block closes_release closes_source closes_let asked asked' s s' f echo well event known =
-    known-kept asked' c s' f well
-    (λ k. echo.held_is k ∙ held-beat_d k x t ∙ given_cond (ends_grant x t k) (closes_block k) (capped x.param) p
-    (held k t) (event.grants_is k) (event.gives k)
-    ∙ ap (λ (q : Perm). cond (closes_block k) p q) (known.held_is k) ∙ sym (event.held k))
-    (λ k. echo.acquires k ∙ acquire_of-d k x t ∙ ap (λ (b : Bool). cond b false (pending (AcquireOf k) t))
-    (event.grants_is k)
+known-heard {w} {c} {x} {t} {p} {closes_block} {closes_release} {closes_source} {asked'} {s'} {f} echo well event
+    known = known-kept asked' c s' well (λ k. echo.held_is k ∙ held-beat_d k x t
+    ∙ given_cond (ends_grant x t k) (closes_block k) (capped x.param) p (held k t) (event.grants_is k) (event.gives k)
+    ∙ ap (λ (q : Perm). cond (closes_block k) p q) (known.held_is k) ∙ sym (event.held k)) (λ k. echo.acquires k
+    ∙ acquire_of-d k x t ∙ ap (λ (b : Bool). cond b false (pending (AcquireOf k) t)) (event.grants_is k)
     ∙ ap (λ (b : Bool). cond (closes_block k) false b) (known.acquires k) ∙ sym (event.acquiring k))
     (λ k. echo.releases k ∙ release_now k x t ∙ ap (λ (b : Bool). cond b false (pending (ReleaseOf k) t))
-    (event.releases_is k)
-    ∙ ap (λ (b : Bool). cond (closes_release k) false b) (known.releases k) ∙ sym (event.letting k))
-    (λ i. echo.opens i ∙ open_beat-d i x t ∙ ap (λ (b : Bool). cond b None (open_beat i t)) (event.source_is i)
-    ∙ ap (λ (o : Option (BeatA w)). cond (closes_source i) None o) (known.opens i) ∙ sym (event.asks i))
+    (event.releases_is k) ∙ ap (λ (b : Bool). cond (closes_release k) false b) (known.releases k)
+    ∙ sym (event.letting k)) (λ i. echo.opens i ∙ open_beat-d i x t ∙ ap (λ (b : Bool). cond b None (open_beat i t))
+    (event.source_is i) ∙ ap (λ (o : Option (BeatA w)). cond (closes_source i) None o) (known.opens i)
+    ∙ sym (event.asks i))
 
-pub opened-heard : {w : ℕ} (c : ℕ) (x : BeatD w) (t u : History w) (p : Perm)
-    (closes_block closes_release closes_source closes_let : ℕ → Bool)
-    (asked asked' : ℕ → Option (BeatA w)) (s s' : State (List ℕ)) → IsEcho x t u
-    → IsHeard c x t p closes_block closes_release closes_source closes_let asked asked' s s'
-    → OpenSourceRelation asked c s t → OpenSourceRelation asked' c s' u
-opened-heard {w} c x t u p closes_block closes_release closes_source closes_let asked asked' s s' echo event open_ =
+pub opened-heard : {w : ℕ} {c : ℕ} {x : BeatD w} {t u : History w} {p : Perm}
+    {closes_block closes_release closes_source closes_let : ℕ → Bool} {asked asked' : ℕ → Option (BeatA w)}
+    {s s' : State (List ℕ)} → IsEcho x t u → IsHeard c x t p closes_block closes_release closes_source closes_let asked
+    asked' s s' → OpenSourceRelation asked c s t → OpenSourceRelation asked' c s' u
+opened-heard {w} {c} {x} {t} {closes_source} {closes_let} {asked} {s} echo event open_ =
     record {
       requests = λ i. cc (
         echo.requests i,
@@ -182,8 +174,7 @@ heard-part c x t p asked s more = record {
 
 -- the last of an answer closes the request with its source
 pub answer_closes : {w : ℕ} (x : BeatD w) (t : History w) → ends (Beat.D x) t ≡ true → is_grant x.opcode ≡ false
-    → is_release_ack x.opcode ≡ false
-    → ((k : ℕ) → ends_grant x t k ≡ false)
+    → is_release_ack x.opcode ≡ false → ((k : ℕ) → ends_grant x t k ≡ false)
     × ((k : ℕ) → (ends (Beat.D x) t && (is_release_ack x.opcode && releases k (release_of x.source t))) ≡ false)
     × ((i : ℕ) → (ends (Beat.D x) t && (not (is_release_ack x.opcode) && (x.source == i))) ≡ (x.source == i))
     × ((i : ℕ) → (ends (Beat.D x) t && (is_release_ack x.opcode && (x.source == i))) ≡ false)
@@ -197,8 +188,7 @@ released_block k n (Some x) e = ap (λ (i : ℕ). i == k) (same_Some (block_at x
 
 -- that of a ReleaseAck the Release with its source, of its block
 pub ack_closes : {w : ℕ} (n : ℕ) (x : BeatD w) (t : History w) → ends (Beat.D x) t ≡ true → is_grant x.opcode ≡ false
-    → is_release_ack x.opcode ≡ true
-    → option_map (λ (y : BeatC w). block_at y.address) (release_of x.source t) ≡ Some n
+    → is_release_ack x.opcode ≡ true → option_map (λ (y : BeatC w). block_at y.address) (release_of x.source t) ≡ Some n
     → ((k : ℕ) → ends_grant x t k ≡ false)
     × ((k : ℕ) → (ends (Beat.D x) t && (is_release_ack x.opcode && releases k (release_of x.source t))) ≡ (n == k))
     × ((i : ℕ) → (ends (Beat.D x) t && (not (is_release_ack x.opcode) && (x.source == i))) ≡ false)
@@ -213,9 +203,8 @@ ack_closes n x t last plain acks block = (
 
 -- that of a Grant the Acquire with its source, of its block
 pub grant_closes : {w : ℕ} (n : ℕ) (x : BeatD w) (r : BeatA w) (t : History w) → ends (Beat.D x) t ≡ true
-    → is_grant x.opcode ≡ true
-    → is_release_ack x.opcode ≡ false → request_of x.source t ≡ Some r → block_at r.address ≡ n
-    → ((k : ℕ) → ends_grant x t k ≡ (n == k))
+    → is_grant x.opcode ≡ true → is_release_ack x.opcode ≡ false → request_of x.source t ≡ Some r
+    → block_at r.address ≡ n → ((k : ℕ) → ends_grant x t k ≡ (n == k))
     × ((k : ℕ) → (ends (Beat.D x) t && (is_release_ack x.opcode && releases k (release_of x.source t))) ≡ false)
     × ((i : ℕ) → (ends (Beat.D x) t && (not (is_release_ack x.opcode) && (x.source == i))) ≡ (x.source == i))
     × ((i : ℕ) → (ends (Beat.D x) t && (is_release_ack x.opcode && (x.source == i))) ≡ false)

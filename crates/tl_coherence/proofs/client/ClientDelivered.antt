@@ -59,9 +59,9 @@ pub record IsTakenBy {w : ℕ} (config : Config) (terms : EndConfig) (tracker c 
   pub last : completes x (unfinished Channel.D e.past) ≡ true
       → IsEndOf c (packet_taken config tracker c (h.state.link c).d h) (taken x e).after
 
-well-taken : {w : ℕ} (terms : EndConfig) (x : Beat w) (e f : Endpoint w) → IsWidth w
+well-taken : {w : ℕ} (terms : EndConfig) (x : Beat w) {e : Endpoint w} (f : Endpoint w) → IsWidth w
     → offered terms Channel.D x e ≡ taken x e → f ≡ (taken x e).after → IsWellKept e → IsWellKept f
-well-taken {w} terms x e f width takes is well =
+well-taken {w} terms x {e} f width takes is well =
     let same : (offered terms Channel.D x e).after ≡ f = ap (λ (o : Offered w). o.after) takes ∙ sym is in
     subst (λ (g : Endpoint w). IsWellKept g) same
     (record {
@@ -76,26 +76,24 @@ well-of c h e end = record { kept = end.kept; accounted = end.accounted }
 
 -- what its message tells of a beat
 taken-by : {w : ℕ} (config : Config) (terms : EndConfig) (tracker c : ℕ) (h : AbstractState w) (m : MessageD w)
-    (ms : List (Message w)) (x : Beat w)
-    (queue : List (Beat w)) (e : Endpoint w) → IsWidth w → IsEndOf c h e
+    {ms : List (Message w)} {x : Beat w} {queue : List (Beat w)} (e : Endpoint w) → IsWidth w → IsEndOf c h e
     → IsNext x (unfinished Channel.D e.past) (Message.D m) ms queue → offered terms Channel.D x e ≡ taken x e
     → ((y : BeatD w) → x ≡ Beat.D y → y.opcode ≡ m.opcode → y.source ≡ m.source → y.param ≡ m.param
-    → ends (Beat.D y) e.past ≡ true
-    → x ∷ unfinished Channel.D e.past ≡ burst_of (Message.D m) → IsWellKept (taken (Beat.D y) e).after
-    → IsEndOf c (packet_taken config tracker c (h.state.link c).d h) (taken (Beat.D y) e).after)
-    → IsTakenBy config terms tracker c h x e
-taken-by {w} config terms tracker c h m ms x queue e width end next takes lasts =
+    → ends (Beat.D y) e.past ≡ true → x ∷ unfinished Channel.D e.past ≡ burst_of (Message.D m)
+    → IsWellKept (taken (Beat.D y) e).after → IsEndOf c (packet_taken config tracker c (h.state.link c).d h)
+    (taken (Beat.D y) e).after) → IsTakenBy config terms tracker c h x e
+taken-by {w} config terms tracker c h m {x} e width end next takes lasts =
     let y : BeatD w = d_beat_of m next.k in
     let x_is : x ≡ Beat.D y = next.beat_is in
     let ends_at : x ≡ Beat.D y → completes x (unfinished Channel.D e.past) ≡ ends (Beat.D y) e.past =
     λ f. ap (λ (z : Beat w). completes z (unfinished Channel.D e.past)) f in
     let well_y : IsWellKept (taken x e).after → IsWellKept (taken (Beat.D y) e).after =
     subst (λ (z : Beat w). IsWellKept (taken z e).after) x_is in
-    let well = well-taken terms x e (taken x e).after width takes refl (well-of c h e end) in
+    let well = well-taken terms x (taken x e).after width takes refl (well-of c h e end) in
     record {
       takes = takes;
       more = λ goes. subst (λ (z : Beat w). IsEndOf c h (taken z e).after) (sym x_is)
-          (end-part (asked_by h.mail h.state c) c y h.state e (taken (Beat.D y) e).after
+          (end-part y
           (part_end y e (sym (ends_at x_is) ∙ goes)) (sym (ends_at x_is) ∙ goes)
           (well_y well) end);
       last = λ done. subst (λ (z : Beat w). IsEndOf c (packet_taken config tracker c (h.state.link c).d h)
@@ -113,54 +111,54 @@ shadow_of mail request s = record { state = s; mail = mail; request = request }
 
 -- with the first token of channel D
 taken_token : {w : ℕ} (config : Config) (tracker c : ℕ) (k : Kind) (n : ℕ) (rest : List Packet) (h : AbstractState w)
-    (e : Endpoint w)
-    → (h.state.link c).d ≡ packet k n ∷ rest → IsEndOf c (kind_taken config tracker c k n rest h) e
+    (e : Endpoint w) → (h.state.link c).d ≡ packet k n ∷ rest → IsEndOf c (kind_taken config tracker c k n rest h) e
     → IsEndOf c (packet_taken config tracker c (h.state.link c).d h) e
 taken_token config tracker c k n rest h e first end =
     subst (λ (xs : List Packet). IsEndOf c (packet_taken config tracker c xs h) e) (sym first) end
 
-pub answer-delivered : {w : ℕ} (config : Config) (log : Log w) (mail : AccessMessages w) (request : ℕ → MessageA w)
-    (s : State (List ℕ)) (sys : System w) (terms : EndConfig)
-    (tracker c source : ℕ) (rest : List Packet) (ms : List (Message w)) (x : Beat w) (queue : List (Beat w))
+pub answer-delivered : {w : ℕ} {config : Config} {log : Log w} {mail : AccessMessages w} {request : ℕ → MessageA w}
+    {s : State (List ℕ)} {sys : System w} (terms : EndConfig)
+    (tracker c source : ℕ) (rest : List Packet) {ms : List (Message w)} {x : Beat w} {queue : List (Beat w)}
     → IsWidth w → SimulationRelation config log mail request s sys → terms_at config c ≡ Some terms
     → sys.channels c Channel.D ≡ x ∷ queue → (s.link c).d ≡ packet Answer source ∷ rest
     → IsNext x (unfinished Channel.D (sys.clients c).past) (mail.answer c source) ms queue
     → IsTakenBy config terms tracker c (shadow_of mail request s) x (sys.clients c)
-answer-delivered {w} config log mail request s sys terms tracker c source rest ms x queue width h at beats first next =
+answer-delivered {w} {config} {log} {mail} {request} {s} {sys} terms tracker c source rest {ms} {x} {queue} width h at
+    beats first next =
     let e : Endpoint w = sys.clients c in
     let due = answer-due (λ i. is_caching config i) c source rest mail s h.invariant (h.answered c source) first in
-    let end = end-matched config log mail request s sys h c in
+    let end = end-matched h c in
     let here : IsNext x (unfinished Channel.D e.past) (Message.D due.answer) ms queue =
     subst (λ (m : Message w). IsNext x (unfinished Channel.D e.past) m ms queue) due.answer_is next in
     let kind = access_kind due.answer.opcode due.answers_access in
-    taken-by config terms tracker c (shadow_of mail request s) due.answer ms x queue e width end here
-    (taken-d config log mail request s sys terms c due.answer ms x queue h at beats here
-    (answer-first config.profile c source mail s e end due))
+    taken-by config terms tracker c (shadow_of mail request s) due.answer e width end here
+    (taken-d terms c due.answer h at beats here
+    (answer-first config.profile end due))
     (λ y y_is opcode from param last burst well. taken_token config tracker c Answer source rest
     (shadow_of mail request s) (taken (Beat.D y) e).after first
-    (end-answer_taken c source y rest mail s e (taken (Beat.D y) e).after
+    (end-answer_taken source y rest mail
     (plain_end y e last (ap is_grant opcode ∙ kind.0)) last (ap is_grant opcode ∙ kind.0)
     (ap is_release_ack opcode ∙ kind.1) (from ∙ due.from) well end))
 
-pub ack-delivered : {w : ℕ} (config : Config) (log : Log w) (mail : AccessMessages w) (request : ℕ → MessageA w)
-    (s : State (List ℕ)) (sys : System w) (terms : EndConfig)
-    (tracker c n : ℕ) (rest : List Packet) (ms : List (Message w)) (x : Beat w) (queue : List (Beat w))
-    → IsWidth w → SimulationRelation config log mail request s sys → terms_at config c ≡ Some terms
+pub ack-delivered : {w : ℕ} {config : Config} {log : Log w} {mail : AccessMessages w} {request : ℕ → MessageA w}
+    {s : State (List ℕ)} {sys : System w} (terms : EndConfig) (tracker c n : ℕ) (rest : List Packet)
+    {ms : List (Message w)} {x : Beat w} {queue : List (Beat w)} → IsWidth w
+    → SimulationRelation config log mail request s sys → terms_at config c ≡ Some terms
     → sys.channels c Channel.D ≡ x ∷ queue → (s.link c).d ≡ packet ReleaseAck n ∷ rest
     → IsNext x (unfinished Channel.D (sys.clients c).past) (Message.D (ack_message ((s.block n).release_source c))) ms
-    queue
-    → IsTakenBy config terms tracker c (shadow_of mail request s) x (sys.clients c)
-ack-delivered {w} config log mail request s sys terms tracker c n rest ms x queue width h at beats first next =
+    queue → IsTakenBy config terms tracker c (shadow_of mail request s) x (sys.clients c)
+ack-delivered {w} {config} {log} {mail} {request} {s} {sys} terms tracker c n rest {ms} {x} {queue} width h at beats
+    first next =
     let e : Endpoint w = sys.clients c in
     let m : MessageD w = ack_message ((s.block n).release_source c) in
-    let let_ = ack-due (λ i. is_caching config i) c n rest s h.invariant first in
-    let end = end-matched config log mail request s sys h c in
-    taken-by config terms tracker c (shadow_of mail request s) m ms x queue e width end next
-    (taken-d config log mail request s sys terms c m ms x queue h at beats next
-    (ack-first config.profile c n mail s e end let_))
+    let let_ = ack-due c n rest h.invariant first in
+    let end = end-matched h c in
+    taken-by config terms tracker c (shadow_of mail request s) m e width end next
+    (taken-d terms c m h at beats next
+    (ack-first config.profile n mail end let_))
     (λ y y_is opcode from param last burst well. taken_token config tracker c ReleaseAck n rest
     (shadow_of mail request s) (taken (Beat.D y) e).after first
-    (end-release_ack_taken c n y rest mail s e (taken (Beat.D y) e).after (plain_end y e last (ap is_grant opcode)) last
+    (end-release_ack_taken n y rest mail (plain_end y e last (ap is_grant opcode)) last
     (ap is_grant opcode)
     (ap is_release_ack opcode) from (ap (s.lets c) from ∙ let_) well end))
 
@@ -175,25 +173,25 @@ grant_blank {w} false k source sink payload width long = (refl, lit< tt)
 
 -- the bytes of a Grant that carries them
 grant_bytes : {w : ℕ} (data_too : Bool) (k : Cap) (source sink : ℕ) (payload : List ℕ) (beats : List (Beat w))
-    → IsWidth w → length payload ≡ 64
-    → beats ≡ burst_of (Message.D (grant_message data_too k source sink payload)) → data_too ≡ true
-    → payload_of beats ≡ payload
+    → IsWidth w → length payload ≡ 64 → beats ≡ burst_of (Message.D (grant_message data_too k source sink payload))
+    → data_too ≡ true → payload_of beats ≡ payload
 grant_bytes {w} true k source sink payload beats width long burst carries =
     payload-d (grant_message true k source sink payload) beats width long
     (burst, grant_blank {w = w} true k source sink payload width long)
 grant_bytes false k source sink payload beats width long burst carries = absurd cc
 
-pub grant-delivered : {w : ℕ} (config : Config) (log : Log w) (mail : AccessMessages w) (request : ℕ → MessageA w)
-    (s : State (List ℕ)) (sys : System w) (terms : EndConfig)
-    (tracker c n : ℕ) (rest : List Packet) (ms : List (Message w)) (x : Beat w) (queue : List (Beat w))
+pub grant-delivered : {w : ℕ} {config : Config} {log : Log w} {mail : AccessMessages w} {request : ℕ → MessageA w}
+    {s : State (List ℕ)} {sys : System w} (terms : EndConfig)
+    (tracker c n : ℕ) (rest : List Packet) {ms : List (Message w)} {x : Beat w} {queue : List (Beat w)}
     → IsWidth w → SimulationRelation config log mail request s sys → terms_at config c ≡ Some terms
     → sys.channels c Channel.D ≡ x ∷ queue → (s.link c).d ≡ packet Grant n ∷ rest
     → IsNext x (unfinished Channel.D (sys.clients c).past) (block_message Grant c n (s.block n)) ms queue
     → IsTakenBy config terms tracker c (shadow_of mail request s) x (sys.clients c)
-grant-delivered {w} config log mail request s sys terms tracker c n rest ms x queue width h at beats first next =
+grant-delivered {w} {config} {log} {mail} {request} {s} {sys} terms tracker c n rest {ms} {x} {queue} width h at beats
+    first next =
     let e : Endpoint w = sys.clients c in
     let m = grant_message due.data_too due.k ((s.block n).source c) (s.block n).tracker (s.block n).truth in
-    let end : IsEnd (asked_by mail s c) c s e = end-matched config log mail request s sys h c in
+    let end : IsEnd (asked_by mail s c) c s e = end-matched h c in
     let served : (y : BeatD w) → IsEnd (asked_by mail (grant_taken c n due.whole due.data_too due.k rest s) c) c
     (grant_taken c n due.whole due.data_too due.k rest s) (taken (Beat.D y) e).after
     → IsEndOf c (kind_taken config tracker c Grant n rest (shadow_of mail request s)) (taken (Beat.D y) e).after =
@@ -203,13 +201,13 @@ grant-delivered {w} config log mail request s sys terms tracker c n rest ms x qu
     (grant_taken c n (is_whole i) due.data_too due.k rest s) (taken (Beat.D y) e).after) (sym due.wants) is) in
     let here : IsNext x (unfinished Channel.D e.past) (Message.D m) ms queue =
     subst (λ (i : Message w). IsNext x (unfinished Channel.D e.past) i ms queue) (grant-rendered c n s due) next in
-    taken-by config terms tracker c (shadow_of mail request s) m ms x queue e width end here
-    (taken-d config log mail request s sys terms c m ms x queue h at beats here
-    (grant-first config.profile c n mail s e end due given))
+    taken-by config terms tracker c (shadow_of mail request s) m e width end here
+    (taken-d terms c m h at beats here
+    (grant-first config.profile mail end due given))
     (λ y y_is opcode from param last burst well. taken_token config tracker c Grant n rest (shadow_of mail request s)
     (taken (Beat.D y) e).after first
-    (served y (end-grant_taken c n due.whole due.data_too due.g due.k y
-    (payload_of (Beat.D y ∷ unfinished Channel.D e.past)) rest mail s e (taken (Beat.D y) e).after width
+    (served y (end-grant_taken
+    rest mail width
     h.invariant.named (record {
       opcode = opcode;
       from = from;
@@ -242,19 +240,18 @@ grant-delivered {w} config log mail request s sys terms tracker c n rest ms x qu
 
 -- ---- all of channel D
 
-pub ack_next : {w : ℕ} (c n : ℕ) (s : State (List ℕ)) (x : Beat w) (rest : List (Beat w)) (ms : List (Message w))
-    (queue : List (Beat w)) → IsNext x rest (block_message ReleaseAck c n (s.block n)) ms queue
+pub ack_next : {w : ℕ} (c n : ℕ) (s : State (List ℕ)) {x : Beat w} {rest : List (Beat w)} {ms : List (Message w)}
+    {queue : List (Beat w)} → IsNext x rest (block_message ReleaseAck c n (s.block n)) ms queue
     → IsNext x rest (Message.D (ack_message ((s.block n).release_source c))) ms queue
 unfolding block_message
-ack_next c n s x rest ms queue is = is
+ack_next c n s is = is
 
-pub delivered-d : {w : ℕ} (config : Config) (log : Log w) (mail : AccessMessages w) (request : ℕ → MessageA w)
-    (s : State (List ℕ)) (sys : System w) (terms : EndConfig)
-    (tracker c : ℕ) (x : Beat w) (queue : List (Beat w)) → IsWidth w
-    → SimulationRelation config log mail request s sys → terms_at config c ≡ Some terms
-    → sys.channels c Channel.D ≡ x ∷ queue
-    → IsTakenBy config terms tracker c (shadow_of mail request s) x (sys.clients c)
-delivered-d {w} config log mail request s sys terms tracker c x queue width h at beats =
+pub delivered-d : {w : ℕ} {config : Config} {log : Log w} {mail : AccessMessages w} {request : ℕ → MessageA w}
+    {s : State (List ℕ)} {sys : System w} (terms : EndConfig) (tracker c : ℕ) (x : Beat w) (queue : List (Beat w))
+    → IsWidth w → SimulationRelation config log mail request s sys → terms_at config c ≡ Some terms
+    → sys.channels c Channel.D ≡ x ∷ queue → IsTakenBy config terms tracker c (shadow_of mail request s) x
+    (sys.clients c)
+delivered-d {w} {config} {log} {mail} {request} {s} {sys} terms tracker c x queue width h at beats =
     go first.kind first.number first.tokens first.own first.next
   where
     first : IsFirst Channel.D c mail s sys x queue
@@ -264,11 +261,8 @@ delivered-d {w} config log mail request s sys terms tracker c x queue width h at
         → IsNext x (unfinished Channel.D (sys.clients c).past) (message_of_kind k mail s c i)
         (map (message_of mail s c) first.rest) queue
         → IsTakenBy config terms tracker c (shadow_of mail request s) x (sys.clients c)
-    go Answer i tokens own next = answer-delivered config log mail request s sys terms tracker c i first.rest
-        (map (message_of mail s c) first.rest) x queue width h at beats tokens next
-    go Grant i tokens own next = grant-delivered config log mail request s sys terms tracker c i first.rest
-        (map (message_of mail s c) first.rest) x queue width h at beats tokens next
-    go ReleaseAck i tokens own next = ack-delivered config log mail request s sys terms tracker c i first.rest
-        (map (message_of mail s c) first.rest) x queue width h at beats tokens
-        (ack_next c i s x (unfinished Channel.D (sys.clients c).past) (map (message_of mail s c) first.rest) queue next)
+    go Answer i tokens own next = answer-delivered terms tracker c i first.rest width h at beats tokens next
+    go Grant i tokens own next = grant-delivered terms tracker c i first.rest width h at beats tokens next
+    go ReleaseAck i tokens own next = ack-delivered terms tracker c i first.rest width h at beats tokens
+        (ack_next c i s next)
     go k i tokens own next = absurd cc

@@ -30,10 +30,10 @@ pub record IsEnd {w : ℕ} (asked : ℕ → Option (BeatA w)) (c : ℕ) (s : Sta
   pub waiting : (n : ℕ) → is_whole ((s.block n).pair c).acquiring ≡ true → e.waiting n ≡ Some ((s.block n).waiting c)
   pub live : e.closed ≡ false
 
-pub end-matched : {w : ℕ} (config : Config) (log : Log w) (mail : AccessMessages w) (request : ℕ → MessageA w)
-    (s : State (List ℕ)) (sys : System w) → SimulationRelation config log mail request s sys → (c : ℕ)
+pub end-matched : {w : ℕ} {config : Config} {log : Log w} {mail : AccessMessages w} {request : ℕ → MessageA w}
+    {s : State (List ℕ)} {sys : System w} → SimulationRelation config log mail request s sys → (c : ℕ)
     → IsEnd (asked_by mail s c) c s (sys.clients c)
-end-matched config log mail request s sys h c = record {
+end-matched h c = record {
   known = h.known c;
   opened = h.opened c;
   kept = h.kept c;
@@ -75,13 +75,13 @@ coming_is {w} asked n (Beat.D x ∷ rest) t granting opens = go (is_grant x.opco
     go false e = refl
 
 -- what is known of a well kept end, given what it holds and has open
-pub known-kept : {w : ℕ} (asked : ℕ → Option (BeatA w)) (c : ℕ) (s : State (List ℕ)) (e : Endpoint w) → IsWellKept e
+pub known-kept : {w : ℕ} (asked : ℕ → Option (BeatA w)) (c : ℕ) (s : State (List ℕ)) {e : Endpoint w} → IsWellKept e
     → ((n : ℕ) → held n e.past ≡ ((s.block n).pair c).held)
     → ((n : ℕ) → pending (AcquireOf n) e.past ≡ is_wanting ((s.block n).pair c).acquiring)
     → ((n : ℕ) → pending (ReleaseOf n) e.past ≡ not (is_unreleased ((s.block n).pair c).letting))
     → ((source : ℕ) → open_beat source e.past ≡ asked source) → ClientRelation asked (unfinished Channel.D e.past) c s
     e.past
-known-kept asked c s e well held_is acquires releases opens = record {
+known-kept asked c s {e} well held_is acquires releases opens = record {
   held_is = held_is;
   acquires = acquires;
   releases = releases;
@@ -104,15 +104,13 @@ pub record IsSame {w : ℕ} (c : ℕ) (asked asked' : ℕ → Option (BeatA w)) 
   pub asks : (source : ℕ) → asked' source ≡ asked source
 
 pub comes-same : {w : ℕ} (asked asked' : ℕ → Option (BeatA w)) (n : ℕ) (rest : List (Beat w))
-    → ((source : ℕ) → asked' source ≡ asked source)
-    → comes_granting n asked' rest ≡ comes_granting n asked rest
+    → ((source : ℕ) → asked' source ≡ asked source) → comes_granting n asked' rest ≡ comes_granting n asked rest
 comes-same asked asked' n (Beat.D x ∷ rest) same = rw (same x.source) refl
 comes-same asked asked' n rest same = refl
 
-pub known-same : {w : ℕ} (c : ℕ) (asked asked' : ℕ → Option (BeatA w)) (rest : List (Beat w)) (s s' : State (List ℕ))
-    (t : History w)
-    → IsSame c asked asked' s s' → ClientRelation asked rest c s t → ClientRelation asked' rest c s' t
-known-same c asked asked' rest s s' t same known = record {
+pub known-same : {w : ℕ} {c : ℕ} {asked asked' : ℕ → Option (BeatA w)} {rest : List (Beat w)} {s s' : State (List ℕ)}
+    {t : History w} → IsSame c asked asked' s s' → ClientRelation asked rest c s t → ClientRelation asked' rest c s' t
+known-same {asked} {asked'} {rest} same known = record {
   held_is = λ n. known.held_is n ∙ sym (same.held n);
   acquires = λ n. known.acquires n ∙ ap is_wanting (sym (same.acquiring n));
   releases = λ n. known.releases n ∙ ap not (sym (same.letting n));
@@ -123,9 +121,9 @@ known-same c asked asked' rest s s' t same known = record {
   grants = λ n. known.grants n ∙ sym (comes-same asked asked' n rest same.asks);
 }
 
-pub opened-same : {w : ℕ} (c : ℕ) (asked asked' : ℕ → Option (BeatA w)) (s s' : State (List ℕ)) (t : History w)
+pub opened-same : {w : ℕ} {c : ℕ} {asked asked' : ℕ → Option (BeatA w)} {s s' : State (List ℕ)} {t : History w}
     → IsSame c asked asked' s s' → OpenSourceRelation asked c s t → OpenSourceRelation asked' c s' t
-opened-same c asked asked' s s' t same open_ = record {
+opened-same same open_ = record {
   requests = λ source. open_.requests source ∙ sym (rw (same.asks source) refl);
   releases = λ source. open_.releases source ∙ sym (rw (same.lets source) refl);
   released = λ source n some. open_.released source n (sym (same.lets source) ∙ some);
@@ -138,11 +136,11 @@ pub record IsSameCopy (c : ℕ) (s s' : State (List ℕ)) : Type 0 where
   pub waiting : (n : ℕ) → (s'.block n).waiting c ≡ (s.block n).waiting c
 
 -- an end of which the protocol says the same is kept
-pub end-same : {w : ℕ} (c : ℕ) (asked asked' : ℕ → Option (BeatA w)) (s s' : State (List ℕ)) (e : Endpoint w)
+pub end-same : {w : ℕ} {c : ℕ} {asked asked' : ℕ → Option (BeatA w)} {s s' : State (List ℕ)} {e : Endpoint w}
     → IsSame c asked asked' s s' → IsSameCopy c s s' → IsEnd asked c s e → IsEnd asked' c s' e
-end-same c asked asked' s s' e same bytes end = record {
-  known = known-same c asked asked' (unfinished Channel.D e.past) s s' e.past same end.known;
-  opened = opened-same c asked asked' s s' e.past same end.opened;
+end-same {c} {asked} {asked'} {s} {s'} {e} same bytes end = record {
+  known = known-same same end.known;
+  opened = opened-same same end.opened;
   kept = end.kept;
   accounted = end.accounted;
   copies = λ n some. end.copies n (sym (rw (same.held n) refl) ∙ some) ∙ ap Some (sym (bytes.copy n));
@@ -183,8 +181,7 @@ acquires_same u request block block' c a b = refl
 
 -- one source asks for the same where its use, its access and its Acquire are as before
 pub asks-same : {w : ℕ} (c source : ℕ) (mail mail' : AccessMessages w) (s s' : State (List ℕ))
-    → mail'.request c source ≡ mail.request c source
-    → IsSameUse (s.uses c source) (s'.uses c source)
+    → mail'.request c source ≡ mail.request c source → IsSameUse (s.uses c source) (s'.uses c source)
     → ((n : ℕ) → s.uses c source ≡ Acquires n → ((s'.block n).pair c).acquiring ≡ ((s.block n).pair c).acquiring)
     → ((n : ℕ) → s.uses c source ≡ Acquires n → (s'.block n).source c ≡ (s.block n).source c)
     → asked_by mail' s' c source ≡ asked_by mail s c source
@@ -219,8 +216,7 @@ acquire-first true g source n = refl
 acquire-first false g source n = refl
 
 pub asks-acquire : {w : ℕ} (c source n i : ℕ) (whole : Bool) (g : Grow) (mail : AccessMessages w) (s : State (List ℕ))
-    → s.uses c source ≡ Acquires n
-    → ((s.block n).pair c).acquiring ≡ AcquireOpen whole g → (s.block n).source c ≡ i
+    → s.uses c source ≡ Acquires n → ((s.block n).pair c).acquiring ≡ AcquireOpen whole g → (s.block n).source c ≡ i
     → asked_by mail s c source ≡ Some (a_beat_of (acquisition (acquire_opcode whole) g i n) 0)
 unfolding block_message
 asks-acquire {w} c source n i whole g mail s used wants from = cc (used, wants, from, acquire-first whole g i n)
@@ -239,9 +235,9 @@ pub record IsAside {w : ℕ} (c : ℕ) (mail mail' : AccessMessages w) (s s' : S
   pub uses : (source : ℕ) → IsSameUse (s.uses c source) (s'.uses c source)
   pub request : (source : ℕ) → mail'.request c source ≡ mail.request c source
 
-pub end-aside : {w : ℕ} (c : ℕ) (mail mail' : AccessMessages w) (s s' : State (List ℕ)) (e : Endpoint w)
+pub end-aside : {w : ℕ} {c : ℕ} {mail mail' : AccessMessages w} {s s' : State (List ℕ)} {e : Endpoint w}
     → IsAside c mail mail' s s' → IsEnd (asked_by mail s c) c s e → IsEnd (asked_by mail' s' c) c s' e
-end-aside c mail mail' s s' e aside end = end-same c (asked_by mail s c) (asked_by mail' s' c) s s' e (record {
+end-aside {c} {mail} {mail'} {s} {s'} {e} aside end = end-same (record {
   held = aside.held;
   acquiring = aside.acquiring;
   letting = aside.letting;

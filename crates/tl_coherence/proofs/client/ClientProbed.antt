@@ -16,12 +16,11 @@ use Rattle.tl_coherence.proofs.client.ClientEnd.{IsWellKept, IsEnd, IsSame, know
 use Rattle.tl_coherence.proofs.client.KnownProbed.{report_is, known-probed, opened-probed}
 use Rattle.tl_coherence.proofs.{queues.Tokens.set-same, queues.Tokens.set-part, queues.Perms.held-some}
 
-pub end-probe_taken : {w : ℕ} (c n : ℕ) (k : Cap) (rest : List Packet) (mail : AccessMessages w) (s : State (List ℕ))
-    (e : Endpoint w) → IsWidth w
-    → IsWellKept (probed (probe_beat n k) n (held_at e n) e).after → IsEnd (asked_by mail s c) c s e
-    → IsEnd (asked_by mail (probe_taken c n k rest s) c) c (probe_taken c n k rest s)
+pub end-probe_taken : {w : ℕ} {c : ℕ} (n : ℕ) (k : Cap) (rest : List Packet) (mail : AccessMessages w)
+    {s : State (List ℕ)} {e : Endpoint w} → IsWidth w → IsWellKept (probed (probe_beat n k) n (held_at e n) e).after
+    → IsEnd (asked_by mail s c) c s e → IsEnd (asked_by mail (probe_taken c n k rest s) c) c (probe_taken c n k rest s)
     (probed (probe_beat n k) n (held_at e n) e).after
-end-probe_taken {w} c n k rest mail s e width well end =
+end-probe_taken {w} {c} n k rest mail {s} {e} width well end =
     let g : Endpoint w = sending (probe_ack OpB.ProbeBlock p (report_for (probe_beat {w = w} n k) p) n (copy_at e n))
     (with_past (Beat.B (probe_beat n k) ∷ e.past) e) in
     let f : Endpoint w = (probed (probe_beat n k) n (held_at e n) e).after in
@@ -36,15 +35,15 @@ end-probe_taken {w} c n k rest mail s e width well end =
           (ap (λ (q : ClientBlock). q.acquiring) pair_is) j)
           (λ j used. set-part (λ (b : Block (List ℕ)). b.source c) n new s.block refl j);
     } in
-    let known = known-probed (asked_by mail s c) (unfinished Channel.D e.past) c n k rest s e width end.kept.c_whole
+    let known = known-probed n k rest e width end.kept.c_whole
     end.known in
     let here : ClientRelation (asked_by mail s c) (unfinished Channel.D f.past) c s' f.past =
     subst (λ (b : List (Beat w)). ClientRelation (asked_by mail s c) b c s' f.past) (sym known.rest_is) known in
     record {
-      known = known-same c (asked_by mail s c) (asked_by mail s' c) (unfinished Channel.D f.past) s' s' f.past same
+      known = known-same same
           here;
-      opened = opened-same c (asked_by mail s c) (asked_by mail s' c) s' s' f.past same
-          (opened-probed (asked_by mail s c) c n k rest s e width end.kept.c_whole end.opened);
+      opened = opened-same same
+          (opened-probed n k rest e width end.kept.c_whole end.opened);
       kept = well.kept;
       accounted = well.accounted;
       copies = λ i some. kept_copies n left g i ∙ copy_of i (i == n) refl

@@ -28,8 +28,7 @@ passed b x y e = rw e refl
 -- what each source asks for after an access is asked for
 asks_access : {w : ℕ} (c i : ℕ) (m : MessageA w) (mail : AccessMessages w) (s : State (List ℕ))
     → asked_by (record { request = set_at c m.source (Message.A m) mail.request; answer = mail.answer })
-    (access_asked c m.source s) c i ≡ cond (m.source == i)
-    (Some (a_beat_of m 0)) (asked_by mail s c i)
+    (access_asked c m.source s) c i ≡ cond (m.source == i) (Some (a_beat_of m 0)) (asked_by mail s c i)
 asks_access {w} c i m mail s =
     let mail' : AccessMessages w = record {
       request = set_at c m.source (Message.A m) mail.request;
@@ -47,12 +46,11 @@ asks_access {w} c i m mail s =
           (ne_eqb m.source i (λ e. other (sym e))))
     ]
 
-pub end-access_asked : {w : ℕ} (c : ℕ) (m : MessageA w) (mail : AccessMessages w) (s : State (List ℕ)) (e : Endpoint w)
-    → IsWidth w → is_acquire m.opcode ≡ false
-    → IsWellKept (sending (Message.A m) e) → IsEnd (asked_by mail s c) c s e
+pub end-access_asked : {w : ℕ} {c : ℕ} (m : MessageA w) (mail : AccessMessages w) {s : State (List ℕ)} {e : Endpoint w}
+    → IsWidth w → is_acquire m.opcode ≡ false → IsWellKept (sending (Message.A m) e) → IsEnd (asked_by mail s c) c s e
     → IsEnd (asked_by (record { request = set_at c m.source (Message.A m) mail.request; answer = mail.answer })
     (access_asked c m.source s) c) c (access_asked c m.source s) (sending (Message.A m) e)
-end-access_asked {w} c m mail s e width plain kept end =
+end-access_asked {w} {c} m mail {s} {e} width plain kept end =
     let s' : State (List ℕ) = access_asked c m.source s in
     let asked' : ℕ → Option (BeatA w) =
     asked_by (record { request = set_at c m.source (Message.A m) mail.request; answer = mail.answer }) s' c in
@@ -69,9 +67,9 @@ end-access_asked {w} c m mail s e width plain kept end =
           λ source. asks_access c source m mail s;
     } in
     record {
-      known = known-requested c m (asked_by mail s c) asked' s s' e.past (sending (Message.A m) e) width refl
+      known = known-requested width refl
           end.kept.a_whole kept event end.known;
-      opened = opened-requested c m (asked_by mail s c) asked' s s' e.past width end.kept.a_whole event end.opened;
+      opened = opened-requested width end.kept.a_whole event end.opened;
       kept = kept.kept;
       accounted = kept.accounted;
       copies = end.copies;
@@ -82,9 +80,9 @@ end-access_asked {w} c m mail s e width plain kept end =
 -- ---- an Acquire
 
 -- no source is of a block whose Acquire isn't open
-pub unused : (c n i : ℕ) (s : State (List ℕ)) → AreNamed s → is_wanting ((s.block n).pair c).acquiring ≡ false
+pub unused : (c n i : ℕ) {s : State (List ℕ)} → AreNamed s → is_wanting ((s.block n).pair c).acquiring ≡ false
     → s.uses c i ≡ Acquires n → ⊥
-unused c n i s named calm used =
+unused c n i {s} named calm used =
     let one : acquires_of n (s.uses c i) ≡ true = ap (acquires_of n) used ∙ same_number n in
     let both : (is_wanting ((s.block n).pair c).acquiring && (i == (s.block n).source c)) ≡ true =
     sym (named.acquires c i n) ∙ one in
@@ -92,14 +90,14 @@ unused c n i s named calm used =
     cc
 
 pub asks_acquire : {w : ℕ} (c n source i : ℕ) (whole : Bool) (g : Grow) (bytes : List ℕ) (mail : AccessMessages w)
-    (s : State (List ℕ)) → AreNamed s → is_wanting ((s.block n).pair c).acquiring ≡ false
+    {s : State (List ℕ)} → AreNamed s → is_wanting ((s.block n).pair c).acquiring ≡ false
     → asked_by mail (acquire_asked c n source whole g bytes s) c i ≡ cond (source == i)
     (Some (a_beat_of (acquisition (acquire_opcode whole) g source n) 0)) (asked_by mail s c i)
-asks_acquire {w} c n source i whole g bytes mail s named calm =
+asks_acquire {w} c n source i whole g bytes mail {s} named calm =
     let new : Block (List ℕ) = acquiring_block c source whole g bytes (s.block n) in
     let s' : State (List ℕ) = acquire_asked c n source whole g bytes s in
     let apart : (j : ℕ) → s.uses c i ≡ Acquires j → j ≡ n → ⊥ =
-    λ j used same. unused c n i s named calm (used ∙ ap Acquires same) in
+    λ j used same. unused c n i named calm (used ∙ ap Acquires same) in
     elim (cases_eq i source) [
       | inl same ↦ ap (asked_by mail s' c) same
           ∙ asks-acquire c source n source whole g mail s' (set_at-same c source (Acquires n) s.uses)
@@ -116,15 +114,15 @@ asks_acquire {w} c n source i whole g bytes mail s named calm =
           (asked_by mail s c i) (ne_eqb source i (λ e. other (sym e))))
     ]
 
-pub end-acquire_asked : {w : ℕ} (c n source : ℕ) (whole : Bool) (g : Grow) (bytes : List ℕ) (mail : AccessMessages w)
-    (s : State (List ℕ)) (e f : Endpoint w) → IsWidth w → AreNamed s
+pub end-acquire_asked : {w : ℕ} {c : ℕ} (n source : ℕ) (whole : Bool) (g : Grow) (bytes : List ℕ)
+    (mail : AccessMessages w) {s : State (List ℕ)} {e f : Endpoint w} → IsWidth w → AreNamed s
     → pending (AcquireOf n) e.past ≡ false
     → f.past ≡ (sending (Message.A (acquisition (acquire_opcode whole) g source n)) e).past → f.copies ≡ e.copies
-    → f.closed ≡ e.closed
-    → ((i : ℕ) → (i ≡ n → ⊥) → f.waiting i ≡ e.waiting i) → (whole ≡ true → f.waiting n ≡ Some bytes) → IsWellKept f
-    → IsEnd (asked_by mail s c) c s e
+    → f.closed ≡ e.closed → ((i : ℕ) → (i ≡ n → ⊥) → f.waiting i ≡ e.waiting i)
+    → (whole ≡ true → f.waiting n ≡ Some bytes) → IsWellKept f → IsEnd (asked_by mail s c) c s e
     → IsEnd (asked_by mail (acquire_asked c n source whole g bytes s) c) c (acquire_asked c n source whole g bytes s) f
-end-acquire_asked {w} c n source whole g bytes mail s e f width named idle past copies closed others here kept end =
+end-acquire_asked {w} {c} n source whole g bytes mail {s} {e} {f} width named idle past copies closed others here kept
+    end =
     let m : MessageA w = acquisition (acquire_opcode whole) g source n in
     let asked' : ℕ → Option (BeatA w) = asked_by mail s' c in
     let calm : is_wanting ((s.block n).pair c).acquiring ≡ false = sym (end.known.acquires n) ∙ idle in
@@ -141,12 +139,12 @@ end-acquire_asked {w} c n source whole g bytes mail s e f width named idle past 
         pair_is,
         of_block i,
       );
-      asks = λ i. asks_acquire c n source i whole g bytes mail s named calm;
+      asks = λ i. asks_acquire c n source i whole g bytes mail named calm;
     } in
     record {
-      known = known-requested c m (asked_by mail s c) asked' s s' e.past f width past end.kept.a_whole kept event
+      known = known-requested width past end.kept.a_whole kept event
           end.known;
-      opened = rw past (opened-requested c m (asked_by mail s c) asked' s s' e.past width end.kept.a_whole event
+      opened = rw past (opened-requested width end.kept.a_whole event
           end.opened);
       kept = kept.kept;
       accounted = kept.accounted;

@@ -25,14 +25,13 @@ pub record IsRequested {w : ℕ} (c : ℕ) (m : MessageA w) (asked asked' : ℕ 
       (is_acquire m.opcode && (block_at m.address == n)) true (is_wanting ((s.block n).pair c).acquiring)
   pub asks : (source : ℕ) → asked' source ≡ cond (m.source == source) (Some (a_beat_of m 0)) (asked source)
 
-pub known-requested : {w : ℕ} (c : ℕ) (m : MessageA w) (asked asked' : ℕ → Option (BeatA w)) (s s' : State (List ℕ))
-    (t : History w) (f : Endpoint w) → IsWidth w
-    → f.past ≡ sent (A m) t → unfinished Channel.A t ≡ []
-    → IsWellKept f → IsRequested c m asked asked' s s' → ClientRelation asked (unfinished Channel.D t) c s t
+pub known-requested : {w : ℕ} {c : ℕ} {m : MessageA w} {asked asked' : ℕ → Option (BeatA w)} {s s' : State (List ℕ)}
+    {t : History w} {f : Endpoint w} → IsWidth w → f.past ≡ sent (A m) t → unfinished Channel.A t ≡ [] → IsWellKept f
+    → IsRequested c m asked asked' s s' → ClientRelation asked (unfinished Channel.D t) c s t
     → ClientRelation asked' (unfinished Channel.D f.past) c s' f.past
-known-requested {w} c m asked asked' s s' t f width past none well event known =
+known-requested {w} {c} {m} {asked'} {s'} {t} {f} width past none well event known =
     let some = beats-positive (A m) width in
-    known-kept asked' c s' f well
+    known-kept asked' c s' well
     (λ n. ap (held n) past ∙ held-whole n (A m) t none some ∙ known.held_is n ∙ sym (event.held n))
     (λ n. ap (pending (AcquireOf n)) past ∙ pending-whole (AcquireOf n) (A m) t none some
     ∙ ap (λ (b : Bool). cond (is_acquire m.opcode && (block_at m.address == n)) true b) (known.acquires n) ∙ sym
@@ -47,10 +46,10 @@ some_cond : {X : Type 0} (b : Bool) (x : X) (o : Option X) → is_some (cond b (
 some_cond true x o = refl
 some_cond false x o = refl
 
-pub opened-requested : {w : ℕ} (c : ℕ) (m : MessageA w) (asked asked' : ℕ → Option (BeatA w)) (s s' : State (List ℕ))
-    (t : History w) → IsWidth w → unfinished Channel.A t ≡ []
+pub opened-requested : {w : ℕ} {c : ℕ} {m : MessageA w} {asked asked' : ℕ → Option (BeatA w)} {s s' : State (List ℕ)}
+    {t : History w} → IsWidth w → unfinished Channel.A t ≡ []
     → IsRequested c m asked asked' s s' → OpenSourceRelation asked c s t → OpenSourceRelation asked' c s' (sent (A m) t)
-opened-requested {w} c m asked asked' s s' t width none event open_ =
+opened-requested {w} {m} {asked} {t} width none event open_ =
     let some = beats-positive (A m) width in
     record {
       requests = λ source. cc (
@@ -83,16 +82,16 @@ pub record IsReleased {w : ℕ} (c i : ℕ) (m : MessageC w) (p : Perm) (asked a
   pub acquiring : (n : ℕ) → is_wanting ((s'.block n).pair c).acquiring ≡ is_wanting ((s.block n).pair c).acquiring
   pub asks : (source : ℕ) → asked' source ≡ asked source
 
-pub known-released : {w : ℕ} (c i : ℕ) (m : MessageC w) (p : Perm) (asked asked' : ℕ → Option (BeatA w))
-    (s s' : State (List ℕ)) (t : History w) (f : Endpoint w) → IsWidth w → f.past ≡ sent (C m) t
+pub known-released : {w : ℕ} {c i : ℕ} {m : MessageC w} {p : Perm} {asked asked' : ℕ → Option (BeatA w)}
+    {s s' : State (List ℕ)} {t : History w} {f : Endpoint w} → IsWidth w → f.past ≡ sent (C m) t
     → unfinished Channel.C t ≡ [] → ((n : ℕ) → held n (sent (C m) t) ≡ cond (n == i) p (held n t))
     → IsWellKept f → IsReleased c i m p asked asked' s s' → ClientRelation asked (unfinished Channel.D t) c s t
     → ClientRelation asked' (unfinished Channel.D f.past) c s' f.past
-known-released {w} c i m p asked asked' s s' t f width past none left well event known =
+known-released {w} {c} {i} {m} {p} {asked'} {s'} {t} {f} width past none left well event known =
     let opens : (n : ℕ) → cond (is_release m.opcode && (block_at m.address == n)) true (pending (ReleaseOf n) t)
     ≡ cond (i == n) true (pending (ReleaseOf n) t) = λ n. rw (event.releases, event.of_block) refl in
     let some = beats-positive (C m) width in
-    known-kept asked' c s' f well
+    known-kept asked' c s' well
     (λ n. ap (held n) past ∙ left n ∙ ap (λ (q : Perm). cond (n == i) p q) (known.held_is n) ∙ sym (event.held n))
     (λ n. ap (pending (AcquireOf n)) past ∙ pending-whole (AcquireOf n) (C m) t none some ∙ known.acquires n ∙ sym
     (event.acquiring n))
@@ -101,11 +100,11 @@ known-released {w} c i m p asked asked' s s' t f width past none left well event
     (λ source. ap (open_beat source) past ∙ open_beat-c source m t width none ∙ known.opens source ∙ sym
     (event.asks source))
 
-pub opened-released : {w : ℕ} (c i : ℕ) (m : MessageC w) (p : Perm) (asked asked' : ℕ → Option (BeatA w))
-    (s s' : State (List ℕ)) (t : History w) → IsWidth w → unfinished Channel.C t ≡ []
+pub opened-released : {w : ℕ} {c i : ℕ} {m : MessageC w} {p : Perm} {asked asked' : ℕ → Option (BeatA w)}
+    {s s' : State (List ℕ)} {t : History w} → IsWidth w → unfinished Channel.C t ≡ []
     → IsReleased c i m p asked asked' s s' → OpenSourceRelation asked c s t
     → OpenSourceRelation asked' c s' (sent (C m) t)
-opened-released {w} c i m p asked asked' s s' t width none event open_ =
+opened-released {w} {c} {i} {m} {s} {t} width none event open_ =
     let opens : (source : ℕ) → cond (is_release m.opcode && (m.source == source)) true
     (pending (ReleaseSource source) t) ≡ cond (m.source == source) true (pending (ReleaseSource source) t) =
     λ source. rw event.releases refl in

@@ -47,29 +47,28 @@ moved (Ok (Verdict.Done source f, m)) c ch x queue e s unrefused moves =
 moved a c ch x queue e s unrefused moves = absurd cc
 
 -- a message that one client takes leaves the others' ends alone
-client_leaves : {w : ℕ} (config : Config) (tracker c : ℕ) (ch : Channel) (h : AbstractState w) (d : ℕ) (sys : System w)
-    (x : Beat w) (queue : List (Beat w))
+client_leaves : {w : ℕ} (config : Config) (tracker : ℕ) {c : ℕ} {ch : Channel} (h : AbstractState w) (d : ℕ)
+    {sys : System w}
+    {x : Beat w} {queue : List (Beat w)}
     → is_to_client ch ≡ true → (d ≡ c → ⊥) → IsFirst ch c h.mail h.state sys x queue
     → Leaves d h (packet_taken config tracker c (packets_on ch (h.state.link c)) h)
-client_leaves {w} config tracker c ch h d sys x queue up other first =
+client_leaves {w} config tracker {c} {ch} h d up other first =
     subst (λ (xs : List Packet). Leaves d h (packet_taken config tracker c xs h)) (sym first.tokens)
     (leaves-at_client config tracker c first.kind first.number first.rest h d (client_kind ch first.kind up first.own)
     other)
 
 -- the beat was taken: the ends after its step, given the client's own
-taken_ends : {w : ℕ} (config : Config) (log : Log w) (mail : AccessMessages w) (request : ℕ → MessageA w)
-    (s : State (List ℕ)) (sys : System w) (link : Link)
-    (ch : Channel) (k : ℕ) (x : Beat w) (queue : List (Beat w)) (o : Offered w) → IsWidth w
-    → SimulationRelation config log mail request s sys → sys.channels link.0 ch ≡ x ∷ queue → is_to_client ch ≡ true
-    → o ≡ taken x (sys.clients link.0)
+taken_ends : {w : ℕ} {config : Config} {log : Log w} {mail : AccessMessages w} {request : ℕ → MessageA w}
+    {s : State (List ℕ)} {sys : System w} (link : Link) (ch : Channel) (k : ℕ) (x : Beat w) (queue : List (Beat w))
+    (o : Offered w) → IsWidth w → SimulationRelation config log mail request s sys → sys.channels link.0 ch ≡ x ∷ queue
+    → is_to_client ch ≡ true → o ≡ taken x (sys.clients link.0)
     → (completes x (unfinished ch (receiver ch link.0 sys)) ≡ false
     → IsEndOf link.0 (shadow_of mail request s) (taken x (sys.clients link.0)).after)
     → (completes x (unfinished ch (receiver ch link.0 sys)) ≡ true
     → IsEndOf link.0 (packet_taken config (least_untaken (trackers_of (services sys.manager.trace))) link.0
-    (packets_on ch (s.link link.0))
-    (shadow_of mail request s)) (taken x (sys.clients link.0)).after)
+    (packets_on ch (s.link link.0)) (shadow_of mail request s)) (taken x (sys.clients link.0)).after)
     → AreEnds config (Deliver link ch) sys (shadow_of mail request s) k (client_took link.0 ch x queue o sys)
-taken_ends {w} config log mail request s sys link ch k x queue o width h beats up takes more last =
+taken_ends {w} {config} {log} {mail} {request} {s} {sys} link ch k x queue o width h beats up takes more last =
     let moves = moved t.answer link.0 ch x queue t.after sys (kept_up x (sys.clients link.0))
     (taken_now x (sys.clients link.0)) in
     subst (λ (y : Offered w). AreEnds config (Deliver link ch) sys before k (client_took link.0 ch x queue y sys))
@@ -111,98 +110,84 @@ taken_ends {w} config log mail request s sys link ch k x queue o width h beats u
         (subst (λ (i : ℕ). IsEndOf i event t.after) (sym same) (last done))
     go false goes (inl same) = subst (λ (e : Endpoint w). IsEndOf k before e) (sym (own same))
         (subst (λ (i : ℕ). IsEndOf i before t.after) (sym same) (more goes))
-    go true done (inr ne) =
-        left_alone k before event (sys.clients k) (after.clients k)
-        (client_leaves config (least_untaken (trackers_of (services sys.manager.trace))) link.0 ch before k sys x queue
-        up ne
+    go true done (inr ne) = left_alone k before event (sys.clients k) (after.clients k)
+        (client_leaves config (least_untaken (trackers_of (services sys.manager.trace))) before k up ne
         (first-token (is_caching config) ch link.0 mail s sys x queue width h.invariant h.carried beats)) (others ne)
-        (end-matched config log mail request s sys h k)
+        (end-matched h k)
     go false goes (inr ne) = left_alone k before before (sys.clients k) (after.clients k) (leaves-none k before)
-        (others ne) (end-matched config log mail request s sys h k)
+        (others ne) (end-matched h k)
 
-d_ends : {w : ℕ} (config : Config) (log : Log w) (mail : AccessMessages w) (request : ℕ → MessageA w)
-    (s : State (List ℕ)) (sys : System w) (terms : EndConfig) (link : Link)
-    (k : ℕ) (x : Beat w) (queue : List (Beat w)) → IsWidth w
-    → SimulationRelation config log mail request s sys → terms_at config link.0 ≡ Some terms
-    → sys.channels link.0 Channel.D ≡ x ∷ queue
-    → AreEnds config (Deliver link Channel.D) sys (shadow_of mail request s) k
-    (client_took link.0 Channel.D x queue (offered terms Channel.D x (sys.clients link.0)) sys)
-d_ends {w} config log mail request s sys terms link k x queue width h at beats =
-    let is = delivered-d config log mail request s sys terms (least_untaken (trackers_of (services sys.manager.trace)))
+d_ends : {w : ℕ} {config : Config} {log : Log w} {mail : AccessMessages w} {request : ℕ → MessageA w}
+    {s : State (List ℕ)} {sys : System w} (terms : EndConfig) (link : Link) (k : ℕ) (x : Beat w) (queue : List (Beat w))
+    → IsWidth w → SimulationRelation config log mail request s sys → terms_at config link.0 ≡ Some terms
+    → sys.channels link.0 Channel.D ≡ x ∷ queue → AreEnds config (Deliver link Channel.D) sys (shadow_of mail request s)
+    k (client_took link.0 Channel.D x queue (offered terms Channel.D x (sys.clients link.0)) sys)
+d_ends {w} {config} {log} {mail} {request} {s} {sys} terms link k x queue width h at beats =
+    let is = delivered-d terms (least_untaken (trackers_of (services sys.manager.trace)))
     link.0 x queue width h at beats in
-    taken_ends config log mail request s sys link Channel.D k x queue (offered terms Channel.D x (sys.clients link.0))
+    taken_ends link Channel.D k x queue (offered terms Channel.D x (sys.clients link.0))
     width h beats refl is.takes is.more is.last
 
-b_ends : {w : ℕ} (config : Config) (log : Log w) (mail : AccessMessages w) (request : ℕ → MessageA w)
-    (s : State (List ℕ)) (sys : System w) (terms : EndConfig) (link : Link)
-    (k : ℕ) (x : Beat w) (queue : List (Beat w)) → IsWidth w
-    → SimulationRelation config log mail request s sys → terms_at config link.0 ≡ Some terms
-    → sys.channels link.0 Channel.B ≡ x ∷ queue
-    → AreEnds config (Deliver link Channel.B) sys (shadow_of mail request s) k
-    (client_took link.0 Channel.B x queue (offered terms Channel.B x (sys.clients link.0)) sys)
-b_ends {w} config log mail request s sys terms link k x queue width h at beats =
+b_ends : {w : ℕ} {config : Config} {log : Log w} {mail : AccessMessages w} {request : ℕ → MessageA w}
+    {s : State (List ℕ)} {sys : System w} (terms : EndConfig) (link : Link) (k : ℕ) (x : Beat w) (queue : List (Beat w))
+    → IsWidth w → SimulationRelation config log mail request s sys → terms_at config link.0 ≡ Some terms
+    → sys.channels link.0 Channel.B ≡ x ∷ queue → AreEnds config (Deliver link Channel.B) sys (shadow_of mail request s)
+    k (client_took link.0 Channel.B x queue (offered terms Channel.B x (sys.clients link.0)) sys)
+b_ends {w} {config} {log} {mail} {request} {s} {sys} terms link k x queue width h at beats =
     go (is_unreleased ((s.block comes.0).pair link.0).letting) refl
   where
     comes : (n : ℕ) × IsProbed config terms (least_untaken (trackers_of (services sys.manager.trace))) link.0 n
         (shadow_of mail request s) x (sys.clients link.0)
-    comes = delivered-b config log mail request s sys terms (least_untaken (trackers_of (services sys.manager.trace)))
-        link.0 x queue width h at beats
+    comes = delivered-b terms (least_untaken (trackers_of (services sys.manager.trace))) link.0 x queue width h at beats
 
     go : (b : Bool) → is_unreleased ((s.block comes.0).pair link.0).letting ≡ b
         → AreEnds config (Deliver link Channel.B) sys (shadow_of mail request s) k
         (client_took link.0 Channel.B x queue (offered terms Channel.B x (sys.clients link.0)) sys)
-    go true kept =
-        taken_ends config log mail request s sys link Channel.B k x queue
-        (offered terms Channel.B x (sys.clients link.0)) width h beats refl (comes.1.takes kept)
-        (λ goes. absurd (let no : true ≡ false = sym comes.1.whole ∙ goes in cc)) (λ done. comes.1.last kept)
-    go false open_ =
-        subst (λ (o : Offered w). AreEnds config (Deliver link Channel.B) sys (shadow_of mail request s) k
-        (client_took link.0 Channel.B x queue o sys))
-        (sym (comes.1.waits_for open_)) (end-matched config log mail request s sys h k)
+    go true kept = taken_ends link Channel.B k x queue (offered terms Channel.B x (sys.clients link.0)) width h beats
+        refl (comes.1.takes kept) (λ goes. absurd (let no : true ≡ false = sym comes.1.whole ∙ goes in cc))
+        (λ done. comes.1.last kept)
+    go false open_ = subst (λ (o : Offered w). AreEnds config (Deliver link Channel.B) sys (shadow_of mail request s) k
+        (client_took link.0 Channel.B x queue o sys)) (sym (comes.1.waits_for open_)) (end-matched h k)
 
 -- ---- every event
 
-delivered_ends : {w : ℕ} (config : Config) (log : Log w) (mail : AccessMessages w) (request : ℕ → MessageA w)
-    (s : State (List ℕ)) (sys : System w) (terms : EndConfig)
-    (link : Link) (ch : Channel) (k : ℕ) (beats : List (Beat w)) → IsWidth w
-    → SimulationRelation config log mail request s sys → terms_at config link.0 ≡ Some terms
-    → sys.channels link.0 ch ≡ beats
+delivered_ends : {w : ℕ} {config : Config} {log : Log w} {mail : AccessMessages w} {request : ℕ → MessageA w}
+    {s : State (List ℕ)} {sys : System w} (terms : EndConfig) (link : Link) (ch : Channel) (k : ℕ)
+    (beats : List (Beat w)) → IsWidth w → SimulationRelation config log mail request s sys
+    → terms_at config link.0 ≡ Some terms → sys.channels link.0 ch ≡ beats
     → AreEnds config (Deliver link ch) sys (shadow_of mail request s) k
     (step.delivered config terms link.0 ch beats sys)
-delivered_ends config log mail request s sys terms link ch k [] width h at beats =
-    end-matched config log mail request s sys h k
-delivered_ends config log mail request s sys terms link Channel.B k (x ∷ queue) width h at beats =
-    b_ends config log mail request s sys terms link k x queue width h at beats
-delivered_ends config log mail request s sys terms link Channel.D k (x ∷ queue) width h at beats =
-    d_ends config log mail request s sys terms link k x queue width h at beats
-delivered_ends config log mail request s sys terms link Channel.A k (x ∷ queue) width h at beats =
-    manager_ends config log mail request s sys link Channel.A k x queue
+delivered_ends {config} {log} {mail} {request} {s} {sys} terms link ch k [] width h at beats = end-matched h k
+delivered_ends {config} {log} {mail} {request} {s} {sys} terms link Channel.B k (x ∷ queue) width h at beats =
+    b_ends terms link k x queue width h at beats
+delivered_ends {config} {log} {mail} {request} {s} {sys} terms link Channel.D k (x ∷ queue) width h at beats =
+    d_ends terms link k x queue width h at beats
+delivered_ends {config} {log} {mail} {request} {s} {sys} terms link Channel.A k (x ∷ queue) width h at beats =
+    manager_ends link Channel.A k x queue
     (manager.offered config (record { 0 = link.0 }) Channel.A x sys.manager) width h beats refl
-delivered_ends config log mail request s sys terms link Channel.C k (x ∷ queue) width h at beats =
-    manager_ends config log mail request s sys link Channel.C k x queue
+delivered_ends {config} {log} {mail} {request} {s} {sys} terms link Channel.C k (x ∷ queue) width h at beats =
+    manager_ends link Channel.C k x queue
     (manager.offered config (record { 0 = link.0 }) Channel.C x sys.manager) width h beats refl
-delivered_ends config log mail request s sys terms link Channel.E k (x ∷ queue) width h at beats =
-    manager_ends config log mail request s sys link Channel.E k x queue
+delivered_ends {config} {log} {mail} {request} {s} {sys} terms link Channel.E k (x ∷ queue) width h at beats =
+    manager_ends link Channel.E k x queue
     (manager.offered config (record { 0 = link.0 }) Channel.E x sys.manager) width h beats refl
 
-event_ends : {w : ℕ} (config : Config) (log : Log w) (mail : AccessMessages w) (request : ℕ → MessageA w)
-    (s : State (List ℕ)) (sys : System w) (event : Event w)
-    (o : Option EndConfig) (k : ℕ) → IsWidth w → SimulationRelation config log mail request s sys
-    → terms_at config (client_of event) ≡ o → AreEnds config event sys (shadow_of mail request s) k
-    (stepped_at config o event sys)
-event_ends config log mail request s sys (Ask c o) None k width h at = end-matched config log mail request s sys h k
-event_ends config log mail request s sys (Deliver link ch) None k width h at =
-    end-matched config log mail request s sys h k
-event_ends config log mail request s sys (Ask c o) (Some terms) k width h at =
-    asked_ends config log mail request s sys terms c k o width h
-event_ends config log mail request s sys (Deliver link ch) (Some terms) k width h at =
-    delivered_ends config log mail request s sys terms link ch k (sys.channels link.0 ch) width h at refl
+event_ends : {w : ℕ} {config : Config} {log : Log w} {mail : AccessMessages w} {request : ℕ → MessageA w}
+    {s : State (List ℕ)} {sys : System w} (event : Event w) (o : Option EndConfig) (k : ℕ) → IsWidth w
+    → SimulationRelation config log mail request s sys → terms_at config (client_of event) ≡ o
+    → AreEnds config event sys (shadow_of mail request s) k (stepped_at config o event sys)
+event_ends {config} {log} {mail} {request} {s} {sys} (Ask c o) None k width h at = end-matched h k
+event_ends {config} {log} {mail} {request} {s} {sys} (Deliver link ch) None k width h at = end-matched h k
+event_ends {config} {log} {mail} {request} {s} {sys} (Ask c o) (Some terms) k width h at =
+    asked_ends terms c k o width h
+event_ends {config} {log} {mail} {request} {s} {sys} (Deliver link ch) (Some terms) k width h at =
+    delivered_ends terms link ch k (sys.channels link.0 ch) width h at refl
 
 -- Every client's end is that of the protocol after an event of the world.
-pub clients-kept : {w : ℕ} (config : Config) (log : Log w) (mail : AccessMessages w) (request : ℕ → MessageA w)
-    (s : State (List ℕ)) (sys : System w) (event : Event w)
+pub clients-kept : {w : ℕ} {config : Config} {log : Log w} {mail : AccessMessages w} {request : ℕ → MessageA w}
+    {s : State (List ℕ)} {sys : System w} (event : Event w)
     → IsWidth w → SimulationRelation config log mail request s sys → (k : ℕ)
     → IsEndOf k (abstract_step config event sys (shadow_of mail request s)) ((stepped config event sys).after.clients k)
 unfolding stepped
-clients-kept config log mail request s sys event width h k =
-    event_ends config log mail request s sys event (terms_at config (client_of event)) k width h refl
+clients-kept {config} {log} {mail} {request} {s} {sys} event width h k =
+    event_ends event (terms_at config (client_of event)) k width h refl

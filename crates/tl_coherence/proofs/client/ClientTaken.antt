@@ -31,18 +31,18 @@ use Rattle.tl_coherence.proofs.queues.Tokens.{same_number, set-same, set-other, 
 
 -- ---- a beat that isn't the last of its message
 
-pub end-part : {w : ℕ} (asked : ℕ → Option (BeatA w)) (c : ℕ) (x : BeatD w) (s : State (List ℕ)) (e f : Endpoint w)
+pub end-part : {w : ℕ} {asked : ℕ → Option (BeatA w)} {c : ℕ} (x : BeatD w) {s : State (List ℕ)} {e f : Endpoint w}
     → f ≡ with_past (Beat.D x ∷ e.past) e → ends (Beat.D x) e.past ≡ false → IsWellKept f
     → IsEnd asked c s e → IsEnd asked c s f
-end-part {w} asked c x s e f is more well end =
+end-part {w} {asked} {c} x {s} {e} {f} is more well end =
     let event = heard-part c x e.past Perm.None asked s more in
     let echo : IsEcho x e.past f.past = subst (IsEcho x e.past) (sym (ap (λ (g : Endpoint w). g.past) is))
     (echo-none x e.past) in
     record {
-      known = known-heard c x e.past Perm.None (λ k. false) (λ k. false) (λ k. false) (λ k. false) asked asked s s f
+      known = known-heard
           echo well event end.known;
-      opened = opened-heard c x e.past f.past Perm.None (λ k. false) (λ k. false) (λ k. false) (λ k. false) asked asked
-          s s echo event end.opened;
+      opened = opened-heard
+          echo event end.opened;
       kept = well.kept;
       accounted = well.accounted;
       copies = λ n some. ap (λ (g : Endpoint w). g.copies n) is ∙ end.copies n some;
@@ -52,12 +52,12 @@ end-part {w} asked c x s e f is more well end =
 
 -- ---- the answer to an access
 
-pub end-answer_taken : {w : ℕ} (c source : ℕ) (x : BeatD w) (rest : List Packet) (mail : AccessMessages w)
-    (s : State (List ℕ)) (e f : Endpoint w) → f ≡ with_past (Beat.D x ∷ e.past) e → ends (Beat.D x) e.past ≡ true
+pub end-answer_taken : {w : ℕ} {c : ℕ} (source : ℕ) (x : BeatD w) (rest : List Packet) (mail : AccessMessages w)
+    {s : State (List ℕ)} {e f : Endpoint w} → f ≡ with_past (Beat.D x ∷ e.past) e → ends (Beat.D x) e.past ≡ true
     → is_grant x.opcode ≡ false → is_release_ack x.opcode ≡ false → x.source ≡ source → IsWellKept f
     → IsEnd (asked_by mail s c) c s e
     → IsEnd (asked_by mail (answer_taken c source rest s) c) c (answer_taken c source rest s) f
-end-answer_taken {w} c source x rest mail s e f is last plain other from well end =
+end-answer_taken {w} {c} source x rest mail {s} {e} {f} is last plain other from well end =
     let closes = answer_closes x e.past last plain other in
     let event : IsHeard c x e.past Perm.None (λ k. false) (λ k. false) (λ i. x.source == i) (λ k. false)
     (asked_by mail s c) (asked_by mail s' c) s s' = record {
@@ -75,10 +75,10 @@ end-answer_taken {w} c source x rest mail s e f is last plain other from well en
     let echo : IsEcho x e.past f.past = subst (IsEcho x e.past) (sym (ap (λ (g : Endpoint w). g.past) is))
     (echo-none x e.past) in
     record {
-      known = known-heard c x e.past Perm.None (λ k. false) (λ k. false) (λ i. x.source == i) (λ k. false)
-          (asked_by mail s c) (asked_by mail s' c) s s' f echo well event end.known;
-      opened = opened-heard c x e.past f.past Perm.None (λ k. false) (λ k. false) (λ i. x.source == i) (λ k. false)
-          (asked_by mail s c) (asked_by mail s' c) s s' echo event end.opened;
+      known = known-heard
+          echo well event end.known;
+      opened = opened-heard
+          echo event end.opened;
       kept = well.kept;
       accounted = well.accounted;
       copies = λ n some. ap (λ (g : Endpoint w). g.copies n) is ∙ end.copies n some;
@@ -99,12 +99,12 @@ end-answer_taken {w} c source x rest mail s e f is last plain other from well en
 
 -- ---- a ReleaseAck
 
-pub end-release_ack_taken : {w : ℕ} (c n : ℕ) (x : BeatD w) (rest : List Packet) (mail : AccessMessages w)
-    (s : State (List ℕ)) (e f : Endpoint w) → f ≡ with_past (Beat.D x ∷ e.past) e → ends (Beat.D x) e.past ≡ true
+pub end-release_ack_taken : {w : ℕ} {c : ℕ} (n : ℕ) (x : BeatD w) (rest : List Packet) (mail : AccessMessages w)
+    {s : State (List ℕ)} {e f : Endpoint w} → f ≡ with_past (Beat.D x ∷ e.past) e → ends (Beat.D x) e.past ≡ true
     → is_grant x.opcode ≡ false → is_release_ack x.opcode ≡ true → x.source ≡ (s.block n).release_source c
     → s.lets c x.source ≡ Some n → IsWellKept f → IsEnd (asked_by mail s c) c s e
     → IsEnd (asked_by mail (release_ack_taken c n rest s) c) c (release_ack_taken c n rest s) f
-end-release_ack_taken {w} c n x rest mail s e f is last plain acks from let_ well end =
+end-release_ack_taken {w} {c} n x rest mail {s} {e} {f} is last plain acks from let_ well end =
     let new : Block (List ℕ) = let_go_block c (s.block n) in
     let pair_is = set-same c (after_release_ack ((s.block n).pair c)) (s.block n).pair in
     let closes = ack_closes n x e.past last plain acks (end.opened.released x.source n let_) in
@@ -133,10 +133,10 @@ end-release_ack_taken {w} c n x rest mail s e f is last plain acks from let_ wel
     let echo : IsEcho x e.past f.past = subst (IsEcho x e.past) (sym (ap (λ (g : Endpoint w). g.past) is))
     (echo-none x e.past) in
     record {
-      known = known-heard c x e.past Perm.None (λ k. false) (λ k. n == k) (λ i. false) (λ i. x.source == i)
-          (asked_by mail s c) (asked_by mail s' c) s s' f echo well event end.known;
-      opened = opened-heard c x e.past f.past Perm.None (λ k. false) (λ k. n == k) (λ i. false) (λ i. x.source == i)
-          (asked_by mail s c) (asked_by mail s' c) s s' echo event end.opened;
+      known = known-heard
+          echo well event end.known;
+      opened = opened-heard
+          echo event end.opened;
       kept = well.kept;
       accounted = well.accounted;
       copies = λ k some. cc (
@@ -215,13 +215,13 @@ grant_end {w} data_too x r payload e f opcode is =
       new_waiting = λ k. cc (sends, does.new_waiting k, opcode);
     }
 
-pub end-grant_taken : {w : ℕ} (c n : ℕ) (whole data_too : Bool) (g : Grow) (k : Cap) (x : BeatD w) (payload : List ℕ)
-    (rest : List Packet) (mail : AccessMessages w)
-    (s : State (List ℕ)) (e f : Endpoint w) → IsWidth w → AreNamed s
+pub end-grant_taken : {w : ℕ} {c n : ℕ} {whole data_too : Bool} {g : Grow} {k : Cap} {x : BeatD w} {payload : List ℕ}
+    (rest : List Packet) (mail : AccessMessages w) {s : State (List ℕ)} {e f : Endpoint w} → IsWidth w → AreNamed s
     → IsGrantOf c n whole data_too g k x payload s → f ≡ (responded x (request_of x.source e.past) payload e).after
     → ends (Beat.D x) e.past ≡ true → IsWellKept f → IsEnd (asked_by mail s c) c s e
     → IsEnd (asked_by mail (grant_taken c n whole data_too k rest s) c) c (grant_taken c n whole data_too k rest s) f
-end-grant_taken {w} c n whole data_too g k x payload rest mail s e f width named is taken last well end =
+end-grant_taken {w} {c} {n} {whole} {data_too} {g} {k} {x} {payload} rest mail {s} {e} {f} width named is taken last
+    well end =
     let asks : asked_by mail s c x.source ≡ Some r = ap (asked_by mail s c) is.from ∙ asks-acquire c source n source
     whole g mail s is.used is.wants refl in
     let open_ : open_beat x.source e.past ≡ Some r = end.known.opens x.source ∙ asks in
@@ -254,10 +254,10 @@ end-grant_taken {w} c n whole data_too g k x payload rest mail s e f width named
     subst (IsEcho x e.past) (sym does.past_is) (echo-e x (record { sink = x.sink }) e.past width end.kept.e_whole)
     in
     record {
-      known = known-heard c x e.past (cap_right k) (λ i. n == i) (λ i. false) (λ i. x.source == i) (λ i. false)
-          (asked_by mail s c) (asked_by mail s' c) s s' f echo well event end.known;
-      opened = opened-heard c x e.past f.past (cap_right k) (λ i. n == i) (λ i. false) (λ i. x.source == i) (λ i. false)
-          (asked_by mail s c) (asked_by mail s' c) s s' echo event end.opened;
+      known = known-heard
+          echo well event end.known;
+      opened = opened-heard
+          echo event end.opened;
       kept = well.kept;
       accounted = well.accounted;
       copies = λ i some. does.new_copies i ∙ copy_now i (cases_eq i n) some;
@@ -309,8 +309,7 @@ end-grant_taken {w} c n whole data_too g k x payload rest mail s e f width named
 
     copy_here : (i : ℕ) (y z : Bool) → whole ≡ y → data_too ≡ z → i ≡ n
         → copy_granted (grant_opcode z) (Some (a_beat_of {w = w} (acquisition (acquire_opcode y) g source n) 0)) payload
-        i e ≡ Some
-        (granted_copy y z ((s.block n).waiting c) (s.block n).truth ((s.block n).copy c))
+        i e ≡ Some (granted_copy y z ((s.block n).waiting c) (s.block n).truth ((s.block n).copy c))
     copy_here i true true a b same = absurd (let no : true ≡ false = sym (ap₂_and a b) ∙ is.bare in cc)
       where
         ap₂_and : {u v : Bool} → whole ≡ u → data_too ≡ v → (whole && data_too) ≡ (u && v)

@@ -1,6 +1,6 @@
 -- A beat of channel D that is delivered to a client is taken.
 use Rattle.tl_coherence.proofs.client.Imports.{Beat, BeatA, Message, MessageA, MessageD, a_beat_of, beat_of, History}
-use Rattle.tl_coherence.proofs.client.Imports.{unfinished, Config, RequestSource, Level, Cap, Grow, Perm, Profile}
+use Rattle.tl_coherence.proofs.client.Imports.{unfinished, Config, RequestSource, Cap, Grow, Perm, Profile}
 use Rattle.tl_coherence.proofs.client.Imports.{is_outside, answers, broken_in_order, same_perm, held, pending}
 use Rattle.tl_coherence.proofs.client.Imports.{request_of, illegal, EndConfig, Endpoint, offered, taken, waits}
 use Rattle.tl_coherence.proofs.client.Imports.{open_beat, acquisition, same_block, grant_opcode, level_of}
@@ -75,11 +75,11 @@ first_of_all : {X : Type 0} (P : X → Type 0) (xs rest : List X) (x : X) → xs
 first_of_all P xs rest x e h = let all : All P (x ∷ rest) = subst (All P) e h in all 0 x (omega arith)
 
 -- what each beat of a channel is
-pub sound-beat : {w : ℕ} (config : Config) (log : Log w) (mail : AccessMessages w) (request : ℕ → MessageA w)
-    (s : State (List ℕ)) (sys : System w) (c : ℕ) (ch : Channel)
+pub sound-beat : {w : ℕ} {config : Config} {log : Log w} {mail : AccessMessages w} {request : ℕ → MessageA w}
+    {s : State (List ℕ)} {sys : System w} (c : ℕ) (ch : Channel)
     (x : Beat w) (queue : List (Beat w)) → SimulationRelation config log mail request s sys
     → sys.channels c ch ≡ x ∷ queue → manager.IsSound config (record { 0 = c }, x)
-sound-beat config log mail request s sys c ch x queue h beats =
+sound-beat {config} {sys} c ch x queue h beats =
     first_of_all (λ y. manager.IsSound config (record { 0 = c }, y)) (sys.channels c ch) queue x beats (h.sound c ch)
 
 -- a beat that goes on with its message breaks no rule of order, and so all do where the first doesn't
@@ -90,19 +90,18 @@ pub next-legal : {w : ℕ} (p : Profile) (m : MessageD w) (k : ℕ) (t : History
 next-legal p m zero t rest first = first rest
 next-legal p m (suc i) t rest first = later-legal p (Message.D m) i t rest
 
-pub taken-d : {w : ℕ} (config : Config) (log : Log w) (mail : AccessMessages w) (request : ℕ → MessageA w)
-    (s : State (List ℕ)) (sys : System w) (terms : EndConfig) (c : ℕ)
-    (m : MessageD w) (ms : List (Message w)) (x : Beat w) (queue : List (Beat w))
-    → SimulationRelation config log mail request s sys → terms_at config c ≡ Some terms
-    → sys.channels c Channel.D ≡ x ∷ queue → IsNext x (unfinished Channel.D (sys.clients c).past) (Message.D m) ms queue
+pub taken-d : {w : ℕ} {config : Config} {log : Log w} {mail : AccessMessages w} {request : ℕ → MessageA w}
+    {s : State (List ℕ)} {sys : System w} (terms : EndConfig) (c : ℕ) (m : MessageD w) {ms : List (Message w)}
+    {x : Beat w} {queue : List (Beat w)} → SimulationRelation config log mail request s sys
+    → terms_at config c ≡ Some terms → sys.channels c Channel.D ≡ x ∷ queue
+    → IsNext x (unfinished Channel.D (sys.clients c).past) (Message.D m) ms queue
     → (unfinished Channel.D (sys.clients c).past ≡ [] → broken_in_order config.profile (beat_of (Message.D m) 0)
-    (sys.clients c).past ≡ None)
-    → offered terms Channel.D x (sys.clients c) ≡ taken x (sys.clients c)
-taken-d {w} config log mail request s sys terms c m ms x queue h at beats next first =
+    (sys.clients c).past ≡ None) → offered terms Channel.D x (sys.clients c) ≡ taken x (sys.clients c)
+taken-d {w} {config} {log} {mail} {request} {s} {sys} terms c m {x} {queue} h at beats next first =
     let moves : x ≡ beat_of (Message.D m) next.k → waits x (sys.clients c).past ≡ false =
     λ f. ap (λ (y : Beat w). waits y (sys.clients c).past) f in
     let is = terms-are config c terms at in
-    let sound = sound-beat config log mail request s sys c Channel.D x queue h beats in
+    let sound = sound-beat c Channel.D x queue h beats in
     client-takes terms Channel.D x (sys.clients c) (h.live c) refl (lawful is.level next.beat_is sound.lawful)
     (moves next.beat_is)
     (ap (λ (p : Profile). broken_in_order p x (sys.clients c).past) is.profile
@@ -128,15 +127,14 @@ live_request {w} source r t e = go (pending (RequestSource source) t) refl e
     go true f g = (refl, g)
     go false f g = absurd cc
 
-pub answer-first : {w : ℕ} (p : Profile) (c source : ℕ) (mail : AccessMessages w) (s : State (List ℕ)) (e : Endpoint w)
-    → IsEnd (asked_by mail s c) c s e
-    → (due : IsAnswerDue c source mail s) → unfinished Channel.D e.past ≡ []
+pub answer-first : {w : ℕ} (p : Profile) {c source : ℕ} {mail : AccessMessages w} {s : State (List ℕ)} {e : Endpoint w}
+    → IsEnd (asked_by mail s c) c s e → (due : IsAnswerDue c source mail s) → unfinished Channel.D e.past ≡ []
     → broken_in_order p (beat_of (Message.D due.answer) 0) e.past ≡ None
-answer-first {w} p c source mail s e end due whole =
+answer-first {w} p {c} {source} {mail} {s} {e} end due whole =
     let kind = access_kind due.answer.opcode due.answers_access in
     let asks = asks-access c source due.request mail s (ap is_access due.used) due.request_is in
     let live = live_request source (a_beat_of due.request 0) e.past (end.known.opens source ∙ asks) in
-    answer-legal p (d_beat_of due.answer 0) (a_beat_of due.request 0) e.past (record {
+    answer-legal p (record {
       whole = whole;
       complete = ap (rules.comes_in_request due.answer.source) end.kept.a_whole;
       other = kind.1;
@@ -199,22 +197,21 @@ has_data false false Perm.Branch e = refl
 has_data false false Perm.None e = absurd cc
 has_data false false Perm.Trunk e = absurd cc
 
-pub grant-first : {w : ℕ} (p : Profile) (c n : ℕ) (mail : AccessMessages w) (s : State (List ℕ)) (e : Endpoint w)
-    → IsEnd (asked_by mail s c) c s e → (due : IsGrantDue c n s)
-    → gives_asked p (AcquireOpen due.whole due.g) due.k ≡ true
-    → unfinished Channel.D e.past ≡ []
+pub grant-first : {w : ℕ} (p : Profile) {c n : ℕ} (mail : AccessMessages w) {s : State (List ℕ)} {e : Endpoint w}
+    → IsEnd (asked_by mail s c) c s e → (due : IsGrantDue c n s) → gives_asked p (AcquireOpen due.whole due.g) due.k
+    ≡ true → unfinished Channel.D e.past ≡ []
     → broken_in_order p (beat_of
     (Message.D (grant_message due.data_too due.k ((s.block n).source c) (s.block n).tracker (s.block n).truth)) 0)
     e.past ≡ None
-grant-first {w} p c n mail s e end due given whole =
+grant-first {w} p {c} {n} mail {s} {e} end due given whole =
     let source = (s.block n).source c in
     let r : BeatA w = a_beat_of (acquisition (acquire_opcode due.whole) due.g source n) 0 in
     let fits = fitting ((s.block n).pair c).recorded ((s.block n).pair c).held due.data_too due.k due.whole due.g
     due.fits in
     let asks = asks-acquire c source n source due.whole due.g mail s due.used due.wants refl in
     let live = live_request source r e.past (end.known.opens source ∙ asks) in
-    grant-legal p n (d_beat_of (grant_message due.data_too due.k source (s.block n).tracker (s.block n).truth) 0) r
-    e.past (record {
+    grant-legal p n
+    (record {
       whole = whole;
       complete = ap (rules.comes_in_request source) end.kept.a_whole;
       other = no_ack_grant due.data_too;
@@ -231,11 +228,11 @@ grant-first {w} p c n mail s e end due given whole =
 
 -- ---- a ReleaseAck
 
-pub ack-first : {w : ℕ} (p : Profile) (c n : ℕ) (mail : AccessMessages w) (s : State (List ℕ)) (e : Endpoint w)
+pub ack-first : {w : ℕ} (p : Profile) {c : ℕ} (n : ℕ) (mail : AccessMessages w) {s : State (List ℕ)} {e : Endpoint w}
     → IsEnd (asked_by mail s c) c s e
     → s.lets c ((s.block n).release_source c) ≡ Some n → unfinished Channel.D e.past ≡ []
     → broken_in_order p (beat_of (release_ack ((s.block n).release_source c)) 0) e.past ≡ None
-ack-first {w} p c n mail s e end let_ whole =
+ack-first {w} p {c} n mail {s} {e} end let_ whole =
     let source = (s.block n).release_source c in
     ack-legal p (d_beat_of (ack_message source) 0) e.past whole (ap (rules.comes_in_release source) end.kept.c_whole)
     refl

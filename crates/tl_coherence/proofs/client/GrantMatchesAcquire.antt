@@ -39,8 +39,7 @@ given-pair p service c x pair same h =
     given-pairs p service pair (set c x pair) (set-part (λ (q : ClientBlock). q.acquiring) c x pair same) h
 
 given-set : (p : Profile) (n : ℕ) (b : Block (List ℕ)) (s : State (List ℕ)) → AreGiven p s
-    → IsGivenAsked p b.service b.pair → (i : ℕ)
-    → IsGivenAsked p (set n b s.block i).service (set n b s.block i).pair
+    → IsGivenAsked p b.service b.pair → (i : ℕ) → IsGivenAsked p (set n b s.block i).service (set n b s.block i).pair
 given-set p n b s h new = set-each (λ i (x : Block (List ℕ)). IsGivenAsked p x.service x.pair) n b s.block new
     (λ i other. h i)
 
@@ -48,9 +47,8 @@ given-set p n b s h new = set-each (λ i (x : Block (List ℕ)). IsGivenAsked p 
 given-acquiring : (p : Profile) (c : ℕ) (whole : Bool) (g : Grow) (service : Service) (pair : ℕ → ClientBlock)
     → ((d : Bool) (k : Cap) → service ≡ GrantSent c d k → ⊥) → IsGivenAsked p service pair
     → IsGivenAsked p service (set c (after_acquire whole g (pair c)) pair)
-given-acquiring p c whole g (GrantSent q d k) pair none h =
-    ap (λ (x : ClientBlock). gives_asked p x.acquiring k) (set-other c q (after_acquire whole g (pair c)) pair
-    (λ same. none d k (ap (λ (i : ℕ). GrantSent i d k) same))) ∙ h
+given-acquiring p c whole g (GrantSent q d k) pair none h = ap (λ (x : ClientBlock). gives_asked p x.acquiring k)
+    (set-other c q (after_acquire whole g (pair c)) pair (λ same. none d k (ap (λ (i : ℕ). GrantSent i d k) same))) ∙ h
 given-acquiring p c whole g service pair none h = tt
 
 -- what the manager gives
@@ -66,66 +64,64 @@ gift_given Profile.Two whole g unheld = refl
 
 -- ---- operations
 
-not_granting : (caching : ℕ → Bool) (c n : ℕ) (s : State (List ℕ)) → IsInvariant caching s
+not_granting : {caching : ℕ → Bool} (c n : ℕ) {s : State (List ℕ)} → IsInvariant caching s
     → ((s.block n).pair c).acquiring ≡ NoAcquire → (d : Bool) (k : Cap) → (s.block n).service ≡ GrantSent c d k → ⊥
-not_granting caching c n s inv calm d k sent =
+not_granting c n {s} inv calm d k sent =
     let asks = granting_asks d k ((s.block n).pair c) (view (s.block n).service c) ((inv.blocks n).phases c)
     (own_view c d k (s.block n).service sent) in
     let no : false ≡ true = sym (ap (λ (a : AcquirePhase). not (is_unacquired a)) calm) ∙ asks in
     cc
 
-pub given-asked : {w : ℕ} (caching : ℕ → Bool) (p : Profile) (c : ℕ) (o : Op w) (r : Reply) (h : AbstractState w)
-    → IsInvariant caching h.state
-    → IsAskable caching c o r h → AreGiven p h.state → AreGiven p (asked c o r h).state
-given-asked caching p c (Op.Load address size) r h inv may given = given
-given-asked caching p c (Op.Store address size value) Reply.Stored h inv may given =
+pub given-asked : {w : ℕ} {caching : ℕ → Bool} (p : Profile) (c : ℕ) (o : Op w) (r : Reply) (h : AbstractState w)
+    → IsInvariant caching h.state → IsAskable caching c o r h → AreGiven p h.state → AreGiven p (asked c o r h).state
+given-asked p c (Op.Load address size) r h inv may given = given
+given-asked p c (Op.Store address size value) Reply.Stored h inv may given =
     let n = block_at address in
     given-set p n (stored_block c (copy_stored address size value ((h.state.block n).copy c)) (h.state.block n)) h.state
     given (given n)
-given-asked caching p c (Op.Store address size value) (Reply.Value v) h inv may given = given
-given-asked caching p c (Op.Store address size value) Reply.Miss h inv may given = given
-given-asked caching p c (Op.Store address size value) (Reply.Started source) h inv may given = given
-given-asked caching p c (Op.Store address size value) (Reply.Busy why) h inv may given = given
-given-asked caching p c (Op.Acquire n g) (Reply.Started source) h inv may given =
+given-asked p c (Op.Store address size value) (Reply.Value v) h inv may given = given
+given-asked p c (Op.Store address size value) Reply.Miss h inv may given = given
+given-asked p c (Op.Store address size value) (Reply.Started source) h inv may given = given
+given-asked p c (Op.Store address size value) (Reply.Busy why) h inv may given = given
+given-asked {caching} p c (Op.Acquire n g) (Reply.Started source) h inv may given =
     given-set p n (acquiring_block c source false g ((h.state.block n).waiting c) (h.state.block n)) h.state given
     (given-acquiring p c false g (h.state.block n).service (h.state.block n).pair
-    (not_granting caching c n h.state inv may.2) (given n))
-given-asked caching p c (Op.Acquire n g) (Reply.Value v) h inv may given = given
-given-asked caching p c (Op.Acquire n g) Reply.Stored h inv may given = given
-given-asked caching p c (Op.Acquire n g) Reply.Miss h inv may given = given
-given-asked caching p c (Op.Acquire n g) (Reply.Busy why) h inv may given = given
-given-asked caching p c (Op.AcquireWhole n bytes) (Reply.Started source) h inv may given =
+    (not_granting c n inv may.2) (given n))
+given-asked p c (Op.Acquire n g) (Reply.Value v) h inv may given = given
+given-asked p c (Op.Acquire n g) Reply.Stored h inv may given = given
+given-asked p c (Op.Acquire n g) Reply.Miss h inv may given = given
+given-asked p c (Op.Acquire n g) (Reply.Busy why) h inv may given = given
+given-asked {caching} p c (Op.AcquireWhole n bytes) (Reply.Started source) h inv may given =
     let g = whole_grow ((h.state.block n).pair c).held in
     given-set p n (acquiring_block c source true g bytes (h.state.block n)) h.state given
     (given-acquiring p c true g (h.state.block n).service (h.state.block n).pair
-    (not_granting caching c n h.state inv may.2) (given n))
-given-asked caching p c (Op.AcquireWhole n bytes) (Reply.Value v) h inv may given = given
-given-asked caching p c (Op.AcquireWhole n bytes) Reply.Stored h inv may given = given
-given-asked caching p c (Op.AcquireWhole n bytes) Reply.Miss h inv may given = given
-given-asked caching p c (Op.AcquireWhole n bytes) (Reply.Busy why) h inv may given = given
-given-asked caching p c (Op.Release n r) (Reply.Started source) h inv may given =
+    (not_granting c n inv may.2) (given n))
+given-asked p c (Op.AcquireWhole n bytes) (Reply.Value v) h inv may given = given
+given-asked p c (Op.AcquireWhole n bytes) Reply.Stored h inv may given = given
+given-asked p c (Op.AcquireWhole n bytes) Reply.Miss h inv may given = given
+given-asked p c (Op.AcquireWhole n bytes) (Reply.Busy why) h inv may given = given
+given-asked p c (Op.Release n r) (Reply.Started source) h inv may given =
     given-set p n (releasing_block c source r (h.state.block n)) h.state given
     (given-pair p (h.state.block n).service c (after_release r ((h.state.block n).pair c)) (h.state.block n).pair refl
     (given n))
-given-asked caching p c (Op.Release n r) (Reply.Value v) h inv may given = given
-given-asked caching p c (Op.Release n r) Reply.Stored h inv may given = given
-given-asked caching p c (Op.Release n r) Reply.Miss h inv may given = given
-given-asked caching p c (Op.Release n r) (Reply.Busy why) h inv may given = given
-given-asked caching p c (Op.Access (Message.A m)) (Reply.Started source) h inv may given = given
-given-asked caching p c (Op.Access (Message.A m)) (Reply.Value v) h inv may given = given
-given-asked caching p c (Op.Access (Message.A m)) Reply.Stored h inv may given = given
-given-asked caching p c (Op.Access (Message.A m)) Reply.Miss h inv may given = given
-given-asked caching p c (Op.Access (Message.A m)) (Reply.Busy why) h inv may given = given
-given-asked caching p c (Op.Access (Message.B m)) r h inv may given = given
-given-asked caching p c (Op.Access (Message.C m)) r h inv may given = given
-given-asked caching p c (Op.Access (Message.D m)) r h inv may given = given
-given-asked caching p c (Op.Access (Message.E m)) r h inv may given = given
+given-asked p c (Op.Release n r) (Reply.Value v) h inv may given = given
+given-asked p c (Op.Release n r) Reply.Stored h inv may given = given
+given-asked p c (Op.Release n r) Reply.Miss h inv may given = given
+given-asked p c (Op.Release n r) (Reply.Busy why) h inv may given = given
+given-asked p c (Op.Access (Message.A m)) (Reply.Started source) h inv may given = given
+given-asked p c (Op.Access (Message.A m)) (Reply.Value v) h inv may given = given
+given-asked p c (Op.Access (Message.A m)) Reply.Stored h inv may given = given
+given-asked p c (Op.Access (Message.A m)) Reply.Miss h inv may given = given
+given-asked p c (Op.Access (Message.A m)) (Reply.Busy why) h inv may given = given
+given-asked p c (Op.Access (Message.B m)) r h inv may given = given
+given-asked p c (Op.Access (Message.C m)) r h inv may given = given
+given-asked p c (Op.Access (Message.D m)) r h inv may given = given
+given-asked p c (Op.Access (Message.E m)) r h inv may given = given
 
 -- ---- messages that are taken
 
 given_request : {w : ℕ} (p : Profile) (clients c source tracker : ℕ) (m : Message w) (rest : List Packet)
-    (h : AbstractState w) → AreGiven p h.state
-    → AreGiven p (request_taken clients c source m tracker rest h).state
+    (h : AbstractState w) → AreGiven p h.state → AreGiven p (request_taken clients c source m tracker rest h).state
 given_request {w} p clients c source tracker (Message.A m) rest h given =
     go (probes_some clients c false (cap_probed m.opcode m.param) (h.state.block n).pair) (cap_probed m.opcode m.param)
   where
@@ -159,18 +155,15 @@ given_acquire {w} p clients c n tracker (AcquireOpen whole g) rest h is given =
     gives : gives_asked p (set c (after_grant_sent k (b.pair c)) b.pair c).acquiring k ≡ true
     gives = cc (set-same c (after_grant_sent k (b.pair c)) b.pair, is, gift_given p whole g (is_unheld clients b.pair))
 
-    go : (x : Bool)
-        → AreGiven p (if x then acquire_served c n (b.source c) tracker (cap_asked (AcquireOpen whole g)) rest h.state
-        else acquire_granted c n tracker
-        (is_granted_data whole g (b.pair c).recorded) k rest h.state)
+    go : (x : Bool) → AreGiven p (if x then acquire_served c n (b.source c) tracker (cap_asked (AcquireOpen whole g))
+        rest h.state else acquire_granted c n tracker (is_granted_data whole g (b.pair c).recorded) k rest h.state)
     go true = given-set p n (served_block c true (b.source c) tracker (cap_asked (AcquireOpen whole g)) b) h.state given
         tt
     go false = given-set p n (granted_at_once c tracker (is_granted_data whole g (b.pair c).recorded) k b) h.state given
         gives
 
 given_granted : {w : ℕ} (p : Profile) (clients c q n : ℕ) (r : Report) (a : AcquirePhase) (rest : List Packet)
-    (h : AbstractState w)
-    → ((h.state.block n).pair q).acquiring ≡ a → AreGiven p h.state
+    (h : AbstractState w) → ((h.state.block n).pair q).acquiring ≡ a → AreGiven p h.state
     → AreGiven p (granted_after clients p c q n r a rest h).state
 given_granted p clients c q n r NoAcquire rest h is given = given
 given_granted {w} p clients c q n r (AcquireOpen whole g) rest h is given =
@@ -183,8 +176,7 @@ given_granted {w} p clients c q n r (AcquireOpen whole g) rest h is given =
     ∙ gift_given p whole g (is_unheld clients (set c (after_report r (b.pair c)) b.pair)))
 
 given_last : {w : ℕ} (p : Profile) (clients c n : ℕ) (r : Report) (service : Service) (rest : List Packet)
-    (h : AbstractState w) → AreGiven p h.state
-    → AreGiven p (last_taken clients p c n r service rest h).state
+    (h : AbstractState w) → AreGiven p h.state → AreGiven p (last_taken clients p c n r service rest h).state
 given_last p clients c n r (Waits q true source k) rest h given =
     given_granted p clients c q n r ((h.state.block n).pair q).acquiring rest h refl given
 given_last p clients c n r (Waits q false source k) rest h given =

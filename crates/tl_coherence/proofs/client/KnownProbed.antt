@@ -56,11 +56,10 @@ waits-not n k t released = rw (same_block n, released) refl
 
 -- a Probe of a block of the map that breaks no L rule is taken, where the client holds no more of its block on its way
 pub probe-taken : {w : ℕ} (terms : EndConfig) (n : ℕ) (k : Cap) (e : Endpoint w) → e.closed ≡ false
-    → illegal {w = w} terms.level Channel.B (Beat.B (probe_beat n k)) ≡ None
-    → nat_le terms.blocks n ≡ false → unfinished Channel.B e.past ≡ []
-    → pending (Key.ReleaseOf n) e.past ≡ false → pending (Key.ProbeOf n) e.past ≡ false
-    → pending (Key.GrantAckOf n) e.past ≡ false
-    → offered terms Channel.B (Beat.B (probe_beat n k)) e ≡ probed (probe_beat n k) n (held_at e n) e
+    → illegal {w = w} terms.level Channel.B (Beat.B (probe_beat n k)) ≡ None → nat_le terms.blocks n ≡ false
+    → unfinished Channel.B e.past ≡ [] → pending (Key.ReleaseOf n) e.past ≡ false → pending (Key.ProbeOf n) e.past
+    ≡ false → pending (Key.GrantAckOf n) e.past ≡ false → offered terms Channel.B (Beat.B (probe_beat n k)) e
+    ≡ probed (probe_beat n k) n (held_at e n) e
 unfolding offered
 probe-taken {w} terms n k e live lawful inside none released unprobed ungranted =
     let judged_none : (o : Option Rule) (terms : EndConfig) (x : Beat w) (e : Endpoint w) → o ≡ None
@@ -118,22 +117,21 @@ probe_opens : {w : ℕ} (j : Key) (x : BeatB w) (t : History w) → IsProbeKey j
 probe_opens (Key.ProbeOf n) x t e = absurd cc
 probe_opens j x t e = (refl, refl)
 
-ack_opens : {w : ℕ} (j : Key) (n : ℕ) (m : MessageC w) (t : History w) → IsProbeAck n m → IsProbeKey j ≡ false
+ack_opens : {w : ℕ} (j : Key) {n : ℕ} {m : MessageC w} (t : History w) → IsProbeAck n m → IsProbeKey j ≡ false
     → (opens j (beat_of (Message.C m) 0) t ≡ false) × (closes j (beat_of (Message.C m) 0) t ≡ false)
-ack_opens (Key.ReleaseSource s) n m t is e = (rw is.releases_none refl, refl)
-ack_opens (Key.ReleaseOf i) n m t is e = (rw is.releases_none refl, refl)
-ack_opens (Key.ProbeOf i) n m t is e = absurd cc
-ack_opens j n m t is e = (refl, refl)
+ack_opens (Key.ReleaseSource s) t is e = (rw is.releases_none refl, refl)
+ack_opens (Key.ReleaseOf i) t is e = (rw is.releases_none refl, refl)
+ack_opens (Key.ProbeOf i) t is e = absurd cc
+ack_opens j t is e = (refl, refl)
 
 -- the history after a Probe and its answer
 abbrev after : {w : ℕ} → BeatB w → MessageC w → History w → History w
 after x m t = sent (Message.C m) (Beat.B x ∷ t)
 
-same_pending : {w : ℕ} (j : Key) (n : ℕ) (x : BeatB w) (m : MessageC w) (t : History w) → IsWidth w → IsProbeAck n m
-    → unfinished Channel.C t ≡ [] → IsProbeKey j ≡ false
-    → pending j (after x m t) ≡ pending j t
-same_pending j n x m t width is none e =
-    let o = ack_opens j n m (Beat.B x ∷ t) is e in
+same_pending : {w : ℕ} (j : Key) {n : ℕ} (x : BeatB w) {m : MessageC w} (t : History w) → IsWidth w → IsProbeAck n m
+    → unfinished Channel.C t ≡ [] → IsProbeKey j ≡ false → pending j (after x m t) ≡ pending j t
+same_pending j {n} x {m} t width is none e =
+    let o = ack_opens j (Beat.B x ∷ t) is e in
     let p = probe_opens j x t e in
     pending-whole j (Message.C m) (Beat.B x ∷ t) (still_whole x t ∙ none) (beats-positive (Message.C m) width) ∙ rw
     (o.0, o.1) (pending-quiet j (Beat.B x) t p.0 p.1)
@@ -145,13 +143,12 @@ other_probe {w} i n k t e =
     let none : opens (Key.ProbeOf i) (Beat.B (probe_beat {w = w} n k)) t ≡ false = rw (same_block n, e) refl in
     pending-quiet (Key.ProbeOf i) (Beat.B (probe_beat n k)) t none refl
 
-no_probe : {w : ℕ} (i n : ℕ) (k : Cap) (m : MessageC w) (t : History w) → IsWidth w → IsProbeAck n m
+no_probe : {w : ℕ} (i : ℕ) {n : ℕ} (k : Cap) {m : MessageC w} (t : History w) → IsWidth w → IsProbeAck n m
     → unfinished Channel.C t ≡ [] → pending (Key.ProbeOf i) t ≡ false
     → pending (Key.ProbeOf i) (after (probe_beat n k) m t) ≡ false
-no_probe {w} i n k m t width is none before =
+no_probe {w} i {n} k {m} t width is none before =
     pending-whole (Key.ProbeOf i) (Message.C m) (Beat.B (probe_beat n k) ∷ t) (still_whole (probe_beat n k) t ∙ none)
-    (beats-positive (Message.C m) width)
-    ∙ rw (is.acks, is.of_block) (go (n == i) refl)
+    (beats-positive (Message.C m) width) ∙ rw (is.acks, is.of_block) (go (n == i) refl)
   where
     go : (same : Bool) → (n == i) ≡ same
         → (if same then false else pending (Key.ProbeOf i) (Beat.B (probe_beat n k) ∷ t)) ≡ false
@@ -174,12 +171,11 @@ same_part part c n k rest s e i = elim (cases_eq i n) [
   | inr other ↦ rw (set-other n i (probed_block c k (s.block n)) s.block other) refl
 ]
 
-pub known-probed : {w : ℕ} {X : Type 0} (asked : ℕ → Option (BeatA w)) (burst : List (Beat w)) (c n : ℕ) (k : Cap)
-    (rest : List Packet) (s : State X) (e : Endpoint w) → IsWidth w
-    → unfinished Channel.C e.past ≡ []
+pub known-probed : {w : ℕ} {X : Type 0} {asked : ℕ → Option (BeatA w)} {burst : List (Beat w)} {c : ℕ} (n : ℕ) (k : Cap)
+    (rest : List Packet) {s : State X} (e : Endpoint w) → IsWidth w → unfinished Channel.C e.past ≡ []
     → ClientRelation asked burst c s e.past → ClientRelation asked burst c (probe_taken c n k rest s)
     (probed (probe_beat n k) n (held_at e n) e).after.past
-known-probed {w} {X} asked burst c n k rest s e width none known =
+known-probed {w} {X} {c} n k rest {s} e width none known =
     let p : Perm = held_at e n in
     let x : BeatB w = probe_beat n k in
     let r : Report = report_for x p in
@@ -188,7 +184,7 @@ known-probed {w} {X} asked burst c n k rest s e width none known =
     let past : (probed x n p e).after.past ≡ after x a.0 t =
     kept_past n (report_right r) (sending (probe_ack OpB.ProbeBlock p r n (copy_at e n)) (with_past (Beat.B x ∷ t) e))
     ∙ ap (λ m. sent m (Beat.B x ∷ t)) a.1 in
-    let same = λ (j : Key) (f : IsProbeKey j ≡ false). same_pending j n x a.0 t width a.2 none f in
+    let same = λ (j : Key) (f : IsProbeKey j ≡ false). same_pending j x t width a.2 none f in
     rw past (record {
       held_is = λ i. ap (λ m. held i (sent m (Beat.B x ∷ t))) (sym a.1) ∙ held-probe_ack i OpB.ProbeBlock p r n
           (copy_at e n) (Beat.B x ∷ t) width (still_whole x t ∙ none) ∙ held_now i (cases_eq i n);
@@ -196,7 +192,7 @@ known-probed {w} {X} asked burst c n k rest s e width none known =
           (same_part (λ q. is_wanting q.acquiring) c n k rest s refl i);
       releases = λ i. same (Key.ReleaseOf i) refl ∙ known.releases i ∙ sym
           (same_part (λ q. not (is_unreleased q.letting)) c n k rest s refl i);
-      probes = λ i. no_probe i n k a.0 t width a.2 none (known.probes i);
+      probes = λ i. no_probe i k t width a.2 none (known.probes i);
       opens = λ source. open_beat-c source a.0 (Beat.B x ∷ t) width (still_whole x t ∙ none) ∙ open_beat-b source x
           t ∙ known.opens source;
       rest_is = unfinished-sent_other Channel.D (Message.C a.0) (Beat.B x ∷ t) refl ∙ burst_b x t ∙ known.rest_is;
@@ -224,18 +220,16 @@ known-probed {w} {X} asked burst c n k rest s e width none known =
 -- ---- sources
 
 same_release : {w : ℕ} (source : ℕ) (x : BeatB w) (m : MessageC w) (t : History w) → IsWidth w
-    → is_release m.opcode ≡ false → unfinished Channel.C t ≡ []
-    → release_of source (after x m t) ≡ release_of source t
+    → is_release m.opcode ≡ false → unfinished Channel.C t ≡ [] → release_of source (after x m t) ≡ release_of source t
 unfolding release_of
 same_release source x m t width off none = release_of-whole source (Message.C m) (Beat.B x ∷ t) (still_whole x t ∙ none)
     (beats-positive (Message.C m) width) ∙ rw off refl
 
 -- no source is opened or closed
-pub opened-probed : {w : ℕ} {X : Type 0} (asked : ℕ → Option (BeatA w)) (c n : ℕ) (k : Cap) (rest : List Packet)
-    (s : State X) (e : Endpoint w) → IsWidth w → unfinished Channel.C e.past ≡ []
-    → OpenSourceRelation asked c s e.past → OpenSourceRelation asked c (probe_taken c n k rest s)
-    (probed (probe_beat n k) n (held_at e n) e).after.past
-opened-probed {w} asked c n k rest s e width none open_ =
+pub opened-probed : {w : ℕ} {X : Type 0} {asked : ℕ → Option (BeatA w)} {c : ℕ} (n : ℕ) (k : Cap) (rest : List Packet)
+    {s : State X} (e : Endpoint w) → IsWidth w → unfinished Channel.C e.past ≡ [] → OpenSourceRelation asked c s e.past
+    → OpenSourceRelation asked c (probe_taken c n k rest s) (probed (probe_beat n k) n (held_at e n) e).after.past
+opened-probed {w} n k rest e width none open_ =
     let p : Perm = held_at e n in
     let x : BeatB w = probe_beat n k in
     let r : Report = report_for x p in
@@ -245,9 +239,9 @@ opened-probed {w} asked c n k rest s e width none open_ =
     kept_past n (report_right r) (sending (probe_ack OpB.ProbeBlock p r n (copy_at e n)) (with_past (Beat.B x ∷ t) e))
     ∙ ap (λ m. sent m (Beat.B x ∷ t)) a.1 in
     rw past (record {
-      requests = λ source. same_pending (Key.RequestSource source) n x a.0 t width a.2 none refl ∙ open_.requests
+      requests = λ source. same_pending (Key.RequestSource source) x t width a.2 none refl ∙ open_.requests
           source;
-      releases = λ source. same_pending (Key.ReleaseSource source) n x a.0 t width a.2 none refl ∙ open_.releases
+      releases = λ source. same_pending (Key.ReleaseSource source) x t width a.2 none refl ∙ open_.releases
           source;
       released = λ source i some. ap (option_map (λ y. block_at y.address))
           (same_release source x a.0 t width a.2.releases_none none) ∙ open_.released source i some;

@@ -30,8 +30,7 @@ AreEnds config event sys h c step = IsEndOf c (abstract_step_by config event ste
 -- an end that is left alone
 pub left_alone : {w : ℕ} (c : ℕ) (h h' : AbstractState w) (e f : Endpoint w) → Leaves c h h' → f ≡ e → IsEndOf c h e
     → IsEndOf c h' f
-left_alone {w} c h h' e f leaves same end = subst (λ (x : Endpoint w). IsEndOf c h' x) (sym same)
-    (end-aside c h.mail h'.mail h.state h'.state e leaves end)
+left_alone {w} c h h' e f leaves same end = subst (λ (x : Endpoint w). IsEndOf c h' x) (sym same) (end-aside leaves end)
 
 -- ---- a client is asked
 
@@ -46,25 +45,27 @@ other_client {w} k c e s ne =
     let there : (b : Bool) → b ≡ false → cond b e (s.clients k) ≡ s.clients k = λ b f. rw f refl in
     there (k == c) (ne_eqb k c ne)
 
-pub asked_ends : {w : ℕ} (config : Config) (log : Log w) (mail : AccessMessages w) (request : ℕ → MessageA w)
-    (s : State (List ℕ)) (sys : System w) (terms : EndConfig) (c k : ℕ)
+pub asked_ends : {w : ℕ} {config : Config} {log : Log w} {mail : AccessMessages w} {request : ℕ → MessageA w}
+    {s : State (List ℕ)} {sys : System w} (terms : EndConfig) (c k : ℕ)
     (o : Op w) → IsWidth w → SimulationRelation config log mail request s sys
     → AreEnds config (Ask c o) sys (shadow_of mail request s) k (replied c (ask.asked terms o (sys.clients c)) sys)
-asked_ends {w} config log mail request s sys terms c k o width h =
+asked_ends {w} {config} {log} {mail} {request} {s} {sys} terms c k o width h =
     let a : ask.Asked w = ask.asked terms o (sys.clients c) in
     let now : (i : ℕ) → (replied c a sys).after.clients i ≡ (with_client c a.after sys).clients i =
     λ i. ap (λ (f : ℕ → Endpoint w). f i)
     (clients-with_messages (handed_by c a.message) (with_client c a.after sys)) in
     elim (cases_eq k c) [
-      | inl same ↦ subst (λ (i : ℕ). AreEnds config (Ask c o) sys (shadow_of mail request s) i (replied c a sys)) (sym same)
+      | inl same ↦ subst (λ (i : ℕ). AreEnds config (Ask c o) sys (shadow_of mail request s) i (replied c a sys))
+          (sym same)
           (subst (λ (x : Endpoint w). IsEndOf c (asked c o a.reply (shadow_of mail request s)) x)
           (sym (now c ∙ own_client c a.after sys))
           (end-asked terms c o (shadow_of mail request s) (sys.clients c) width h.invariant.named
-          (end-matched config log mail request s sys h c)))
-      | inr other ↦ left_alone k (shadow_of mail request s) (asked c o a.reply (shadow_of mail request s)) (sys.clients k)
+          (end-matched h c)))
+      | inr other ↦ left_alone k (shadow_of mail request s) (asked c o a.reply (shadow_of mail request s))
+          (sys.clients k)
           ((replied c a sys).after.clients k)
           (leaves-asked c o a.reply (shadow_of mail request s) k other) (now k ∙ other_client k c a.after sys other)
-          (end-matched config log mail request s sys h k)
+          (end-matched h k)
     ]
 
 -- ---- the manager takes a beat
@@ -99,28 +100,26 @@ on_same Channel.E GrantAck l is = refl
 on_same ch k l is = absurd cc
 
 -- a message that the manager takes leaves all ends alone
-manager_leaves : {w : ℕ} (caching : ℕ → Bool) (config : Config) (tracker c : ℕ) (ch : Channel) (h : AbstractState w)
-    (d : ℕ) (sys : System w) (x : Beat w)
-    (queue : List (Beat w)) → is_to_client ch ≡ false → IsInvariant caching h.state
-    → IsFirst ch c h.mail h.state sys x queue
+manager_leaves : {w : ℕ} {caching : ℕ → Bool} (config : Config) (tracker : ℕ) {c : ℕ} {ch : Channel}
+    (h : AbstractState w) (d : ℕ) {sys : System w} {x : Beat w} {queue : List (Beat w)} → is_to_client ch ≡ false
+    → IsInvariant caching h.state → IsFirst ch c h.mail h.state sys x queue
     → Leaves d h (packet_taken config tracker c (packets_on ch (h.state.link c)) h)
-manager_leaves {w} caching config tracker c ch h d sys x queue down inv first =
+manager_leaves {w} {caching} config tracker {c} {ch} h d down inv first =
     subst (λ (xs : List Packet). Leaves d h (packet_taken config tracker c xs h)) (sym first.tokens)
-    (leaves-at_manager caching config tracker c first.kind first.number first.rest h d
-    (manager_kind ch first.kind down first.own) inv
-    (on_same ch first.kind (h.state.link c) first.own ∙ first.tokens))
+    (leaves-at_manager config tracker c first.kind first.number first.rest h d
+    (manager_kind ch first.kind down first.own) inv (on_same ch first.kind (h.state.link c) first.own ∙ first.tokens))
 
-pub manager_ends : {w : ℕ} (config : Config) (log : Log w) (mail : AccessMessages w) (request : ℕ → MessageA w)
-    (s : State (List ℕ)) (sys : System w) (link : Link)
-    (ch : Channel) (k : ℕ) (x : Beat w) (queue : List (Beat w)) (a : manager.Reception w × manager_end.End w)
-    → IsWidth w
-    → SimulationRelation config log mail request s sys → sys.channels link.0 ch ≡ x ∷ queue → is_to_client ch ≡ false
+pub manager_ends : {w : ℕ} {config : Config} {log : Log w} {mail : AccessMessages w} {request : ℕ → MessageA w}
+    {s : State (List ℕ)} {sys : System w} (link : Link) (ch : Channel) (k : ℕ) (x : Beat w) (queue : List (Beat w))
+    (a : manager.Reception w × manager_end.End w) → IsWidth w → SimulationRelation config log mail request s sys
+    → sys.channels link.0 ch ≡ x ∷ queue → is_to_client ch ≡ false
     → AreEnds config (Deliver link ch) sys (shadow_of mail request s) k (manager_took link.0 ch x queue a sys)
-manager_ends config log mail request s sys link ch k x queue (manager.Refused rule, e) width h beats down =
-    end-matched config log mail request s sys h k
-manager_ends config log mail request s sys link ch k x queue (manager.Stalled, e) width h beats down =
-    end-matched config log mail request s sys h k
-manager_ends {w} config log mail request s sys link ch k x queue (manager.Sent handed, e) width h beats down =
+manager_ends {config} {log} {mail} {request} {s} {sys} link ch k x queue (manager.Refused rule, e) width h beats down =
+    end-matched h k
+manager_ends {config} {log} {mail} {request} {s} {sys} link ch k x queue (manager.Stalled, e) width h beats down =
+    end-matched h k
+manager_ends {w} {config} {log} {mail} {request} {s} {sys} link ch k x queue (manager.Sent handed, e) width h beats
+    down =
     go (is_last (sys.channels link.0 ch) (unfinished ch (receiver ch link.0 sys)))
   where
     before : AbstractState w
@@ -133,14 +132,11 @@ manager_ends {w} config log mail request s sys link ch k x queue (manager.Sent h
     same = cc (clients-with_messages handed (with_manager e (with_channel link.0 ch queue sys)))
 
     go : (b : Bool) → IsEndOf k (if b then packet_taken config tracker link.0 (packets_on ch (s.link link.0)) before
-        else before)
-        ((with_messages handed (with_manager e (with_channel link.0 ch queue sys))).clients k)
-    go true =
-        left_alone k before (packet_taken config tracker link.0 (packets_on ch (s.link link.0)) before) (sys.clients k)
-        ((with_messages handed (with_manager e (with_channel link.0 ch queue sys))).clients k)
-        (manager_leaves (is_caching config) config tracker link.0 ch before k sys x queue down h.invariant
-        (first-token (is_caching config) ch link.0 mail s sys x queue width h.invariant h.carried beats)) same
-        (end-matched config log mail request s sys h k)
+        else before) ((with_messages handed (with_manager e (with_channel link.0 ch queue sys))).clients k)
+    go true = left_alone k before (packet_taken config tracker link.0 (packets_on ch (s.link link.0)) before)
+        (sys.clients k) ((with_messages handed (with_manager e (with_channel link.0 ch queue sys))).clients k)
+        (manager_leaves config tracker before k down h.invariant (first-token (is_caching config) ch link.0 mail s sys x
+        queue width h.invariant h.carried beats)) same (end-matched h k)
     go false = left_alone k before before (sys.clients k)
         ((with_messages handed (with_manager e (with_channel link.0 ch queue sys))).clients k)
-        (leaves-none k before) same (end-matched config log mail request s sys h k)
+        (leaves-none k before) same (end-matched h k)

@@ -50,10 +50,9 @@ comes_else n asked m k rest e is = cc (e, is.1, go k)
     go (suc i) = is.2
 
 -- a client that is probed has no Grant of the block coming
-not_granted : (caching : ℕ → Bool) (c n i : ℕ) (rest : List Packet) (s : State (List ℕ)) → IsInvariant caching s
-    → (s.link c).d ≡ packet Grant i ∷ rest
-    → is_sent ((s.block n).pair c).probing ≡ true → (i == n) ≡ false
-not_granted caching c n i rest s inv first sent = go (i == n) refl
+not_granted : {caching : ℕ → Bool} (c n i : ℕ) (rest : List Packet) {s : State (List ℕ)} → IsInvariant caching s
+    → (s.link c).d ≡ packet Grant i ∷ rest → is_sent ((s.block n).pair c).probing ≡ true → (i == n) ≡ false
+not_granted {caching} c n i rest {s} inv first sent = go (i == n) refl
   where
     go : (z : Bool) → (i == n) ≡ z → z ≡ false
     go false e = refl
@@ -70,12 +69,12 @@ plain : {w : ℕ} (n : ℕ) (asked : ℕ → Option (BeatA w)) (o : OpD) (source
     → (is_grant o && asks_for n (asked source)) ≡ false
 plain n asked o source e = rw e refl
 
-else_answer : {w : ℕ} (config : Config) (log : Log w) (mail : AccessMessages w) (request : ℕ → MessageA w)
-    (s : State (List ℕ)) (sys : System w) (c n i : ℕ)
+else_answer : {w : ℕ} {config : Config} {log : Log w} {mail : AccessMessages w} {request : ℕ → MessageA w}
+    {s : State (List ℕ)} {sys : System w} (c n i : ℕ)
     (rest : List Packet) → SimulationRelation config log mail request s sys → (s.link c).d ≡ packet Answer i ∷ rest
     → IsElse n (asked_by mail s c) (mail.answer c i)
 unfolding IsElse
-else_answer config log mail request s sys c n i rest h first =
+else_answer {config} {mail} {s} c n i rest h first =
     let due = answer-due (is_caching config) c i rest mail s h.invariant (h.answered c i) first in (
       due.answer,
       due.answer_is,
@@ -83,18 +82,18 @@ else_answer config log mail request s sys c n i rest h first =
           (access_kind due.answer.opcode due.answers_access).0,
     )
 
-else_grant : {w : ℕ} (config : Config) (log : Log w) (mail : AccessMessages w) (request : ℕ → MessageA w)
-    (s : State (List ℕ)) (sys : System w) (c n i : ℕ)
+else_grant : {w : ℕ} {config : Config} {log : Log w} {mail : AccessMessages w} {request : ℕ → MessageA w}
+    {s : State (List ℕ)} {sys : System w} (c n i : ℕ)
     (rest : List Packet) → SimulationRelation config log mail request s sys → (s.link c).d ≡ packet Grant i ∷ rest
     → is_sent ((s.block n).pair c).probing ≡ true → IsElse n (asked_by mail s c) (block_message Grant c i (s.block i))
 unfolding IsElse
-else_grant {w} config log mail request s sys c n i rest h first sent =
+else_grant {w} {config} {mail} {s} c n i rest h first sent =
     let due = grant-due (is_caching config) c i rest s h.invariant first in
     let asks = asks-acquire c ((s.block i).source c) i ((s.block i).source c) due.whole due.g mail s due.used due.wants
     refl in
     let elsewhere : asks_for n (asked_by mail s c ((s.block i).source c)) ≡ false =
     ap (asks_for n) asks ∙ ap (λ (j : ℕ). j == n) (same_block i)
-    ∙ not_granted (is_caching config) c n i rest s h.invariant first sent in (
+    ∙ not_granted c n i rest h.invariant first sent in (
       grant_message due.data_too due.k ((s.block i).source c) (s.block i).tracker (s.block i).truth,
       grant-rendered c i s due,
       and_right (is_grant (grant_opcode due.data_too)) (asks_for n (asked_by mail s c ((s.block i).source c)))
@@ -106,19 +105,19 @@ else_ack : {w : ℕ} (mail : AccessMessages w) (s : State (List ℕ)) (c n i : �
 unfolding IsElse block_message
 else_ack mail s c n i = (ack_message ((s.block i).release_source c), refl, refl)
 
-pub not_coming : {w : ℕ} (config : Config) (log : Log w) (mail : AccessMessages w) (request : ℕ → MessageA w)
-    (s : State (List ℕ)) (sys : System w) (c n : ℕ)
+pub not_coming : {w : ℕ} {config : Config} {log : Log w} {mail : AccessMessages w} {request : ℕ → MessageA w}
+    {s : State (List ℕ)} {sys : System w} (c n : ℕ)
     → SimulationRelation config log mail request s sys → is_sent ((s.block n).pair c).probing ≡ true
     → comes_granting n (asked_by mail s c) (unfinished Channel.D (sys.clients c).past) ≡ false
-not_coming {w} config log mail request s sys c n h sent = go (s.link c).d refl (h.carried c Channel.D)
+not_coming {w} {config} {log} {mail} {request} {s} {sys} c n h sent = go (s.link c).d refl (h.carried c Channel.D)
   where
     rest_now : List (Beat w)
     rest_now = unfinished Channel.D (sys.clients c).past
 
     elses : (k : Kind) (i : ℕ) (rest : List Packet) → (s.link c).d ≡ packet k i ∷ rest → is_on Channel.D k ≡ true
         → IsElse n (asked_by mail s c) (message_of_kind k mail s c i)
-    elses Answer i rest first own = else_answer config log mail request s sys c n i rest h first
-    elses Grant i rest first own = else_grant config log mail request s sys c n i rest h first sent
+    elses Answer i rest first own = else_answer c n i rest h first
+    elses Grant i rest first own = else_grant c n i rest h first sent
     elses ReleaseAck i rest first own = else_ack mail s c n i
     elses k i rest first own = absurd cc
 
@@ -174,24 +173,25 @@ one_beat : (w n : ℕ) (k : Cap) → beats_of (probe_of_block {w = w} n k) ≡ 1
 one_beat w n k = refl
 
 -- the beat of a Probe that comes
-pub probe-beat : {w : ℕ} (c n : ℕ) (s : State (List ℕ)) (x : Beat w) (rest : List (Beat w)) (ms : List (Message w))
-    (queue : List (Beat w)) → IsNext x rest (block_message Probe c n (s.block n)) ms queue
+pub probe-beat : {w : ℕ} (c n : ℕ) (s : State (List ℕ)) {x : Beat w} {rest : List (Beat w)} {ms : List (Message w)}
+    {queue : List (Beat w)} → IsNext x rest (block_message Probe c n (s.block n)) ms queue
     → x ≡ Beat.B (probe_beat n (cap_sent ((s.block n).pair c).probing))
-probe-beat {w} c n s x rest ms queue next =
+probe-beat {w} c n s {x} {rest} {ms} {queue} next =
     let k = cap_sent ((s.block n).pair c).probing in
     let here : IsNext x rest (probe_of_block n k) ms queue = subst (λ (m : Message w). IsNext x rest m ms queue)
     (probe_rendered c n s) next in
     here.beat_is ∙ ap (beat_of (probe_of_block n k)) (first_beat here.k (beats_of (probe_of_block {w = w} n k))
     here.within (one_beat w n k))
 
-pub probe-delivered : {w : ℕ} (config : Config) (log : Log w) (mail : AccessMessages w) (request : ℕ → MessageA w)
-    (s : State (List ℕ)) (sys : System w) (terms : EndConfig)
-    (tracker c n : ℕ) (rest : List Packet) (ms : List (Message w)) (x : Beat w) (queue : List (Beat w))
+pub probe-delivered : {w : ℕ} {config : Config} {log : Log w} {mail : AccessMessages w} {request : ℕ → MessageA w}
+    {s : State (List ℕ)} {sys : System w} (terms : EndConfig)
+    (tracker c n : ℕ) (rest : List Packet) {ms : List (Message w)} {x : Beat w} {queue : List (Beat w)}
     → IsWidth w → SimulationRelation config log mail request s sys → terms_at config c ≡ Some terms
     → sys.channels c Channel.B ≡ x ∷ queue → (s.link c).b ≡ packet Probe n ∷ rest
     → IsNext x (unfinished Channel.B (sys.clients c).past) (block_message Probe c n (s.block n)) ms queue
     → IsProbed config terms tracker c n (shadow_of mail request s) x (sys.clients c)
-probe-delivered {w} config log mail request s sys terms tracker c n rest ms x queue width h at beats first next =
+probe-delivered {w} {config} {log} {mail} {request} {s} {sys} terms tracker c n rest {ms} {x} {queue} width h at beats
+    first next =
     let sent : is_sent ((s.block n).pair c).probing ≡ true = holds-first Probe (s.link c).b rest (packet Probe n)
     (λ i. shown Probe c (s.block i)) first refl (h.invariant.transfers c Probe refl) in
     let before : x ≡ Beat.B (probe_beat n k) → broken_before terms Channel.B x e ≡ None =
@@ -201,7 +201,7 @@ probe-delivered {w} config log mail request s sys terms tracker c n rest ms x qu
     let taken_is : is_unreleased ((s.block n).pair c).letting ≡ true → offered terms Channel.B (Beat.B (probe_beat n k))
     e ≡ probed (probe_beat n k) n (held_at e n) e =
     λ kept. cc (probe-taken terms n k e (h.live c) lawful inside end.kept.b_whole (end.known.releases n
-    ∙ ap not kept) (end.known.probes n) (end.known.grants n ∙ not_coming config log mail request s sys c n h sent))
+    ∙ ap not kept) (end.known.probes n) (end.known.grants n ∙ not_coming c n h sent))
     in
     let same_taken = ap (λ (i : ℕ). probed (probe_beat n k) i (held_at e i) e) (same_block n) in
     let takes : is_unreleased ((s.block n).pair c).letting ≡ true → offered terms Channel.B x e ≡ taken x e =
@@ -218,7 +218,7 @@ probe-delivered {w} config log mail request s sys terms tracker c n rest ms x qu
     (shadow_of mail request s)) (taken x e).after = λ kept. subst (λ (xs : List Packet). IsEndOf c (packet_taken
     config tracker c xs (shadow_of mail request s)) (taken x e).after) (sym first) (subst (λ (o : Offered w).
     IsEndOf c (kind_taken config tracker c Probe n rest (shadow_of mail request s)) o.after) (sym (ap (λ (y : Beat
-    w). taken y e) beat_is ∙ same_taken)) (end-probe_taken c n k rest mail s e width (well kept) end)) in
+    w). taken y e) beat_is ∙ same_taken)) (end-probe_taken n k rest mail width (well kept) end)) in
     record {
       beat_is = beat_is;
       whole = whole;
@@ -236,10 +236,10 @@ probe-delivered {w} config log mail request s sys terms tracker c n rest ms x qu
     k = cap_sent ((s.block n).pair c).probing
 
     end : IsEnd (asked_by mail s c) c s e
-    end = end-matched config log mail request s sys h c
+    end = end-matched h c
 
     beat_is : x ≡ Beat.B (probe_beat n k)
-    beat_is = probe-beat c n s x (unfinished Channel.B e.past) ms queue next
+    beat_is = probe-beat c n s next
 
     whole : completes x (unfinished Channel.B e.past) ≡ true
     whole =
@@ -250,31 +250,23 @@ probe-delivered {w} config log mail request s sys terms tracker c n rest ms x qu
     is = terms-are config c terms at
 
     lawful_at : level_of config c ≡ Some terms.level → manager.illegal_at (level_of config c) x ≡ None
-        → x ≡ Beat.B (probe_beat n k)
-        → illegal terms.level Channel.B (Beat.B (probe_beat {w = w} n k)) ≡ None
+        → x ≡ Beat.B (probe_beat n k) → illegal terms.level Channel.B (Beat.B (probe_beat {w = w} n k)) ≡ None
     lawful_at f g i = cc (f, i, g)
 
     lawful : illegal terms.level Channel.B (Beat.B (probe_beat {w = w} n k)) ≡ None
-    lawful = lawful_at is.level (sound-beat config log mail request s sys c Channel.B x queue h beats).lawful beat_is
+    lawful = lawful_at is.level (sound-beat c Channel.B x queue h beats).lawful beat_is
 
     inside : nat_le terms.blocks n ≡ false
-    inside = cc (
-      is.blocks,
-      same_block n,
-      beat_is,
-      (sound-beat config log mail request s sys c Channel.B x queue h
-          beats).inside,
-    )
+    inside = cc (is.blocks, same_block n, beat_is, (sound-beat c Channel.B x queue h beats).inside)
 
 -- ---- all of channel B
 
-pub delivered-b : {w : ℕ} (config : Config) (log : Log w) (mail : AccessMessages w) (request : ℕ → MessageA w)
-    (s : State (List ℕ)) (sys : System w) (terms : EndConfig)
-    (tracker c : ℕ) (x : Beat w) (queue : List (Beat w)) → IsWidth w
-    → SimulationRelation config log mail request s sys → terms_at config c ≡ Some terms
-    → sys.channels c Channel.B ≡ x ∷ queue
-    → (n : ℕ) × IsProbed config terms tracker c n (shadow_of mail request s) x (sys.clients c)
-delivered-b {w} config log mail request s sys terms tracker c x queue width h at beats =
+pub delivered-b : {w : ℕ} {config : Config} {log : Log w} {mail : AccessMessages w} {request : ℕ → MessageA w}
+    {s : State (List ℕ)} {sys : System w} (terms : EndConfig) (tracker c : ℕ) (x : Beat w) (queue : List (Beat w))
+    → IsWidth w → SimulationRelation config log mail request s sys → terms_at config c ≡ Some terms
+    → sys.channels c Channel.B ≡ x ∷ queue → (n : ℕ) × IsProbed config terms tracker c n (shadow_of mail request s) x
+    (sys.clients c)
+delivered-b {w} {config} {log} {mail} {request} {s} {sys} terms tracker c x queue width h at beats =
     go first.kind first.number first.tokens first.own first.next
   where
     first : IsFirst Channel.B c mail s sys x queue
@@ -284,9 +276,5 @@ delivered-b {w} config log mail request s sys terms tracker c x queue width h at
         → IsNext x (unfinished Channel.B (sys.clients c).past) (message_of_kind k mail s c i)
         (map (message_of mail s c) first.rest) queue
         → (n : ℕ) × IsProbed config terms tracker c n (shadow_of mail request s) x (sys.clients c)
-    go Probe i tokens own next = (
-      i,
-      probe-delivered config log mail request s sys terms tracker c i first.rest
-          (map (message_of mail s c) first.rest) x queue width h at beats tokens next,
-    )
+    go Probe i tokens own next = (i, probe-delivered terms tracker c i first.rest width h at beats tokens next)
     go k i tokens own next = absurd cc

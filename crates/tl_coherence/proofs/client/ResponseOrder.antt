@@ -19,10 +19,8 @@ rules : (asked sized amiss twice : Bool) → asked ≡ true → sized ≡ true �
 rules asked sized amiss twice e f g h = rw (e, f, g, h) refl
 
 begun : {w : ℕ} (p : Profile) (x : BeatD w) (t : History w) → unfinished Channel.D t ≡ [] → has_request x t ≡ true
-    → (x.size == size_asked x t) ≡ true
-    → (is_grant x.opcode && misgrants p x (request_of x.source t) t) ≡ false
-    → (is_grant x.opcode && pending (GrantSink x.sink) t) ≡ false
-    → broken_in_order p (Beat.D x) t ≡ None
+    → (x.size == size_asked x t) ≡ true → (is_grant x.opcode && misgrants p x (request_of x.source t) t) ≡ false
+    → (is_grant x.opcode && pending (GrantSink x.sink) t) ≡ false → broken_in_order p (Beat.D x) t ≡ None
 unfolding broken_order
 begun p x t none asked sized fits once = rw none (rules (has_request x t) (x.size == size_asked x t)
     (is_grant x.opcode && misgrants p x (request_of x.source t) t) (is_grant x.opcode && pending (GrantSink x.sink) t)
@@ -40,28 +38,26 @@ pub record IsResponse {w : ℕ} (x : BeatD w) (r : BeatA w) (t : History w) : Ty
   pub admits : answers x.opcode r.opcode ≡ true
   pub size : x.size ≡ r.size
 
-asked_for : {w : ℕ} (x : BeatD w) (r : BeatA w) (t : History w) → IsResponse x r t → has_request x t ≡ true
-asked_for x r t is = rw (is.other, is.live, is.complete, is.request) is.admits
+asked_for : {w : ℕ} {x : BeatD w} {r : BeatA w} {t : History w} → IsResponse x r t → has_request x t ≡ true
+asked_for is = rw (is.other, is.live, is.complete, is.request) is.admits
 
-size_for : {w : ℕ} (x : BeatD w) (r : BeatA w) (t : History w) → IsResponse x r t → (x.size == size_asked x t) ≡ true
-size_for x r t is = rw (is.other, is.request, is.size) (same_number r.size)
+size_for : {w : ℕ} {x : BeatD w} {r : BeatA w} {t : History w} → IsResponse x r t → (x.size == size_asked x t) ≡ true
+size_for {r} is = rw (is.other, is.request, is.size) (same_number r.size)
 
-pub answer-legal : {w : ℕ} (p : Profile) (x : BeatD w) (r : BeatA w) (t : History w) → IsResponse x r t
+pub answer-legal : {w : ℕ} (p : Profile) {x : BeatD w} {r : BeatA w} {t : History w} → IsResponse x r t
     → is_grant x.opcode ≡ false → broken_in_order p (Beat.D x) t ≡ None
-answer-legal p x r t is plain = begun p x t is.whole (asked_for x r t is) (size_for x r t is) (rw plain refl)
-    (rw plain refl)
+answer-legal p {x} {r} {t} is plain = begun p x t is.whole (asked_for is) (size_for is) (rw plain refl) (rw plain refl)
 
 -- a Grant of block n gives what was asked for, to a client that gets data or has a copy, and nothing
 -- of the block is probed
-pub grant-legal : {w : ℕ} (p : Profile) (n : ℕ) (x : BeatD w) (r : BeatA w) (t : History w) → IsResponse x r t
+pub grant-legal : {w : ℕ} (p : Profile) (n : ℕ) {x : BeatD w} {r : BeatA w} {t : History w} → IsResponse x r t
     → block_at r.address ≡ n → fits_grow p r.opcode r.param x.param ≡ true
     → (is_grant_without_data x.opcode && (is_acquire_block r.opcode && not (same_perm (held n t) Perm.Branch))) ≡ false
-    → pending (ProbeOf n) t ≡ false → pending (GrantSink x.sink) t ≡ false
-    → broken_in_order p (Beat.D x) t ≡ None
-grant-legal {w} p n x r t is block fits carried unprobed once =
+    → pending (ProbeOf n) t ≡ false → pending (GrantSink x.sink) t ≡ false → broken_in_order p (Beat.D x) t ≡ None
+grant-legal {w} p n {x} {r} {t} is block fits carried unprobed once =
     let grants : misgrants p x (request_of x.source t) t ≡ false = rw (is.request, block, fits, carried, unprobed) refl
     in
-    begun p x t is.whole (asked_for x r t is) (size_for x r t is) (never (is_grant x.opcode) grants)
+    begun p x t is.whole (asked_for is) (size_for is) (never (is_grant x.opcode) grants)
     (never (is_grant x.opcode) once)
   where
     never : (a : Bool) {b : Bool} → b ≡ false → (a && b) ≡ false
@@ -76,10 +72,9 @@ release_size n None e = absurd cc
 release_size n (Some y) e = same_Some y.size n e
 
 pub ack-legal : {w : ℕ} (p : Profile) (x : BeatD w) (t : History w) → unfinished Channel.D t ≡ []
-    → comes_in_release x.source (unfinished Channel.C t) ≡ false
-    → x.opcode ≡ OpD.ReleaseAck → pending (ReleaseSource x.source) t ≡ true
-    → option_map (λ (y : BeatC w). y.size) (release_of x.source t) ≡ Some x.size
-    → broken_in_order p (Beat.D x) t ≡ None
+    → comes_in_release x.source (unfinished Channel.C t) ≡ false → x.opcode ≡ OpD.ReleaseAck
+    → pending (ReleaseSource x.source) t ≡ true → option_map (λ (y : BeatC w). y.size) (release_of x.source t)
+    ≡ Some x.size → broken_in_order p (Beat.D x) t ≡ None
 ack-legal {w} p x t none complete opcode live size =
     let acks : is_release_ack x.opcode ≡ true = ap (λ (o : OpD). is_release_ack o) opcode in
     let plain : is_grant x.opcode ≡ false = ap (λ (o : OpD). is_grant o) opcode in

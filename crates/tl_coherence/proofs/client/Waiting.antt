@@ -53,8 +53,7 @@ replaced {w} n new block m request here others i = elim (cases_eq i n) [
 ]
 
 kept : {w : ℕ} (n : ℕ) (new : Block (List ℕ)) (block : ℕ → Block (List ℕ)) (request : ℕ → MessageA w)
-    → IsAcquireOf n new new.service (request n)
-    → AreAcquired request block → AreAcquired request (set n new block)
+    → IsAcquireOf n new new.service (request n) → AreAcquired request block → AreAcquired request (set n new block)
 kept {w} n new block request here others i = elim (cases_eq i n) [
   | inl same ↦ subst (λ (j : ℕ). IsAcquireOf j (set n new block j) (set n new block j).service (request j)) (sym same)
       (rw (set-same n new block) here)
@@ -103,8 +102,7 @@ access_taken-acquired c source tracker m true (Some k) rest h is =
     h.state.block m h.request tt is
 access_taken-acquired c source tracker m p o rest h is =
     unmoved (block_at m.address) (performed_block (performs m) (h.state.block (block_at m.address))) h.state.block
-    h.request refl
-    (λ r from k e. (refl, refl)) is
+    h.request refl (λ r from k e. (refl, refl)) is
 
 request_taken-acquired : {w : ℕ} (clients c source tracker : ℕ) (v : Message w) (rest : List Packet)
     (h : AbstractState w) → AreAcquired h.request h.state.block
@@ -116,8 +114,7 @@ request_taken-acquired clients c source tracker (Message.A m) rest h is =
 request_taken-acquired clients c source tracker v rest h is = is
 
 acquire_taken-acquired : {w : ℕ} (clients : ℕ) (p : Profile) (c n tracker : ℕ) (x : AcquirePhase) (rest : List Packet)
-    (h : AbstractState w)
-    → ((h.state.block n).pair c).acquiring ≡ x → AreAcquired h.request h.state.block
+    (h : AbstractState w) → ((h.state.block n).pair c).acquiring ≡ x → AreAcquired h.request h.state.block
     → AreAcquired (acquire_taken clients p c n x tracker rest h).request
     (acquire_taken clients p c n x tracker rest h).state.block
 acquire_taken-acquired clients p c n tracker NoAcquire rest h wants is = is
@@ -133,8 +130,7 @@ acquire_taken-acquired {w} clients p c n tracker (AcquireOpen whole g) rest h wa
     given : Cap
     given = gift p whole g (is_unheld clients b.pair)
 
-    go : (x : Bool)
-        → AreAcquired (set n m h.request) (if x then acquire_served c n (b.source c) tracker
+    go : (x : Bool) → AreAcquired (set n m h.request) (if x then acquire_served c n (b.source c) tracker
         (cap_asked (AcquireOpen whole g)) rest h.state else acquire_granted c n tracker
         (is_granted_data whole g (b.pair c).recorded) given rest h.state).block
     go true = replaced n (served_block c true (b.source c) tracker (cap_asked (AcquireOpen whole g)) b) h.state.block m
@@ -152,8 +148,7 @@ granted_after-acquired clients p c q n r NoAcquire rest h is = is
 granted_after-acquired clients p c q n r (AcquireOpen whole g) rest h is =
     kept n (granted_block c q r (is_granted_data whole g ((h.state.block n).pair q).recorded)
     (gift p whole g (is_unheld clients (set c (after_report r ((h.state.block n).pair c)) (h.state.block n).pair)))
-    (h.state.block n)) h.state.block
-    h.request tt is
+    (h.state.block n)) h.state.block h.request tt is
 
 last_taken-acquired : {w : ℕ} (clients : ℕ) (p : Profile) (c n : ℕ) (r : Report) (v : Service) (rest : List Packet)
     (h : AbstractState w) → AreAcquired h.request h.state.block
@@ -170,11 +165,9 @@ ack_taken-acquired : {w : ℕ} (clients : ℕ) (p : Profile) (c n : ℕ) (r : Re
 ack_taken-acquired {w} clients p c n r rest h is =
     go (some_below clients (λ d. not (d == c) && not (is_unprobed ((h.state.block n).pair d).probing)))
   where
-    go : (x : Bool)
-        → AreAcquired (if x then with_state (report_taken c n r rest h.state) h else last_taken clients p c n r
-        (h.state.block n).service rest h).request
-        (if x then with_state (report_taken c n r rest h.state) h else last_taken clients p c n r
-        (h.state.block n).service rest h).state.block
+    go : (x : Bool) → AreAcquired (if x then with_state (report_taken c n r rest h.state) h else last_taken clients p c
+        n r (h.state.block n).service rest h).request (if x then with_state (report_taken c n r rest h.state) h else
+        last_taken clients p c n r (h.state.block n).service rest h).state.block
     go true = unmoved n (reported_block c r (h.state.block n)) h.state.block h.request refl
         (unwanting c (after_report r ((h.state.block n).pair c)) (h.state.block n)
         (reported_block c r (h.state.block n)) (λ d. refl) refl (λ d. refl)) is
@@ -201,37 +194,34 @@ kind_taken-acquired config tracker c Acquire n rest h is = acquire_taken-acquire
     config.profile c n tracker ((h.state.block n).pair c).acquiring rest h refl is
 kind_taken-acquired config tracker c Probe n rest h is =
     unmoved n (probed_block c (cap_sent ((h.state.block n).pair c).probing) (h.state.block n)) h.state.block h.request
-    refl
-    (unwanting c (after_probe (cap_sent ((h.state.block n).pair c).probing) ((h.state.block n).pair c))
-    (h.state.block n)
-    (probed_block c (cap_sent ((h.state.block n).pair c).probing) (h.state.block n)) (λ d. refl) refl (λ d. refl)) is
+    refl (unwanting c (after_probe (cap_sent ((h.state.block n).pair c).probing) ((h.state.block n).pair c))
+    (h.state.block n) (probed_block c (cap_sent ((h.state.block n).pair c).probing) (h.state.block n)) (λ d. refl) refl
+    (λ d. refl)) is
 kind_taken-acquired config tracker c ProbeAck n rest h is =
     ack_taken-acquired (length config.clients.items) config.profile c n (report_told ((h.state.block n).pair c).probing)
     rest h is
 kind_taken-acquired config tracker c Release n rest h is =
     unmoved n (let_block c (prune_told ((h.state.block n).pair c).letting) (h.state.block n)) h.state.block h.request
-    refl
-    (unwanting c (after_release_taken (prune_told ((h.state.block n).pair c).letting) ((h.state.block n).pair c))
-    (h.state.block n)
-    (let_block c (prune_told ((h.state.block n).pair c).letting) (h.state.block n)) (λ d. refl) refl (λ d. refl)) is
+    refl (unwanting c (after_release_taken (prune_told ((h.state.block n).pair c).letting) ((h.state.block n).pair c))
+    (h.state.block n) (let_block c (prune_told ((h.state.block n).pair c).letting) (h.state.block n)) (λ d. refl) refl
+    (λ d. refl)) is
 kind_taken-acquired config tracker c Answer source rest h is = is
 kind_taken-acquired config tracker c Grant n rest h is = taken_by_client-acquired c n (h.state.block n).service rest h
     is
-kind_taken-acquired config tracker c ReleaseAck n rest h is =
-    unmoved n (let_go_block c (h.state.block n)) h.state.block h.request refl
-    (unwanting c (after_release_ack ((h.state.block n).pair c)) (h.state.block n) (let_go_block c (h.state.block n))
-    (λ d. refl) refl (λ d. refl)) is
+kind_taken-acquired config tracker c ReleaseAck n rest h is = unmoved n (let_go_block c (h.state.block n)) h.state.block
+    h.request refl (unwanting c (after_release_ack ((h.state.block n).pair c)) (h.state.block n)
+    (let_go_block c (h.state.block n)) (λ d. refl) refl (λ d. refl)) is
 kind_taken-acquired config tracker c GrantAck n rest h is = kept n (freed_block (h.state.block n)) h.state.block
     h.request tt is
 
 -- ---- operations that are asked
 
 -- a client that has none open asks for another Acquire
-acquiring-acquired : {w : ℕ} (caching : ℕ → Bool) (c n source : ℕ) (whole : Bool) (g : Grow) (bytes : List ℕ)
+acquiring-acquired : {w : ℕ} {caching : ℕ → Bool} (c n source : ℕ) (whole : Bool) (g : Grow) (bytes : List ℕ)
     (h : AbstractState w) → IsInvariant caching h.state
     → ((h.state.block n).pair c).acquiring ≡ NoAcquire → AreAcquired h.request h.state.block
     → AreAcquired h.request (set n (acquiring_block c source whole g bytes (h.state.block n)) h.state.block)
-acquiring-acquired {w} caching c n source whole g bytes h inv calm is =
+acquiring-acquired {w} c n source whole g bytes h inv calm is =
     let keeps : KeepsOpen b (acquiring_block c source whole g bytes b) =
     λ r from k e. (
       ap (λ (p : ClientBlock). p.acquiring) (set-other c r (after_acquire whole g (b.pair c)) b.pair
@@ -250,46 +240,44 @@ acquiring-acquired {w} caching c n source whole g bytes h inv calm is =
         let no : false ≡ true = rw calm at here in
         cc
 
-pub asked-acquired : {w : ℕ} (caching : ℕ → Bool) (c : ℕ) (o : Op w) (r : Reply) (h : AbstractState w)
+pub asked-acquired : {w : ℕ} {caching : ℕ → Bool} (c : ℕ) (o : Op w) (r : Reply) (h : AbstractState w)
     → IsInvariant caching h.state → IsAskable caching c o r h
     → AreAcquired h.request h.state.block → AreAcquired (asked c o r h).request (asked c o r h).state.block
-asked-acquired caching c (Op.Store address size value) Reply.Stored h inv may is =
+asked-acquired c (Op.Store address size value) Reply.Stored h inv may is =
     unmoved (block_at address)
     (stored_block c (copy_stored address size value ((h.state.block (block_at address)).copy c))
-    (h.state.block (block_at address)))
-    h.state.block h.request refl (λ r from k e. (refl, refl)) is
-asked-acquired caching c (Op.Acquire n g) (Reply.Started source) h inv may is =
-    acquiring-acquired caching c n source false g ((h.state.block n).waiting c) h inv may.2 is
-asked-acquired caching c (Op.AcquireWhole n bytes) (Reply.Started source) h inv may is =
-    acquiring-acquired caching c n source true (whole_grow ((h.state.block n).pair c).held) bytes h inv may.2 is
-asked-acquired caching c (Op.Release n p) (Reply.Started source) h inv may is =
+    (h.state.block (block_at address))) h.state.block h.request refl (λ r from k e. (refl, refl)) is
+asked-acquired {caching} c (Op.Acquire n g) (Reply.Started source) h inv may is =
+    acquiring-acquired c n source false g ((h.state.block n).waiting c) h inv may.2 is
+asked-acquired {caching} c (Op.AcquireWhole n bytes) (Reply.Started source) h inv may is =
+    acquiring-acquired c n source true (whole_grow ((h.state.block n).pair c).held) bytes h inv may.2 is
+asked-acquired c (Op.Release n p) (Reply.Started source) h inv may is =
     unmoved n (releasing_block c source p (h.state.block n)) h.state.block h.request refl
     (unwanting c (after_release p ((h.state.block n).pair c)) (h.state.block n)
-    (releasing_block c source p (h.state.block n)) (λ d. refl) refl (λ d. refl))
-    is
-asked-acquired caching c (Op.Access (Message.A m)) (Reply.Started source) h inv may is = is
-asked-acquired caching c (Op.Access (Message.A m)) (Reply.Value v) h inv may is = is
-asked-acquired caching c (Op.Access (Message.A m)) Reply.Stored h inv may is = is
-asked-acquired caching c (Op.Access (Message.A m)) Reply.Miss h inv may is = is
-asked-acquired caching c (Op.Access (Message.A m)) (Reply.Busy why) h inv may is = is
-asked-acquired caching c (Op.Access (Message.B m)) r h inv may is = is
-asked-acquired caching c (Op.Access (Message.C m)) r h inv may is = is
-asked-acquired caching c (Op.Access (Message.D m)) r h inv may is = is
-asked-acquired caching c (Op.Access (Message.E m)) r h inv may is = is
-asked-acquired caching c (Op.Load address size) r h inv may is = is
-asked-acquired caching c (Op.Store address size value) (Reply.Value v) h inv may is = is
-asked-acquired caching c (Op.Store address size value) Reply.Miss h inv may is = is
-asked-acquired caching c (Op.Store address size value) (Reply.Started source) h inv may is = is
-asked-acquired caching c (Op.Store address size value) (Reply.Busy why) h inv may is = is
-asked-acquired caching c (Op.Acquire n g) (Reply.Value v) h inv may is = is
-asked-acquired caching c (Op.Acquire n g) Reply.Stored h inv may is = is
-asked-acquired caching c (Op.Acquire n g) Reply.Miss h inv may is = is
-asked-acquired caching c (Op.Acquire n g) (Reply.Busy why) h inv may is = is
-asked-acquired caching c (Op.AcquireWhole n bytes) (Reply.Value v) h inv may is = is
-asked-acquired caching c (Op.AcquireWhole n bytes) Reply.Stored h inv may is = is
-asked-acquired caching c (Op.AcquireWhole n bytes) Reply.Miss h inv may is = is
-asked-acquired caching c (Op.AcquireWhole n bytes) (Reply.Busy why) h inv may is = is
-asked-acquired caching c (Op.Release n p) (Reply.Value v) h inv may is = is
-asked-acquired caching c (Op.Release n p) Reply.Stored h inv may is = is
-asked-acquired caching c (Op.Release n p) Reply.Miss h inv may is = is
-asked-acquired caching c (Op.Release n p) (Reply.Busy why) h inv may is = is
+    (releasing_block c source p (h.state.block n)) (λ d. refl) refl (λ d. refl)) is
+asked-acquired c (Op.Access (Message.A m)) (Reply.Started source) h inv may is = is
+asked-acquired c (Op.Access (Message.A m)) (Reply.Value v) h inv may is = is
+asked-acquired c (Op.Access (Message.A m)) Reply.Stored h inv may is = is
+asked-acquired c (Op.Access (Message.A m)) Reply.Miss h inv may is = is
+asked-acquired c (Op.Access (Message.A m)) (Reply.Busy why) h inv may is = is
+asked-acquired c (Op.Access (Message.B m)) r h inv may is = is
+asked-acquired c (Op.Access (Message.C m)) r h inv may is = is
+asked-acquired c (Op.Access (Message.D m)) r h inv may is = is
+asked-acquired c (Op.Access (Message.E m)) r h inv may is = is
+asked-acquired c (Op.Load address size) r h inv may is = is
+asked-acquired c (Op.Store address size value) (Reply.Value v) h inv may is = is
+asked-acquired c (Op.Store address size value) Reply.Miss h inv may is = is
+asked-acquired c (Op.Store address size value) (Reply.Started source) h inv may is = is
+asked-acquired c (Op.Store address size value) (Reply.Busy why) h inv may is = is
+asked-acquired c (Op.Acquire n g) (Reply.Value v) h inv may is = is
+asked-acquired c (Op.Acquire n g) Reply.Stored h inv may is = is
+asked-acquired c (Op.Acquire n g) Reply.Miss h inv may is = is
+asked-acquired c (Op.Acquire n g) (Reply.Busy why) h inv may is = is
+asked-acquired c (Op.AcquireWhole n bytes) (Reply.Value v) h inv may is = is
+asked-acquired c (Op.AcquireWhole n bytes) Reply.Stored h inv may is = is
+asked-acquired c (Op.AcquireWhole n bytes) Reply.Miss h inv may is = is
+asked-acquired c (Op.AcquireWhole n bytes) (Reply.Busy why) h inv may is = is
+asked-acquired c (Op.Release n p) (Reply.Value v) h inv may is = is
+asked-acquired c (Op.Release n p) Reply.Stored h inv may is = is
+asked-acquired c (Op.Release n p) Reply.Miss h inv may is = is
+asked-acquired c (Op.Release n p) (Reply.Busy why) h inv may is = is

@@ -133,17 +133,15 @@ reply-cases P (Op.Access (Message.E x)) Reply.Miss is stored acquires stores rel
     others (Op.Access (Message.E x)) Reply.Miss (λ c h. (refl, λ m e. e))
 reply-cases P (Op.Access (Message.E x)) (Reply.Busy why) is stored acquires stores releases accesses others =
     others (Op.Access (Message.E x)) (Reply.Busy why) (λ c h. (refl, λ m e. e))
-reply-cases P o (Reply.Started source) is stored acquires stores releases accesses others =
-    absurd is
+reply-cases P o (Reply.Started source) is stored acquires stores releases accesses others = absurd is
 
 -- ---- channels
 
 rendered_acquiring : {w : ℕ} (c n source : ℕ) (whole : Bool) (g : Grow) (bytes : List ℕ) (b : Block (List ℕ))
     → block_message {w = w} Acquire c n (acquiring_block c source whole g bytes b) ≡ Message.A
     (acquisition (acquire_opcode whole) g source n)
-rendered_acquiring {w} c n source whole g bytes b =
-    rendered-acquire c n (acquiring_block c source whole g bytes b) whole g
-    (ap (λ (p : ClientBlock). p.acquiring) (set-same c (after_acquire whole g (b.pair c)) b.pair))
+rendered_acquiring {w} c n source whole g bytes b = rendered-acquire c n (acquiring_block c source whole g bytes b)
+    whole g (ap (λ (p : ClientBlock). p.acquiring) (set-same c (after_acquire whole g (b.pair c)) b.pair))
     ∙ ap (λ (i : ℕ). Message.A (acquisition {w = w} (acquire_opcode whole) g i n)) (set-same c source b.source)
 
 rendered_releasing : {w : ℕ} (c n source : ℕ) (p : Prune) (b : Block (List ℕ))
@@ -202,8 +200,7 @@ carried_asked {w} config log h sys c o r width is may_be =
         (with_messages (handed_by c x) (with_client c e sys))) f i
 
     carried_as : (m n : Option (Message w)) (mail : AccessMessages w) (z : State (List ℕ)) (e : client.Endpoint w)
-        → m ≡ n
-        → ChannelRelation mail z (with_messages (handed_by c n) (with_client c e sys))
+        → m ≡ n → ChannelRelation mail z (with_messages (handed_by c n) (with_client c e sys))
         → ChannelRelation mail z (with_messages (handed_by c m) (with_client c e sys))
     carried_as m n mail z e f i =
         subst (λ (x : Option (Message w)). ChannelRelation mail z (with_messages (handed_by c x) (with_client c e sys)))
@@ -231,15 +228,14 @@ carried_asked {w} config log h sys c o r width is may_be =
         (carried_as m None _ _ e none (nothing_asked-carried (is_caching config) c h.mail s sys _ width is.invariant
         (handed_as m None e none queued) is.carried))
 
-pub carried-ask : {w : ℕ} (config : Config) (log : Log w) (h : AbstractState w) (sys : System w) (c : ℕ)
-    (terms : client.EndConfig) (o : Op w) → IsWidth w
-    → SimulationRelation config log h.mail h.request h.state sys → terms_at config c ≡ Some terms
-    → ChannelRelation (asked c o (ask.asked terms o (sys.clients c)).reply h).mail
+pub carried-ask : {w : ℕ} {config : Config} {log : Log w} (h : AbstractState w) {sys : System w} (c : ℕ)
+    (terms : client.EndConfig) (o : Op w) → IsWidth w → SimulationRelation config log h.mail h.request h.state sys
+    → terms_at config c ≡ Some terms → ChannelRelation (asked c o (ask.asked terms o (sys.clients c)).reply h).mail
     (asked c o (ask.asked terms o (sys.clients c)).reply h).state (stepped config (Ask c o) sys).after
-carried-ask {w} config log h sys c terms o width is known =
+carried-ask {w} {config} {log} h {sys} c terms o width is known =
     let x = ask.asked terms o (sys.clients c) in
     let well = asked-well config log h sys c terms o width is known in
-    let inv = asked-kept (is_caching config) c o x.reply h is.invariant well.may in
+    let inv = asked-kept c o x.reply h is.invariant well.may in
     subst (λ (y : Step w). ChannelRelation (asked c o x.reply h).mail (asked c o x.reply h).state y.after)
     (sym (stepped-asked config c o sys terms known))
     (carried_asked config log h sys c o x.reply width is well.reply x.message x.after well.may inv well.message
@@ -264,7 +260,7 @@ none_answered {w} c o r h m may_be =
     released Prune.TtoB source n bytes e = rw e refl
     released p source n bytes e = rw e refl
 
-pub beside-ask : {w : ℕ} (config : Config) (log : Log w) (h : AbstractState w) (c : ℕ) (terms : client.EndConfig)
+pub beside-ask : {w : ℕ} {config : Config} {log : Log w} (h : AbstractState w) (c : ℕ) (terms : client.EndConfig)
     (o : Op w) → IsWidth w
     → SimulationRelation config log h.mail h.request h.state (system_after config log) → terms_at config c ≡ Some terms
     → MemoryRelation (asked c o (ask.asked terms o ((system_after config log).clients c)).reply h).mail
@@ -272,7 +268,7 @@ pub beside-ask : {w : ℕ} (config : Config) (log : Log w) (h : AbstractState w)
     (one_memory_after config ((Ask c o, Outcome.Replied (ask.asked terms o ((system_after config log).clients c)).reply)
     ∷ log))
 unfolding one_memory_after performing
-beside-ask {w} config log h c terms o width is known =
+beside-ask {w} {config} {log} h c terms o width is known =
     let sys = system_after config log in
     let x = ask.asked terms o (sys.clients c) in
     let well = asked-well config log h sys c terms o width is known in
@@ -283,12 +279,12 @@ beside-ask {w} config log h c terms o width is known =
     (beside-asked (is_caching config) c o x.reply h (one_memory_after config log) is.invariant is.sized well.reply
     well.may well.word is.beside)
 
-pub continues-ask : {w : ℕ} (config : Config) (log : Log w) (h : AbstractState w) (c : ℕ) (terms : client.EndConfig)
+pub continues-ask : {w : ℕ} {config : Config} {log : Log w} (h : AbstractState w) (c : ℕ) (terms : client.EndConfig)
     (o : Op w) → IsWidth w
     → SimulationRelation config log h.mail h.request h.state (system_after config log) → terms_at config c ≡ Some terms
     → Continues config (Ask c o, Outcome.Replied (ask.asked terms o ((system_after config log).clients c)).reply) log
 unfolding one_memory_after performing Performs
-continues-ask {w} config log h c terms o width is known =
+continues-ask {w} {config} {log} h c terms o width is known =
     let sys = system_after config log in
     let x = ask.asked terms o (sys.clients c) in
     let well = asked-well config log h sys c terms o width is known in

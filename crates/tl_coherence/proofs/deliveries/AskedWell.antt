@@ -60,7 +60,7 @@ asked-well {w} config log h sys c terms o width is known = asked-cases terms o e
 
     free_source : is_none (free_request terms e.past) ≡ false
         → s.uses c (source_or_0 (free_request terms e.past)) ≡ SourceFree
-    free_source one = unused config log h.mail h.request s sys c (source_or_0 (free_request terms e.past)) is
+    free_source one = unused c (source_or_0 (free_request terms e.past)) is
         (least_free-some (λ i. pending (RequestSource i) e.past) 0 terms.sources one).0
 
     unopened : (source : ℕ) → s.uses c source ≡ SourceFree → m.opened c Requests source ≡ None
@@ -159,9 +159,8 @@ asked-well {w} config log h sys c terms o width is known = asked-cases terms o e
         (formed (Op.Load address size) free))
     well (Op.Store address size value) free =
         subst (λ (p : Perm). IsAskedWell config c (Op.Store address size value) h m (store address size value p e))
-        (sym (held_is (block_at address)))
-        (store_well address size value ((s.block (block_at address)).pair c).held refl
-        (formed (Op.Store address size value) free))
+        (sym (held_is (block_at address))) (store_well address size value ((s.block (block_at address)).pair c).held
+        refl (formed (Op.Store address size value) free))
     well (Op.Acquire n g) free =
         let closed = free_source free.b1 in
         let still = transfers n free.b2 in

@@ -45,11 +45,10 @@ answer_some : {w : ℕ} (source : ℕ) (m x : Message w) → IsAnswered source m
 answer_some source (Message.A m) x h = refl
 answer_some source m x h = absurd h
 
-pub unused : {w : ℕ} (config : Config) (log : Log w) (mail : AccessMessages w) (request : ℕ → MessageA w)
-    (s : State (List ℕ)) (sys : System w) (c source : ℕ)
-    → SimulationRelation config log mail request s sys → pending (RequestSource source) (sys.clients c).past ≡ false
-    → s.uses c source ≡ SourceFree
-unused {w} config log mail request s sys c source h free =
+pub unused : {w : ℕ} {config : Config} {log : Log w} {mail : AccessMessages w} {request : ℕ → MessageA w}
+    {s : State (List ℕ)} {sys : System w} (c source : ℕ) → SimulationRelation config log mail request s sys
+    → pending (RequestSource source) (sys.clients c).past ≡ false → s.uses c source ≡ SourceFree
+unused {w} {config} {mail} {s} c source h free =
     go (s.uses c source) refl (h.sourced c source) (h.answered c source) (sym ((h.opened c).requests source) ∙ free)
   where
     differ : (b : Bool) → b ≡ true → b ≡ false → ⊥
@@ -63,8 +62,7 @@ unused {w} config log mail request s sys c source h free =
     go Replied e sourced answered none =
         absurd (differ _ (answer_some source (mail.request c source) (mail.answer c source) answered) none)
     go (Acquires n) e sourced answered none = absurd (differ _ (acquire_some w c n (s.block n)) none)
-    go u e sourced answered none =
-        absurd (differ _ (request_some config c source (mail.request c source) sourced) none)
+    go u e sourced answered none = absurd (differ _ (request_some config c source (mail.request c source) sourced) none)
 
 -- ---- what is answered
 
@@ -171,6 +169,5 @@ sourced_beat l x source i = refl
 
 pub sourced_legal : {w : ℕ} (l : Level) (x : MessageA w) (source : ℕ) → illegal_message l Channel.A (Message.A x) ≡ None
     → illegal_message l Channel.A (access source x) ≡ None
-sourced_legal l x source e =
-    legal_from_beats l Channel.A (access source x) (λ i lt. sourced_beat l x source i ∙ legal_beat l Channel.A
-    (Message.A x) i e lt)
+sourced_legal l x source e = legal_from_beats l Channel.A (access source x) (λ i lt. sourced_beat l x source i
+    ∙ legal_beat l Channel.A (Message.A x) i e lt)

@@ -66,15 +66,14 @@ heard-coming {w} config c k m queue sys is =
     (record { takes = offered-taken config (link_of c) Channel.A x sys.manager is.passes; step_is = refl })
 
 -- what is handed out stands behind what was on the channels
-pub landed-coming : {w : ℕ} (config : Config) (c k : ℕ) (m : MessageA w) (queue : List (Beat w)) (sys : System w)
-    (handed : Handed w)
-    (pushes : ℕ → Channel → Option (Message w)) → IsComing config c k m sys.manager
+pub landed-coming : {w : ℕ} {config : Config} {c k : ℕ} {m : MessageA w} (queue : List (Beat w)) (sys : System w)
+    (handed : Handed w) (pushes : ℕ → Channel → Option (Message w)) → IsComing config c k m sys.manager
     → sys.channels c Channel.A ≡ Beat.A (a_beat_of m k) ∷ queue
     → (reaction config (link_of c) (Beat.A (a_beat_of m k)) sys.manager).handed ≡ handed
     → ((s : System w) (d : ℕ) (at : Channel) → (with_messages handed s).channels d at ≡ behind (pushes d at)
-    (s.channels d at))
-    → IsLanded c Channel.A (Beat.A (a_beat_of m k)) queue pushes sys (system_after config c k m queue sys)
-landed-coming {w} config c k m queue sys handed pushes is beats done pushed =
+    (s.channels d at)) → IsLanded c Channel.A (Beat.A (a_beat_of m k)) queue pushes sys
+    (system_after config c k m queue sys)
+landed-coming {w} {config} {c} {k} {m} queue sys handed pushes is beats done pushed =
     let base : System w = with_manager (end_after config c k m sys.manager) (with_channel c Channel.A queue sys) in
     landed-manager c Channel.A (Beat.A (a_beat_of m k)) queue pushes
     (reaction config (link_of c) (Beat.A (a_beat_of m k)) sys.manager).handed
@@ -88,17 +87,17 @@ nothing-handed : {w : ℕ} (s : System w) (d : ℕ) (at : Channel) → (with_mes
 unfolding with_messages
 nothing-handed s d at = refl
 
-pub carried-more : {w : ℕ} (config : Config) (log : Log w) (mail : AccessMessages w) (request : ℕ → MessageA w)
-    (s : State (List ℕ)) (sys : System w) (c k : ℕ)
-    (m : MessageA w) (queue : List (Beat w)) → SimulationRelation config log mail request s sys
+pub carried-more : {w : ℕ} {config : Config} {log : Log w} {mail : AccessMessages w} {request : ℕ → MessageA w}
+    {s : State (List ℕ)} {sys : System w} {c k : ℕ}
+    {m : MessageA w} (queue : List (Beat w)) → SimulationRelation config log mail request s sys
     → IsComing config c k m sys.manager → sys.channels c Channel.A ≡ Beat.A (a_beat_of m k) ∷ queue
     → completes (Beat.A (a_beat_of m k)) (unfinished Channel.A (on_link c sys.manager.trace)) ≡ false
     → ChannelRelation mail s (system_after config c k m queue sys)
-carried-more {w} config log mail request s sys c k m queue is comes beats part =
+carried-more {w} {config} {mail} {s} {sys} {c} {k} {m} queue is comes beats part =
     let x : Beat w = Beat.A (a_beat_of m k) in
     let done = ap (λ (d : Reaction w). d.handed) (reaction-part config (link_of c) x sys.manager part) in
-    carried-part mail s c Channel.A x queue (λ d at. None) sys (system_after config c k m queue sys) comes.width
-    (landed-coming config c k m queue sys [] (λ d at. None) comes beats done nothing-handed) (λ d at. refl) part
+    carried-part mail s comes.width
+    (landed-coming queue sys [] (λ d at. None) comes beats done nothing-handed) (λ d at. refl) part
     is.carried
 
 -- ---- its last beat: others are probed
@@ -111,9 +110,9 @@ nothing_above Cap.ToB false = refl
 nothing_above Cap.ToN true = refl
 nothing_above Cap.ToN false = refl
 
-pub taken-probing : {w : ℕ} (config : Config) (log : Log w) (mail : AccessMessages w) (request : ℕ → MessageA w)
-    (s : State (List ℕ)) (sys : System w) (c k n : ℕ)
-    (own : Bool) (j : Cap) (m : MessageA w) (queue : List (Beat w)) → SimulationRelation config log mail request s sys
+pub taken-probing : {w : ℕ} {config : Config} {log : Log w} {mail : AccessMessages w} {request : ℕ → MessageA w}
+    {s : State (List ℕ)} {sys : System w} {c k : ℕ} (n : ℕ)
+    (own : Bool) (j : Cap) {m : MessageA w} (queue : List (Beat w)) → SimulationRelation config log mail request s sys
     → IsComing config c k m sys.manager → sys.channels c Channel.A ≡ Beat.A (a_beat_of m k) ∷ queue
     → beats_of (Message.A m) ≡ suc k → is_acquire m.opcode ≡ own → block_at m.address ≡ n
     → (reaction config (link_of c) (Beat.A (a_beat_of m k)) sys.manager).handed ≡ probes n j
@@ -121,7 +120,8 @@ pub taken-probing : {w : ℕ} (config : Config) (log : Log w) (mail : AccessMess
     → IsTaken c Channel.A (Beat.A (a_beat_of m k)) queue
     (probe_pushes n j (λ d. is_probed c own j ((s.block n).pair d).recorded d)) sys
     (system_after config c k m queue sys)
-taken-probing {w} config log mail request s sys c k n own j m queue is comes beats last kind block done =
+taken-probing {w} {config} {log} {mail} {request} {s} {sys} {c} {k} n own j {m} queue is comes beats last kind block
+    done =
     let test : ℕ → Bool = λ d. is_probed c own j ((s.block n).pair d).recorded d in
     let pushes : ℕ → Channel → Option (Message w) = probe_pushes n j test in
     let same : (i : ℕ) → (holders.is_above j (recorded i (block_at m.address) (with_beat c m k sys.manager.trace))
@@ -137,38 +137,32 @@ taken-probing {w} config log mail request s sys c k n own j m queue is comes bea
     ) (and_comm (is_above j ((s.block n).pair i).recorded)
     (not (own && (i == c)))) in
     let none : (d : ℕ) → length config.clients.items ≤ d → test d ≡ false =
-    λ d past. rw (beyond-none config log mail request s sys n is d past) (nothing_above j (own && (d == c))) in
-    taken-landed c Channel.A (Beat.A (a_beat_of m k)) queue pushes sys (system_after config c k m queue sys)
-    (landed-coming config c k m queue sys
+    λ d past. rw (beyond-none n is d past) (nothing_above j (own && (d == c))) in
+    taken-landed
+    (landed-coming queue sys
     (probes n j (probed config (service_for c m sys.manager.trace) j (with_beat c m k sys.manager.trace))) pushes
     comes beats done
     (λ v d at. channels-probes n j (length config.clients.items)
     (λ i. holders.is_above j (recorded i (block_at m.address) (with_beat c m k sys.manager.trace))
     && not (is_spared (service_for c m sys.manager.trace) i)) test v (λ i lt. same i) none d at))
-    (ends-coming config c k m sys.manager comes ∙ rw last (is_last k (suc k) (omega arith)))
+    (ends-coming comes ∙ rw last (is_last k (suc k) (omega arith)))
 
 -- ---- one message is handed out
 
-pub taken-answering : {w : ℕ} (config : Config) (c k : ℕ) (m : MessageA w) (i : Message w) (queue : List (Beat w))
-    (sys : System w)
-    → IsComing config c k m sys.manager → sys.channels c Channel.A ≡ Beat.A (a_beat_of m k) ∷ queue
-    → beats_of (Message.A m) ≡ suc k
-    → (reaction config (link_of c) (Beat.A (a_beat_of m k)) sys.manager).handed ≡ (link_of c, i) ∷ []
-    → IsTaken c Channel.A (Beat.A (a_beat_of m k)) queue (pushes_at c (pushes_of (Some i))) sys
+pub taken-answering : {w : ℕ} {config : Config} {c k : ℕ} {m : MessageA w} (i : Message w) (queue : List (Beat w))
+    (sys : System w) → IsComing config c k m sys.manager → sys.channels c Channel.A ≡ Beat.A (a_beat_of m k) ∷ queue
+    → beats_of (Message.A m) ≡ suc k → (reaction config (link_of c) (Beat.A (a_beat_of m k)) sys.manager).handed
+    ≡ (link_of c, i) ∷ [] → IsTaken c Channel.A (Beat.A (a_beat_of m k)) queue (pushes_at c (pushes_of (Some i))) sys
     (system_after config c k m queue sys)
-taken-answering {w} config c k m i queue sys comes beats last done =
-    taken-landed c Channel.A (Beat.A (a_beat_of m k)) queue (pushes_at c (pushes_of (Some i))) sys
-    (system_after config c k m queue sys)
-    (landed-coming config c k m queue sys ((link_of c, i) ∷ []) (pushes_at c (pushes_of (Some i))) comes beats done
-    (λ v d at. channels-handed c (Some i) v d at))
-    (ends-coming config c k m sys.manager comes ∙ rw last (is_last k (suc k) (omega arith)))
+taken-answering {w} {config} {c} {k} {m} i queue sys comes beats last done =
+    taken-landed (landed-coming queue sys ((link_of c, i) ∷ []) (pushes_at c (pushes_of (Some i))) comes beats done
+    (λ v d at. channels-handed c (Some i) v d at)) (ends-coming comes ∙ rw last (is_last k (suc k) (omega arith)))
 
 -- ---- an Acquire
 
 -- after an Acquire that was taken
-pub carried-acquire_taken : {w : ℕ} (config : Config) (log : Log w) (h : AbstractState w) (sys : System w) (c n k : ℕ)
-    (rest : List Packet) (queue : List (Beat w))
-    → SimulationRelation config log h.mail h.request h.state sys
+pub carried-acquire_taken : {w : ℕ} {config : Config} {log : Log w} (h : AbstractState w) {sys : System w} {c n k : ℕ}
+    (rest : List Packet) (queue : List (Beat w)) → SimulationRelation config log h.mail h.request h.state sys
     → (h.state.link c).a ≡ packet Acquire n ∷ rest → (asked : IsWanted w c n h.state)
     → IsComing config c k (acquire_wanted c n h.state asked) sys.manager
     → sys.channels c Channel.A ≡ Beat.A (a_beat_of (acquire_wanted c n h.state asked) k) ∷ queue
@@ -177,7 +171,7 @@ pub carried-acquire_taken : {w : ℕ} (config : Config) (log : Log w) (h : Abstr
     → ChannelRelation (kind_taken config (next_tracker sys) c Acquire n rest h).mail
     (kind_taken config (next_tracker sys) c Acquire n rest h).state
     (system_after config c k (acquire_wanted c n h.state asked) queue sys)
-carried-acquire_taken {w} config log h sys c n k rest queue is first asked comes beats last moves =
+carried-acquire_taken {w} {config} {log} h {sys} {c} {n} {k} rest queue is first asked comes beats last moves =
     let inv = invariant-taken config log h sys c Acquire n rest is first ready in
     subst (λ (i : AcquirePhase). ChannelRelation (acquire_taken clients config.profile c n i tracker rest h).mail
     (acquire_taken clients config.profile c n i tracker rest h).state after) (sym asked.wants)
@@ -204,7 +198,7 @@ carried-acquire_taken {w} config log h sys c n k rest queue is first asked comes
     j = cap_asked (AcquireOpen asked.whole asked.grow)
 
     ready : IsReady tracker c Acquire n h
-    ready = ready-acquire config log h sys c n k is asked comes last moves
+    ready = ready-acquire h is asked comes last moves
 
     caps : cap_probed m.opcode m.param ≡ Some j
     caps = caps_asked w asked.whole asked.grow (b.source c) n
@@ -223,10 +217,10 @@ carried-acquire_taken {w} config log h sys c n k rest queue is first asked comes
     go : (x : Bool) → some_below clients (λ d. is_probed c true j (b.pair d).recorded d) ≡ x
         → IsInvariant (is_caching config) (state_of x) → ChannelRelation h.mail (state_of x) after
     go true f kept =
-        let some = somebody-probed config log h.mail h.request h.state sys c k n true m is (acquires-so asked.whole)
+        let some = somebody-probed c k n true m is (acquires-so asked.whole)
         (same_block n) (rw caps f) in
-        carried-shown comes.width (acquire_served-shown (is_caching config) c n (b.source c) tracker j rest h.mail
-        h.state is.invariant kept first ready.0) (taken-probing config log h.mail h.request h.state sys c k n true j m
+        carried-shown comes.width (acquire_served-shown c n (b.source c) tracker j rest h.mail
+        is.invariant kept first ready.0) (taken-probing n true j
         queue is comes beats last
         (acquires-so asked.whole) (same_block n)
         (ap (λ (d : Reaction w). d.handed) (reaction-probing config c k n j m sys.manager comes last (same_block n) caps
@@ -236,10 +230,10 @@ carried-acquire_taken {w} config log h sys c n k rest queue is first asked comes
         let new = granted_at_once c tracker data_too given b in
         let well : IsWell (is_caching config) new = subst (IsWell (is_caching config)) (set-same n new h.state.block)
         (kept.blocks n) in
-        carried-shown comes.width (acquire_granted-shown (is_caching config) c n tracker data_too given rest
-        (block_message Grant c n new) h.mail h.state is.invariant kept first ready.0 (once_on_d w c n tracker data_too
-        given b) refl) (taken-answering config c k m (block_message Grant c n new) queue sys comes beats last
-        (handed-granted config log h.mail h.request h.state sys (is_caching config) c n k is asked comes last
+        carried-shown comes.width (acquire_granted-shown c n tracker data_too given rest
+        (block_message Grant c n new) h.mail is.invariant kept first ready.0 (once_on_d w c n tracker data_too
+        given b) refl) (taken-answering (block_message Grant c n new) queue sys comes beats last
+        (handed-granted is asked comes last
         (rw caps f) well)) is.carried
 
 -- ---- an access
@@ -261,7 +255,7 @@ unread-bytes {w} config log mail request s sys c n m is access none k d =
       | inl lt ↦ none-above ((s.block n).pair i).recorded
           (some-none (length config.clients.items) (λ j. is_probed c false Cap.ToN ((s.block n).pair j).recorded j)
           (rw all at none) i lt)
-      | inr past ↦ rw (beyond-none config log mail request s sys n is i past) refl
+      | inr past ↦ rw (beyond-none n is i past) refl
     ] in
     elim (leaves-bytes m (s.block n).truth access (is.sized n).truth) [
       | inl same ↦ inr same
@@ -274,19 +268,18 @@ unread-bytes {w} config log mail request s sys c n m is access none k d =
     either false e = e
 
 -- after the last beat of an access that was taken
-pub carried-request_taken : {w : ℕ} (config : Config) (log : Log w) (h : AbstractState w) (sys : System w)
-    (c source k : ℕ) (rest : List Packet) (queue : List (Beat w))
-    → SimulationRelation config log h.mail h.request h.state sys
-    → (h.state.link c).a ≡ packet Request source ∷ rest → (asked : IsAsked config c source h.mail h.state)
-    → IsComing config c k asked.request sys.manager
+pub carried-request_taken : {w : ℕ} {config : Config} {log : Log w} (h : AbstractState w) {sys : System w}
+    {c source k : ℕ} (rest : List Packet) (queue : List (Beat w))
+    → SimulationRelation config log h.mail h.request h.state sys → (h.state.link c).a ≡ packet Request source ∷ rest
+    → (asked : IsAsked config c source h.mail h.state) → IsComing config c k asked.request sys.manager
     → sys.channels c Channel.A ≡ Beat.A (a_beat_of asked.request k) ∷ queue → beats_of (Message.A asked.request) ≡ suc k
     → must_wait config (link_of c) (Beat.A (a_beat_of asked.request k)) sys.manager.trace ≡ false
     → ChannelRelation (kind_taken config (next_tracker sys) c Request source rest h).mail
     (kind_taken config (next_tracker sys) c Request source rest h).state
     (system_after config c k asked.request queue sys)
-carried-request_taken {w} config log h sys c source k rest queue is first asked comes beats last moves =
+carried-request_taken {w} {config} {log} h {sys} {c} {source} {k} rest queue is first asked comes beats last moves =
     let inv = invariant-taken config log h sys c Request source rest is first
-    (ready-request config log h sys c source k is asked comes last moves) in
+    (ready-request h is asked comes last moves) in
     subst (λ (i : Message w). Carries (request_taken clients c source i tracker rest h)) (sym asked.is_it)
     (go (probes_some clients c false (cap_probed m.opcode m.param) b.pair) (cap_probed m.opcode m.param) refl refl
     (subst (λ (i : Message w). IsInvariant (is_caching config) (request_taken clients c source i tracker rest h).state)
@@ -314,17 +307,17 @@ carried-request_taken {w} config log h sys c source k rest queue is first asked 
     tracker = next_tracker sys
 
     free : b.service ≡ Free
-    free = free-last config log h.mail h.request h.state sys c k m is comes last moves
+    free = free-last is comes last moves
 
     answered : probes_some clients c false (cap_probed m.opcode m.param) b.pair ≡ false
         → IsInvariant (is_caching config) (access_taken c source m tracker false None rest h).state
         → Carries (access_taken c source m tracker false None rest h)
     answered none kept =
-        carried-shown comes.width (access_answered-shown (is_caching config) c n source (performs m) rest (answers m
-        b.memory) h.mail h.state is.invariant kept first asked.used (unread-bytes config log h.mail h.request h.state
+        carried-shown comes.width (access_answered-shown c n source (performs m) rest (answers m
+        b.memory) h.mail is.invariant kept first asked.used (unread-bytes config log h.mail h.request h.state
         sys c n m is asked.access none) (answer_on_d m (answer_of (Message.A m) (effect (Message.A m) (bytes_at n
-        b.memory)).1))) (taken-answering config c k m (answers m b.memory) queue sys comes beats last
-        (handed-answered config log h.mail h.request h.state sys c source k is asked comes last none)) is.carried
+        b.memory)).1))) (taken-answering (answers m b.memory) queue sys comes beats last
+        (handed-answered is asked comes last none)) is.carried
 
     go : (p : Bool) (o : Option Cap) → probes_some clients c false (cap_probed m.opcode m.param) b.pair ≡ p
         → cap_probed m.opcode m.param ≡ o
@@ -333,8 +326,8 @@ carried-request_taken {w} config log h sys c source k rest queue is first asked 
     go true None f g kept = absurd (let no : false ≡ true = rw g at f in cc)
     go true (Some j) f g kept =
         let some : some_below clients (λ d. is_probed c false j (b.pair d).recorded d) ≡ true = rw g at f in
-        carried-shown comes.width (access_served-shown (is_caching config) c n source tracker j rest h.mail h.state
-        is.invariant kept first free) (taken-probing config log h.mail h.request h.state sys c k n false j m queue is
+        carried-shown comes.width (access_served-shown c n source tracker j rest h.mail
+        is.invariant kept first free) (taken-probing n false j queue is
         comes beats last asked.access
         refl
         (ap (λ (d : Reaction w). d.handed) (reaction-probing config c k n j m sys.manager comes last refl g

@@ -33,10 +33,9 @@ use Rattle.tl_manager.proofs.pending.Answered.{no_ack_grant}
 -- ---- a delivery that moves a beat, as the protocol follows it
 
 pub followed-moving : {w : ℕ} (config : Config) (link : Link) (ch : Channel) (sys : System w) (h : AbstractState w)
-    (x : Beat w) (queue : List (Beat w))
-    → is_moving (stepped config (Deliver link ch) sys).outcome ≡ true → sys.channels link.0 ch ≡ x ∷ queue
-    → abstract_step config (Deliver link ch) sys h ≡ (if completes x (unfinished ch (receiver ch link.0 sys)) then
-    packet_taken config (next_tracker sys) link.0
+    (x : Beat w) (queue : List (Beat w)) → is_moving (stepped config (Deliver link ch) sys).outcome ≡ true
+    → sys.channels link.0 ch ≡ x ∷ queue → abstract_step config (Deliver link ch) sys h
+    ≡ (if completes x (unfinished ch (receiver ch link.0 sys)) then packet_taken config (next_tracker sys) link.0
     (packets_on ch (h.state.link link.0)) h else h)
 followed-moving {w} config link ch sys h x queue moving first = cc (moving, first)
 
@@ -77,78 +76,77 @@ pub record IsLastBeat {w : ℕ} (c : ℕ) (x : Beat w) (queue : List (Beat w)) (
     pub last : completes x (unfinished Channel.D (sys.clients c).past) ≡ true
     pub heard : HasHeard x (sys.clients c) (offer.taken x (sys.clients c)).after
 
-taken_d : {w : ℕ} (c : ℕ) (x : Beat w) (queue : List (Beat w)) (sys : System w) (mm : MessageD w)
+taken_d : {w : ℕ} {c : ℕ} {x : Beat w} {queue : List (Beat w)} {sys : System w} {mm : MessageD w}
     (m : Option (Message w)) → IsLastBeat c x queue sys mm
     → IsTaken c Channel.D x queue (pushes_at c (pushes_of m)) sys (after_heard c Channel.D x queue sys m)
-taken_d {w} c x queue sys mm m is =
-    taken-landed c Channel.D x queue (pushes_at c (pushes_of m)) sys (after_heard c Channel.D x queue sys m)
-    (landed-client c Channel.D x queue m (offer.taken x (sys.clients c)).after sys refl is.first
+taken_d {w} {c} {x} {queue} {sys} m is =
+    taken-landed (landed-client c Channel.D x queue m (offer.taken x (sys.clients c)).after sys refl is.first
     (subst (λ (z : Beat w). IsOn Channel.D z) (sym is.x_is) (on_d is.y)) is.heard) is.last
 
-finish_pool_is : {w : ℕ} (c : ℕ) (x : Beat w) (queue : List (Beat w)) (sys : System w) (mm : MessageD w)
+finish_pool_is : {w : ℕ} {c : ℕ} {x : Beat w} {queue : List (Beat w)} {sys : System w} {mm : MessageD w}
     (is : IsLastBeat c x queue sys mm)
     → pool_of (finish_at is.y (sys.clients c)) ≡ (if is_release_ack mm.opcode then Releases else Requests)
-finish_pool_is {w} c x queue sys mm is = cc (finish-pool w is.y.opcode is.y.param is.y.size _ _, is.opcode)
+finish_pool_is {w} is = cc (finish-pool w is.y.opcode is.y.param is.y.size _ _, is.opcode)
 
 acked_none : {w : ℕ} (o : OpD) (sink : ℕ) → is_grant o ≡ false → acked {w = w} o sink ≡ None
 acked_none o sink e = rw e refl
 
-pub responded-answer : {w : ℕ} (config : Config) (log : Log w) (h : AbstractState w) (sys : System w) (c source : ℕ)
-    (rest : List Packet) (x : Beat w)
-    (queue : List (Beat w)) (due : IsAnswerDue c source h.mail h.state) → IsWidth w
+pub responded-answer : {w : ℕ} {config : Config} {log : Log w} (h : AbstractState w) {sys : System w} {c source : ℕ}
+    (rest : List Packet) {x : Beat w} {queue : List (Beat w)} (due : IsAnswerDue c source h.mail h.state) → IsWidth w
     → SimulationRelation config log h.mail h.request h.state sys → (h.state.link c).d ≡ packet Answer source ∷ rest
-    → (is : IsLastBeat c x queue sys due.answer)
-    → IsResponded c x queue sys (one_memory_after config log) is.y.source (finish_at is.y (sys.clients c))
-    (acked is.y.opcode is.y.sink) (kind_taken config (next_tracker sys) c Answer source rest h)
+    → (is : IsLastBeat c x queue sys due.answer) → IsResponded c x queue sys (one_memory_after config log) is.y.source
+    (finish_at is.y (sys.clients c)) (acked is.y.opcode is.y.sink) (kind_taken config (next_tracker sys) c Answer source
+    rest h)
 unfolding accesses_answered
-responded-answer {w} config log h sys c source rest x queue due width matched first is =
+responded-answer {w} {config} {log} h {sys} {c} {source} rest {x} {queue} due width matched first is =
     let plain = access_kind due.answer.opcode due.answers_access in
     let none = acked_none is.y.opcode is.y.sink (ap is_grant is.opcode ∙ plain.0) in
     let pool : pool_of (finish_at is.y (sys.clients c)) ≡ Requests =
-    finish_pool_is c x queue sys due.answer is ∙ rw plain.1 refl in
+    finish_pool_is is ∙ rw plain.1 refl in
     let from : is.y.source ≡ source = is.source ∙ due.from in
     let inv = invariant-taken config log h sys c Answer source rest matched first tt in
     record {
       carried = subst (λ (m : Option (Message w)). ChannelRelation h.mail (answer_taken c source rest h.state)
           (after_heard c Channel.D x queue sys m)) (sym none)
-          (carried-shown width (answer_taken-shown (is_caching config) c source rest h.mail h.state matched.invariant
+          (carried-shown width (answer_taken-shown c source rest h.mail matched.invariant
           inv first)
-          (taken_d c x queue sys due.answer None is) matched.carried);
+          (taken_d None is) matched.carried);
       beside = subst (λ (p : Pool). MemoryRelation h.mail (answer_taken c source rest h.state)
           (after_end c p is.y.source ((one_memory_after config log).opened c p is.y.source)
           (one_memory_after config log))) (sym pool)
           (subst (λ (i : ℕ). MemoryRelation h.mail (answer_taken c source rest h.state)
           (after_end c Requests i ((one_memory_after config log).opened c Requests i)
           (one_memory_after config log))) (sym from)
-          (beside-answer c source rest h.mail h.state (one_memory_after config log) due.used matched.beside));
+          (beside-answer c source rest due.used matched.beside));
       quiet = ap (λ (m : Option (Message w)). accesses_answered (handed_by c m)) none;
     }
 
-pub responded-release_ack : {w : ℕ} (config : Config) (log : Log w) (h : AbstractState w) (sys : System w) (c n : ℕ)
-    (rest : List Packet) (x : Beat w) (queue : List (Beat w)) → IsWidth w
+pub responded-release_ack : {w : ℕ} {config : Config} {log : Log w} (h : AbstractState w) {sys : System w} {c : ℕ}
+    (n : ℕ)
+    (rest : List Packet) {x : Beat w} {queue : List (Beat w)} → IsWidth w
     → SimulationRelation config log h.mail h.request h.state sys → (h.state.link c).d ≡ packet ReleaseAck n ∷ rest
     → is_unreleased ((h.state.block n).pair c).letting ≡ false
     → (is : IsLastBeat c x queue sys (ack_message ((h.state.block n).release_source c)))
     → IsResponded c x queue sys (one_memory_after config log) is.y.source (finish_at is.y (sys.clients c))
     (acked is.y.opcode is.y.sink) (kind_taken config (next_tracker sys) c ReleaseAck n rest h)
 unfolding accesses_answered
-responded-release_ack {w} config log h sys c n rest x queue width matched first open_ is =
+responded-release_ack {w} {config} {log} h {sys} {c} n rest {x} {queue} width matched first open_ is =
     let none : acked {w = w} is.y.opcode is.y.sink ≡ None = acked_none is.y.opcode is.y.sink (ap is_grant is.opcode) in
-    let pool = finish_pool_is c x queue sys (ack_message ((h.state.block n).release_source c)) is in
+    let pool = finish_pool_is is in
     let inv = invariant-taken config log h sys c ReleaseAck n rest matched first tt in
     record {
       carried = subst (λ (m : Option (Message w)). ChannelRelation h.mail (release_ack_taken c n rest h.state)
           (after_heard c Channel.D x queue sys m)) (sym none)
-          (carried-shown width (release_ack_taken-shown (is_caching config) c n rest h.mail h.state matched.invariant
+          (carried-shown width (release_ack_taken-shown c n rest h.mail matched.invariant
           inv first)
-          (taken_d c x queue sys (ack_message ((h.state.block n).release_source c)) None is) matched.carried);
+          (taken_d None is) matched.carried);
       beside = subst (λ (p : Pool). MemoryRelation h.mail (release_ack_taken c n rest h.state)
           (after_end c p is.y.source ((one_memory_after config log).opened c p is.y.source)
           (one_memory_after config log))) (sym pool)
           (subst (λ (i : ℕ). MemoryRelation h.mail (release_ack_taken c n rest h.state)
           (after_end c Releases i ((one_memory_after config log).opened c Releases i)
           (one_memory_after config log))) (sym is.source)
-          (beside-release_ack (is_caching config) c n rest h.mail h.state (one_memory_after config log)
+          (beside-release_ack c n rest
           matched.invariant open_ matched.beside));
       quiet = ap (λ (m : Option (Message w)). accesses_answered (handed_by c m)) none;
     }
@@ -163,27 +161,26 @@ abbrev pub IsBare : ℕ → Bool → Bool → Cap → Block (List ℕ) → Type 
 IsBare c whole d k b = (j : Kind) (i : ℕ) → shown j i b ≡ true → shown j i (taken_block c whole d k b) ≡ true
     → (carries j i b ≡ false) ⊎ ((taken_block c whole d k b).truth ≡ b.truth)
 
-pub responded-grant : {w : ℕ} (config : Config) (log : Log w) (h : AbstractState w) (sys : System w) (c n : ℕ)
-    (rest : List Packet) (x : Beat w) (queue : List (Beat w))
-    (due : IsGrantDue c n h.state) → IsWidth w
+pub responded-grant : {w : ℕ} {config : Config} {log : Log w} (h : AbstractState w) {sys : System w} {c n : ℕ}
+    (rest : List Packet) {x : Beat w} {queue : List (Beat w)} (due : IsGrantDue c n h.state) → IsWidth w
     → SimulationRelation config log h.mail h.request h.state sys → (h.state.link c).d ≡ packet Grant n ∷ rest
     → IsBare c due.whole due.data_too due.k (h.state.block n)
     → (is : IsLastBeat c x queue sys (grant_message due.data_too due.k ((h.state.block n).source c)
-    (h.state.block n).tracker (h.state.block n).truth))
-    → IsResponded c x queue sys (one_memory_after config log) is.y.source (finish_at is.y (sys.clients c))
-    (acked is.y.opcode is.y.sink) (kind_taken config (next_tracker sys) c Grant n rest h)
+    (h.state.block n).tracker (h.state.block n).truth)) → IsResponded c x queue sys (one_memory_after config log)
+    is.y.source (finish_at is.y (sys.clients c)) (acked is.y.opcode is.y.sink)
+    (kind_taken config (next_tracker sys) c Grant n rest h)
 unfolding accesses_answered
-responded-grant {w} config log h sys c n rest x queue due width matched first bare is =
+responded-grant {w} {config} {log} h {sys} {c} {n} rest {x} {queue} due width matched first bare is =
     subst (λ (z : AbstractState w). IsResponded c x queue sys (one_memory_after config log) is.y.source
     (finish_at is.y (sys.clients c)) (acked is.y.opcode is.y.sink) z) (sym same)
     (record {
       carried = subst (λ (m : Option (Message w)). ChannelRelation h.mail
           (grant_taken c n due.whole due.data_too due.k rest h.state) (after_heard c Channel.D x queue sys m))
           (sym some)
-          (carried-shown width (grant_taken-shown (is_caching config) c n due.whole due.data_too due.k rest (grant_ack
-          (h.state.block n).tracker) h.mail h.state matched.invariant inv first due.service bare refl (rendered_ack c n
+          (carried-shown width (grant_taken-shown c n due.whole due.data_too due.k rest (grant_ack
+          (h.state.block n).tracker) h.mail matched.invariant inv first due.service bare refl (rendered_ack c n
           due.whole due.data_too due.k (h.state.block n)))
-          (taken_d c x queue sys mm (Some (grant_ack (h.state.block n).tracker)) is) matched.carried);
+          (taken_d (Some (grant_ack (h.state.block n).tracker)) is) matched.carried);
       beside = subst (λ (p : Pool). MemoryRelation h.mail (grant_taken c n due.whole due.data_too due.k rest h.state)
           (after_end c p is.y.source ((one_memory_after config log).opened c p is.y.source)
           (one_memory_after config log))) (sym pool)
@@ -194,7 +191,7 @@ responded-grant {w} config log h sys c n rest x queue due width matched first ba
           (after_end c Requests ((h.state.block n).source c)
           ((one_memory_after config log).opened c Requests ((h.state.block n).source c))
           (one_memory_after config log))) (ap is_whole due.wants)
-          (beside-grant (is_caching config) c n due.data_too due.k rest h.mail h.state (one_memory_after config log)
+          (beside-grant c n due.data_too due.k rest
           matched.invariant (ap is_wanting due.wants) matched.beside)));
       quiet = ap (λ (m : Option (Message w)). accesses_answered (handed_by c m)) some;
     })
@@ -206,7 +203,7 @@ responded-grant {w} config log h sys c n rest x queue due width matched first ba
     some = cc (is.opcode, is.sink, grants-so due.data_too)
 
     pool : pool_of (finish_at is.y (sys.clients c)) ≡ Requests
-    pool = cc (finish_pool_is c x queue sys mm is, no_ack_grant due.data_too)
+    pool = cc (finish_pool_is is, no_ack_grant due.data_too)
 
     same : kind_taken config (next_tracker sys) c Grant n rest h ≡ record h {
       state =

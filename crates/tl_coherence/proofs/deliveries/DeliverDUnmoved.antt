@@ -48,9 +48,9 @@ whole_fits Perm.None held d Cap.ToN Grow.NtoB e = absurd cc
 whole_fits Perm.None held d Cap.ToN Grow.NtoT e = absurd cc
 whole_fits Perm.None held d Cap.ToN Grow.BtoT e = absurd cc
 
-pub bare : {w : ℕ} (caching : ℕ → Bool) (c n : ℕ) (h : AbstractState w) (due : IsGrantDue c n h.state)
+pub bare : {w : ℕ} {caching : ℕ → Bool} {c n : ℕ} (h : AbstractState w) (due : IsGrantDue c n h.state)
     → IsInvariant caching h.state → IsBare c due.whole due.data_too due.k (h.state.block n)
-bare {w} caching c n h due inv j i before now = go due.whole refl
+bare {w} {c} {n} h due inv j i before now = go due.whole refl
   where
     b : Block (List ℕ)
     b = h.state.block n
@@ -161,9 +161,8 @@ unmoved {w} config link ch sys still = at (terms_at config link.0) still
 
     by_manager : (x : Beat w) (queue : List (Beat w)) (j : manager_offer.Judgement)
         → is_moving (manager_took c ch x queue (manager_offer.offered_as j config (record { 0 = c }) x sys.manager)
-        sys).outcome ≡ false
-        → IsUnmoved sys (manager_took c ch x queue (manager_offer.offered_as j config (record { 0 = c }) x sys.manager)
-        sys)
+        sys).outcome ≡ false → IsUnmoved sys
+        (manager_took c ch x queue (manager_offer.offered_as j config (record { 0 = c }) x sys.manager) sys)
     by_manager x queue (manager_offer.Breaks rule) s =
         closed_unmoved (manager_offer.refused (record { 0 = c }) sys.manager) sys refl
     by_manager x queue manager_offer.Waits s = only_unmoved Outcome.Stalled sys (λ l i m. refl)
@@ -176,11 +175,10 @@ unmoved {w} config link ch sys still = at (terms_at config link.0) still
     delivered_to terms (x ∷ queue) s = to (is_to_client ch) s
       where
         to : (b : Bool) → is_moving (if b then client_took c ch x queue (offer.offered terms ch x (sys.clients c)) sys
-            else manager_took c ch x queue
-            (manager_offer.offered config (record { 0 = c }) ch x sys.manager) sys).outcome ≡ false
-            → IsUnmoved sys (if b then client_took c ch x queue (offer.offered terms ch x (sys.clients c)) sys else
-            manager_took c ch x queue
-            (manager_offer.offered config (record { 0 = c }) ch x sys.manager) sys)
+            else manager_took c ch x queue (manager_offer.offered config (record { 0 = c }) ch x sys.manager)
+            sys).outcome ≡ false → IsUnmoved sys
+            (if b then client_took c ch x queue (offer.offered terms ch x (sys.clients c)) sys else manager_took c ch x
+            queue (manager_offer.offered config (record { 0 = c }) ch x sys.manager) sys)
         to true s = by_client terms x queue (offer.offered terms ch x (sys.clients c)).answer refl s
         to false s = by_manager x queue (manager_offer.judged config (record { 0 = c }) ch x sys.manager) s
 
@@ -189,21 +187,21 @@ unmoved {w} config link ch sys still = at (terms_at config link.0) still
     at None s = only_unmoved Outcome.NoSuchClient sys (λ l i m. refl)
     at (Some terms) s = delivered_to terms (sys.channels c ch) s
 
-pub carried-unmoved : {w : ℕ} (mail : AccessMessages w) (s : State (List ℕ)) (sys : System w) (x : Step w)
+pub carried-unmoved : {w : ℕ} (mail : AccessMessages w) (s : State (List ℕ)) {sys : System w} {x : Step w}
     → IsUnmoved sys x → ChannelRelation mail s sys → ChannelRelation mail s x.after
-carried-unmoved {w} mail s sys x is h d at =
+carried-unmoved {w} mail s {sys} {x} is h d at =
     let moved_to : (r q : List (Beat w)) → r ≡ unfinished at (receiver at d sys) → q ≡ sys.channels d at
     → IsCarried r (messages_on at mail s d) q = λ r q e f. rw (e, f) (h d at) in
     moved_to (unfinished at (receiver at d x.after)) (x.after.channels d at) (is.rests d at) (is.channels d at)
 
-pub beside-unmoved : {w : ℕ} (config : Config) (log : Log w) (mail : AccessMessages w) (s : State (List ℕ))
+pub beside-unmoved : {w : ℕ} (config : Config) (log : Log w) {mail : AccessMessages w} {s : State (List ℕ)}
     (link : Link) (ch : Channel)
     → IsUnmoved (system_after config log) (stepped config (Deliver link ch) (system_after config log))
     → MemoryRelation mail s (one_memory_after config log)
     → MemoryRelation mail s (one_memory_after config
     ((Deliver link ch, (stepped config (Deliver link ch) (system_after config log)).outcome) ∷ log))
 unfolding one_memory_after performing accesses_answered
-beside-unmoved {w} config log mail s link ch is h = rw (is.handed, is.machine link ch (one_memory_after config log)) h
+beside-unmoved {w} config log link ch is h = rw (is.handed, is.machine link ch (one_memory_after config log)) h
 
 -- ---- the channels and the one memory after a delivery
 
@@ -222,9 +220,8 @@ pub delivered_as : {w : ℕ} (config : Config) (log : Log w) (link : Link) (ch :
     → abstract_step config (Deliver link ch) (system_after config log) h ≡ h'
     → ChannelRelation h'.mail h'.state (stepped config (Deliver link ch) (system_after config log)).after
     → MemoryRelation h'.mail h'.state
-    (one_memory_after config
-    ((Deliver link ch, (stepped config (Deliver link ch) (system_after config log)).outcome) ∷ log))
-    → IsDelivered config log link ch h
+    (one_memory_after config ((Deliver link ch, (stepped config (Deliver link ch) (system_after config log)).outcome)
+    ∷ log)) → IsDelivered config log link ch h
 delivered_as {w} config log link ch h h' e carried beside = record {
   carried = subst (λ (z : AbstractState w). ChannelRelation z.mail z.state
       (stepped config (Deliver link ch) (system_after config log)).after) (sym e) carried;
@@ -233,13 +230,13 @@ delivered_as {w} config log link ch h h' e carried beside = record {
       ∷ log))) (sym e) beside;
 }
 
-pub delivered-unmoved : {w : ℕ} (config : Config) (log : Log w) (link : Link) (ch : Channel) (h : AbstractState w)
+pub delivered-unmoved : {w : ℕ} {config : Config} {log : Log w} (link : Link) (ch : Channel) (h : AbstractState w)
     → SimulationRelation config log h.mail h.request h.state (system_after config log)
     → is_moving (stepped config (Deliver link ch) (system_after config log)).outcome ≡ false
     → IsDelivered config log link ch h
-delivered-unmoved {w} config log link ch h is still =
+delivered-unmoved {w} {config} {log} link ch h is still =
     let no = unmoved config link ch (system_after config log) still in
     delivered_as config log link ch h h (followed-still config link ch (system_after config log) h still)
-    (carried-unmoved h.mail h.state (system_after config log)
-    (stepped config (Deliver link ch) (system_after config log)) no is.carried)
-    (beside-unmoved config log h.mail h.state link ch no is.beside)
+    (carried-unmoved h.mail h.state
+    no is.carried)
+    (beside-unmoved config log link ch no is.beside)

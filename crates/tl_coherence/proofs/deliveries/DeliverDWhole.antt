@@ -15,7 +15,7 @@ use Rattle.tl_client.specs.declared.verdict.Verdict.{Verdict}
 use Rattle.tl_client.specs.statement.Endpoint as client
 use Rattle.tl_client.specs.statement.Offer as offer
 use Rattle.tl_coherence.specs.declared.event.Outcome.{Outcome}
-use Rattle.tl_coherence.proofs.{queues.Carried.IsNext, queues.Channels.pushes_at, queues.FirstToken.IsFirst}
+use Rattle.tl_coherence.proofs.{queues.Carried.IsNext, queues.FirstToken.IsFirst}
 use Rattle.tl_coherence.proofs.{queues.FirstToken.first-token, manager.UnwaitedRequests.next_tracker}
 use Rattle.tl_coherence.proofs.{queues.Tokens.holds-first, protocol.BothParts.acked-open}
 use Rattle.tl_coherence.proofs.protocol.HeadOfD.{grant_message, ack_message, answer-due, grant-due, grant-rendered}
@@ -32,13 +32,13 @@ use Rattle.tl_coherence.proofs.deliveries.DeliverDUnmoved.{bare, IsDelivered, de
 pub remembered_after : {w : ℕ} (config : Config) (log : Log w) (link : Link) (ch : Channel) (x : Step w)
     → stepped config (Deliver link ch) (system_after config log) ≡ x
     → one_memory_after config ((Deliver link ch, (stepped config (Deliver link ch) (system_after config log)).outcome)
-    ∷ log) ≡ performing (accesses_answered x.handed)
-    (moved (Deliver link ch) x.outcome (one_memory_after config log))
+    ∷ log) ≡ performing (accesses_answered x.handed) (moved (Deliver link ch) x.outcome (one_memory_after config log))
 unfolding one_memory_after
 remembered_after {w} config log link ch x e = cc e
 
-last_d : {w : ℕ} (config : Config) (log : Log w) (link : Link) (h h' : AbstractState w) (terms : client.EndConfig)
-    (x : Beat w) (queue : List (Beat w)) (mm : MessageD w)
+last_d : {w : ℕ} (config : Config) (log : Log w) (link : Link) (h : AbstractState w) {h' : AbstractState w}
+    {terms : client.EndConfig}
+    {x : Beat w} {queue : List (Beat w)} {mm : MessageD w}
     (is : IsLastBeat link.0 x queue (system_after config log) mm)
     → IsTakenByClient terms link.0 Channel.D x queue (system_after config log)
     (stepped config (Deliver link Channel.D) (system_after config log))
@@ -47,10 +47,9 @@ last_d : {w : ℕ} (config : Config) (log : Log w) (link : Link) (h h' : Abstrac
     (finish_at is.y ((system_after config log).clients link.0))
     (acked is.y.opcode is.y.sink) h' → IsDelivered config log link Channel.D h
 unfolding performing
-last_d {w} config log link h h' terms x queue mm is t same responded =
+last_d {w} config log link h {h'} {x} {queue} is t same responded =
     delivered_as config log link Channel.D h h' same (subst (λ (y : Step w). ChannelRelation h'.mail h'.state y.after)
-    (sym step_is) responded.carried)
-    (subst (λ (m : Machine w). MemoryRelation h'.mail h'.state m)
+    (sym step_is) responded.carried) (subst (λ (m : Machine w). MemoryRelation h'.mail h'.state m)
     (sym (remembered_after config log link Channel.D now step_is
     ∙ ap (λ (l : List (ℕ × ℕ)). performing l (moved (Deliver link Channel.D) now.outcome (one_memory_after config log)))
     responded.quiet)) responded.beside)
@@ -71,9 +70,8 @@ last_d {w} config log link h h' terms x queue mm is t same responded =
     same_parts : (t.verdict_is ≡ Verdict.Done is.y.source (finish_at is.y e))
         × (t.message ≡ acked is.y.opcode is.y.sink)
     same_parts = same_answers t.verdict_is (Verdict.Done is.y.source (finish_at is.y e)) t.message
-        (acked is.y.opcode is.y.sink)
-        (offer.taken x e).answer t.answer (ap (λ (z : Beat w). (offer.taken z e).answer) is.x_is ∙ answer-last is.y e
-        last)
+        (acked is.y.opcode is.y.sink) (offer.taken x e).answer t.answer
+        (ap (λ (z : Beat w). (offer.taken z e).answer) is.x_is ∙ answer-last is.y e last)
 
     step_is : stepped config (Deliver link Channel.D) sys ≡ now
     step_is = cc (t.step_is, same_parts.0, same_parts.1)
@@ -82,8 +80,8 @@ none_pushed : (w : ℕ) (at : Channel) (b : Bool) → (if b then pushes_of {w = 
 none_pushed w at true = refl
 none_pushed w at false = refl
 
-part_d : {w : ℕ} (config : Config) (log : Log w) (link : Link) (h : AbstractState w) (terms : client.EndConfig)
-    (x : Beat w) (queue : List (Beat w)) (mm : MessageD w)
+part_d : {w : ℕ} {config : Config} {log : Log w} (link : Link) (h : AbstractState w) {terms : client.EndConfig}
+    {x : Beat w} {queue : List (Beat w)} (mm : MessageD w)
     (k : ℕ) → IsWidth w → SimulationRelation config log h.mail h.request h.state (system_after config log)
     → (system_after config log).channels link.0 Channel.D ≡ x ∷ queue → x ≡ Beat.D (d_beat_of mm k)
     → completes x (unfinished Channel.D ((system_after config log).clients link.0).past) ≡ false
@@ -92,14 +90,11 @@ part_d : {w : ℕ} (config : Config) (log : Log w) (link : Link) (h : AbstractSt
     → abstract_step config (Deliver link Channel.D) (system_after config log) h ≡ h
     → IsDelivered config log link Channel.D h
 unfolding performing accesses_answered
-part_d {w} config log link h terms x queue mm k width is first x_is part t same =
-    delivered_as config log link Channel.D h h same
-    (subst (λ (y : Step w). ChannelRelation h.mail h.state y.after) (sym step_is)
-    (carried-part h.mail h.state link.0 Channel.D x queue (pushes_at link.0 (pushes_of None)) sys now.after width
+part_d {w} {config} {log} link h {terms} {x} {queue} mm k width is first x_is part t same =
+    delivered_as config log link Channel.D h h same (subst (λ (y : Step w). ChannelRelation h.mail h.state y.after)
+    (sym step_is) (carried-part h.mail h.state width
     (landed-client link.0 Channel.D x queue None (offer.taken x e).after sys refl first
-    (subst (λ (z : Beat w). IsOn Channel.D z) (sym x_is) (on_d y))
-    (client-heard terms link.0 Channel.D x queue sys (stepped config (Deliver link Channel.D) sys) width
-    (is.kept link.0) t))
+    (subst (λ (z : Beat w). IsOn Channel.D z) (sym x_is) (on_d y)) (client-heard width (is.kept link.0) t))
     (λ d at. none_pushed w at (d == link.0)) part is.carried))
     (subst (λ (m : Machine w). MemoryRelation h.mail h.state m)
     (sym (remembered_after config log link Channel.D now step_is)) is.beside)
@@ -132,13 +127,13 @@ pub rendered_release_ack : {w : ℕ} (c n : ℕ) (b : Block (List ℕ)) → bloc
 unfolding block_message
 rendered_release_ack c n b = refl
 
-pub delivered-d : {w : ℕ} (config : Config) (log : Log w) (link : Link) (h : AbstractState w) (terms : client.EndConfig)
+pub delivered-d : {w : ℕ} {config : Config} {log : Log w} (link : Link) (h : AbstractState w) (terms : client.EndConfig)
     (x : Beat w) (queue : List (Beat w)) → IsWidth w
     → SimulationRelation config log h.mail h.request h.state (system_after config log)
     → terms_at config link.0 ≡ Some terms → (system_after config log).channels link.0 Channel.D ≡ x ∷ queue
     → is_moving (stepped config (Deliver link Channel.D) (system_after config log)).outcome ≡ true
     → IsDelivered config log link Channel.D h
-delivered-d {w} config log link h terms x queue width is known beats moving =
+delivered-d {w} {config} {log} link h terms x queue width is known beats moving =
     kinds first.kind first.number first.tokens first.own first.next
   where
     sys : System w
@@ -157,7 +152,7 @@ delivered-d {w} config log link h terms x queue width is known beats moving =
     t = client-moves config link Channel.D sys terms x queue known beats refl moving
 
     heard : HasHeard x e (offer.taken x e).after
-    heard = client-heard terms c Channel.D x queue sys (stepped config (Deliver link Channel.D) sys) width (is.kept c) t
+    heard = client-heard width (is.kept c) t
 
     follows : abstract_step config (Deliver link Channel.D) sys h ≡ (if completes x (unfinished Channel.D e.past) then
         packet_taken config (next_tracker sys) c (h.state.link c).d h else h)
@@ -169,9 +164,8 @@ delivered-d {w} config log link h terms x queue width is known beats moving =
         → IsNext x (unfinished Channel.D e.past) (message_of_kind k h.mail h.state c i)
         (map (message_of h.mail h.state c) first.rest) queue
         → ((last : IsLastBeat c x queue sys mm) → IsResponded c x queue sys (one_memory_after config log) last.y.source
-        (finish_at last.y e)
-        (acked last.y.opcode last.y.sink) (kind_taken config (next_tracker sys) c k i first.rest h))
-        → IsDelivered config log link Channel.D h
+        (finish_at last.y e) (acked last.y.opcode last.y.sink) (kind_taken config (next_tracker sys) c k i first.rest
+        h)) → IsDelivered config log link Channel.D h
     by_message k i mm tokens message next responds = go (completes x (unfinished Channel.D e.past)) refl
       where
         x_is : x ≡ Beat.D (d_beat_of mm next.k)
@@ -190,11 +184,11 @@ delivered-d {w} config log link h terms x queue width is known beats moving =
               last = done;
               heard = heard;
             } in
-            last_d config log link h (kind_taken config (next_tracker sys) c k i first.rest h) terms x queue mm last t
+            last_d config log link h last t
             (follows ∙ ap (λ (b : Bool). if b then packet_taken config (next_tracker sys) c (h.state.link c).d h else h)
             done
             ∙ ap (λ (l : List Packet). packet_taken config (next_tracker sys) c l h) tokens) (responds last)
-        go false part = part_d config log link h terms x queue mm next.k width is beats x_is part t
+        go false part = part_d link h mm next.k width is beats x_is part t
             (follows ∙ ap (λ (b : Bool). if b then packet_taken config (next_tracker sys) c (h.state.link c).d h else h)
             part)
 
@@ -204,19 +198,19 @@ delivered-d {w} config log link h terms x queue width is known beats moving =
     kinds Answer i tokens own next =
         let due = answer-due (is_caching config) c i first.rest h.mail h.state is.invariant (is.answered c i) tokens in
         by_message Answer i due.answer tokens due.answer_is next
-        (λ last. responded-answer config log h sys c i first.rest x queue due width is tokens last)
+        (λ last. responded-answer h first.rest due width is tokens last)
     kinds Grant n tokens own next =
         let due = grant-due (is_caching config) c n first.rest h.state is.invariant tokens in
         by_message Grant n (grant_message due.data_too due.k ((h.state.block n).source c) (h.state.block n).tracker
         (h.state.block n).truth) tokens (grant-rendered c n h.state due) next
-        (λ last. responded-grant config log h sys c n first.rest x queue due width is tokens
-        (bare (is_caching config) c n h due is.invariant) last)
+        (λ last. responded-grant h first.rest due width is tokens
+        (bare h due is.invariant) last)
     kinds ReleaseAck n tokens own next =
         let acked_there = holds-first ReleaseAck (h.state.link c).d first.rest (packet ReleaseAck n)
         (λ i. shown ReleaseAck c (h.state.block i)) tokens refl
         (is.invariant.transfers c ReleaseAck refl) in
         by_message ReleaseAck n (ack_message ((h.state.block n).release_source c)) tokens
         (rendered_release_ack c n (h.state.block n)) next
-        (λ last. responded-release_ack config log h sys c n first.rest x queue width is tokens
+        (λ last. responded-release_ack h n first.rest width is tokens
         (acked-open ((h.state.block n).pair c).letting acked_there) last)
     kinds k i tokens own next = absurd cc

@@ -38,9 +38,8 @@ pub record IsOnLink {w : ℕ} (config : Config) (h : AbstractState w) (sys : Sys
   pub on_it : on kind (h.state.link c) ≡ packet kind i ∷ rest
   pub renders : message_of h.mail h.state c (packet kind i) ≡ Message.A m
   pub blank : IsBlankAfter (beats_of (Message.A m)) (Message.A m)
-  pub order : (k : ℕ) → k < beats_of (Message.A m) → unfinished Channel.A (on_link c sys.manager.trace) ≡ begun
-      (Message.A m) k
-      → must_wait config (link_of c) (Beat.A (a_beat_of m k)) sys.manager.trace ≡ false
+  pub order : (k : ℕ) → k < beats_of (Message.A m) → unfinished Channel.A (on_link c sys.manager.trace)
+      ≡ begun (Message.A m) k → must_wait config (link_of c) (Beat.A (a_beat_of m k)) sys.manager.trace ≡ false
       → broken_in_order config.profile (Beat.A (a_beat_of m k)) (on_link c sys.manager.trace) ≡ None
   pub early : (k : ℕ) → unfinished Channel.A (on_link c sys.manager.trace) ≡ begun (Message.A m) k
       → before_stall (broken_in_order config.profile (Beat.A (a_beat_of m k)) (on_link c sys.manager.trace)) ≡ None
@@ -65,55 +64,54 @@ pub record IsOnLink {w : ℕ} (config : Config) (h : AbstractState w) (sys : Sys
       → MemoryRelation h.mail h.state machine
       → IsOnce (accesses_answered (reaction config (link_of c) (Beat.A (a_beat_of m k)) sys.manager).handed) h machine
 
-pub ends-burst : {w : ℕ} (c k : ℕ) (m : MessageA w) (e : End w) → unfinished Channel.A (on_link c e.trace) ≡ begun
-    (Message.A m) k
-    → ends (Beat.A (a_beat_of m k)) (on_link c e.trace) ≡ (k + 1 == beats_of (Message.A m))
+pub ends-burst : {w : ℕ} (c k : ℕ) (m : MessageA w) (e : End w) → unfinished Channel.A (on_link c e.trace)
+    ≡ begun (Message.A m) k → ends (Beat.A (a_beat_of m k)) (on_link c e.trace) ≡ (k + 1 == beats_of (Message.A m))
 ends-burst c k m e burst = rw (burst, length-begun (Message.A m) k) refl
 
-on_link-access : {w : ℕ} (config : Config) (log : Log w) (h : AbstractState w) (sys : System w) (c source : ℕ)
+on_link-access : {w : ℕ} {config : Config} {log : Log w} (h : AbstractState w) {sys : System w} {c source : ℕ}
     (rest : List Packet)
     → SimulationRelation config log h.mail h.request h.state sys → (h.state.link c).a ≡ packet Request source ∷ rest
     → (asked : IsAsked config c source h.mail h.state) → IsOnLink config h sys c Request source rest asked.request
-on_link-access {w} config log h sys c source rest is first asked = record {
+on_link-access {w} {config} {log} h {sys} {c} {source} rest is first asked = record {
   tokens = first;
   on_it = first;
   renders = asked.is_it;
   blank = asked.blank;
-  order = λ k lt burst moves. order-access config log h.mail h.request h.state sys c source asked.request k is
+  order = λ k lt burst moves. order-access c source asked.request k is
       asked.used asked.source_is asked.access burst;
-  early = λ k burst. ap before_stall (order-access config log h.mail h.request h.state sys c source asked.request k is
+  early = λ k burst. ap before_stall (order-access c source asked.request k is
       asked.used asked.source_is asked.access burst);
-  unwaited = λ k more i src own j f same. unwaited-asked config log h.mail h.request h.state sys c source is asked.used
+  unwaited = λ k more i src own j f same. unwaited-asked c source is asked.used
       i src own j f (sym asked.source_is ∙ same);
-  ready = λ k comes last moves. ready-request config log h sys c source k is asked comes last moves;
-  after = λ k comes last moves. at_manager-request_taken config log h sys c source k rest is first asked comes last
+  ready = λ k comes last moves. ready-request h is asked comes last moves;
+  after = λ k comes last moves. at_manager-request_taken h rest is first asked comes last
       moves;
-  carried = λ k queue comes beats last moves. carried-request_taken config log h sys c source k rest queue is first
+  carried = λ k queue comes beats last moves. carried-request_taken h rest queue is first
       asked comes beats last moves;
-  beside = λ k machine comes last beside. beside-request_taken config log h sys c source k rest machine is asked comes
+  beside = λ k machine comes last beside. beside-request_taken h rest is asked comes
       last beside;
-  once = λ k machine comes last beside. request-once config log h sys c source k machine is asked comes last beside;
+  once = λ k machine comes last beside. request-once h is asked comes last beside;
 }
 
-on_link-acquire : {w : ℕ} (config : Config) (log : Log w) (h : AbstractState w) (sys : System w) (c n : ℕ)
+on_link-acquire : {w : ℕ} {config : Config} {log : Log w} (h : AbstractState w) {sys : System w} {c n : ℕ}
     (rest : List Packet) → IsWidth w
     → SimulationRelation config log h.mail h.request h.state sys → (h.state.link c).a ≡ packet Acquire n ∷ rest
     → (asked : IsWanted w c n h.state) → IsOnLink config h sys c Acquire n rest (acquire_wanted c n h.state asked)
-on_link-acquire {w} config log h sys c n rest width is first asked = record {
+on_link-acquire {w} {config} {log} h {sys} {c} {n} rest width is first asked = record {
   tokens = first;
   on_it = first;
   renders = asked.renders;
   blank = acquisition-blank w asked.whole asked.grow ((h.state.block n).source c) n width;
-  order = λ k lt burst moves. order-acquire config log h.mail h.request h.state sys c n k is asked
+  order = λ k lt burst moves. order-acquire k is asked
       (free k lt burst moves) burst;
-  early = λ k burst. early-acquire config log h.mail h.request h.state sys c n k is asked burst;
+  early = λ k burst. early-acquire k is asked burst;
   unwaited = λ k more. let one = acquisition_beats w asked.whole asked.grow ((h.state.block n).source c) n in
       absurd (omega (arith, more, one));
-  ready = λ k comes last moves. ready-acquire config log h sys c n k is asked comes last moves;
-  after = λ k comes last moves. at_manager-acquire_taken config log h sys c n k rest is first asked comes last moves;
-  carried = λ k queue comes beats last moves. carried-acquire_taken config log h sys c n k rest queue is first asked
+  ready = λ k comes last moves. ready-acquire h is asked comes last moves;
+  after = λ k comes last moves. at_manager-acquire_taken h rest is first asked comes last moves;
+  carried = λ k queue comes beats last moves. carried-acquire_taken h rest queue is first asked
       comes beats last moves;
-  beside = λ k machine comes last beside. beside-acquire_taken config log h sys c n k rest machine is asked comes last
+  beside = λ k machine comes last beside. beside-acquire_taken h rest is asked comes last
       beside;
   once = λ k machine comes last beside. inl (acquire-accesses config log h sys c n k is asked comes last);
 }
@@ -121,15 +119,14 @@ on_link-acquire {w} config log h sys c n rest width is first asked = record {
     m : MessageA w
     m = acquire_wanted c n h.state asked
 
-    free : (k : ℕ) → k < beats_of (Message.A m) → unfinished Channel.A (on_link c sys.manager.trace) ≡ begun
-        (Message.A m) k
-        → must_wait config (link_of c) (Beat.A (a_beat_of m k)) sys.manager.trace ≡ false
+    free : (k : ℕ) → k < beats_of (Message.A m) → unfinished Channel.A (on_link c sys.manager.trace)
+        ≡ begun (Message.A m) k → must_wait config (link_of c) (Beat.A (a_beat_of m k)) sys.manager.trace ≡ false
         → (h.state.block n).service ≡ Free
     free k lt burst moves =
         let one = acquisition_beats w asked.whole asked.grow ((h.state.block n).source c) n in
         let ended : ends (Beat.A (a_beat_of m k)) (on_link c sys.manager.trace) ≡ true =
         ends-burst c k m sys.manager burst ∙ is_last k (beats_of (Message.A m)) (omega (arith, lt, one)) in
-        let free_at = unserved-free h.request h.state sys.manager.trace (block_at m.address) is.managed
+        let free_at = unserved-free (block_at m.address) is.managed
         (or_parts (is_in_service (block_at m.address) (services sys.manager.trace))
         (nat_le config.trackers (length (services sys.manager.trace)))
         (rw ended at moves)).0 in
@@ -148,10 +145,10 @@ pub record IsArrival {w : ℕ} (config : Config) (h : AbstractState w) (sys : Sy
   pub next : IsNext x (unfinished Channel.A (on_link c sys.manager.trace)) (Message.A request)
       (map (message_of h.mail h.state c) rest) queue
 
-pub arrival-first : {w : ℕ} (config : Config) (log : Log w) (h : AbstractState w) (sys : System w) (c : ℕ) (x : Beat w)
+pub arrival-first : {w : ℕ} {config : Config} {log : Log w} (h : AbstractState w) {sys : System w} (c : ℕ) (x : Beat w)
     (queue : List (Beat w)) → IsWidth w → SimulationRelation config log h.mail h.request h.state sys
     → sys.channels c Channel.A ≡ x ∷ queue → IsArrival config h sys c x queue
-arrival-first {w} config log h sys c x queue width is beats = go (h.state.link c).a refl
+arrival-first {w} {config} {log} h {sys} c x queue width is beats = go (h.state.link c).a refl
   where
     Here : List Packet → Type 0
     Here xs = IsCarried (unfinished Channel.A (on_link c sys.manager.trace)) (map (message_of h.mail h.state c) xs)
@@ -172,18 +169,18 @@ arrival-first {w} config log h sys c x queue width is beats = go (h.state.link c
       rest = rest;
       request = m;
       is_it = on;
-      next = front-of config log h.mail h.request h.state sys c (packet k i) rest m x queue width is on.tokens
+      next = front-of c (packet k i) rest m x queue width is on.tokens
           on.renders beats;
     }
 
     of_kind : (k : Kind) (i : ℕ) (rest : List Packet) → (h.state.link c).a ≡ packet k i ∷ rest
         → IsArrival config h sys c x queue
     of_kind Request i rest e =
-        let asked = asked-first config log h.mail h.request h.state sys c i rest is e in
-        arrived Request i rest asked.request (on_link-access config log h sys c i rest is e asked)
+        let asked = asked-first c i rest is e in
+        arrived Request i rest asked.request (on_link-access h rest is e asked)
     of_kind Acquire i rest e =
-        let wanted = wanted-first config log h.mail h.request h.state sys c i rest is e in
-        arrived Acquire i rest (acquire_wanted c i h.state wanted) (on_link-acquire config log h sys c i rest width is e
+        let wanted = wanted-first c i rest is e in
+        arrived Acquire i rest (acquire_wanted c i h.state wanted) (on_link-acquire h rest width is e
         wanted)
     of_kind Probe i rest e = absurd (apart Probe i rest e refl)
     of_kind ProbeAck i rest e = absurd (apart ProbeAck i rest e refl)
@@ -199,15 +196,14 @@ arrival-first {w} config log h sys c x queue width is beats = go (h.state.link c
 
 -- ---- it is taken, or has to wait
 
-pub coming-arrival : {w : ℕ} (config : Config) (log : Log w) (h : AbstractState w) (sys : System w) (c : ℕ) (x : Beat w)
-    (queue : List (Beat w)) → IsWidth w
-    → SimulationRelation config log h.mail h.request h.state sys
+pub coming-arrival : {w : ℕ} {config : Config} {log : Log w} {h : AbstractState w} {sys : System w} {c : ℕ} {x : Beat w}
+    {queue : List (Beat w)} → IsWidth w → SimulationRelation config log h.mail h.request h.state sys
     → sys.channels c Channel.A ≡ x ∷ queue → (arrives : IsArrival config h sys c x queue)
-    → must_wait config (link_of c) x sys.manager.trace ≡ false
-    → IsComing config c arrives.next.k arrives.request sys.manager
-coming-arrival {w} config log h sys c x queue width is beats arrives moves =
+    → must_wait config (link_of c) x sys.manager.trace ≡ false → IsComing config c arrives.next.k arrives.request
+    sys.manager
+coming-arrival {w} {config} {log} {h} {sys} {c} {queue} width is beats arrives moves =
     let y = a_beat_of arrives.request arrives.next.k in
-    let first = first-beat config log h.mail h.request h.state sys c y queue is
+    let first = first-beat c y queue is
     (beats ∙ ap (λ (z : Beat w). z ∷ queue) arrives.next.beat_is) in
     let moves_so : must_wait config (link_of c) (Beat.A y) sys.manager.trace ≡ false =
     rw arrives.next.beat_is at moves in
@@ -218,37 +214,36 @@ coming-arrival {w} config log h sys c x queue width is beats arrives moves =
       burst = arrives.next.rest_is;
       typed = first.typed;
       blank = arrives.is_it.blank;
-      passes = passes-first config c y sys is.all_live first (arrives.is_it.order arrives.next.k arrives.next.within
+      passes = passes-first is.all_live first (arrives.is_it.order arrives.next.k arrives.next.within
           arrives.next.rest_is moves_so) moves_so;
     }
 
 -- a beat that is delivered on channel A and needn't wait is taken
-pub request-taken : {w : ℕ} (config : Config) (log : Log w) (h : AbstractState w) (sys : System w) (c : ℕ) (x : Beat w)
-    (queue : List (Beat w)) → IsWidth w → SimulationRelation config log h.mail h.request h.state sys
+pub request-taken : {w : ℕ} {config : Config} {log : Log w} {h : AbstractState w} {sys : System w} {c : ℕ} {x : Beat w}
+    {queue : List (Beat w)} → IsWidth w → SimulationRelation config log h.mail h.request h.state sys
     → sys.channels c Channel.A ≡ x ∷ queue → (arrives : IsArrival config h sys c x queue)
-    → must_wait config (link_of c) x sys.manager.trace ≡ false
-    → offered config (link_of c) Channel.A x sys.manager
+    → must_wait config (link_of c) x sys.manager.trace ≡ false → offered config (link_of c) Channel.A x sys.manager
     ≡ (
       manager.Sent (reaction config (link_of c) x sys.manager).handed,
       end_after config c arrives.next.k
           arrives.request sys.manager,
     )
-request-taken {w} config log h sys c x queue width is beats arrives moves =
-    let comes = coming-arrival config log h sys c x queue width is beats arrives moves in
+request-taken {w} {config} {log} {h} {sys} {c} {x} {queue} width is beats arrives moves =
+    let comes = coming-arrival width is beats arrives moves in
     rw arrives.next.beat_is (offered-taken config (link_of c) Channel.A
     (Beat.A (a_beat_of arrives.request arrives.next.k)) sys.manager comes.passes)
 
 -- and one that has to wait is stalled, and not refused
-pub request-stalled : {w : ℕ} (config : Config) (log : Log w) (h : AbstractState w) (sys : System w) (c : ℕ)
-    (x : Beat w) (queue : List (Beat w)) → SimulationRelation config log h.mail h.request h.state sys
+pub request-stalled : {w : ℕ} {config : Config} {log : Log w} {h : AbstractState w} {sys : System w} {c : ℕ}
+    {x : Beat w} {queue : List (Beat w)} → SimulationRelation config log h.mail h.request h.state sys
     → sys.channels c Channel.A ≡ x ∷ queue → (arrives : IsArrival config h sys c x queue)
     → must_wait config (link_of c) x sys.manager.trace ≡ true
     → offered config (link_of c) Channel.A x sys.manager ≡ (manager.Stalled, sys.manager)
-request-stalled {w} config log h sys c x queue is beats arrives waits =
+request-stalled {w} {config} {log} {h} {sys} {c} {queue} is beats arrives waits =
     let y = a_beat_of arrives.request arrives.next.k in
-    let first = first-beat config log h.mail h.request h.state sys c y queue is
+    let first = first-beat c y queue is
     (beats ∙ ap (λ (z : Beat w). z ∷ queue) arrives.next.beat_is) in
     let waits_so : must_wait config (link_of c) (Beat.A y) sys.manager.trace ≡ true =
     rw arrives.next.beat_is at waits in
     rw arrives.next.beat_is (offered-stalled config (link_of c) Channel.A (Beat.A y) sys.manager
-    (waits-first config c y sys is.all_live first (arrives.is_it.early arrives.next.k arrives.next.rest_is) waits_so))
+    (waits-first is.all_live first (arrives.is_it.early arrives.next.k arrives.next.rest_is) waits_so))

@@ -20,24 +20,20 @@ use Rattle.tl_coherence.proofs.manager.UnwaitedRequests.{next_tracker, invariant
 -- ---- channel A
 
 -- a request that is moved needn't wait
-pub request-moves : {w : ℕ} (config : Config) (log : Log w) (mail : AccessMessages w) (request : ℕ → MessageA w)
-    (s : State (List ℕ)) (sys : System w) (link : Link) (x : Beat w) (queue : List (Beat w))
+pub request-moves : {w : ℕ} {config : Config} {log : Log w} {mail : AccessMessages w} {request : ℕ → MessageA w}
+    {s : State (List ℕ)} {sys : System w} (link : Link) {x : Beat w} {queue : List (Beat w)}
     → SimulationRelation config log mail request s sys → is_moving (stepped config (Deliver link Channel.A) sys).outcome
-    ≡ true
-    → sys.channels link.0 Channel.A ≡ x ∷ queue → IsArrival config (shadow_of mail request s) sys link.0 x queue
+    ≡ true → sys.channels link.0 Channel.A ≡ x ∷ queue → IsArrival config (shadow_of mail request s) sys link.0 x queue
     → must_wait config (record { 0 = link.0 }) x sys.manager.trace ≡ false
-request-moves {w} config log mail request s sys link x queue h moving beats arrives =
+request-moves {w} {config} {log} {mail} {request} {s} {sys} link {x} {queue} h moving beats arrives =
     go (must_wait config (record { 0 = link.0 }) x sys.manager.trace) refl
   where
     stands : (terms : EndConfig) → terms_at config link.0 ≡ Some terms
         → must_wait config (record { 0 = link.0 }) x sys.manager.trace ≡ true
         → is_moving (stepped config (Deliver link Channel.A) sys).outcome ≡ false
-    stands terms at waits =
-        ap (λ (i : Step w). is_moving i.outcome) (stepped-to-manager config link Channel.A sys terms x queue at beats
-        refl)
-        ∙ ap (λ (a : manager.Reception w × manager_end.End w). is_moving
-        (manager_took link.0 Channel.A x queue a sys).outcome)
-        (request-stalled config log (shadow_of mail request s) sys link.0 x queue h beats arrives waits)
+    stands terms at waits = ap (λ (i : Step w). is_moving i.outcome) (stepped-to-manager config link Channel.A sys terms
+        x queue at beats refl) ∙ ap (λ (a : manager.Reception w × manager_end.End w). is_moving
+        (manager_took link.0 Channel.A x queue a sys).outcome) (request-stalled h beats arrives waits)
 
     at_terms : (o : Option EndConfig) → terms_at config link.0 ≡ o
         → must_wait config (record { 0 = link.0 }) x sys.manager.trace ≡ true
@@ -52,15 +48,15 @@ request-moves {w} config log mail request s sys link x queue h moving beats arri
 head_is : (x y : Packet) (xs ys : List Packet) → x ∷ xs ≡ y ∷ ys → x ≡ y
 head_is x y xs ys e = cc
 
-ready-a : {w : ℕ} (config : Config) (log : Log w) (mail : AccessMessages w) (request : ℕ → MessageA w)
-    (s : State (List ℕ)) (sys : System w) (link : Link) (x : Beat w) (queue : List (Beat w)) → IsWidth w
+ready-a : {w : ℕ} {config : Config} {log : Log w} {mail : AccessMessages w} {request : ℕ → MessageA w}
+    {s : State (List ℕ)} {sys : System w} {link : Link} {x : Beat w} {queue : List (Beat w)} → IsWidth w
     → SimulationRelation config log mail request s sys → (d : IsDelivery config mail s sys link Channel.A x queue)
     → IsReady (next_tracker sys) link.0 d.first.kind d.first.number (shadow_of mail request s)
-ready-a {w} config log mail request s sys link x queue width h d =
+ready-a {w} {config} {log} {mail} {request} {s} {sys} {link} {x} {queue} width h d =
     let next_number : (k n : ℕ) → k + 1 ≡ n → n ≡ suc k = λ k n e. omega (arith, e) in
-    let arrives = arrival-first config log (shadow_of mail request s) sys link.0 x queue width h d.beats in
-    let moves = request-moves config log mail request s sys link x queue h d.moves d.beats arrives in
-    let comes = coming-arrival config log (shadow_of mail request s) sys link.0 x queue width h d.beats arrives moves in
+    let arrives = arrival-first (shadow_of mail request s) link.0 x queue width h d.beats in
+    let moves = request-moves link h d.moves d.beats arrives in
+    let comes = coming-arrival width h d.beats arrives moves in
     let last = eqb-true (arrives.next.k + 1) (beats_of (Message.A arrives.request)) (sym arrives.next.completes_is
     ∙ d.whole) in
     let moves_so : must_wait config (record { 0 = link.0 }) (Beat.A (a_beat_of arrives.request arrives.next.k))
@@ -90,42 +86,34 @@ ready_up tracker c ch k i h up own = absurd cc
 
 -- what is taken with the last beat of a message may be taken
 pub ready-delivered : {w : ℕ} (config : Config) (log : Log w) (mail : AccessMessages w) (request : ℕ → MessageA w)
-    (s : State (List ℕ)) (sys : System w) (link : Link)
-    (ch : Channel) (x : Beat w) (queue : List (Beat w)) → IsWidth w
+    (s : State (List ℕ)) (sys : System w) (link : Link) (ch : Channel) (x : Beat w) (queue : List (Beat w)) → IsWidth w
     → SimulationRelation config log mail request s sys → (d : IsDelivery config mail s sys link ch x queue)
     → IsReady (next_tracker sys) link.0 d.first.kind d.first.number (shadow_of mail request s)
-ready-delivered config log mail request s sys link Channel.A x queue width h d =
-    ready-a config log mail request s sys link x queue width h d
+ready-delivered config log mail request s sys link Channel.A x queue width h d = ready-a width h d
 ready-delivered config log mail request s sys link Channel.B x queue width h d =
-    ready-client config log mail request s sys link Channel.B d.first.kind d.first.number d.first.rest x queue width h
-    refl d.first.own d.moves d.beats
+    ready-client link Channel.B d.first.kind d.first.number d.first.rest width h refl d.first.own d.moves d.beats
     d.first.tokens d.first.next
 ready-delivered config log mail request s sys link Channel.C x queue width h d =
     ready_up (next_tracker sys) link.0 Channel.C d.first.kind d.first.number (shadow_of mail request s) refl d.first.own
 ready-delivered config log mail request s sys link Channel.D x queue width h d =
-    ready-client config log mail request s sys link Channel.D d.first.kind d.first.number d.first.rest x queue width h
-    refl d.first.own d.moves d.beats
+    ready-client link Channel.D d.first.kind d.first.number d.first.rest width h refl d.first.own d.moves d.beats
     d.first.tokens d.first.next
 ready-delivered config log mail request s sys link Channel.E x queue width h d =
     ready_up (next_tracker sys) link.0 Channel.E d.first.kind d.first.number (shadow_of mail request s) refl d.first.own
 
-invariant-delivered : {w : ℕ} (config : Config) (log : Log w) (mail : AccessMessages w) (request : ℕ → MessageA w)
-    (s : State (List ℕ)) (sys : System w) (link : Link)
-    (ch : Channel) (x : Beat w) (queue : List (Beat w)) → IsWidth w
+invariant-delivered : {w : ℕ} {config : Config} {log : Log w} {mail : AccessMessages w} {request : ℕ → MessageA w}
+    {s : State (List ℕ)} {sys : System w} {link : Link} {ch : Channel} {x : Beat w} {queue : List (Beat w)} → IsWidth w
     → SimulationRelation config log mail request s sys → (d : IsDelivery config mail s sys link ch x queue)
     → IsInvariant (is_caching config) (taken_of config mail request s sys link.0 d.first.kind d.first.number
     d.first.rest).state
-invariant-delivered config log mail request s sys link ch x queue width h d =
+invariant-delivered {config} {log} {mail} {request} {s} {sys} {link} {ch} {x} {queue} width h d =
     invariant-taken config log (shadow_of mail request s) sys link.0 d.first.kind d.first.number d.first.rest h
-    (on-first config mail s sys link ch x queue d)
-    (ready-delivered config log mail request s sys link ch x queue width h d)
+    (on-first d) (ready-delivered config log mail request s sys link ch x queue width h d)
 
-pub invariant-followed : {w : ℕ} (config : Config) (log : Log w) (mail : AccessMessages w) (request : ℕ → MessageA w)
-    (s : State (List ℕ)) (sys : System w)
+pub invariant-followed : {w : ℕ} {config : Config} {log : Log w} {mail : AccessMessages w} {request : ℕ → MessageA w}
+    {s : State (List ℕ)} {sys : System w}
     (event : Event w) → IsWidth w → SimulationRelation config log mail request s sys
     → IsInvariant (is_caching config) (abstract_step config event sys (shadow_of mail request s)).state
-invariant-followed {w} config log mail request s sys event width h =
-    followed-cases config log mail request s sys event (λ (i : AbstractState w). IsInvariant (is_caching config)
-    i.state) width h h.invariant
-    (λ terms c o at. invariant-asked config log mail request s sys terms c o h at)
-    (λ link ch x queue d. invariant-delivered config log mail request s sys link ch x queue width h d)
+invariant-followed {w} {config} {log} {mail} {request} {s} {sys} event width h =
+    followed-cases event (λ (i : AbstractState w). IsInvariant (is_caching config) i.state) width h h.invariant
+    (λ terms c o at. invariant-asked terms c o h at) (λ link ch x queue d. invariant-delivered width h d)

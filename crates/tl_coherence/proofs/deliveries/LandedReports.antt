@@ -38,12 +38,11 @@ least Perm.None e = refl
 least p e = absurd cc
 
 -- a service that probes toN, with its last ProbeAck: nobody is recorded then
-unrecorded : (caching : ℕ → Bool) (c q source : ℕ) (r : Report) (f : List ℕ → List ℕ) (b : Block (List ℕ))
-    → IsWell caching b
-    → b.service ≡ Waits q false source Cap.ToN → (b.pair c).probing ≡ ProbeAnswered r
+unrecorded : {caching : ℕ → Bool} (c q source : ℕ) (r : Report) (f : List ℕ → List ℕ) {b : Block (List ℕ)}
+    → IsWell caching b → b.service ≡ Waits q false source Cap.ToN → (b.pair c).probing ≡ ProbeAnswered r
     → ((d : ℕ) → (d ≡ c → ⊥) → is_unprobed (b.pair d).probing ≡ true) → (d : ℕ)
     → same_perm ((ended_block c r f b).pair d).recorded Perm.None ≡ true
-unrecorded caching c q source r f b well waits answered settled d = elim (cases_eq d c) [
+unrecorded c q source r f {b} well waits answered settled d = elim (cases_eq d c) [
   | inl same ↦
       rw (same, set-same c (after_report r (b.pair c)) b.pair)
       (least (report_right r) (reported_within Cap.ToN r (b.pair c) (view b.service c) (well.phases c)
@@ -55,17 +54,16 @@ unrecorded caching c q source r f b well waits answered settled d = elim (cases_
 ]
 
 pub ended-bytes : {w : ℕ} (caching : ℕ → Bool) (c q source : ℕ) (r : Report) (k : Cap) (m : MessageA w)
-    (b : Block (List ℕ)) → IsWell caching b
-    → IsWell caching (ended_block c r (performs m) b) → b.service ≡ Waits q false source k
-    → (b.pair c).probing ≡ ProbeAnswered r → ((d : ℕ) → (d ≡ c → ⊥) → is_unprobed (b.pair d).probing ≡ true)
-    → is_acquire m.opcode ≡ false → cap_probed m.opcode m.param ≡ Some k → length b.truth ≡ 64
-    → (j : Kind) (i : ℕ) → shown j i b ≡ true → shown j i (ended_block c r (performs m) b) ≡ true
-    → (carries j i b ≡ false) ⊎ (performs m b.truth ≡ b.truth)
+    (b : Block (List ℕ)) → IsWell caching b → IsWell caching (ended_block c r (performs m) b)
+    → b.service ≡ Waits q false source k → (b.pair c).probing ≡ ProbeAnswered r
+    → ((d : ℕ) → (d ≡ c → ⊥) → is_unprobed (b.pair d).probing ≡ true) → is_acquire m.opcode ≡ false
+    → cap_probed m.opcode m.param ≡ Some k → length b.truth ≡ 64 → (j : Kind) (i : ℕ) → shown j i b ≡ true
+    → shown j i (ended_block c r (performs m) b) ≡ true → (carries j i b ≡ false) ⊎ (performs m b.truth ≡ b.truth)
 ended-bytes {w} caching c q source r k m b before after waits answered settled access low long j i shown_now
     shown_after = elim (leaves-bytes m b.truth access long) [
       | inl same ↦ inr same
       | inr all ↦ inl (kept j shown_after ∙ none-carried caching new after
-          (λ d. rw (unrecorded caching c q source r (performs m) b before
+          (λ d. rw (unrecorded c q source r (performs m) before
           (rw (same_Some k Cap.ToN (sym low ∙ all)) at waits) answered settled d)
           (or-true (same_perm (new.pair d).held Perm.Trunk))) j i)
     ]
@@ -96,16 +94,14 @@ no-messages : {w : ℕ} (s : System w) (d : ℕ) (at : Channel)
 unfolding with_messages
 no-messages s d at = refl
 
-pub landed-taken : {w : ℕ} (config : Config) (c : ℕ) (ch : Channel) (x : Beat w) (queue : List (Beat w))
-    (sys : System w) (t : EndConfig) (handed : Handed w)
-    (pushes : ℕ → Channel → Option (Message w)) → IsWidth w → manager.IsKept config sys.manager
-    → manager.IsTyped x → is_to_client ch ≡ false → IsOn ch x → terms_at config c ≡ Some t
-    → sys.channels c ch ≡ x ∷ queue → IsTakenUp config c ch x sys.manager
+pub landed-taken : {w : ℕ} {config : Config} {c : ℕ} {ch : Channel} {x : Beat w} (queue : List (Beat w))
+    (sys : System w) (t : EndConfig) (handed : Handed w) (pushes : ℕ → Channel → Option (Message w)) → IsWidth w
+    → manager.IsKept config sys.manager → manager.IsTyped x → is_to_client ch ≡ false → IsOn ch x
+    → terms_at config c ≡ Some t → sys.channels c ch ≡ x ∷ queue → IsTakenUp config c ch x sys.manager
     → (reaction config (record { 0 = c }) x sys.manager).handed ≡ handed
     → ((s : System w) (d : ℕ) (at : Channel) → (with_messages handed s).channels d at ≡ behind (pushes d at)
-    (s.channels d at))
-    → IsLanded c ch x queue pushes sys (stepped config (Deliver (record { 0 = c }) ch) sys).after
-landed-taken {w} config c ch x queue sys t handed pushes width kept typed down on_ch terms beats up is pushed =
+    (s.channels d at)) → IsLanded c ch x queue pushes sys (stepped config (Deliver (record { 0 = c }) ch) sys).after
+landed-taken {w} {config} {c} {ch} {x} queue sys t handed pushes width kept typed down on_ch terms beats up is pushed =
     let e : End w = left c x (reaction config (record { 0 = c }) x sys.manager) sys.manager in
     let base : System w = with_manager e (with_channel c ch queue sys) in
     let step = step-taken config c ch x queue sys t terms beats down up in
@@ -132,16 +128,14 @@ pub record IsReceived {w : ℕ} (config : Config) (log : Log w) (h : AbstractSta
   pub on_ch : IsOn ch x
   pub up : IsTakenUp config c ch x sys.manager
 
-landed-received : {w : ℕ} (config : Config) (log : Log w) (h : AbstractState w) (sys : System w) (c : ℕ) (ch : Channel)
-    (x : Beat w) (queue : List (Beat w))
-    (handed : Handed w) (pushes : ℕ → Channel → Option (Message w)) → IsReceived config log h sys c ch x queue
-    → (reaction config (record { 0 = c }) x sys.manager).handed ≡ handed
+landed-received : {w : ℕ} {config : Config} {log : Log w} {h : AbstractState w} {sys : System w} {c : ℕ} {ch : Channel}
+    {x : Beat w} {queue : List (Beat w)} (handed : Handed w) (pushes : ℕ → Channel → Option (Message w))
+    → IsReceived config log h sys c ch x queue → (reaction config (record { 0 = c }) x sys.manager).handed ≡ handed
     → ((s : System w) (d : ℕ) (at : Channel) → (with_messages handed s).channels d at ≡ behind (pushes d at)
-    (s.channels d at))
-    → IsLanded c ch x queue pushes sys (stepped config (Deliver (record { 0 = c }) ch) sys).after
-landed-received {w} config log h sys c ch x queue handed pushes at is pushed =
+    (s.channels d at)) → IsLanded c ch x queue pushes sys (stepped config (Deliver (record { 0 = c }) ch) sys).after
+landed-received {w} {config} {sys} {c} {ch} {x} {queue} handed pushes at is pushed =
     let t = client-of config c ch x queue sys at.beats (at.is.sound c ch) in
-    landed-taken config c ch x queue sys t.0 handed pushes at.width at.is.manager_kept
+    landed-taken queue sys t.0 handed pushes at.width at.is.manager_kept
     (head_all (λ y. manager.IsSound config (record { 0 = c }, y)) x queue (sys.channels c ch) at.beats
     (at.is.sound c ch)).typed at.down at.on_ch t.1
     at.beats at.up is pushed
@@ -152,38 +146,30 @@ CarriesAfter config c ch sys h =
     ChannelRelation h.mail h.state (stepped config (Deliver (record { 0 = c }) ch) sys).after
 
 -- a beat that isn't the last of its message
-pub part-carried : {w : ℕ} (config : Config) (log : Log w) (h : AbstractState w) (sys : System w) (c : ℕ) (ch : Channel)
-    (x : Beat w) (queue : List (Beat w))
+pub part-carried : {w : ℕ} {config : Config} {log : Log w} {h : AbstractState w} {sys : System w} {c : ℕ} {ch : Channel}
+    {x : Beat w} {queue : List (Beat w)}
     → IsReceived config log h sys c ch x queue → (reaction config (record { 0 = c }) x sys.manager).handed ≡ []
     → completes x (unfinished ch (receiver ch c sys)) ≡ false → CarriesAfter config c ch sys h
-part-carried config log h sys c ch x queue at none part =
-    carried-part h.mail h.state c ch x queue no_pushes sys (stepped config (Deliver (record { 0 = c }) ch) sys).after
-    at.width
-    (landed-received config log h sys c ch x queue [] no_pushes at none no-messages) (λ d i. refl) part at.is.carried
+part-carried {config} {log} {h} {sys} {c} {ch} {x} {queue} at none part =
+    carried-part h.mail h.state at.width (landed-received [] no_pushes at none no-messages) (λ d i. refl) part
+    at.is.carried
 
 -- its last beat, for which one message is handed out, or none
-pub last-quietly : {w : ℕ} (config : Config) (log : Log w) (h : AbstractState w) (sys : System w) (c : ℕ) (ch : Channel)
-    (x : Beat w) (queue : List (Beat w))
-    → IsReceived config log h sys c ch x queue → (reaction config (record { 0 = c }) x sys.manager).handed ≡ []
-    → completes x (unfinished ch (receiver ch c sys)) ≡ true
-    → IsTaken c ch x queue no_pushes sys (stepped config (Deliver (record { 0 = c }) ch) sys).after
-last-quietly config log h sys c ch x queue at none last =
-    taken-landed c ch x queue no_pushes sys (stepped config (Deliver (record { 0 = c }) ch) sys).after
-    (landed-received config log h sys c ch x queue [] no_pushes at none no-messages) last
+pub last-quietly : {w : ℕ} {config : Config} {log : Log w} {h : AbstractState w} {sys : System w} {c : ℕ} {ch : Channel}
+    {x : Beat w} {queue : List (Beat w)} → IsReceived config log h sys c ch x queue
+    → (reaction config (record { 0 = c }) x sys.manager).handed ≡ [] → completes x (unfinished ch (receiver ch c sys))
+    ≡ true → IsTaken c ch x queue no_pushes sys (stepped config (Deliver (record { 0 = c }) ch) sys).after
+last-quietly {config} {log} {h} {sys} {c} {ch} {x} {queue} at none last =
+    taken-landed (landed-received [] no_pushes at none no-messages) last
 
-pub last-handing : {w : ℕ} (config : Config) (log : Log w) (h : AbstractState w) (sys : System w) (c q : ℕ)
-    (ch : Channel)
-    (x : Beat w) (queue : List (Beat w))
-    (m : Message w) → IsReceived config log h sys c ch x queue
+pub last-handing : {w : ℕ} {config : Config} {log : Log w} {h : AbstractState w} {sys : System w} {c : ℕ} (q : ℕ)
+    {ch : Channel} {x : Beat w} {queue : List (Beat w)} (m : Message w) → IsReceived config log h sys c ch x queue
     → (reaction config (record { 0 = c }) x sys.manager).handed ≡ (record { 0 = q }, m) ∷ []
-    → completes x (unfinished ch (receiver ch c sys)) ≡ true
-    → IsTaken c ch x queue (pushes_at q (pushes_of (Some m))) sys
-    (stepped config (Deliver (record { 0 = c }) ch) sys).after
-last-handing config log h sys c q ch x queue m at one last =
-    taken-landed c ch x queue (pushes_at q (pushes_of (Some m))) sys
-    (stepped config (Deliver (record { 0 = c }) ch) sys).after
-    (landed-received config log h sys c ch x queue ((record { 0 = q }, m) ∷ []) (pushes_at q (pushes_of (Some m))) at
-    one (λ s d i. channels-handed q (Some m) s d i)) last
+    → completes x (unfinished ch (receiver ch c sys)) ≡ true → IsTaken c ch x queue (pushes_at q (pushes_of (Some m)))
+    sys (stepped config (Deliver (record { 0 = c }) ch) sys).after
+last-handing {config} {log} {h} {sys} {c} q {ch} {x} {queue} m at one last =
+    taken-landed (landed-received ((record { 0 = q }, m) ∷ []) (pushes_at q (pushes_of (Some m))) at one
+    (λ s d i. channels-handed q (Some m) s d i)) last
 
 -- ---- which messages are of channel D
 

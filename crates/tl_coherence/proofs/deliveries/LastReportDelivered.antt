@@ -66,24 +66,22 @@ pushed config c _ n h h' = []
 
 -- what is kept of the manager's end after this beat, and what it hands out
 abbrev pub Does : {w : ℕ} → Config → ℕ → AbstractState w → AbstractState w → Kind → ℕ → End w → Beat w → Type 0
-Does config c h h' kind n e x =
-    IsManagerOf config h' (left c x (reaction config (record { 0 = c }) x e) e)
+Does config c h h' kind n e x = IsManagerOf config h' (left c x (reaction config (record { 0 = c }) x e) e)
     × ((reaction config (record { 0 = c }) x e).handed ≡ pushed config c kind n h h')
 
 -- ---- a ProbeAck
 
 -- where its last beat is taken
-pub reported-last : {w : ℕ} (config : Config) (log : Log w) (h : AbstractState w) (sys : System w) (c n k : ℕ)
-    (rest : List Packet) (m : MessageC w) → SimulationRelation config log h.mail h.request h.state sys
-    → (h.state.link c).c ≡ packet ProbeAck n ∷ rest → ((h.state.block n).pair c).probing ≡ ProbeAnswered
-    (report_told ((h.state.block n).pair c).probing)
+pub reported-last : {w : ℕ} {config : Config} {log : Log w} (h : AbstractState w) {sys : System w} {c n k : ℕ}
+    (rest : List Packet) {m : MessageC w} → SimulationRelation config log h.mail h.request h.state sys
+    → (h.state.link c).c ≡ packet ProbeAck n ∷ rest → ((h.state.block n).pair c).probing
+    ≡ ProbeAnswered (report_told ((h.state.block n).pair c).probing)
     → IsTakenUp config c Channel.C (Beat.C (c_beat_of m k)) sys.manager
     → IsEnd true c n (report_code (report_told ((h.state.block n).pair c).probing))
     (same_perm (report_left (report_told ((h.state.block n).pair c).probing)) Perm.Trunk) (h.state.block n).truth k m
-    sys.manager
-    → Does config c h (ack_taken (length config.clients.items) config.profile c n
+    sys.manager → Does config c h (ack_taken (length config.clients.items) config.profile c n
     (report_told ((h.state.block n).pair c).probing) rest h) ProbeAck n sys.manager (Beat.C (c_beat_of m k))
-reported-last {w} config log h sys c n k rest m is tokens answered up end =
+reported-last {w} {config} {log} h {sys} {c} {n} {k} rest {m} is tokens answered up end =
     others (some_below (length config.clients.items) (others_probed c b.pair)) refl
     (invariant-taken config log h sys c ProbeAck n rest is tokens tt)
   where
@@ -113,9 +111,8 @@ reported-last {w} config log h sys c n k rest m is tokens answered up end =
     unseen false u v f g i = cc
 
     last : some_below (length config.clients.items) (others_probed c b.pair) ≡ false → (service : Service)
-        → b.service ≡ service
-        → IsInvariant (is_caching config) (last_taken (length config.clients.items) config.profile c n r service rest
-        h).state
+        → b.service ≡ service → IsInvariant (is_caching config) (last_taken (length config.clients.items) config.profile
+        c n r service rest h).state
         → Result (last_taken (length config.clients.items) config.profile c n r service rest h)
         (pushed_last n service (last_taken (length config.clients.items) config.profile c n r service rest h))
     last alone Free f inv = absurd (let other : false ≡ true = rw f at seen in cc)
@@ -131,10 +128,10 @@ reported-last {w} config log h sys c n k rest m is tokens answered up end =
           waits = f;
           named = is.invariant.named;
           is =
-              at_manager-matched config log h.mail h.request h.state sys is;
+              at_manager-matched is;
         } in (
-          ended-left config c q n source k low r rest m h e at,
-          ap (λ (d : Reaction w). d.handed) (reaction-ended config c q n source k low r m h e at)
+          ended-left rest at,
+          ap (λ (d : Reaction w). d.handed) (reaction-ended at)
               ∙ rw (set_at-same q source (answers (h.request n) (protocol.written r b.truth b.memory)) h.mail.answer)
               refl,
         )
@@ -157,8 +154,7 @@ reported-last {w} config log h sys c n k rest m is tokens answered up end =
 
         go : (y : AcquirePhase) → (b.pair q).acquiring ≡ y
             → IsInvariant (is_caching config) (granted_after (length config.clients.items) config.profile c q n r y rest
-            h).state
-            → Result (granted_after (length config.clients.items) config.profile c q n r y rest h)
+            h).state → Result (granted_after (length config.clients.items) config.profile c q n r y rest h)
             ((
               record { 0 = q },
               block_message Grant q n
@@ -175,7 +171,7 @@ reported-last {w} config log h sys c n k rest m is tokens answered up end =
               waits = f;
               named = is.invariant.named;
               is =
-                  at_manager-matched config log h.mail h.request h.state sys is;
+                  at_manager-matched is;
             } in
             let wanted : IsWanted c q n source whole grow h =
             record {
@@ -188,8 +184,8 @@ reported-last {w} config log h sys c n k rest m is tokens answered up end =
             let new : Block (List ℕ) = granted_block c q r (is_granted_data whole grow (b.pair q).recorded)
             (gift_after config c n r whole grow h) b in
             let here : set n new h.state.block n ≡ new = set-same n new h.state.block in (
-              conceded-left config c q n source k low r whole grow rest m h e at wanted,
-              ap (λ (d : Reaction w). d.handed) (reaction-conceded config c q n source k low r whole grow m h e at
+              conceded-left rest at wanted,
+              ap (λ (d : Reaction w). d.handed) (reaction-conceded at
                   wanted)
                   ∙ ap (λ (i : Message w). (record { 0 = q }, i) ∷ [])
                   (grant-rendered config (is_caching config) c q n source r whole grow h own_source
@@ -200,13 +196,13 @@ reported-last {w} config log h sys c n k rest m is tokens answered up end =
         → IsInvariant (is_caching config) (if y then with_state (report_taken c n r rest h.state) h else last_taken
         (length config.clients.items) config.profile c n r b.service rest h).state
         → Result (if y then with_state (report_taken c n r rest h.state) h else last_taken (length config.clients.items)
-        config.profile c n r b.service rest h)
-        (if some_below (length config.clients.items) (others_probed c b.pair) then [] else pushed_last n b.service
-        (if y then with_state (report_taken c n r rest h.state) h else last_taken (length config.clients.items)
-        config.profile c n r b.service rest h))
+        config.profile c n r b.service rest h) (if some_below (length config.clients.items) (others_probed c b.pair)
+        then [] else pushed_last n b.service (if y then with_state (report_taken c n r rest h.state) h else last_taken
+        (length config.clients.items) config.profile c n r b.service rest h))
     others true f inv = (
-      reported-left config c n k r rest m h e up end f (at_manager-matched config log h.mail h.request h.state sys is),
-      ap (λ (d : Reaction w). d.handed) (reaction-reported config c n k r m h e end f is.managed) ∙ rw f refl,
+      reported-left r rest h up end f (at_manager-matched is),
+      ap (λ (d : Reaction w). d.handed)
+          (reaction-reported config r h end f is.managed) ∙ rw f refl,
     )
     others false f inv =
         let done = last f b.service refl inv in

@@ -18,8 +18,7 @@ use Rattle.tl_coherence.proofs.queues.Steps.{manager-with_messages, stepped-to-m
 
 -- a link that has a beat is a client's
 pub client-of : {w : ℕ} (config : Config) (c : ℕ) (ch : Channel) (x : Beat w) (queue : List (Beat w)) (sys : System w)
-    → sys.channels c ch ≡ x ∷ queue
-    → All (λ y. manager.IsSound config (record { 0 = c }, y)) (sys.channels c ch)
+    → sys.channels c ch ≡ x ∷ queue → All (λ y. manager.IsSound config (record { 0 = c }, y)) (sys.channels c ch)
     → (t : EndConfig) × (terms_at config c ≡ Some t)
 client-of {w} config c ch x queue sys beats sound =
     let all : All (λ y. manager.IsSound config (record { 0 = c }, y)) (x ∷ queue) = rw beats at sound in
@@ -39,9 +38,8 @@ client-of {w} config c ch x queue sys beats sound =
 
 -- what the step is
 pub step-taken : {w : ℕ} (config : Config) (c : ℕ) (ch : Channel) (x : Beat w) (queue : List (Beat w)) (sys : System w)
-    (t : EndConfig) → terms_at config c ≡ Some t
-    → sys.channels c ch ≡ x ∷ queue → is_to_client ch ≡ false → IsTakenUp config c ch x sys.manager
-    → stepped config (Deliver (record { 0 = c }) ch) sys
+    (t : EndConfig) → terms_at config c ≡ Some t → sys.channels c ch ≡ x ∷ queue → is_to_client ch ≡ false
+    → IsTakenUp config c ch x sys.manager → stepped config (Deliver (record { 0 = c }) ch) sys
     ≡ handing (Outcome.Moved x) (reaction config (record { 0 = c }) x sys.manager).handed
     (with_manager (left c x (reaction config (record { 0 = c }) x sys.manager) sys.manager)
     (with_channel c ch queue sys))
@@ -49,59 +47,58 @@ step-taken {w} config c ch x queue sys t terms beats down up =
     cc (stepped-to-manager config (record { 0 = c }) ch sys t x queue terms beats down, up.answer)
 
 pub manager-taken : {w : ℕ} (config : Config) (c : ℕ) (ch : Channel) (x : Beat w) (queue : List (Beat w))
-    (sys : System w) (t : EndConfig)
-    → terms_at config c ≡ Some t → sys.channels c ch ≡ x ∷ queue → is_to_client ch ≡ false
-    → IsTakenUp config c ch x sys.manager
-    → (stepped config (Deliver (record { 0 = c }) ch) sys).after.manager ≡ left c x
-    (reaction config (record { 0 = c }) x sys.manager) sys.manager
-manager-taken {w} config c ch x queue sys t terms beats down up = cc (
-  step-taken config c ch x queue sys t terms beats
-      down up,
-  manager-with_messages (reaction config (record { 0 = c }) x sys.manager).handed (with_manager (left c x
-      (reaction config (record { 0 = c }) x sys.manager) sys.manager) (with_channel c ch queue sys)),
-)
+    (sys : System w) (t : EndConfig) → terms_at config c ≡ Some t → sys.channels c ch ≡ x ∷ queue
+    → is_to_client ch ≡ false → IsTakenUp config c ch x sys.manager
+    → (stepped config (Deliver (record { 0 = c }) ch) sys).after.manager
+    ≡ left c x (reaction config (record { 0 = c }) x sys.manager) sys.manager
+manager-taken {w} config c ch x queue sys t terms beats down up =
+    cc (
+      step-taken config c ch x queue sys t terms beats down up,
+      manager-with_messages
+          (reaction config (record { 0 = c }) x sys.manager).handed
+          (with_manager (left c x (reaction config (record { 0 = c }) x sys.manager) sys.manager)
+          (with_channel c ch queue sys)),
+    )
 
 -- and what the protocol does then
-pub followed-taken : {w : ℕ} (config : Config) (c : ℕ) (ch : Channel) (x : Beat w) (queue : List (Beat w))
-    (sys : System w) (h : AbstractState w) (t : EndConfig)
-    → terms_at config c ≡ Some t → sys.channels c ch ≡ x ∷ queue → is_to_client ch ≡ false
-    → IsTakenUp config c ch x sys.manager
+pub followed-taken : {w : ℕ} {config : Config} {c : ℕ} {ch : Channel} {x : Beat w} (queue : List (Beat w))
+    (sys : System w) (h : AbstractState w) (t : EndConfig) → terms_at config c ≡ Some t → sys.channels c ch ≡ x ∷ queue
+    → is_to_client ch ≡ false → IsTakenUp config c ch x sys.manager
     → abstract_step config (Deliver (record { 0 = c }) ch) sys h
     ≡ (if completes x (unfinished ch (receiver ch c sys)) then packet_taken config
     (least_untaken (trackers_of (services sys.manager.trace))) c (packets_on ch (h.state.link c)) h else h)
-followed-taken {w} config c ch x queue sys h t terms beats down up =
+followed-taken {w} {config} {c} {ch} {x} queue sys h t terms beats down up =
     ap (λ (s : Step w). abstract_delivery config c ch s.outcome sys h)
-    (step-taken config c ch x queue sys t terms beats down
-    up)
+    (step-taken config c ch x queue sys t terms beats down up)
     ∙ ap (λ (b : List (Beat w)). if is_last b (unfinished ch (receiver ch c sys)) then packet_taken config
     (least_untaken (trackers_of (services sys.manager.trace))) c (packets_on ch (h.state.link c)) h else h) beats
 
-pub manager-followed_c : {w : ℕ} (config : Config) (log : Log w) (h : AbstractState w) (sys : System w) (c : ℕ)
+pub manager-followed_c : {w : ℕ} {config : Config} {log : Log w} (h : AbstractState w) {sys : System w} (c : ℕ)
     (x : Beat w) (queue : List (Beat w)) → IsWidth w
     → SimulationRelation config log h.mail h.request h.state sys → sys.channels c Channel.C ≡ x ∷ queue
     → IsManagerOf config (abstract_step config (Deliver (record { 0 = c }) Channel.C) sys h)
     (stepped config (Deliver (record { 0 = c }) Channel.C) sys).after.manager
-manager-followed_c {w} config log h sys c x queue width is beats =
+manager-followed_c {w} {config} {log} h {sys} c x queue width is beats =
     let t = client-of config c Channel.C x queue sys beats (is.sound c Channel.C) in
-    let d = channel_c-delivered config log (least_untaken (trackers_of (services sys.manager.trace))) h sys c x queue
+    let d = channel_c-delivered (least_untaken (trackers_of (services sys.manager.trace))) h c x queue
     width is beats in
     subst (λ (i : End w). IsManagerOf config (abstract_step config (Deliver (record { 0 = c }) Channel.C) sys h) i)
     (sym (manager-taken config c Channel.C x queue sys t.0 t.1 beats refl d.up))
     (subst (λ (i : AbstractState w). IsManagerOf config i (left c x (reaction config (record { 0 = c }) x sys.manager)
     sys.manager))
-    (sym (followed-taken config c Channel.C x queue sys h t.0 t.1 beats refl d.up)) d.manager)
+    (sym (followed-taken queue sys h t.0 t.1 beats refl d.up)) d.manager)
 
-pub manager-followed_e : {w : ℕ} (config : Config) (log : Log w) (h : AbstractState w) (sys : System w) (c : ℕ)
+pub manager-followed_e : {w : ℕ} {config : Config} {log : Log w} (h : AbstractState w) {sys : System w} (c : ℕ)
     (x : Beat w) (queue : List (Beat w)) → IsWidth w
     → SimulationRelation config log h.mail h.request h.state sys → sys.channels c Channel.E ≡ x ∷ queue
     → IsManagerOf config (abstract_step config (Deliver (record { 0 = c }) Channel.E) sys h)
     (stepped config (Deliver (record { 0 = c }) Channel.E) sys).after.manager
-manager-followed_e {w} config log h sys c x queue width is beats =
+manager-followed_e {w} {config} {log} h {sys} c x queue width is beats =
     let t = client-of config c Channel.E x queue sys beats (is.sound c Channel.E) in
-    let d = channel_e-delivered config log (least_untaken (trackers_of (services sys.manager.trace))) h sys c x queue
+    let d = channel_e-delivered (least_untaken (trackers_of (services sys.manager.trace))) h c x queue
     width is beats in
     subst (λ (i : End w). IsManagerOf config (abstract_step config (Deliver (record { 0 = c }) Channel.E) sys h) i)
     (sym (manager-taken config c Channel.E x queue sys t.0 t.1 beats refl d.up))
     (subst (λ (i : AbstractState w). IsManagerOf config i (left c x (reaction config (record { 0 = c }) x sys.manager)
     sys.manager))
-    (sym (followed-taken config c Channel.E x queue sys h t.0 t.1 beats refl d.up)) d.manager)
+    (sym (followed-taken queue sys h t.0 t.1 beats refl d.up)) d.manager)

@@ -24,53 +24,49 @@ IsAllowed config (Deliver link Channel.D) terms sys h =
 IsAllowed config event terms sys h = ⊤
 
 -- where a channel is empty
-empty-delivered : {w : ℕ} (config : Config) (log : Log w) (h : AbstractState w) (sys : System w) (c : ℕ) (ch : Channel)
-    (terms : EndConfig)
-    → SimulationRelation config log h.mail h.request h.state sys → terms_at config c ≡ Some terms
-    → sys.channels c ch ≡ []
-    → IsManagerOf config (abstract_step config (Deliver (record { 0 = c }) ch) sys h)
+empty-delivered : {w : ℕ} {config : Config} {log : Log w} (h : AbstractState w) {sys : System w} (c : ℕ) (ch : Channel)
+    (terms : EndConfig) → SimulationRelation config log h.mail h.request h.state sys → terms_at config c ≡ Some terms
+    → sys.channels c ch ≡ [] → IsManagerOf config (abstract_step config (Deliver (record { 0 = c }) ch) sys h)
     (stepped config (Deliver (record { 0 = c }) ch) sys).after.manager
-empty-delivered {w} config log h sys c ch terms is client none =
+empty-delivered {w} {config} {log} h {sys} c ch terms is client none =
     subst (λ (s : Step w). IsManagerOf config (abstract_delivery config c ch s.outcome sys h) s.after.manager)
-    (sym (stepped-empty config (record { 0 = c }) ch sys terms client none))
-    (at_manager-matched config log h.mail h.request h.state sys is)
+    (sym (stepped-empty config (record { 0 = c }) ch sys terms client none)) (at_manager-matched is)
 
-pub manager-kept : {w : ℕ} (config : Config) (log : Log w) (h : AbstractState w) (sys : System w) (event : Event w)
+pub manager-kept : {w : ℕ} {config : Config} {log : Log w} (h : AbstractState w) {sys : System w} (event : Event w)
     → IsWidth w → SimulationRelation config log h.mail h.request h.state sys
     → ((terms : EndConfig) → terms_at config (client_of event) ≡ Some terms → IsAllowed config event terms sys h)
     → IsManagerOf config (abstract_step config event sys h) (stepped config event sys).after.manager
-manager-kept {w} config log h sys event width is may = go (terms_at config (client_of event)) refl
+manager-kept {w} {config} {log} h {sys} event width is may = go (terms_at config (client_of event)) refl
   where
     reports : (c : ℕ) (terms : EndConfig) → terms_at config c ≡ Some terms → (xs : List (Beat w))
         → sys.channels c Channel.C ≡ xs
         → IsManagerOf config (abstract_step config (Deliver (record { 0 = c }) Channel.C) sys h)
         (stepped config (Deliver (record { 0 = c }) Channel.C) sys).after.manager
-    reports c terms client [] e = empty-delivered config log h sys c Channel.C terms is client e
-    reports c terms client (x ∷ queue) e = manager-followed_c config log h sys c x queue width is e
+    reports c terms client [] e = empty-delivered h c Channel.C terms is client e
+    reports c terms client (x ∷ queue) e = manager-followed_c h c x queue width is e
 
     acks : (c : ℕ) (terms : EndConfig) → terms_at config c ≡ Some terms → (xs : List (Beat w))
         → sys.channels c Channel.E ≡ xs
         → IsManagerOf config (abstract_step config (Deliver (record { 0 = c }) Channel.E) sys h)
         (stepped config (Deliver (record { 0 = c }) Channel.E) sys).after.manager
-    acks c terms client [] e = empty-delivered config log h sys c Channel.E terms is client e
-    acks c terms client (x ∷ queue) e = manager-followed_e config log h sys c x queue width is e
+    acks c terms client [] e = empty-delivered h c Channel.E terms is client e
+    acks c terms client (x ∷ queue) e = manager-followed_e h c x queue width is e
 
     with_terms : (terms : EndConfig) (event : Event w) → terms_at config (client_of event) ≡ Some terms
         → IsAllowed config event terms sys h
         → IsManagerOf config (abstract_step config event sys h) (stepped config event sys).after.manager
-    with_terms terms (Ask c o) client allowed = at_manager-ask config log h sys c o terms is client allowed
-    with_terms terms (Deliver link Channel.A) client allowed = at_manager-delivered_a config log h sys link.0 terms
-        width is client
-    with_terms terms (Deliver link Channel.B) client allowed = at_manager-to_client config log h sys link Channel.B
+    with_terms terms (Ask c o) client allowed = at_manager-ask h c o terms is client allowed
+    with_terms terms (Deliver link Channel.A) client allowed = at_manager-delivered_a h link.0 terms width is client
+    with_terms terms (Deliver link Channel.B) client allowed = at_manager-to_client h link Channel.B
         terms is client refl allowed
     with_terms terms (Deliver link Channel.C) client allowed =
         reports link.0 terms client (sys.channels link.0 Channel.C) refl
-    with_terms terms (Deliver link Channel.D) client allowed = at_manager-to_client config log h sys link Channel.D
+    with_terms terms (Deliver link Channel.D) client allowed = at_manager-to_client h link Channel.D
         terms is client refl allowed
     with_terms terms (Deliver link Channel.E) client allowed = acks link.0 terms client (sys.channels link.0 Channel.E)
         refl
 
     go : (o : Option EndConfig) → terms_at config (client_of event) ≡ o
         → IsManagerOf config (abstract_step config event sys h) (stepped config event sys).after.manager
-    go None e = at_manager-nobody config log h sys event is e
+    go None e = at_manager-nobody h event is e
     go (Some terms) e = with_terms terms event e (may terms e)

@@ -86,8 +86,7 @@ request_channel config c source (Message.A m) h = refl
 request_channel config c source m h = absurd (let e = h.0 in cc)
 
 rendered_channel : (w : ℕ) (ch : Channel) (k : Kind) (c n : ℕ) (b : Block (List ℕ)) → is_to_client ch ≡ false
-    → is_on ch k ≡ true → (k ≡ Request → ⊥)
-    → channel_of_message (block_message {w = w} k c n b) ≡ ch
+    → is_on ch k ≡ true → (k ≡ Request → ⊥) → channel_of_message (block_message {w = w} k c n b) ≡ ch
 unfolding block_message
 rendered_channel w Channel.A Acquire c n b down own other = acquire_channel w (b.pair c).acquiring (b.source c) n
 rendered_channel w Channel.A Request c n b down own other = absurd (other refl)
@@ -110,23 +109,21 @@ pub record IsAtManager {w : ℕ} (config : Config) (log : Log w) (link : Link) (
   pub heard : HasTaken link.0 x (system_after config log).manager
       (manager_offer.taken link x (reaction config link x (system_after config log).manager)
       (system_after config log).manager)
-  pub step_is : stepped config (Deliver link ch) (system_after config log)
-      ≡ handing (Outcome.Moved x) (reaction config link x (system_after config log).manager).handed
+  pub step_is : stepped config (Deliver link ch) (system_after config log) ≡ handing (Outcome.Moved x)
+      (reaction config link x (system_after config log).manager).handed
       (with_manager (manager_offer.taken link x (reaction config link x (system_after config log).manager)
-      (system_after config log).manager)
-      (with_channel link.0 ch queue (system_after config log)))
+      (system_after config log).manager) (with_channel link.0 ch queue (system_after config log)))
   pub follows : abstract_step config (Deliver link ch) (system_after config log) h
       ≡ (if completes x (unfinished ch (receiver ch link.0 (system_after config log))) then kind_taken config
       (next_tracker (system_after config log)) link.0 first.kind first.number first.rest h else h)
 
-pub at-manager : {w : ℕ} (config : Config) (log : Log w) (link : Link) (ch : Channel) (h : AbstractState w)
-    (terms : client.EndConfig) (x : Beat w) (queue : List (Beat w))
-    → IsWidth w → SimulationRelation config log h.mail h.request h.state (system_after config log)
-    → terms_at config link.0 ≡ Some terms → is_to_client ch ≡ false
-    → (system_after config log).channels link.0 ch ≡ x ∷ queue
-    → is_moving (stepped config (Deliver link ch) (system_after config log)).outcome ≡ true
+pub at-manager : {w : ℕ} {config : Config} {log : Log w} (link : Link) (ch : Channel) (h : AbstractState w)
+    (terms : client.EndConfig) (x : Beat w) (queue : List (Beat w)) → IsWidth w
+    → SimulationRelation config log h.mail h.request h.state (system_after config log)
+    → terms_at config link.0 ≡ Some terms → is_to_client ch ≡ false → (system_after config log).channels link.0 ch
+    ≡ x ∷ queue → is_moving (stepped config (Deliver link ch) (system_after config log)).outcome ≡ true
     → IsAtManager config log link ch h x queue
-at-manager {w} config log link ch h terms x queue width is known down beats moving =
+at-manager {w} {config} {log} link ch h terms x queue width is known down beats moving =
     let first = first-token (is_caching config) ch link.0 h.mail h.state (system_after config log) x queue width
     is.invariant is.carried beats in
     let t = manager-moves config link ch (system_after config log) terms x queue known beats down moving in
@@ -155,14 +152,13 @@ at-manager {w} config log link ch h terms x queue width is known down beats movi
         All-head (λ y. manager.IsSound config (record { 0 = link.0 }, y)) x queue (same beats (is.sound link.0 ch))
 
     message_channel : (k : Kind) (i : ℕ) {rest : List Packet} → packets_on ch (h.state.link link.0) ≡ packet k i ∷ rest
-        → is_on ch k ≡ true
-        → channel_of_message (message_of_kind k h.mail h.state link.0 i) ≡ ch
+        → is_on ch k ≡ true → channel_of_message (message_of_kind k h.mail h.state link.0 i) ≡ ch
     message_channel Request i {rest} tokens own = asked ch tokens own
       where
         asked : (at : Channel) → packets_on at (h.state.link link.0) ≡ packet Request i ∷ rest → is_on at Request ≡ true
             → channel_of_message (h.mail.request link.0 i) ≡ at
         asked Channel.A e f =
-            let used = first-asked (is_caching config) link.0 i rest h is.invariant e in
+            let used = first-asked link.0 i rest h is.invariant e in
             request_channel config link.0 i (h.mail.request link.0 i)
             (subst (λ (u : SourceState). IsSourced config link.0 i (h.mail.request link.0 i) u) used
             (is.sourced link.0 i))
@@ -196,32 +192,27 @@ after_taken config link ch x queue sys handed =
 
 -- What is left to show of the last beat of a message: what the manager hands out, and that the channels and the one
 -- memory are those of the protocol then.
-pub delivered-last : {w : ℕ} (config : Config) (log : Log w) (link : Link) (ch : Channel) (h : AbstractState w)
-    (x : Beat w) (queue : List (Beat w))
-    (handed : Handed w) (pushes : ℕ → Channel → Option (Message w)) → is_to_client ch ≡ false
-    → (is : IsAtManager config log link ch h x queue)
+pub delivered-last : {w : ℕ} {config : Config} {log : Log w} {link : Link} {ch : Channel} {h : AbstractState w}
+    {x : Beat w} {queue : List (Beat w)} (handed : Handed w) (pushes : ℕ → Channel → Option (Message w))
+    → is_to_client ch ≡ false → (is : IsAtManager config log link ch h x queue)
     → completes x (unfinished ch (receiver ch link.0 (system_after config log))) ≡ true
     → (reaction config link x (system_after config log).manager).handed ≡ handed
-    → ((d : ℕ) (at : Channel) → (after_taken config link ch x queue (system_after config log) handed).channels d
-    at ≡ behind (pushes d at) ((with_channel link.0 ch queue (system_after config log)).channels d at))
+    → ((d : ℕ) (at : Channel) → (after_taken config link ch x queue (system_after config log) handed).channels d at
+    ≡ behind (pushes d at) ((with_channel link.0 ch queue (system_after config log)).channels d at))
     → (IsTaken link.0 ch x queue pushes (system_after config log)
     (after_taken config link ch x queue (system_after config log) handed)
     → ChannelRelation (kind_taken config (next_tracker (system_after config log)) link.0 is.first.kind is.first.number
-    is.first.rest h).mail
-    (kind_taken config (next_tracker (system_after config log)) link.0 is.first.kind is.first.number is.first.rest
-    h).state
-    (after_taken config link ch x queue (system_after config log) handed))
+    is.first.rest h).mail (kind_taken config (next_tracker (system_after config log)) link.0 is.first.kind
+    is.first.number is.first.rest h).state (after_taken config link ch x queue (system_after config log) handed))
     → MemoryRelation (kind_taken config (next_tracker (system_after config log)) link.0 is.first.kind is.first.number
-    is.first.rest h).mail
-    (kind_taken config (next_tracker (system_after config log)) link.0 is.first.kind is.first.number is.first.rest
-    h).state
-    (performing (accesses_answered handed) (one_memory_after config log))
+    is.first.rest h).mail (kind_taken config (next_tracker (system_after config log)) link.0 is.first.kind
+    is.first.number is.first.rest h).state (performing (accesses_answered handed) (one_memory_after config log))
     → IsDelivered config log link ch h
-delivered-last {w} config log link ch h x queue handed pushes down is last gives pushed carried beside =
+delivered-last {w} {config} {log} {link} {ch} {h} {x} {queue} handed pushes down is last gives pushed carried beside =
     let h' = kind_taken config (next_tracker sys) link.0 is.first.kind is.first.number is.first.rest h in
     delivered_as config log link ch h h' (is.follows ∙ ap (λ (b : Bool). if b then h' else h) last)
     (subst (λ (y : Step w). ChannelRelation h'.mail h'.state y.after) (sym step_is)
-    (carried (taken-landed link.0 ch x queue pushes sys now.after
+    (carried (taken-landed
     (landed-manager link.0 ch x queue pushes handed e sys down is.beats is.on_it is.heard pushed) last)))
     (subst (λ (m : Machine w). MemoryRelation h'.mail h'.state m)
     (sym (remembered_after config log link ch now step_is)) beside)
@@ -246,21 +237,18 @@ receiver_down Channel.B c sys e = absurd cc
 receiver_down Channel.D c sys e = absurd cc
 receiver_down ch c sys e = refl
 
-pub delivered-part : {w : ℕ} (config : Config) (log : Log w) (link : Link) (ch : Channel) (h : AbstractState w)
-    (x : Beat w) (queue : List (Beat w)) → IsWidth w
-    → SimulationRelation config log h.mail h.request h.state (system_after config log) → is_to_client ch ≡ false
-    → IsAtManager config log link ch h x queue
+pub delivered-part : {w : ℕ} {config : Config} {log : Log w} {link : Link} {ch : Channel} {h : AbstractState w}
+    {x : Beat w} {queue : List (Beat w)} → IsWidth w → SimulationRelation config log h.mail h.request h.state
+    (system_after config log) → is_to_client ch ≡ false → IsAtManager config log link ch h x queue
     → completes x (unfinished ch (receiver ch link.0 (system_after config log))) ≡ false
     → IsDelivered config log link ch h
 unfolding with_messages performing accesses_answered
-delivered-part {w} config log link ch h x queue width matched down is part =
-    delivered_as config log link ch h h
-    (is.follows ∙ ap (λ (b : Bool). if b then kind_taken config (next_tracker sys) link.0 is.first.kind
-    is.first.number is.first.rest h else h) part)
-    (subst (λ (y : Step w). ChannelRelation h.mail h.state y.after) (sym step_is)
-    (carried-part h.mail h.state link.0 ch x queue (λ d at. None) sys now.after width
-    (landed-manager link.0 ch x queue (λ d at. None) [] e sys down is.beats is.on_it is.heard (λ d at. refl))
-    (λ d at. refl) part matched.carried))
+delivered-part {w} {config} {log} {link} {ch} {h} {x} {queue} width matched down is part =
+    delivered_as config log link ch h h (is.follows
+    ∙ ap (λ (b : Bool). if b then kind_taken config (next_tracker sys) link.0 is.first.kind is.first.number
+    is.first.rest h else h) part) (subst (λ (y : Step w). ChannelRelation h.mail h.state y.after) (sym step_is)
+    (carried-part h.mail h.state width (landed-manager link.0 ch x queue (λ d at. None) [] e sys down is.beats is.on_it
+    is.heard (λ d at. refl)) (λ d at. refl) part matched.carried))
     (subst (λ (m : Machine w). MemoryRelation h.mail h.state m) (sym (remembered_after config log link ch now step_is))
     matched.beside)
   where

@@ -83,14 +83,14 @@ on_b y _ = refl
 taken_stalls : Verdict.Taken ≡ Verdict.Stalled → ⊥
 taken_stalls f = absurd cc
 
-pub delivered-b : {w : ℕ} (config : Config) (log : Log w) (link : Link) (h : AbstractState w) (terms : client.EndConfig)
+pub delivered-b : {w : ℕ} {config : Config} {log : Log w} (link : Link) (h : AbstractState w) (terms : client.EndConfig)
     (x : Beat w) (queue : List (Beat w)) → IsWidth w
     → SimulationRelation config log h.mail h.request h.state (system_after config log)
     → terms_at config link.0 ≡ Some terms → (system_after config log).channels link.0 Channel.B ≡ x ∷ queue
     → is_moving (stepped config (Deliver link Channel.B) (system_after config log)).outcome ≡ true
     → IsDelivered config log link Channel.B h
 unfolding performing
-delivered-b {w} config log link h terms x queue width is known beats moving =
+delivered-b {w} {config} {log} link h terms x queue width is known beats moving =
     kinds first.kind first.number first.tokens first.own first.next
   where
     sys : System w
@@ -110,8 +110,7 @@ delivered-b {w} config log link h terms x queue width is known beats moving =
 
     probe : (n : ℕ) → (h.state.link c).b ≡ packet Probe n ∷ first.rest
         → IsNext x (unfinished Channel.B e.past) (block_message Probe c n (h.state.block n))
-        (map (message_of h.mail h.state c) first.rest) queue
-        → IsDelivered config log link Channel.B h
+        (map (message_of h.mail h.state c) first.rest) queue → IsDelivered config log link Channel.B h
     probe n tokens next = by_letting (is_unreleased b_pair.letting) refl
       where
         b_pair : ClientBlock
@@ -129,8 +128,8 @@ delivered-b {w} config log link h terms x queue width is known beats moving =
           request =
               h.request;
         }) x e
-        probed = probe-delivered config log h.mail h.request h.state sys terms (next_tracker sys) c n first.rest
-            (map (message_of h.mail h.state c) first.rest) x queue width is known beats tokens next
+        probed = probe-delivered terms (next_tracker sys) c n first.rest
+            width is known beats tokens next
 
         answers : (offer.taken x e).answer ≡ Ok (Verdict.Taken, Some (handed_for y e))
         answers = ap (λ (z : Beat w). (offer.taken z e).answer) probed.beat_is ∙ answer_b y e
@@ -170,12 +169,8 @@ delivered-b {w} config log link h terms x queue width is known beats moving =
             (λ i. shown Probe c (h.state.block i)) tokens refl (is.invariant.transfers c Probe refl))
 
         taken : IsTaken c Channel.B x queue (pushes_at c (pushes_of (Some ack))) sys now.after
-        taken =
-            taken-landed c Channel.B x queue (pushes_at c (pushes_of (Some ack))) sys now.after
-            (landed-client c Channel.B x queue (Some ack) (offer.taken x e).after sys refl beats
-            (subst (λ (z : Beat w). IsOn Channel.B z) (sym probed.beat_is) (on_b y))
-            (client-heard terms c Channel.B x queue sys (stepped config (Deliver link Channel.B) sys) width (is.kept c)
-            t))
+        taken = taken-landed (landed-client c Channel.B x queue (Some ack) (offer.taken x e).after sys refl beats
+            (subst (λ (z : Beat w). IsOn Channel.B z) (sym probed.beat_is) (on_b y)) (client-heard width (is.kept c) t))
             probed.whole
 
         follows : abstract_step config (Deliver link Channel.B) sys h ≡ kind_taken config (next_tracker sys) c Probe n
@@ -188,7 +183,7 @@ delivered-b {w} config log link h terms x queue width is known beats moving =
             delivered_as config log link Channel.B h (kind_taken config (next_tracker sys) c Probe n first.rest h)
             follows
             (subst (λ (z : Step w). ChannelRelation h.mail (probe_taken c n k first.rest h.state) z.after) (sym step_is)
-            (carried-shown width (probe_taken-shown (is_caching config) c n k first.rest ack h.mail h.state is.invariant
+            (carried-shown width (probe_taken-shown c n k first.rest ack h.mail is.invariant
             inv tokens sent (ack_channel w b_pair.held (report_at k b_pair.held) n (h.state.block n).truth)
             (rendered_probed c n k (h.state.block n))) taken is.carried))
             (subst (λ (m : Machine w). MemoryRelation h.mail (probe_taken c n k first.rest h.state) m)
@@ -196,8 +191,8 @@ delivered-b {w} config log link h terms x queue width is known beats moving =
             ∙ ap (λ (l : List (ℕ × ℕ)). performing l
             (moved (Deliver link Channel.B) now.outcome (one_memory_after config log)))
             (ack_quiet w c b_pair.held (report_at k b_pair.held) n (h.state.block n).truth)))
-            (beside_block n (probed_block c k (h.state.block n)) h.mail h.state (probe_taken c n k first.rest h.state)
-            (one_memory_after config log) (λ i. refl)
+            (beside_block n (probed_block c k (h.state.block n)) (probe_taken c n k first.rest h.state)
+            (λ i. refl)
             (λ d i. refl) (λ d i. refl) refl (λ d. same_acquiring c (after_probe k b_pair) (h.state.block n).pair refl
             d) (λ d. refl) is.beside))
         by_letting false open_ =

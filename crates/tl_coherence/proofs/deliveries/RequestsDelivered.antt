@@ -5,7 +5,7 @@ use Rattle.tl_coherence.proofs.deliveries.Imports.{Config, on_link, EndConfig, r
 use Rattle.tl_coherence.proofs.deliveries.Imports.{AbstractState, kind_taken, packet_taken, abstract_delivery}
 use Rattle.tl_coherence.proofs.deliveries.Imports.{abstract_step, Step, only, handing, manager_took, stepped, packet}
 use Rattle.tl_coherence.proofs.deliveries.Imports.{Log, System, terms_at, with_manager, with_channel, Kind, Packet}
-use Rattle.tl_coherence.proofs.deliveries.Imports.{SimulationRelation, is_caching, MemoryRelation, Machine}
+use Rattle.tl_coherence.proofs.deliveries.Imports.{SimulationRelation, MemoryRelation, Machine}
 use Rattle.tl_coherence.proofs.deliveries.Imports.{ChannelRelation, accesses_answered, performing, Handed, Reaction}
 use Rattle.tl_coherence.proofs.deliveries.Imports.{reaction-part, Channel, Message}
 use Rattle.std.proofs.Common.{◌≡◌, subst, ℕ, suc, ◌+◌, ◌<◌, ◌==◌, Bool, true, false, List, [], ◌∷◌, Some, refl, sym}
@@ -18,7 +18,7 @@ use Rattle.tl_coherence.proofs.{memory.BesideRequests.IsOnce, manager.Arrivals.l
 use Rattle.tl_coherence.proofs.{manager.AtRequests.end_after, manager.AtRequests.at_manager-more}
 use Rattle.tl_coherence.proofs.{manager.ManagersEnd.at_manager-matched, queues.Tokens.same_number}
 use Rattle.tl_coherence.proofs.{manager.UnwaitedRequests.next_tracker, manager.ManagerAfter.IsManagerOf}
-use Rattle.tl_coherence.proofs.deliveries.CarriedRequests.{system_after, carried-more}
+use Rattle.tl_coherence.proofs.deliveries.CarriedRequests.{carried-more}
 use Rattle.tl_coherence.proofs.queues.Steps.{manager-with_messages, stepped-empty, stepped-to-manager}
 use Rattle.tl_coherence.proofs.deliveries.FirstRequest.{IsArrival, arrival-first, coming-arrival, request-taken}
 use Rattle.tl_coherence.proofs.deliveries.FirstRequest.{request-stalled}
@@ -38,14 +38,13 @@ more_beats k n e lt = elim (cases_eq (k + 1) n) [
 ]
 
 -- The protocol after a beat that is taken: with the last one the request is, and with any other one nothing changes.
-pub moved-a : {w : ℕ} (config : Config) (h : AbstractState w) (sys : System w) (c : ℕ) (x : Beat w)
-    (queue : List (Beat w)) (P : AbstractState w → Type 0)
-    → sys.channels c Channel.A ≡ x ∷ queue → (arrives : IsArrival config h sys c x queue)
-    → (beats_of (Message.A arrives.request) ≡ suc arrives.next.k
+pub moved-a : {w : ℕ} {config : Config} {h : AbstractState w} {sys : System w} {c : ℕ} {x : Beat w}
+    {queue : List (Beat w)} (P : AbstractState w → Type 0) → sys.channels c Channel.A ≡ x ∷ queue
+    → (arrives : IsArrival config h sys c x queue) → (beats_of (Message.A arrives.request) ≡ suc arrives.next.k
     → P (kind_taken config (next_tracker sys) c arrives.kind arrives.number arrives.rest h))
     → (arrives.next.k + 1 < beats_of (Message.A arrives.request) → P h)
     → P (abstract_delivery config c Channel.A (Outcome.Moved x) sys h)
-moved-a {w} config h sys c x queue P beats arrives last more =
+moved-a {w} {config} {h} {sys} {c} {x} P beats arrives last more =
     let last_is : follow.is_last (sys.channels c Channel.A) rest ≡ completes x rest = rw beats refl in
     subst (λ (b : Bool). P (if b then packet_taken config (next_tracker sys) c (h.state.link c).a h else h))
     (sym last_is) (go (completes x rest) refl)
@@ -67,89 +66,79 @@ moved-a {w} config h sys c x queue P beats arrives last more =
 
 -- the step at a beat that is taken
 abbrev pub step_moved : {w : ℕ} → Config → ℕ → ℕ → MessageA w → Beat w → List (Beat w) → System w → Step w
-step_moved config c k m x queue sys =
-    handing (Outcome.Moved x) (reaction config (link_of c) x sys.manager).handed
+step_moved config c k m x queue sys = handing (Outcome.Moved x) (reaction config (link_of c) x sys.manager).handed
     (with_manager (end_after config c k m sys.manager) (with_channel c Channel.A queue sys))
 
 -- A delivery finds no beat, or one that has to wait, or one that is taken.
-pub delivery-a : {w : ℕ} (config : Config) (log : Log w) (h : AbstractState w) (sys : System w) (c : ℕ)
-    (terms : EndConfig) (P : Step w → Type 0) → IsWidth w
-    → SimulationRelation config log h.mail h.request h.state sys → terms_at config c ≡ Some terms
-    → (sys.channels c Channel.A ≡ [] → P (only Outcome.Empty sys))
+pub delivery-a : {w : ℕ} {config : Config} {log : Log w} (h : AbstractState w) {sys : System w} (c : ℕ)
+    (terms : EndConfig) (P : Step w → Type 0) → IsWidth w → SimulationRelation config log h.mail h.request h.state sys
+    → terms_at config c ≡ Some terms → (sys.channels c Channel.A ≡ [] → P (only Outcome.Empty sys))
     → ((x : Beat w) (queue : List (Beat w)) → sys.channels c Channel.A ≡ x ∷ queue
-    → must_wait config (link_of c) x sys.manager.trace ≡ true
-    → P (only Outcome.Stalled sys))
+    → must_wait config (link_of c) x sys.manager.trace ≡ true → P (only Outcome.Stalled sys))
     → ((x : Beat w) (queue : List (Beat w)) → sys.channels c Channel.A ≡ x ∷ queue
     → (arrives : IsArrival config h sys c x queue) → must_wait config (link_of c) x sys.manager.trace ≡ false
     → P (step_moved config c arrives.next.k arrives.request x queue sys))
     → P (stepped config (Deliver (link_of c) Channel.A) sys)
-delivery-a {w} config log h sys c terms P width is client empty stalled moved = go (sys.channels c Channel.A) refl
+delivery-a {w} {config} {log} h {sys} c terms P width is client empty stalled moved = go (sys.channels c Channel.A) refl
   where
     step : Step w
     step = stepped config (Deliver (link_of c) Channel.A) sys
 
     taken_or_not : (x : Beat w) (queue : List (Beat w)) → sys.channels c Channel.A ≡ x ∷ queue
-        → IsArrival config h sys c x queue → (b : Bool)
-        → must_wait config (link_of c) x sys.manager.trace ≡ b → P step
+        → IsArrival config h sys c x queue → (b : Bool) → must_wait config (link_of c) x sys.manager.trace ≡ b → P step
     taken_or_not x queue e arrives true waits =
-        subst P
-        (sym (stepped-to-manager config (link_of c) Channel.A sys terms x queue client e refl
-        ∙ ap (λ p. manager_took c Channel.A x queue p sys) (request-stalled config log h sys c x queue is e arrives
-        waits)))
+        subst P (sym (stepped-to-manager config (link_of c) Channel.A sys terms x queue client e refl
+        ∙ ap (λ p. manager_took c Channel.A x queue p sys) (request-stalled is e arrives waits)))
         (stalled x queue e waits)
     taken_or_not x queue e arrives false moves =
-        subst P
-        (sym (stepped-to-manager config (link_of c) Channel.A sys terms x queue client e refl
-        ∙ ap (λ p. manager_took c Channel.A x queue p sys) (request-taken config log h sys c x queue width is e arrives
-        moves)))
+        subst P (sym (stepped-to-manager config (link_of c) Channel.A sys terms x queue client e refl
+        ∙ ap (λ p. manager_took c Channel.A x queue p sys) (request-taken width is e arrives moves)))
         (moved x queue e arrives moves)
 
     go : (xs : List (Beat w)) → sys.channels c Channel.A ≡ xs → P step
     go [] e = subst P (sym (stepped-empty config (link_of c) Channel.A sys terms client e)) (empty e)
-    go (x ∷ queue) e = taken_or_not x queue e (arrival-first config log h sys c x queue width is e)
+    go (x ∷ queue) e = taken_or_not x queue e (arrival-first h c x queue width is e)
         (must_wait config (link_of c) x sys.manager.trace) refl
 
 -- and what the manager knows is what the protocol says then
-pub at_manager-delivered_a : {w : ℕ} (config : Config) (log : Log w) (h : AbstractState w) (sys : System w) (c : ℕ)
-    (terms : EndConfig) → IsWidth w
-    → SimulationRelation config log h.mail h.request h.state sys → terms_at config c ≡ Some terms
-    → IsManagerOf config (abstract_step config (Deliver (link_of c) Channel.A) sys h)
+pub at_manager-delivered_a : {w : ℕ} {config : Config} {log : Log w} (h : AbstractState w) {sys : System w} (c : ℕ)
+    (terms : EndConfig) → IsWidth w → SimulationRelation config log h.mail h.request h.state sys
+    → terms_at config c ≡ Some terms → IsManagerOf config (abstract_step config (Deliver (link_of c) Channel.A) sys h)
     (stepped config (Deliver (link_of c) Channel.A) sys).after.manager
-at_manager-delivered_a {w} config log h sys c terms width is client =
-    let known = at_manager-matched config log h.mail h.request h.state sys is in
-    delivery-a config log h sys c terms
+at_manager-delivered_a {w} {config} {log} h {sys} c terms width is client =
+    let known = at_manager-matched is in
+    delivery-a h c terms
     (λ (step : Step w). IsManagerOf config (abstract_delivery config c Channel.A step.outcome sys h) step.after.manager)
     width is
     client (λ e. known) (λ x queue e waits. known) (λ x queue beats arrives moves.
-    let comes = coming-arrival config log h sys c x queue width is beats arrives moves in
+    let comes = coming-arrival width is beats arrives moves in
     let k : ℕ = arrives.next.k in
     let after : End w = end_after config c k arrives.request sys.manager in
     subst (IsManagerOf config (abstract_delivery config c Channel.A (Outcome.Moved x) sys h))
     (sym (manager-with_messages (reaction config (link_of c) x sys.manager).handed
     (with_manager after (with_channel c Channel.A queue sys))))
-    (moved-a config h sys c x queue (λ (i : AbstractState w). IsManagerOf config i after) beats arrives
+    (moved-a (λ (i : AbstractState w). IsManagerOf config i after) beats arrives
     (λ last. arrives.is_it.after k comes last (rw arrives.next.beat_is at moves))
-    (λ more. at_manager-more (is_caching config) config h.mail h.request h.state c k arrives.request sys.manager
+    (λ more. at_manager-more
     is.invariant comes more (arrives.is_it.unwaited k more) known)))
 
 -- and the channels carry the messages of the tokens
-pub carried-delivered_a : {w : ℕ} (config : Config) (log : Log w) (h : AbstractState w) (sys : System w) (c : ℕ)
-    (terms : EndConfig) → IsWidth w
-    → SimulationRelation config log h.mail h.request h.state sys → terms_at config c ≡ Some terms
-    → ChannelRelation (abstract_step config (Deliver (link_of c) Channel.A) sys h).mail
+pub carried-delivered_a : {w : ℕ} {config : Config} {log : Log w} (h : AbstractState w) {sys : System w} (c : ℕ)
+    (terms : EndConfig) → IsWidth w → SimulationRelation config log h.mail h.request h.state sys
+    → terms_at config c ≡ Some terms → ChannelRelation (abstract_step config (Deliver (link_of c) Channel.A) sys h).mail
     (abstract_step config (Deliver (link_of c) Channel.A) sys h).state
     (stepped config (Deliver (link_of c) Channel.A) sys).after
-carried-delivered_a {w} config log h sys c terms width is client =
-    delivery-a config log h sys c terms (λ (step : Step w).
+carried-delivered_a {w} {config} {log} h {sys} c terms width is client =
+    delivery-a h c terms (λ (step : Step w).
     ChannelRelation (abstract_delivery config c Channel.A step.outcome sys h).mail
     (abstract_delivery config c Channel.A step.outcome sys h).state step.after) width is client
     (λ e. is.carried) (λ x queue e waits. is.carried) (λ x queue beats arrives moves.
-    let comes = coming-arrival config log h sys c x queue width is beats arrives moves in
+    let comes = coming-arrival width is beats arrives moves in
     let k : ℕ = arrives.next.k in
     let m : MessageA w = arrives.request in
     let first : sys.channels c Channel.A ≡ Beat.A (a_beat_of m k) ∷ queue = cc (beats, arrives.next.beat_is) in
     let same = ap (λ (y : Beat w). (step_moved config c k m y queue sys).after) (sym arrives.next.beat_is) in
-    moved-a config h sys c x queue (λ (i : AbstractState w). ChannelRelation i.mail i.state
+    moved-a (λ (i : AbstractState w). ChannelRelation i.mail i.state
     (step_moved config c k m x queue sys).after) beats arrives
     (λ last.
     subst (ChannelRelation (kind_taken config (next_tracker sys) c arrives.kind arrives.number arrives.rest h).mail
@@ -157,29 +146,28 @@ carried-delivered_a {w} config log h sys c terms width is client =
     (arrives.is_it.carried k queue comes first last (rw arrives.next.beat_is at moves)))
     (λ more.
     subst (ChannelRelation h.mail h.state) same
-    (carried-more config log h.mail h.request h.state sys c k m queue is comes first
-    (ends-coming config c k m sys.manager comes ∙ not_last k (beats_of (Message.A m)) more))))
+    (carried-more queue is comes first
+    (ends-coming comes ∙ not_last k (beats_of (Message.A m)) more))))
 
 -- and the one-memory machine is beside the protocol, once the accesses that are answered are performed
-pub beside-delivered_a : {w : ℕ} (config : Config) (log : Log w) (h : AbstractState w) (sys : System w) (c : ℕ)
-    (terms : EndConfig) (machine : Machine w) → IsWidth w
-    → SimulationRelation config log h.mail h.request h.state sys → terms_at config c ≡ Some terms
-    → MemoryRelation h.mail h.state machine
+pub beside-delivered_a : {w : ℕ} {config : Config} {log : Log w} (h : AbstractState w) {sys : System w} (c : ℕ)
+    (terms : EndConfig) {machine : Machine w} → IsWidth w → SimulationRelation config log h.mail h.request h.state sys
+    → terms_at config c ≡ Some terms → MemoryRelation h.mail h.state machine
     → MemoryRelation (abstract_step config (Deliver (link_of c) Channel.A) sys h).mail
     (abstract_step config (Deliver (link_of c) Channel.A) sys h).state
     (performing (accesses_answered (stepped config (Deliver (link_of c) Channel.A) sys).handed) machine)
 unfolding performing accesses_answered
-beside-delivered_a {w} config log h sys c terms machine width is client beside =
-    delivery-a config log h sys c terms
+beside-delivered_a {w} {config} {log} h {sys} c terms {machine} width is client beside =
+    delivery-a h c terms
     (λ (step : Step w). MemoryRelation (abstract_delivery config c Channel.A step.outcome sys h).mail
     (abstract_delivery config c Channel.A step.outcome sys h).state
     (performing (accesses_answered step.handed) machine)) width is client (λ e. beside)
     (λ x queue e waits. beside) (λ x queue beats arrives moves.
-    let comes = coming-arrival config log h sys c x queue width is beats arrives moves in
+    let comes = coming-arrival width is beats arrives moves in
     let k : ℕ = arrives.next.k in
     let m : MessageA w = arrives.request in
     let same = ap (λ (y : Beat w). (reaction config (link_of c) y sys.manager).handed) (sym arrives.next.beat_is) in
-    moved-a config h sys c x queue (λ (i : AbstractState w). MemoryRelation i.mail i.state
+    moved-a (λ (i : AbstractState w). MemoryRelation i.mail i.state
     (performing (accesses_answered (reaction config (link_of c) x sys.manager).handed) machine)) beats arrives
     (λ last.
     subst
@@ -190,31 +178,30 @@ beside-delivered_a {w} config log h sys c terms machine width is client beside =
     same (arrives.is_it.beside k machine comes last beside))
     (λ more.
     let part = ap (λ (d : Reaction w). d.handed) (reaction-part config (link_of c) (Beat.A (a_beat_of m k)) sys.manager
-    (ends-coming config c k m sys.manager comes ∙ not_last k (beats_of (Message.A m)) more)) in
+    (ends-coming comes ∙ not_last k (beats_of (Message.A m)) more)) in
     subst (λ (i : Handed w). MemoryRelation h.mail h.state (performing (accesses_answered i) machine)) (sym part ∙ same)
     beside))
 
 -- at most one access is answered then, and it can be performed
-pub once-delivered_a : {w : ℕ} (config : Config) (log : Log w) (h : AbstractState w) (sys : System w) (c : ℕ)
-    (terms : EndConfig) (machine : Machine w) → IsWidth w
-    → SimulationRelation config log h.mail h.request h.state sys → terms_at config c ≡ Some terms
-    → MemoryRelation h.mail h.state machine
+pub once-delivered_a : {w : ℕ} {config : Config} {log : Log w} (h : AbstractState w) {sys : System w} (c : ℕ)
+    (terms : EndConfig) {machine : Machine w} → IsWidth w → SimulationRelation config log h.mail h.request h.state sys
+    → terms_at config c ≡ Some terms → MemoryRelation h.mail h.state machine
     → IsOnce (accesses_answered (stepped config (Deliver (link_of c) Channel.A) sys).handed) h machine
 unfolding accesses_answered
-once-delivered_a {w} config log h sys c terms machine width is client beside =
-    delivery-a config log h sys c terms (λ (step : Step w). IsOnce (accesses_answered step.handed) h machine) width is
+once-delivered_a {w} {config} {log} h {sys} c terms {machine} width is client beside =
+    delivery-a h c terms (λ (step : Step w). IsOnce (accesses_answered step.handed) h machine) width is
     client (λ e. inl refl)
     (λ x queue e waits. inl refl) (λ x queue beats arrives moves.
-    let comes = coming-arrival config log h sys c x queue width is beats arrives moves in
+    let comes = coming-arrival width is beats arrives moves in
     let k : ℕ = arrives.next.k in
     let m : MessageA w = arrives.request in
     let same = ap (λ (y : Beat w). (reaction config (link_of c) y sys.manager).handed) (sym arrives.next.beat_is) in
-    moved-a config h sys c x queue
+    moved-a
     (λ (i : AbstractState w). IsOnce (accesses_answered (reaction config (link_of c) x sys.manager).handed) h
     machine) beats arrives
     (λ last. subst (λ (i : Handed w). IsOnce (accesses_answered i) h machine) same
     (arrives.is_it.once k machine comes last beside))
     (λ more.
     let part = ap (λ (d : Reaction w). d.handed) (reaction-part config (link_of c) (Beat.A (a_beat_of m k)) sys.manager
-    (ends-coming config c k m sys.manager comes ∙ not_last k (beats_of (Message.A m)) more)) in
+    (ends-coming comes ∙ not_last k (beats_of (Message.A m)) more)) in
     inl (ap accesses_answered (sym same ∙ part))))

@@ -143,9 +143,8 @@ same_presence _ _ = false
 -- the same sources are open in the machine as by what has happened
 abbrev pub opened_agree : {w : ℕ} → ℕ → Log w → Machine w → Bool
 opened_agree clients log m =
-    all_below clients (λ c. all_below 2 (λ source.
-    same_presence (m.opened c Requests source) (started c Requests source log) && same_presence
-    (m.opened c Releases source) (started c Releases source log)))
+    all_below clients (λ c. all_below 2 (λ source. same_presence (m.opened c Requests source)
+    (started c Requests source log) && same_presence (m.opened c Releases source) (started c Releases source log)))
 
 abbrev pub is_unrefused : {w : ℕ} → ℕ → System w → Bool
 is_unrefused clients s = all_below clients (λ c. not (s.clients c).closed) && (length s.manager.closed == 0)
@@ -177,12 +176,10 @@ moves_so config log s link ch (x ∷ rest) = is_movable config link ch s
 
 abbrev pub all_move_so : {w : ℕ} → ℕ → Config → Log w → System w → Bool
 all_move_so clients config log s =
-    all_below clients (λ link.
-    moves_so config log s link Channel.A (s.channels link Channel.A) && (moves_so config log s link Channel.B
-    (s.channels link Channel.B)
-    && (moves_so config log s link Channel.C (s.channels link Channel.C) && (moves_so config log s link Channel.D
-    (s.channels link Channel.D)
-    && moves_so config log s link Channel.E (s.channels link Channel.E)))))
+    all_below clients (λ link. moves_so config log s link Channel.A (s.channels link Channel.A)
+    && (moves_so config log s link Channel.B (s.channels link Channel.B) && (moves_so config log s link Channel.C
+    (s.channels link Channel.C) && (moves_so config log s link Channel.D (s.channels link Channel.D) && moves_so config
+    log s link Channel.E (s.channels link Channel.E)))))
 
 abbrev pub same_beats : {w : ℕ} → List (Beat w) → List (Beat w) → Bool
 same_beats [] [] = true
@@ -212,17 +209,14 @@ grants _ _ before s = true
 
 -- what fails at an event, and after it
 abbrev pub faults_at : {w : ℕ} → ℕ → Config → Event w → Step w → Past w → Past w → List ℕ → List ℕ
-faults_at clients config event step before p rest =
-    failed 1 (is_step config event step.outcome before.machine)
+faults_at clients config event step before p rest = failed 1 (is_step config event step.outcome before.machine)
     (failed 2 (performs (accesses_answered step.handed) (moved event step.outcome before.machine))
-    (failed 3 (one_writer clients config p.system)
-    (failed 4 (copies_agree clients config p.system p.machine.memory)
+    (failed 3 (one_writer clients config p.system) (failed 4 (copies_agree clients config p.system p.machine.memory)
     (failed 5 (opened_agree clients p.log p.machine)
     (failed 6 (is_unrefused clients p.system)
     (failed 7 (all_fit clients config p.system)
     (failed 8 (beq (is_none (next_delivery config p.system)) (outstanding p.log == 0))
-    (failed 9 (all_move_so clients config p.log p.system)
-    (failed 12 (grants event step.outcome before.log p.system)
+    (failed 9 (all_move_so clients config p.log p.system) (failed 12 (grants event step.outcome before.log p.system)
     (failed 13 (all_carry clients p.log p.system)
     (failed 14 (not (is_delivery event && is_moving step.outcome) || nat_le 1 before.budget) rest)))))))))))
 

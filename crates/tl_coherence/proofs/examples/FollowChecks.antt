@@ -54,23 +54,19 @@ is_number n None = false
 
 abbrev pub known : {w : ℕ} → ℕ → ℕ → AccessMessages w → State (List ℕ) → System w → ℕ → Bool
 known blocks sources mail s sys c =
-    all_below blocks (λ n.
-    same_perm (held n (sys.clients c).past) ((s.block n).pair c).held
+    all_below blocks (λ n. same_perm (held n (sys.clients c).past) ((s.block n).pair c).held
     && (beq (pending (AcquireOf n) (sys.clients c).past) (is_wanting ((s.block n).pair c).acquiring)
     && (beq (pending (ReleaseOf n) (sys.clients c).past) (not (is_unreleased ((s.block n).pair c).letting))
-    && (not (pending (ProbeOf n) (sys.clients c).past)
-    && beq (pending (GrantAckOf n) (sys.clients c).past)
-    (comes_granting n (asked_by mail s c) (unfinished Channel.D (sys.clients c).past))))))
-    && all_below sources (λ i.
-    same_a (open_beat i (sys.clients c).past) (asked_by mail s c i)
-    && beq (pending (GrantSink i) (sys.clients c).past) (comes_in_grant i (unfinished Channel.D (sys.clients c).past)))
+    && (not (pending (ProbeOf n) (sys.clients c).past) && beq (pending (GrantAckOf n) (sys.clients c).past)
+    (comes_granting n (asked_by mail s c) (unfinished Channel.D (sys.clients c).past)))))) && all_below sources
+    (λ i. same_a (open_beat i (sys.clients c).past) (asked_by mail s c i) && beq
+    (pending (GrantSink i) (sys.clients c).past) (comes_in_grant i (unfinished Channel.D (sys.clients c).past)))
 
 abbrev pub opened : {w : ℕ} → ℕ → AccessMessages w → State (List ℕ) → System w → ℕ → Bool
 opened sources mail s sys c =
-    all_below sources (λ i.
-    beq (pending (RequestSource i) (sys.clients c).past) (is_some (asked_by mail s c i))
-    && (beq (pending (ReleaseSource i) (sys.clients c).past) (is_some (s.lets c i))
-    && released (s.lets c i) (option_map (λ x. block_at x.address) (release_of i (sys.clients c).past))))
+    all_below sources (λ i. beq (pending (RequestSource i) (sys.clients c).past) (is_some (asked_by mail s c i))
+    && (beq (pending (ReleaseSource i) (sys.clients c).past) (is_some (s.lets c i)) && released (s.lets c i)
+    (option_map (λ x. block_at x.address) (release_of i (sys.clients c).past))))
   where
     released : Option ℕ → Option ℕ → Bool
     released None x = true
@@ -81,22 +77,18 @@ copied None bytes = false
 copied (Some copy) bytes = same_bytes copy bytes
 
 abbrev pub kept : {w : ℕ} → ℕ → State (List ℕ) → System w → ℕ → Bool
-kept blocks s sys c =
-    all_below blocks (λ n.
-    implies (not (same_perm ((s.block n).pair c).held Perm.None))
-    (copied ((sys.clients c).copies n) ((s.block n).copy c))
-    && implies (is_whole ((s.block n).pair c).acquiring) (copied ((sys.clients c).waiting n) ((s.block n).waiting c)))
+kept blocks s sys c = all_below blocks (λ n. implies (not (same_perm ((s.block n).pair c).held Perm.None))
+    (copied ((sys.clients c).copies n) ((s.block n).copy c)) && implies (is_whole ((s.block n).pair c).acquiring)
+    (copied ((sys.clients c).waiting n) ((s.block n).waiting c)))
 
 -- ---- the manager's end
 
 abbrev pub managed : {w : ℕ} → ℕ → State (List ℕ) → Trace w → ℕ → Bool
-managed blocks s t c =
-    all_below blocks (λ n.
-    same_perm (recorded c n t) ((s.block n).pair c).recorded
-    && (beq (pending (ProbeOf n) (on_link c t)) (not (is_unprobed ((s.block n).pair c).probing))
-    && (beq (pending (AcquireOf n) (on_link c t)) (is_own (view (s.block n).service c))
-    && beq (pending (GrantAckOf n) (on_link c t)) (is_granting (view (s.block n).service c) || is_acknowledging
-    (view (s.block n).service c)))))
+managed blocks s t c = all_below blocks
+    (λ n. same_perm (recorded c n t) ((s.block n).pair c).recorded && (beq (pending (ProbeOf n) (on_link c t))
+    (not (is_unprobed ((s.block n).pair c).probing)) && (beq (pending (AcquireOf n) (on_link c t))
+    (is_own (view (s.block n).service c)) && beq (pending (GrantAckOf n) (on_link c t))
+    (is_granting (view (s.block n).service c) || is_acknowledging (view (s.block n).service c)))))
 
 abbrev pub same_service : {w : ℕ} → Option (service.Service w) → Option ℕ → ℕ → MessageA w → Bool
 same_service None None tracker m = true
@@ -118,22 +110,18 @@ is_for (Waits r own source k) n m t =
 is_for _ n m t = is_acquire m.opcode && (block_at m.address == n)
 
 abbrev pub in_service : {w : ℕ} → ℕ → AbstractState w → Trace w → Bool
-in_service blocks h t =
-    all_below blocks (λ n.
-    same_service (service_of_block n (services t)) (client_in (h.state.block n).service) (h.state.block n).tracker
-    (h.request n)
-    && is_for (h.state.block n).service n (h.request n) t)
+in_service blocks h t = all_below blocks (λ n. same_service (service_of_block n (services t))
+    (client_in (h.state.block n).service) (h.state.block n).tracker (h.request n) && is_for (h.state.block n).service n
+    (h.request n) t)
 
 abbrev pub served : {w : ℕ} → ℕ → ℕ → ℕ → State (List ℕ) → Trace w → ℕ → Bool
 served blocks sources trackers s t c =
-    all_below sources (λ i.
-    beq (pending (RequestSource i) (on_link c t))
-    (is_served c (s.uses c i) s || comes_in_request i (unfinished Channel.A (on_link c t)))
-    && beq (pending (ReleaseSource i) (on_link c t)) (comes_in_release i (unfinished Channel.C (on_link c t))))
-    && (all_below trackers (λ i. beq (pending (GrantSink i) (on_link c t)) (is_granted c (s.tracked i) s))
-    && all_below blocks (λ n.
-    beq (pending (ReleaseOf n) (on_link c t)) (comes_of n (unfinished Channel.C (on_link c t)))
-    && implies (not (is_unprobed ((s.block n).pair c).probing))
+    all_below sources (λ i. beq (pending (RequestSource i) (on_link c t))
+    (is_served c (s.uses c i) s || comes_in_request i (unfinished Channel.A (on_link c t))) && beq
+    (pending (ReleaseSource i) (on_link c t)) (comes_in_release i (unfinished Channel.C (on_link c t))))
+    && (all_below trackers (λ i. beq (pending (GrantSink i) (on_link c t)) (is_granted c (s.tracked i) s)) && all_below
+    blocks (λ n. beq (pending (ReleaseOf n) (on_link c t)) (comes_of n (unfinished Channel.C (on_link c t))) && implies
+    (not (is_unprobed ((s.block n).pair c).probing))
     (same_b (probe_of n (on_link c t)) (Some (probe_beat n (cap_waited (s.block n).service))))))
 
 -- ---- the flow
@@ -173,23 +161,19 @@ abbrev pub all_carry : {w : ℕ} → AccessMessages w → State (List ℕ) → S
 all_carry mail s sys c =
     carries mail s sys c Channel.A
     && (carries mail s sys c
-    Channel.B && (carries mail s sys c Channel.C && (carries mail s sys c Channel.D && carries mail s sys c
-    Channel.E)))
+    Channel.B && (carries mail s sys c Channel.C && (carries mail s sys c Channel.D && carries mail s sys c Channel.E)))
 
 abbrev pub named : ℕ → ℕ → ℕ → State (List ℕ) → ℕ → Bool
 named blocks sources trackers s c =
-    all_below blocks (λ n.
-    ok ((s.block n).pair c) (view (s.block n).service c)
-    && (all_below sources (λ i.
-    beq (acquires_of n (s.uses c i)) (acquires_with c i (s.block n))
+    all_below blocks (λ n. ok ((s.block n).pair c) (view (s.block n).service c)
+    && (all_below sources (λ i. beq (acquires_of n (s.uses c i)) (acquires_with c i (s.block n))
     && (beq (serves_of n (s.uses c i)) (serves_with c i (s.block n)) && beq (is_of n (s.lets c i))
-    (releases_with c i (s.block n))))
-    && all_below trackers (λ i. beq (is_of n (s.tracked i)) (tracks_with i (s.block n)))))
+    (releases_with c i (s.block n)))) && all_below trackers
+    (λ i. beq (is_of n (s.tracked i)) (tracks_with i (s.block n)))))
 
 abbrev pub remembers : {w : ℕ} → ℕ → State (List ℕ) → Past w → Bool
-remembers blocks s p =
-    all_below blocks (λ n. same_bytes (bytes_from p.system.manager.memory (64 * n) 64) (s.block n).memory && same_bytes
-    (bytes_from p.machine.memory (64 * n) 64) (s.block n).truth)
+remembers blocks s p = all_below blocks (λ n. same_bytes (bytes_from p.system.manager.memory (64 * n) 64)
+    (s.block n).memory && same_bytes (bytes_from p.machine.memory (64 * n) 64) (s.block n).truth)
 
 -- ---- playing
 

@@ -11,12 +11,9 @@ use Rattle.tl_coherence.proofs.examples.Checks.{evaluated_tests, Holds, faults, 
 
 plain_accesses_of_what_a_cache_holds : Holds {w = 8} (world Profile.One 2 1 ((Level.C, 1) ∷ (Level.UL, 1) ∷ []))
     ((acquire 0 0 Grow.NtoT ∷ Drains 220 ∷ store 0 0 0 90 ∷ access 1 OpA.Get 0 0 (lit≤ tt) 0 1
-    (replicate 64 0) ∷ deliver
-    1 Channel.A ∷ deliver 0 Channel.B ∷ [])
-    ++ replicate 8 (deliver 0 Channel.C)
+    (replicate 64 0) ∷ deliver 1 Channel.A ∷ deliver 0 Channel.B ∷ []) ++ replicate 8 (deliver 0 Channel.C)
     ++ (deliver 1 Channel.D ∷ load 0 0 0 ∷ access 1 OpA.PutFullData 0 0 (lit≤ tt) 0 1 ((107 ∷ []) ++ replicate 63 0)
-    ∷ deliver 1 Channel.A ∷ deliver 0 Channel.B
-    ∷ deliver 0 Channel.C ∷ deliver 1 Channel.D ∷ load 0 0 0 ∷ []))
+    ∷ deliver 1 Channel.A ∷ deliver 0 Channel.B ∷ deliver 0 Channel.C ∷ deliver 1 Channel.D ∷ load 0 0 0 ∷ []))
 unfolding faults faults_draining evaluated_tests evaluated
 plain_accesses_of_what_a_cache_holds = refl
 
@@ -43,9 +40,8 @@ min_by_sign_and_without = refl
 
 add_wraps : Holds {w = 8} (world Profile.One 1 1 ((Level.UH, 1) ∷ []))
     ((access 0 OpA.PutFullData 0 3 (lit≤ tt) 0 255 (replicate 8 255 ++ replicate 56 0) ∷ Drains 220 ∷ access 0
-    OpA.ArithmeticData 4 3 (lit≤ tt) 0 255
-    ((1 ∷ []) ++ replicate 63 0) ∷ Drains 220 ∷ access 0 OpA.Get 0 3 (lit≤ tt) 0 255 (replicate 64 0) ∷ Drains
-    220 ∷ []))
+    OpA.ArithmeticData 4 3 (lit≤ tt) 0 255 ((1 ∷ []) ++ replicate 63 0) ∷ Drains 220 ∷ access 0 OpA.Get 0 3 (lit≤ tt) 0
+    255 (replicate 64 0) ∷ Drains 220 ∷ []))
 unfolding faults faults_draining evaluated_tests evaluated
 add_wraps = refl
 
@@ -74,8 +70,7 @@ unfolding faults faults_draining evaluated_tests evaluated
 a_whole_block_store_takes_no_data = refl
 
 a_release_before_its_grant_ack : Holds {w = 8} (world Profile.One 1 1 ((Level.C, 1) ∷ []))
-    ((acquire 0 0 Grow.NtoB ∷ deliver 0 Channel.A ∷ [])
-    ++ replicate 8 (deliver 0 Channel.D)
+    ((acquire 0 0 Grow.NtoB ∷ deliver 0 Channel.A ∷ []) ++ replicate 8 (deliver 0 Channel.D)
     ++ (release 0 0 Prune.BtoN ∷ deliver 0 Channel.C ∷ deliver 0 Channel.D ∷ acquire 0 0 Grow.NtoB ∷ deliver 0
     Channel.A ∷ deliver 0 Channel.E ∷ deliver 0 Channel.A ∷ []))
 unfolding faults faults_draining evaluated_tests evaluated
@@ -83,9 +78,8 @@ a_release_before_its_grant_ack = refl
 
 busy_in_order : Holds {w = 8} (world Profile.One 1 1 ((Level.UL, 1) ∷ []))
     ((load 0 0 0 ∷ access 0 OpA.Get 0 4 (lit≤ tt) 0 255 (replicate 64 0) ∷ access 0 OpA.Get 0 3 (lit≤ tt) 0 255
-    (replicate 64 0) ∷ access 0 OpA.Get 0 3
-    (lit≤ tt) 0 255 (replicate 64 0) ∷ access 0 OpA.PutPartialData 0 1 (lit≤ tt) 7 128
-    (replicate 7 0 ++ (17 ∷ []) ++ replicate 56 0) ∷ deliver 0 Channel.D ∷ []))
+    (replicate 64 0) ∷ access 0 OpA.Get 0 3 (lit≤ tt) 0 255 (replicate 64 0) ∷ access 0 OpA.PutPartialData 0 1 (lit≤ tt)
+    7 128 (replicate 7 0 ++ (17 ∷ []) ++ replicate 56 0) ∷ deliver 0 Channel.D ∷ []))
 unfolding faults faults_draining evaluated_tests evaluated
 busy_in_order = refl
 

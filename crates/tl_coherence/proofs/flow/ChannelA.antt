@@ -6,7 +6,7 @@ use Rattle.tl_coherence.proofs.flow.Imports.{is_unprobed, is_unreleased, Free, G
 use Rattle.tl_coherence.proofs.flow.Imports.{is_granting, is_acknowledging, is_answered, is_unserved, served_block}
 use Rattle.tl_coherence.proofs.flow.Imports.{acquire_served, granted_at_once, acquire_granted, System, Packet, set}
 use Rattle.tl_coherence.proofs.flow.Imports.{SimulationRelation, asked_by}
-use Rattle.std.proofs.Common.{◌≡◌, subst, ℕ, Bool, true, false, ◌&&◌, List, [], ◌∷◌, Option, Some, None, refl, sym, ◌∙◌}
+use Rattle.std.proofs.Common.{◌≡◌, subst, ℕ, Bool, true, false, ◌&&◌, List, ◌∷◌, Option, Some, None, refl, sym, ◌∙◌}
 use Rattle.std.proofs.Common.{ap, ◌⊎◌, inl, inr}
 use Rattle.std.{specs.Prelude.◌==◌, specs.Prelude.if◌then◌else◌, proofs.lemmas.Bool.cases_eq}
 use Rattle.std.{proofs.lemmas.Bool.eqb-true, proofs.Math.Bool.and-false, proofs.lemmas.Option.same_Some}
@@ -36,10 +36,9 @@ module _ {w : ℕ} (config : Config) (log : Log w) (h : AbstractState w) (sys : 
   replied_if source b = if b then replied c source h.state else h.state
 
   access_of : (source : ℕ) (asked : IsAsked config c source h.mail h.state) (k : ℕ) (ms : List (Message w))
-      (queue : List (Beat w))
-      → IsNext (Beat.A (a_beat_of asked.request k)) (unfinished_at sys c Channel.A) (Message.A asked.request) ms queue
-      → AreRests (Beat.A (a_beat_of asked.request k)) (unfinished_at sys c) rest' → (b : Bool)
-      → completes (Beat.A (a_beat_of asked.request k)) (unfinished_at sys c Channel.A) ≡ b
+      (queue : List (Beat w)) → IsNext (Beat.A (a_beat_of asked.request k)) (unfinished_at sys c Channel.A)
+      (Message.A asked.request) ms queue → AreRests (Beat.A (a_beat_of asked.request k)) (unfinished_at sys c) rest'
+      → (b : Bool) → completes (Beat.A (a_beat_of asked.request k)) (unfinished_at sys c Channel.A) ≡ b
       → (is_empty (unfinished_at sys c Channel.A) ≡ true → k ≡ 0)
       → IsAccess c (a_beat_of asked.request k) (is_empty (unfinished_at sys c Channel.A)) b (asked_by h.mail h.state c)
       (unfinished_at sys c) rest' h.state (replied_if source b)
@@ -55,7 +54,7 @@ module _ {w : ℕ} (config : Config) (log : Log w) (h : AbstractState w) (sys : 
               h.mail h.state (ap is_access asked.used) asked.is_it,
           zeroth first,
         );
-        came = λ i. came-so (comes_in_request i) (Message.A asked.request) y (unfinished_at sys c Channel.A) ms queue
+        came = λ i. came-so (comes_in_request i)
             (asked.request.source == i) next refl (λ j. refl);
         comes = λ i. cc (
           rests Channel.A,
@@ -87,11 +86,9 @@ module _ {w : ℕ} (config : Config) (log : Log w) (h : AbstractState w) (sys : 
       tracked false i = refl
 
   pub own-access : (source : ℕ) (asked : IsAsked config c source h.mail h.state) (x : Beat w) (ms : List (Message w))
-      (queue : List (Beat w))
-      → IsNext x (unfinished_at sys c Channel.A) (Message.A asked.request) ms queue
-      → AreRests x (unfinished_at sys c) rest'
-      → (b : Bool) → completes x (unfinished_at sys c Channel.A) ≡ b → MonitorRelation (asked_by h.mail h.state c) rest'
-      c (replied_if source b) (x ∷ t)
+      (queue : List (Beat w)) → IsNext x (unfinished_at sys c Channel.A) (Message.A asked.request) ms queue
+      → AreRests x (unfinished_at sys c) rest' → (b : Bool) → completes x (unfinished_at sys c Channel.A) ≡ b
+      → MonitorRelation (asked_by h.mail h.state c) rest' c (replied_if source b) (x ∷ t)
   own-access source asked x ms queue next rests b last =
       let last_y : completes (Beat.A (a_beat_of asked.request next.k)) (unfinished_at sys c Channel.A) ≡ b =
       sym (ap (λ (z : Beat w). completes z (unfinished_at sys c Channel.A)) next.beat_is) ∙ last in
@@ -99,14 +96,13 @@ module _ {w : ℕ} (config : Config) (log : Log w) (h : AbstractState w) (sys : 
       subst (λ (z : Beat w). AreRests z (unfinished_at sys c) rest') next.beat_is rests in
       subst (λ (z : Beat w). MonitorRelation (asked_by h.mail h.state c) rest' c (replied_if source b) (z ∷ t))
       (sym next.beat_is)
-      (flowed-access c (a_beat_of asked.request next.k) (is_empty (unfinished_at sys c Channel.A)) b
-      (asked_by h.mail h.state c) (unfinished_at sys c) rest' h.state (replied_if source b) t
+      (flowed-access
       (ap is_empty (flowed.rest_is Channel.A)) (ap (completes (Beat.A (a_beat_of asked.request next.k)))
       (flowed.rest_is Channel.A) ∙ last_y) rests_y
       (access_of source asked next.k ms queue
       (subst (λ (z : Beat w). IsNext z (unfinished_at sys c Channel.A) (Message.A asked.request) ms queue)
       next.beat_is next) rests_y b last_y
-      (first-zero (Message.A asked.request) x (unfinished_at sys c Channel.A) ms queue next)) flowed)
+      (first-zero next)) flowed)
 
   -- ---- an Acquire
 
@@ -145,16 +141,14 @@ module _ {w : ℕ} (config : Config) (log : Log w) (h : AbstractState w) (sys : 
       waits_so : is_acknowledging (view new.service c) ≡ false
 
     acquired : (new : Block (List ℕ)) (s' : State (List ℕ)) → ((m : ℕ) → s'.block m ≡ set n new s.block m)
-        → ((i : ℕ) → s'.uses c i ≡ s.uses c i)
-        → ((i : ℕ) → s'.lets c i ≡ s.lets c i) → ((i : ℕ) → s'.tracked i ≡ set tracker (Some n) s.tracked i)
-        → IsTakenUp new
+        → ((i : ℕ) → s'.uses c i ≡ s.uses c i) → ((i : ℕ) → s'.lets c i ≡ s.lets c i)
+        → ((i : ℕ) → s'.tracked i ≡ set tracker (Some n) s.tracked i) → IsTakenUp new
         → (x : Beat w) (ms : List (Message w)) (queue : List (Beat w))
         → IsNext x (unfinished_at sys c Channel.A) (Message.A (acquire_wanted c n s wanted)) ms queue
-        → AreRests x (unfinished_at sys c) rest'
-        → MonitorRelation asked' rest' c s' (x ∷ t)
+        → AreRests x (unfinished_at sys c) rest' → MonitorRelation asked' rest' c s' (x ∷ t)
     acquired new s' changed uses lets tracked taken x ms queue next rests =
         let y : BeatA w = a_beat_of (acquire_wanted c n s wanted) 0 in
-        let one = one-beat (Message.A (acquire_wanted c n s wanted)) x (unfinished_at sys c Channel.A) ms queue next
+        let one = one-beat next
         (acquisition_beats w wanted.whole wanted.grow ((s.block n).source c) n) in
         let x_is : x ≡ Beat.A y = cc (next.beat_is, one.0) in
         let last_y : completes (Beat.A y) (unfinished_at sys c Channel.A) ≡ true = cc (x_is, one.2) in
@@ -169,13 +163,13 @@ module _ {w : ℕ} (config : Config) (log : Log w) (h : AbstractState w) (sys : 
           none_comes i e,
         ) (and-false (is_granting (view (s'.block n).service c))) in
         subst (λ (z : Beat w). MonitorRelation asked' rest' c s' (z ∷ t)) (sym x_is)
-        (flowed-acquire c n y (asked_by h.mail s c) asked' (unfinished_at sys c) rest' s s' t
+        (flowed-acquire
         (ap is_empty (flowed.rest_is Channel.A ∙ one.1))
         (ap (completes (Beat.A y)) (flowed.rest_is Channel.A) ∙ last_y) rests_y (record {
           acquire = acquires-so wanted.whole;
           at = same_block n;
           use_is = λ i e. ap (s.uses c) (sym (eqb-true ((s.block n).source c) i e)) ∙ wanted.used;
-          no_use = λ i e. unused-else c n i s is.invariant.named e;
+          no_use = λ i e. unused-else c n i is.invariant.named e;
           asks = λ i e. cc (
             eqb-true ((s.block n).source c) i e,
             asks-acquire c ((s.block n).source c) n
@@ -183,7 +177,7 @@ module _ {w : ℕ} (config : Config) (log : Log w) (h : AbstractState w) (sys : 
           );
           idle = rw free refl;
           quiet = quiet;
-          coming = coming-granting config log h.mail h.request s sys c is;
+          coming = coming-granting c is;
           came = λ i. ap (comes_in_request i) one.1;
           comes = λ i. cc (
             rests_y Channel.A,
@@ -225,7 +219,7 @@ module _ {w : ℕ} (config : Config) (log : Log w) (h : AbstractState w) (sys : 
             ])
               where
                 of : (m : ℕ) × IsGrantDue c m s × (s.tracked i ≡ Some m)
-                of = coming-sink config log h.mail h.request s sys c i is f
+                of = coming-sink c i is f
 
     held_free : held_by c (s.block n) ≡ ((s.block n).pair c).recorded
     held_free = cc free
@@ -253,9 +247,8 @@ module _ {w : ℕ} (config : Config) (log : Log w) (h : AbstractState w) (sys : 
 
     -- it is granted at once
     pub own-acquire_granted : (d : Bool) (k : Cap) (toks : List Packet) (x : Beat w) (ms : List (Message w))
-        (queue : List (Beat w))
-        → IsNext x (unfinished_at sys c Channel.A) (Message.A (acquire_wanted c n s wanted)) ms queue
-        → AreRests x (unfinished_at sys c) rest'
+        (queue : List (Beat w)) → IsNext x (unfinished_at sys c Channel.A) (Message.A (acquire_wanted c n s wanted)) ms
+        queue → AreRests x (unfinished_at sys c) rest'
         → MonitorRelation asked' rest' c (acquire_granted c n tracker d k toks s) (x ∷ t)
     own-acquire_granted d k toks =
         let seen : view new.service c ≡ Granting d k = rw (same_number c) refl in

@@ -64,18 +64,17 @@ module _ {w : ℕ} (config : Config) (log : Log w) (h : AbstractState w) (sys : 
   pub own-probe : (n : ℕ) → (s.link c).b ≡ packet Probe n ∷ toks
       → (x : Beat w) (ms : List (Message w)) (queue : List (Beat w))
       → IsNext x (unfinished_at sys c Channel.B) (block_message Probe c n (s.block n)) ms queue
-      → AreRests x (unfinished_at sys c) rest'
-      → (asked' : ℕ → Option (BeatA w)) → ((i : ℕ) → asked' i ≡ before i)
+      → AreRests x (unfinished_at sys c) rest' → (asked' : ℕ → Option (BeatA w)) → ((i : ℕ) → asked' i ≡ before i)
       → MonitorRelation asked' rest' c (probe_taken c n (cap_sent ((s.block n).pair c).probing) toks s) (x ∷ t)
   own-probe n tokens x ms queue next rests asked' asks =
       let k : Cap = cap_sent ((s.block n).pair c).probing in
-      let x_is : x ≡ Beat.B (probe_beat n k) = probe-beat c n s x (unfinished_at sys c Channel.B) ms queue next in
+      let x_is : x ≡ Beat.B (probe_beat n k) = probe-beat c n s next in
       let whole : unfinished_at sys c Channel.B ≡ [] = (is.kept c).b_whole in
       let seen = sent_sees k ((s.block n).pair c) (view (s.block n).service c) ((is.invariant.blocks n).phases c)
       (sent-is ((s.block n).pair c).probing (holds-first Probe (s.link c).b toks (packet Probe n)
       (λ i. shown Probe c (s.block i)) tokens refl (is.invariant.transfers c Probe refl))) in
       subst (λ (z : Beat w). MonitorRelation asked' rest' c (probe_taken c n k toks s) (z ∷ t)) (sym x_is)
-      (flowed-probe c n k toks before asked' (unfinished_at sys c) rest' s t
+      (flowed-probe n k toks asked' rest'
       (ap is_empty (flowed.rest_is Channel.B ∙ whole))
       (ap (completes {w = w} (Beat.B (probe_beat n k))) (flowed.rest_is Channel.B ∙ whole))
       (subst (λ (z : Beat w). AreRests z (unfinished_at sys c) rest') x_is rests) asks

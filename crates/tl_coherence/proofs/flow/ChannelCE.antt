@@ -8,7 +8,7 @@ use Rattle.tl_coherence.proofs.flow.Imports.{Service, Free, Block, State, packet
 use Rattle.tl_coherence.proofs.flow.Imports.{is_acknowledging, let_block, release_taken, report_taken, grant_ack_taken}
 use Rattle.tl_coherence.proofs.flow.Imports.{block_message, prune_told, report_told, System, ProbeAck, Release}
 use Rattle.tl_coherence.proofs.flow.Imports.{GrantAck, Packet, SimulationRelation, asked_by, Perm}
-use Rattle.std.proofs.Common.{◌≡◌, subst, ℕ, Bool, true, false, not, ◌&&◌, List, [], ◌∷◌, Option, refl, sym, ◌∙◌, ap}
+use Rattle.std.proofs.Common.{◌≡◌, subst, ℕ, Bool, true, false, not, ◌&&◌, List, ◌∷◌, Option, refl, sym, ◌∙◌, ap}
 use Rattle.std.proofs.Common.{length}
 use Rattle.std.{proofs.lemmas.Bool.and_right as with_false, specs.Prelude.◌==◌, specs.Prelude.if◌then◌else◌}
 use Rattle.tl_burst.specs.statement.Burst.{c_beat_of}
@@ -113,8 +113,7 @@ module _ {w : ℕ} (config : Config) (log : Log w) (h : AbstractState w) (sys : 
     -- what of a Release with source i was delivered, before and afterwards
     came : (i : ℕ) → comes_in_release i (unfinished_at sys c Channel.C)
         ≡ (not (is_empty (unfinished_at sys c Channel.C)) && (is_release m.opcode && (m.source == i)))
-    came i = came-so (comes_in_release i) (Message.C m) (Beat.C (c_beat_of m next.k)) (unfinished_at sys c Channel.C) ms
-        queue (is_release m.opcode && (m.source == i)) next_y refl (λ j. refl)
+    came i = came-so (comes_in_release i) (is_release m.opcode && (m.source == i)) next_y refl (λ j. refl)
 
     comes : (i : ℕ) → comes_in_release i (rest' Channel.C) ≡ (not b && (is_release m.opcode && (m.source == i)))
     comes i = cc (
@@ -132,8 +131,7 @@ module _ {w : ℕ} (config : Config) (log : Log w) (h : AbstractState w) (sys : 
   pub own-report : (s.link c).c ≡ packet ProbeAck n ∷ toks
       → (x : Beat w) (ms : List (Message w)) (queue : List (Beat w))
       → IsNext x (unfinished_at sys c Channel.C) (block_message ProbeAck c n (s.block n)) ms queue
-      → AreRests x (unfinished_at sys c) rest'
-      → (b : Bool) → completes x (unfinished_at sys c Channel.C) ≡ b
+      → AreRests x (unfinished_at sys c) rest' → (b : Bool) → completes x (unfinished_at sys c Channel.C) ≡ b
       → MonitorRelation before rest' c (if b then report_taken c n (report_told ((s.block n).pair c).probing) toks s
       else s) (x ∷ t)
   own-report tokens x ms queue next rests b last =
@@ -153,36 +151,30 @@ module _ {w : ℕ} (config : Config) (log : Log w) (h : AbstractState w) (sys : 
       here = subst (λ (i : Message w). IsNext x (unfinished_at sys c Channel.C) i ms queue) about.1 next
 
       alone : is_granting (view (s.block n).service c) ≡ false
-      alone =
-          other_ungranted (view (s.block n).service c)
+      alone = other_ungranted (view (s.block n).service c)
           (answered_other r ((s.block n).pair c) (view (s.block n).service c) well
           (answered-is ((s.block n).pair c).probing (holds-first ProbeAck (s.link c).c toks (packet ProbeAck n)
           (λ i. shown ProbeAck c (s.block i)) tokens refl (is.invariant.transfers c ProbeAck refl))))
 
       same : (z : Bool) → completes x (unfinished_at sys c Channel.C) ≡ z → (i : ℕ)
           → comes_in_release i (rest' Channel.C) ≡ comes_in_release i (unfinished_at sys c Channel.C)
-      same z e i =
-          comes m x ms queue here rests z e i ∙ with_false (not z) (is_release m.opcode && (m.source == i))
+      same z e i = comes m x ms queue here rests z e i ∙ with_false (not z) (is_release m.opcode && (m.source == i))
           (first_false (is_release m.opcode) (m.source == i) about.2.releases)
           ∙ sym (came m x ms queue here rests z e i ∙ with_false (not (is_empty (unfinished_at sys c Channel.C)))
-          (is_release m.opcode && (m.source == i))
-          (first_false (is_release m.opcode) (m.source == i) about.2.releases))
+          (is_release m.opcode && (m.source == i)) (first_false (is_release m.opcode) (m.source == i) about.2.releases))
 
       go : (z : Bool) → completes x (unfinished_at sys c Channel.C) ≡ z
           → MonitorRelation before rest' c (reported_if r z) (Beat.C (c_beat_of m here.k) ∷ t)
-      go false e =
-          flowed-report_part c (c_beat_of m here.k) (is_empty (unfinished_at sys c Channel.C)) before
-          (unfinished_at sys c) rest' s t (ap is_empty (flowed.rest_is Channel.C))
-          (ap (completes (Beat.C (c_beat_of m here.k))) (flowed.rest_is Channel.C) ∙ last_y m x ms queue here rests
-          false e)
-          (rests_y m x ms queue here rests false e) about.2.releases (same false e) flowed
-      go true e =
-          flowed-report c n r toks (c_beat_of m here.k) (is_empty (unfinished_at sys c Channel.C)) before
-          (unfinished_at sys c) rest' s t (ap is_empty (flowed.rest_is Channel.C))
-          (ap (completes (Beat.C (c_beat_of m here.k))) (flowed.rest_is Channel.C) ∙ last_y m x ms queue here rests true
-          e)
-          (rests_y m x ms queue here rests true e) about.2.reports about.2.releases (same true e) about.2.block
-          (ap reported about.2.param_is ∙ reported-report r) alone flowed
+      go false e = flowed-report_part (c_beat_of m here.k) (is_empty (unfinished_at sys c Channel.C)) rest'
+          (ap is_empty (flowed.rest_is Channel.C))
+          (ap (completes (Beat.C (c_beat_of m here.k))) (flowed.rest_is Channel.C)
+          ∙ last_y m x ms queue here rests false e) (rests_y m x ms queue here rests false e) about.2.releases
+          (same false e) flowed
+      go true e = flowed-report n r toks (c_beat_of m here.k) (is_empty (unfinished_at sys c Channel.C)) rest'
+          (ap is_empty (flowed.rest_is Channel.C))
+          (ap (completes (Beat.C (c_beat_of m here.k))) (flowed.rest_is Channel.C)
+          ∙ last_y m x ms queue here rests true e) (rests_y m x ms queue here rests true e) about.2.reports
+          about.2.releases (same true e) about.2.block (ap reported about.2.param_is ∙ reported-report r) alone flowed
 
   -- ---- a Release
 
@@ -192,8 +184,7 @@ module _ {w : ℕ} (config : Config) (log : Log w) (h : AbstractState w) (sys : 
   pub own-release : (s.link c).c ≡ packet Release n ∷ toks
       → (x : Beat w) (ms : List (Message w)) (queue : List (Beat w))
       → IsNext x (unfinished_at sys c Channel.C) (block_message Release c n (s.block n)) ms queue
-      → AreRests x (unfinished_at sys c) rest'
-      → (b : Bool) → completes x (unfinished_at sys c Channel.C) ≡ b
+      → AreRests x (unfinished_at sys c) rest' → (b : Bool) → completes x (unfinished_at sys c Channel.C) ≡ b
       → MonitorRelation before rest' c (if b then release_taken c n (prune_told ((s.block n).pair c).letting) toks s
       else s) (x ∷ t)
   own-release tokens x ms queue next rests b last =
@@ -202,8 +193,8 @@ module _ {w : ℕ} (config : Config) (log : Log w) (h : AbstractState w) (sys : 
       let here : IsNext x (unfinished_at sys c Channel.C) (Message.C m) ms queue =
       subst (λ (i : Message w). IsNext x (unfinished_at sys c Channel.C) i ms queue) about.1 next in
       subst (λ (z : Beat w). MonitorRelation before rest' c (released_if r b) (z ∷ t)) (sym here.beat_is)
-      (flowed-release c n r (c_beat_of m here.k) (is_empty (unfinished_at sys c Channel.C)) b before
-      (unfinished_at sys c) rest' s (released_if r b) t (ap is_empty (flowed.rest_is Channel.C))
+      (flowed-release
+      (ap is_empty (flowed.rest_is Channel.C))
       (ap (completes (Beat.C (c_beat_of m here.k))) (flowed.rest_is Channel.C) ∙ last_y m x ms queue here rests b last)
       (rests_y m x ms queue here rests b last)
       (λ i k. is.invariant.named.releases c i k) (record {
@@ -233,9 +224,8 @@ module _ {w : ℕ} (config : Config) (log : Log w) (h : AbstractState w) (sys : 
       r = prune_told ((s.block n).pair c).letting
 
       releasing : ((s.block n).pair c).letting ≡ ReleaseSent r
-      releasing = releasing-is ((s.block n).pair c).letting
-          (holds-first Release (s.link c).c toks (packet Release n) (λ i. shown Release c (s.block i)) tokens refl
-          (is.invariant.transfers c Release refl))
+      releasing = releasing-is ((s.block n).pair c).letting (holds-first Release (s.link c).c toks (packet Release n)
+          (λ i. shown Release c (s.block i)) tokens refl (is.invariant.transfers c Release refl))
 
       ungranted : is_granting (view (s.block n).service c) ≡ false
       ungranted = released_ungranted r ((s.block n).pair c) (view (s.block n).service c) well releasing
@@ -302,26 +292,25 @@ module _ {w : ℕ} (config : Config) (log : Log w) (h : AbstractState w) (sys : 
   pub own-grant_ack : (s.link c).e ≡ packet GrantAck n ∷ toks
       → (x : Beat w) (ms : List (Message w)) (queue : List (Beat w))
       → IsNext x (unfinished_at sys c Channel.E) (block_message GrantAck c n (s.block n)) ms queue
-      → AreRests x (unfinished_at sys c) rest'
-      → (asked' : ℕ → Option (BeatA w)) → ((i : ℕ) → asked' i ≡ before i)
+      → AreRests x (unfinished_at sys c) rest' → (asked' : ℕ → Option (BeatA w)) → ((i : ℕ) → asked' i ≡ before i)
       → MonitorRelation asked' rest' c (grant_ack_taken c n toks s) (x ∷ t)
   own-grant_ack tokens x ms queue next rests asked' asks =
       let y : BeatE = record { sink = (s.block n).tracker } in
       let here : IsNext x (unfinished_at sys c Channel.E) (Message.E (record { sink = (s.block n).tracker })) ms queue =
       subst (λ (i : Message w). IsNext x (unfinished_at sys c Channel.E) i ms queue) (ack_rendered c n (s.block n))
       next in
-      let one = one-beat (Message.E (record { sink = (s.block n).tracker })) x (unfinished_at sys c Channel.E) ms queue
+      let one = one-beat
       here refl in
       let x_is : x ≡ Beat.E y = here.beat_is in
       subst (λ (z : Beat w). MonitorRelation asked' rest' c (grant_ack_taken c n toks s) (z ∷ t)) (sym x_is)
-      (flowed-grant_ack c n toks y before asked' (unfinished_at sys c) rest' s t
+      (flowed-grant_ack n toks y asked' rest'
       (ap is_empty (flowed.rest_is Channel.E ∙ one.1))
       (ap (completes {w = w} (Beat.E y)) (flowed.rest_is Channel.E ∙ one.1))
       (subst (λ (z : Beat w). AreRests z (unfinished_at sys c) rest') x_is rests) asks refl seen is.invariant.named
       (busy_seen is_acknowledging refl (s.block n).service c shows)
       (λ k e. busy_seen is_acknowledging refl (s.block k).service c e)
-      (λ k e. busy_seen is_granting refl (s.block k).service c e) (coming-granting config log h.mail h.request h.state
-      sys c is)
+      (λ k e. busy_seen is_granting refl (s.block k).service c e) (coming-granting
+      c is)
       (λ k. comes-same k before asked' (unfinished_at sys c Channel.D) asks) flowed)
     where
       shows : is_acknowledging (view (s.block n).service c) ≡ true

@@ -1,13 +1,13 @@
 -- What is delivered on a link, as a beat of channel D is: of an answer, a Grant or a ReleaseAck.
 use Rattle.tl_coherence.proofs.flow.Imports.{Beat, BeatA, Channel, Message, MessageD, History, unfinished, is_empty}
-use Rattle.tl_coherence.proofs.flow.Imports.{completes, Config, Cap, comes_in_grant, is_grant, is_release_ack, asks_for}
+use Rattle.tl_coherence.proofs.flow.Imports.{completes, Config, Cap, comes_in_grant, is_grant, asks_for}
 use Rattle.tl_coherence.proofs.flow.Imports.{same_block, MonitorRelation, AbstractState, acquires_of, is_busy}
 use Rattle.tl_coherence.proofs.flow.Imports.{comes_granting, Log, ClientBlock, Granting, is_unprobed, is_unreleased}
 use Rattle.tl_coherence.proofs.flow.Imports.{after_release_ack, Block, State, SourceFree, Acquires, packet, shown, view}
 use Rattle.tl_coherence.proofs.flow.Imports.{is_granting, is_answered, is_wanting, taken_block, let_go_block}
 use Rattle.tl_coherence.proofs.flow.Imports.{release_ack_taken, block_message, System, Answer, Grant, ReleaseAck}
 use Rattle.tl_coherence.proofs.flow.Imports.{Packet, SimulationRelation, is_caching, asked_by}
-use Rattle.std.proofs.Common.{◌≡◌, subst, ℕ, Bool, true, false, not, ◌&&◌, List, [], ◌∷◌, Option, None, refl, sym, ◌∙◌}
+use Rattle.std.proofs.Common.{◌≡◌, subst, ℕ, Bool, true, false, not, ◌&&◌, List, ◌∷◌, Option, None, refl, sym, ◌∙◌}
 use Rattle.std.proofs.Common.{ap, inl}
 use Rattle.std.specs.Prelude.{◌==◌, if◌then◌else◌}
 use Rattle.std.proofs.lemmas.Bool.{eqb-false, eqb-true, and_right as with_false}
@@ -25,7 +25,7 @@ use Rattle.tl_coherence.proofs.{flow.FlowGranted.flowed-grant, flow.FlowResponse
 use Rattle.tl_coherence.proofs.{flow.FlowResponses.grant_tracked, flow.FlowStep.held_by, queues.Phases.and_right}
 use Rattle.tl_coherence.proofs.{protocol.BothParts.acked-is, queues.Codes.access_kind, queues.Codes.grants-so}
 use Rattle.tl_coherence.proofs.{simulation.Popped.unfinished_at}
-use Rattle.tl_coherence.proofs.protocol.HeadOfD.{IsAnswerDue, answer-due, IsGrantDue, grant-rendered, grant_message}
+use Rattle.tl_coherence.proofs.protocol.HeadOfD.{answer-due, IsGrantDue, grant-rendered, grant_message}
 use Rattle.tl_coherence.proofs.protocol.HeadOfD.{ack_message, own_view}
 use Rattle.tl_coherence.proofs.flow.FlowBeats.{came-so, comes-so, one-beat, set_at-if, same_perms, unused-else}
 use Rattle.tl_coherence.proofs.flow.FlowBeats.{first_false}
@@ -60,8 +60,7 @@ module _ {w : ℕ} (config : Config) (log : Log w) (h : AbstractState w) (sys : 
     -- what of a Grant with sink i was delivered, before and afterwards
     came : (i : ℕ) → comes_in_grant i (unfinished_at sys c Channel.D)
         ≡ (not (is_empty (unfinished_at sys c Channel.D)) && (is_grant m.opcode && (m.sink == i)))
-    came i = came-so (comes_in_grant i) (Message.D m) (Beat.D (d_beat_of m next.k)) (unfinished_at sys c Channel.D) ms
-        queue (is_grant m.opcode && (m.sink == i)) next_y refl (λ j. refl)
+    came i = came-so (comes_in_grant i) (is_grant m.opcode && (m.sink == i)) next_y refl (λ j. refl)
 
     comes : (i : ℕ) → comes_in_grant i (rest' Channel.D) ≡ (not b && (is_grant m.opcode && (m.sink == i)))
     comes i = cc (
@@ -74,8 +73,7 @@ module _ {w : ℕ} (config : Config) (log : Log w) (h : AbstractState w) (sys : 
     -- and of a Grant of block j
     granted : (j : ℕ) → comes_granting j before (unfinished_at sys c Channel.D)
         ≡ (not (is_empty (unfinished_at sys c Channel.D)) && (is_grant m.opcode && asks_for j (before m.source)))
-    granted j = came-so (comes_granting j before) (Message.D m) (Beat.D (d_beat_of m next.k))
-        (unfinished_at sys c Channel.D) ms queue
+    granted j = came-so (comes_granting j before)
         (is_grant m.opcode && asks_for j (before m.source)) next_y refl (λ i. refl)
 
     grants : (asked' : ℕ → Option (BeatA w)) (j : ℕ)
@@ -123,15 +121,13 @@ module _ {w : ℕ} (config : Config) (log : Log w) (h : AbstractState w) (sys : 
       → asked_by h.mail (answered_if source b) c i ≡ before i
   answer_asks source true i j e f = asks-same c i h.mail h.mail s (answer_taken c source toks s) refl
       (inl (set_at-else c source i SourceFree s.uses (λ same. eqb-false source i (sym (ap (λ (k : ℕ). k == i) e) ∙ f)
-      (sym same)) c))
-      (λ n used. refl) (λ n used. refl)
+      (sym same)) c)) (λ n used. refl) (λ n used. refl)
   answer_asks source false i j e f = refl
 
   pub own-answer : (source : ℕ) → (s.link c).d ≡ packet Answer source ∷ toks
       → (x : Beat w) (ms : List (Message w)) (queue : List (Beat w))
       → IsNext x (unfinished_at sys c Channel.D) (h.mail.answer c source) ms queue
-      → AreRests x (unfinished_at sys c) rest'
-      → (b : Bool) → completes x (unfinished_at sys c Channel.D) ≡ b
+      → AreRests x (unfinished_at sys c) rest' → (b : Bool) → completes x (unfinished_at sys c Channel.D) ≡ b
       → MonitorRelation (asked_by h.mail (answered_if source b) c) rest' c (answered_if source b) (x ∷ t)
   own-answer source tokens x ms queue next rests b last =
       let due = answer-due (is_caching config) c source toks h.mail s is.invariant (is.answered c source) tokens in
@@ -140,9 +136,8 @@ module _ {w : ℕ} (config : Config) (log : Log w) (h : AbstractState w) (sys : 
       let kind = access_kind due.answer.opcode due.answers_access in
       subst (λ (z : Beat w). MonitorRelation (asked_by h.mail (answered_if source b) c) rest' c (answered_if source b)
       (z ∷ t)) (sym here.beat_is)
-      (flowed-answer c (d_beat_of due.answer here.k) (is_empty (unfinished_at sys c Channel.D)) b before
-      (asked_by h.mail (answered_if source b) c)
-      (unfinished_at sys c) rest' s (answered_if source b) t (begins_y due.answer x ms queue here rests b last)
+      (flowed-answer (is_empty (unfinished_at sys c Channel.D))
+      (begins_y due.answer x ms queue here rests b last)
       (ends_y due.answer x ms queue here rests b last)
       (rests_y due.answer x ms queue here rests b last) (record {
         grant = kind.0;
@@ -173,17 +168,15 @@ module _ {w : ℕ} (config : Config) (log : Log w) (h : AbstractState w) (sys : 
   pub own-release_ack : (n : ℕ) → (s.link c).d ≡ packet ReleaseAck n ∷ toks
       → (x : Beat w) (ms : List (Message w)) (queue : List (Beat w))
       → IsNext x (unfinished_at sys c Channel.D) (block_message ReleaseAck c n (s.block n)) ms queue
-      → AreRests x (unfinished_at sys c) rest'
-      → (asked' : ℕ → Option (BeatA w)) → ((i : ℕ) → asked' i ≡ before i)
+      → AreRests x (unfinished_at sys c) rest' → (asked' : ℕ → Option (BeatA w)) → ((i : ℕ) → asked' i ≡ before i)
       → MonitorRelation asked' rest' c (release_ack_taken c n toks s) (x ∷ t)
   own-release_ack n tokens x ms queue next rests asked' asks =
       let m : MessageD w = ack_message ((s.block n).release_source c) in
-      let here = ack_next c n s x (unfinished_at sys c Channel.D) ms queue next in
-      let one = one-beat (Message.D m) x (unfinished_at sys c Channel.D) ms queue here refl in
+      let here = ack_next c n s next in
+      let one = one-beat here refl in
       let now : (release_ack_taken c n toks s).block n ≡ new = set-same n new s.block in
       subst (λ (z : Beat w). MonitorRelation asked' rest' c (release_ack_taken c n toks s) (z ∷ t)) (sym here.beat_is)
-      (flowed-let_go c n (d_beat_of m here.k) before asked' (unfinished_at sys c) rest' s (release_ack_taken c n toks s)
-      t
+      (flowed-let_go
       (begins_y m x ms queue here rests true one.2 ∙ ap is_empty one.1) (ends_y m x ms queue here rests true one.2)
       (rests_y m x ms queue here rests true one.2)
       (λ i k. is.invariant.named.releases c i k) (record {
@@ -230,14 +223,13 @@ module _ {w : ℕ} (config : Config) (log : Log w) (h : AbstractState w) (sys : 
     where
       apart : (j : ℕ) → s.uses c i ≡ Acquires j → j ≡ n → ⊥
       apart j used same =
-          let no : acquires_of n (Acquires n) ≡ false = cc (used, same, unused-else c n i s is.invariant.named e) in
+          let no : acquires_of n (Acquires n) ≡ false = cc (used, same, unused-else c n i is.invariant.named e) in
           let yes : true ≡ false = sym (same_number n) ∙ no in cc
 
   pub own-grant : (n : ℕ) → (s.link c).d ≡ packet Grant n ∷ toks → (due : IsGrantDue c n s) → (whole : Bool)
       → (x : Beat w) (ms : List (Message w)) (queue : List (Beat w))
       → IsNext x (unfinished_at sys c Channel.D) (block_message Grant c n (s.block n)) ms queue
-      → AreRests x (unfinished_at sys c) rest'
-      → (b : Bool) → completes x (unfinished_at sys c Channel.D) ≡ b
+      → AreRests x (unfinished_at sys c) rest' → (b : Bool) → completes x (unfinished_at sys c Channel.D) ≡ b
       → MonitorRelation (asked_by h.mail (granted_if n whole due.data_too due.k b) c) rest' c
       (granted_if n whole due.data_too due.k b) (x ∷ t)
   own-grant n tokens due whole x ms queue next rests b last =
@@ -247,9 +239,8 @@ module _ {w : ℕ} (config : Config) (log : Log w) (h : AbstractState w) (sys : 
       subst (λ (i : Message w). IsNext x (unfinished_at sys c Channel.D) i ms queue) (grant-rendered c n s due) next
       in
       subst (λ (z : Beat w). MonitorRelation (asked_by h.mail (s_if b) c) rest' c (s_if b) (z ∷ t)) (sym here.beat_is)
-      (flowed-grant c n due.data_too due.k (d_beat_of m here.k) (is_empty (unfinished_at sys c Channel.D)) b before
-      (asked_by h.mail (s_if b) c)
-      (unfinished_at sys c) rest' s (s_if b) t (begins_y m x ms queue here rests b last)
+      (flowed-grant
+      (begins_y m x ms queue here rests b last)
       (ends_y m x ms queue here rests b last)
       (rests_y m x ms queue here rests b last) (record {
         grant = grants-so due.data_too;
@@ -258,10 +249,10 @@ module _ {w : ℕ} (config : Config) (log : Log w) (h : AbstractState w) (sys : 
         says = cap-gives due.k;
         seen = seen;
         wants = ap is_wanting due.wants;
-        quiet = grant_quiet (is_caching config) c n s is.invariant due;
+        quiet = grant_quiet is.invariant due;
         use_is = λ i e. ap (s.uses c) (sym (eqb-true ((s.block n).source c) i e)) ∙ due.used;
-        no_use = λ i e. unused-else c n i s is.invariant.named e;
-        tracks = λ i e. cc (eqb-true (s.block n).tracker i e, grant_tracked (is_caching config) c n s is.invariant due);
+        no_use = λ i e. unused-else c n i is.invariant.named e;
+        tracks = λ i e. cc (eqb-true (s.block n).tracker i e, grant_tracked is.invariant due);
         tracks_not = λ i e. is.invariant.named.trackers i n ∙ with_false (is_busy (s.block n).service)
             (i == (s.block n).tracker) (not_swapped (s.block n).tracker i e);
         asks = asks;

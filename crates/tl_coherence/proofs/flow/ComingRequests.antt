@@ -4,7 +4,7 @@ use Rattle.tl_coherence.proofs.flow.Imports.{comes_in_request, IsCarried, Log, S
 use Rattle.tl_coherence.proofs.flow.Imports.{view, packet, shown, is_on, is_unserved, is_wanting, AccessMessages}
 use Rattle.tl_coherence.proofs.flow.Imports.{block_message, message_of, message_of_kind, System, Kind, Request, Acquire}
 use Rattle.tl_coherence.proofs.flow.Imports.{Packet, SimulationRelation, is_caching, Channel}
-use Rattle.std.proofs.Common.{◌≡◌, subst, ℕ, zero, suc, Bool, true, false, ◌&&◌, List, [], ◌∷◌, refl, sym, ◌∙◌, ap}
+use Rattle.std.proofs.Common.{◌≡◌, subst, ℕ, zero, suc, Bool, true, false, List, [], ◌∷◌, refl, sym, ◌∙◌, ap}
 use Rattle.std.{specs.Prelude.◌==◌, specs.Prelude.map, proofs.lemmas.Bool.eqb-true}
 use Rattle.tl_client.specs.statement.Send.{acquisition}
 use Rattle.tl_coherence.specs.refinement.AbstractStep.{acquire_opcode}
@@ -24,25 +24,25 @@ waits_on_a c _ s = false
 IsWaiting : {w : ℕ} → ℕ → State (List ℕ) → Message w → Type 0
 IsWaiting {w} c s m = (r : MessageA w) × (m ≡ Message.A r) × (waits_on_a c (s.uses c r.source) s ≡ true)
 
-waiting_request : {w : ℕ} (config : Config) (log : Log w) (mail : AccessMessages w) (request : ℕ → MessageA w)
-    (s : State (List ℕ)) (sys : System w) (c i : ℕ)
+waiting_request : {w : ℕ} {config : Config} {log : Log w} {mail : AccessMessages w} {request : ℕ → MessageA w}
+    {s : State (List ℕ)} {sys : System w} (c i : ℕ)
     (rest : List Packet) → SimulationRelation config log mail request s sys
     → (s.link c).a ≡ packet Request i ∷ rest → IsWaiting c s (mail.request c i)
 unfolding IsWaiting
-waiting_request config log mail request s sys c i rest h first =
-    let asked = asked-first config log mail request s sys c i rest h first in (
+waiting_request {config} {log} {mail} {request} {s} {sys} c i rest h first =
+    let asked = asked-first c i rest h first in (
       asked.request,
       asked.is_it,
       ap (λ (j : ℕ). waits_on_a c (s.uses c j) s) asked.source_is ∙ ap
           (λ (u : SourceState). waits_on_a c u s) asked.used,
     )
 
-waiting_acquire : {w : ℕ} (config : Config) (log : Log w) (mail : AccessMessages w) (request : ℕ → MessageA w)
-    (s : State (List ℕ)) (sys : System w) (c n : ℕ)
+waiting_acquire : {w : ℕ} {config : Config} {log : Log w} {mail : AccessMessages w} {request : ℕ → MessageA w}
+    {s : State (List ℕ)} {sys : System w} (c n : ℕ)
     (rest : List Packet) → SimulationRelation config log mail request s sys
     → (s.link c).a ≡ packet Acquire n ∷ rest → IsWaiting {w = w} c s (block_message Acquire c n (s.block n))
 unfolding IsWaiting
-waiting_acquire {w} config log mail request s sys c n rest h first =
+waiting_acquire {w} {config} {s} c n rest h first =
     let shows = holds-first Acquire (s.link c).a rest (packet Acquire n) (λ i. shown Acquire c (s.block i)) first refl
     (h.invariant.transfers c Acquire refl) in
     let wants = and_left (is_wanting ((s.block n).pair c).acquiring) (is_unserved (view (s.block n).service c)) shows in
@@ -69,19 +69,20 @@ comes_not {w} c source s m k rest e is none = cc (e, is.1, go k)
     go (suc i) = differ (is.0.source == source) refl
 
 -- no request is half taken whose source waits for an answer
-pub not-coming_a : {w : ℕ} (config : Config) (log : Log w) (mail : AccessMessages w) (request : ℕ → MessageA w)
-    (s : State (List ℕ)) (sys : System w) (c source : ℕ)
+pub not-coming_a : {w : ℕ} {config : Config} {log : Log w} {mail : AccessMessages w} {request : ℕ → MessageA w}
+    {s : State (List ℕ)} {sys : System w} (c source : ℕ)
     → SimulationRelation config log mail request s sys → waits_on_a c (s.uses c source) s ≡ false
     → comes_in_request source (unfinished Channel.A (on_link c sys.manager.trace)) ≡ false
-not-coming_a {w} config log mail request s sys c source h none = go (s.link c).a refl (h.carried c Channel.A)
+not-coming_a {w} {config} {log} {mail} {request} {s} {sys} c source h none =
+    go (s.link c).a refl (h.carried c Channel.A)
   where
     rest_now : List (Beat w)
     rest_now = unfinished Channel.A (on_link c sys.manager.trace)
 
     each : (k : Kind) (i : ℕ) (rest : List Packet) → (s.link c).a ≡ packet k i ∷ rest → is_on Channel.A k ≡ true
         → IsWaiting c s (message_of_kind k mail s c i)
-    each Request i rest first own = waiting_request config log mail request s sys c i rest h first
-    each Acquire i rest first own = waiting_acquire config log mail request s sys c i rest h first
+    each Request i rest first own = waiting_request c i rest h first
+    each Acquire i rest first own = waiting_acquire c i rest h first
     each k i rest first own = absurd cc
 
     go : (xs : List Packet) → (s.link c).a ≡ xs → IsCarried rest_now (map (message_of mail s c) (s.link c).a)

@@ -57,15 +57,14 @@ requested-rest c i rest rest' (InService m) s s' same e = refl
 requested-rest c i rest rest' Replied s s' same e = refl
 requested-rest {w} {X} c i rest rest' (Acquires m) s s' same e = cc (same m)
 
-pub flowed-access : {w : ℕ} {X : Type 0} (c : ℕ) (y : BeatA w) (first last : Bool) (asked : ℕ → Option (BeatA w))
-    (rest rest' : Channel → List (Beat w)) (s s' : State X) (t : History w)
-    → begins (Beat.A y) t ≡ first → ends (Beat.A y) t ≡ last → AreRests (Beat.A y) rest rest'
-    → IsAccess c y first last asked rest rest' s s'
+pub flowed-access : {w : ℕ} {X : Type 0} {c : ℕ} {y : BeatA w} {first last : Bool} {asked : ℕ → Option (BeatA w)}
+    {rest rest' : Channel → List (Beat w)} {s s' : State X} {t : History w} → begins (Beat.A y) t ≡ first
+    → ends (Beat.A y) t ≡ last → AreRests (Beat.A y) rest rest' → IsAccess c y first last asked rest rest' s s'
     → MonitorRelation asked rest c s t → MonitorRelation asked rest' c s' (Beat.A y ∷ t)
-flowed-access {w} {X} c y first last asked rest rest' s s' t first_is last_is rests is before =
+flowed-access {w} {X} {c} {y} {first} {last} {asked} {rest} {rest'} {s} {s'} {t} first_is last_is rests is before =
     let grants : (m : ℕ) → granted_by c m asked (rest' Channel.D) (s'.block m) ≡ granted_by c m asked (rest Channel.D)
     (s.block m) = λ m. cc (rests Channel.D, is.blocks m) in
-    flowed-next (Beat.A y) first last asked asked rest rest' c s s' t (record {
+    flowed-next (record {
       first_is = first_is;
       last_is = last_is;
       rests = rests;
@@ -121,9 +120,8 @@ flowed-access {w} {X} c y first last asked rest rest' s s' t first_is last_is re
           ∙ sym (is.came i ∙ and_right (not first) (y.source == i) e)),
     )
 
-    requests : (i : ℕ) (here : Bool) → (y.source == i) ≡ here
-        → is_requested c i (rest' Channel.A) (s'.uses c i) s' ≡ step first last (y.source == i) false
-        (is_requested c i (rest Channel.A) (s.uses c i) s)
+    requests : (i : ℕ) (here : Bool) → (y.source == i) ≡ here → is_requested c i (rest' Channel.A) (s'.uses c i) s'
+        ≡ step first last (y.source == i) false (is_requested c i (rest Channel.A) (s.uses c i) s)
     requests i true e = use_at i true e ∙ now i last refl e ∙ sym
         (begun first last (y.source == i) (is_requested c i (rest Channel.A) (s.uses c i) s) e (was i e))
     requests i false e = same i e ∙ sym

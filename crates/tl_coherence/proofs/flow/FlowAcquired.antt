@@ -45,12 +45,11 @@ pub record IsAcquired {w : ℕ} {X : Type 0} (c n : ℕ) (y : BeatA w) (asked as
 neither : (p q : Bool) → p ≡ false → q ≡ false → (p || q) ≡ false
 neither p q e f = rw (e, f) refl
 
-pub flowed-acquire : {w : ℕ} {X : Type 0} (c n : ℕ) (y : BeatA w) (asked asked' : ℕ → Option (BeatA w))
-    (rest rest' : Channel → List (Beat w)) (s s' : State X) (t : History w)
-    → begins (Beat.A y) t ≡ true → ends (Beat.A y) t ≡ true → AreRests (Beat.A y) rest rest'
-    → IsAcquired c n y asked asked' rest rest' s s'
+pub flowed-acquire : {w : ℕ} {X : Type 0} {c n : ℕ} {y : BeatA w} {asked asked' : ℕ → Option (BeatA w)}
+    {rest rest' : Channel → List (Beat w)} {s s' : State X} {t : History w} → begins (Beat.A y) t ≡ true
+    → ends (Beat.A y) t ≡ true → AreRests (Beat.A y) rest rest' → IsAcquired c n y asked asked' rest rest' s s'
     → MonitorRelation asked rest c s t → MonitorRelation asked' rest' c s' (Beat.A y ∷ t)
-flowed-acquire {w} {X} c n y asked asked' rest rest' s s' t first_is last_is rests is before =
+flowed-acquire {w} {X} {c} {n} {y} {asked} {asked'} {rest} {rest'} {s} {s'} {t} first_is last_is rests is before =
     let b : Block X = s.block n in
     let new : Block X = s'.block n in
     let none_comes = no_coming (is_granting (view b.service c)) (comes_granting n asked (rest Channel.D))
@@ -63,14 +62,15 @@ flowed-acquire {w} {X} c n y asked asked' rest rest' s s' t first_is last_is res
       comes-same m asked asked' (rest Channel.D) is.asked_is,
       each-block
           (λ j z. granted_by c j asked (rest Channel.D) z ≡ granted_by c j asked (rest Channel.D) (s.block j)) n s s'
-          is.elsewhere (neither (is_acknowledging (view new.service c)) (comes_granting n asked (rest Channel.D)) is.waits
+          is.elsewhere (neither (is_acknowledging (view new.service c)) (comes_granting n asked (rest Channel.D))
+          is.waits
           none_comes ∙ sym granted_then) (λ j ne. refl) m,
     ) in
     let tracked : (m : ℕ) → granted_by c m asked' (rest' Channel.D) (s'.block m) ≡ true → grant_sink m t ≡ Some
     (s'.block m).tracker = λ m e. each-block (λ j z. granted_by c j asked (rest Channel.D) (s.block j) ≡ true →
     grant_sink j t ≡ Some z.tracker) n s s' is.elsewhere (λ f. absurd (let g : false ≡ true = sym granted_then ∙ f
     in cc)) (λ j ne f. before.sunk j (before.grants j ∙ f)) m (sym (grants m) ∙ e) in
-    flowed-next (Beat.A y) true true asked asked' rest rest' c s s' t (record {
+    flowed-next (record {
       first_is = first_is;
       last_is = last_is;
       rests = rests;
@@ -110,9 +110,8 @@ flowed-acquire {w} {X} c n y asked asked' rest rest' s s' t first_is last_is res
           (is.comes i ∙ sym (is.came i)) (is.no_use i e),
     )
 
-    requests : (i : ℕ) (here : Bool) → (y.source == i) ≡ here
-        → is_requested c i (rest' Channel.A) (s'.uses c i) s' ≡ step true true (y.source == i) false
-        (is_requested c i (rest Channel.A) (s.uses c i) s)
+    requests : (i : ℕ) (here : Bool) → (y.source == i) ≡ here → is_requested c i (rest' Channel.A) (s'.uses c i) s'
+        ≡ step true true (y.source == i) false (is_requested c i (rest Channel.A) (s.uses c i) s)
     requests i true e = now i e ∙ sym (whole_opened (y.source == i) (is_requested c i (rest Channel.A) (s.uses c i) s)
         e)
     requests i false e = same i e ∙ sym
@@ -141,5 +140,4 @@ flowed-acquire {w} {X} c n y asked asked' rest rest' s s' t first_is last_is res
         → probe_of m t ≡ Some (probe_beat m (cap_waited (s'.block m).service))
     probed = each-block (λ m z. is_answered (z.pair c).probing ≡ true
         → probe_of m t ≡ Some (probe_beat m (cap_waited z.service))) n s s' is.elsewhere
-        (λ e. absurd (let f : false ≡ true = sym is.answered ∙ e in cc))
-        (λ m ne e. before.probed m e)
+        (λ e. absurd (let f : false ≡ true = sym is.answered ∙ e in cc)) (λ m ne e. before.probed m e)

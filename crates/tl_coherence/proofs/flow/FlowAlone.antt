@@ -38,18 +38,18 @@ no_coming g true e f = let h : g ≡ true = f refl in let i : false ≡ true = s
 other_sink : (i j : ℕ) (o : Option ℕ) → o ≡ Some j → (j ≡ i → ⊥) → is_sink i o ≡ false
 other_sink i j o e ne = rw e (ne_eqb j i ne)
 
-pub flowed-grant_ack : {w : ℕ} {X : Type 0} (c n : ℕ) (toks : List Packet) (y : BeatE) (asked asked' : ℕ
-    → Option (BeatA w)) (rest rest' : Channel → List (Beat w)) (s : State X) (t : History w)
-    → begins (Beat.E y) t ≡ true → ends (Beat.E y) t ≡ true → AreRests (Beat.E y) rest rest'
-    → ((i : ℕ) → asked' i ≡ asked i) → y.sink ≡ (s.block n).tracker
-    → view (s.block n).service c ≡ Acknowledging
-    → AreNamed s → is_busy (s.block n).service ≡ true → ((m : ℕ) → is_acknowledging (view (s.block m).service c) ≡ true
-    → is_busy (s.block m).service ≡ true)
+pub flowed-grant_ack : {w : ℕ} {X : Type 0} {c : ℕ} (n : ℕ) (toks : List Packet) (y : BeatE) {asked : ℕ
+    → Option (BeatA w)} (asked' : ℕ → Option (BeatA w)) {rest : Channel → List (Beat w)} (rest' : Channel
+    → List (Beat w)) {s : State X} {t : History w} → begins (Beat.E y) t ≡ true → ends (Beat.E y) t ≡ true
+    → AreRests (Beat.E y) rest rest' → ((i : ℕ) → asked' i ≡ asked i) → y.sink ≡ (s.block n).tracker
+    → view (s.block n).service c ≡ Acknowledging → AreNamed s → is_busy (s.block n).service ≡ true
+    → ((m : ℕ) → is_acknowledging (view (s.block m).service c) ≡ true → is_busy (s.block m).service ≡ true)
     → ((m : ℕ) → is_granting (view (s.block m).service c) ≡ true → is_busy (s.block m).service ≡ true)
     → IsComing asked (rest Channel.D) c s
     → ((m : ℕ) → comes_granting m asked' (rest Channel.D) ≡ comes_granting m asked (rest Channel.D))
     → MonitorRelation asked rest c s t → MonitorRelation asked' rest' c (grant_ack_taken c n toks s) (Beat.E y ∷ t)
-flowed-grant_ack {w} {X} c n toks y asked asked' rest rest' s t first last rests asks sink seen named busy busy_a busy_g
+flowed-grant_ack {w} {X} {c} n toks y {asked} asked' {rest} rest' {s} {t} first last rests asks sink seen named busy
+    busy_a busy_g
     coming comes before =
     let requests : (i : ℕ) → is_requested c i (rest' Channel.A) (s'.uses c i) s' ≡ is_requested c i (rest Channel.A)
     (s.uses c i) s = λ i. cc (
@@ -57,7 +57,7 @@ flowed-grant_ack {w} {X} c n toks y asked asked' rest rest' s t first last rests
       requested-blocks c i (rest Channel.A) (s.uses c i) s s'
           (set-part (λ (z : Block X). is_unserved (view z.service c)) n new s.block (sym (ap is_unserved seen))),
     ) in
-    flowed-next (Beat.E y) true true asked asked' rest rest' c s s' t (record {
+    flowed-next (record {
       first_is = first;
       last_is = last;
       rests = rests;
@@ -175,11 +175,9 @@ flowed-grant_ack {w} {X} c n toks y asked asked' rest rest' s t first last rests
     tracked : (m : ℕ) → granted_by c m asked' (rest' Channel.D) (s'.block m) ≡ true
         → grant_sink m t ≡ Some (s'.block m).tracker
     tracked = set-each (λ m z. granted_by c m asked' (rest' Channel.D) z ≡ true → grant_sink m t ≡ Some z.tracker) n new
-        s.block
-        (λ e. absurd (let f : false ≡ true = sym (grants_rest n ∙ none_comes) ∙ e in cc))
-        (λ m ne e. before.sunk m
-        (before.grants m ∙ sym (ap (λ (z : Bool). is_acknowledging (view (s.block m).service c) || z)
-        (grants_rest m)) ∙ e))
+        s.block (λ e. absurd (let f : false ≡ true = sym (grants_rest n ∙ none_comes) ∙ e in cc))
+        (λ m ne e. before.sunk m (before.grants m
+        ∙ sym (ap (λ (z : Bool). is_acknowledging (view (s.block m).service c) || z) (grants_rest m)) ∙ e))
 
     sinks : (i : ℕ) → is_sunk c i (rest' Channel.D) (s'.tracked i) s' ≡ step true true false (y.sink == i)
         (is_sunk c i (rest Channel.D) (s.tracked i) s)

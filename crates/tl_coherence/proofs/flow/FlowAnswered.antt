@@ -62,13 +62,15 @@ pub record IsAnswering {w : ℕ} {X : Type 0} (c : ℕ) (y : BeatD w) (last : Bo
   pub tracked : (i : ℕ) → s'.tracked i ≡ s.tracked i
   pub asked_is : (i : ℕ) → (last && (y.source == i)) ≡ false → asked' i ≡ asked i
 
-pub flowed-answer : {w : ℕ} {X : Type 0} (c : ℕ) (y : BeatD w) (first last : Bool) (asked asked' : ℕ → Option (BeatA w))
-    (rest rest' : Channel → List (Beat w)) (s s' : State X) (t : History w)
+pub flowed-answer : {w : ℕ} {X : Type 0} {c : ℕ} {y : BeatD w} (first : Bool) {last : Bool} {asked asked' : ℕ
+    → Option (BeatA w)}
+    {rest rest' : Channel → List (Beat w)} {s s' : State X} {t : History w}
     → begins (Beat.D y) t ≡ first → ends (Beat.D y) t ≡ last → AreRests (Beat.D y) rest rest'
     → IsAnswering c y last asked asked' rest rest' s s'
     → MonitorRelation asked rest c s t → MonitorRelation asked' rest' c s' (Beat.D y ∷ t)
-flowed-answer {w} {X} c y first last asked asked' rest rest' s s' t first_is last_is rests is before =
-    flowed-next (Beat.D y) first last asked asked' rest rest' c s s' t (record {
+flowed-answer {w} {X} {c} {y} first {last} {asked} {asked'} {rest} {rest'} {s} {s'} {t} first_is last_is rests is
+    before =
+    flowed-next (record {
       first_is = first_is;
       last_is = last_is;
       rests = rests;
@@ -195,12 +197,12 @@ of_releases : {w : ℕ} (n m : ℕ) (o : Option (BeatC w)) → option_map (λ x.
 of_releases n m None e = absurd cc
 of_releases n m (Some x) e = let f : block_at x.address ≡ n = cc in ap (λ (z : ℕ). z == m) f
 
-pub flowed-let_go : {w : ℕ} {X : Type 0} (c n : ℕ) (y : BeatD w) (asked asked' : ℕ → Option (BeatA w))
-    (rest rest' : Channel → List (Beat w)) (s s' : State X) (t : History w)
+pub flowed-let_go : {w : ℕ} {X : Type 0} {c n : ℕ} {y : BeatD w} {asked asked' : ℕ → Option (BeatA w)}
+    {rest rest' : Channel → List (Beat w)} {s s' : State X} {t : History w}
     → begins (Beat.D y) t ≡ true → ends (Beat.D y) t ≡ true → AreRests (Beat.D y) rest rest'
     → ((i m : ℕ) → is_of m (s.lets c i) ≡ releases_with c i (s.block m)) → IsLetGo c n y asked asked' rest rest' s s'
     → MonitorRelation asked rest c s t → MonitorRelation asked' rest' c s' (Beat.D y ∷ t)
-flowed-let_go {w} {X} c n y asked asked' rest rest' s s' t first_is last_is rests named is before =
+flowed-let_go {w} {X} {c} {n} {y} {asked} {asked'} {rest} {rest'} {s} {s'} {t} first_is last_is rests named is before =
     let of_block = is_of-is n (s.lets c y.source) (named y.source n
     ∙ rw (is.letting, is.source) (same_number (b.release_source c))) in
     let was_let : pending (ReleaseSource y.source) t ≡ true = cc (before.release_sources y.source, of_block, is.letting)
@@ -231,7 +233,7 @@ flowed-let_go {w} {X} c n y asked asked' rest rest' s s' t first_is last_is rest
     → pending (ReleaseSource i) t ≡ true = λ i m e f. before.release_sources i
     ∙ sym (unclosed_by (is_release_ack y.opcode) (y.source == i) (is_let_by c i (rest Channel.C) (s.lets c i) s)
     (is_another i m e (y.source == i) refl).0) ∙ sym (lets i (y.source == i) refl) ∙ f in
-    flowed-next (Beat.D y) true true asked asked' rest rest' c s s' t (record {
+    flowed-next (record {
       first_is = first_is;
       last_is = last_is;
       rests = rests;

@@ -77,13 +77,14 @@ module _ {w : ℕ} {X : Type 0} (d : ℕ) (asked asked' : ℕ → Option (BeatA 
 
   sinks-same : (n : ℕ) (b : Block X) (s' : State X) → IsChanged n b s' → b.service ≡ (s.block n).service
       → ((i : ℕ) → s'.tracked i ≡ s.tracked i) → AreSameSinks s'
-  sinks-same n b s' changed same tracked i = cc (
-    tracked i,
-    sunk-as d i (rest Channel.D) (s.tracked i) s s' (λ m. ap
-        (sunk_in d i (rest Channel.D)) (changed m) ∙ set-part (sunk_in d i (rest Channel.D)) n b s.block (ap (λ (q :
-        Service). is_acknowledging (view q d) || (is_granting (view q d) && comes_in_grant i (rest Channel.D))) same)
-        m),
-  )
+  sinks-same n b s' changed same tracked i =
+      cc (
+        tracked i,
+        sunk-as d i (rest Channel.D) (s.tracked i) s s' (λ m. ap (sunk_in d i (rest Channel.D)) (changed m)
+            ∙ set-part (sunk_in d i (rest Channel.D)) n b s.block
+            (ap (λ (q : Service). is_acknowledging (view q d) || (is_granting (view q d) && comes_in_grant i
+            (rest Channel.D))) same) m),
+      )
 
   sinks-outside : (n : ℕ) (b : Block X) (s' : State X) → IsChanged n b s'
       → is_outside (view (s.block n).service d) ≡ true → is_outside (view b.service d) ≡ true
@@ -111,25 +112,20 @@ module _ {w : ℕ} {X : Type 0} (d : ℕ) (asked asked' : ℕ → Option (BeatA 
 
   pub left-acquire_asked : (c n source : ℕ) (whole : Bool) (g : Grow) (bytes : X) → (d ≡ c → ⊥)
       → IsLeft (acquire_asked c n source whole g bytes s)
-  left-acquire_asked c n source whole g bytes ne =
-      apart-at n (acquiring_block c source whole g bytes (s.block n)) (acquire_asked c n source whole g bytes s)
-      (λ m. refl)
-      (same-acquiring d c source whole g bytes (s.block n) ne)
+  left-acquire_asked c n source whole g bytes ne = apart-at n (acquiring_block c source whole g bytes (s.block n))
+      (acquire_asked c n source whole g bytes s) (λ m. refl) (same-acquiring d c source whole g bytes (s.block n) ne)
       (λ i. inl (set_at-other c d source i (Acquires n) s.uses ne)) (λ i. refl)
       (sinks-same n (acquiring_block c source whole g bytes (s.block n)) (acquire_asked c n source whole g bytes s)
       (λ m. refl) refl (λ i. refl))
 
   pub left-release_asked : (c n source : ℕ) (r : Prune) → (d ≡ c → ⊥) → IsLeft (release_asked c n source r s)
-  left-release_asked c n source r ne =
-      apart-at n (releasing_block c source r (s.block n)) (release_asked c n source r s) (λ m. refl)
-      (same-releasing d c source r (s.block n) ne)
-      (λ i. inl refl) (λ i. set_at-other c d source i (Some n) s.lets ne)
-      (sinks-same n (releasing_block c source r (s.block n)) (release_asked c n source r s) (λ m. refl) refl
-      (λ i. refl))
+  left-release_asked c n source r ne = apart-at n (releasing_block c source r (s.block n))
+      (release_asked c n source r s) (λ m. refl) (same-releasing d c source r (s.block n) ne) (λ i. inl refl)
+      (λ i. set_at-other c d source i (Some n) s.lets ne) (sinks-same n (releasing_block c source r (s.block n))
+      (release_asked c n source r s) (λ m. refl) refl (λ i. refl))
 
   pub left-block_stored : (c n : ℕ) (bytes : X) → IsLeft (block_stored c n bytes s)
-  left-block_stored c n bytes =
-      apart-at n (stored_block c bytes (s.block n)) (block_stored c n bytes s) (λ m. refl)
+  left-block_stored c n bytes = apart-at n (stored_block c bytes (s.block n)) (block_stored c n bytes s) (λ m. refl)
       (same-stored d c bytes (s.block n)) (λ i. inl refl) (λ i. refl)
       (sinks-same n (stored_block c bytes (s.block n)) (block_stored c n bytes s) (λ m. refl) refl (λ i. refl))
 
@@ -148,9 +144,8 @@ module _ {w : ℕ} {X : Type 0} (d : ℕ) (asked asked' : ℕ → Option (BeatA 
   left-performed : (n : ℕ) (f : X → X) (s' : State X) → IsChanged n (performed_block f (s.block n)) s'
       → ((i : ℕ) → IsSameUse (s.uses d i) (s'.uses d i))
       → ((i : ℕ) → s'.lets d i ≡ s.lets d i) → ((i : ℕ) → s'.tracked i ≡ s.tracked i) → IsLeft s'
-  left-performed n f s' changed uses lets tracked =
-      apart-at n (performed_block f (s.block n)) s' changed (same-performed d f (s.block n)) uses lets
-      (sinks-same n (performed_block f (s.block n)) s' changed refl tracked)
+  left-performed n f s' changed uses lets tracked = apart-at n (performed_block f (s.block n)) s' changed
+      (same-performed d f (s.block n)) uses lets (sinks-same n (performed_block f (s.block n)) s' changed refl tracked)
 
   pub left-served : (r n source tracker : ℕ) (own : Bool) (k : Cap) (s' : State X)
       → IsChanged n (served_block r own source tracker k (s.block n)) s'
@@ -165,8 +160,7 @@ module _ {w : ℕ} {X : Type 0} (d : ℕ) (asked asked' : ℕ → Option (BeatA 
       (tracked-new n tracker s.tracked unused i)))
 
   pub left-acquire_granted : (r n tracker : ℕ) (x : Bool) (k : Cap) (toks : List Packet) → (d ≡ r → ⊥)
-      → (s.block n).service ≡ Free
-      → is_answered ((s.block n).pair d).probing ≡ false → s.tracked tracker ≡ None
+      → (s.block n).service ≡ Free → is_answered ((s.block n).pair d).probing ≡ false → s.tracked tracker ≡ None
       → IsLeft (acquire_granted r n tracker x k toks s)
   left-acquire_granted r n tracker x k toks ne free quiet unused =
       let new : Block X = granted_at_once r tracker x k (s.block n) in
@@ -178,22 +172,19 @@ module _ {w : ℕ} {X : Type 0} (d : ℕ) (asked asked' : ℕ → Option (BeatA 
   -- ---- Probes, ProbeAcks and Releases
 
   pub left-probe_taken : (c n : ℕ) (k : Cap) (toks : List Packet) → (d ≡ c → ⊥) → IsLeft (probe_taken c n k toks s)
-  left-probe_taken c n k toks ne =
-      apart-at n (probed_block c k (s.block n)) (probe_taken c n k toks s) (λ m. refl)
+  left-probe_taken c n k toks ne = apart-at n (probed_block c k (s.block n)) (probe_taken c n k toks s) (λ m. refl)
       (same-probed d c k (s.block n) ne) (λ i. inl refl) (λ i. refl)
       (sinks-same n (probed_block c k (s.block n)) (probe_taken c n k toks s) (λ m. refl) refl (λ i. refl))
 
   pub left-report_taken : (c n : ℕ) (r : Report) (toks : List Packet) → (d ≡ c → ⊥) → IsLeft (report_taken c n r toks s)
-  left-report_taken c n r toks ne =
-      apart-at n (reported_block c r (s.block n)) (report_taken c n r toks s) (λ m. refl)
+  left-report_taken c n r toks ne = apart-at n (reported_block c r (s.block n)) (report_taken c n r toks s) (λ m. refl)
       (same-reported d c r (s.block n) ne) (λ i. inl refl) (λ i. refl)
       (sinks-same n (reported_block c r (s.block n)) (report_taken c n r toks s) (λ m. refl) refl (λ i. refl))
 
   pub left-release_taken : (c n : ℕ) (r : Prune) (toks : List Packet) → (d ≡ c → ⊥)
       → IsLeft (release_taken c n r toks s)
-  left-release_taken c n r toks ne =
-      apart-at n (let_block c r (s.block n)) (release_taken c n r toks s) (λ m. refl) (same-let d c r (s.block n) ne)
-      (λ i. inl refl) (λ i. refl)
+  left-release_taken c n r toks ne = apart-at n (let_block c r (s.block n)) (release_taken c n r toks s) (λ m. refl)
+      (same-let d c r (s.block n) ne) (λ i. inl refl) (λ i. refl)
       (sinks-same n (let_block c r (s.block n)) (release_taken c n r toks s) (λ m. refl) refl (λ i. refl))
 
   -- ---- responses and GrantAcks
@@ -212,24 +203,21 @@ module _ {w : ℕ} {X : Type 0} (d : ℕ) (asked asked' : ℕ → Option (BeatA 
       → (s.block n).service ≡ GrantSent c x k → IsLeft (grant_taken c n whole x k toks s)
   left-grant_taken c n whole x k toks ne sent =
       apart-at n (taken_block c whole x k (s.block n)) (grant_taken c n whole x k toks s) (λ m. refl)
-      (same-taken d c whole x k (s.block n) ne sent)
-      (λ i. inl (set_at-other c d ((s.block n).source c) i _ s.uses ne)) (λ i. refl)
-      (sinks-outside n (taken_block c whole x k (s.block n)) (grant_taken c n whole x k toks s) (λ m. refl)
+      (same-taken d c whole x k (s.block n) ne sent) (λ i. inl (set_at-other c d ((s.block n).source c) i _ s.uses ne))
+      (λ i. refl) (sinks-outside n (taken_block c whole x k (s.block n)) (grant_taken c n whole x k toks s) (λ m. refl)
       (ap (λ (q : Service). is_outside (view q d)) sent ∙ outside-sent d c x k ne) (outside-taken d c ne)
       (λ i. inl refl))
 
   pub left-release_ack_taken : (c n : ℕ) (toks : List Packet) → (d ≡ c → ⊥) → IsLeft (release_ack_taken c n toks s)
-  left-release_ack_taken c n toks ne =
-      apart-at n (let_go_block c (s.block n)) (release_ack_taken c n toks s) (λ m. refl)
-      (same-let_go d c (s.block n) ne) (λ i. inl refl)
-      (λ i. set_at-other c d ((s.block n).release_source c) i None s.lets ne)
-      (sinks-same n (let_go_block c (s.block n)) (release_ack_taken c n toks s) (λ m. refl) refl (λ i. refl))
+  left-release_ack_taken c n toks ne = apart-at n (let_go_block c (s.block n)) (release_ack_taken c n toks s)
+      (λ m. refl) (same-let_go d c (s.block n) ne) (λ i. inl refl) (λ i. set_at-other c d ((s.block n).release_source c)
+      i None s.lets ne) (sinks-same n (let_go_block c (s.block n)) (release_ack_taken c n toks s) (λ m. refl) refl
+      (λ i. refl))
 
   pub left-grant_ack_taken : (c n : ℕ) (toks : List Packet) → (d ≡ c → ⊥) → (s.block n).service ≡ GrantTaken c
       → s.tracked (s.block n).tracker ≡ Some n → IsLeft (grant_ack_taken c n toks s)
-  left-grant_ack_taken c n toks ne taken tracks =
-      apart-at n (freed_block (s.block n)) (grant_ack_taken c n toks s) (λ m. refl)
-      (same-freed d c (s.block n) ne taken) (λ i. inl refl) (λ i. refl)
+  left-grant_ack_taken c n toks ne taken tracks = apart-at n (freed_block (s.block n)) (grant_ack_taken c n toks s)
+      (λ m. refl) (same-freed d c (s.block n) ne taken) (λ i. inl refl) (λ i. refl)
       (sinks-outside n (freed_block (s.block n)) (grant_ack_taken c n toks s) (λ m. refl)
       (ap (λ (q : Service). is_outside (view q d)) taken ∙ outside-taken d c ne) refl
       (tracked-free n (s.block n).tracker s.tracked tracks))
@@ -242,18 +230,14 @@ module _ {w : ℕ} {X : Type 0} (d : ℕ) (asked asked' : ℕ → Option (BeatA 
   pub left-access_answered : (c n source : ℕ) (f : X → X) (toks : List Packet)
       → IsAside asked asked' rest d (replied c source s) (access_answered c n source f toks s)
   left-access_answered c n source f toks = left-performed d asked asked' rest (replied c source s) asks coming n f
-      (access_answered c n source f toks s)
-      (λ m. refl) (λ i. inl refl) (λ i. refl) (λ i. refl)
+      (access_answered c n source f toks s) (λ m. refl) (λ i. inl refl) (λ i. refl) (λ i. refl)
 
   pub left-access_served : (c n source tracker : ℕ) (k : Cap) (toks : List Packet) → (s.block n).service ≡ Free
-      → is_unprobed ((s.block n).pair d).probing ≡ true
-      → s.tracked tracker ≡ None → IsAside asked asked' rest d (replied c source s)
-      (access_served c n source tracker k toks s)
-  left-access_served c n source tracker k toks free quiet unused =
-      left-served d asked asked' rest (replied c source s) asks coming c n source tracker false k
-      (access_served c n source tracker k toks s)
-      (λ m. refl) refl free quiet (uses-heard c source Replied (InService n) s.uses refl refl d) (λ i. refl) unused
-      (λ i. refl)
+      → is_unprobed ((s.block n).pair d).probing ≡ true → s.tracked tracker ≡ None
+      → IsAside asked asked' rest d (replied c source s) (access_served c n source tracker k toks s)
+  left-access_served c n source tracker k toks free quiet unused = left-served d asked asked' rest (replied c source s)
+      asks coming c n source tracker false k (access_served c n source tracker k toks s) (λ m. refl) refl free quiet
+      (uses-heard c source Replied (InService n) s.uses refl refl d) (λ i. refl) unused (λ i. refl)
 
   -- ---- a ProbeAck that is the last one, after its last beat
 
@@ -279,17 +263,14 @@ module _ {w : ℕ} {X : Type 0} (d : ℕ) (asked asked' : ℕ → Option (BeatA 
     seen q e = ap (λ (z : Block X). view z.service d) new_is ∙ ap (λ (i : Service). view i d) e
 
     pub left-report_answers : (q source : ℕ) (k : Cap) (f : X → X) → (s.block n).service ≡ Waits q false source k
-        → ((i : ℕ) → (i ≡ c → ⊥) → is_answered ((s.block n).pair i).probing ≡ false)
-        → s.tracked (s.block n).tracker ≡ Some n
-        → is_heard (s.uses q source) ≡ true → IsAside asked asked' rest d (report_taken c n r toks s)
+        → ((i : ℕ) → (i ≡ c → ⊥) → is_answered ((s.block n).pair i).probing ≡ false) → s.tracked (s.block n).tracker
+        ≡ Some n → is_heard (s.uses q source) ≡ true → IsAside asked asked' rest d (report_taken c n r toks s)
         (report_answers c q n source r f toks s)
-    left-report_answers q source k f waits quiet tracks heard =
-        apart-at d asked asked' rest between asks coming_still n (ended_block c r f (s.block n))
-        (report_answers c q n source r f toks s)
+    left-report_answers q source k f waits quiet tracks heard = apart-at d asked asked' rest between asks coming_still n
+        (ended_block c r f (s.block n)) (report_answers c q n source r f toks s)
         (set-again n (reported_block c r (s.block n)) (ended_block c r f (s.block n)) s.block)
         (subst (λ (z : Block X). IsSameBlock d z (ended_block c r f (s.block n))) (sym new_is)
-        (same-settled d c q source r k f (s.block n) waits (unanswered quiet)))
-        uses (λ i. refl)
+        (same-settled d c q source r k f (s.block n) waits (unanswered quiet))) uses (λ i. refl)
         (sinks-outside d asked asked' rest between asks coming_still n (ended_block c r f (s.block n))
         (report_answers c q n source r f toks s)
         (set-again n (reported_block c r (s.block n)) (ended_block c r f (s.block n)) s.block)

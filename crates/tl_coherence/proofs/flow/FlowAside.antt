@@ -98,10 +98,10 @@ either_is : (a b g : Bool) → (a || b) ≡ true → (b ≡ true → g ≡ true)
 either_is false true g e f h = let p : g ≡ true = f refl in let q : true ≡ false = sym p ∙ h in cc
 either_is a b g e f h = absurd cc
 
-pub flowed-aside : {w : ℕ} {X : Type 0} (asked asked' : ℕ → Option (BeatA w)) (rest : Channel → List (Beat w)) (d : ℕ)
-    (s s' : State X) (t : History w)
+pub flowed-aside : {w : ℕ} {X : Type 0} {asked asked' : ℕ → Option (BeatA w)} {rest : Channel → List (Beat w)} {d : ℕ}
+    {s s' : State X} {t : History w}
     → IsAside asked asked' rest d s s' → MonitorRelation asked rest d s t → MonitorRelation asked' rest d s' t
-flowed-aside {w} {X} asked asked' rest d s s' t is = flowed-untouched asked asked' rest d s s' t (record {
+flowed-aside {w} {X} {asked} {asked'} {rest} {d} {s} {s'} {t} is = flowed-untouched (record {
   held_is = λ n. (is.blocks n).held;
   requests = λ i. requested-same d i (rest Channel.A) s s' (λ n. (is.blocks n).unserved) (is.uses i);
   asked_is = λ i e. is.asked_is i;
@@ -136,10 +136,11 @@ flowed-aside {w} {X} asked asked' rest d s s' t is = flowed-untouched asked aske
         (is_granting (view (s.block n).service d)) e (is.coming n) none)
 
 -- where the same requests are given in another way, nothing changes
-pub flowed-asks : {w : ℕ} {X : Type 0} (asked asked' : ℕ → Option (BeatA w)) (rest : Channel → List (Beat w)) (d : ℕ)
-    (s : State X) (t : History w)
+pub flowed-asks : {w : ℕ} {X : Type 0} {asked : ℕ → Option (BeatA w)} (asked' : ℕ → Option (BeatA w)) {rest : Channel
+    → List (Beat w)} {d : ℕ}
+    {s : State X} {t : History w}
     → ((i : ℕ) → asked' i ≡ asked i) → MonitorRelation asked rest d s t → MonitorRelation asked' rest d s t
-flowed-asks asked asked' rest d s t asks = flowed-untouched asked asked' rest d s s t (record {
+flowed-asks {asked} asked' {rest} {d} {s} {t} asks = flowed-untouched (record {
   held_is = λ n. refl;
   requests = λ i. refl;
   asked_is = λ i e. asks i;

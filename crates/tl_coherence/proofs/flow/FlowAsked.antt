@@ -33,9 +33,8 @@ requested-now c source u rest s s' closed uses none same i = elim (cases_eq i so
 ]
 
 asked-now : {w : ℕ} {X : Type 0} (c source : ℕ) (asked asked' : ℕ → Option (BeatA w)) (rest : List (Beat w))
-    (s : State X) → s.uses c source ≡ SourceFree
-    → ((i : ℕ) → (i ≡ source → ⊥) → asked' i ≡ asked i) → (i : ℕ) → is_requested c i rest (s.uses c i) s ≡ true
-    → asked' i ≡ asked i
+    (s : State X) → s.uses c source ≡ SourceFree → ((i : ℕ) → (i ≡ source → ⊥) → asked' i ≡ asked i) → (i : ℕ)
+    → is_requested c i rest (s.uses c i) s ≡ true → asked' i ≡ asked i
 asked-now c source asked asked' rest s closed asks i e = elim (cases_eq i source) [
   | inl here ↦ absurd (let no : false ≡ true =
       sym (ap (λ (j : ℕ). is_requested c j rest (s.uses c j) s) here ∙ ap
@@ -44,8 +43,7 @@ asked-now c source asked asked' rest s closed asks i e = elim (cases_eq i source
 ]
 
 pub untouched-access_asked : {w : ℕ} {X : Type 0} (c source : ℕ) (asked asked' : ℕ → Option (BeatA w)) (rest : Channel
-    → List (Beat w)) (s : State X)
-    → s.uses c source ≡ SourceFree → comes_in_request source (rest Channel.A) ≡ false
+    → List (Beat w)) (s : State X) → s.uses c source ≡ SourceFree → comes_in_request source (rest Channel.A) ≡ false
     → ((i : ℕ) → (i ≡ source → ⊥) → asked' i ≡ asked i)
     → ((m : ℕ) → comes_granting m asked' (rest Channel.D) ≡ comes_granting m asked (rest Channel.D))
     → IsUntouched asked asked' rest c s (access_asked c source s)
@@ -66,8 +64,7 @@ untouched-access_asked c source asked asked' rest s closed none asks grants = re
 }
 
 pub untouched-acquire_asked : {w : ℕ} {X : Type 0} (c n source : ℕ) (whole : Bool) (g : Grow) (bytes : X)
-    (asked asked' : ℕ → Option (BeatA w))
-    (rest : Channel → List (Beat w)) (s : State X) → s.uses c source ≡ SourceFree
+    (asked asked' : ℕ → Option (BeatA w)) (rest : Channel → List (Beat w)) (s : State X) → s.uses c source ≡ SourceFree
     → ((s.block n).pair c).acquiring ≡ NoAcquire → is_unserved (view (s.block n).service c) ≡ true
     → ((i : ℕ) → (i ≡ source → ⊥) → asked' i ≡ asked i)
     → ((m : ℕ) → comes_granting m asked' (rest Channel.D) ≡ comes_granting m asked (rest Channel.D))
@@ -91,7 +88,8 @@ untouched-acquire_asked {w} {X} c n source whole g bytes asked asked' rest s clo
       releases = set-part (let_of c (rest Channel.C)) n new s.block
           (ap (is_release_pending (b.release_source c) (rest Channel.C))
           letting_same);
-      sinks = λ i. sunk-as c i (rest Channel.D) (s.tracked i) s s' (set-part (sunk_in c i (rest Channel.D)) n new s.block
+      sinks = λ i. sunk-as c i (rest Channel.D) (s.tracked i) s s'
+          (set-part (sunk_in c i (rest Channel.D)) n new s.block
           refl);
       grants = λ m. cc (grants m, set-part (granted_by c m asked (rest Channel.D)) n new s.block refl m);
       probes = set-part (λ (z : Block X). is_answered (z.pair c).probing) n new s.block
@@ -116,11 +114,10 @@ untouched-acquire_asked {w} {X} c n source whole g bytes asked asked' rest s clo
 -- ---- a Release
 
 pub untouched-release_asked : {w : ℕ} {X : Type 0} (c n source : ℕ) (r : Prune) (asked asked' : ℕ → Option (BeatA w))
-    (rest : Channel → List (Beat w))
-    (s : State X) → s.lets c source ≡ None → comes_in_release source (rest Channel.C) ≡ false
-    → ((s.block n).pair c).letting ≡ NoRelease → ((i : ℕ) → is_of n (s.lets c i) ≡ false)
-    → is_granting (view (s.block n).service c) ≡ false
-    → ((i : ℕ) → asked' i ≡ asked i) → IsUntouched asked asked' rest c s (release_asked c n source r s)
+    (rest : Channel → List (Beat w)) (s : State X) → s.lets c source ≡ None → comes_in_release source (rest Channel.C)
+    ≡ false → ((s.block n).pair c).letting ≡ NoRelease → ((i : ℕ) → is_of n (s.lets c i) ≡ false)
+    → is_granting (view (s.block n).service c) ≡ false → ((i : ℕ) → asked' i ≡ asked i)
+    → IsUntouched asked asked' rest c s (release_asked c n source r s)
 untouched-release_asked {w} {X} c n source r asked asked' rest s free none kept unused ungranted asks =
     let still : (i m : ℕ) → is_let_by c i (rest Channel.C) (s.lets c i) s ≡ true → s'.lets c i ≡ Some m
     → s.lets c i ≡ Some m = λ i m e f. elim (cases_eq i source) [
@@ -145,7 +142,8 @@ untouched-release_asked {w} {X} c n source r asked asked' rest s free none kept 
           (ap (λ (l : ReleasePhase). is_release_pending (new.release_source c) (rest Channel.C) l) letting_is
           ∙ ap (λ (j : ℕ). comes_in_release j (rest Channel.C)) (set-same c source b.release_source) ∙ none
           ∙ sym (ap (is_release_pending (b.release_source c) (rest Channel.C)) kept));
-      sinks = λ i. sunk-as c i (rest Channel.D) (s.tracked i) s s' (set-part (sunk_in c i (rest Channel.D)) n new s.block
+      sinks = λ i. sunk-as c i (rest Channel.D) (s.tracked i) s s'
+          (set-part (sunk_in c i (rest Channel.D)) n new s.block
           refl);
       grants = λ m. cc (
         comes-same m asked asked' (rest Channel.D) asks,

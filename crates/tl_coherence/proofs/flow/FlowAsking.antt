@@ -4,7 +4,7 @@ use Rattle.tl_coherence.proofs.flow.Imports.{MonitorRelation, AbstractState, Log
 use Rattle.tl_coherence.proofs.flow.Imports.{ClientBlock, after_release, Block, SourceState, SourceFree, Asked}
 use Rattle.tl_coherence.proofs.flow.Imports.{Acquires, view, is_granting, is_unserved, is_wanting, access_asked}
 use Rattle.tl_coherence.proofs.flow.Imports.{acquire_asked, release_asked, releasing_block, AccessMessages, System}
-use Rattle.tl_coherence.proofs.flow.Imports.{set_at, SimulationRelation, is_caching, asked_by, Channel, Message}
+use Rattle.tl_coherence.proofs.flow.Imports.{set_at, SimulationRelation, is_caching, asked_by, Message}
 use Rattle.std.proofs.Common.{◌≡◌, subst, ℕ, Bool, true, false, Option, refl, sym, ◌∙◌, ap, List, inl, inr}
 use Rattle.std.{specs.Prelude.◌==◌, proofs.lemmas.Bool.cases_eq, proofs.lemmas.Bool.ne_eqb}
 use Rattle.tl_client.{specs.declared.operation.Op.Op, specs.declared.reply.Reply.Reply, specs.statement.Ask.copy_stored}
@@ -19,7 +19,7 @@ use Rattle.tl_coherence.proofs.{protocol.FollowKept.IsAskable, queues.Tokens.set
 use Rattle.tl_coherence.proofs.{simulation.Popped.unfinished_at}
 use Rattle.tl_coherence.proofs.flow.FlowApart.{left-access_asked, left-acquire_asked, left-release_asked}
 use Rattle.tl_coherence.proofs.flow.FlowApart.{left-block_stored}
-use Rattle.tl_coherence.proofs.flow.FlowAside.{IsComing, IsAside, flowed-aside}
+use Rattle.tl_coherence.proofs.flow.FlowAside.{IsAside, flowed-aside}
 use Rattle.tl_coherence.proofs.flow.FlowAsked.{untouched-access_asked, untouched-acquire_asked, untouched-release_asked}
 use Rattle.tl_coherence.proofs.flow.FlowComing.{coming-granting, coming-asked, coming-free}
 
@@ -60,11 +60,10 @@ module _ {w : ℕ} (config : Config) (log : Log w) (h : AbstractState w) (sys : 
       λ i. asks-same c i h.mail h.mail h.state (block_stored c n bytes h.state) refl (inl refl)
       (λ j used. set-part (λ b. (b.pair c).acquiring) n _ h.state.block refl j)
       (λ j used. set-part (λ b. b.source c) n _ h.state.block refl j) in
-      flowed-aside (asked_by h.mail h.state c) (asked_by h.mail (block_stored c n bytes h.state) c)
-      (unfinished_at sys c) c h.state (block_stored c n bytes h.state) t
+      flowed-aside
       (left-block_stored c (asked_by h.mail h.state c) (asked_by h.mail (block_stored c n bytes h.state) c)
       (unfinished_at sys c) h.state asks
-      (coming-granting config log h.mail h.request h.state sys c is) c n bytes)
+      (coming-granting c is) c n bytes)
 
   own-acquire : (t : History w) (n source : ℕ) (whole : Bool) (g : Grow) (bytes : List ℕ)
       → h.state.uses c source ≡ SourceFree → ((h.state.block n).pair c).acquiring ≡ NoAcquire
@@ -72,11 +71,10 @@ module _ {w : ℕ} (config : Config) (log : Log w) (h : AbstractState w) (sys : 
       → MonitorRelation (asked_by h.mail (acquire_asked c n source whole g bytes h.state) c) (unfinished_at sys c) c
       (acquire_asked c n source whole g bytes h.state) t
   own-acquire t n source whole g bytes closed calm =
-      flowed-untouched before after (unfinished_at sys c) c h.state (acquire_asked c n source whole g bytes h.state) t
-      (untouched-acquire_asked c n source whole g bytes before after (unfinished_at sys c) h.state closed calm
-      (unserved_calm ((h.state.block n).pair c) (view (h.state.block n).service c) ((is.invariant.blocks n).phases c)
-      calm) asks
-      (λ m. coming-asked config log h.mail h.request h.state sys c m before after is
+      flowed-untouched (untouched-acquire_asked c n source whole g bytes before after (unfinished_at sys c) h.state
+      closed calm (unserved_calm ((h.state.block n).pair c) (view (h.state.block n).service c)
+      ((is.invariant.blocks n).phases c) calm) asks
+      (λ m. coming-asked c m before after is
       (λ i k used. asks i (λ e. acquires_not (h.state.uses c i) k (ap (h.state.uses c) e ∙ closed) used))))
     where
       before : ℕ → Option (BeatA w)
@@ -87,7 +85,7 @@ module _ {w : ℕ} (config : Config) (log : Log w) (h : AbstractState w) (sys : 
 
       asks : (i : ℕ) → (i ≡ source → ⊥) → after i ≡ before i
       asks i ne = let other : (source == i) ≡ false = ne_eqb source i
-          (λ e. ne (sym e)) in asks_acquire c n source i whole g bytes h.mail h.state is.invariant.named
+          (λ e. ne (sym e)) in asks_acquire c n source i whole g bytes h.mail is.invariant.named
           (ap is_wanting calm) ∙ rw other refl
 
   own-release : (t : History w) (n source : ℕ) (r : Prune) → IsAskedOn c t (Op.Release n r) (Reply.Started source)
@@ -101,9 +99,9 @@ module _ {w : ℕ} (config : Config) (log : Log w) (h : AbstractState w) (sys : 
       (ap (λ (p : ClientBlock). p.acquiring) (set-same c (after_release r ((h.state.block n).pair c))
       (h.state.block n).pair)) j) (λ j used. set-part (λ (b : Block (List ℕ)). b.source c) n new h.state.block refl
       j) in
-      flowed-untouched before after (unfinished_at sys c) c h.state (release_asked c n source r h.state) t
+      flowed-untouched
       (untouched-release_asked c n source r before after (unfinished_at sys c) h.state may.1
-      (coming-free config log h.mail h.request h.state sys c source width is may.1) may.3
+      (coming-free c source width is may.1) may.3
       (λ i. is.invariant.named.releases c i n ∙ rw may.3 refl)
       (unserved_ungranted (view (h.state.block n).service c)
       (unserved_calm ((h.state.block n).pair c) (view (h.state.block n).service c) ((is.invariant.blocks n).phases c)
@@ -123,16 +121,15 @@ module _ {w : ℕ} (config : Config) (log : Log w) (h : AbstractState w) (sys : 
       λ i ne. asks-same c i h.mail mail' h.state (access_asked c source h.state)
       (set_at-else c source i (access source m) h.mail.request ne c)
       (inl (set_at-else c source i Asked h.state.uses ne c)) (λ n used. refl) (λ n used. refl) in
-      flowed-untouched before after (unfinished_at sys c) c h.state (access_asked c source h.state) t
+      flowed-untouched
       (untouched-access_asked c source before after (unfinished_at sys c) h.state closed
-      (not-coming_a config log h.mail h.request h.state sys c source is
+      (not-coming_a c source is
       (ap (λ (u : SourceState). waits_on_a c u h.state) closed)) asks
-      (λ k. coming-asked config log h.mail h.request h.state sys c k before after is
+      (λ k. coming-asked c k before after is
       (λ i n used. asks i (λ e. acquires_not (h.state.uses c i) n (ap (h.state.uses c) e ∙ closed) used))))
 
   asked-own : (t : History w) (o : Op w) (r : Reply) → IsReply o r → IsAskedOn c t o r
-  asked-own t o r may_be =
-      reply-cases (IsAskedOn c t) o r may_be (own-stored t)
+  asked-own t o r may_be = reply-cases (IsAskedOn c t) o r may_be (own-stored t)
       (λ n g source may. own-acquire t n source false g ((h.state.block n).waiting c) may.1 may.2)
       (λ n bytes source may. own-acquire t n source true (whole_grow ((h.state.block n).pair c).held) bytes may.1 may.2)
       (λ n p source. own-release t n source p) (own-access t) (asked-nothing c t)
@@ -143,12 +140,12 @@ module _ {w : ℕ} (config : Config) (log : Log w) (h : AbstractState w) (sys : 
   asked-other d t o r ne may_be =
       let before : ℕ → Option (BeatA w) = asked_by h.mail h.state d in
       let after : Op w → Reply → ℕ → Option (BeatA w) = λ i j. asked_by (asked c i j h).mail (asked c i j h).state d in
-      let coming = coming-granting config log h.mail h.request h.state sys d is in
+      let coming = coming-granting d is in
       let left : (i : Op w) (j : Reply)
       → (((k : ℕ) → after i j k ≡ before k) → IsAside before (after i j) (unfinished_at sys d) d h.state
       (asked c i j h).state) → MonitorRelation before (unfinished_at sys d) d h.state t
       → MonitorRelation (after i j) (unfinished_at sys d) d (asked c i j h).state t =
-      λ i j aside. flowed-aside before (after i j) (unfinished_at sys d) d h.state (asked c i j h).state t
+      λ i j aside. flowed-aside
       (aside (asks-left d h (asked c i j h) (leaves-asked c i j h d ne))) in
       reply-cases (IsAskedOn d t) o r may_be (λ address size value may. left (Op.Store address size value) Reply.Stored
       (λ asks. left-block_stored d before (after (Op.Store address size value) Reply.Stored) (unfinished_at sys d)

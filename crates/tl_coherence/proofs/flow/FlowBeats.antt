@@ -11,11 +11,10 @@ use Rattle.tl_coherence.proofs.{client.Aside.set_at-else, queues.Carried.IsNext,
 use Rattle.tl_coherence.proofs.{queues.Tokens.set_at-same, client.ProbeDelivered.first_beat}
 
 -- a test of what was delivered, which no beats pass, and all beginnings of the message alike
-pub came-so : {w : ℕ} (f : List (Beat w) → Bool) (m : Message w) (x : Beat w) (rest : List (Beat w))
-    (ms : List (Message w)) (queue : List (Beat w)) (v : Bool)
-    → IsNext x rest m ms queue → f [] ≡ false → ((j : ℕ) → f (begun m (suc j)) ≡ v)
-    → f rest ≡ (not (is_empty rest) && v)
-came-so {w} f m x rest ms queue v next none some = rw next.rest_is (go next.k)
+pub came-so : {w : ℕ} (f : List (Beat w) → Bool) {m : Message w} {x : Beat w} {rest : List (Beat w)}
+    {ms : List (Message w)} {queue : List (Beat w)} (v : Bool) → IsNext x rest m ms queue → f [] ≡ false
+    → ((j : ℕ) → f (begun m (suc j)) ≡ v) → f rest ≡ (not (is_empty rest) && v)
+came-so {w} f {m} v next none some = rw next.rest_is (go next.k)
   where
     go : (k : ℕ) → f (begun m k) ≡ (not (is_empty (begun m k)) && v)
     go zero = none
@@ -30,19 +29,19 @@ comes-so {w} f x rest v none here = go (completes x rest)
     go false = here
 
 -- the first beat is beat 0
-pub first-zero : {w : ℕ} (m : Message w) (x : Beat w) (rest : List (Beat w)) (ms : List (Message w))
-    (queue : List (Beat w)) → (next : IsNext x rest m ms queue) → is_empty rest ≡ true → next.k ≡ 0
-first-zero {w} m x rest ms queue next e = go next.k (sym (ap is_empty next.rest_is) ∙ e)
+pub first-zero : {w : ℕ} {m : Message w} {x : Beat w} {rest : List (Beat w)} {ms : List (Message w)}
+    {queue : List (Beat w)} → (next : IsNext x rest m ms queue) → is_empty rest ≡ true → next.k ≡ 0
+first-zero {w} {m} next e = go next.k (sym (ap is_empty next.rest_is) ∙ e)
   where
     go : (k : ℕ) → is_empty (begun m k) ≡ true → k ≡ 0
     go zero f = refl
     go (suc j) f = absurd cc
 
 -- a message of one beat
-pub one-beat : {w : ℕ} (m : Message w) (x : Beat w) (rest : List (Beat w)) (ms : List (Message w))
-    (queue : List (Beat w)) → (next : IsNext x rest m ms queue)
+pub one-beat : {w : ℕ} {m : Message w} {x : Beat w} {rest : List (Beat w)} {ms : List (Message w)}
+    {queue : List (Beat w)} → (next : IsNext x rest m ms queue)
     → beats_of m ≡ 1 → (next.k ≡ 0) × (rest ≡ []) × (completes x rest ≡ true)
-one-beat m x rest ms queue next one =
+one-beat {m} next one =
     let zeroth : next.k ≡ 0 = first_beat next.k (beats_of m) next.within one in
     (zeroth, next.rest_is ∙ ap (begun m) zeroth, next.completes_is ∙ rw (zeroth, one) refl)
 
@@ -66,9 +65,9 @@ pub first_false : (p q : Bool) → p ≡ false → (p && q) ≡ false
 first_false p q e = rw e refl
 
 -- the source of a client's Acquire of a block is of no other
-pub unused-else : {X : Type 0} (c n i : ℕ) (s : State X) → AreNamed s → ((s.block n).source c == i) ≡ false
+pub unused-else : {X : Type 0} (c n i : ℕ) {s : State X} → AreNamed s → ((s.block n).source c == i) ≡ false
     → acquires_of n (s.uses c i) ≡ false
-unused-else c n i s named e = named.acquires c i n ∙ and_right (is_wanting ((s.block n).pair c).acquiring)
+unused-else c n i {s} named e = named.acquires c i n ∙ and_right (is_wanting ((s.block n).pair c).acquiring)
     (i == (s.block n).source c) (ne_eqb i ((s.block n).source c) apart)
   where
     apart : i ≡ (s.block n).source c → ⊥

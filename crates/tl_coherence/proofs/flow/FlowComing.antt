@@ -32,12 +32,12 @@ IsGrantAlone {w} c s m = (y : MessageD w) × (m ≡ Message.D y) × (is_grant y.
 never_grant : {A : Type 0} (b : Bool) → b ≡ false → b ≡ true → A
 never_grant b e f = absurd (let no : false ≡ true = sym e ∙ f in cc)
 
-alone_answer : {w : ℕ} (config : Config) (log : Log w) (mail : AccessMessages w) (request : ℕ → MessageA w)
-    (s : State (List ℕ)) (sys : System w) (c i : ℕ)
+alone_answer : {w : ℕ} {config : Config} {log : Log w} {mail : AccessMessages w} {request : ℕ → MessageA w}
+    {s : State (List ℕ)} {sys : System w} (c i : ℕ)
     (rest : List Packet) → SimulationRelation config log mail request s sys → (s.link c).d ≡ packet Answer i ∷ rest
     → IsGrantAlone c s (mail.answer c i)
 unfolding IsGrantAlone
-alone_answer config log mail request s sys c i rest h first =
+alone_answer {config} {mail} {s} c i rest h first =
     let due = answer-due (is_caching config) c i rest mail s h.invariant (h.answered c i) first in (
       due.answer,
       due.answer_is,
@@ -45,12 +45,12 @@ alone_answer config log mail request s sys c i rest h first =
           (access_kind due.answer.opcode due.answers_access).0,
     )
 
-alone_grant : {w : ℕ} (config : Config) (log : Log w) (mail : AccessMessages w) (request : ℕ → MessageA w)
-    (s : State (List ℕ)) (sys : System w) (c n : ℕ)
+alone_grant : {w : ℕ} {config : Config} {log : Log w} {mail : AccessMessages w} {request : ℕ → MessageA w}
+    {s : State (List ℕ)} {sys : System w} (c n : ℕ)
     (rest : List Packet) → SimulationRelation config log mail request s sys → (s.link c).d ≡ packet Grant n ∷ rest
     → IsGrantAlone {w = w} c s (block_message Grant c n (s.block n))
 unfolding IsGrantAlone
-alone_grant config log mail request s sys c n rest h first =
+alone_grant {config} {s} c n rest h first =
     let due = grant-due (is_caching config) c n rest s h.invariant first in (
       grant_message due.data_too due.k ((s.block n).source c) (s.block n).tracker (s.block n).truth,
       grant-rendered c n s
@@ -63,8 +63,7 @@ unfolding IsGrantAlone block_message
 alone_ack w s c n = (ack_message ((s.block n).release_source c), refl, λ e. absurd cc)
 
 begun_alone : {w : ℕ} (c : ℕ) (s : State (List ℕ)) (m : Message w) (k : ℕ) (x : BeatD w) (more : List (Beat w))
-    → IsGrantAlone c s m
-    → Beat.D x ∷ more ≡ begun m k → is_grant x.opcode ≡ true → IsOfGrant c s x
+    → IsGrantAlone c s m → Beat.D x ∷ more ≡ begun m k → is_grant x.opcode ≡ true → IsOfGrant c s x
 unfolding IsGrantAlone
 begun_alone {w} c s m k x more is e grants = go k (e ∙ ap (λ (y : Message w). begun y k) is.1)
   where
@@ -81,19 +80,20 @@ begun_alone {w} c s m k x more is e grants = go k (e ∙ ap (λ (y : Message w).
         told source sink (n, due, of_source, of_sink) = (n, due, source ∙ of_source, sink ∙ of_sink)
 
 -- a Grant that was delivered in part is due
-half-granted : {w : ℕ} (config : Config) (log : Log w) (mail : AccessMessages w) (request : ℕ → MessageA w)
-    (s : State (List ℕ)) (sys : System w) (c : ℕ) (x : BeatD w)
+half-granted : {w : ℕ} {config : Config} {log : Log w} {mail : AccessMessages w} {request : ℕ → MessageA w}
+    {s : State (List ℕ)} {sys : System w} (c : ℕ) (x : BeatD w)
     (more : List (Beat w)) → SimulationRelation config log mail request s sys
     → unfinished Channel.D (sys.clients c).past ≡ Beat.D x ∷ more → is_grant x.opcode ≡ true → IsOfGrant c s x
-half-granted {w} config log mail request s sys c x more h is grants = go (s.link c).d refl (h.carried c Channel.D)
+half-granted {w} {config} {log} {mail} {request} {s} {sys} c x more h is grants =
+    go (s.link c).d refl (h.carried c Channel.D)
   where
     rest_now : List (Beat w)
     rest_now = unfinished Channel.D (sys.clients c).past
 
     each : (k : Kind) (i : ℕ) (rest : List Packet) → (s.link c).d ≡ packet k i ∷ rest → is_on Channel.D k ≡ true
         → IsGrantAlone c s (message_of_kind k mail s c i)
-    each Answer i rest first own = alone_answer config log mail request s sys c i rest h first
-    each Grant i rest first own = alone_grant config log mail request s sys c i rest h first
+    each Answer i rest first own = alone_answer c i rest h first
+    each Grant i rest first own = alone_grant c i rest h first
     each ReleaseAck i rest first own = alone_ack w s c i
     each k i rest first own = absurd cc
 
@@ -114,33 +114,33 @@ half-granted {w} config log mail request s sys c x more h is grants = go (s.link
         first)) (sym is ∙ some.2) grants
 
 -- the block of a Grant with this sink that was delivered in part
-pub coming-sink : {w : ℕ} (config : Config) (log : Log w) (mail : AccessMessages w) (request : ℕ → MessageA w)
-    (s : State (List ℕ)) (sys : System w) (c i : ℕ) → SimulationRelation config log mail request s sys
+pub coming-sink : {w : ℕ} {config : Config} {log : Log w} {mail : AccessMessages w} {request : ℕ → MessageA w}
+    {s : State (List ℕ)} {sys : System w} (c i : ℕ) → SimulationRelation config log mail request s sys
     → comes_in_grant i (unfinished Channel.D (sys.clients c).past) ≡ true → (n : ℕ) × IsGrantDue c n s
     × (s.tracked i ≡ Some n)
-coming-sink {w} config log mail request s sys c i h = go (unfinished Channel.D (sys.clients c).past) refl
+coming-sink {w} {config} {log} {mail} {request} {s} {sys} c i h = go (unfinished Channel.D (sys.clients c).past) refl
   where
     go : (beats : List (Beat w)) → unfinished Channel.D (sys.clients c).past ≡ beats → comes_in_grant i beats ≡ true
         → (n : ℕ) × IsGrantDue c n s × (s.tracked i ≡ Some n)
     go (Beat.D x ∷ more) e f =
-        let of = half-granted config log mail request s sys c x more h e (and_left (is_grant x.opcode) (x.sink == i) f)
+        let of = half-granted c x more h e (and_left (is_grant x.opcode) (x.sink == i) f)
         in
         let same : i ≡ (s.block of.0).tracker = sym (eqb-true x.sink i (and_right (is_grant x.opcode) (x.sink == i) f))
         ∙ of.3 in
-        (of.0, of.1, ap s.tracked same ∙ tracker-of of.0 s h.invariant.named (rw of.1.service refl))
+        (of.0, of.1, ap s.tracked same ∙ tracker-of of.0 h.invariant.named (rw of.1.service refl))
     go beats e f = absurd cc
 
 -- a Grant of a block that was delivered in part is due
-pub coming-granting : {w : ℕ} (config : Config) (log : Log w) (mail : AccessMessages w) (request : ℕ → MessageA w)
-    (s : State (List ℕ)) (sys : System w) (c : ℕ)
-    → SimulationRelation config log mail request s sys
+pub coming-granting : {w : ℕ} {config : Config} {log : Log w} {mail : AccessMessages w} {request : ℕ → MessageA w}
+    {s : State (List ℕ)} {sys : System w} (c : ℕ) → SimulationRelation config log mail request s sys
     → IsComing (asked_by mail s c) (unfinished Channel.D (sys.clients c).past) c s
-coming-granting {w} config log mail request s sys c h n = go (unfinished Channel.D (sys.clients c).past) refl
+coming-granting {w} {config} {log} {mail} {request} {s} {sys} c h n =
+    go (unfinished Channel.D (sys.clients c).past) refl
   where
     go : (beats : List (Beat w)) → unfinished Channel.D (sys.clients c).past ≡ beats
         → comes_granting n (asked_by mail s c) beats ≡ true → is_granting (view (s.block n).service c) ≡ true
     go (Beat.D x ∷ more) e f =
-        let of = half-granted config log mail request s sys c x more h e
+        let of = half-granted c x more h e
         (and_left (is_grant x.opcode) (asks_for n (asked_by mail s c x.source)) f) in
         let asks = asks-acquire c ((s.block of.0).source c) of.0 ((s.block of.0).source c) of.1.whole of.1.g mail s
         of.1.used of.1.wants refl in
@@ -152,13 +152,12 @@ coming-granting {w} config log mail request s sys c h n = go (unfinished Channel
     go beats e f = absurd cc
 
 -- requests that are asked with other first beats, but for sources that are open, change nothing of it
-pub coming-asked : {w : ℕ} (config : Config) (log : Log w) (mail : AccessMessages w) (request : ℕ → MessageA w)
-    (s : State (List ℕ)) (sys : System w) (c m : ℕ)
-    (asked asked' : ℕ → Option (BeatA w)) → SimulationRelation config log mail request s sys
-    → ((i n : ℕ) → s.uses c i ≡ Acquires n → asked' i ≡ asked i)
+pub coming-asked : {w : ℕ} {config : Config} {log : Log w} {mail : AccessMessages w} {request : ℕ → MessageA w}
+    {s : State (List ℕ)} {sys : System w} (c m : ℕ) (asked asked' : ℕ → Option (BeatA w))
+    → SimulationRelation config log mail request s sys → ((i n : ℕ) → s.uses c i ≡ Acquires n → asked' i ≡ asked i)
     → comes_granting m asked' (unfinished Channel.D (sys.clients c).past) ≡ comes_granting m asked
     (unfinished Channel.D (sys.clients c).past)
-coming-asked {w} config log mail request s sys c m asked asked' h same =
+coming-asked {w} {config} {log} {mail} {request} {s} {sys} c m asked asked' h same =
     go (unfinished Channel.D (sys.clients c).past) refl
   where
     go : (beats : List (Beat w)) → unfinished Channel.D (sys.clients c).past ≡ beats
@@ -169,7 +168,7 @@ coming-asked {w} config log mail request s sys c m asked asked' h same =
             → (b && asks_for m (asked' x.source)) ≡ (b && asks_for m (asked x.source))
         by false f = refl
         by true f =
-            let of = half-granted config log mail request s sys c x more h e f in
+            let of = half-granted c x more h e f in
             ap (asks_for m) (same x.source of.0 (ap (s.uses c) of.2 ∙ of.1.used))
     go beats e = refl
 
@@ -181,22 +180,21 @@ IsReleaseAlone {w} c s m = (y : MessageC w) × (m ≡ Message.C y)
     × (is_release y.opcode ≡ true → (n : ℕ) × (is_releasing ((s.block n).pair c).letting ≡ true)
     × (y.source ≡ (s.block n).release_source c))
 
-alone_report : {w : ℕ} (c n : ℕ) (s : State (List ℕ)) (width : IsWidth w) (config : Config) (log : Log w)
-    (mail : AccessMessages w) (request : ℕ → MessageA w)
-    (sys : System w) → SimulationRelation config log mail request s sys
+alone_report : {w : ℕ} (c n : ℕ) {s : State (List ℕ)} (width : IsWidth w) {config : Config} {log : Log w}
+    {mail : AccessMessages w} {request : ℕ → MessageA w}
+    {sys : System w} → SimulationRelation config log mail request s sys
     → IsReleaseAlone {w = w} c s (block_message ProbeAck c n (s.block n))
 unfolding IsReleaseAlone block_message
-alone_report c n s width config log mail request sys h =
+alone_report c n {s} width h =
     let about = report-about (report_told ((s.block n).pair c).probing) n (s.block n).truth width (h.sized n).truth in
     (about.0, about.1, never_grant (is_release about.0.opcode) about.2.releases)
 
-alone_release : {w : ℕ} (c n : ℕ) (s : State (List ℕ)) (width : IsWidth w) (config : Config) (log : Log w)
-    (mail : AccessMessages w) (request : ℕ → MessageA w)
-    (sys : System w) → SimulationRelation config log mail request s sys
-    → is_releasing ((s.block n).pair c).letting ≡ true
+alone_release : {w : ℕ} (c n : ℕ) {s : State (List ℕ)} (width : IsWidth w) {config : Config} {log : Log w}
+    {mail : AccessMessages w} {request : ℕ → MessageA w} {sys : System w}
+    → SimulationRelation config log mail request s sys → is_releasing ((s.block n).pair c).letting ≡ true
     → IsReleaseAlone {w = w} c s (block_message Release c n (s.block n))
 unfolding IsReleaseAlone block_message
-alone_release c n s width config log mail request sys h shows =
+alone_release c n {s} width h shows =
     let about = release-about (prune_told ((s.block n).pair c).letting) ((s.block n).release_source c) n
     (s.block n).truth width (h.sized n).truth in
     (about.0, about.1, λ e. (n, shows, about.3))
@@ -220,12 +218,12 @@ begun_release {w} c s m k x more is e releases = go k (e ∙ ap (λ (y : Message
             → (n : ℕ) × (is_releasing ((s.block n).pair c).letting ≡ true) × (x.source ≡ (s.block n).release_source c)
         told source (n, releasing, of_source) = (n, releasing, source ∙ of_source)
 
-half-released : {w : ℕ} (config : Config) (log : Log w) (mail : AccessMessages w) (request : ℕ → MessageA w)
-    (s : State (List ℕ)) (sys : System w) (c : ℕ) (x : BeatC w)
+half-released : {w : ℕ} {config : Config} {log : Log w} {mail : AccessMessages w} {request : ℕ → MessageA w}
+    {s : State (List ℕ)} {sys : System w} (c : ℕ) (x : BeatC w)
     (more : List (Beat w)) → IsWidth w → SimulationRelation config log mail request s sys
     → unfinished Channel.C (on_link c sys.manager.trace) ≡ Beat.C x ∷ more → is_release x.opcode ≡ true → (n : ℕ)
     × (is_releasing ((s.block n).pair c).letting ≡ true) × (x.source ≡ (s.block n).release_source c)
-half-released {w} config log mail request s sys c x more width h is releases =
+half-released {w} {config} {log} {mail} {request} {s} {sys} c x more width h is releases =
     go (s.link c).c refl (h.carried c Channel.C)
   where
     Here : Type 0
@@ -236,8 +234,8 @@ half-released {w} config log mail request s sys c x more width h is releases =
 
     each : (k : Kind) (i : ℕ) (rest : List Packet) → (s.link c).c ≡ packet k i ∷ rest → is_on Channel.C k ≡ true
         → IsReleaseAlone c s (message_of_kind k mail s c i)
-    each ProbeAck i rest first own = alone_report c i s width config log mail request sys h
-    each Release i rest first own = alone_release c i s width config log mail request sys h
+    each ProbeAck i rest first own = alone_report c i width h
+    each Release i rest first own = alone_release c i width h
         (holds-first Release (s.link c).c rest (packet Release i) (λ j. shown Release c (s.block j)) first refl
         (h.invariant.transfers c Release refl))
     each k i rest first own = absurd cc
@@ -259,11 +257,10 @@ half-released {w} config log mail request s sys c x more width h is releases =
         first)) (sym is ∙ some.2) releases
 
 -- no Release is half delivered with a source that is free
-pub coming-free : {w : ℕ} (config : Config) (log : Log w) (mail : AccessMessages w) (request : ℕ → MessageA w)
-    (s : State (List ℕ)) (sys : System w) (c source : ℕ)
-    → IsWidth w → SimulationRelation config log mail request s sys → s.lets c source ≡ None
-    → comes_in_release source (unfinished Channel.C (on_link c sys.manager.trace)) ≡ false
-coming-free {w} config log mail request s sys c source width h free =
+pub coming-free : {w : ℕ} {config : Config} {log : Log w} {mail : AccessMessages w} {request : ℕ → MessageA w}
+    {s : State (List ℕ)} {sys : System w} (c source : ℕ) → IsWidth w → SimulationRelation config log mail request s sys
+    → s.lets c source ≡ None → comes_in_release source (unfinished Channel.C (on_link c sys.manager.trace)) ≡ false
+coming-free {w} {config} {log} {mail} {request} {s} {sys} c source width h free =
     go (unfinished Channel.C (on_link c sys.manager.trace)) refl
   where
     go : (beats : List (Beat w)) → unfinished Channel.C (on_link c sys.manager.trace) ≡ beats
@@ -273,7 +270,7 @@ coming-free {w} config log mail request s sys c source width h free =
         by : (b : Bool) → (is_release x.opcode && (x.source == source)) ≡ b → b ≡ false
         by false f = refl
         by true f =
-            let of = half-released config log mail request s sys c x more width h e
+            let of = half-released c x more width h e
             (and_left (is_release x.opcode) (x.source == source) f) in
             let same : source ≡ (s.block of.0).release_source c =
             sym (eqb-true x.source source (and_right (is_release x.opcode) (x.source == source) f)) ∙ of.2 in

@@ -90,8 +90,7 @@ unbegun first last g p e = rw e (step_quiet first last p)
 -- the sink of the last Grant of the block of the beat, and of another one
 of_block : {w : ℕ} (m : ℕ) (y : BeatD w) (t : History w) (first : Bool) (v : ℕ) → begins (Beat.D y) t ≡ first
     → (is_grant y.opcode && asks_for m (request_of y.source t)) ≡ true → y.sink ≡ v
-    → (first ≡ false → grant_sink m t ≡ Some v)
-    → grant_sink m (Beat.D y ∷ t) ≡ Some v
+    → (first ≡ false → grant_sink m t ≡ Some v) → grant_sink m (Beat.D y ∷ t) ≡ Some v
 unfolding grant_sink
 of_block m y t true v e f g before = rw (e, f) (ap Some g)
 of_block m y t false v e f g before = rw e (before refl)
@@ -107,8 +106,7 @@ of_other {w} m y t e = go (begins (Beat.D y) t) (is_grant y.opcode && asks_for m
 
 -- a use that isn't of the block in which the states differ
 pub requested-apart : {w : ℕ} {X : Type 0} (c i n : ℕ) (rest rest' : List (Beat w)) (u : SourceState) (s s' : State X)
-    → AreElsewhere n s s'
-    → comes_in_request i rest' ≡ comes_in_request i rest → acquires_of n u ≡ false
+    → AreElsewhere n s s' → comes_in_request i rest' ≡ comes_in_request i rest → acquires_of n u ≡ false
     → is_requested c i rest' u s' ≡ is_requested c i rest u s
 requested-apart c i n rest rest' SourceFree s s' same comes e = refl
 requested-apart c i n rest rest' Asked s s' same comes e = comes
@@ -137,13 +135,13 @@ now_sunk : (last d : Bool) (k : Cap) (v : View) (a : Bool) → v ≡ seen_after 
 now_sunk true d k v a e f = rw e refl
 now_sunk false d k v a e f = rw (f, e) refl
 
-pub flowed-grant : {w : ℕ} {X : Type 0} (c n : ℕ) (d : Bool) (k : Cap) (y : BeatD w) (first last : Bool)
-    (asked asked' : ℕ → Option (BeatA w))
-    (rest rest' : Channel → List (Beat w)) (s s' : State X) (t : History w)
+pub flowed-grant : {w : ℕ} {X : Type 0} {c n : ℕ} {d : Bool} {k : Cap} {y : BeatD w} {first last : Bool}
+    {asked asked' : ℕ → Option (BeatA w)} {rest rest' : Channel → List (Beat w)} {s s' : State X} {t : History w}
     → begins (Beat.D y) t ≡ first → ends (Beat.D y) t ≡ last → AreRests (Beat.D y) rest rest'
-    → IsGranting c n d k y first last asked asked' rest rest' s s'
-    → MonitorRelation asked rest c s t → MonitorRelation asked' rest' c s' (Beat.D y ∷ t)
-flowed-grant {w} {X} c n d k y first last asked asked' rest rest' s s' t first_is last_is rests is before =
+    → IsGranting c n d k y first last asked asked' rest rest' s s' → MonitorRelation asked rest c s t
+    → MonitorRelation asked' rest' c s' (Beat.D y ∷ t)
+flowed-grant {w} {X} {c} {n} {d} {k} {y} {first} {last} {asked} {asked'} {rest} {rest'} {s} {s'} {t} first_is last_is
+    rests is before =
     let b : Block X = s.block n in
     let grants_at : ℕ → Bool = λ m. is_grant y.opcode && asks_for m (request_of y.source t) in
     let names : (m : ℕ) → (is_grant y.opcode && asks_for m (request_of y.source t)) ≡ (n == m) =
@@ -168,7 +166,7 @@ flowed-grant {w} {X} c n d k y first last asked asked' rest rest' s s' t first_i
     ) in
     let let_same : (m : ℕ) → let_of c (rest Channel.C) (s'.block m) ≡ let_of c (rest Channel.C) (s.block m) =
     part-block (let_of c (rest Channel.C)) n s s' is.elsewhere (rw (is.release_source, is.letting_is) refl) in
-    flowed-next (Beat.D y) first last asked asked' rest rest' c s s' t (record {
+    flowed-next (record {
       first_is = first_is;
       last_is = last_is;
       rests = rests;
@@ -242,12 +240,10 @@ flowed-grant {w} {X} c n d k y first last asked asked' rest rest' s s' t first_i
               (was_requested i f),
         )
     requests i true false e f = requested-apart c i n (rest Channel.A) (rest Channel.A) (s.uses c i) s s' is.elsewhere
-        refl (is.no_use i f)
-        ∙ sym (unclosed_by first last (not (is_release_ack y.opcode)) (y.source == i)
+        refl (is.no_use i f) ∙ sym (unclosed_by first last (not (is_release_ack y.opcode)) (y.source == i)
         (is_requested c i (rest Channel.A) (s.uses c i) s) f)
     requests i false false e f = requested-apart c i n (rest Channel.A) (rest Channel.A) (s.uses c i) s s' is.elsewhere
-        refl (is.no_use i f)
-        ∙ sym (unclosed_by first last (not (is_release_ack y.opcode)) (y.source == i)
+        refl (is.no_use i f) ∙ sym (unclosed_by first last (not (is_release_ack y.opcode)) (y.source == i)
         (is_requested c i (rest Channel.A) (s.uses c i) s) f)
 
     was_pending : (i : ℕ) → is_requested c i (rest Channel.A) (s.uses c i) s' ≡ true → (here : Bool)
@@ -263,13 +259,15 @@ flowed-grant {w} {X} c n d k y first last asked asked' rest rest' s s' t first_i
         absurd (let g : false ≡ true =
         sym (use_at i ∙ ap (λ (z : Bool). is_requested c i (rest Channel.A) (if z then SourceFree else s.uses c i) s')
         f) ∙ e in cc)
-    asked_still i e false f = cc (
-      request_of-d i y t,
-      before.asked_is i (was_pending i (sym (use_at i ∙ ap (λ (z :
-          Bool). is_requested c i (rest Channel.A) (if z then SourceFree else s.uses c i) s') f) ∙ e) (y.source == i)
-          refl),
-      is.asked_is i f,
-    )
+    asked_still i e false f =
+        cc (
+          request_of-d i y t,
+          before.asked_is i
+              (was_pending i (sym (use_at i
+              ∙ ap (λ (z : Bool). is_requested c i (rest Channel.A) (if z then SourceFree else s.uses c i) s') f) ∙ e)
+              (y.source == i) refl),
+          is.asked_is i f,
+        )
 
     lets : (i : ℕ) → is_let_by c i (rest' Channel.C) (s'.lets c i) s' ≡ is_let_by c i (rest Channel.C) (s.lets c i) s
     lets i = cc (
@@ -279,9 +277,8 @@ flowed-grant {w} {X} c n d k y first last asked asked' rest rest' s s' t first_i
           (part-block (λ (z : Block X). (z.pair c).letting) n s s' is.elsewhere is.letting_is),
     )
 
-    sinks : (i : ℕ) (z : Bool) (o : Option ℕ) → (y.sink == i) ≡ z → s.tracked i ≡ o
-        → is_sunk c i (rest' Channel.D) o s' ≡ step first last (is_grant y.opcode && (y.sink == i)) false
-        (is_sunk c i (rest Channel.D) o s)
+    sinks : (i : ℕ) (z : Bool) (o : Option ℕ) → (y.sink == i) ≡ z → s.tracked i ≡ o → is_sunk c i (rest' Channel.D) o s'
+        ≡ step first last (is_grant y.opcode && (y.sink == i)) false (is_sunk c i (rest Channel.D) o s)
     sinks i true o e f =
         let at_n : o ≡ Some n = sym f ∙ is.tracks i e in
         let then_sunk : is_sunk c i (rest Channel.D) o s ≡ not first =
@@ -316,5 +313,4 @@ flowed-grant {w} {X} c n d k y first last asked asked' rest rest' s s' t first_i
         → probe_of m t ≡ Some (probe_beat m (cap_waited (s'.block m).service))
     probed = each-block (λ m z. is_answered (z.pair c).probing ≡ true
         → probe_of m t ≡ Some (probe_beat m (cap_waited z.service))) n s s' is.elsewhere
-        (λ e. absurd (let f : false ≡ true = sym is.quiet ∙ sym is.answered ∙ e in cc))
-        (λ m ne e. before.probed m e)
+        (λ e. absurd (let f : false ≡ true = sym is.quiet ∙ sym is.answered ∙ e in cc)) (λ m ne e. before.probed m e)

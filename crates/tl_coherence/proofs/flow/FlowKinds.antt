@@ -59,7 +59,7 @@ module _ {w : ℕ} (config : Config) (log : Log w) (h : AbstractState w) (sys : 
 
     coming : IsComing (asked_by h.mail h.state d) (rest Channel.D) d h.state
     coming = subst (λ (l : List (Beat w)). IsComing (asked_by h.mail h.state d) l d h.state) (sym same_d)
-        (coming-granting config log h.mail h.request h.state sys d is)
+        (coming-granting d is)
 
     -- ---- an access
 
@@ -77,18 +77,15 @@ module _ {w : ℕ} (config : Config) (log : Log w) (h : AbstractState w) (sys : 
 
         answered : (z : AbstractState w) → z.state ≡ (access_taken c source m tracker false None toks h).state
             → ((i : ℕ) → asked_by z.mail z.state d i ≡ before i) → FlowedAs z
-        answered z e asks =
-            subst (λ (u : State (List ℕ)). MonitorRelation (asked_by z.mail z.state d) rest d u t) (sym e)
-            (flowed-aside before (asked_by z.mail z.state d) rest d (replied c source s)
-            (access_taken c source m tracker false None toks h).state t
-            (left-access_answered d before (asked_by z.mail z.state d) rest s asks coming c n source (performs m) toks)
-            flowed)
+        answered z e asks = subst (λ (u : State (List ℕ)). MonitorRelation (asked_by z.mail z.state d) rest d u t)
+            (sym e) (flowed-aside (left-access_answered d before (asked_by z.mail z.state d) rest s asks coming c n
+            source (performs m) toks) flowed)
 
         go : (p : Bool) (o : Option Cap) → Leaves d h (access_taken c source m tracker p o toks h)
             → FlowedAs (access_taken c source m tracker p o toks h)
         go true (Some k) l =
             let after = access_taken c source m tracker true (Some k) toks h in
-            flowed-aside before (asked_by after.mail after.state d) rest d (replied c source s) after.state t
+            flowed-aside
             (left-access_served d before (asked_by after.mail after.state d) rest s (asks-left d h after l) coming c n
             source tracker k toks free (free_quiet n free d) unused) flowed
         go true None l = answered (access_taken c source m tracker true None toks h) refl
@@ -114,9 +111,8 @@ module _ {w : ℕ} (config : Config) (log : Log w) (h : AbstractState w) (sys : 
         r = report_told ((s.block n).pair c).probing
 
         answered : ((s.block n).pair c).probing ≡ ProbeAnswered r
-        answered = answered-is ((s.block n).pair c).probing
-            (holds-first ProbeAck (s.link c).c toks (packet ProbeAck n) (λ i. shown ProbeAck c (s.block i)) tokens refl
-            (is.invariant.transfers c ProbeAck refl))
+        answered = answered-is ((s.block n).pair c).probing (holds-first ProbeAck (s.link c).c toks (packet ProbeAck n)
+            (λ i. shown ProbeAck c (s.block i)) tokens refl (is.invariant.transfers c ProbeAck refl))
 
         seen : is_other (view (s.block n).service c) ≡ true
         seen = answered_other r ((s.block n).pair c) (view (s.block n).service c) ((is.invariant.blocks n).phases c)
@@ -124,8 +120,8 @@ module _ {w : ℕ} (config : Config) (log : Log w) (h : AbstractState w) (sys : 
 
         taken : Leaves d h (with_state (report_taken c n r toks s) h)
             → FlowedAs (with_state (report_taken c n r toks s) h)
-        taken l = flowed-asks before (asked_by h.mail (report_taken c n r toks s) d) rest d (report_taken c n r toks s)
-            t (asks-left d h (with_state (report_taken c n r toks s) h) l) flowed
+        taken l = flowed-asks (asked_by h.mail (report_taken c n r toks s) d)
+            (asks-left d h (with_state (report_taken c n r toks s) h) l) flowed
 
         -- the last one: what the service is
         unanswered : ((i : ℕ) → (i ≡ c → ⊥) → is_unprobed ((s.block n).pair i).probing ≡ true) → (i : ℕ) → (i ≡ c → ⊥)
@@ -140,7 +136,7 @@ module _ {w : ℕ} (config : Config) (log : Log w) (h : AbstractState w) (sys : 
             go : (b : Bool) → comes_in_grant i (unfinished_at sys d Channel.D) ≡ b → b ≡ false
             go false f = refl
             go true f =
-                let of = coming-sink config log h.mail h.request s sys d i is f in
+                let of = coming-sink d i is f in
                 let here : of.0 ≡ n = same_Some of.0 n (sym of.2 ∙ tracks) in
                 absurd (let no : GrantSent d of.1.data_too of.1.k ≡ Waits q true source k =
                 sym of.1.service ∙ ap (λ (j : ℕ). (s.block j).service) here ∙ waits in cc)
@@ -160,7 +156,7 @@ module _ {w : ℕ} (config : Config) (log : Log w) (h : AbstractState w) (sys : 
             (is_unheld (length config.clients.items) (set c (after_report r ((s.block n).pair c)) (s.block n).pair))
             in
             let after = report_grants c q n r x j toks s in
-            flowed-aside before (asked_by h.mail after d) rest d (report_taken c n r toks s) after t
+            flowed-aside
             (left-report_grants d before (asked_by h.mail after d) rest s (asks-left d h (with_state after h) l) coming
             c n r toks q source k j x waits
             (unanswered quiet) apart even (none_comes q source k waits)) flowed
@@ -184,16 +180,15 @@ module _ {w : ℕ} (config : Config) (log : Log w) (h : AbstractState w) (sys : 
         last quiet (GrantTaken q) e l = absurd (let one : is_other (view (GrantTaken q) c) ≡ true = rw e at seen in
             let none =
             not-other (c == q) Acknowledging GrantedOther refl refl in let no : false ≡ true = sym none ∙ one in cc)
-        last quiet (Waits q true source k) e l =
-            granted q source k e quiet ((s.block n).pair q).acquiring
+        last quiet (Waits q true source k) e l = granted q source k e quiet ((s.block n).pair q).acquiring
             (own_wants ((s.block n).pair q) (view (s.block n).service q) ((is.invariant.blocks n).phases q)
             (rw (e, same_number q) refl)) l
         last quiet (Waits q false source k) e l =
             let after = last_taken (length config.clients.items) config.profile c n r (Waits q false source k) toks h in
-            flowed-aside before (asked_by after.mail after.state d) rest d (report_taken c n r toks s) after.state t
+            flowed-aside
             (left-report_answers d before (asked_by after.mail after.state d) rest s (asks-left d h after l) coming c n
             r toks q source k
-            (performs (h.request n)) e (unanswered quiet) (tracker-of n s is.invariant.named (rw e refl))
+            (performs (h.request n)) e (unanswered quiet) (tracker-of n is.invariant.named (rw e refl))
             (ap is_heard (serving-use (is_caching config) s n q source k is.invariant e))) flowed
 
         others : (x : Bool) → some_below (length config.clients.items)
@@ -217,17 +212,16 @@ module _ {w : ℕ} (config : Config) (log : Log w) (h : AbstractState w) (sys : 
     then_asked = asked_by h.mail h.state d
 
     comes : IsComing (asked_by h.mail h.state d) (unfinished_at sys d Channel.D) d h.state
-    comes = coming-granting config log h.mail h.request h.state sys d is
+    comes = coming-granting d is
 
     other_request : (source : ℕ) (m : Message w) (toks : List Packet) → IsReady tracker c Request source h
         → m ≡ h.mail.request c source
         → Leaves d h (request_taken (length config.clients.items) c source m tracker toks h) → FlowsAs h
         → FlowsAs (request_taken (length config.clients.items) c source m tracker toks h)
-    other_request source (Message.A m) toks ready e l flowed =
-        settled-request d (unfinished_at sys d) refl t source m toks
-        (ap (λ (i : MessageA w). (s.block (block_at i.address)).service) same ∙ ready.3) ready.4 l
-        (flowed-aside then_asked then_asked (unfinished_at sys d) d s (replied c source s) t
-        (left-replied d then_asked then_asked (unfinished_at sys d) s (λ i. refl) comes c source ne) flowed)
+    other_request source (Message.A m) toks ready e l flowed = settled-request d (unfinished_at sys d) refl t source m
+        toks (ap (λ (i : MessageA w). (s.block (block_at i.address)).service) same ∙ ready.3) ready.4 l
+        (flowed-aside (left-replied d then_asked then_asked (unfinished_at sys d) s (λ i. refl) comes c source ne)
+        flowed)
       where
         same : m ≡ ready.0
         same = let both : Message.A m ≡ Message.A ready.0 = e ∙ ready.1 in cc
@@ -254,18 +248,12 @@ module _ {w : ℕ} (config : Config) (log : Log w) (h : AbstractState w) (sys : 
 
         go : (x : Bool) → Leaves d h (with_state (if x then served else granted) h)
             → FlowsAs (with_state (if x then served else granted) h)
-        go true i =
-            flowed-aside then_asked (asked_by h.mail served d) (unfinished_at sys d) d s served t
-            (left-served d then_asked (asked_by h.mail served d) (unfinished_at sys d) s
-            (asks-left d h (with_state served h) i) comes c n
-            (b.source c) tracker true (cap_asked (AcquireOpen whole g)) served (λ m. refl) (ne_eqb d c ne) free
-            (free_quiet n free d)
+        go true i = flowed-aside (left-served d then_asked (asked_by h.mail served d) (unfinished_at sys d) s
+            (asks-left d h (with_state served h) i) comes c n (b.source c) tracker true
+            (cap_asked (AcquireOpen whole g)) served (λ m. refl) (ne_eqb d c ne) free (free_quiet n free d)
             (λ j. inl refl) (λ j. refl) unused (λ j. refl)) flowed
-        go false i =
-            flowed-aside then_asked (asked_by h.mail granted d) (unfinished_at sys d) d s granted t
-            (left-acquire_granted d then_asked (asked_by h.mail granted d) (unfinished_at sys d) s
-            (asks-left d h (with_state granted h) i) comes c n tracker
-            (is_granted_data whole g (b.pair c).recorded)
+        go false i = flowed-aside (left-acquire_granted d then_asked (asked_by h.mail granted d) (unfinished_at sys d) s
+            (asks-left d h (with_state granted h) i) comes c n tracker (is_granted_data whole g (b.pair c).recorded)
             (gift config.profile whole g (is_unheld (length config.clients.items) b.pair)) toks ne free
             (quiet_unanswered (b.pair d).probing (free_quiet n free d)) unused) flowed
 
@@ -279,7 +267,7 @@ module _ {w : ℕ} (config : Config) (log : Log w) (h : AbstractState w) (sys : 
             → FlowsAs (taken_by_client c n (GrantSent c due.data_too due.k) toks h)
         go i =
             let after = taken_by_client c n (GrantSent c due.data_too due.k) toks h in
-            flowed-aside then_asked (asked_by after.mail after.state d) (unfinished_at sys d) d s after.state t
+            flowed-aside
             (left-grant_taken d then_asked (asked_by after.mail after.state d) (unfinished_at sys d) s
             (asks-left d h after i) comes c n
             (is_whole ((s.block n).pair c).acquiring) due.data_too due.k toks ne due.service) flowed
@@ -294,23 +282,20 @@ module _ {w : ℕ} (config : Config) (log : Log w) (h : AbstractState w) (sys : 
         flowed
     by_kind Probe n toks first ready l flowed =
         let after = kind_taken config tracker c Probe n toks h in
-        flowed-aside then_asked (asked_by after.mail after.state d) (unfinished_at sys d) d s after.state t
+        flowed-aside
         (left-probe_taken d then_asked (asked_by after.mail after.state d) (unfinished_at sys d) s
         (asks-left d h after l) comes c n (cap_sent ((s.block n).pair c).probing) toks ne) flowed
-    by_kind ProbeAck n toks first ready l flowed =
-        settled-report d (unfinished_at sys d) refl t n toks first l
-        (flowed-aside then_asked then_asked (unfinished_at sys d) d s
-        (report_taken c n (report_told ((s.block n).pair c).probing) toks s) t
-        (left-report_taken d then_asked then_asked (unfinished_at sys d) s (λ i. refl) comes c n
+    by_kind ProbeAck n toks first ready l flowed = settled-report d (unfinished_at sys d) refl t n toks first l
+        (flowed-aside (left-report_taken d then_asked then_asked (unfinished_at sys d) s (λ i. refl) comes c n
         (report_told ((s.block n).pair c).probing) toks ne) flowed)
     by_kind Release n toks first ready l flowed =
         let after = kind_taken config tracker c Release n toks h in
-        flowed-aside then_asked (asked_by after.mail after.state d) (unfinished_at sys d) d s after.state t
+        flowed-aside
         (left-release_taken d then_asked (asked_by after.mail after.state d) (unfinished_at sys d) s
         (asks-left d h after l) comes c n (prune_told ((s.block n).pair c).letting) toks ne) flowed
     by_kind Answer source toks first ready l flowed =
         let after = kind_taken config tracker c Answer source toks h in
-        flowed-aside then_asked (asked_by after.mail after.state d) (unfinished_at sys d) d s after.state t
+        flowed-aside
         (left-answer_taken d then_asked (asked_by after.mail after.state d) (unfinished_at sys d) s
         (asks-left d h after l) comes c source toks ne) flowed
     by_kind Grant n toks first ready l flowed =
@@ -318,7 +303,7 @@ module _ {w : ℕ} (config : Config) (log : Log w) (h : AbstractState w) (sys : 
         other_grant n toks due (s.block n).service due.service l flowed
     by_kind ReleaseAck n toks first ready l flowed =
         let after = kind_taken config tracker c ReleaseAck n toks h in
-        flowed-aside then_asked (asked_by after.mail after.state d) (unfinished_at sys d) d s after.state t
+        flowed-aside
         (left-release_ack_taken d then_asked (asked_by after.mail after.state d) (unfinished_at sys d) s
         (asks-left d h after l) comes c n toks ne) flowed
     by_kind GrantAck n toks first ready l flowed =
@@ -326,15 +311,15 @@ module _ {w : ℕ} (config : Config) (log : Log w) (h : AbstractState w) (sys : 
         let taken = acknowledging-is (s.block n).service c
         (holds-first GrantAck (s.link c).e toks (packet GrantAck n) (λ i. shown GrantAck c (s.block i)) first refl
         (is.invariant.transfers c GrantAck refl)) in
-        flowed-aside then_asked (asked_by after.mail after.state d) (unfinished_at sys d) d s after.state t
+        flowed-aside
         (left-grant_ack_taken d then_asked (asked_by after.mail after.state d) (unfinished_at sys d) s
         (asks-left d h after l) comes c n toks ne taken
-        (tracker-of n s is.invariant.named (rw taken refl))) flowed
+        (tracker-of n is.invariant.named (rw taken refl))) flowed
 
     pub other-kind : (k : Kind) (i : ℕ) (toks : List Packet) → on k (s.link c) ≡ packet k i ∷ toks
         → IsReady tracker c k i h → FlowsAs h → FlowsAs (kind_taken config tracker c k i toks h)
     other-kind k i toks first ready = by_kind k i toks first ready (left (is_for_manager k) refl)
       where
         left : (b : Bool) → is_for_manager k ≡ b → Leaves d h (kind_taken config tracker c k i toks h)
-        left true e = leaves-at_manager (is_caching config) config tracker c k i toks h d e is.invariant first
+        left true e = leaves-at_manager config tracker c k i toks h d e is.invariant first
         left false e = leaves-at_client config tracker c k i toks h d e ne

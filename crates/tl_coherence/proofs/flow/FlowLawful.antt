@@ -1,16 +1,16 @@
 -- A beat of channel B or C that is delivered breaks no rule after what was delivered before it.
 use Rattle.tl_coherence.proofs.flow.Imports.{IsWidth, Beat, Channel, Message, MessageA, MessageC, beat_of, History}
-use Rattle.tl_coherence.proofs.flow.Imports.{channel_of, unfinished, Config, Level, Prune, Report, Profile, prune_code}
-use Rattle.tl_coherence.proofs.flow.Imports.{prune_left, report_code, report_left, on_link, broken_in_order}
-use Rattle.tl_coherence.proofs.flow.Imports.{broken_after, same_perm, illegal, same_block, level_of, flow, Log}
-use Rattle.tl_coherence.proofs.flow.Imports.{receiver, View, Idle, Own, Other, Granting, Acknowledging, GrantedOther}
+use Rattle.tl_coherence.proofs.flow.Imports.{channel_of, unfinished, Config, Level, Prune, Report, Profile}
+use Rattle.tl_coherence.proofs.flow.Imports.{on_link, broken_in_order}
+use Rattle.tl_coherence.proofs.flow.Imports.{broken_after, illegal, same_block, level_of, flow, Log}
+use Rattle.tl_coherence.proofs.flow.Imports.{View, Idle, Own, Other, Granting, Acknowledging, GrantedOther}
 use Rattle.tl_coherence.proofs.flow.Imports.{ProbeSent, ProbeAnswered, ReleasePhase, ReleaseSent, ReleaseAcked}
 use Rattle.tl_coherence.proofs.flow.Imports.{AcquirePhase, NoAcquire, AcquireOpen, ok, is_unreleased, is_unprobed}
 use Rattle.tl_coherence.proofs.flow.Imports.{Block, State, packet, shown, view, is_granting, is_acknowledging}
 use Rattle.tl_coherence.proofs.flow.Imports.{is_answered, is_acked, is_on, AccessMessages, message_of, message_of_kind}
 use Rattle.tl_coherence.proofs.flow.Imports.{block_message, prune_told, report_told, cap_waited, System, Kind, Probe}
 use Rattle.tl_coherence.proofs.flow.Imports.{ProbeAck, Release, Packet, SimulationRelation, MonitorRelations}
-use Rattle.tl_coherence.proofs.flow.Imports.{is_caching, asked_by, Perm}
+use Rattle.tl_coherence.proofs.flow.Imports.{is_caching}
 use Rattle.std.proofs.Common.{◌≡◌, ℕ, true, false, List, [], ◌∷◌, Some, None, refl, sym, ◌∙◌, ap, subst}
 use Rattle.std.specs.Prelude.{map}
 use Rattle.tl_burst.{specs.statement.Burst.c_beat_of, specs.statement.Messages.channel_in}
@@ -23,27 +23,27 @@ use Rattle.tl_coherence.proofs.queues.Facts.{answered_other, granting_alone, is_
 use Rattle.tl_coherence.proofs.queues.PhaseFacts.{acknowledging_quiet, release_alone, report_first, report_fits}
 use Rattle.tl_coherence.proofs.flow.FlowOrders.{beat-flows, probe-flows, report-flows, release-flows}
 use Rattle.tl_coherence.proofs.manager.ManagerTakes.{by-first_c, same_report-is, seen_cap, unanswered}
-use Rattle.tl_coherence.proofs.manager.Reporting.{IsAbout, report-about, release-about}
+use Rattle.tl_coherence.proofs.manager.Reporting.{report-about, release-about}
 use Rattle.tl_coherence.proofs.protocol.BothParts.{is_of-is, answered-is, releasing-is}
 
 -- the next beat of a message whose first breaks no rule of order
-pub next-flows : {w : ℕ} (l : Level) (p : Profile) (m : Message w) (x : Beat w) (rest : List (Beat w))
-    (ms : List (Message w)) (queue : List (Beat w))
+pub next-flows : {w : ℕ} (l : Level) (p : Profile) {m : Message w} {x : Beat w} {rest : List (Beat w)}
+    {ms : List (Message w)} {queue : List (Beat w)}
     (t : History w) → illegal l (channel_of x) x ≡ None → IsNext x rest m ms queue → unfinished (channel_in m) t ≡ rest
     → (rest ≡ [] → broken_in_order p (beat_of m 0) t ≡ None) → broken_after l p x t ≡ None
-next-flows {w} l p m x rest ms queue t lawful next is first =
+next-flows {w} l p {m} t lawful next is first =
     cc (
       next.beat_is,
       beat-flows l p m next.k t (sym (ap (λ (y : Beat w). illegal l (channel_of y) y) next.beat_is)
           ∙ lawful) (is ∙ next.rest_is) (λ e. first (sym is ∙ e)),
     )
 
-pub lawful-beat : {w : ℕ} (config : Config) (log : Log w) (mail : AccessMessages w) (request : ℕ → MessageA w)
-    (s : State (List ℕ)) (sys : System w) (c : ℕ)
+pub lawful-beat : {w : ℕ} {config : Config} {log : Log w} {mail : AccessMessages w} {request : ℕ → MessageA w}
+    {s : State (List ℕ)} {sys : System w} (c : ℕ)
     (ch : Channel) (l : Level) (x : Beat w) (queue : List (Beat w)) → SimulationRelation config log mail request s sys
     → sys.channels c ch ≡ x ∷ queue → level_of config c ≡ Some l → illegal l (channel_of x) x ≡ None
-lawful-beat {w} config log mail request s sys c ch l x queue is beats level =
-    cc (level, (sound-beat config log mail request s sys c ch x queue is beats).lawful)
+lawful-beat {w} {config} {log} {mail} {request} {s} {sys} c ch l x queue is beats level =
+    cc (level, (sound-beat c ch x queue is beats).lawful)
 
 -- ---- channel C
 
@@ -52,15 +52,14 @@ pub other_ungranted : (v : View) → is_other v ≡ true → is_granting v ≡ f
 other_ungranted (Granting d k) e = absurd cc
 other_ungranted v e = refl
 
-report-lawful : {w : ℕ} (config : Config) (log : Log w) (mail : AccessMessages w) (request : ℕ → MessageA w)
-    (s : State (List ℕ)) (sys : System w) (c n : ℕ)
-    (toks : List Packet) (l : Level) (x : Beat w) (ms : List (Message w)) (queue : List (Beat w)) → IsWidth w
-    → SimulationRelation config log mail request s sys → MonitorRelations log mail s sys
-    → illegal l (channel_of x) x ≡ None → (s.link c).c ≡ packet ProbeAck n ∷ toks
+report-lawful : {w : ℕ} {config : Config} {log : Log w} {mail : AccessMessages w} {request : ℕ → MessageA w}
+    {s : State (List ℕ)} {sys : System w} (c n : ℕ) (toks : List Packet) (l : Level) {x : Beat w}
+    {ms : List (Message w)} {queue : List (Beat w)} → IsWidth w → SimulationRelation config log mail request s sys
+    → MonitorRelations log mail s sys → illegal l (channel_of x) x ≡ None → (s.link c).c ≡ packet ProbeAck n ∷ toks
     → IsNext x (unfinished Channel.C (on_link c sys.manager.trace)) (block_message ProbeAck c n (s.block n)) ms queue
     → broken_after l config.profile x (flow c log) ≡ None
 unfolding block_message
-report-lawful {w} config log mail request s sys c n toks l x ms queue width is flowed lawful tokens next =
+report-lawful {w} {config} {log} {mail} {s} {sys} c n toks l {x} {ms} {queue} width is flowed lawful tokens next =
     let rest : List (Beat w) = unfinished Channel.C (on_link c sys.manager.trace) in
     let about = report-about r n b.truth width (is.sized n).truth in
     let m : MessageC w = about.0 in
@@ -68,11 +67,10 @@ report-lawful {w} config log mail request s sys c n toks l x ms queue width is f
     cc (same_report-is r (report_at (cap_waited b.service) (b.pair c).recorded)
     (seen_cap (λ k. same_report r (report_at k (b.pair c).recorded)) b.service c
     (report_fits r (b.pair c) (view b.service c) ok_is answered))) in
-    next-flows l config.profile (Message.C m) x rest ms queue (flow c log) lawful
+    next-flows l config.profile (flow c log) lawful
     (subst (λ (i : Message w). IsNext x rest i ms queue) about.1 next) ((flowed c).rest_is Channel.C)
-    (λ none. report-flows config.profile c n (cap_waited b.service) r (c_beat_of m 0) (asked_by mail s c)
-    (λ ch. unfinished ch (receiver ch c sys)) s
-    (flow c log) (flowed c) none about.2.reports about.2.releases about.2.block about.2.param_is
+    (λ none. report-flows config.profile n (cap_waited b.service) r (c_beat_of m 0)
+    (flowed c) none about.2.reports about.2.releases about.2.block about.2.param_is
     answered refl (unacked (b.pair c).letting refl)
     (other_ungranted (view b.service c) (answered_other r (b.pair c) (view b.service c) ok_is answered)) told)
   where
@@ -94,15 +92,14 @@ report-lawful {w} config log mail request s sys c n toks l x ms queue width is f
         let no : false ≡ true = rw f at first in cc)
     unacked y f = refl
 
-release-lawful : {w : ℕ} (config : Config) (log : Log w) (mail : AccessMessages w) (request : ℕ → MessageA w)
-    (s : State (List ℕ)) (sys : System w) (c n : ℕ)
-    (toks : List Packet) (l : Level) (x : Beat w) (ms : List (Message w)) (queue : List (Beat w)) → IsWidth w
-    → SimulationRelation config log mail request s sys → MonitorRelations log mail s sys
-    → illegal l (channel_of x) x ≡ None → (s.link c).c ≡ packet Release n ∷ toks
+release-lawful : {w : ℕ} {config : Config} {log : Log w} {mail : AccessMessages w} {request : ℕ → MessageA w}
+    {s : State (List ℕ)} {sys : System w} (c n : ℕ) (toks : List Packet) (l : Level) {x : Beat w}
+    {ms : List (Message w)} {queue : List (Beat w)} → IsWidth w → SimulationRelation config log mail request s sys
+    → MonitorRelations log mail s sys → illegal l (channel_of x) x ≡ None → (s.link c).c ≡ packet Release n ∷ toks
     → IsNext x (unfinished Channel.C (on_link c sys.manager.trace)) (block_message Release c n (s.block n)) ms queue
     → broken_after l config.profile x (flow c log) ≡ None
 unfolding block_message
-release-lawful {w} config log mail request s sys c n toks l x ms queue width is flowed lawful tokens next =
+release-lawful {w} {config} {log} {mail} {s} {sys} c n toks l {x} {ms} {queue} width is flowed lawful tokens next =
     let rest : List (Beat w) = unfinished Channel.C (on_link c sys.manager.trace) in
     let about = release-about r (b.release_source c) n b.truth width (is.sized n).truth in
     let m : MessageC w = about.0 in
@@ -110,10 +107,9 @@ release-lawful {w} config log mail request s sys c n toks l x ms queue width is 
     ∙ rw (releasing, same_number (b.release_source c)) refl) in
     let fits = release_begins r (b.pair c) (view b.service c) ok_is releasing
     (unanswered (is_caching config) c n toks s is.invariant tokens) in
-    next-flows l config.profile (Message.C m) x rest ms queue (flow c log) lawful
+    next-flows l config.profile (flow c log) lawful
     (subst (λ (i : Message w). IsNext x rest i ms queue) about.1 next) ((flowed c).rest_is Channel.C)
-    (λ none. release-flows config.profile c n r (c_beat_of m 0) (asked_by mail s c)
-    (λ ch. unfinished ch (receiver ch c sys)) s (flow c log)
+    (λ none. release-flows config.profile n r (c_beat_of m 0)
     (flowed c) none about.2.releases about.2.block about.2.param_is
     (ap (s.lets c) about.3 ∙ used) releasing (calm (b.pair c).acquiring refl) (ungranted (view b.service c) refl) fits)
   where
@@ -143,19 +139,18 @@ release-lawful {w} config log mail request s sys c n toks l x ms queue width is 
         absurd (let no : false ≡ true = rw releasing at held_back in cc)
     ungranted v f = refl
 
-pub flows-c : {w : ℕ} (config : Config) (log : Log w) (mail : AccessMessages w) (request : ℕ → MessageA w)
-    (s : State (List ℕ)) (sys : System w) (c : ℕ) (l : Level)
-    (x : Beat w) (queue : List (Beat w)) → IsWidth w → SimulationRelation config log mail request s sys
-    → MonitorRelations log mail s sys
-    → sys.channels c Channel.C ≡ x ∷ queue → level_of config c ≡ Some l
-    → broken_after l config.profile x (flow c log) ≡ None
-flows-c {w} config log mail request s sys c l x queue width is flowed beats level =
-    let lawful = lawful-beat config log mail request s sys c Channel.C l x queue is beats level in
+pub flows-c : {w : ℕ} {config : Config} {log : Log w} {mail : AccessMessages w} {request : ℕ → MessageA w}
+    {s : State (List ℕ)} {sys : System w} (c : ℕ) (l : Level) (x : Beat w) (queue : List (Beat w)) → IsWidth w
+    → SimulationRelation config log mail request s sys → MonitorRelations log mail s sys
+    → sys.channels c Channel.C ≡ x ∷ queue → level_of config c ≡ Some l → broken_after l config.profile x (flow c log)
+    ≡ None
+flows-c {w} {config} {log} {mail} {request} {s} {sys} c l x queue width is flowed beats level =
+    let lawful = lawful-beat c Channel.C l x queue is beats level in
     cc (by-first_c (λ i. broken_after l config.profile x (flow c log) ≡ None) c mail s sys x queue
     (first-token (is_caching config) Channel.C c mail s sys x queue width is.invariant is.carried beats)
-    (λ n rest tokens next. report-lawful config log mail request s sys c n rest l x (map (message_of mail s c) rest)
-    queue width is flowed lawful tokens next) (λ n rest tokens next. release-lawful config log mail request s sys c n
-    rest l x (map (message_of mail s c) rest) queue width is flowed lawful tokens next))
+    (λ n rest tokens next. report-lawful c n rest l
+    width is flowed lawful tokens next) (λ n rest tokens next. release-lawful c n
+    rest l width is flowed lawful tokens next))
 
 -- ---- channel B
 
@@ -164,33 +159,31 @@ unanswered_yet (ProbeSent k) e = refl
 unanswered_yet p e = absurd cc
 
 -- a Probe on its way hasn't been answered, and is of another's service
-probe-lawful : {w : ℕ} (config : Config) (log : Log w) (mail : AccessMessages w) (request : ℕ → MessageA w)
-    (s : State (List ℕ)) (sys : System w) (c n : ℕ)
-    (toks : List Packet) (l : Level) (x : Beat w) (ms : List (Message w)) (queue : List (Beat w))
-    → SimulationRelation config log mail request s sys → MonitorRelations log mail s sys
-    → illegal l (channel_of x) x ≡ None → (s.link c).b ≡ packet Probe n ∷ toks
+probe-lawful : {w : ℕ} {config : Config} {log : Log w} {mail : AccessMessages w} {request : ℕ → MessageA w}
+    {s : State (List ℕ)} {sys : System w} (c n : ℕ) (toks : List Packet) (l : Level) {x : Beat w}
+    {ms : List (Message w)} {queue : List (Beat w)} → SimulationRelation config log mail request s sys
+    → MonitorRelations log mail s sys → illegal l (channel_of x) x ≡ None → (s.link c).b ≡ packet Probe n ∷ toks
     → is_acknowledging (view (s.block n).service c) ≡ false → IsNext x (unfinished Channel.B (sys.clients c).past)
-    (block_message Probe c n (s.block n)) ms queue
-    → broken_after l config.profile x (flow c log) ≡ None
+    (block_message Probe c n (s.block n)) ms queue → broken_after l config.profile x (flow c log) ≡ None
 unfolding block_message
-probe-lawful {w} config log mail request s sys c n toks l x ms queue is flowed lawful tokens unacknowledged next =
+probe-lawful {w} {config} {log} {mail} {request} {s} {sys} c n toks l {x} {ms} {queue} is flowed lawful tokens
+    unacknowledged next =
     let b : Block (List ℕ) = s.block n in
     let shows : is_sent (b.pair c).probing ≡ true = holds-first Probe (s.link c).b toks (packet Probe n)
     (λ i. shown Probe c (s.block i)) tokens refl (is.invariant.transfers c Probe refl) in
-    next-flows l config.profile (block_message Probe c n b) x (unfinished Channel.B (sys.clients c).past) ms queue
+    next-flows l config.profile
     (flow c log) lawful next ((flowed c).rest_is Channel.B)
-    (λ none. probe-flows config.profile c n _ (asked_by mail s c) (λ ch. unfinished ch (receiver ch c sys)) s
-    (flow c log) (flowed c) none (same_block n)
+    (λ none. probe-flows config.profile n _
+    (flowed c) none (same_block n)
     (unanswered_yet (b.pair c).probing shows) unacknowledged
-    (not_coming config log mail request s sys c n is shows))
+    (not_coming c n is shows))
 
-pub flows-b : {w : ℕ} (config : Config) (log : Log w) (mail : AccessMessages w) (request : ℕ → MessageA w)
-    (s : State (List ℕ)) (sys : System w) (c : ℕ) (l : Level)
-    (x : Beat w) (queue : List (Beat w)) → IsWidth w → SimulationRelation config log mail request s sys
-    → MonitorRelations log mail s sys
-    → sys.channels c Channel.B ≡ x ∷ queue → level_of config c ≡ Some l
-    → broken_after l config.profile x (flow c log) ≡ None
-flows-b {w} config log mail request s sys c l x queue width is flowed beats level =
+pub flows-b : {w : ℕ} {config : Config} {log : Log w} {mail : AccessMessages w} {request : ℕ → MessageA w}
+    {s : State (List ℕ)} {sys : System w} (c : ℕ) (l : Level) (x : Beat w) (queue : List (Beat w)) → IsWidth w
+    → SimulationRelation config log mail request s sys → MonitorRelations log mail s sys
+    → sys.channels c Channel.B ≡ x ∷ queue → level_of config c ≡ Some l → broken_after l config.profile x (flow c log)
+    ≡ None
+flows-b {w} {config} {log} {mail} {request} {s} {sys} c l x queue width is flowed beats level =
     go first.kind first.number first.tokens first.own first.next
   where
     first : IsFirst Channel.B c mail s sys x queue
@@ -213,11 +206,9 @@ flows-b {w} config log mail request s sys c l x queue width is flowed beats leve
 
     go : (k : Kind) (i : ℕ) → (s.link c).b ≡ packet k i ∷ first.rest → is_on Channel.B k ≡ true
         → IsNext x (unfinished Channel.B (sys.clients c).past) (message_of_kind k mail s c i)
-        (map (message_of mail s c) first.rest) queue
-        → broken_after l config.profile x (flow c log) ≡ None
+        (map (message_of mail s c) first.rest) queue → broken_after l config.profile x (flow c log) ≡ None
     go Probe i tokens own next =
-        cc (probe-lawful config log mail request s sys c i first.rest l x (map (message_of mail s c) first.rest) queue
-        is flowed (lawful-beat config log mail request s sys c Channel.B l x queue is beats level) tokens
+        cc (probe-lawful c i first.rest l is flowed (lawful-beat c Channel.B l x queue is beats level) tokens
         (unacknowledged i (holds-first Probe (s.link c).b first.rest (packet Probe i) (λ j. shown Probe c (s.block j))
         tokens refl (is.invariant.transfers c Probe refl)) (view (s.block i).service c) refl) next)
     go k i tokens own next = absurd cc

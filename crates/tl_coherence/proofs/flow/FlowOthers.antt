@@ -25,8 +25,7 @@ same-view : (v : View) → IsSameView v v
 same-view v = record { granting = refl; unserved = refl; acknowledging = refl }
 
 others-same : {X : Type 0} (d : ℕ) (b b' : Block X) → b'.pair d ≡ b.pair d → b'.release_source d ≡ b.release_source d
-    → (b'.tracker ≡ b.tracker)
-    ⊎ ((is_acknowledging (view b.service d) || is_granting (view b.service d)) ≡ false)
+    → (b'.tracker ≡ b.tracker) ⊎ ((is_acknowledging (view b.service d) || is_granting (view b.service d)) ≡ false)
     → IsSameView (view b.service d) (view b'.service d)
     → (is_answered (b.pair d).probing ≡ true → cap_waited b'.service ≡ cap_waited b.service) → IsSameBlock d b b'
 others-same {X} d b b' pair source tracker sees cap = record {
@@ -100,8 +99,7 @@ same-performed d f b = others-same d b (performed_block f b) refl refl (inl refl
 
 -- one who is probed, or spared, as a block that was at rest is served
 pub same-served : {X : Type 0} (d r source tracker : ℕ) (own : Bool) (k : Cap) (b : Block X) → (own && (d == r)) ≡ false
-    → b.service ≡ Free
-    → is_unprobed (b.pair d).probing ≡ true → IsSameBlock d b (served_block r own source tracker k b)
+    → b.service ≡ Free → is_unprobed (b.pair d).probing ≡ true → IsSameBlock d b (served_block r own source tracker k b)
 same-served {X} d r source tracker own k b other free quiet =
     let before : is_outside (view b.service d) ≡ true = ap (λ (q : Service). is_outside (view q d)) free in
     let sees : IsSameView (view b.service d) (view (Waits r own source k) d) =
@@ -127,8 +125,7 @@ same-served {X} d r source tracker own k b other free quiet =
     nor_now false p e = quiet_unanswered p e
 
 pub same-granted_at_once : {X : Type 0} (d r tracker : ℕ) (x : Bool) (k : Cap) (b : Block X) → (d ≡ r → ⊥)
-    → b.service ≡ Free
-    → is_answered (b.pair d).probing ≡ false → IsSameBlock d b (granted_at_once r tracker x k b)
+    → b.service ≡ Free → is_answered (b.pair d).probing ≡ false → IsSameBlock d b (granted_at_once r tracker x k b)
 same-granted_at_once {X} d r tracker x k b ne free quiet =
     let before : is_outside (view b.service d) ≡ true = ap (λ (q : Service). is_outside (view q d)) free in
     others-same d b (granted_at_once r tracker x k b) (set-other r d (after_grant_sent k (b.pair r)) b.pair ne) refl
@@ -147,31 +144,25 @@ same-reported d c r b ne = others-same d b (reported_block c r b) (set-other c d
 
 -- the last ProbeAck, where nobody has anything of a Probe any more
 pub same-settled : {X : Type 0} (d c q source : ℕ) (r : Report) (k : Cap) (f : X → X) (b : Block X)
-    → b.service ≡ Waits q false source k
-    → is_answered ((reported_block c r b).pair d).probing ≡ false
+    → b.service ≡ Waits q false source k → is_answered ((reported_block c r b).pair d).probing ≡ false
     → IsSameBlock d (reported_block c r b) (ended_block c r f b)
-same-settled {X} d c q source r k f b waits quiet =
-    others-same d (reported_block c r b) (ended_block c r f b) refl refl (inl refl)
-    (outside-same (view b.service d) (view Free d) (ap (λ (i : Service). is_outside (view i d)) waits ∙ outside-waits d
-    q source false k refl) refl)
-    (λ e. absurd (let g : false ≡ true = sym quiet ∙ e in cc))
+same-settled {X} d c q source r k f b waits quiet = others-same d (reported_block c r b) (ended_block c r f b) refl refl
+    (inl refl) (outside-same (view b.service d) (view Free d) (ap (λ (i : Service). is_outside (view i d)) waits
+    ∙ outside-waits d q source false k refl) refl) (λ e. absurd (let g : false ≡ true = sym quiet ∙ e in cc))
 
 pub same-granted : {X : Type 0} (d c q source : ℕ) (r : Report) (j k : Cap) (x : Bool) (b : Block X) → (d ≡ q → ⊥)
-    → b.service ≡ Waits q true source j
-    → is_answered ((reported_block c r b).pair d).probing ≡ false
+    → b.service ≡ Waits q true source j → is_answered ((reported_block c r b).pair d).probing ≡ false
     → IsSameBlock d (reported_block c r b) (granted_block c q r x k b)
 same-granted {X} d c q source r j k x b other waits quiet =
     others-same d (reported_block c r b) (granted_block c q r x k b)
     (set-other q d (after_grant_sent k (b.pair q)) (set c (after_report r (b.pair c)) b.pair) other) refl (inl refl)
-    (outside-same (view b.service d) (view (GrantSent q x k) d)
-    (ap (λ (i : Service). is_outside (view i d)) waits ∙ outside-waits d q source true j (ne_eqb d q other))
-    (outside-sent d q x k other))
+    (outside-same (view b.service d) (view (GrantSent q x k) d) (ap (λ (i : Service). is_outside (view i d)) waits
+    ∙ outside-waits d q source true j (ne_eqb d q other)) (outside-sent d q x k other))
     (λ e. absurd (let g : false ≡ true = sym quiet ∙ e in cc))
 
 -- who asked for the block had as much of it as was recorded
 pub same-given : {X : Type 0} (c q source : ℕ) (r : Report) (j k : Cap) (x : Bool) (b : Block X) → (q ≡ c → ⊥)
-    → b.service ≡ Waits q true source j
-    → (b.pair q).held ≡ (b.pair q).recorded → is_answered (b.pair q).probing ≡ false
+    → b.service ≡ Waits q true source j → (b.pair q).held ≡ (b.pair q).recorded → is_answered (b.pair q).probing ≡ false
     → IsSameBlock q (reported_block c r b) (granted_block c q r x k b)
 same-given {X} c q source r j k x b other waits even quiet =
     let old : Block X = reported_block c r b in
@@ -187,7 +178,8 @@ same-given {X} c q source r j k x b other waits even quiet =
       source = refl;
       acknowledging = ap is_acknowledging now ∙ sym (ap is_acknowledging then_);
       answered = cc (pair, same);
-      cap = λ e. absurd (let f : false ≡ true = sym quiet ∙ sym (ap (λ (p : ClientBlock). is_answered p.probing) pair) ∙ e
+      cap = λ e. absurd (let f : false ≡ true = sym quiet ∙ sym (ap (λ (p : ClientBlock). is_answered p.probing) pair)
+          ∙ e
           in cc);
       tracker = inl refl;
     }
@@ -210,16 +202,14 @@ pub same-taken : {X : Type 0} (d c : ℕ) (whole x : Bool) (k : Cap) (b : Block 
     → b.service ≡ GrantSent c x k → IsSameBlock d b (taken_block c whole x k b)
 same-taken {X} d c whole x k b ne sent =
     others-same d b (taken_block c whole x k b) (set-other c d (after_grant k (b.pair c)) b.pair ne) refl (inl refl)
-    (outside-same (view b.service d) (view (GrantTaken c) d)
-    (ap (λ (i : Service). is_outside (view i d)) sent ∙ outside-sent d c x k ne) (outside-taken d c ne))
-    (λ e. sym (ap cap_waited sent))
+    (outside-same (view b.service d) (view (GrantTaken c) d) (ap (λ (i : Service). is_outside (view i d)) sent
+    ∙ outside-sent d c x k ne) (outside-taken d c ne)) (λ e. sym (ap cap_waited sent))
 
 pub same-freed : {X : Type 0} (d c : ℕ) (b : Block X) → (d ≡ c → ⊥) → b.service ≡ GrantTaken c
     → IsSameBlock d b (freed_block b)
-same-freed {X} d c b ne taken =
-    others-same d b (freed_block b) refl refl (inl refl)
-    (outside-same (view b.service d) (view Free d) (ap (λ (i : Service). is_outside (view i d)) taken ∙ outside-taken d
-    c ne) refl) (λ e. sym (ap cap_waited taken))
+same-freed {X} d c b ne taken = others-same d b (freed_block b) refl refl (inl refl)
+    (outside-same (view b.service d) (view Free d) (ap (λ (i : Service). is_outside (view i d)) taken
+    ∙ outside-taken d c ne) refl) (λ e. sym (ap cap_waited taken))
 
 -- ---- what another client is asked for
 
@@ -233,8 +223,7 @@ pub same-releasing : {X : Type 0} (d c source : ℕ) (r : Prune) (b : Block X) �
     → IsSameBlock d b (releasing_block c source r b)
 same-releasing d c source r b ne =
     others-same d b (releasing_block c source r b) (set-other c d (after_release r (b.pair c)) b.pair ne)
-    (set-other c d source b.release_source ne) (inl refl)
-    (same-view (view b.service d)) (λ e. refl)
+    (set-other c d source b.release_source ne) (inl refl) (same-view (view b.service d)) (λ e. refl)
 
 pub same-stored : {X : Type 0} (d c : ℕ) (bytes : X) (b : Block X) → IsSameBlock d b (stored_block c bytes b)
 same-stored d c bytes b = others-same d b (stored_block c bytes b) refl refl (inl refl) (same-view (view b.service d))

@@ -23,7 +23,7 @@ use Rattle.tl_coherence.proofs.{flow.FlowKinds.settled-request, flow.FlowKinds.s
 use Rattle.tl_coherence.proofs.{protocol.FollowKept.IsReady, client.ProbeDelivered.probe-beat}
 use Rattle.tl_coherence.proofs.{manager.RequestsTaken.acquire_wanted, queues.Tokens.set-same, queues.Tokens.set-part}
 use Rattle.tl_coherence.proofs.{simulation.Popped.unfinished_at}
-use Rattle.tl_coherence.proofs.protocol.HeadOfD.{IsGrantDue, grant-due, ack_message}
+use Rattle.tl_coherence.proofs.protocol.HeadOfD.{IsGrantDue, grant-due}
 use Rattle.tl_coherence.proofs.flow.ChannelD.{own-answer, own-release_ack, own-grant}
 use Rattle.tl_coherence.proofs.flow.ChannelA.{own-access, own-acquire_served, own-acquire_granted}
 use Rattle.tl_coherence.proofs.flow.ChannelCE.{report_rendered, ack_rendered, own-report, own-release, own-grant_ack}
@@ -44,8 +44,7 @@ module _ {w : ℕ} (config : Config) (log : Log w) (h : AbstractState w) (sys : 
       (rests : AreRests x (unfinished_at sys c) rest') where
     -- after the beat, which was the last of its message or not
     abbrev Goes : Channel → Kind → Type 0
-    Goes ch k =
-        packets_on ch (h.state.link c) ≡ packet k i ∷ toks
+    Goes ch k = packets_on ch (h.state.link c) ≡ packet k i ∷ toks
         → IsNext x (unfinished_at sys c ch) (message_of_kind k h.mail h.state c i) ms queue → (b : Bool)
         → completes x (unfinished_at sys c ch) ≡ b → (b ≡ true → IsReady tracker c k i h)
         → FlowsWith x (if b then kind_taken config tracker c k i toks h else h)
@@ -64,7 +63,7 @@ module _ {w : ℕ} (config : Config) (log : Log w) (h : AbstractState w) (sys : 
     goes-request tokens next b last ready = go b last ready
       where
         asked : IsAsked config c i h.mail s
-        asked = asked-first config log h.mail h.request s sys c i toks is tokens
+        asked = asked-first c i toks is tokens
 
         here : IsNext x (unfinished_at sys c Channel.A) (Message.A asked.request) ms queue
         here = subst (λ (m : Message w). IsNext x (unfinished_at sys c Channel.A) m ms queue) asked.is_it next
@@ -80,7 +79,7 @@ module _ {w : ℕ} (config : Config) (log : Log w) (h : AbstractState w) (sys : 
             toks h) =
             subst (λ (m : Message w). Leaves c h (request_taken (length config.clients.items) c i m tracker toks h))
             asked.is_it
-            (leaves-at_manager (is_caching config) config tracker c Request i toks h c refl is.invariant tokens) in
+            (leaves-at_manager config tracker c Request i toks h c refl is.invariant tokens) in
             subst (λ (m : Message w). FlowsWith x (request_taken (length config.clients.items) c i m tracker toks h))
             (sym asked.is_it)
             (settled-request config log h sys c is tracker c rest' (d_same (Message.A asked.request) here.k here.beat_is
@@ -92,7 +91,7 @@ module _ {w : ℕ} (config : Config) (log : Log w) (h : AbstractState w) (sys : 
     goes-acquire tokens next b last ready = go b last ready
       where
         wanted : IsWanted w c i s
-        wanted = wanted-first config log h.mail h.request s sys c i toks is tokens
+        wanted = wanted-first c i toks is tokens
 
         m : MessageA w
         m = acquire_wanted c i s wanted
@@ -101,8 +100,7 @@ module _ {w : ℕ} (config : Config) (log : Log w) (h : AbstractState w) (sys : 
         here = subst (λ (z : Message w). IsNext x (unfinished_at sys c Channel.A) z ms queue) wanted.renders next
 
         one : completes x (unfinished_at sys c Channel.A) ≡ true
-        one = (one-beat (Message.A m) x (unfinished_at sys c Channel.A) ms queue here
-            (acquisition_beats w wanted.whole wanted.grow ((s.block i).source c) i)).2
+        one = (one-beat here (acquisition_beats w wanted.whole wanted.grow ((s.block i).source c) i)).2
 
         taken : IsReady tracker c Acquire i h → Leaves c h
             (acquire_taken (length config.clients.items) config.profile c i (AcquireOpen wanted.whole wanted.grow)
@@ -124,15 +122,11 @@ module _ {w : ℕ} (config : Config) (log : Log w) (h : AbstractState w) (sys : 
 
             either : (z : Bool) → Leaves c h (with_state (if z then served else granted) h)
                 → FlowsWith x (with_state (if z then served else granted) h)
-            either true l =
-                own-acquire_served config log h sys c is t flowed rest' i wanted r.0 tracker r.1
-                (asked_by h.mail served c)
-                (asks-left c h (with_state served h) l) (cap_asked (AcquireOpen wanted.whole wanted.grow)) toks x ms
-                queue here rests
-            either false l =
-                own-acquire_granted config log h sys c is t flowed rest' i wanted r.0 tracker r.1
-                (asked_by h.mail granted c)
-                (asks-left c h (with_state granted h) l)
+            either true l = own-acquire_served config log h sys c is t flowed rest' i wanted r.0 tracker r.1
+                (asked_by h.mail served c) (asks-left c h (with_state served h) l)
+                (cap_asked (AcquireOpen wanted.whole wanted.grow)) toks x ms queue here rests
+            either false l = own-acquire_granted config log h sys c is t flowed rest' i wanted r.0 tracker r.1
+                (asked_by h.mail granted c) (asks-left c h (with_state granted h) l)
                 (is_granted_data wanted.whole wanted.grow ((s.block i).pair c).recorded)
                 (gift config.profile wanted.whole wanted.grow
                 (is_unheld (length config.clients.items) (s.block i).pair)) toks x ms queue here rests
@@ -140,13 +134,11 @@ module _ {w : ℕ} (config : Config) (log : Log w) (h : AbstractState w) (sys : 
         go : (z : Bool) → completes x (unfinished_at sys c Channel.A) ≡ z → (z ≡ true → IsReady tracker c Acquire i h)
             → FlowsWith x (if z then kind_taken config tracker c Acquire i toks h else h)
         go false e r = contrary (completes x (unfinished_at sys c Channel.A)) one e
-        go true e r =
-            subst (λ (a : AcquirePhase). FlowsWith x (acquire_taken (length config.clients.items) config.profile c i a
-            tracker toks h)) (sym wanted.wants)
+        go true e r = subst (λ (a : AcquirePhase). FlowsWith x
+            (acquire_taken (length config.clients.items) config.profile c i a tracker toks h)) (sym wanted.wants)
             (taken (r refl) (subst (λ (a : AcquirePhase). Leaves c h
-            (acquire_taken (length config.clients.items) config.profile c i a tracker toks h))
-            wanted.wants (leaves-at_manager (is_caching config) config tracker c Acquire i toks h c refl is.invariant
-            tokens)))
+            (acquire_taken (length config.clients.items) config.profile c i a tracker toks h)) wanted.wants
+            (leaves-at_manager config tracker c Acquire i toks h c refl is.invariant tokens)))
 
     -- ---- channel B
 
@@ -157,7 +149,7 @@ module _ {w : ℕ} (config : Config) (log : Log w) (h : AbstractState w) (sys : 
         k = cap_sent ((s.block i).pair c).probing
 
         one : completes x (unfinished_at sys c Channel.B) ≡ true
-        one = cc ((is.kept c).b_whole, probe-beat c i s x (unfinished_at sys c Channel.B) ms queue next)
+        one = cc ((is.kept c).b_whole, probe-beat c i s next)
 
         new : Block (List ℕ)
         new = probed_block c k (s.block i)
@@ -188,10 +180,9 @@ module _ {w : ℕ} (config : Config) (log : Log w) (h : AbstractState w) (sys : 
         go : (z : Bool) → completes x (unfinished_at sys c Channel.C) ≡ z
             → FlowsWith x (if z then kind_taken config tracker c ProbeAck i toks h else h)
         go false e = own-report config log h sys c width is t flowed rest' i toks tokens x ms queue next rests false e
-        go true e =
-            settled-report config log h sys c is tracker c rest' (d_same (Message.C about.0) here.k here.beat_is refl)
-            (x ∷ t) i toks tokens
-            (leaves-at_manager (is_caching config) config tracker c ProbeAck i toks h c refl is.invariant tokens)
+        go true e = settled-report config log h sys c is tracker c rest'
+            (d_same (Message.C about.0) here.k here.beat_is refl) (x ∷ t) i toks tokens
+            (leaves-at_manager config tracker c ProbeAck i toks h c refl is.invariant tokens)
             (own-report config log h sys c width is t flowed rest' i toks tokens x ms queue next rests true e)
 
     goes-release : Goes Channel.C Release
@@ -203,11 +194,9 @@ module _ {w : ℕ} (config : Config) (log : Log w) (h : AbstractState w) (sys : 
         go : (z : Bool) → completes x (unfinished_at sys c Channel.C) ≡ z
             → FlowsWith x (if z then kind_taken config tracker c Release i toks h else h)
         go false e = own-release config log h sys c width is t flowed rest' i toks tokens x ms queue next rests false e
-        go true e =
-            flowed-asks (asked_by h.mail s c) (asked_by h.mail after c) rest' c after (x ∷ t)
-            (asks-left c h (with_state after h) (leaves-at_manager (is_caching config) config tracker c Release i toks h
-            c refl is.invariant tokens))
-            (own-release config log h sys c width is t flowed rest' i toks tokens x ms queue next rests true e)
+        go true e = flowed-asks (asked_by h.mail after c)
+            (asks-left c h (with_state after h) (leaves-at_manager config tracker c Release i toks h c refl is.invariant
+            tokens)) (own-release config log h sys c width is t flowed rest' i toks tokens x ms queue next rests true e)
 
     -- ---- channel D
 
@@ -229,8 +218,7 @@ module _ {w : ℕ} (config : Config) (log : Log w) (h : AbstractState w) (sys : 
             → FlowsWith x (if z then kind_taken config tracker c Grant i toks h else h)
         go false e = own-grant config log h sys c is t flowed rest' toks i tokens due
             (is_whole ((s.block i).pair c).acquiring) x ms queue next rests false e
-        go true e =
-            subst (λ (q : Service). FlowsWith x (taken_by_client c i q toks h)) (sym due.service)
+        go true e = subst (λ (q : Service). FlowsWith x (taken_by_client c i q toks h)) (sym due.service)
             (own-grant config log h sys c is t flowed rest' toks i tokens due (is_whole ((s.block i).pair c).acquiring)
             x ms queue next rests true e)
 
@@ -238,8 +226,7 @@ module _ {w : ℕ} (config : Config) (log : Log w) (h : AbstractState w) (sys : 
     goes-release_ack tokens next b last ready = go b last
       where
         one : completes x (unfinished_at sys c Channel.D) ≡ true
-        one = (one-beat (Message.D (ack_message ((s.block i).release_source c))) x (unfinished_at sys c Channel.D) ms
-            queue (ack_next c i s x (unfinished_at sys c Channel.D) ms queue next) refl).2
+        one = (one-beat (ack_next c i s next) refl).2
 
         new : Block (List ℕ)
         new = let_go_block c (s.block i)
@@ -265,8 +252,7 @@ module _ {w : ℕ} (config : Config) (log : Log w) (h : AbstractState w) (sys : 
         m = record { sink = (s.block i).tracker }
 
         one : completes x (unfinished_at sys c Channel.E) ≡ true
-        one = (one-beat (Message.E m) x (unfinished_at sys c Channel.E) ms queue
-            (subst (λ (z : Message w). IsNext x (unfinished_at sys c Channel.E) z ms queue)
+        one = (one-beat (subst (λ (z : Message w). IsNext x (unfinished_at sys c Channel.E) z ms queue)
             (ack_rendered c i (s.block i)) next) refl).2
 
         go : (z : Bool) → completes x (unfinished_at sys c Channel.E) ≡ z
@@ -276,7 +262,7 @@ module _ {w : ℕ} (config : Config) (log : Log w) (h : AbstractState w) (sys : 
             let after = kind_taken config tracker c GrantAck i toks h in
             own-grant_ack config log h sys c width is t flowed rest' i toks tokens x ms queue next rests
             (asked_by after.mail after.state c)
-            (asks-left c h after (leaves-at_manager (is_caching config) config tracker c GrantAck i toks h c refl
+            (asks-left c h after (leaves-at_manager config tracker c GrantAck i toks h c refl
             is.invariant tokens))
 
     -- ---- each kind on its channel

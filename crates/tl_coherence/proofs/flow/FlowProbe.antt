@@ -33,15 +33,17 @@ pub part_of : {A : Type 0} (part : ClientBlock → A) (c : ℕ) (p : ClientBlock
     → part p ≡ part (pair c) → part (set c p pair c) ≡ part (pair c)
 part_of part c p pair e = ap part (set-same c p pair) ∙ e
 
-pub flowed-probe : {w : ℕ} {X : Type 0} (c n : ℕ) (k : Cap) (toks : List Packet) (asked asked' : ℕ → Option (BeatA w))
-    (rest rest' : Channel → List (Beat w)) (s : State X) (t : History w)
+pub flowed-probe : {w : ℕ} {X : Type 0} {c : ℕ} (n : ℕ) (k : Cap) (toks : List Packet) {asked : ℕ → Option (BeatA w)}
+    (asked' : ℕ → Option (BeatA w))
+    {rest : Channel → List (Beat w)} (rest' : Channel → List (Beat w)) {s : State X} {t : History w}
     → begins (Beat.B (probe_beat n k)) t ≡ true → ends (Beat.B (probe_beat n k)) t ≡ true
     → AreRests (Beat.B (probe_beat n k)) rest rest' → ((i : ℕ) → asked' i ≡ asked i) → block_at (64 * n) ≡ n
     → view (s.block n).service c ≡ Other k → cap_waited (s.block n).service ≡ k
     → ((m : ℕ) → comes_granting m asked' (rest Channel.D) ≡ comes_granting m asked (rest Channel.D))
     → MonitorRelation asked rest c s t → MonitorRelation asked' rest' c (probe_taken c n k toks s)
     (Beat.B (probe_beat n k) ∷ t)
-flowed-probe {w} {X} c n k toks asked asked' rest rest' s t first last rests asks at seen waited comes before =
+flowed-probe {w} {X} {c} n k toks {asked} asked' {rest} rest' {s} {t} first last rests asks at seen waited comes
+    before =
     let part_true = ap (λ (p : ClientBlock). is_answered p.probing) (set-same c (after_probe k (b.pair c)) b.pair) in
     let requests : (i : ℕ) → is_requested c i (rest' Channel.A) (s'.uses c i) s' ≡ is_requested c i (rest Channel.A)
     (s.uses c i) s = λ i. cc (
@@ -56,7 +58,7 @@ flowed-probe {w} {X} c n k toks asked asked' rest rest' s t first last rests ask
       set-part (granted_by c m asked (rest Channel.D)) n new s.block
           refl m,
     ) in
-    flowed-next (Beat.B y) true true asked asked' rest rest' c s s' t (record {
+    flowed-next (record {
       first_is = first;
       last_is = last;
       rests = rests;

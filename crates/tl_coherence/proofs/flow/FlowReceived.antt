@@ -19,8 +19,8 @@ use Rattle.tl_coherence.proofs.{links.HeadsOfLinks.first-of, queues.FirstToken.I
 use Rattle.tl_coherence.proofs.{deliveries.DeliverDAfter.followed-moving, manager.UnwaitedRequests.next_tracker}
 use Rattle.tl_coherence.proofs.{simulation.Popped.unfinished_at}
 use Rattle.tl_coherence.proofs.queues.Landed.{IsOn, landed-client, landed-manager}
-use Rattle.tl_coherence.proofs.deliveries.ManagersAfter.{IsAtManager, at-manager}
-use Rattle.tl_coherence.proofs.simulation.Moved.{IsTakenByClient, client-moves, client-heard}
+use Rattle.tl_coherence.proofs.deliveries.ManagersAfter.{at-manager}
+use Rattle.tl_coherence.proofs.simulation.Moved.{client-moves, client-heard}
 use Rattle.tl_coherence.proofs.queues.Steps.{clients-with_messages, manager-with_messages}
 
 -- ---- what the receivers have after a delivery
@@ -41,24 +41,22 @@ pub record IsMovedOn {w : ℕ} (config : Config) (log : Log w) (link : Link) (ch
   pub delivered : (d : ℕ) → flow d
       ((Deliver link ch, (stepped config (Deliver link ch) (system_after config log)).outcome) ∷ log)
       ≡ (if link.0 == d then x ∷ flow d log else flow d log)
-  pub rests : (d : ℕ) (at : Channel)
-      → unfinished_at (stepped config (Deliver link ch) (system_after config log)).after d at
-      ≡ (if (d == link.0) && same_channel at ch then grown x (unfinished_at (system_after config log) d at) else
+  pub rests : (d : ℕ) (at : Channel) → unfinished_at (stepped config (Deliver link ch) (system_after config log)).after
+      d at ≡ (if (d == link.0) && same_channel at ch then grown x (unfinished_at (system_after config log) d at) else
       unfinished_at (system_after config log) d at)
   pub follows : abstract_step config (Deliver link ch) (system_after config log) h
       ≡ (if completes x (unfinished_at (system_after config log) link.0 ch) then kind_taken config
       (next_tracker (system_after config log)) link.0 first.kind first.number first.rest h else h)
 
-moved-to_manager : {w : ℕ} (config : Config) (log : Log w) (link : Link) (ch : Channel) (h : AbstractState w)
-    (terms : EndConfig) (x : Beat w) (queue : List (Beat w))
-    → IsWidth w → SimulationRelation config log h.mail h.request h.state (system_after config log)
-    → terms_at config link.0 ≡ Some terms → is_to_client ch ≡ false
-    → (system_after config log).channels link.0 ch ≡ x ∷ queue
-    → is_moving (stepped config (Deliver link ch) (system_after config log)).outcome ≡ true
+moved-to_manager : {w : ℕ} {config : Config} {log : Log w} (link : Link) (ch : Channel) (h : AbstractState w)
+    (terms : EndConfig) (x : Beat w) (queue : List (Beat w)) → IsWidth w
+    → SimulationRelation config log h.mail h.request h.state (system_after config log)
+    → terms_at config link.0 ≡ Some terms → is_to_client ch ≡ false → (system_after config log).channels link.0 ch
+    ≡ x ∷ queue → is_moving (stepped config (Deliver link ch) (system_after config log)).outcome ≡ true
     → IsMovedOn config log link ch h x queue
 unfolding with_messages
-moved-to_manager {w} config log link ch h terms x queue width is known down beats moving =
-    let at = at-manager config log link ch h terms x queue width is known down beats moving in
+moved-to_manager {w} {config} {log} link ch h terms x queue width is known down beats moving =
+    let at = at-manager link ch h terms x queue width is known down beats moving in
     let e : manager_end.End w = manager_offer.taken link x (reaction config link x sys.manager) sys.manager in
     let base : System w = with_manager e (with_channel link.0 ch queue sys) in
     record {
@@ -80,14 +78,13 @@ moved-to_manager {w} config log link ch h terms x queue width is known down beat
     handed : Handed w
     handed = (reaction config link x sys.manager).handed
 
-moved-to_client : {w : ℕ} (config : Config) (log : Log w) (link : Link) (ch : Channel) (h : AbstractState w)
-    (terms : EndConfig) (x : Beat w) (queue : List (Beat w))
-    → IsWidth w → SimulationRelation config log h.mail h.request h.state (system_after config log)
-    → terms_at config link.0 ≡ Some terms → is_to_client ch ≡ true
-    → (system_after config log).channels link.0 ch ≡ x ∷ queue
-    → is_moving (stepped config (Deliver link ch) (system_after config log)).outcome ≡ true
+moved-to_client : {w : ℕ} {config : Config} {log : Log w} (link : Link) (ch : Channel) (h : AbstractState w)
+    (terms : EndConfig) (x : Beat w) (queue : List (Beat w)) → IsWidth w
+    → SimulationRelation config log h.mail h.request h.state (system_after config log)
+    → terms_at config link.0 ≡ Some terms → is_to_client ch ≡ true → (system_after config log).channels link.0 ch
+    ≡ x ∷ queue → is_moving (stepped config (Deliver link ch) (system_after config log)).outcome ≡ true
     → IsMovedOn config log link ch h x queue
-moved-to_client {w} config log link ch h terms x queue width is known up beats moving =
+moved-to_client {w} {config} {log} link ch h terms x queue width is known up beats moving =
     let sys : System w = system_after config log in
     let t = client-moves config link ch sys terms x queue known beats up moving in
     let first : IsFirst ch link.0 h.mail h.state sys x queue = first-token (is_caching config) ch link.0 h.mail h.state
@@ -102,19 +99,18 @@ moved-to_client {w} config log link ch h terms x queue width is known up beats m
           (taken_at link ch x t.verdict_is d (sym (ap (λ (y : Step w). is_moving y.outcome) t.step_is) ∙ moving));
       rests = λ d i. ap (λ (y : Step w). unfinished_at y.after d i) t.step_is
           ∙ (landed-client link.0 ch x queue t.message (offer.taken x (sys.clients link.0)).after sys up beats on_ch
-          (client-heard terms link.0 ch x queue sys (stepped config (Deliver link ch) sys) width (is.kept link.0) t)).rests
+          (client-heard width (is.kept link.0) t)).rests
           d i;
       follows = cc (followed-moving config link ch sys h x queue moving beats, first.tokens);
     }
 
-pub moved-on : {w : ℕ} (config : Config) (log : Log w) (link : Link) (ch : Channel) (h : AbstractState w) (x : Beat w)
-    (queue : List (Beat w)) (terms : EndConfig)
-    → IsWidth w → SimulationRelation config log h.mail h.request h.state (system_after config log)
-    → (system_after config log).channels link.0 ch ≡ x ∷ queue → terms_at config link.0 ≡ Some terms
+pub moved-on : {w : ℕ} {config : Config} {log : Log w} (link : Link) (ch : Channel) (h : AbstractState w) (x : Beat w)
+    (queue : List (Beat w)) (terms : EndConfig) → IsWidth w → SimulationRelation config log h.mail h.request h.state
+    (system_after config log) → (system_after config log).channels link.0 ch ≡ x ∷ queue
+    → terms_at config link.0 ≡ Some terms
     → is_moving (stepped config (Deliver link ch) (system_after config log)).outcome ≡ true → (b : Bool)
-    → is_to_client ch ≡ b
-    → IsMovedOn config log link ch h x queue
-moved-on config log link ch h x queue terms width is beats known moving true e =
-    moved-to_client config log link ch h terms x queue width is known e beats moving
-moved-on config log link ch h x queue terms width is beats known moving false e =
-    moved-to_manager config log link ch h terms x queue width is known e beats moving
+    → is_to_client ch ≡ b → IsMovedOn config log link ch h x queue
+moved-on {config} {log} link ch h x queue terms width is beats known moving true e =
+    moved-to_client link ch h terms x queue width is known e beats moving
+moved-on {config} {log} link ch h x queue terms width is beats known moving false e =
+    moved-to_manager link ch h terms x queue width is known e beats moving

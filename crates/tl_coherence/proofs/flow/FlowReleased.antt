@@ -105,10 +105,9 @@ let_other i rest rest' l h = refl
 
 -- the last Release with the source of the beat, and with another one
 of_source : {w : ℕ} {A : Type 0} (part : BeatC w → A) (v : A) (i : ℕ) (y : BeatC w) (t : History w) (first : Bool)
-    → begins (Beat.C y) t ≡ first
-    → is_release y.opcode ≡ true → (y.source == i) ≡ true → part y ≡ v
-    → (first ≡ false → option_map part (release_of i t) ≡ Some v) → option_map part (release_of i (Beat.C y ∷ t)) ≡ Some
-    v
+    → begins (Beat.C y) t ≡ first → is_release y.opcode ≡ true → (y.source == i) ≡ true → part y ≡ v
+    → (first ≡ false → option_map part (release_of i t) ≡ Some v) → option_map part (release_of i (Beat.C y ∷ t))
+    ≡ Some v
 unfolding release_of
 of_source part v i y t true e f g h before = rw (e, f, g) (ap Some h)
 of_source part v i y t false e f g h before = rw e (before refl)
@@ -126,12 +125,13 @@ both_some : (n m : ℕ) (o : Option ℕ) → o ≡ Some n → o ≡ Some m → n
 both_some n m None e f = absurd cc
 both_some n m (Some i) e f = let g : Some n ≡ Some m = sym e ∙ f in cc
 
-pub flowed-release : {w : ℕ} {X : Type 0} (c n : ℕ) (r : Prune) (y : BeatC w) (first last : Bool) (asked : ℕ
-    → Option (BeatA w)) (rest rest' : Channel → List (Beat w)) (s s' : State X) (t : History w)
+pub flowed-release : {w : ℕ} {X : Type 0} {c n : ℕ} {r : Prune} {y : BeatC w} {first last : Bool} {asked : ℕ
+    → Option (BeatA w)} {rest rest' : Channel → List (Beat w)} {s s' : State X} {t : History w}
     → begins (Beat.C y) t ≡ first → ends (Beat.C y) t ≡ last → AreRests (Beat.C y) rest rest'
     → ((i m : ℕ) → is_of m (s.lets c i) ≡ releases_with c i (s.block m)) → IsReleased c n r y first last rest rest' s s'
     → MonitorRelation asked rest c s t → MonitorRelation asked rest' c s' (Beat.C y ∷ t)
-flowed-release {w} {X} c n r y first last asked rest rest' s s' t first_is last_is rests named is before =
+flowed-release {w} {X} {c} {n} {r} {y} {first} {last} {asked} {rest} {rest'} {s} {s'} {t} first_is last_is rests named
+    is before =
     let here_at : (block_at y.address == n) ≡ true = rw is.at (same_number n) in
     let apart : (m : ℕ) → (m ≡ n → ⊥) → (block_at y.address == m) ≡ false =
     λ m ne. rw is.at (ne_eqb n m (λ e. ne (sym e))) in
@@ -169,7 +169,7 @@ flowed-release {w} {X} c n r y first last asked rest rest' s s' t first_is last_
           (ap (λ (q : Service). is_acknowledging (view q c) || comes_granting m asked (rest Channel.D)) is.service) m,
     )
     in
-    flowed-next (Beat.C y) first last asked asked rest rest' c s s' t (record {
+    flowed-next (record {
       first_is = first_is;
       last_is = last_is;
       rests = rests;
@@ -290,8 +290,7 @@ flowed-release {w} {X} c n r y first last asked rest rest' s s' t first_is last_
     released i m e f (inr ne) = cc (of_other i y t (another i ne), before.released i m e (still_pending i ne f))
 
     sizes : (i m : ℕ) → s.lets c i ≡ Some m → is_let_by c i (rest' Channel.C) (s'.lets c i) s' ≡ true
-        → (i ≡ y.source) ⊎ (i ≡ y.source → ⊥)
-        → option_map (λ z. z.size) (release_of i (Beat.C y ∷ t)) ≡ Some 6
+        → (i ≡ y.source) ⊎ (i ≡ y.source → ⊥) → option_map (λ z. z.size) (release_of i (Beat.C y ∷ t)) ≡ Some 6
     sizes i m e f (inl same) = of_source (λ z. z.size) 6 i y t first first_is is.release
         (rw same (same_number y.source)) is.size (λ g. before.sizes i m e (was_pending i same g))
     sizes i m e f (inr ne) = cc (of_other i y t (another i ne), before.sizes i m e (still_pending i ne f))

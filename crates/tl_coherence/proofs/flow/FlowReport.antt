@@ -24,8 +24,7 @@ let_rest i rest rest' (ReleaseSent r) e = e
 let_rest i rest rest' l e = refl
 
 pub let_by_rest : {w : ℕ} {X : Type 0} (c i : ℕ) (rest rest' : List (Beat w)) (o : Option ℕ) (s : State X)
-    → comes_in_release i rest' ≡ comes_in_release i rest
-    → is_let_by c i rest' o s ≡ is_let_by c i rest o s
+    → comes_in_release i rest' ≡ comes_in_release i rest → is_let_by c i rest' o s ≡ is_let_by c i rest o s
 let_by_rest c i rest rest' None s e = refl
 let_by_rest c i rest rest' (Some n) s e = let_rest i rest rest' ((s.block n).pair c).letting e
 
@@ -37,18 +36,18 @@ unclosed true q p = refl
 unclosed false q p = refl
 
 -- a beat that isn't the last: nothing but what of the ProbeAck was delivered changes
-pub flowed-report_part : {w : ℕ} {X : Type 0} (c : ℕ) (y : BeatC w) (first : Bool) (asked : ℕ → Option (BeatA w))
-    (rest rest' : Channel → List (Beat w)) (s : State X) (t : History w)
+pub flowed-report_part : {w : ℕ} {X : Type 0} {c : ℕ} (y : BeatC w) (first : Bool) {asked : ℕ → Option (BeatA w)}
+    {rest : Channel → List (Beat w)} (rest' : Channel → List (Beat w)) {s : State X} {t : History w}
     → begins (Beat.C y) t ≡ first → ends (Beat.C y) t ≡ false → AreRests (Beat.C y) rest rest'
     → is_release y.opcode ≡ false
     → ((i : ℕ) → comes_in_release i (rest' Channel.C) ≡ comes_in_release i (rest Channel.C))
     → MonitorRelation asked rest c s t → MonitorRelation asked rest' c s (Beat.C y ∷ t)
-flowed-report_part {w} {X} c y first asked rest rest' s t first_is last_is rests other comes before =
+flowed-report_part {w} {X} {c} y first {asked} {rest} rest' {s} {t} first_is last_is rests other comes before =
     let requests : (i : ℕ) → is_requested c i (rest' Channel.A) (s.uses c i) s ≡ is_requested c i (rest Channel.A)
     (s.uses c i) s = λ i. ap (λ (r : List (Beat w)). is_requested c i r (s.uses c i) s) (rests Channel.A) in
     let grants : (n : ℕ) → granted_by c n asked (rest' Channel.D) (s.block n) ≡ granted_by c n asked (rest Channel.D)
     (s.block n) = λ n. ap (λ (r : List (Beat w)). granted_by c n asked r (s.block n)) (rests Channel.D) in
-    flowed-next (Beat.C y) first false asked asked rest rest' c s s t (record {
+    flowed-next (record {
       first_is = first_is;
       last_is = last_is;
       rests = rests;

@@ -36,15 +36,15 @@ unsaid false false here q p e = refl
 unsaid ack let_go here q p e = rw e refl
 
 -- the state in which nothing but the report is taken
-pub flowed-report : {w : ℕ} {X : Type 0} (c n : ℕ) (r : Report) (toks : List Packet) (y : BeatC w) (first : Bool)
-    (asked : ℕ → Option (BeatA w))
-    (rest rest' : Channel → List (Beat w)) (s : State X) (t : History w)
-    → begins (Beat.C y) t ≡ first → ends (Beat.C y) t ≡ true → AreRests (Beat.C y) rest rest'
+pub flowed-report : {w : ℕ} {X : Type 0} {c : ℕ} (n : ℕ) (r : Report) (toks : List Packet) (y : BeatC w) (first : Bool)
+    {asked : ℕ → Option (BeatA w)} {rest : Channel → List (Beat w)} (rest' : Channel → List (Beat w)) {s : State X}
+    {t : History w} → begins (Beat.C y) t ≡ first → ends (Beat.C y) t ≡ true → AreRests (Beat.C y) rest rest'
     → is_probe_ack y.opcode ≡ true → is_release y.opcode ≡ false
-    → ((i : ℕ) → comes_in_release i (rest' Channel.C) ≡ comes_in_release i (rest Channel.C))
-    → block_at y.address ≡ n → reported y.param ≡ report_right r → is_granting (view (s.block n).service c) ≡ false
+    → ((i : ℕ) → comes_in_release i (rest' Channel.C) ≡ comes_in_release i (rest Channel.C)) → block_at y.address ≡ n
+    → reported y.param ≡ report_right r → is_granting (view (s.block n).service c) ≡ false
     → MonitorRelation asked rest c s t → MonitorRelation asked rest' c (report_taken c n r toks s) (Beat.C y ∷ t)
-flowed-report {w} {X} c n r toks y first asked rest rest' s t first_is last_is rests ack other comes at says alone
+flowed-report {w} {X} {c} n r toks y first {asked} {rest} rest' {s} {t} first_is last_is rests ack other comes at says
+    alone
     before =
     let apart : (m : ℕ) → (m ≡ n → ⊥) → (block_at y.address == m) ≡ false =
     λ m ne. rw at (ne_eqb n m (λ e. ne (sym e))) in
@@ -66,7 +66,7 @@ flowed-report {w} {X} c n r toks y first asked rest rest' s t first_is last_is r
     let grants : (m : ℕ) → granted_by c m asked (rest' Channel.D) (s'.block m) ≡ granted_by c m asked (rest Channel.D)
     (s.block m) = λ m. cc (rests Channel.D, set-part (granted_by c m asked (rest Channel.D)) n new s.block refl m)
     in
-    flowed-next (Beat.C y) first true asked asked rest rest' c s s' t (record {
+    flowed-next (record {
       first_is = first_is;
       last_is = last_is;
       rests = rests;
@@ -125,8 +125,7 @@ flowed-report {w} {X} c n r toks y first asked rest rest' s t first_is last_is r
     letting_same = part_of (λ (p : ClientBlock). p.letting) c (after_report r (b.pair c)) b.pair refl
 
     lets : (i : ℕ) → is_let_by c i (rest' Channel.C) (s'.lets c i) s' ≡ is_let_by c i (rest Channel.C) (s.lets c i) s
-    lets i =
-        let_by_rest c i (rest Channel.C) (rest' Channel.C) (s.lets c i) s' (comes i)
+    lets i = let_by_rest c i (rest Channel.C) (rest' Channel.C) (s.lets c i) s' (comes i)
         ∙ let_by-same c i (rest Channel.C) (s.lets c i) s s' (set-part (λ (z : Block X). (z.pair c).letting) n new
         s.block letting_same)
 
@@ -138,5 +137,4 @@ flowed-report {w} {X} c n r toks y first asked rest rest' s t first_is last_is r
         → probe_of m t ≡ Some (probe_beat m (cap_waited (s'.block m).service))
     probed = set-each (λ m z. is_answered (z.pair c).probing ≡ true
         → probe_of m t ≡ Some (probe_beat m (cap_waited z.service))) n new s.block
-        (λ e. absurd (let f : false ≡ true = sym quiet ∙ e in cc))
-        (λ m ne e. before.probed m e)
+        (λ e. absurd (let f : false ≡ true = sym quiet ∙ e in cc)) (λ m ne e. before.probed m e)

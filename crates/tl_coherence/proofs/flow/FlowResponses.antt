@@ -5,17 +5,17 @@ use Rattle.tl_coherence.proofs.flow.Imports.{illegal, level_of, RequestSource, R
 use Rattle.tl_coherence.proofs.flow.Imports.{prune_code, report_code, report_left, on_link, comes_in_release}
 use Rattle.tl_coherence.proofs.flow.Imports.{broken_in_order, same_perm, broken_after, is_release, held, pending}
 use Rattle.tl_coherence.proofs.flow.Imports.{request_of, same_block, IsCarried, flow, is_requested, is_sunk}
-use Rattle.tl_coherence.proofs.flow.Imports.{is_release_pending, is_let_by, is_busy, Log, View, ReleasePhase}
+use Rattle.tl_coherence.proofs.flow.Imports.{is_release_pending, is_busy, Log, View, ReleasePhase}
 use Rattle.tl_coherence.proofs.flow.Imports.{ReleaseSent, ReleaseAcked, AcquirePhase, AcquireOpen, is_unreleased}
 use Rattle.tl_coherence.proofs.flow.Imports.{Service, GrantSent, is_answered, is_acked, is_granting, is_acknowledging}
 use Rattle.tl_coherence.proofs.flow.Imports.{State, SourceState, view, packet, shown, is_on, is_unserved}
 use Rattle.tl_coherence.proofs.flow.Imports.{AccessMessages, report_told, prune_told, block_message, message_of}
 use Rattle.tl_coherence.proofs.flow.Imports.{message_of_kind, System, Kind, ProbeAck, Release, Answer, Grant}
 use Rattle.tl_coherence.proofs.flow.Imports.{ReleaseAck, Packet, SimulationRelation, MonitorRelations, is_caching}
-use Rattle.tl_coherence.proofs.flow.Imports.{asked_by, Channel}
+use Rattle.tl_coherence.proofs.flow.Imports.{Channel}
 use Rattle.std.proofs.Common.{◌≡◌, subst, ℕ, zero, suc, Bool, true, false, not, ◌&&◌, ◌||◌, List, [], ◌∷◌, Option, Some}
 use Rattle.std.proofs.Common.{None, refl, sym, ◌∙◌, ap}
-use Rattle.std.{specs.Prelude.◌==◌, specs.Prelude.if◌then◌else◌, specs.Prelude.map, proofs.lemmas.Bool.eqb-true}
+use Rattle.std.{specs.Prelude.◌==◌, specs.Prelude.map, proofs.lemmas.Bool.eqb-true}
 use Rattle.std.{proofs.lemmas.Bool.and_from, proofs.lemmas.Option.same_Some}
 use Rattle.tl_beat.{specs.declared.opcode.OpB.OpB, specs.declared.opcode.OpC.OpC}
 use Rattle.tl_burst.specs.statement.Burst.{d_beat_of}
@@ -40,24 +40,22 @@ use Rattle.tl_coherence.proofs.client.ResponseOrder.{answer-legal, grant-legal, 
 
 -- ---- an answer
 
-flow-answer : {w : ℕ} (config : Config) (log : Log w) (mail : AccessMessages w) (request : ℕ → MessageA w)
-    (s : State (List ℕ)) (sys : System w) (c source : ℕ)
-    → SimulationRelation config log mail request s sys → MonitorRelations log mail s sys
-    → (due : IsAnswerDue c source mail s)
-    → unfinished Channel.D (sys.clients c).past ≡ [] → broken_in_order config.profile (beat_of (Message.D due.answer) 0)
-    (flow c log) ≡ None
-flow-answer {w} config log mail request s sys c source h flowed due whole =
+flow-answer : {w : ℕ} {config : Config} {log : Log w} {mail : AccessMessages w} {request : ℕ → MessageA w}
+    {s : State (List ℕ)} {sys : System w} {c source : ℕ} → SimulationRelation config log mail request s sys
+    → MonitorRelations log mail s sys → (due : IsAnswerDue c source mail s) → unfinished Channel.D (sys.clients c).past
+    ≡ [] → broken_in_order config.profile (beat_of (Message.D due.answer) 0) (flow c log) ≡ None
+flow-answer {w} {config} {log} {mail} {request} {s} {sys} {c} {source} h flowed due whole =
     let kind = access_kind due.answer.opcode due.answers_access in
     let asks = asks-access c source due.request mail s (ap is_access due.used) due.request_is in
     let live = (flowed c).requests source ∙ ap
     (λ (u : SourceState). is_requested c source (unfinished Channel.A (on_link c sys.manager.trace)) u s) due.used
     in
-    answer-legal config.profile (d_beat_of due.answer 0) (a_beat_of due.request 0) (flow c log) (record {
+    answer-legal config.profile (record {
       whole = (flowed c).rest_is Channel.D ∙ whole;
       complete = cc (
         (flowed c).rest_is Channel.A,
         due.from,
-        not-coming_a config log mail request s sys c source h
+        not-coming_a c source h
             (ap (λ (u : SourceState). waits_on_a c u s) due.used),
       );
       other = kind.1;
@@ -73,31 +71,29 @@ abbrev none_of : (w : ℕ) → List (Beat w)
 none_of w = []
 
 -- what the client of a Grant has of its block
-pub grant_quiet : (caching : ℕ → Bool) (c n : ℕ) (s : State (List ℕ)) → IsInvariant caching s → (due : IsGrantDue c n s)
+pub grant_quiet : {caching : ℕ → Bool} {c n : ℕ} {s : State (List ℕ)} → IsInvariant caching s → (due : IsGrantDue c n s)
     → is_answered ((s.block n).pair c).probing ≡ false
-grant_quiet caching c n s inv due =
+grant_quiet {c} {n} {s} inv due =
     let mine = own_view c due.data_too due.k (s.block n).service due.service in
     let alone = granting_alone due.data_too due.k ((s.block n).pair c) (view (s.block n).service c)
     ((inv.blocks n).phases c) mine in
     quiet_unanswered ((s.block n).pair c).probing (and_left _ _ alone)
 
 -- the tracker of a Grant is of its block
-pub grant_tracked : (caching : ℕ → Bool) (c n : ℕ) (s : State (List ℕ)) → IsInvariant caching s → IsGrantDue c n s
+pub grant_tracked : {caching : ℕ → Bool} {c n : ℕ} {s : State (List ℕ)} → IsInvariant caching s → IsGrantDue c n s
     → s.tracked (s.block n).tracker ≡ Some n
-grant_tracked caching c n s inv due =
-    is_of-is n (s.tracked (s.block n).tracker) (inv.named.trackers (s.block n).tracker n
-    ∙ ap (λ (x : Service). is_busy x && ((s.block n).tracker == (s.block n).tracker)) due.service ∙ same_number
-    (s.block n).tracker)
+grant_tracked {n} {s} inv due = is_of-is n (s.tracked (s.block n).tracker) (inv.named.trackers (s.block n).tracker n
+    ∙ ap (λ (x : Service). is_busy x && ((s.block n).tracker == (s.block n).tracker)) due.service
+    ∙ same_number (s.block n).tracker)
 
-flow-grant : {w : ℕ} (config : Config) (log : Log w) (mail : AccessMessages w) (request : ℕ → MessageA w)
-    (s : State (List ℕ)) (sys : System w) (c n : ℕ)
-    → SimulationRelation config log mail request s sys → MonitorRelations log mail s sys → (due : IsGrantDue c n s)
-    → gives_asked config.profile (AcquireOpen due.whole due.g) due.k ≡ true
-    → unfinished Channel.D (sys.clients c).past ≡ []
-    → broken_in_order config.profile
-    (beat_of (Message.D (grant_message due.data_too due.k ((s.block n).source c) (s.block n).tracker
-    (s.block n).truth)) 0) (flow c log) ≡ None
-flow-grant {w} config log mail request s sys c n h flowed due given whole =
+flow-grant : {w : ℕ} {config : Config} {log : Log w} {mail : AccessMessages w} {request : ℕ → MessageA w}
+    {s : State (List ℕ)} {sys : System w} {c n : ℕ} → SimulationRelation config log mail request s sys
+    → MonitorRelations log mail s sys → (due : IsGrantDue c n s)
+    → gives_asked config.profile (AcquireOpen due.whole due.g) due.k ≡ true → unfinished Channel.D (sys.clients c).past
+    ≡ [] → broken_in_order config.profile
+    (beat_of (Message.D (grant_message due.data_too due.k ((s.block n).source c) (s.block n).tracker (s.block n).truth))
+    0) (flow c log) ≡ None
+flow-grant {w} {config} {log} {mail} {request} {s} {sys} {c} {n} h flowed due given whole =
     let source = (s.block n).source c in
     let sink = (s.block n).tracker in
     let r : BeatA w = a_beat_of (acquisition (acquire_opcode due.whole) due.g source n) 0 in
@@ -107,12 +103,12 @@ flow-grant {w} config log mail request s sys c n h flowed due given whole =
     let mine = own_view c due.data_too due.k (s.block n).service due.service in
     let live : pending (RequestSource source) (flow c log) ≡ true = cc ((flowed c).requests source, due.used, mine) in
     let held_now : held n (flow c log) ≡ ((s.block n).pair c).held = cc ((flowed c).held_is n, mine) in
-    grant-legal config.profile n (d_beat_of (grant_message due.data_too due.k source sink (s.block n).truth) 0) r
-    (flow c log) (record {
+    grant-legal config.profile n
+    (record {
       whole = (flowed c).rest_is Channel.D ∙ whole;
       complete = cc (
         (flowed c).rest_is Channel.A,
-        not-coming_a config log mail request s sys c source h
+        not-coming_a c source h
             (ap (λ (u : SourceState). waits_on_a c u s) due.used ∙ ap is_unserved mine),
       );
       other = no_ack_grant due.data_too;
@@ -124,9 +120,9 @@ flow-grant {w} config log mail request s sys c n h flowed due given whole =
     (ap (λ (q : Perm). rules.is_grant_without_data (grant_opcode due.data_too)
     && (rules.is_acquire_block (acquire_opcode due.whole) && not (same_perm q Perm.Branch))) held_now
     ∙ has_data due.whole due.data_too ((s.block n).pair c).held fits.carried)
-    ((flowed c).probes n ∙ grant_quiet (is_caching config) c n s h.invariant due)
+    ((flowed c).probes n ∙ grant_quiet h.invariant due)
     ((flowed c).sinks sink ∙ ap (λ (b : List (Beat w)). is_sunk c sink b (s.tracked sink) s) whole
-    ∙ ap (λ (o : Option ℕ). is_sunk c sink (none_of w) o s) (grant_tracked (is_caching config) c n s h.invariant due)
+    ∙ ap (λ (o : Option ℕ). is_sunk c sink (none_of w) o s) (grant_tracked h.invariant due)
     ∙ ap (λ (v : View). is_acknowledging v || (is_granting v && false)) mine)
 
 -- ---- a ReleaseAck
@@ -171,12 +167,11 @@ rendered_release w c n source s e = unreleased_prune w source (prune_told ((s.bl
     ((s.block n).release_source c) n (s.block n).truth e
 
 -- no Release is half taken with the source of one that was acknowledged
-not-coming_c : {w : ℕ} (config : Config) (log : Log w) (mail : AccessMessages w) (request : ℕ → MessageA w)
-    (s : State (List ℕ)) (sys : System w) (c n : ℕ)
-    → SimulationRelation config log mail request s sys → s.lets c ((s.block n).release_source c) ≡ Some n
-    → is_acked ((s.block n).pair c).letting ≡ true
+not-coming_c : {w : ℕ} {config : Config} {log : Log w} {mail : AccessMessages w} {request : ℕ → MessageA w}
+    {s : State (List ℕ)} {sys : System w} (c n : ℕ) → SimulationRelation config log mail request s sys
+    → s.lets c ((s.block n).release_source c) ≡ Some n → is_acked ((s.block n).pair c).letting ≡ true
     → comes_in_release ((s.block n).release_source c) (unfinished Channel.C (on_link c sys.manager.trace)) ≡ false
-not-coming_c {w} config log mail request s sys c n h let_ acked = go (s.link c).c refl (h.carried c Channel.C)
+not-coming_c {w} {config} {mail} {s} {sys} c n h let_ acked = go (s.link c).c refl (h.carried c Channel.C)
   where
     source : ℕ
     source = (s.block n).release_source c
@@ -210,8 +205,7 @@ not-coming_c {w} config log mail request s sys c n h let_ acked = go (s.link c).
     each Release i rest first own =
         rendered_release w c i source s
         (differ i (holds-first Release (s.link c).c rest (packet Release i) (λ j. shown Release c (s.block j)) first
-        refl (h.invariant.transfers c Release refl))
-        ((s.block i).release_source c == source) refl)
+        refl (h.invariant.transfers c Release refl)) ((s.block i).release_source c == source) refl)
     each k i rest first own = absurd cc
 
     go : (xs : List Packet) → (s.link c).c ≡ xs → IsCarried rest_now (map (message_of mail s c) (s.link c).c)
@@ -230,21 +224,20 @@ not-coming_c {w} config log mail request s sys c n h let_ acked = go (s.link c).
         (each x.kind x.number xs first (own_kind (is_caching config) s c Channel.C x.kind x.number xs h.invariant
         first))
 
-flow-ack : {w : ℕ} (config : Config) (log : Log w) (mail : AccessMessages w) (request : ℕ → MessageA w)
-    (s : State (List ℕ)) (sys : System w) (c n : ℕ)
-    → SimulationRelation config log mail request s sys → MonitorRelations log mail s sys
-    → s.lets c ((s.block n).release_source c) ≡ Some n → is_acked ((s.block n).pair c).letting ≡ true
-    → unfinished Channel.D (sys.clients c).past ≡ []
+flow-ack : {w : ℕ} {config : Config} {log : Log w} {mail : AccessMessages w} {request : ℕ → MessageA w}
+    {s : State (List ℕ)} {sys : System w} (c n : ℕ) → SimulationRelation config log mail request s sys
+    → MonitorRelations log mail s sys → s.lets c ((s.block n).release_source c) ≡ Some n
+    → is_acked ((s.block n).pair c).letting ≡ true → unfinished Channel.D (sys.clients c).past ≡ []
     → broken_in_order config.profile (beat_of (Message.D (ack_message ((s.block n).release_source c))) 0) (flow c log)
     ≡ None
-flow-ack {w} config log mail request s sys c n h flowed let_ acked whole =
+flow-ack {w} {config} {log} {mail} {request} {s} {sys} c n h flowed let_ acked whole =
     let source = (s.block n).release_source c in
     let rest = unfinished Channel.C (on_link c sys.manager.trace) in
     let live : pending (ReleaseSource source) (flow c log) ≡ true =
     cc ((flowed c).release_sources source, let_, let_acked ((s.block n).pair c).letting source rest acked) in
     ack-legal config.profile (d_beat_of (ack_message source) 0) (flow c log) ((flowed c).rest_is Channel.D ∙ whole)
-    (ap (λ (b : List (Beat w)). comes_in_release source b) ((flowed c).rest_is Channel.C) ∙ not-coming_c config log mail
-    request s sys c n h let_ acked)
+    (ap (λ (b : List (Beat w)). comes_in_release source b) ((flowed c).rest_is Channel.C) ∙ not-coming_c
+    c n h let_ acked)
     refl live
     ((flowed c).sizes source n let_ live)
   where
@@ -256,24 +249,22 @@ flow-ack {w} config log mail request s sys c n h flowed let_ acked whole =
 -- ---- all of channel D
 
 -- each beat of a response, where its first breaks no rule
-legal_next : {w : ℕ} (config : Config) (log : Log w) (mail : AccessMessages w) (request : ℕ → MessageA w)
-    (s : State (List ℕ)) (sys : System w) (c : ℕ) (m : MessageD w)
-    (ms : List (Message w)) (x : Beat w) (queue : List (Beat w))
-    → SimulationRelation config log mail request s sys → MonitorRelations log mail s sys
+legal_next : {w : ℕ} {config : Config} {log : Log w} {mail : AccessMessages w} {request : ℕ → MessageA w}
+    {s : State (List ℕ)} {sys : System w} (c : ℕ) (m : MessageD w) {ms : List (Message w)} {x : Beat w}
+    {queue : List (Beat w)} → SimulationRelation config log mail request s sys → MonitorRelations log mail s sys
     → IsNext x (unfinished Channel.D (sys.clients c).past) (Message.D m) ms queue
     → (unfinished Channel.D (sys.clients c).past ≡ [] → broken_in_order config.profile (beat_of (Message.D m) 0)
     (flow c log) ≡ None) → broken_in_order config.profile x (flow c log) ≡ None
-legal_next {w} config log mail request s sys c m ms x queue h flowed next first =
+legal_next {w} {config} {log} c m h flowed next first =
     let rest_is = (flowed c).rest_is Channel.D in
     ap (λ (y : Beat w). broken_in_order config.profile y (flow c log)) next.beat_is ∙ next-legal config.profile m next.k
     (flow c log) (rest_is ∙ next.rest_is) (λ whole. first (sym rest_is ∙ whole))
 
-legal_d : {w : ℕ} (config : Config) (log : Log w) (mail : AccessMessages w) (request : ℕ → MessageA w)
-    (s : State (List ℕ)) (sys : System w) (c : ℕ) (x : Beat w)
-    (queue : List (Beat w)) → IsWidth w → SimulationRelation config log mail request s sys
-    → MonitorRelations log mail s sys
+legal_d : {w : ℕ} {config : Config} {log : Log w} {mail : AccessMessages w} {request : ℕ → MessageA w}
+    {s : State (List ℕ)} {sys : System w} (c : ℕ) (x : Beat w) (queue : List (Beat w)) → IsWidth w
+    → SimulationRelation config log mail request s sys → MonitorRelations log mail s sys
     → sys.channels c Channel.D ≡ x ∷ queue → broken_in_order config.profile x (flow c log) ≡ None
-legal_d {w} config log mail request s sys c x queue width h flowed beats =
+legal_d {w} {config} {log} {mail} {request} {s} {sys} c x queue width h flowed beats =
     go first.kind first.number first.tokens first.own first.next
   where
     first : IsFirst Channel.D c mail s sys x queue
@@ -295,28 +286,25 @@ legal_d {w} config log mail request s sys c x queue width h flowed beats =
         → broken_in_order config.profile x (flow c log) ≡ None
     answer i tokens next =
         let due = answer-due (is_caching config) c i first.rest mail s h.invariant (h.answered c i) tokens in
-        legal_next config log mail request s sys c due.answer ms x queue h flowed
+        legal_next c due.answer h flowed
         (subst (λ (m : Message w). IsNext x rest_now m ms queue) due.answer_is next)
-        (flow-answer config log mail request s sys c i h flowed due)
+        (flow-answer h flowed due)
 
     grant : (n : ℕ) → (s.link c).d ≡ packet Grant n ∷ first.rest
         → IsNext x rest_now (block_message Grant c n (s.block n)) ms queue
         → broken_in_order config.profile x (flow c log) ≡ None
     grant n tokens next =
         let due = grant-due (is_caching config) c n first.rest s h.invariant tokens in
-        legal_next config log mail request s sys c (grant_message due.data_too due.k ((s.block n).source c)
-        (s.block n).tracker (s.block n).truth) ms x queue h flowed
+        legal_next c (grant_message due.data_too due.k ((s.block n).source c)
+        (s.block n).tracker (s.block n).truth) h flowed
         (subst (λ (m : Message w). IsNext x rest_now m ms queue) (grant-rendered c n s due) next)
-        (flow-grant config log mail request s sys c n h flowed due (given n due))
+        (flow-grant h flowed due (given n due))
 
     ack : (n : ℕ) → (s.link c).d ≡ packet ReleaseAck n ∷ first.rest
         → IsNext x rest_now (block_message ReleaseAck c n (s.block n)) ms queue
         → broken_in_order config.profile x (flow c log) ≡ None
-    ack n tokens next =
-        legal_next config log mail request s sys c (ack_message ((s.block n).release_source c)) ms x queue h flowed
-        (ack_next c n s x rest_now ms queue next)
-        (flow-ack config log mail request s sys c n h flowed (ack-due (is_caching config) c n first.rest s h.invariant
-        tokens)
+    ack n tokens next = legal_next c (ack_message ((s.block n).release_source c)) h flowed (ack_next c n s next)
+        (flow-ack c n h flowed (ack-due c n first.rest h.invariant tokens)
         (holds-first ReleaseAck (s.link c).d first.rest (packet ReleaseAck n) (λ i. shown ReleaseAck c (s.block i))
         tokens refl (h.invariant.transfers c ReleaseAck refl)))
 
@@ -333,12 +321,11 @@ in_order : {w : ℕ} (l : Level) (p : Profile) (x : Beat w) (t : History w) → 
 unfolding broken_after
 in_order l p x t lawful order = rw lawful order
 
-pub flows-d : {w : ℕ} (config : Config) (log : Log w) (mail : AccessMessages w) (request : ℕ → MessageA w)
-    (s : State (List ℕ)) (sys : System w) (c : ℕ) (l : Level)
-    (x : Beat w) (queue : List (Beat w)) → IsWidth w → SimulationRelation config log mail request s sys
-    → MonitorRelations log mail s sys
-    → sys.channels c Channel.D ≡ x ∷ queue → level_of config c ≡ Some l
-    → broken_after l config.profile x (flow c log) ≡ None
-flows-d config log mail request s sys c l x queue width h flowed beats level =
-    in_order l config.profile x (flow c log) (lawful-beat config log mail request s sys c Channel.D l x queue h beats
-    level) (legal_d config log mail request s sys c x queue width h flowed beats)
+pub flows-d : {w : ℕ} {config : Config} {log : Log w} {mail : AccessMessages w} {request : ℕ → MessageA w}
+    {s : State (List ℕ)} {sys : System w} (c : ℕ) (l : Level) (x : Beat w) (queue : List (Beat w)) → IsWidth w
+    → SimulationRelation config log mail request s sys → MonitorRelations log mail s sys
+    → sys.channels c Channel.D ≡ x ∷ queue → level_of config c ≡ Some l → broken_after l config.profile x (flow c log)
+    ≡ None
+flows-d {config} {log} {mail} {request} {s} {sys} c l x queue width h flowed beats level =
+    in_order l config.profile x (flow c log) (lawful-beat c Channel.D l x queue h beats
+    level) (legal_d c x queue width h flowed beats)

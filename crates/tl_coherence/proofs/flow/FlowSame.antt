@@ -26,10 +26,10 @@ pub record IsUntouched {w : ℕ} {X : Type 0} (asked asked' : ℕ → Option (Be
   pub trackers : (n : ℕ) → granted_by c n asked (rest Channel.D) (s.block n) ≡ true
       → (s'.block n).tracker ≡ (s.block n).tracker
 
-pub flowed-untouched : {w : ℕ} {X : Type 0} (asked asked' : ℕ → Option (BeatA w)) (rest : Channel → List (Beat w))
-    (c : ℕ) (s s' : State X) (t : History w)
+pub flowed-untouched : {w : ℕ} {X : Type 0} {asked asked' : ℕ → Option (BeatA w)} {rest : Channel → List (Beat w)}
+    {c : ℕ} {s s' : State X} {t : History w}
     → IsUntouched asked asked' rest c s s' → MonitorRelation asked rest c s t → MonitorRelation asked' rest c s' t
-flowed-untouched asked asked' rest c s s' t is before = record {
+flowed-untouched is before = record {
   rest_is = before.rest_is;
   held_is = λ n. before.held_is n ∙ sym (is.held_is n);
   requests = λ i. before.requests i ∙ sym (is.requests i);
@@ -47,10 +47,11 @@ flowed-untouched asked asked' rest c s s' t is before = record {
 }
 
 -- and what each channel's receiver has of the first message is given in another way
-pub flowed-rests : {w : ℕ} {X : Type 0} (asked : ℕ → Option (BeatA w)) (rest rest' : Channel → List (Beat w)) (c : ℕ)
-    (s : State X) (t : History w)
+pub flowed-rests : {w : ℕ} {X : Type 0} {asked : ℕ → Option (BeatA w)} {rest : Channel → List (Beat w)} (rest' : Channel
+    → List (Beat w)) {c : ℕ}
+    {s : State X} {t : History w}
     → ((ch : Channel) → rest' ch ≡ rest ch) → MonitorRelation asked rest c s t → MonitorRelation asked rest' c s t
-flowed-rests {w} asked rest rest' c s t same before = record {
+flowed-rests {w} {asked} rest' {c} {s} same before = record {
   rest_is = λ ch. before.rest_is ch ∙ sym (same ch);
   held_is = before.held_is;
   requests = λ i. cc (before.requests i, same Channel.A);

@@ -23,10 +23,10 @@ sunk-as c i rest (Some n) s s' same = same n
 abbrev pub IsWithin : ℕ → Option ℕ → Type 0
 IsWithin n o = (o ≡ None) ⊎ (o ≡ Some n)
 
-unsunk : {w : ℕ} {X : Type 0} (c i n : ℕ) (rest : List (Beat w)) (o : Option ℕ) (s : State X) → IsWithin n o
+unsunk : {w : ℕ} {X : Type 0} (c i : ℕ) {n : ℕ} (rest : List (Beat w)) {o : Option ℕ} (s : State X) → IsWithin n o
     → (o ≡ Some n → sunk_in c i rest (s.block n) ≡ false) → is_sunk c i rest o s ≡ false
-unsunk c i n rest o s (inl e) none = ap (λ (p : Option ℕ). is_sunk c i rest p s) e
-unsunk c i n rest o s (inr e) none = ap (λ (p : Option ℕ). is_sunk c i rest p s) e ∙ none e
+unsunk c i rest s (inl e) none = ap (λ (p : Option ℕ). is_sunk c i rest p s) e
+unsunk c i rest s (inr e) none = ap (λ (p : Option ℕ). is_sunk c i rest p s) e ∙ none e
 
 -- block n isn't one of the client's Grants before, nor afterwards
 pub sunk-elsewhere : {w : ℕ} {X : Type 0} (c i n : ℕ) (rest : List (Beat w)) (o o' : Option ℕ) (s s' : State X)
@@ -34,7 +34,7 @@ pub sunk-elsewhere : {w : ℕ} {X : Type 0} (c i n : ℕ) (rest : List (Beat w))
     → (o ≡ Some n → sunk_in c i rest (s.block n) ≡ false) → (o' ≡ Some n → sunk_in c i rest (s'.block n) ≡ false)
     → is_sunk c i rest o' s' ≡ is_sunk c i rest o s
 sunk-elsewhere c i n rest o o' s s' same (inr both) before now =
-    unsunk c i n rest o' s' both.1 now ∙ sym (unsunk c i n rest o s both.0 before)
+    unsunk c i rest s' both.1 now ∙ sym (unsunk c i rest s both.0 before)
 sunk-elsewhere {w} {X} c i n rest o o' s s' same (inl e) before now = cc (e, go o before (λ f. now (e ∙ f)))
   where
     go : (p : Option ℕ) → (p ≡ Some n → sunk_in c i rest (s.block n) ≡ false)
@@ -60,8 +60,7 @@ tracked-new n tracker tracked free i = elim (cases_eq i tracker) [
 ]
 
 pub tracked-free : (n tracker : ℕ) (tracked : ℕ → Option ℕ) → tracked tracker ≡ Some n → (i : ℕ)
-    → (set tracker None tracked i ≡ tracked i)
-    ⊎ (IsWithin n (tracked i) × IsWithin n (set tracker None tracked i))
+    → (set tracker None tracked i ≡ tracked i) ⊎ (IsWithin n (tracked i) × IsWithin n (set tracker None tracked i))
 tracked-free n tracker tracked used i = elim (cases_eq i tracker) [
   | inl same ↦ inr (
     inr (ap tracked same ∙ used),

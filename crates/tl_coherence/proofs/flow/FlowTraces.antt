@@ -9,10 +9,9 @@ use Rattle.std.proofs.lemmas.List.{append-nil, reverse-append, reverse-reverse}
 use Rattle.tl_beat.specs.declared.beat.Link.{Link}
 use Rattle.tl_params.{specs.declared.config.ClientConfig.ClientConfig, specs.declared.rule.Rule.Rule}
 use Rattle.tl_rules.specs.statement.Conformance.{Trace, broken_at_level, broken_on_link, fault_from, is_legal}
-use Rattle.tl_client.specs.statement.Endpoint.{EndConfig}
 use Rattle.tl_coherence.specs.{declared.event.Event.Event, declared.event.Outcome.Outcome, statement.Delivery.Faultless}
 use Rattle.tl_coherence.specs.{statement.Delivery.levels_of, statement.Draining.is_moving, statement.Headline.IsGiven}
-use Rattle.tl_coherence.specs.{statement.Log.IsLog, statement.Log.system_after, statement.System.terms_at}
+use Rattle.tl_coherence.specs.{statement.Log.IsLog, statement.Log.system_after}
 use Rattle.tl_coherence.specs.declared.event.Event.TheVariants.{Ask, Deliver}
 use Rattle.tl_coherence.specs.statement.Flow.{taken_at, taken_on, trace_of}
 use Rattle.tl_coherence.proofs.{bound.Settling.given-before, flow.Flows.flows, outstanding.Outstanding.first-moved}
@@ -57,8 +56,7 @@ pub record IsLevelled (config : Config) (link : ℕ) : Type 0 where
   pub in_levels : slice_get (levels_of config) link ≡ Some level
 
 pub levelled : {w : ℕ} (config : Config) (log : Log w) (link : Link) (ch : Channel) (o : Outcome w)
-    → IsGiven config ((Deliver link ch, o) ∷ log) → is_moving o ≡ true
-    → IsLevelled config link.0
+    → IsGiven config ((Deliver link ch, o) ∷ log) → is_moving o ≡ true → IsLevelled config link.0
 unfolding IsLog
 levelled {w} config log link ch o given moving =
     let first = first-moved config link ch (system_after config log) (ap is_moving (sym given.is_log.0) ∙ moving) in
@@ -120,7 +118,8 @@ all-good config ((Ask client op, o) ∷ log) given =
     all-good config log (given-before config (Ask client op, o) log given)
 all-good config ((Deliver link ch, Outcome.Moved x) ∷ log) given = (
   delivered-unbroken config log link ch (Outcome.Moved x) x given refl (taken link x (flow link.0 log)),
-  all-good config log (given-before config (Deliver link ch, Outcome.Moved x) log given),
+  all-good
+      config log (given-before config (Deliver link ch, Outcome.Moved x) log given),
 )
 all-good config ((Deliver link ch, Outcome.Done x source f) ∷ log) given = (
   delivered-unbroken config log link ch (Outcome.Done x source f) x given refl (taken link x (flow link.0 log)),
@@ -136,8 +135,6 @@ all-good config ((Deliver link ch, Outcome.NoSuchClient) ∷ log) given =
     all-good config log (given-before config (Deliver link ch, Outcome.NoSuchClient) log given)
 
 pub faultless : {w : ℕ} → Faultless w
-faultless {w} config log given =
-    no-fault (levels_of config) config.profile [] (reverse (trace_of log))
+faultless {w} config log given = no-fault (levels_of config) config.profile [] (reverse (trace_of log))
     (subst (AreGood (levels_of config) config.profile)
-    (sym (append-nil (reverse (reverse (trace_of log))) ∙ reverse-reverse (trace_of log)))
-    (all-good config log given))
+    (sym (append-nil (reverse (reverse (trace_of log))) ∙ reverse-reverse (trace_of log))) (all-good config log given))

@@ -14,12 +14,12 @@ use Rattle.tl_client.{proofs.endpoint.Outstanding.unfinished-asked}
 use Rattle.tl_client.specs.statement.Ask as ask
 use Rattle.tl_coherence.specs.{declared.event.Event.Event, declared.event.Outcome.Outcome, statement.Draining.is_moving}
 use Rattle.tl_coherence.specs.{statement.Headline.AreTyped, statement.Headline.IsGiven, statement.Log.IsLog}
-use Rattle.tl_coherence.specs.{statement.Log.system_after, statement.OneMemory.one_memory_after, protocol.Protocol.on}
+use Rattle.tl_coherence.specs.{statement.Log.system_after, protocol.Protocol.on}
 use Rattle.tl_coherence.specs.{statement.System.terms_at}
 use Rattle.tl_coherence.specs.declared.event.Event.TheVariants.{Ask, Deliver}
 use Rattle.tl_coherence.specs.refinement.AbstractStep.{abstract_step, abstract_step_by, asked}
 use Rattle.tl_coherence.specs.statement.Step.{Step, stepped, replied, is_to_client}
-use Rattle.tl_coherence.proofs.{deliveries.AskedWell.IsAskedWell, deliveries.AskedWell.asked-well}
+use Rattle.tl_coherence.proofs.{deliveries.AskedWell.asked-well}
 use Rattle.tl_coherence.proofs.{client.ManagerStep.on_same, links.FifoOfChannels.flow_still, flow.FlowAlone.AreRests}
 use Rattle.tl_coherence.proofs.{flow.FlowAsking.flowed-asked, flow.FlowKinds.FlowsAs, flow.FlowKinds.other-kind}
 use Rattle.tl_coherence.proofs.{flow.FlowOwn.own-kind, flow.FlowLawful.flows-b, flow.FlowLawful.flows-c}
@@ -40,19 +40,16 @@ use Rattle.tl_coherence.proofs.deliveries.Matching.{shadow, matched, stepped-nob
 abbrev AreFlowedAfter : {w : ℕ} → Config → Log w → Event w → AbstractState w → Type 0
 AreFlowedAfter config log event h =
     MonitorRelations ((event, (stepped config event (system_after config log)).outcome) ∷ log)
-    (abstract_step config event (system_after config log) h).mail
-    (abstract_step config event (system_after config log) h).state
-    (stepped config event (system_after config log)).after
+    (abstract_step config event (system_after config log) h).mail (abstract_step config event (system_after config log)
+    h).state (stepped config event (system_after config log)).after
 
-moved-flowed : {w : ℕ} (config : Config) (log : Log w) (link : Link) (ch : Channel) (h : AbstractState w) (x : Beat w)
-    (queue : List (Beat w)) → IsWidth w
-    → SimulationRelation config log h.mail h.request h.state (system_after config log)
-    → MonitorRelations log h.mail h.state (system_after config log)
+moved-flowed : {w : ℕ} {config : Config} {log : Log w} {link : Link} {ch : Channel} {h : AbstractState w} {x : Beat w}
+    {queue : List (Beat w)} → IsWidth w → SimulationRelation config log h.mail h.request h.state
+    (system_after config log) → MonitorRelations log h.mail h.state (system_after config log)
     → (system_after config log).channels link.0 ch ≡ x ∷ queue
     → is_moving (stepped config (Deliver link ch) (system_after config log)).outcome ≡ true
-    → IsMovedOn config log link ch h x queue
-    → AreFlowedAfter config log (Deliver link ch) h
-moved-flowed {w} config log link ch h x queue width is flowed beats moving at d =
+    → IsMovedOn config log link ch h x queue → AreFlowedAfter config log (Deliver link ch) h
+moved-flowed {w} {config} {log} {link} {ch} {h} {x} {queue} width is flowed beats moving at d =
     let Here : AbstractState w → History w → Type 0 = λ z t. MonitorRelation (asked_by z.mail z.state d)
     (unfinished_at sys' d) d z.state t in
     subst (λ (z : AbstractState w). Here z
@@ -88,24 +85,20 @@ moved-flowed {w} config log link ch h x queue width is flowed beats moving at d 
 
     own : MonitorRelation (asked_by h'.mail h'.state c) (unfinished_at sys' c) c h'.state
         (if c == c then x ∷ flow c log else flow c log)
-    own =
-        subst (λ (b : Bool). MonitorRelation (asked_by h'.mail h'.state c) (unfinished_at sys' c) c h'.state
+    own = subst (λ (b : Bool). MonitorRelation (asked_by h'.mail h'.state c) (unfinished_at sys' c) c h'.state
         (if b then x ∷ flow c log else flow c log)) (sym (same_number c))
         (own-kind config log h sys c width is (next_tracker sys) (flow c log) (flowed c) (unfinished_at sys' c)
-        at.first.number at.first.rest x
-        (map (message_of h.mail h.state c) at.first.rest) queue rests ch at.first.kind at.first.own at.first.tokens
-        at.first.next last refl ready)
+        at.first.number at.first.rest x (map (message_of h.mail h.state c) at.first.rest) queue rests ch at.first.kind
+        at.first.own at.first.tokens at.first.next last refl ready)
       where
         rests : AreRests x (unfinished_at sys c) (unfinished_at sys' c)
         rests i = cc (at.rests c i, same_number c, at.on_ch i)
 
     others : (d ≡ c → ⊥) → MonitorRelation (asked_by h'.mail h'.state d) (unfinished_at sys' d) d h'.state
         (if c == d then x ∷ flow d log else flow d log)
-    others ne =
-        subst (λ (b : Bool). MonitorRelation (asked_by h'.mail h'.state d) (unfinished_at sys' d) d h'.state
+    others ne = subst (λ (b : Bool). MonitorRelation (asked_by h'.mail h'.state d) (unfinished_at sys' d) d h'.state
         (if b then x ∷ flow d log else flow d log)) (sym (ne_eqb c d (λ e. ne (sym e))))
-        (flowed-rests (asked_by h'.mail h'.state d) (unfinished_at sys d) (unfinished_at sys' d) d h'.state (flow d log)
-        rests (either last refl))
+        (flowed-rests (unfinished_at sys' d) rests (either last refl))
       where
         rests : (i : Channel) → unfinished_at sys' d i ≡ unfinished_at sys d i
         rests i = cc (at.rests d i, ne_eqb d c ne)
@@ -116,12 +109,10 @@ moved-flowed {w} config log link ch h x queue width is flowed beats moving at d 
             at.first.number at.first.rest on_kind (ready e) (flowed d)
         either false e = flowed d
 
-delivered-flowed : {w : ℕ} (config : Config) (log : Log w) (link : Link) (ch : Channel) (h : AbstractState w)
-    → IsWidth w
-    → SimulationRelation config log h.mail h.request h.state (system_after config log)
-    → MonitorRelations log h.mail h.state (system_after config log)
-    → AreFlowedAfter config log (Deliver link ch) h
-delivered-flowed {w} config log link ch h width is flowed =
+delivered-flowed : {w : ℕ} {config : Config} {log : Log w} (link : Link) (ch : Channel) (h : AbstractState w)
+    → IsWidth w → SimulationRelation config log h.mail h.request h.state (system_after config log)
+    → MonitorRelations log h.mail h.state (system_after config log) → AreFlowedAfter config log (Deliver link ch) h
+delivered-flowed {w} {config} {log} link ch h width is flowed =
     go (is_moving (stepped config (Deliver link ch) sys).outcome) refl
   where
     sys : System w
@@ -131,27 +122,24 @@ delivered-flowed {w} config log link ch h width is flowed =
         → AreFlowedAfter config log (Deliver link ch) h
     go true moving =
         let at = first-moved config link ch sys moving in
-        moved-flowed config log link ch h at.0 at.1 width is flowed at.3.0 moving
-        (moved-on config log link ch h at.0 at.1 at.2 width is at.3.0 at.3.1 moving (is_to_client ch) refl)
-    go false still =
-        λ d. subst (λ (z : AbstractState w). MonitorRelation (asked_by z.mail z.state d)
+        moved-flowed width is flowed at.3.0 moving
+        (moved-on link ch h at.0 at.1 at.2 width is at.3.0 at.3.1 moving (is_to_client ch) refl)
+    go false still = λ d. subst (λ (z : AbstractState w). MonitorRelation (asked_by z.mail z.state d)
         (unfinished_at (stepped config (Deliver link ch) sys).after d) d z.state
         (flow d ((Deliver link ch, (stepped config (Deliver link ch) sys).outcome) ∷ log)))
         (sym (followed-still config link ch sys h still))
         (subst (λ (t : History w). MonitorRelation (asked_by h.mail h.state d)
         (unfinished_at (stepped config (Deliver link ch) sys).after d) d h.state t)
         (sym (flow_still (Deliver link ch) (stepped config (Deliver link ch) sys).outcome log d still))
-        (flowed-rests (asked_by h.mail h.state d) (unfinished_at sys d)
-        (unfinished_at (stepped config (Deliver link ch) sys).after d) d h.state (flow d log)
+        (flowed-rests (unfinished_at (stepped config (Deliver link ch) sys).after d)
         (λ i. (unmoved config link ch sys still).rests d i) (flowed d)))
 
 -- ---- and after a client was asked
 
-asked-flowed : {w : ℕ} (config : Config) (log : Log w) (c : ℕ) (o : Op w) (h : AbstractState w) → IsWidth w
+asked-flowed : {w : ℕ} {config : Config} {log : Log w} (c : ℕ) (o : Op w) (h : AbstractState w) → IsWidth w
     → SimulationRelation config log h.mail h.request h.state (system_after config log)
-    → MonitorRelations log h.mail h.state (system_after config log)
-    → AreFlowedAfter config log (Ask c o) h
-asked-flowed {w} config log c o h width is flowed = go (terms_at config c) refl
+    → MonitorRelations log h.mail h.state (system_after config log) → AreFlowedAfter config log (Ask c o) h
+asked-flowed {w} {config} {log} c o h width is flowed = go (terms_at config c) refl
   where
     sys : System w
     sys = system_after config log
@@ -170,16 +158,16 @@ asked-flowed {w} config log c o h width is flowed = go (terms_at config c) refl
         let well = asked-well config log h sys c terms o width is known in
         subst After (sym (stepped-asked config c o sys terms known)) (λ d. subst (λ (t : History w). MonitorRelation
         (asked_by h'.mail h'.state d) (unfinished_at (replied c a sys).after d) d h'.state t) (sym (flow_still (Ask
-        c o) (Outcome.Replied a.reply) log d refl)) (flowed-rests (asked_by h'.mail h'.state d) (unfinished_at sys
-        d) (unfinished_at (replied c a sys).after d) d h'.state (flow d log) (λ i. (handed-client c a.message
+        c o) (Outcome.Replied a.reply) log d refl)) (flowed-rests
+        (unfinished_at (replied c a sys).after d) (λ i. (handed-client c a.message
         a.after sys (λ j. unfinished-asked terms o (sys.clients c) j width (is.kept c))).rests d i) (flowed-asked
         config log h sys c width is d (flow d log) o a.reply well.reply well.may (flowed d))))
 
-flowed-event : {w : ℕ} (config : Config) (log : Log w) (event : Event w) (h : AbstractState w) → IsWidth w
+flowed-event : {w : ℕ} {config : Config} {log : Log w} (event : Event w) (h : AbstractState w) → IsWidth w
     → SimulationRelation config log h.mail h.request h.state (system_after config log)
     → MonitorRelations log h.mail h.state (system_after config log) → AreFlowedAfter config log event h
-flowed-event config log (Ask c o) h width is flowed = asked-flowed config log c o h width is flowed
-flowed-event config log (Deliver link ch) h width is flowed = delivered-flowed config log link ch h width is flowed
+flowed-event {config} {log} (Ask c o) h width is flowed = asked-flowed c o h width is flowed
+flowed-event {config} {log} (Deliver link ch) h width is flowed = delivered-flowed link ch h width is flowed
 
 -- what is delivered on each link has the values of the protocol after every log
 pub flowed : {w : ℕ} (config : Config) (log : Log w) → IsWidth w → AreTyped log → IsLog config log
@@ -192,7 +180,7 @@ flowed {w} config (x ∷ log) width typed is =
     let h' : AbstractState w = abstract_step config x.0 sys h in
     subst (λ (o : Outcome w). MonitorRelations ((x.0, o) ∷ log) h'.mail h'.state (stepped config x.0 sys).after)
     (sym is.0)
-    (flowed-event config log x.0 h width (matched config log width typed.1 is.1) (flowed config log width typed.1 is.1))
+    (flowed-event x.0 h width (matched config log width typed.1 is.1) (flowed config log width typed.1 is.1))
 
 -- ---- no rule is broken
 
@@ -202,25 +190,23 @@ unfolding is_legal
 legal_more l p x t e f = rw (e, f) refl
 
 -- nor by a beat of any channel that is moved
-unbroken : {w : ℕ} (config : Config) (log : Log w) (h : AbstractState w) (link : Link) (ch : Channel) (l : Level)
-    (x : Beat w) (queue : List (Beat w)) → IsWidth w
-    → SimulationRelation config log h.mail h.request h.state (system_after config log)
-    → MonitorRelations log h.mail h.state (system_after config log)
+unbroken : {w : ℕ} {config : Config} {log : Log w} (h : AbstractState w) (link : Link) (ch : Channel) (l : Level)
+    (x : Beat w) (queue : List (Beat w)) → IsWidth w → SimulationRelation config log h.mail h.request h.state
+    (system_after config log) → MonitorRelations log h.mail h.state (system_after config log)
     → is_moving (stepped config (Deliver link ch) (system_after config log)).outcome ≡ true
-    → (system_after config log).channels link.0 ch ≡ x ∷ queue
-    → level_of config link.0 ≡ Some l → broken_after l config.profile x (flow link.0 log) ≡ None
-unbroken config log h link Channel.A l x queue width is values moving beats level =
-    flows-a config log h.mail h.request h.state (system_after config log) link.0 l x queue width is values beats level
-    (request-moves config log h.mail h.request h.state (system_after config log) link x queue is moving beats
-    (arrival-first config log h (system_after config log) link.0 x queue width is beats))
-unbroken config log h link Channel.B l x queue width is values moving beats level =
-    flows-b config log h.mail h.request h.state (system_after config log) link.0 l x queue width is values beats level
-unbroken config log h link Channel.C l x queue width is values moving beats level =
-    flows-c config log h.mail h.request h.state (system_after config log) link.0 l x queue width is values beats level
-unbroken config log h link Channel.D l x queue width is values moving beats level =
-    flows-d config log h.mail h.request h.state (system_after config log) link.0 l x queue width is values beats level
-unbroken config log h link Channel.E l x queue width is values moving beats level =
-    flows-e config log h.mail h.request h.state (system_after config log) link.0 l x queue width is values beats level
+    → (system_after config log).channels link.0 ch ≡ x ∷ queue → level_of config link.0 ≡ Some l
+    → broken_after l config.profile x (flow link.0 log) ≡ None
+unbroken {config} {log} h link Channel.A l x queue width is values moving beats level =
+    flows-a link.0 l x queue width is values beats level
+    (request-moves link is moving beats (arrival-first h link.0 x queue width is beats))
+unbroken {config} {log} h link Channel.B l x queue width is values moving beats level =
+    flows-b link.0 l x queue width is values beats level
+unbroken {config} {log} h link Channel.C l x queue width is values moving beats level =
+    flows-c link.0 l x queue width is values beats level
+unbroken {config} {log} h link Channel.D l x queue width is values moving beats level =
+    flows-d link.0 l x queue width is values beats level
+unbroken {config} {log} h link Channel.E l x queue width is values moving beats level =
+    flows-e link.0 l x queue width is values beats level
 
 -- who is asked moves no beat
 pub asked-still : {w : ℕ} (config : Config) (log : Log w) (c : ℕ) (o : Op w)
@@ -232,17 +218,16 @@ asked-still {w} config log c o = go (terms_at config c) refl
     go None none = cc (stepped-nobody config (Ask c o) (system_after config log) none)
     go (Some terms) known = cc (stepped-asked config c o (system_after config log) terms known)
 
-legal-event : {w : ℕ} (config : Config) (log : Log w) (h : AbstractState w) (event : Event w) (d : ℕ) (l : Level)
-    → IsWidth w
-    → SimulationRelation config log h.mail h.request h.state (system_after config log)
-    → MonitorRelations log h.mail h.state (system_after config log)
-    → level_of config d ≡ Some l → is_legal l config.profile (flow d log) ≡ true
+legal-event : {w : ℕ} {config : Config} {log : Log w} (h : AbstractState w) (event : Event w) (d : ℕ) (l : Level)
+    → IsWidth w → SimulationRelation config log h.mail h.request h.state (system_after config log)
+    → MonitorRelations log h.mail h.state (system_after config log) → level_of config d ≡ Some l
+    → is_legal l config.profile (flow d log) ≡ true
     → is_legal l config.profile (flow d ((event, (stepped config event (system_after config log)).outcome) ∷ log))
     ≡ true
-legal-event {w} config log h (Ask c o) d l width is values level legal =
+legal-event {w} {config} {log} h (Ask c o) d l width is values level legal =
     ap (is_legal l config.profile) (flow_still (Ask c o) (stepped config (Ask c o) (system_after config log)).outcome
     log d (asked-still config log c o)) ∙ legal
-legal-event {w} config log h (Deliver link ch) d l width is values level legal =
+legal-event {w} {config} {log} h (Deliver link ch) d l width is values level legal =
     go (is_moving (stepped config (Deliver link ch) sys).outcome) refl
   where
     sys : System w
@@ -259,12 +244,12 @@ legal-event {w} config log h (Deliver link ch) d l width is values level legal =
     go true moving =
         let at = first-moved config link ch sys moving in
         ap (is_legal l config.profile)
-        ((moved-on config log link ch h at.0 at.1 at.2 width is at.3.0 at.3.1 moving (is_to_client ch)
+        ((moved-on link ch h at.0 at.1 at.2 width is at.3.0 at.3.1 moving (is_to_client ch)
         refl).delivered d)
         ∙ with_beat at.0 (link.0 == d) (λ same.
         let here : link.0 ≡ d = eqb-true link.0 d same in
         subst (λ (i : ℕ). broken_after l config.profile at.0 (flow i log) ≡ None) here
-        (unbroken config log h link ch l at.0 at.1 width is values moving at.3.0
+        (unbroken h link ch l at.0 at.1 width is values moving at.3.0
         (ap (level_of config) here ∙ level)))
     go false still = cc (flow_still (Deliver link ch) (stepped config (Deliver link ch) sys).outcome log d still, legal)
 
@@ -274,7 +259,7 @@ unfolding AreTyped IsLog flow is_legal
 legal config [] d l width typed is level = refl
 legal {w} config (x ∷ log) d l width typed is level =
     subst (λ (o : Outcome w). is_legal l config.profile (flow d ((x.0, o) ∷ log)) ≡ true) (sym is.0)
-    (legal-event config log (shadow config log) x.0 d l width (matched config log width typed.1 is.1)
+    (legal-event (shadow config log) x.0 d l width (matched config log width typed.1 is.1)
     (flowed config log width typed.1 is.1) level (legal config log d l width typed.1 is.1 level))
 
 -- A monitor in the middle of a link finds no fault in what is delivered there.

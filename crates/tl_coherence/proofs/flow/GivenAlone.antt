@@ -72,11 +72,11 @@ none_above Perm.Trunk Perm.Trunk e f = absurd cc
 
 -- ---- a beat of a Grant that is next on channel D
 
-given-next : {w : ℕ} (config : Config) (log : Log w) → IsGiven config log → (c : ℕ) (y : BeatD w)
+given-next : {w : ℕ} {config : Config} {log : Log w} → IsGiven config log → (c : ℕ) (y : BeatD w)
     (queue : List (Beat w)) → (system_after config log).channels c Channel.D ≡ Beat.D y ∷ queue
     → (n other : ℕ) → grants n y (flow c log) ≡ true → (other ≡ c → ⊥)
     → leaves (capped y.param) (held n (flow other log)) ≡ true
-given-next {w} config log given c y queue beats n other granted ne =
+given-next {w} {config} {log} given c y queue beats n other granted ne =
     let seen : view b.service c ≡ Granting due.data_too due.k = own_view c due.data_too due.k b.service due.service in
     let gives : capped y.param ≡ cap_right due.k = cc (grant.beat_is, cap-gives due.k) in
     let holds : held n (flow other log) ≡ (b.pair other).recorded = (values other).held_is n
@@ -129,7 +129,7 @@ given-moved {w} config log given c (Beat.D y) queue beats = λ n block begun gra
     free-where n (Some c) (capped y.param) block (trace_of log)
     (λ other. beside c other (capped y.param) (held block (on_link other (trace_of log)))
     (λ ne. subst (λ (t : History w). leaves (capped y.param) (held block t) ≡ true) (sym (trace-flows other log))
-    (given-next config log given c y queue beats block other
+    (given-next given c y queue beats block other
     (subst (λ (t : History w). grants block y t ≡ true) (trace-flows c log) granted) ne)))
 given-moved config log given c (Beat.A y) queue beats = tt
 given-moved config log given c (Beat.B y) queue beats = tt
@@ -138,8 +138,8 @@ given-moved config log given c (Beat.E y) queue beats = tt
 
 -- ---- at each moment
 
-one-writer : {w : ℕ} (config : Config) (log : Log w) → IsGiven config log → IsOneWriter (trace_of log)
-one-writer {w} config log given one other n ne trunk =
+one-writer : {w : ℕ} {config : Config} {log : Log w} → IsGiven config log → IsOneWriter (trace_of log)
+one-writer {w} {config} {log} given one other n ne trunk =
     let h : AbstractState w = shadow config log in
     let b : Block (List ℕ) = h.state.block n in
     let at = matched-given config log given in
@@ -160,5 +160,5 @@ pub apart : {w : ℕ} (config : Config) (log : Log w) → IsGiven config log →
 apart config log given = record {
   given_alone = each-taken config (λ earlier link x. IsGivenAlone link x (trace_of earlier)) (given-moved config) log
       given;
-  one_writer = one-writer config log given;
+  one_writer = one-writer given;
 }

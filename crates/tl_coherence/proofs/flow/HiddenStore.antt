@@ -57,4 +57,4 @@ hidden_stores {w} config log given c address size value stored =
         (same_perms (b.pair c).held Perm.Trunk (subst (λ (r : Reply). IsAskable (is_caching config) c store r h)
         (same_reply {w = w} (ask.asked terms store ((system_after config log).clients c)).reply Reply.Stored
         (sym (ap (λ (s : Step w). s.outcome) (stepped-asked config c store (system_after config log) terms known))
-        ∙ stored)) (askable config log h.mail h.request h.state (system_after config log) terms c store is known)))
+        ∙ stored)) (askable terms c store is known)))

@@ -18,8 +18,7 @@ use Rattle.tl_coherence.proofs.protocol.HeadOfD.{grant-rendered, grant_message, 
 
 -- the Grant of the block that is on its way to the client
 abbrev pub grant_sent : {w : ℕ} (c n : ℕ) (s : State (List ℕ)) → IsGrantDue c n s → MessageD w
-grant_sent c n s due =
-    grant_message due.data_too due.k ((s.block n).source c) (s.block n).tracker (s.block n).truth
+grant_sent c n s due = grant_message due.data_too due.k ((s.block n).source c) (s.block n).tracker (s.block n).truth
 
 -- the beat is the one at this place of the Grant of the block that is on its way to the client
 pub record IsGrantBeat {w : ℕ} (c n : ℕ) (s : State (List ℕ)) (y : BeatD w) (place : ℕ) : Type 0 where
@@ -104,13 +103,11 @@ module _ {w : ℕ} (config : Config) (log : Log w) (h : AbstractState w) (c : �
   -- a beat that grants a block is one of that block's Grant
   pub grant-next : (n : ℕ) → grants n y (flow c log) ≡ true
       → IsGrantBeat c n s y (length (unfinished Channel.D (flow c log)))
-  grant-next n granted =
-      next-on_d Of (λ i due e. not_granted (ap (λ (z : BeatD w). is_grant z.opcode) e
+  grant-next n granted = next-on_d Of (λ i due e. not_granted (ap (λ (z : BeatD w). is_grant z.opcode) e
       ∙ (access_kind due.answer.opcode due.answers_access).0))
       (λ i grant. subst (λ (j : ℕ). IsGrantBeat c j s y (length (unfinished Channel.D (flow c log))))
       (granted_block i n grant (and_right (is_grant y.opcode) (asks_for n (request_of y.source (flow c log))) granted))
-      grant)
-      (λ i k e. not_granted (ap (λ (z : BeatD w). is_grant z.opcode) e))
+      grant) (λ i k e. not_granted (ap (λ (z : BeatD w). is_grant z.opcode) e))
     where
       Of : Type 0
       Of = IsGrantBeat c n s y (length (unfinished Channel.D (flow c log)))

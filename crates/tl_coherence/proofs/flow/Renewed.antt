@@ -100,8 +100,7 @@ renewed-reply : {w : ℕ} (c k : ℕ) (m : MessageA w) (bytes : List ℕ) (h i :
     → ((d j : ℕ) → i.mail.request d j ≡ h.mail.request d j)
     → ((d j : ℕ) → i.mail.answer d j ≡ set_at c k (answers m bytes) h.mail.answer d j)
     → h.mail.request c k ≡ Message.A m → IsSettledFor m i.state
-    → answers m bytes ≡ answers m (h.state.block (block_at m.address)).truth
-    → AreRenewed h i
+    → answers m bytes ≡ answers m (h.state.block (block_at m.address)).truth → AreRenewed h i
 renewed-reply c k m bytes h i uses requests replies is settled found d j e = elim (placed c k d j) [
   | inl same ↦ inr (
     m,
@@ -157,12 +156,11 @@ kept-asked c (Op.Access (Message.E m)) r h = λ d j e. (e, (refl, refl))
 
 -- ---- messages that are taken
 
-renewed-request : {w : ℕ} (config : Config) (log : Log w) (tracker c source : ℕ) (m : MessageA w) (rest : List Packet)
-    (h : AbstractState w) (sys : System w)
-    → SimulationRelation config log h.mail h.request h.state sys → h.mail.request c source ≡ Message.A m
-    → is_acquire m.opcode ≡ false
+renewed-request : {w : ℕ} {config : Config} {log : Log w} (tracker c source : ℕ) (m : MessageA w) (rest : List Packet)
+    (h : AbstractState w) {sys : System w} → SimulationRelation config log h.mail h.request h.state sys
+    → h.mail.request c source ≡ Message.A m → is_acquire m.opcode ≡ false
     → AreRenewed h (request_taken (length config.clients.items) c source (Message.A m) tracker rest h)
-renewed-request {w} config log tracker c source m rest h sys is from access =
+renewed-request {w} {config} tracker c source m rest h is from access =
     go (probes_some clients c false (cap_probed m.opcode m.param) b.pair) (cap_probed m.opcode m.param) refl refl
   where
     clients : ℕ
@@ -180,24 +178,21 @@ renewed-request {w} config log tracker c source m rest h sys is from access =
         (set-same n (performed_block (performs m) b) h.state.block) ∙ each d
 
     go : (p : Bool) (o : Option Cap) → probes_some clients c false (cap_probed m.opcode m.param) b.pair ≡ p
-        → cap_probed m.opcode m.param ≡ o
-        → AreRenewed h (access_taken c source m tracker p o rest h)
+        → cap_probed m.opcode m.param ≡ o → AreRenewed h (access_taken c source m tracker p o rest h)
     go true (Some k) e f = renewed-set c source (InService n) h (access_taken c source m tracker true (Some k) rest h)
         (λ i. cc) (λ d j. refl) (λ d j other. (refl, refl))
     go true None e f = absurd (let no : false ≡ true = rw f at e in cc)
-    go false None e f =
-        renewed-reply c source m b.memory h (access_taken c source m tracker false None rest h) (λ d j. refl)
-        (λ d j. refl) (λ d j. refl) from
+    go false None e f = renewed-reply c source m b.memory h (access_taken c source m tracker false None rest h)
+        (λ d j. refl) (λ d j. refl) (λ d j. refl) from
         (settled (λ d. leaves_all m.opcode m.param (b.pair d).recorded access f))
         (ap (λ r. access_answer m (answer_of (Message.A m) r))
         (intent-reply m (bytes_at n b.memory) (bytes_at n b.truth) f))
-    go false (Some k) e f =
-        renewed-reply c source m b.memory h (access_taken c source m tracker false (Some k) rest h)
+    go false (Some k) e f = renewed-reply c source m b.memory h (access_taken c source m tracker false (Some k) rest h)
         (λ d j. refl) (λ d j. refl) (λ d j. refl) from
-        (settled (λ d. leaves_within m.opcode m.param k (b.pair d).recorded access f (above_le k (b.pair d).recorded
-        (unprobed clients (is_caching config) c false k b.pair (plain-past config) (is.invariant.blocks n).outside
-        (rw f at e) d refl))))
-        (ap (answers m) (memory-unprobed clients (is_caching config) c k b (plain-past config) (is.invariant.blocks n)
+        (settled (λ d. leaves_within m.opcode m.param k (b.pair d).recorded access f
+        (above_le k (b.pair d).recorded (unprobed clients (is_caching config) c false k b.pair (plain-past config)
+        (is.invariant.blocks n).outside (rw f at e) d refl))))
+        (ap (answers m) (memory-unprobed clients c k (plain-past config) (is.invariant.blocks n)
         (low_cap m.opcode m.param k f) (rw f at e)))
 
 renewed-acquire : {w : ℕ} (clients : ℕ) (p : Profile) (c n tracker : ℕ) (x : AcquirePhase) (rest : List Packet)
@@ -214,9 +209,8 @@ renewed-acquire {w} clients p c n tracker (AcquireOpen whole g) rest h =
 
     go : (x : Bool) (d j : ℕ)
         → (if x then acquire_served c n (b.source c) tracker (cap_asked (AcquireOpen whole g)) rest h.state else
-        acquire_granted c n tracker
-        (is_granted_data whole g (b.pair c).recorded) (gift p whole g (is_unheld clients b.pair)) rest h.state).uses d
-        j ≡ h.state.uses d j
+        acquire_granted c n tracker (is_granted_data whole g (b.pair c).recorded)
+        (gift p whole g (is_unheld clients b.pair)) rest h.state).uses d j ≡ h.state.uses d j
     go true d j = refl
     go false d j = refl
 
@@ -227,12 +221,12 @@ renewed-granted clients p c q n r NoAcquire rest h = renewed-same h (granted_aft
 renewed-granted clients p c q n r (AcquireOpen whole g) rest h =
     renewed-same h (granted_after clients p c q n r (AcquireOpen whole g) rest h) (λ d j. refl) (λ d j. (refl, refl))
 
-renewed-report : {w : ℕ} (config : Config) (log : Log w) (c n : ℕ) (rest : List Packet) (h : AbstractState w)
-    (sys : System w)
+renewed-report : {w : ℕ} {config : Config} {log : Log w} (c n : ℕ) (rest : List Packet) (h : AbstractState w)
+    {sys : System w}
     → SimulationRelation config log h.mail h.request h.state sys → (h.state.link c).c ≡ packet ProbeAck n ∷ rest
     → AreRenewed h (ack_taken (length config.clients.items) config.profile c n
     (report_told ((h.state.block n).pair c).probing) rest h)
-renewed-report {w} config log c n rest h sys is first =
+renewed-report {w} {config} c n rest h is first =
     others (some_below clients (λ d. not (d == c) && not (is_unprobed (b.pair d).probing))) refl
   where
     clients : ℕ
@@ -246,8 +240,7 @@ renewed-report {w} config log c n rest h sys is first =
 
     answered : (b.pair c).probing ≡ ProbeAnswered r
     answered = answered-is (b.pair c).probing (holds-first ProbeAck (h.state.link c).c rest (packet ProbeAck n)
-        (λ i. shown ProbeAck c (h.state.block i)) first refl
-        (is.invariant.transfers c ProbeAck refl))
+        (λ i. shown ProbeAck c (h.state.block i)) first refl (is.invariant.transfers c ProbeAck refl))
 
     ok_is : (d : ℕ) → ok (b.pair d) (view b.service d) ≡ true
     ok_is d = (is.invariant.blocks n).phases d
@@ -260,7 +253,7 @@ renewed-report {w} config log c n rest h sys is first =
         let with_it : IsServedWith h.mail (Waits q false source k) m = rw e at (is.served_with n) in
         let from : h.mail.request q source ≡ Message.A m = with_it in
         let for : IsFor (Waits q false source k) n m = rw e at (is.served.requests n) in
-        let told = memory-reported (is_caching config) c q source r k b (is.invariant.blocks n) e answered quiet in
+        let told = memory-reported c q source r k (is.invariant.blocks n) e answered quiet in
         let new : Block (List ℕ) = ended_block c r (performs m) b in
         let other : (d : ℕ) → view b.service d ≡ Other k = λ d. rw e refl in
         let low : (d : ℕ) → perm_le (set c (after_report r (b.pair c)) b.pair d).recorded (cap_right k) ≡ true =
@@ -291,9 +284,8 @@ renewed-report {w} config log c n rest h sys is first =
 
 renewed-grant : {w : ℕ} (c n : ℕ) (service : Service) (rest : List Packet) (h : AbstractState w)
     → AreRenewed h (taken_by_client c n service rest h)
-renewed-grant c n (GrantSent q x k) rest h =
-    renewed-set c ((h.state.block n).source c) SourceFree h (taken_by_client c n (GrantSent q x k) rest h) (λ e. cc)
-    (λ d j. refl) (λ d j other. (refl, refl))
+renewed-grant c n (GrantSent q x k) rest h = renewed-set c ((h.state.block n).source c) SourceFree h
+    (taken_by_client c n (GrantSent q x k) rest h) (λ e. cc) (λ d j. refl) (λ d j other. (refl, refl))
 renewed-grant c n service rest h = renewed-same h h (λ d j. refl) (λ d j. (refl, refl))
 
 pub renewed-kind_taken : {w : ℕ} (config : Config) (log : Log w) (tracker c : ℕ) (k : Kind) (i : ℕ) (rest : List Packet)
@@ -302,14 +294,12 @@ pub renewed-kind_taken : {w : ℕ} (config : Config) (log : Log w) (tracker c : 
     → IsReady tracker c k i h → AreRenewed h (kind_taken config tracker c k i rest h)
 renewed-kind_taken {w} config log tracker c Request i rest h sys is first ready =
     subst (λ (z : Message w). AreRenewed h (request_taken (length config.clients.items) c i z tracker rest h))
-    (sym ready.1)
-    (renewed-request config log tracker c i ready.0 rest h sys is ready.1 ready.2)
+    (sym ready.1) (renewed-request tracker c i ready.0 rest h is ready.1 ready.2)
 renewed-kind_taken config log tracker c Acquire n rest h sys is first ready =
     renewed-acquire (length config.clients.items) config.profile c n tracker ((h.state.block n).pair c).acquiring rest h
 renewed-kind_taken config log tracker c Probe n rest h sys is first ready =
     renewed-same h (kind_taken config tracker c Probe n rest h) (λ d j. refl) (λ d j. (refl, refl))
-renewed-kind_taken config log tracker c ProbeAck n rest h sys is first ready =
-    renewed-report config log c n rest h sys is first
+renewed-kind_taken config log tracker c ProbeAck n rest h sys is first ready = renewed-report c n rest h is first
 renewed-kind_taken config log tracker c Release n rest h sys is first ready =
     renewed-same h (kind_taken config tracker c Release n rest h) (λ d j. refl) (λ d j. (refl, refl))
 renewed-kind_taken config log tracker c Answer i rest h sys is first ready =

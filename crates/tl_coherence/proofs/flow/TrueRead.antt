@@ -34,8 +34,7 @@ record IsAnswered {w : ℕ} (config : Config) (m : MessageA w) (reply : Message 
 -- since the access with this source is complete there has been such an event
 unfoldable WasAnswered : {w : ℕ} → Config → ℕ → ℕ → MessageA w → Message w → Log w → Type 0
 WasAnswered config c source m reply [] = ⊥
-WasAnswered config c source m reply (e ∷ log) =
-    (is_some (open_request source (on_link c (trace_of (e ∷ log)))) ≡ true)
+WasAnswered config c source m reply (e ∷ log) = (is_some (open_request source (on_link c (trace_of (e ∷ log)))) ≡ true)
     × (IsAnswered config m reply (e ∷ log) log ⊎ WasAnswered config c source m reply log)
 
 lawful_request : {w : ℕ} (config : Config) (c source : ℕ) (m : MessageA w) (r : Message w) (u : SourceState)
@@ -131,12 +130,10 @@ true-next : {w : ℕ} (config : Config) (log : Log w) → IsGiven config log →
     → (system_after config log).channels c Channel.D ≡ Beat.D y ∷ queue
     → (x : BeatA w) → y.opcode ≡ OpD.AccessAckData → request_of y.source (flow c log) ≡ Some x
     → WasFound config c y.source x y.lanes (length (unfinished Channel.D (flow c log))) log
-true-next {w} config log given c y queue beats x with_data asks =
-    next-on_d config log h c y queue given.width is values beats Found
-    (λ i due e. answer i due.request due.answer e (ap (λ (z : BeatD w). z.source) e ∙ due.from) due.used
-    due.request_is due.answer_is)
-    (λ i grant. no_answer (ap (λ (z : BeatD w). z.opcode) grant.beat_is) (no_grant grant.due.data_too))
-    (λ i j e. no_answer (ap (λ (z : BeatD w). z.opcode) e) (λ f. cc))
+true-next {w} config log given c y queue beats x with_data asks = next-on_d config log h c y queue given.width is values
+    beats Found (λ i due e. answer i due.request due.answer e (ap (λ (z : BeatD w). z.source) e ∙ due.from) due.used
+    due.request_is due.answer_is) (λ i grant. no_answer (ap (λ (z : BeatD w). z.opcode) grant.beat_is)
+    (no_grant grant.due.data_too)) (λ i j e. no_answer (ap (λ (z : BeatD w). z.opcode) e) (λ f. cc))
   where
     h : AbstractState w
     h = shadow config log

@@ -1,6 +1,6 @@
 -- Each beat of data that are given back has bytes of the one memory.
 use Rattle.tl_coherence.proofs.flow.Imports.{Beat, BeatC, History, MessageC, channel_of, unfinished, Config, Log}
-use Rattle.tl_coherence.proofs.flow.Imports.{AbstractState, SimulationRelation, MonitorRelations, is_caching, flow}
+use Rattle.tl_coherence.proofs.flow.Imports.{AbstractState, SimulationRelation, is_caching, flow}
 use Rattle.tl_coherence.proofs.flow.Imports.{Message, beat_of, begun, block_at, on_link, Channel}
 use Rattle.std.proofs.Common.{◌≡◌, ℕ, Bool, true, List, ◌∷◌, sym, ◌∙◌, ap, subst}
 use Rattle.std.specs.Prelude.{length}
@@ -78,6 +78,5 @@ true-moved config log given c (Beat.E y) queue beats = tt
 
 pub true_returns : {w : ℕ} → TrueReturns w
 true_returns config log given =
-    each-taken config
-    (λ earlier link x. IsTrueReturn (one_memory_after config earlier).memory link x (trace_of earlier))
-    (true-moved config) log given
+    each-taken config (λ earlier link x. IsTrueReturn (one_memory_after config earlier).memory link x
+    (trace_of earlier)) (true-moved config) log given

@@ -61,8 +61,7 @@ same_first x y e = cc
 
 abbrev AreWindowed : {w : ℕ} → AbstractState w → Trace w → Type 0
 AreWindowed {w} h t = (n c source : ℕ) (m : MessageA w) → h.state.uses c source ≡ Replied
-    → h.mail.request c source ≡ Message.A m
-    → has_window n c source (needs m.opcode) (block_at m.address) t ≡ true
+    → h.mail.request c source ≡ Message.A m → has_window n c source (needs m.opcode) (block_at m.address) t ≡ true
 
 asked_replied : {w : ℕ} (u : SourceState) (m acquire : Message w) → u ≡ Replied → asked_for u m acquire ≡ first_of m
 asked_replied u m acquire e = rw e refl
@@ -90,7 +89,7 @@ module _ {w : ℕ} (config : Config) (log : Log w) (h : AbstractState w) (sys : 
       let whole : comes_in_request source (unfinished Channel.A (flow c log)) ≡ false =
       cc (
         (values c).rest_is Channel.A,
-        not-coming_a config log h.mail h.request h.state sys c source is
+        not-coming_a c source is
             (ap (λ (u : SourceState). waits_on_a c u h.state) used),
       ) in
       ap (λ (t : History w). is_some (open_request source t)) (trace-flows c log)
@@ -110,12 +109,12 @@ module _ {w : ℕ} (config : Config) (log : Log w) (h : AbstractState w) (sys : 
 -- ---- after one more event
 
 -- with one more beat
-windowed-more : {w : ℕ} (config : Config) (log' : Log w) (h h' : AbstractState w) (sys' : System w) (y : Link × Beat w)
+windowed-more : {w : ℕ} {config : Config} {log' : Log w} (h h' : AbstractState w) {sys' : System w} (y : Link × Beat w)
     (t : Trace w) → SimulationRelation config log' h'.mail h'.request h'.state sys'
     → MonitorRelations log' h'.mail h'.state sys' → trace_of log' ≡ y ∷ t
     → AreRenewed h h' → AreWindowed h t → AreWindowed h' (y ∷ t)
 unfolding has_window
-windowed-more {w} config log' h h' sys' y t is values more renewed before n c source m used request =
+windowed-more {w} {config} {log'} h h' {sys'} y t is values more renewed before n c source m used request =
     let opened : is_some (open_request source (on_link c (y ∷ t))) ≡ true =
     subst (λ (s : Trace w). is_some (open_request source (on_link c s)) ≡ true) more
     (opened-now config log' h' sys' is values c source m used request) in
@@ -153,17 +152,16 @@ pub renewed-followed : {w : ℕ} (config : Config) (log : Log w) (event : Event 
     → AreRenewed h (abstract_step config event (system_after config log) h)
 renewed-followed {w} config log event h width is =
     let sys : System w = system_after config log in
-    followed-cases config log h.mail h.request h.state sys event (λ (i : AbstractState w). AreRenewed h i) width is
+    followed-cases event (λ (i : AbstractState w). AreRenewed h i) width is
     (renewed-same h h (λ d j. refl) (λ d j. (refl, refl)))
     (λ terms c o at d j e. inl (kept-asked c o (ask.asked terms o (sys.clients c)).reply h d j e))
     (λ link ch x queue d. renewed-kind_taken config log (next_tracker sys) link.0 d.first.kind d.first.number
     d.first.rest h sys is
-    (on-first config h.mail h.state sys link ch x queue d) (ready-delivered config log h.mail h.request h.state sys link
+    (on-first d) (ready-delivered config log h.mail h.request h.state sys link
     ch x queue width is d))
 
-windowed-event : {w : ℕ} (config : Config) (log : Log w) (h : AbstractState w) (event : Event w) (o : Outcome w)
-    → IsWidth w
-    → SimulationRelation config log h.mail h.request h.state (system_after config log)
+windowed-event : {w : ℕ} {config : Config} {log : Log w} (h : AbstractState w) (event : Event w) (o : Outcome w)
+    → IsWidth w → SimulationRelation config log h.mail h.request h.state (system_after config log)
     → o ≡ (stepped config event (system_after config log)).outcome
     → SimulationRelation config ((event, o) ∷ log) (abstract_step config event (system_after config log) h).mail
     (abstract_step config event (system_after config log) h).request
@@ -171,33 +169,28 @@ windowed-event : {w : ℕ} (config : Config) (log : Log w) (h : AbstractState w)
     (stepped config event (system_after config log)).after
     → MonitorRelations ((event, o) ∷ log) (abstract_step config event (system_after config log) h).mail
     (abstract_step config event (system_after config log) h).state
-    (stepped config event (system_after config log)).after
-    → AreWindowed h (trace_of log) → AreWindowed (abstract_step config event (system_after config log) h)
-    (taken_at event o ++ trace_of log)
+    (stepped config event (system_after config log)).after → AreWindowed h (trace_of log)
+    → AreWindowed (abstract_step config event (system_after config log) h) (taken_at event o ++ trace_of log)
 unfolding trace_of
-windowed-event config log h (Ask c i) o width is o_is is' values before =
+windowed-event {config} {log} h (Ask c i) o width is o_is is' values before =
     windowed-kept h (abstract_step config (Ask c i) (system_after config log) h) (trace_of log)
     (kept-ask config c i (system_after config log) h) before
-windowed-event config log h (Deliver link ch) (Outcome.Moved x) width is o_is is' values before =
-    windowed-more config ((Deliver link ch, Outcome.Moved x) ∷ log) h
-    (abstract_step config (Deliver link ch) (system_after config log) h)
-    (stepped config (Deliver link ch) (system_after config log)).after
-    (link, x) (trace_of log) is' values refl (renewed-followed config log (Deliver link ch) h width is) before
-windowed-event config log h (Deliver link ch) (Outcome.Done x source f) width is o_is is' values before =
-    windowed-more config ((Deliver link ch, Outcome.Done x source f) ∷ log) h
-    (abstract_step config (Deliver link ch) (system_after config log) h)
-    (stepped config (Deliver link ch) (system_after config log)).after
-    (link, x) (trace_of log) is' values refl (renewed-followed config log (Deliver link ch) h width is) before
-windowed-event {w} config log h (Deliver link ch) (Outcome.Replied r) width is o_is is' values before =
+windowed-event {config} {log} h (Deliver link ch) (Outcome.Moved x) width is o_is is' values before =
+    windowed-more h (abstract_step config (Deliver link ch) (system_after config log) h) (link, x) (trace_of log) is'
+    values refl (renewed-followed config log (Deliver link ch) h width is) before
+windowed-event {config} {log} h (Deliver link ch) (Outcome.Done x source f) width is o_is is' values before =
+    windowed-more h (abstract_step config (Deliver link ch) (system_after config log) h) (link, x) (trace_of log) is'
+    values refl (renewed-followed config log (Deliver link ch) h width is) before
+windowed-event {w} {config} {log} h (Deliver link ch) (Outcome.Replied r) width is o_is is' values before =
     subst (λ (i : AbstractState w). AreWindowed i (trace_of log))
     (sym (followed-still config link ch (system_after config log) h (sym (ap is_moving o_is)))) before
-windowed-event {w} config log h (Deliver link ch) Outcome.Empty width is o_is is' values before =
+windowed-event {w} {config} {log} h (Deliver link ch) Outcome.Empty width is o_is is' values before =
     subst (λ (i : AbstractState w). AreWindowed i (trace_of log))
     (sym (followed-still config link ch (system_after config log) h (sym (ap is_moving o_is)))) before
-windowed-event {w} config log h (Deliver link ch) Outcome.Stalled width is o_is is' values before =
+windowed-event {w} {config} {log} h (Deliver link ch) Outcome.Stalled width is o_is is' values before =
     subst (λ (i : AbstractState w). AreWindowed i (trace_of log))
     (sym (followed-still config link ch (system_after config log) h (sym (ap is_moving o_is)))) before
-windowed-event {w} config log h (Deliver link ch) Outcome.NoSuchClient width is o_is is' values before =
+windowed-event {w} {config} {log} h (Deliver link ch) Outcome.NoSuchClient width is o_is is' values before =
     subst (λ (i : AbstractState w). AreWindowed i (trace_of log))
     (sym (followed-still config link ch (system_after config log) h (sym (ap is_moving o_is)))) before
 
@@ -209,7 +202,7 @@ windowed : {w : ℕ} (config : Config) (log : Log w) → IsWidth w → AreTyped 
 unfolding shadow system_after AreTyped IsLog trace_of
 windowed config [] width typed is = λ n c source m used request. absurd (closed_first used)
 windowed {w} config (x ∷ log) width typed is =
-    windowed-event config log (shadow config log) x.0 x.1 width (matched config log width typed.1 is.1) is.0
+    windowed-event (shadow config log) x.0 x.1 width (matched config log width typed.1 is.1) is.0
     (matched config (x ∷ log) width typed is) (flowed config (x ∷ log) width typed is)
     (windowed config log width typed.1 is.1)
 
@@ -219,11 +212,11 @@ pub grants_no_access : (d : Bool) → is_access_answer (grant_opcode d) ≡ fals
 grants_no_access true = refl
 grants_no_access false = refl
 
-answered-next : {w : ℕ} (config : Config) (log : Log w) → IsGiven config log → (c : ℕ) (y : BeatD w)
+answered-next : {w : ℕ} {config : Config} {log : Log w} → IsGiven config log → (c : ℕ) (y : BeatD w)
     (queue : List (Beat w)) → (system_after config log).channels c Channel.D ≡ Beat.D y ∷ queue
     → (n : ℕ) (x : BeatA w) → is_access_answer y.opcode ≡ true → request_of y.source (on_link c (trace_of log)) ≡ Some x
     → has_window n c y.source (needs x.opcode) (block_at x.address) (trace_of log) ≡ true
-answered-next {w} config log given c y queue beats n x answers asks =
+answered-next {w} {config} {log} given c y queue beats n x answers asks =
     let no_answer : is_access_answer y.opcode ≡ false → Windowed x =
     λ e. absurd (let no : false ≡ true = sym e ∙ answers in cc) in
     cc (next-on_d config log h c y queue given.width is values beats (Windowed x)
@@ -257,7 +250,7 @@ in_time-moved : {w : ℕ} (config : Config) (log : Log w) → IsGiven config log
     (queue : List (Beat w)) → (system_after config log).channels c (channel_of x) ≡ x ∷ queue
     → IsAnsweredInTime c x (trace_of log)
 in_time-moved config log given c (Beat.D y) queue beats = λ n x begun answers asks.
-    answered-next config log given c y queue beats n x answers asks
+    answered-next given c y queue beats n x answers asks
 in_time-moved config log given c x queue beats = tt
 
 pub in_time : {w : ℕ} → AnsweredInTime w

@@ -1,5 +1,5 @@
 -- Each beat that is delivered has room in its line, and is within its types.
-use Rattle.std.proofs.Common.{◌≡◌, ℕ, Bool, true, false, List, [], ◌∷◌, Some, None, refl, sym, ◌∙◌, ap, subst}
+use Rattle.std.proofs.Common.{◌≡◌, ℕ, Bool, true, false, List, [], ◌∷◌, Some, refl, sym, ◌∙◌, ap, subst}
 use Rattle.std.specs.Prelude.{◌==◌, All, if◌then◌else◌}
 use Rattle.std.proofs.lemmas.List.Elements.{All-head, All-nil, All-cons}
 use Rattle.tl_beat.{specs.declared.beat.Beat.Beat, specs.declared.channel.Channel.Channel}
@@ -40,16 +40,16 @@ module _ {w : ℕ} (config : Config) (log : Log w) (given : IsGiven config log) 
 
   pub first-writable : IsWritable x
   first-writable =
-      let lawful = lawful-beat config log (shadow config log).mail (shadow config log).request (shadow config log).state
-      (system_after config log) c ch terms.level x queue is beats (level-terms config c terms known).0 in
+      let lawful = lawful-beat
+      c ch terms.level x queue is beats (level-terms config c terms known).0 in
       subst IsWritable (sym first.next.beat_is) (legal-writable terms.level (channel_of x) _ first.next.k given.width
       (ap (λ (y : Beat w). illegal terms.level (channel_of x) y) (sym first.next.beat_is) ∙ lawful))
 
   pub first-in_range : AreRanged log → IsInRange x
   first-in_range ranged =
       let few = limits config given.fits in
-      let sound = sound-beat config log (shadow config log).mail (shadow config log).request (shadow config log).state
-      (system_after config log) c ch x queue is beats in
+      let sound = sound-beat
+      c ch x queue is beats in
       let lanes : AreLanes x =
       All-head AreLanes x queue (subst (λ (l : List (Beat w)). All AreLanes l) beats (is.typed c ch)) in
       let bounds = matched-bounded config log (shadow config log).mail (shadow config log).request
@@ -89,14 +89,13 @@ module _ {w : ℕ} (config : Config) (P : Beat w → Type 0) (Q : Log w → Type
             ∷ log))
         go true moving =
             let at = first-moved config link ch (system_after config log) moving in
-            let moved = moved-on config log link ch (shadow config log) at.0 at.1 at.2 given.width
+            let moved = moved-on link ch (shadow config log) at.0 at.1 at.2 given.width
             (matched-given config log given) at.3.0 at.3.1 moving (is_to_client ch) refl in
             subst (All P) (sym (moved.delivered d))
             (with-beat d log at.0 (link.0 == d) (front log given q link.0 at.2 at.3.1 ch at.0 at.1 at.3.0) rest)
         go false still = subst (All P)
             (sym (flow_still (Deliver link ch) (stepped config (Deliver link ch) (system_after config log)).outcome log
-            d
-            still)) rest
+            d still)) rest
 
     pub all-delivered : (log : Log w) → IsGiven config log → Q log → (d : ℕ) → All P (flow d log)
     unfolding AreTyped IsLog flow
@@ -114,10 +113,8 @@ module _ {w : ℕ} (config : Config) (P : Beat w → Type 0) (Q : Log w → Type
 
 pub have-room : {w : ℕ} (config : Config) (log : Log w) → IsGiven config log → (link : ℕ)
     → All IsWritable (flow link log)
-have-room config log given link =
-    all-delivered config IsWritable (λ l. Unit {0}) (λ x l q. tt)
-    (λ l g q c terms known ch x queue beats. first-writable config l g c terms known ch x queue beats) log given tt
-    link
+have-room config log given link = all-delivered config IsWritable (λ l. Unit {0}) (λ x l q. tt)
+    (λ l g q c terms known ch x queue beats. first-writable config l g c terms known ch x queue beats) log given tt link
 
 pub are-in_range : {w : ℕ} (config : Config) (log : Log w) → IsGiven config log → AreRanged log → (link : ℕ)
     → All IsInRange (flow link log)

@@ -105,10 +105,9 @@ grant-ranged w (GrantSent q false k) source tracker truth small sink bytes =
 grant-ranged w service source tracker truth small sink bytes = ack-ranged w source small
 
 payload-bytes : (at : ℕ) (bytes : List ℕ) → AreBytes bytes → AreBytes (as_payload at bytes)
-payload-bytes at bytes are =
-    All-append (λ byte. byte < 2 ^ 8) (replicate at 0 ++ bytes) (replicate (64 - at - length bytes) 0)
-    (All-append (λ byte. byte < 2 ^ 8) (replicate at 0) bytes (zeros-bytes at) are)
-    (zeros-bytes (64 - at - length bytes))
+payload-bytes at bytes are = All-append (λ byte. byte < 2 ^ 8) (replicate at 0 ++ bytes)
+    (replicate (64 - at - length bytes) 0) (All-append (λ byte. byte < 2 ^ 8) (replicate at 0) bytes (zeros-bytes at)
+    are) (zeros-bytes (64 - at - length bytes))
 
 answer-ranged : {w : ℕ} (m : MessageA w) (r : memory.AccessResult) → m.source < 2 ^ 8 → IsRangedReply r
     → IsRangedMessage (access_answer m (answer_of (Message.A m) r))
@@ -190,8 +189,7 @@ module _ {w : ℕ} (config : Config) (log : Log w) (mail : AccessMessages w) (re
   unfolding block_message
   kind-ranged Request n shows = request-ranged n (request_named (is_caching config) s c n matched.invariant shows)
   kind-ranged Answer n shows = answer-is-ranged n (answer_named (is_caching config) s c n matched.invariant shows)
-  kind-ranged Acquire n shows =
-      acquire-ranged w ((s.block n).pair c).acquiring ((s.block n).source c) n
+  kind-ranged Acquire n shows = acquire-ranged w ((s.block n).pair c).acquiring ((s.block n).source c) n
       (used-small ((s.block n).source c) (Acquires n) (acquire_named (is_caching config) s c n matched.invariant shows)
       (λ e. absurd cc))
   kind-ranged Probe n shows = (lit< tt, zeros-bytes 64)
@@ -201,12 +199,11 @@ module _ {w : ℕ} (config : Config) (log : Log w) (mail : AccessMessages w) (re
       release-ranged w (prune_told ((s.block n).pair c).letting) ((s.block n).release_source c) n (s.block n).truth
       (let-small ((s.block n).release_source c) n (release_named (is_caching config) s c n matched.invariant shows))
       (truth-bytes n)
-  kind-ranged Grant n shows =
-      grant-ranged w (s.block n).service ((s.block n).source c) (s.block n).tracker (s.block n).truth
-      (used-small ((s.block n).source c) (Acquires n) (grant_named (is_caching config) s c n matched.invariant shows)
-      (λ e. absurd cc))
-      (λ q d k e. tracker-small (s.block n).tracker n (tracker_of_service (is_caching config) s n matched.invariant
-      (rw e refl))) (truth-bytes n)
+  kind-ranged Grant n shows = grant-ranged w (s.block n).service ((s.block n).source c) (s.block n).tracker
+      (s.block n).truth (used-small ((s.block n).source c) (Acquires n)
+      (grant_named (is_caching config) s c n matched.invariant shows) (λ e. absurd cc))
+      (λ q d k e. tracker-small (s.block n).tracker n (tracker_of_service n matched.invariant (rw e refl)))
+      (truth-bytes n)
   kind-ranged ReleaseAck n shows =
       ack-ranged w ((s.block n).release_source c)
       (let-small ((s.block n).release_source c) n (release_ack_named (is_caching config) s c n matched.invariant shows))
@@ -218,5 +215,5 @@ module _ {w : ℕ} (config : Config) (log : Log w) (mail : AccessMessages w) (re
   unfolding count
   first-ranged ch k n rest on_it tokens =
       let one : one_if (is k n (packet k n)) ≡ 1 = rw (same_kind_again k, same_number n) refl in
-      kind-ranged k n (shown_there (is_caching config) s c ch k n matched.invariant on_it
+      kind-ranged k n (shown_there c ch k n matched.invariant on_it
       (rw tokens (omega (arith, one))))

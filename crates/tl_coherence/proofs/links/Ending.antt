@@ -49,28 +49,26 @@ done_moved : {w : ℕ} (x y : Beat w) (i : ℕ) (f : Finish) → Outcome.Done x 
 done_moved x y i f e = absurd cc
 
 -- the response that is first on channel D
-response_of : {w : ℕ} (config : Config) (log : Log w) (h : AbstractState w) (sys : System w) (c : ℕ) (k : Kind) (i : ℕ)
-    (rest : List Packet)
-    → SimulationRelation config log h.mail h.request h.state sys → (h.state.link c).d ≡ packet k i ∷ rest
-    → is_on Channel.D k ≡ true
+response_of : {w : ℕ} {config : Config} {log : Log w} (h : AbstractState w) {sys : System w} (c : ℕ) (k : Kind) (i : ℕ)
+    (rest : List Packet) → SimulationRelation config log h.mail h.request h.state sys
+    → (h.state.link c).d ≡ packet k i ∷ rest → is_on Channel.D k ≡ true
     → (m : MessageD w) × (message_of_kind k h.mail h.state c i ≡ Message.D m)
 unfolding block_message
-response_of config log h sys c Answer i rest is tokens own = let due =
+response_of {config} h c Answer i rest is tokens own = let due =
     answer-due (is_caching config) c i rest h.mail h.state is.invariant (is.answered c i) tokens in
     (due.answer, due.answer_is)
-response_of config log h sys c Grant n rest is tokens own = let due =
+response_of {config} h c Grant n rest is tokens own = let due =
     grant-due (is_caching config) c n rest h.state is.invariant tokens in (_, grant-rendered c n h.state due)
-response_of config log h sys c ReleaseAck n rest is tokens own =
-    (ack_message ((h.state.block n).release_source c), refl)
-response_of config log h sys c k i rest is tokens own = absurd cc
+response_of h c ReleaseAck n rest is tokens own = (ack_message ((h.state.block n).release_source c), refl)
+response_of h c k i rest is tokens own = absurd cc
 
-ending_d : {w : ℕ} (config : Config) (log : Log w) (link : Link) (h : AbstractState w) (terms : EndConfig) (y : Beat w)
+ending_d : {w : ℕ} {config : Config} {log : Log w} (link : Link) (h : AbstractState w) (terms : EndConfig) (y : Beat w)
     (queue : List (Beat w)) (x : Beat w) (source : ℕ)
     (f : Finish) → IsWidth w → SimulationRelation config log h.mail h.request h.state (system_after config log)
     → terms_at config link.0 ≡ Some terms → (system_after config log).channels link.0 Channel.D ≡ y ∷ queue
     → (stepped config (Deliver link Channel.D) (system_after config log)).outcome ≡ Outcome.Done x source f
     → IsEnding config log link Channel.D h x source f
-ending_d {w} config log link h terms y queue x source f width is known beats done =
+ending_d {w} {config} {log} link h terms y queue x source f width is known beats done =
     go (completes y (unfinished Channel.D e.past)) refl
   where
     sys : System w
@@ -92,7 +90,7 @@ ending_d {w} config log link h terms y queue x source f width is known beats don
     t = client-moves config link Channel.D sys terms y queue known beats refl moving
 
     m : (m : MessageD w) × (message_of_kind first.kind h.mail h.state c first.number ≡ Message.D m)
-    m = response_of config log h sys c first.kind first.number first.rest is first.tokens first.own
+    m = response_of h c first.kind first.number first.rest is first.tokens first.own
 
     z : BeatD w
     z = d_beat_of m.0 first.next.k
@@ -102,8 +100,7 @@ ending_d {w} config log link h terms y queue x source f width is known beats don
 
     outcome_is : (v : Verdict) (n : Option (Message w)) → (offer.taken (Beat.D z) e).answer ≡ Ok (v, n)
         → Outcome.Done x source f ≡ outcome_of y v
-    outcome_is v n answer =
-        sym done ∙ ap (λ (s : Step w). s.outcome) t.step_is
+    outcome_is v n answer = sym done ∙ ap (λ (s : Step w). s.outcome) t.step_is
         ∙ ap (outcome_of y) (same_answers t.verdict_is v t.message n (offer.taken y e).answer t.answer
         (ap (λ (i : Beat w). (offer.taken i e).answer) y_is ∙ answer)).0
 
@@ -137,10 +134,9 @@ ending_d {w} config log link h terms y queue x source f width is known beats don
         (done_finish x y source z.source f (finish_at z e) o) last
 
 pub ending : {w : ℕ} (config : Config) (log : Log w) (link : Link) (ch : Channel) (h : AbstractState w) (x : Beat w)
-    (source : ℕ) (f : Finish) → IsWidth w
-    → SimulationRelation config log h.mail h.request h.state (system_after config log)
-    → (stepped config (Deliver link ch) (system_after config log)).outcome ≡ Outcome.Done x source f
-    → IsEnding config log link ch h x source f
+    (source : ℕ) (f : Finish) → IsWidth w → SimulationRelation config log h.mail h.request h.state
+    (system_after config log) → (stepped config (Deliver link ch) (system_after config log)).outcome
+    ≡ Outcome.Done x source f → IsEnding config log link ch h x source f
 ending {w} config log link ch h x source f width is done = found (terms_at config link.0) refl
   where
     sys : System w
@@ -157,7 +153,7 @@ ending {w} config log link ch h x source f width is done = found (terms_at confi
         → sys.channels link.0 Channel.B ≡ y ∷ queue
         → (stepped config (Deliver link Channel.B) sys).outcome ≡ Outcome.Done x source f → ⊥
     probe terms y queue known beats o =
-        let p = delivered-b config log h.mail h.request h.state sys terms (next_tracker sys) link.0 y queue width is
+        let p = delivered-b terms (next_tracker sys) link.0 y queue width is
         known beats in
         let t = client-moves config link Channel.B sys terms y queue known beats refl (ap is_moving o) in
         done_moved x y source f (sym o ∙ ap (λ (s : Step w). s.outcome) t.step_is
@@ -166,16 +162,14 @@ ending {w} config log link ch h x source f width is done = found (terms_at confi
         (ap (λ (i : Beat w). (offer.taken i (sys.clients link.0)).answer) p.1.beat_is)).0)
 
     moves : (at : Channel) (terms : EndConfig) (beats : List (Beat w)) → terms_at config link.0 ≡ Some terms
-        → sys.channels link.0 at ≡ beats
-        → (stepped config (Deliver link at) sys).outcome ≡ Outcome.Done x source f
+        → sys.channels link.0 at ≡ beats → (stepped config (Deliver link at) sys).outcome ≡ Outcome.Done x source f
         → IsEnding config log link at h x source f
     moves at terms [] known none o =
         absurd (not_moving _ _ (stepped-empty config link at sys terms known none) (ap is_moving o) refl)
     moves Channel.A terms (y ∷ queue) known beats o = absurd (up Channel.A terms y queue known beats refl o)
     moves Channel.B terms (y ∷ queue) known beats o = absurd (probe terms y queue known beats o)
     moves Channel.C terms (y ∷ queue) known beats o = absurd (up Channel.C terms y queue known beats refl o)
-    moves Channel.D terms (y ∷ queue) known beats o = ending_d config log link h terms y queue x source f width is known
-        beats o
+    moves Channel.D terms (y ∷ queue) known beats o = ending_d link h terms y queue x source f width is known beats o
     moves Channel.E terms (y ∷ queue) known beats o = absurd (up Channel.E terms y queue known beats refl o)
 
     found : (o : Option EndConfig) → terms_at config link.0 ≡ o → IsEnding config log link ch h x source f

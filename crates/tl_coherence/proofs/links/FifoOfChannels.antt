@@ -32,7 +32,7 @@ use Rattle.tl_coherence.proofs.{simulation.SoundAfter.copy-long, queues.Tokens.s
 use Rattle.tl_coherence.proofs.simulation.BeatsInFlight.{IsOfClient, IsFitIfAny, IsFitAnswer, fit-asked, fit-taken}
 use Rattle.tl_coherence.proofs.deliveries.Matching.{shadow, matched, not_moving, stepped-nobody}
 use Rattle.tl_coherence.proofs.simulation.Moved.{IsTakenByClient, IsTakenByManager, client-moves, manager-moves}
-use Rattle.tl_coherence.proofs.links.FifoSteps.{ArePassing, said_at, heard_at, queued_at, client-says, manager-says}
+use Rattle.tl_coherence.proofs.links.FifoSteps.{ArePassing, heard_at, queued_at, client-says, manager-says}
 use Rattle.tl_coherence.proofs.links.FifoSteps.{client-hears, manager-hears, passing-same}
 use Rattle.tl_coherence.proofs.queues.Steps.{clients-with_messages, manager-with_messages, stepped-asked, stepped-empty}
 
@@ -53,43 +53,41 @@ IsOurs None = ⊤
 IsOurs (Some m) = is_from_client (beat_of m 0) ≡ true
 
 -- the client's end is then with all beats of it
-says-passing : {w : ℕ} (c : ℕ) (m : Option (Message w)) (e : Endpoint w) (t : History w) (sys : System w) (p : ℕ
-    → History w) (f : ℕ → History w) → IsOurs m
+says-passing : {w : ℕ} (c : ℕ) (m : Option (Message w)) (e : Endpoint w) (t : History w) (sys : System w) {p : ℕ
+    → History w} {f : ℕ → History w} → IsOurs m
     → e.past ≡ sent_if_any m (p c) → ((d : ℕ) → (d ≡ c → ⊥) → p d ≡ (sys.clients d).past)
     → ArePassing p (λ d. on_link d sys.manager.trace) sys.channels f
     → IsPassing (with_messages (handed_by c m) (with_client c e sys)) f
 unfolding with_messages
-says-passing {w} c None e t sys p f ours past others is =
-    passing-same p (λ d. on_link d sys.manager.trace) (λ d. ((with_client c e sys).clients d).past)
-    (λ d. on_link d sys.manager.trace) sys.channels sys.channels f f
+says-passing {w} c None e t sys {p} {f} ours past others is =
+    passing-same (λ d. ((with_client c e sys).clients d).past)
+    (λ d. on_link d sys.manager.trace) sys.channels f
     (λ d. elim (cases_eq d c) [
       | inl same ↦ rw (same, same_number c) past
       | inr other ↦ rw (ne_eqb d c other) (sym (others d other))
     ]) (λ d. refl) (λ d at. refl) (λ d. refl) is
-says-passing {w} c (Some m) e t sys p f ours past others is =
-    passing-same (said_at c m p) (λ d. on_link d sys.manager.trace) (λ d. ((with_client c e sys).clients d).past)
+says-passing {w} c (Some m) e t sys {p} {f} ours past others is =
+    passing-same (λ d. ((with_client c e sys).clients d).past)
     (λ d. on_link d sys.manager.trace)
-    (queued_at c m sys.channels) (queued_at c m sys.channels) f f
+    (queued_at c m sys.channels) f
     (λ d. elim (cases_eq d c) [
       | inl same ↦ rw (same, same_number c) past
       | inr other ↦ rw (ne_eqb d c other, ne_eqb c d (λ i. other (sym i))) (sym (others d other))
-    ]) (λ d. refl) (λ d at. refl) (λ d. refl) (client-says c m p (λ d. on_link d sys.manager.trace) sys.channels f ours
+    ]) (λ d. refl) (λ d at. refl) (λ d. refl) (client-says c m ours
     is)
 
 -- ---- the manager hands out messages
 
-manages-passing : {w : ℕ} (config : Config) (handed : Handed w) (t : Trace w) (s : System w) (p : ℕ → History w) (f : ℕ
-    → History w)
-    → Each (IsHandable config) handed → ArePassing p (λ d. on_link d t) s.channels f
+manages-passing : {w : ℕ} (config : Config) (handed : Handed w) (t : Trace w) (s : System w) {p : ℕ → History w} {f : ℕ
+    → History w} → Each (IsHandable config) handed → ArePassing p (λ d. on_link d t) s.channels f
     → ArePassing p (λ d. on_link d (with_handed handed t)) (with_messages handed s).channels f
 unfolding with_messages with_handed
-manages-passing config [] t s p f each is = is
-manages-passing {w} config (x ∷ handed) t s p f each is =
-    manages-passing config handed (map (λ b. (x.0, b)) (burst_of x.1) ++ t) (with_message x.0.0 x.1 s) p f each.1
-    (passing-same p (said_at x.0.0 x.1 (λ d. on_link d t)) p (λ d. on_link d (map (λ b. (x.0, b)) (burst_of x.1) ++ t))
-    (queued_at x.0.0 x.1 s.channels) (with_message x.0.0 x.1 s).channels f f
+manages-passing config [] t s each is = is
+manages-passing {w} config (x ∷ handed) t s {p} {f} each is =
+    manages-passing config handed (map (λ b. (x.0, b)) (burst_of x.1) ++ t) (with_message x.0.0 x.1 s) each.1
+    (passing-same p (λ d. on_link d (map (λ b. (x.0, b)) (burst_of x.1) ++ t)) (with_message x.0.0 x.1 s).channels f
     (λ d. refl) (λ d. beats_on_link d x.0 (burst_of x.1) t) (λ d at. refl) (λ d. refl)
-    (manager-says x.0.0 x.1 p (λ d. on_link d t) s.channels f each.0.ours is))
+    (manager-says x.0.0 x.1 each.0.ours is))
 
 -- ---- the channel of a beat
 
@@ -156,17 +154,17 @@ still-passing : {w : ℕ} (config : Config) (log : Log w) (link : Link) (ch : Ch
     (λ d. flow d ((Deliver link ch, (stepped config (Deliver link ch) (system_after config log)).outcome) ∷ log))
 still-passing {w} config log link ch still is =
     let same = unmoved config link ch (system_after config log) still in
-    passing-same _ _ _ _ _ _ _ _ same.pasts (λ d. ap (on_link d) same.trace) same.channels
+    passing-same _ _ _ _ same.pasts (λ d. ap (on_link d) same.trace) same.channels
     (λ d. flow_still (Deliver link ch) (stepped config (Deliver link ch) (system_after config log)).outcome log d still)
     is
 
-asked-passing : {w : ℕ} (config : Config) (log : Log w) (c : ℕ) (o : Op w) (mail : _) (request : _) (s : _)
+asked-passing : {w : ℕ} {config : Config} {log : Log w} (c : ℕ) (o : Op w) {mail : _} {request : _} {s : _}
     → SimulationRelation config log mail request s (system_after config log) → IsTyped (Ask c o)
     → IsPassing (system_after config log) (λ d. flow d log)
     → IsPassing (stepped config (Ask c o) (system_after config log)).after
     (λ d. flow d ((Ask c o, (stepped config (Ask c o) (system_after config log)).outcome) ∷ log))
 unfolding flow
-asked-passing {w} config log c o mail request s matched typed is = go (terms_at config c) refl
+asked-passing {w} {config} {log} c o {mail} {request} {s} matched typed is = go (terms_at config c) refl
   where
     sys : System w
     sys = system_after config log
@@ -179,8 +177,8 @@ asked-passing {w} config log c o mail request s matched typed is = go (terms_at 
     go (Some terms) known =
         let x = ask.asked terms o (sys.clients c) in
         subst (λ (i : Step w). IsPassing i.after f) (sym (stepped-asked config c o sys terms known))
-        (says-passing c x.message x.after (sys.clients c).past sys (λ d. (sys.clients d).past) f
-        (ours x.message (fit-asked terms o (sys.clients c) typed (copy-long config log mail request s sys matched c)))
+        (says-passing c x.message x.after (sys.clients c).past sys
+        (ours x.message (fit-asked terms o (sys.clients c) typed (copy-long matched c)))
         (past-asked terms o (sys.clients c)) (λ d other. refl) is)
       where
         ours : (m : Option (Message w)) → IsFitIfAny terms.blocks m → IsOurs m
@@ -188,8 +186,7 @@ asked-passing {w} config log c o mail request s matched typed is = go (terms_at 
         ours (Some m) fit = ours_from m fit.ours
 
 moved-passing : {w : ℕ} (config : Config) (log : Log w) (link : Link) (ch : Channel) (terms : EndConfig) (x : Beat w)
-    (queue : List (Beat w)) → IsWidth w
-    → AreTyped log → IsLog config log → terms_at config link.0 ≡ Some terms
+    (queue : List (Beat w)) → IsWidth w → AreTyped log → IsLog config log → terms_at config link.0 ≡ Some terms
     → (system_after config log).channels link.0 ch ≡ x ∷ queue
     → is_moving (stepped config (Deliver link ch) (system_after config log)).outcome ≡ true
     → IsPassing (system_after config log) (λ d. flow d log)
@@ -238,20 +235,16 @@ moved-passing {w} config log link ch terms x queue width typed logged known beat
                 → is_moving (outcome_of x v) ≡ true
                 → IsPassing (with_messages (handed_by c m) (with_client c (offer.taken x (sys.clients c)).after
                 (with_channel c ch queue sys))) (λ d. flow d ((Deliver link ch, outcome_of x v) ∷ log))
-            took v m answer moves =
-                passing-same _ _ _ _ _ _ (heard_at c x f) _ (λ d. refl) (λ d. refl) (λ d at. refl)
+            took v m answer moves = passing-same _ _ _ _ (λ d. refl) (λ d. refl) (λ d at. refl)
                 (λ d. flow_moved link ch (outcome_of x v) x log d (taken_at link ch x v d moves))
                 (says-passing c m (offer.taken x (sys.clients c)).after (sys.clients c).past
-                (with_channel c ch queue sys) (heard_at c x (λ d. (sys.clients d).past)) (heard_at c x f)
-                (ours v m answer)
+                (with_channel c ch queue sys) (ours v m answer)
                 (ap (λ (o : offer.Offered w). o.after.past) (sym t.takes) ∙ past-offered terms ch x (sys.clients c)
                 ∙ ap (sent_if_any (client_after.handed (offer.offered terms ch x (sys.clients c)).answer)) t.heard
                 ∙ ap (λ a. sent_if_any (client_after.handed a) (x ∷ (sys.clients c).past))
-                (ap (λ (o : offer.Offered w). o.answer) t.takes ∙ answer) ∙ handed_is v m moves ∙ rw (same_number c)
-                refl)
-                (λ d other. rw (ne_eqb c d (λ i. other (sym i))) refl)
-                (client-hears c ch x queue (λ d. (sys.clients d).past) (λ d. on_link d sys.manager.trace) sys.channels f
-                up on_ch beats is))
+                (ap (λ (o : offer.Offered w). o.answer) t.takes ∙ answer) ∙ handed_is v m moves
+                ∙ rw (same_number c) refl) (λ d other. rw (ne_eqb c d (λ i. other (sym i))) refl)
+                (client-hears c ch x queue up on_ch beats is))
               where
                 handed_is : (v : Verdict) (m : Option (Message w)) → is_moving (outcome_of x v) ≡ true
                     → sent_if_any (client_after.handed (Ok (v, m))) (x ∷ (sys.clients c).past) ≡ sent_if_any m
@@ -265,8 +258,8 @@ moved-passing {w} config log link ch terms x queue width typed logged known beat
                 ours v (Some m) e =
                     let fit : IsFitAnswer config.blocks (Ok (v, Some m)) =
                     subst (IsFitAnswer config.blocks) e (fit-taken config.blocks x (sys.clients c) head.inside
-                    (copy-long config log (shadow config log).mail (shadow config log).request (shadow config log).state
-                    sys h c)) in
+                    (copy-long
+                    h c)) in
                     ours_from m fit.ours
     go false down = by_manager (manager-moves config link ch sys terms x queue known beats down moving)
       where
@@ -276,15 +269,15 @@ moved-passing {w} config log link ch terms x queue width typed logged known beat
             let e = manager_offer.taken link x (manager_reaction.reaction config link x sys.manager) sys.manager in
             let now : System w = with_manager e (with_channel c ch queue sys) in
             subst (λ (y : Step w). IsPassing y.after (λ d. flow d ((Deliver link ch, y.outcome) ∷ log))) (sym t.step_is)
-            (passing-same (λ d. (sys.clients d).past) (λ d. on_link d e.trace) _ _ (with_messages handed now).channels
+            (passing-same _ _
             (with_messages handed now).channels
-            (heard_at c x f) _ (λ d. ap (λ (i : ℕ → Endpoint w). (i d).past) (clients-with_messages handed now))
+            _ (λ d. ap (λ (i : ℕ → Endpoint w). (i d).past) (clients-with_messages handed now))
             (λ d. ap (λ (i : manager_end.End w). on_link d i.trace) (manager-with_messages handed now)) (λ d at. refl)
             (λ d. flow_moved link ch (Outcome.Moved x) x log d refl)
-            (manages-passing config handed ((link, x) ∷ sys.manager.trace) now (λ d. (sys.clients d).past)
-            (heard_at c x f) (reaction_handable config link x sys.manager width head h.manager_kept.sound)
-            (passing-same _ _ _ _ _ _ _ _ (λ d. refl) (λ d. refl) (λ d at. refl) (λ d. refl)
-            (manager-hears c ch x queue (λ d. (sys.clients d).past) (λ d. on_link d sys.manager.trace) sys.channels f
+            (manages-passing config handed ((link, x) ∷ sys.manager.trace) now
+            (reaction_handable config link x sys.manager width head h.manager_kept.sound)
+            (passing-same _ _ _ _ (λ d. refl) (λ d. refl) (λ d at. refl) (λ d. refl)
+            (manager-hears c ch x queue
             down on_ch beats is))))
           where
             handed : Handed w
@@ -301,8 +294,7 @@ passing-event : {w : ℕ} (config : Config) (log : Log w) (event : Event w) → 
     → IsPassing (stepped config event (system_after config log)).after
     (λ d. flow d ((event, (stepped config event (system_after config log)).outcome) ∷ log))
 passing-event config log (Ask c o) width typed logged ok before =
-    asked-passing config log c o (shadow config log).mail (shadow config log).request (shadow config log).state
-    (matched config log width typed logged) ok before
+    asked-passing c o (matched config log width typed logged) ok before
 passing-event {w} config log (Deliver link ch) width typed logged ok before =
     delivered (is_moving (stepped config (Deliver link ch) sys).outcome) refl
   where

@@ -34,17 +34,15 @@ push_order true m sent queue own taken same is =
 push_order false m sent queue own taken same is = is
 
 pop_order : {w : ℕ} (b : Bool) (x : Beat w) (rest sent queue taken : List (Beat w)) → (b ≡ true → queue ≡ x ∷ rest)
-    → IsInOrder sent queue taken
-    → IsInOrder sent (if b then rest else queue) (if b then x ∷ taken else taken)
+    → IsInOrder sent queue taken → IsInOrder sent (if b then rest else queue) (if b then x ∷ taken else taken)
 pop_order true x rest sent queue taken first is =
     cc (is, first refl, reverse-append (x ∷ []) rest, append_assoc (reverse rest) (x ∷ []) taken)
 pop_order false x rest sent queue taken first is = is
 
 -- ---- the beats of a channel
 
-carried-begun : {w : ℕ} (m : Message w) (k : ℕ) (at : Channel) (t : History w)
-    → carried_on at (begun m k ++ t) ≡ (if same_channel at (channel_of_message m) then begun m k ++ carried_on at t else
-    carried_on at t)
+carried-begun : {w : ℕ} (m : Message w) (k : ℕ) (at : Channel) (t : History w) → carried_on at (begun m k ++ t)
+    ≡ (if same_channel at (channel_of_message m) then begun m k ++ carried_on at t else carried_on at t)
 unfolding carried_on
 carried-begun {w} m zero at t = go (same_channel at (channel_of_message m))
   where
@@ -152,20 +150,20 @@ unsaid_queue {w} l m q d at differs = go (d == l) (same_channel at (channel_of_m
     go false false e = refl
     go a true e = absurd cc
 
-pub client-says : {w : ℕ} (l : ℕ) (m : Message w) (p t : ℕ → History w) (q : ℕ → Channel → List (Beat w)) (f : ℕ
-    → History w)
+pub client-says : {w : ℕ} (l : ℕ) (m : Message w) {p t : ℕ → History w} {q : ℕ → Channel → List (Beat w)} {f : ℕ
+    → History w}
     → is_from_client (beat_of m 0) ≡ true → ArePassing p t q f → ArePassing (said_at l m p) t (queued_at l m q) f
-client-says {w} l m p t q f ours is = record {
+client-says {w} l m {p} {t} {q} ours is = record {
   down = λ d at e.
       let differs = apart at (channel_of_message m) true e (sends m false ours) in
       rw (unsaid_queue l m q d at differs, unsaid_history l m p d at differs) (is.down d at e);
   up = λ d at e. (said_here l m p q d at (carried_on at (t d)) (is.up d at e).0, (is.up d at e).1);
 }
 
-pub manager-says : {w : ℕ} (l : ℕ) (m : Message w) (p t : ℕ → History w) (q : ℕ → Channel → List (Beat w)) (f : ℕ
-    → History w)
+pub manager-says : {w : ℕ} (l : ℕ) (m : Message w) {p t : ℕ → History w} {q : ℕ → Channel → List (Beat w)} {f : ℕ
+    → History w}
     → is_from_client (beat_of m 0) ≡ false → ArePassing p t q f → ArePassing p (said_at l m t) (queued_at l m q) f
-manager-says {w} l m p t q f ours is = record {
+manager-says {w} l m {p} {t} {q} ours is = record {
   up = λ d at e.
       let differs = apart at (channel_of_message m) false e (sends m true ours) in
       rw (unsaid_queue l m q d at differs, unsaid_history l m t d at differs) (is.up d at e);
@@ -184,8 +182,7 @@ heard_history {w} c ch x p d at is = go (c == d)
     go false = refl
 
 heard_here : {w : ℕ} (c : ℕ) (ch : Channel) (x : Beat w) (queue : List (Beat w)) (p : ℕ → History w) (q : ℕ → Channel
-    → List (Beat w)) (f : ℕ → History w)
-    (d : ℕ) (at : Channel) (sent : List (Beat w)) → IsOn ch x → q c ch ≡ x ∷ queue
+    → List (Beat w)) (f : ℕ → History w) (d : ℕ) (at : Channel) (sent : List (Beat w)) → IsOn ch x → q c ch ≡ x ∷ queue
     → IsInOrder sent (q d at) (carried_on at (p d)) × (carried_on at (p d) ≡ carried_on at (f d))
     → IsInOrder sent (popped_at c ch queue q d at) (carried_on at (heard_at c x p d))
     × (carried_on at (heard_at c x p d) ≡ carried_on at (heard_at c x f d))
@@ -219,11 +216,10 @@ unpopped {w} c ch queue q d at differs = go (d == c) (same_channel at ch) differ
     go false false e = refl
     go a true e = absurd cc
 
-pub client-hears : {w : ℕ} (c : ℕ) (ch : Channel) (x : Beat w) (queue : List (Beat w)) (p t : ℕ → History w) (q : ℕ
-    → Channel → List (Beat w))
-    (f : ℕ → History w) → is_to_client ch ≡ true → IsOn ch x → q c ch ≡ x ∷ queue
+pub client-hears : {w : ℕ} (c : ℕ) (ch : Channel) (x : Beat w) (queue : List (Beat w)) {p t : ℕ → History w} {q : ℕ
+    → Channel → List (Beat w)} {f : ℕ → History w} → is_to_client ch ≡ true → IsOn ch x → q c ch ≡ x ∷ queue
     → ArePassing p t q f → ArePassing (heard_at c x p) t (popped_at c ch queue q) (heard_at c x f)
-client-hears {w} c ch x queue p t q f theirs on first is = record {
+client-hears {w} c ch x queue {p} {t} {q} {f} theirs on first is = record {
   down = λ d at e. heard_here c ch x queue p q f d at (carried_on at (t d)) on first (is.down d at e);
   up = λ d at e.
       let differs = apart at ch false e theirs in
@@ -231,11 +227,10 @@ client-hears {w} c ch x queue p t q f theirs on first is = record {
       (is.up d at e);
 }
 
-pub manager-hears : {w : ℕ} (c : ℕ) (ch : Channel) (x : Beat w) (queue : List (Beat w)) (p t : ℕ → History w) (q : ℕ
-    → Channel → List (Beat w))
-    (f : ℕ → History w) → is_to_client ch ≡ false → IsOn ch x → q c ch ≡ x ∷ queue
+pub manager-hears : {w : ℕ} (c : ℕ) (ch : Channel) (x : Beat w) (queue : List (Beat w)) {p t : ℕ → History w} {q : ℕ
+    → Channel → List (Beat w)} {f : ℕ → History w} → is_to_client ch ≡ false → IsOn ch x → q c ch ≡ x ∷ queue
     → ArePassing p t q f → ArePassing p (heard_at c x t) (popped_at c ch queue q) (heard_at c x f)
-manager-hears {w} c ch x queue p t q f theirs on first is = record {
+manager-hears {w} c ch x queue {p} {t} {q} {f} theirs on first is = record {
   up = λ d at e. heard_here c ch x queue t q f d at (carried_on at (p d)) on first (is.up d at e);
   down = λ d at e.
       let differs = apart at ch true e theirs in
@@ -244,11 +239,12 @@ manager-hears {w} c ch x queue p t q f theirs on first is = record {
 }
 
 -- the same histories and channels
-pub passing-same : {w : ℕ} (p t p' t' : ℕ → History w) (q q' : ℕ → Channel → List (Beat w)) (f f' : ℕ → History w)
+pub passing-same : {w : ℕ} {p t : ℕ → History w} (p' t' : ℕ → History w) {q : ℕ → Channel → List (Beat w)} (q' : ℕ
+    → Channel → List (Beat w)) {f : ℕ → History w} (f' : ℕ → History w)
     → ((d : ℕ) → p' d ≡ p d)
     → ((d : ℕ) → t' d ≡ t d) → ((d : ℕ) (at : Channel) → q' d at ≡ q d at) → ((d : ℕ) → f' d ≡ f d)
     → ArePassing p t q f → ArePassing p' t' q' f'
-passing-same p t p' t' q q' f f' ps ts qs fs is = record {
+passing-same p' t' q' f' ps ts qs fs is = record {
   down = λ d at e. rw (ps d, ts d, qs d at, fs d) (is.down d at e);
   up = λ d at e. rw (ps d, ts d, qs d at, fs d) (is.up d at e);
 }

@@ -29,13 +29,11 @@ unrefused config log given = let is = matched-given config log given in
 pub channels : {w : ℕ} (config : Config) (log : Log w) → IsGiven config log → (link : ℕ) (ch : Channel)
     → length ((system_after config log).channels link ch) ≤ capacity (64 / w) (sources_of (terms_at config link))
     config.trackers ch
-channels config log given link ch = channels-few config log (shadow config log).mail (shadow config log).request
-    (shadow config log).state given.width (matched-given config log given) link ch
+channels config log given link ch = channels-few given.width (matched-given config log given) link ch
 
 pub coherent : {w : ℕ} (config : Config) (log : Log w) → IsGiven config log
     → IsCoherent (system_after config log) log (one_memory_after config log)
-coherent config log given = coherent-matched config log (shadow config log).mail (shadow config log).request
-    (shadow config log).state (matched-given config log given)
+coherent config log given = coherent-matched (matched-given config log given)
 
 -- a client has terms
 client_terms : (config : Config) (c : ℕ) → is_client config c ≡ true → (terms : EndConfig)
@@ -62,15 +60,13 @@ carries config log given link ch =
     carried-passing config log link ch (passing config log given.width given.typed given.is_log)
 
 pub grants : {w : ℕ} (config : Config) (log : Log w) (link : Link) (ch : Channel) (x : Beat w) (source : ℕ) (p : Perm)
-    (op : Op w)
-    → IsGiven config ((Deliver link ch, Outcome.Done x source (Granted p)) ∷ log)
+    (op : Op w) → IsGiven config ((Deliver link ch, Outcome.Done x source (Granted p)) ∷ log)
     → started link.0 Requests source log ≡ Some op
     → held_at ((system_after config ((Deliver link ch, Outcome.Done x source (Granted p)) ∷ log)).clients link.0)
     (op_block op) ≡ p
 unfolding system_after AreTyped IsLog
-grants config log link ch x source p op given asked =
-    granted-holds config log link ch (shadow config log) x source p op given.width
-    (matched config log given.width given.typed.1 given.is_log.1) (sym given.is_log.0) asked
+grants config log link ch x source p op given asked = granted-holds link ch (shadow config log) x source p op
+    given.width (matched config log given.width given.typed.1 given.is_log.1) (sym given.is_log.0) asked
 
 -- No client holds more of a block than is recorded for it.
 pub at_most_recorded : {w : ℕ} (config : Config) (log : Log w) → IsGiven config log → (link block : ℕ)

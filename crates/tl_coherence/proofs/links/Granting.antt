@@ -92,24 +92,24 @@ same_op x y e = cc
 
 -- ---- what the client holds then
 
-pub held_granted : {w : ℕ} (config : Config) (tracker c n : ℕ) (rest : List Packet) (h : AbstractState w)
+pub held_granted : {w : ℕ} (config : Config) (tracker : ℕ) {c n : ℕ} (rest : List Packet) (h : AbstractState w)
     (due : IsGrantDue c n h.state)
     → (((kind_taken config tracker c Grant n rest h).state.block n).pair c).held ≡ cap_right due.k
-held_granted {w} config tracker c n rest h due =
+held_granted {w} config tracker {c} {n} rest h due =
     let b : Block (List ℕ) = h.state.block n in
     ap (λ (v : Service). ((((taken_by_client c n v rest h).state).block n).pair c).held) due.service
     ∙ ap (λ (i : Block (List ℕ)). (i.pair c).held)
     (set-same n (taken_block c (is_whole (b.pair c).acquiring) due.data_too due.k b) h.state.block)
     ∙ ap (λ (p : ClientBlock). p.held) (set-same c (after_grant due.k (b.pair c)) b.pair)
 
-pub granted-holds : {w : ℕ} (config : Config) (log : Log w) (link : Link) (ch : Channel) (h : AbstractState w)
+pub granted-holds : {w : ℕ} {config : Config} {log : Log w} (link : Link) (ch : Channel) (h : AbstractState w)
     (x : Beat w) (source : ℕ) (p : Perm) (op : Op w)
     → IsWidth w → SimulationRelation config log h.mail h.request h.state (system_after config log)
     → (stepped config (Deliver link ch) (system_after config log)).outcome ≡ Outcome.Done x source (Finish.Granted p)
     → started link.0 Requests source log ≡ Some op
     → held (op_block op) ((stepped config (Deliver link ch) (system_after config log)).after.clients link.0).past ≡ p
 unfolding block_message
-granted-holds {w} config log link ch h x source p op width is done asked = go end.first.kind refl end.first.own
+granted-holds {w} {config} {log} link ch h x source p op width is done asked = go end.first.kind refl end.first.own
   where
     sys : System w
     sys = system_after config log
@@ -130,10 +130,9 @@ granted-holds {w} config log link ch h x source p op width is done asked = go en
     response_is k e = ap (λ (i : Kind). message_of_kind i h.mail h.state c n) (sym e) ∙ end.response_is
 
     then_matched : SimulationRelation config ((Deliver link ch, (stepped config (Deliver link ch) sys).outcome) ∷ log)
-        (abstract_step config (Deliver link ch) sys h).mail
-        (abstract_step config (Deliver link ch) sys h).request (abstract_step config (Deliver link ch) sys h).state
-        (stepped config (Deliver link ch) sys).after
-    then_matched = matched-event config log h (Deliver link ch) width tt is
+        (abstract_step config (Deliver link ch) sys h).mail (abstract_step config (Deliver link ch) sys h).request
+        (abstract_step config (Deliver link ch) sys h).state (stepped config (Deliver link ch) sys).after
+    then_matched = matched-event h (Deliver link ch) width tt is
 
     grant : (e : end.first.kind ≡ Grant)
         → held (op_block op) ((stepped config (Deliver link ch) sys).after.clients c).past ≡ p
@@ -158,7 +157,7 @@ granted-holds {w} config log link ch h x source p op width is done asked = go en
         ∙ ap (λ (i : AbstractState w). ((i.state.block n).pair c).held) end.follows ∙ ap
         (λ (k : Kind). (((kind_taken config (next_tracker sys) c k n end.first.rest h).state.block n).pair c).held)
         e
-        ∙ held_granted config (next_tracker sys) c n end.first.rest h due ∙ sym cap_is
+        ∙ held_granted config (next_tracker sys) end.first.rest h due ∙ sym cap_is
 
     go : (k : Kind) → end.first.kind ≡ k → is_on Channel.D end.first.kind ≡ true
         → held (op_block op) ((stepped config (Deliver link ch) sys).after.clients c).past ≡ p

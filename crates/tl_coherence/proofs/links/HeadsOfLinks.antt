@@ -29,19 +29,17 @@ use Rattle.tl_coherence.proofs.deliveries.FirstRequest.{IsArrival, arrival-first
 
 -- ---- the channel of the first beat
 
-on_a : {w : ℕ} (config : Config) (log : Log w) (h : AbstractState w) (sys : System w) (c : ℕ) (x : Beat w)
-    (queue : List (Beat w)) → IsWidth w
-    → SimulationRelation config log h.mail h.request h.state sys → sys.channels c Channel.A ≡ x ∷ queue
-    → channel_of x ≡ Channel.A
-on_a {w} config log h sys c x queue width is beats = let arrives =
-    arrival-first config log h sys c x queue width is beats in ap (λ (y : Beat w). channel_of y) arrives.next.beat_is
+on_a : {w : ℕ} {config : Config} {log : Log w} (h : AbstractState w) {sys : System w} (c : ℕ) (x : Beat w)
+    (queue : List (Beat w)) → IsWidth w → SimulationRelation config log h.mail h.request h.state sys
+    → sys.channels c Channel.A ≡ x ∷ queue → channel_of x ≡ Channel.A
+on_a {w} {config} {log} h {sys} c x queue width is beats = let arrives =
+    arrival-first h c x queue width is beats in ap (λ (y : Beat w). channel_of y) arrives.next.beat_is
 
-on_c : {w : ℕ} (config : Config) (log : Log w) (h : AbstractState w) (sys : System w) (c : ℕ) (x : Beat w)
-    (queue : List (Beat w)) → IsWidth w
-    → SimulationRelation config log h.mail h.request h.state sys → sys.channels c Channel.C ≡ x ∷ queue
-    → channel_of x ≡ Channel.C
+on_c : {w : ℕ} {config : Config} {log : Log w} (h : AbstractState w) {sys : System w} (c : ℕ) (x : Beat w)
+    (queue : List (Beat w)) → IsWidth w → SimulationRelation config log h.mail h.request h.state sys
+    → sys.channels c Channel.C ≡ x ∷ queue → channel_of x ≡ Channel.C
 unfolding block_message
-on_c {w} config log h sys c x queue width is beats = cc (by-first_c (λ i. channel_of x ≡ Channel.C) c h.mail h.state sys
+on_c {w} {config} h {sys} c x queue width is beats = cc (by-first_c (λ i. channel_of x ≡ Channel.C) c h.mail h.state sys
     x queue (first-token (is_caching config) Channel.C c h.mail h.state sys x queue width is.invariant is.carried beats)
     (λ n rest tokens next. let m = report-about (report_told ((h.state.block n).pair c).probing) n (h.state.block
     n).truth width (is.sized n).truth in ap (λ (y : Beat w). channel_of y) (next.beat_is ∙ ap (λ (i : Message w).
@@ -49,22 +47,19 @@ on_c {w} config log h sys c x queue width is beats = cc (by-first_c (λ i. chann
     ((h.state.block n).release_source c) n (h.state.block n).truth width (is.sized n).truth in ap (λ (y : Beat w).
     channel_of y) (next.beat_is ∙ ap (λ (i : Message w). beat_of i next.k) m.1)))
 
-on_e : {w : ℕ} (config : Config) (log : Log w) (h : AbstractState w) (sys : System w) (c : ℕ) (x : Beat w)
-    (queue : List (Beat w)) → IsWidth w
-    → SimulationRelation config log h.mail h.request h.state sys → sys.channels c Channel.E ≡ x ∷ queue
-    → channel_of x ≡ Channel.E
+on_e : {w : ℕ} {config : Config} {log : Log w} (h : AbstractState w) {sys : System w} (c : ℕ) (x : Beat w)
+    (queue : List (Beat w)) → IsWidth w → SimulationRelation config log h.mail h.request h.state sys
+    → sys.channels c Channel.E ≡ x ∷ queue → channel_of x ≡ Channel.E
 unfolding block_message
-on_e {w} config log h sys c x queue width is beats =
-    by-first_e (λ i. channel_of x ≡ Channel.E) c h.mail h.state sys x queue
-    (first-token (is_caching config) Channel.E c h.mail h.state sys x queue width is.invariant is.carried beats)
-    (λ n rest tokens next. ap (λ (y : Beat w). channel_of y) next.beat_is)
+on_e {w} {config} h {sys} c x queue width is beats =
+    by-first_e (λ i. channel_of x ≡ Channel.E) (first-token (is_caching config) Channel.E c h.mail h.state sys x queue
+    width is.invariant is.carried beats) (λ n rest tokens next. ap (λ (y : Beat w). channel_of y) next.beat_is)
 
-on_d : {w : ℕ} (config : Config) (log : Log w) (h : AbstractState w) (sys : System w) (c : ℕ) (x : Beat w)
-    (queue : List (Beat w)) → IsWidth w
-    → SimulationRelation config log h.mail h.request h.state sys → sys.channels c Channel.D ≡ x ∷ queue
-    → channel_of x ≡ Channel.D
+on_d : {w : ℕ} {config : Config} {log : Log w} (h : AbstractState w) {sys : System w} (c : ℕ) (x : Beat w)
+    (queue : List (Beat w)) → IsWidth w → SimulationRelation config log h.mail h.request h.state sys
+    → sys.channels c Channel.D ≡ x ∷ queue → channel_of x ≡ Channel.D
 unfolding block_message
-on_d {w} config log h sys c x queue width is beats = go first.kind first.number first.tokens first.own first.next
+on_d {w} {config} h {sys} c x queue width is beats = go first.kind first.number first.tokens first.own first.next
   where
     first : packet.IsFirst Channel.D c h.mail h.state sys x queue
     first = first-token (is_caching config) Channel.D c h.mail h.state sys x queue width is.invariant is.carried beats
@@ -108,13 +103,12 @@ taken_up {w} a b e is = subst (λ (o : Offered w). IsTakenUp o.answer) (sym e) i
 -- ---- each channel
 
 pub first-of : {w : ℕ} (config : Config) (log : Log w) (h : AbstractState w) (c : ℕ) (terms : EndConfig) (ch : Channel)
-    (x : Beat w) (queue : List (Beat w)) → IsWidth w
-    → SimulationRelation config log h.mail h.request h.state (system_after config log)
-    → terms_at config c ≡ Some terms → (system_after config log).channels c ch ≡ x ∷ queue
+    (x : Beat w) (queue : List (Beat w)) → IsWidth w → SimulationRelation config log h.mail h.request h.state
+    (system_after config log) → terms_at config c ≡ Some terms → (system_after config log).channels c ch ≡ x ∷ queue
     → IsFirst config terms c ch x (system_after config log)
 first-of {w} config log h c terms Channel.A x queue width is at beats =
     let sys : System w = system_after config log in
-    let on = on_a config log h sys c x queue width is beats in
+    let on = on_a h c x queue width is beats in
     record {
       on = on;
       taken =
@@ -124,14 +118,12 @@ first-of {w} config log h c terms Channel.A x queue width is at beats =
     }
   where
     arrives : IsArrival config h (system_after config log) c x queue
-    arrives = arrival-first config log h (system_after config log) c x queue width is beats
+    arrives = arrival-first h c x queue width is beats
 
     either : (b : Bool) → manager.must_wait config (record { 0 = c }) x (system_after config log).manager.trace ≡ b
         → IsTakenIn (manager.offered config (record { 0 = c }) Channel.A x (system_after config log).manager)
-    either true e = taken_in _ _ (request-stalled config log h (system_after config log) c x queue is beats arrives e)
-        tt
-    either false e = taken_in _ _ (request-taken config log h (system_after config log) c x queue width is beats arrives
-        e) tt
+    either true e = taken_in _ _ (request-stalled is beats arrives e) tt
+    either false e = taken_in _ _ (request-taken width is beats arrives e) tt
 first-of {w} config log h c terms Channel.B x queue width is at beats =
     let k : Cap = cap_sent ((h.state.block probed.0).pair c).probing in
     let is_one : (y : BeatB w) → Beat.B (probe_beat probed.0 k) ≡ Beat.B y → is_probe y.opcode ≡ true =
@@ -148,7 +140,7 @@ first-of {w} config log h c terms Channel.B x queue width is at beats =
 
     probed : (n : ℕ) × IsProbed config terms (next_tracker sys) c n (shadow_of h.mail h.request h.state) x
         (sys.clients c)
-    probed = delivered-b config log h.mail h.request h.state sys terms (next_tracker sys) c x queue width is at beats
+    probed = delivered-b terms (next_tracker sys) c x queue width is at beats
 
     either : (b : Bool) → is_unreleased ((h.state.block probed.0).pair c).letting ≡ b
         → IsTakenUp (offered terms Channel.B x (sys.clients c)).answer
@@ -158,8 +150,8 @@ first-of {w} config log h c terms Channel.B x queue width is at beats =
         (probed.1.waits_for e) tt
 first-of {w} config log h c terms Channel.C x queue width is at beats =
     let sys : System w = system_after config log in
-    let on = on_c config log h sys c x queue width is beats in
-    let d = channel_c-delivered config log (next_tracker sys) h sys c x queue width is beats in
+    let on = on_c h c x queue width is beats in
+    let d = channel_c-delivered (next_tracker sys) h c x queue width is beats in
     record {
       on = on;
       taken = (λ e. absurd cc, λ e. taken_in _ _ d.up.answer tt);
@@ -168,8 +160,8 @@ first-of {w} config log h c terms Channel.C x queue width is at beats =
     }
 first-of {w} config log h c terms Channel.D x queue width is at beats =
     let sys : System w = system_after config log in
-    let on = on_d config log h sys c x queue width is beats in
-    let d = delivered-d config log h.mail h.request h.state sys terms (next_tracker sys) c x queue width is at beats in
+    let on = on_d h c x queue width is beats in
+    let d = delivered-d terms (next_tracker sys) c x queue width is at beats in
     record {
       on = on;
       taken = (
@@ -181,8 +173,8 @@ first-of {w} config log h c terms Channel.D x queue width is at beats =
     }
 first-of {w} config log h c terms Channel.E x queue width is at beats =
     let sys : System w = system_after config log in
-    let on = on_e config log h sys c x queue width is beats in
-    let d = channel_e-delivered config log (next_tracker sys) h sys c x queue width is beats in
+    let on = on_e h c x queue width is beats in
+    let d = channel_e-delivered (next_tracker sys) h c x queue width is beats in
     record {
       on = on;
       taken = (λ e. absurd cc, λ e. taken_in _ _ d.up.answer tt);

@@ -85,7 +85,7 @@ module _ {w : ℕ} (config : Config) (log : Log w) (mail : AccessMessages w) (re
   pub releasing-started : pending (ReleaseOf n) ((system_after config log).clients c).past ≡ true → IsReleasing c n log
   releasing-started p =
       let not_kept = not-true (is_unreleased ((s.block n).pair c).letting) (sym ((matched.known c).releases n) ∙ p) in
-      let let_by : s.lets c source ≡ Some n = source_of_release _ s c n matched.invariant not_kept in
+      let let_by : s.lets c source ≡ Some n = source_of_release c n matched.invariant not_kept in
       let found = of_let (rw let_by at (matched.beside.releases c source)) in
       (source, found.0, found.1)
     where
@@ -96,8 +96,8 @@ module _ {w : ℕ} (config : Config) (log : Log w) (mail : AccessMessages w) (re
           → (prune : Prune) × (started c Releases source log ≡ Some (Release n prune))
       of_let (p, is) = (
         p,
-        sym (coherent.opened c Releases source) ∙ ap
-            (λ (o : Option (Open w)). option_map (λ x. x.asked) o) is,
+        sym (coherent.opened c Releases source)
+            ∙ ap (λ (o : Option (Open w)). option_map (λ x. x.asked) o) is,
       )
 
   pub started-releasing : IsReleasing c n log → pending (ReleaseOf n) ((system_after config log).clients c).past ≡ true
@@ -153,8 +153,7 @@ emptiness {w} config terms link ch (x ∷ rest) s = go (is_to_client ch)
 
 -- one that is neither empty nor stalled moves a beat
 moving-else : {w : ℕ} (config : Config) (terms : EndConfig) (link : ℕ) (ch : Channel) (beats : List (Beat w))
-    (s : System w)
-    → is_emptiness (delivered config terms link ch beats s).outcome ≡ false
+    (s : System w) → is_emptiness (delivered config terms link ch beats s).outcome ≡ false
     → is_stall (delivered config terms link ch beats s).outcome ≡ false
     → is_moving (delivered config terms link ch beats s).outcome ≡ true
 moving-else config terms link ch [] s some unstalled = absurd cc
@@ -167,9 +166,8 @@ moving-else {w} config terms link ch (x ∷ rest) s some unstalled = go (is_to_c
     of_client (Ok (Verdict.Done source finish, m)) e f = refl
     of_client r e f = absurd cc
 
-    of_manager : (a : manager.Reception w × manager_end.End w)
-        → is_stall (manager_took link ch x rest a s).outcome ≡ false
-        → is_moving (manager_took link ch x rest a s).outcome ≡ true
+    of_manager : (a : manager.Reception w × manager_end.End w) → is_stall (manager_took link ch x rest a s).outcome
+        ≡ false → is_moving (manager_took link ch x rest a s).outcome ≡ true
     of_manager (manager.Sent handed, e) f = refl
     of_manager a f = absurd cc
 
@@ -194,8 +192,7 @@ movable-moves {w} config log c ch exactly movable =
     sys = system_after config log
 
     go : (o : Option EndConfig) → terms_at config c ≡ o → (beats : List (Beat w)) → sys.channels c ch ≡ beats
-        → moves config o c ch beats sys ≡ true
-        → is_moving (outcome_of_delivery config log c ch) ≡ true
+        → moves config o c ch beats sys ≡ true → is_moving (outcome_of_delivery config log c ch) ≡ true
     go (Some terms) e (x ∷ rest) f g =
         let is : IsExact config log c ch = exactly (ap is_some e) in
         let same = ap (λ (o : Option EndConfig). (stepped_at config o (Deliver (record { 0 = c }) ch) sys).outcome) e in
@@ -224,24 +221,20 @@ module _ {w : ℕ} (config : Config) (log : Log w) (mail : AccessMessages w) (re
   unfolding is_movable
   movable-is ch x rest e = rw (is, e) refl
 
-  outcome-is : (ch : Channel)
-      → outcome_of_delivery config log c ch ≡ (delivered config terms c ch ((system_after config log).channels c ch)
-      (system_after config log)).outcome
+  outcome-is : (ch : Channel) → outcome_of_delivery config log c ch
+      ≡ (delivered config terms c ch ((system_after config log).channels c ch) (system_after config log)).outcome
   unfolding stepped
   outcome-is ch = rw (outcome_of_delivery, is) refl
 
-  moves-exactly : (ch : Channel) (x : Beat w) (rest : List (Beat w))
-      → (system_after config log).channels c ch ≡ x ∷ rest → IsFirst config terms c ch x (system_after config log)
-      → Moves config log c x
+  moves-exactly : (ch : Channel) (x : Beat w) (rest : List (Beat w)) → (system_after config log).channels c ch
+      ≡ x ∷ rest → IsFirst config terms c ch x (system_after config log) → Moves config log c x
   moves-exactly Channel.A (Beat.A y) rest e first =
       movable-is Channel.A (Beat.A y) rest e ∙ ap not (stalled-as-it-must config (record { 0 = c }) Channel.A (Beat.A y)
       (system_after config log).manager (first.taken.1 refl))
-  moves-exactly Channel.C (Beat.C y) rest e first =
-      movable-is Channel.C (Beat.C y) rest e ∙ ap not (never-stalled config (record { 0 = c }) Channel.C (Beat.C y)
-      (system_after config log).manager refl)
-  moves-exactly Channel.E (Beat.E y) rest e first =
-      movable-is Channel.E (Beat.E y) rest e ∙ ap not (never-stalled config (record { 0 = c }) Channel.E (Beat.E y)
-      (system_after config log).manager refl)
+  moves-exactly Channel.C (Beat.C y) rest e first = movable-is Channel.C (Beat.C y) rest e
+      ∙ ap not (never-stalled config (record { 0 = c }) Channel.C (Beat.C y) (system_after config log).manager refl)
+  moves-exactly Channel.E (Beat.E y) rest e first = movable-is Channel.E (Beat.E y) rest e
+      ∙ ap not (never-stalled config (record { 0 = c }) Channel.E (Beat.E y) (system_after config log).manager refl)
   moves-exactly Channel.D (Beat.D y) rest e first =
       movable-is Channel.D (Beat.D y) rest e ∙ ap not
       (stalled-as-it-waits terms Channel.D (Beat.D y) ((system_after config log).clients c) (first.taken.0 refl))
@@ -277,7 +270,6 @@ module _ {w : ℕ} (config : Config) (log : Log w) (mail : AccessMessages w) (re
           → is_stall (outcome_of_delivery config log c ch) ≡ not (is_empty ((system_after config log).channels c ch))
           && not (is_movable config c ch (system_after config log))
       stall [] e = rw (outcome-is ch, e) refl
-      stall (x ∷ rest) e =
-          ap is_stall (outcome-is ch) ∙ rw (movable-is ch x rest e, e)
-          (stall-delivered config terms c ch x rest (system_after config log) (firsts x rest e).taken ∙ not_not
-          (stalls config terms c ch x (system_after config log)))
+      stall (x ∷ rest) e = ap is_stall (outcome-is ch)
+          ∙ rw (movable-is ch x rest e, e) (stall-delivered config terms c ch x rest (system_after config log)
+          (firsts x rest e).taken ∙ not_not (stalls config terms c ch x (system_after config log)))

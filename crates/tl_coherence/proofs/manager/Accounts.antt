@@ -26,16 +26,14 @@ use Rattle.tl_coherence.proofs.manager.BlockAccounts.{granted-is}
 -- ---- sources
 
 -- a source that is served is that of a service that isn't granted, and the other way
-asking-served : {w : ℕ} {X : Type 0} (caching : ℕ → Bool) (request : ℕ → MessageA w) (s : State X)
-    (c source n tracker : ℕ) (service : Service)
-    → IsInvariant caching s → (s.block n).service ≡ service → IsFor service n (request n)
-    → is_granted_in service ≡ false
-    → (r : ℕ) → client_in service ≡ Some r → (r == c) ≡ true → ((request n).source == source) ≡ true
-    → is_served c (s.uses c source) s ≡ true
-asking-served caching request s c source n tracker Free inv f for ungranted r client same here = absurd cc
-asking-served caching request s c source n tracker (GrantSent q d k) inv f for ungranted r client same here = absurd cc
-asking-served caching request s c source n tracker (GrantTaken q) inv f for ungranted r client same here = absurd cc
-asking-served {w} {X} caching request s c source n tracker (Waits q own src k) inv f for ungranted r client same here =
+asking-served : {w : ℕ} {X : Type 0} {caching : ℕ → Bool} (request : ℕ → MessageA w) {s : State X}
+    (c source n tracker : ℕ) (service : Service) → IsInvariant caching s → (s.block n).service ≡ service
+    → IsFor service n (request n) → is_granted_in service ≡ false → (r : ℕ) → client_in service ≡ Some r
+    → (r == c) ≡ true → ((request n).source == source) ≡ true → is_served c (s.uses c source) s ≡ true
+asking-served request c source n tracker Free inv f for ungranted r client same here = absurd cc
+asking-served request c source n tracker (GrantSent q d k) inv f for ungranted r client same here = absurd cc
+asking-served request c source n tracker (GrantTaken q) inv f for ungranted r client same here = absurd cc
+asking-served {w} {X} request {s} c source n tracker (Waits q own src k) inv f for ungranted r client same here =
     go own refl
   where
     q_is : q ≡ c
@@ -68,12 +66,12 @@ pub record IsServing {X : Type 0} (c source : ℕ) (s : State X) : Type 0 where
   pub cap : Cap
   pub waits_so : (s.block block).service ≡ Waits c own source cap
 
-served-waits : {X : Type 0} (caching : ℕ → Bool) (s : State X) (c source : ℕ) (u : SourceState) → IsInvariant caching s
+served-waits : {X : Type 0} {caching : ℕ → Bool} {s : State X} (c source : ℕ) (u : SourceState) → IsInvariant caching s
     → s.uses c source ≡ u → is_served c u s ≡ true → IsServing c source s
-served-waits caching s c source SourceFree inv f e = absurd cc
-served-waits caching s c source Asked inv f e = absurd cc
-served-waits caching s c source Replied inv f e = absurd cc
-served-waits {X} caching s c source (InService n) inv f e =
+served-waits c source SourceFree inv f e = absurd cc
+served-waits c source Asked inv f e = absurd cc
+served-waits c source Replied inv f e = absurd cc
+served-waits {X} {s} c source (InService n) inv f e =
     go (s.block n).service refl (sym (inv.named.serves c source n) ∙ rw (f, same_number n) refl)
   where
     go : (service : Service) → (s.block n).service ≡ service → is_serving c source service ≡ true → IsServing c source s
@@ -82,7 +80,7 @@ served-waits {X} caching s c source (InService n) inv f e =
         let number = eqb-true source src (and_right (c == r) (source == src) h) in
         record { block = n; own = false; cap = k; waits_so = g ∙ rw (client, number) refl }
     go service g h = absurd cc
-served-waits {X} caching s c source (Acquires n) inv f e = go (s.block n).service refl e
+served-waits {X} {s} c source (Acquires n) inv f e = go (s.block n).service refl e
   where
     only : (b : Bool) (k : Cap) → is_own (if b then Own else Other k) ≡ true → b ≡ true
     only true k g = refl
@@ -111,10 +109,10 @@ served-waits {X} caching s c source (Acquires n) inv f e = go (s.block n).servic
         let number : source ≡ src = cc (eqb-true source ((s.block n).source c) named, client, sourced) in
         record { block = n; own = true; cap = k; waits_so = g ∙ rw (client, number, mine) refl }
 
-sources-traced : {w : ℕ} {X : Type 0} (caching : ℕ → Bool) (config : Config) (request : ℕ → MessageA w) (s : State X)
-    (e : End w) → IsInvariant caching s → IsKept config e → IsTraced request s e.trace
+sources-traced : {w : ℕ} {X : Type 0} {caching : ℕ → Bool} {config : Config} {request : ℕ → MessageA w} {s : State X}
+    {e : End w} → IsInvariant caching s → IsKept config e → IsTraced request s e.trace
     → (c source : ℕ) → is_any (is_asking c source e.trace) (services e.trace) ≡ is_served c (s.uses c source) s
-sources-traced {w} {X} caching config request s e inv kept is c source = one_truth _ _ asking serving_it
+sources-traced {w} {X} {caching} {config} {request} {s} {e} inv kept is c source = one_truth _ _ asking serving_it
   where
     t : Trace w
     t = e.trace
@@ -126,7 +124,7 @@ sources-traced {w} {X} caching config request s e inv kept is c source = one_tru
     at_block n v (Waits r own src k) f found asks granted =
         let v_is = some_is (at_service r (s.block n).tracker (request n)) v found in
         let here : is_asking c source t (at_service r (s.block n).tracker (request n)) ≡ true = cc (v_is, asks) in
-        asking-served caching request s c source n (s.block n).tracker (Waits r own src k) inv f
+        asking-served request c source n (s.block n).tracker (Waits r own src k) inv f
         (rw f at (is.requests n)) refl r refl
         (and_left (r == c) _ here) (and_left ((request n).source == source) _ (and_right (r == c) _ here))
     at_block n v (GrantSent q d k) f found asks granted = absurd (ungranted v asks granted)
@@ -149,16 +147,16 @@ sources-traced {w} {X} caching config request s e inv kept is c source = one_tru
         let one = any-found (is_asking c source t) (services t) kept.blocks_apart any in
         at_block one.block one.service (s.block one.block).service refl (sym (is.serving_is one.block) ∙ one.serves)
         one.passes
-        (granted-is caching config request s e inv kept is one.block one.service one.serves)
+        (granted-is inv kept is one.block one.service one.serves)
 
     serving_it : is_served c (s.uses c source) s ≡ true → is_any (is_asking c source t) (services t) ≡ true
     serving_it served =
-        let one = served-waits caching s c source (s.uses c source) inv refl served in
+        let one = served-waits c source (s.uses c source) inv refl served in
         let v : manager.Service w = at_service c (s.block one.block).tracker (request one.block) in
         let found : service_of_block one.block (services t) ≡ Some v = is.serving_is one.block ∙ rw one.waits_so refl in
         let for : IsFor (Waits c one.own source one.cap) one.block (request one.block) =
         rw one.waits_so at (is.requests one.block) in
-        let granted : waits.is_granted t v ≡ false = granted-is caching config request s e inv kept is one.block v
+        let granted : waits.is_granted t v ≡ false = granted-is inv kept is one.block v
         found ∙ rw one.waits_so refl in
         any-of one.block (is_asking c source t) (services t) v found
         (rw (same_number c, for.1, same_number source, granted) refl)
@@ -203,10 +201,10 @@ busy-granted : (service : Service) → is_granted_in service ≡ true → is_bus
 busy-granted Free e = absurd cc
 busy-granted service e = refl
 
-sinks-traced : {w : ℕ} {X : Type 0} (caching : ℕ → Bool) (config : Config) (request : ℕ → MessageA w) (s : State X)
-    (e : End w) → IsInvariant caching s → IsKept config e → IsTraced request s e.trace
+sinks-traced : {w : ℕ} {X : Type 0} {caching : ℕ → Bool} {config : Config} {request : ℕ → MessageA w} {s : State X}
+    {e : End w} → IsInvariant caching s → IsKept config e → IsTraced request s e.trace
     → (c sink : ℕ) → is_any (is_granted_with c sink e.trace) (services e.trace) ≡ is_granted c (s.tracked sink) s
-sinks-traced {w} {X} caching config request s e inv kept is c sink =
+sinks-traced {w} {X} {caching} {config} {request} {s} {e} inv kept is c sink =
     one_truth _ _ granted_with (with_granted (s.tracked sink) refl)
   where
     t : Trace w
@@ -228,7 +226,7 @@ sinks-traced {w} {X} caching config request s e inv kept is c sink =
         in
         let yes = and_right (v.tracker == sink) _ (and_right (v.link.0 == c) _ one.passes) in
         let granted : is_granted_in (s.block n).service ≡ true =
-        sym (granted-is caching config request s e inv kept is n v one.serves) ∙ yes in
+        sym (granted-is inv kept is n v one.serves) ∙ yes in
         let of = client_of (client_in (s.block n).service) (s.block n).tracker (request n) v
         (sym (is.serving_is n) ∙ one.serves) in
         let tracker_is : sink ≡ (s.block n).tracker = sym number ∙ of.1 in
@@ -245,7 +243,7 @@ sinks-traced {w} {X} caching config request s e inv kept is c sink =
         let to = granted-to c (s.block n).service g in
         let v : manager.Service w = at_service c (s.block n).tracker (request n) in
         let found : service_of_block n (services t) ≡ Some v = cc (is.serving_is n, to.1) in
-        let granted : waits.is_granted t v ≡ true = granted-is caching config request s e inv kept is n v found ∙ to.0
+        let granted : waits.is_granted t v ≡ true = granted-is inv kept is n v found ∙ to.0
         in
         let tracks : tracks_with sink (s.block n) ≡ true = sym (inv.named.trackers sink n) ∙ rw (f, same_number n) refl
         in
@@ -273,41 +271,41 @@ request-with {w} (GrantSent q d k) tracker m v f =
 request-with {w} (GrantTaken q) tracker m v f =
     (sym (ap (λ (u : manager.Service w). u.request) (some_is (at_service q tracker m) v f)), λ e. cc)
 
-probes-traced : {w : ℕ} {X : Type 0} (caching : ℕ → Bool) (config : Config) (request : ℕ → MessageA w) (s : State X)
-    (e : End w) → IsInvariant caching s → IsKept config e → IsTraced request s e.trace
+probes-traced : {w : ℕ} {X : Type 0} {caching : ℕ → Bool} {config : Config} {request : ℕ → MessageA w} {s : State X}
+    {e : End w} → IsInvariant caching s → IsKept config e → IsTraced request s e.trace
     → (c n : ℕ) → is_unprobed ((s.block n).pair c).probing ≡ false
     → probe_of n (on_link c e.trace) ≡ Some (probe_beat n (cap_waited (s.block n).service))
-probes-traced {w} {X} caching config request s e inv kept is c n sent =
+probes-traced {w} {X} {caching} {config} {request} {s} {e} inv kept is c n sent =
     let probed : IsProbed c n e.trace = (kept.steady.accounted.blocks n).probes c (is.probes c n ∙ ap not sent) in
     let granted : is_granted_in (s.block n).service ≡ false =
-    sym (granted-is caching config request s e inv kept is n probed.service probed.serves) ∙ probed.unanswered in
+    sym (granted-is inv kept is n probed.service probed.serves) ∙ probed.unanswered in
     let of = request-with (s.block n).service (s.block n).tracker (request n) probed.service
     (sym (is.serving_is n) ∙ probed.serves) in
     let caps : cap_probed (request n).opcode (request n).param ≡ Some probed.cap = rw (← of.0) probed.caps in
     probed.probe ∙ ap (λ (k : Cap). Some (probe_beat n k)) (cap-of (s.block n).service n (request n) probed.cap
     (is.requests n) granted of.1 caps)
 
-pub are_served-traced : {w : ℕ} {X : Type 0} (caching : ℕ → Bool) (config : Config) (request : ℕ → MessageA w)
-    (s : State X) (e : End w) → IsInvariant caching s
+pub are_served-traced : {w : ℕ} {X : Type 0} {caching : ℕ → Bool} {config : Config} {request : ℕ → MessageA w}
+    {s : State X} {e : End w} → IsInvariant caching s
     → IsKept config e → IsTraced request s e.trace → ServedSourceRelation request s e.trace
-are_served-traced {w} {X} caching config request s e inv kept is = record {
+are_served-traced {w} {X} {caching} {config} {request} {s} {e} inv kept is = record {
   sources = λ c source. cc (
     source-pending c source e.trace kept.steady.accounted,
-    sources-traced caching config request
-        s e inv kept is c source,
+    sources-traced
+        inv kept is c source,
     or_comm (comes_in_request source (unfinished Channel.A (on_link c e.trace)))
         (is_served c (s.uses c source) s),
   );
-  sinks = λ c sink. sink-pending c sink e.trace kept.sinks ∙ sinks-traced caching config request s e inv kept is c sink;
+  sinks = λ c sink. sink-pending c sink e.trace kept.sinks ∙ sinks-traced inv kept is c sink;
   requests = is.requests;
   asked = is.asked;
-  probes = probes-traced caching config request s e inv kept is;
+  probes = probes-traced inv kept is;
 }
 
 -- the other way
-pub traced-known : {w : ℕ} {X : Type 0} (request : ℕ → MessageA w) (s : State X) (t : Trace w)
+pub traced-known : {w : ℕ} {X : Type 0} {request : ℕ → MessageA w} {s : State X} {t : Trace w}
     → ManagerRelation request s t → ServedSourceRelation request s t → IsTraced request s t
-traced-known request s t managed served = record {
+traced-known managed served = record {
   recorded_is = managed.recorded_is;
   probes = managed.probes;
   serving_is = managed.serving_is;

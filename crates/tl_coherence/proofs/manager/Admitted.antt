@@ -61,12 +61,12 @@ unfolding count
 first_counts x xs none = let one : one_if (is x.kind x.number x) ≡ 1 =
     rw (same_kind_again x.kind, same_number x.number) refl in absurd (omega (arith, none, one))
 
-pub release-comes : {w : ℕ} (config : Config) (log : Log w) (mail : AccessMessages w) (request : ℕ → MessageA w)
-    (s : State (List ℕ)) (sys : System w) (c n : ℕ)
+pub release-comes : {w : ℕ} {config : Config} {log : Log w} {mail : AccessMessages w} {request : ℕ → MessageA w}
+    {s : State (List ℕ)} {sys : System w} (c n : ℕ)
     → SimulationRelation config log mail request s sys → is_releasing ((s.block n).pair c).letting ≡ false
     → comes_of n (unfinished Channel.C (on_link c sys.manager.trace)) ≡ false
 unfolding block_message
-release-comes {w} config log mail request s sys c n is kept = go (s.link c).c refl
+release-comes {w} {mail} {s} {sys} c n is kept = go (s.link c).c refl
   where
     t : List (Beat w)
     t = unfinished Channel.C (on_link c sys.manager.trace)
@@ -100,13 +100,11 @@ release-comes {w} config log mail request s sys c n is kept = go (s.link c).c re
 -- ---- the order of messages
 
 -- a source that isn't in service, and of which no burst is unfinished, is free
-source-free : {w : ℕ} (config : Config) (log : Log w) (mail : AccessMessages w) (request : ℕ → MessageA w)
-    (s : State (List ℕ)) (sys : System w) (c source : ℕ)
-    → SimulationRelation config log mail request s sys → is_served c (s.uses c source) s ≡ false
-    → unfinished Channel.A (on_link c sys.manager.trace) ≡ []
+source-free : {w : ℕ} {config : Config} {log : Log w} {mail : AccessMessages w} {request : ℕ → MessageA w}
+    {s : State (List ℕ)} {sys : System w} (c source : ℕ) → SimulationRelation config log mail request s sys
+    → is_served c (s.uses c source) s ≡ false → unfinished Channel.A (on_link c sys.manager.trace) ≡ []
     → pending (Key.RequestSource source) (on_link c sys.manager.trace) ≡ false
-source-free config log mail request s sys c source is unserved none =
-    is.served.sources c source ∙ rw (unserved, none) refl
+source-free c source is unserved none = is.served.sources c source ∙ rw (unserved, none) refl
 
 access-order : {w : ℕ} (p : Profile) (x : BeatA w) (t : History w) → is_acquire x.opcode ≡ false
     → unfinished Channel.A t ≡ []
@@ -115,15 +113,15 @@ unfolding broken_order
 access-order p x t access none free = rw (none, free, access) refl
 
 -- a beat of an access that was asked
-pub order-access : {w : ℕ} (config : Config) (log : Log w) (mail : AccessMessages w) (request : ℕ → MessageA w)
-    (s : State (List ℕ)) (sys : System w) (c source : ℕ) (m : MessageA w) (k : ℕ)
+pub order-access : {w : ℕ} {config : Config} {log : Log w} {mail : AccessMessages w} {request : ℕ → MessageA w}
+    {s : State (List ℕ)} {sys : System w} (c source : ℕ) (m : MessageA w) (k : ℕ)
     → SimulationRelation config log mail request s sys → s.uses c source ≡ Asked → m.source ≡ source
     → is_acquire m.opcode ≡ false → unfinished Channel.A (on_link c sys.manager.trace) ≡ begun (Message.A m) k
     → broken_in_order config.profile (Beat.A (a_beat_of m k)) (on_link c sys.manager.trace) ≡ None
-order-access {w} config log mail request s sys c source m zero is used source_is access burst =
+order-access {w} {config} {log} {mail} {request} {s} {sys} c source m zero is used source_is access burst =
     access-order config.profile (a_beat_of m 0) (on_link c sys.manager.trace) access burst
-    (rw source_is (source-free config log mail request s sys c source is (rw used refl) burst))
-order-access config log mail request s sys c source m (suc i) is used source_is access burst =
+    (rw source_is (source-free c source is (rw used refl) burst))
+order-access {config} {sys} c source m (suc i) is used source_is access burst =
     later-legal config.profile (Message.A m) i (on_link c sys.manager.trace) burst
 
 pub grows : (g : Grow) (p q : Perm) (whole : Bool) → grow_fits q (AcquireOpen whole g) ≡ true → same_perm p q ≡ true
@@ -158,15 +156,14 @@ first_three true true true more e = refl
 first_three x y z more e = absurd cc
 
 -- a beat of an Acquire that is wanted, whose block isn't in service
-pub order-acquire : {w : ℕ} (config : Config) (log : Log w) (mail : AccessMessages w) (request : ℕ → MessageA w)
-    (s : State (List ℕ)) (sys : System w) (c n : ℕ) (k : ℕ)
-    → SimulationRelation config log mail request s sys → (is_it : IsWanted w c n s) → (s.block n).service ≡ Free
-    → unfinished Channel.A (on_link c sys.manager.trace) ≡ begun
-    (Message.A (acquisition (acquire_opcode is_it.whole) is_it.grow ((s.block n).source c) n)) k
+pub order-acquire : {w : ℕ} {config : Config} {log : Log w} {mail : AccessMessages w} {request : ℕ → MessageA w}
+    {s : State (List ℕ)} {sys : System w} {c n : ℕ} (k : ℕ) → SimulationRelation config log mail request s sys
+    → (is_it : IsWanted w c n s) → (s.block n).service ≡ Free → unfinished Channel.A (on_link c sys.manager.trace)
+    ≡ begun (Message.A (acquisition (acquire_opcode is_it.whole) is_it.grow ((s.block n).source c) n)) k
     → broken_in_order config.profile
     (Beat.A (a_beat_of (acquisition (acquire_opcode is_it.whole) is_it.grow ((s.block n).source c) n) k))
     (on_link c sys.manager.trace) ≡ None
-order-acquire {w} config log mail request s sys c n zero is is_it free burst =
+order-acquire {w} {config} {log} {mail} {request} {s} {sys} {c} {n} zero is is_it free burst =
     let p : ClientBlock = (s.block n).pair c in
     let well : ok p (view (s.block n).service c) ≡ true = (is.invariant.blocks n).phases c in
     let idle : view (s.block n).service c ≡ Idle = rw free refl in
@@ -175,25 +172,25 @@ order-acquire {w} config log mail request s sys c n zero is is_it free burst =
     acquire-legal config.profile n p.recorded
     (a_beat_of (acquisition (acquire_opcode is_it.whole) is_it.grow ((s.block n).source c) n) 0)
     (on_link c sys.manager.trace) (acquires-so is_it.whole) (same_block n) burst
-    (source-free config log mail request s sys c ((s.block n).source c) is (rw (is_it.used, idle) refl) burst)
+    (source-free c ((s.block n).source c) is (rw (is_it.used, idle) refl) burst)
     (is.managed.acquires c n ∙ rw idle refl)
-    ((is.manager_kept.releases c).blocks n ∙ release-comes config log mail request s sys c n is
+    ((is.manager_kept.releases c).blocks n ∙ release-comes c n is
     (kept-is p.letting (and_right (is_unprobed p.probing) (is_unreleased p.letting)
     (and_left (is_unprobed p.probing && is_unreleased p.letting) (same_perm p.recorded p.held) settled))))
     (is.managed.recorded_is c n)
     (grows is_it.grow p.recorded p.held is_it.whole (acquire_fits is_it.whole is_it.grow p (view (s.block n).service c)
     well is_it.wants)
     (and_right (is_unprobed p.probing && is_unreleased p.letting) (same_perm p.recorded p.held) settled))
-order-acquire {w} config log mail request s sys c n (suc i) is is_it free burst =
+order-acquire {w} {config} {s} {sys} {c} {n} (suc i) is is_it free burst =
     later-legal config.profile
     (Message.A (acquisition (acquire_opcode is_it.whole) is_it.grow ((s.block n).source c) n)) i
     (on_link c sys.manager.trace) burst
 
 -- ---- what a beat that needn't wait finds
 
-pub unserved-free : {w : ℕ} {X : Type 0} (request : ℕ → MessageA w) (s : State X) (t : Trace w) (n : ℕ)
+pub unserved-free : {w : ℕ} {X : Type 0} {request : ℕ → MessageA w} {s : State X} {t : Trace w} (n : ℕ)
     → ManagerRelation request s t → is_in_service n (services t) ≡ false → (s.block n).service ≡ Free
-unserved-free {w} request s t n is none = go (s.block n).service (ap is_some (sym (is.serving_is n)) ∙ none)
+unserved-free {w} {request} {s} n is none = go (s.block n).service (ap is_some (sym (is.serving_is n)) ∙ none)
   where
     go : (service : Service) → is_some (service_with (client_in service) (s.block n).tracker (request n)) ≡ false
         → service ≡ Free
@@ -201,10 +198,9 @@ unserved-free {w} request s t n is none = go (s.block n).service (ap is_some (sy
     go service e = absurd cc
 
 -- the tracker of the next service is of no block
-pub free-untracked : {w : ℕ} {X : Type 0} (caching : ℕ → Bool) (request : ℕ → MessageA w) (s : State X) (t : Trace w)
-    → IsInvariant caching s
-    → ManagerRelation request s t → s.tracked (least_untaken (trackers_of (services t))) ≡ None
-free-untracked {w} caching request s t inv is = go (s.tracked i) refl
+pub free-untracked : {w : ℕ} {X : Type 0} {caching : ℕ → Bool} {request : ℕ → MessageA w} {s : State X} {t : Trace w}
+    → IsInvariant caching s → ManagerRelation request s t → s.tracked (least_untaken (trackers_of (services t))) ≡ None
+free-untracked {w} {request} {s} {t} inv is = go (s.tracked i) refl
   where
     i : ℕ
     i = least_untaken (trackers_of (services t))
@@ -260,25 +256,23 @@ pub record IsFirstBeat {w : ℕ} (config : Config) (c : ℕ) (x : BeatA w) (sys 
   pub clean : is_spoiled (Beat.A x) ≡ false
   pub typed : IsTyped (Beat.A x)
 
-pub first-beat : {w : ℕ} (config : Config) (log : Log w) (mail : AccessMessages w) (request : ℕ → MessageA w)
-    (s : State (List ℕ)) (sys : System w) (c : ℕ) (x : BeatA w) (queue : List (Beat w))
+pub first-beat : {w : ℕ} {config : Config} {log : Log w} {mail : AccessMessages w} {request : ℕ → MessageA w}
+    {s : State (List ℕ)} {sys : System w} (c : ℕ) (x : BeatA w) (queue : List (Beat w))
     → SimulationRelation config log mail request s sys → sys.channels c Channel.A ≡ Beat.A x ∷ queue
     → IsFirstBeat config c x sys
-first-beat {w} config log mail request s sys c x queue is beats =
+first-beat {w} {config} {sys} c x queue is beats =
     let sound : IsSound config (link_of c, Beat.A x) = head_all (λ y. IsSound config (link_of c, y)) (Beat.A x) queue
     (sys.channels c Channel.A) beats (is.sound c Channel.A) in
     let typed = head_all AreLanes (Beat.A x) queue (sys.channels c Channel.A) beats (is.typed c Channel.A) in
     let l = leveled (level_of config c) (Beat.A x) sound.lawful in
     record { level = l.0; level_is = l.1; lawful = l.2; inside = sound.inside; clean = sound.clean; typed = typed }
 
-pub passes-first : {w : ℕ} (config : Config) (c : ℕ) (x : BeatA w) (sys : System w) → sys.manager.closed ≡ []
-    → IsFirstBeat config c x sys
-    → broken_in_order config.profile (Beat.A x) (on_link c sys.manager.trace) ≡ None
+pub passes-first : {w : ℕ} {config : Config} {c : ℕ} {x : BeatA w} {sys : System w} → sys.manager.closed ≡ []
+    → IsFirstBeat config c x sys → broken_in_order config.profile (Beat.A x) (on_link c sys.manager.trace) ≡ None
     → must_wait config (link_of c) (Beat.A x) sys.manager.trace ≡ false
     → judged config (link_of c) Channel.A (Beat.A x) sys.manager ≡ Passes
-passes-first config c x sys live is order moves =
-    judged-passes config is.level (link_of c) Channel.A (Beat.A x) sys.manager
-    (open-level config is.level c sys.manager live is.level_is) is.lawful order moves is.inside is.clean
+passes-first {config} {c} {x} {sys} live is order moves = judged-passes config is.level (link_of c) Channel.A (Beat.A x)
+    sys.manager (open-level config is.level c sys.manager live is.level_is) is.lawful order moves is.inside is.clean
 
 waits_at : {w : ℕ} (config : Config) (l : Level) (link : Link) (x : BeatA w) (t : Trace w)
     → illegal l Channel.A (Beat.A x) ≡ None
@@ -288,12 +282,12 @@ unfolding judged_at
 waits_at config l link x t lawful order waits = rw (lawful, order, waits) refl
 
 -- one that has to wait is stalled, and not refused
-pub waits-first : {w : ℕ} (config : Config) (c : ℕ) (x : BeatA w) (sys : System w) → sys.manager.closed ≡ []
+pub waits-first : {w : ℕ} {config : Config} {c : ℕ} {x : BeatA w} {sys : System w} → sys.manager.closed ≡ []
     → IsFirstBeat config c x sys
     → before_stall (broken_in_order config.profile (Beat.A x) (on_link c sys.manager.trace)) ≡ None
     → must_wait config (link_of c) (Beat.A x) sys.manager.trace ≡ true
     → judged config (link_of c) Channel.A (Beat.A x) sys.manager ≡ manager.Waits
-waits-first config c x sys live is order waits = rw (open-level config is.level c sys.manager live is.level_is)
+waits-first {config} {c} {x} {sys} live is order waits = rw (open-level config is.level c sys.manager live is.level_is)
     (waits_at config is.level (link_of c) x sys.manager.trace is.lawful order waits)
 
 -- what is judged before the stall is none of an Acquire either
@@ -310,24 +304,23 @@ early_first p x t none free = rw (none, free) (early_none
     (Key.ReleaseOf (block_at x.address)) t))
     (is_acquire x.opcode && not (grows_from x.param (held (block_at x.address) t))))
 
-pub early-acquire : {w : ℕ} (config : Config) (log : Log w) (mail : AccessMessages w) (request : ℕ → MessageA w)
-    (s : State (List ℕ)) (sys : System w) (c n k : ℕ)
-    → SimulationRelation config log mail request s sys → (is_it : IsWanted w c n s)
-    → unfinished Channel.A (on_link c sys.manager.trace) ≡ begun
-    (Message.A (acquisition (acquire_opcode is_it.whole) is_it.grow ((s.block n).source c) n)) k
+pub early-acquire : {w : ℕ} {config : Config} {log : Log w} {mail : AccessMessages w} {request : ℕ → MessageA w}
+    {s : State (List ℕ)} {sys : System w} {c n : ℕ} (k : ℕ) → SimulationRelation config log mail request s sys
+    → (is_it : IsWanted w c n s) → unfinished Channel.A (on_link c sys.manager.trace)
+    ≡ begun (Message.A (acquisition (acquire_opcode is_it.whole) is_it.grow ((s.block n).source c) n)) k
     → before_stall (broken_in_order config.profile
     (Beat.A (a_beat_of (acquisition (acquire_opcode is_it.whole) is_it.grow ((s.block n).source c) n) k))
     (on_link c sys.manager.trace)) ≡ None
-early-acquire {w} config log mail request s sys c n zero is is_it burst =
+early-acquire {w} {config} {log} {mail} {request} {s} {sys} {c} {n} zero is is_it burst =
     early_first config.profile (a_beat_of (acquisition (acquire_opcode is_it.whole) is_it.grow ((s.block n).source c) n)
     0) (on_link c sys.manager.trace) burst
-    (source-free config log mail request s sys c ((s.block n).source c) is
+    (source-free c ((s.block n).source c) is
     (rw is_it.used (unserved_own (view (s.block n).service c) is_it.unserved)) burst)
   where
     unserved_own : (v : View) → is_unserved v ≡ true → is_own v ≡ false
     unserved_own Own e = absurd cc
     unserved_own v e = refl
-early-acquire {w} config log mail request s sys c n (suc i) is is_it burst =
+early-acquire {w} {config} {s} {sys} {c} {n} (suc i) is is_it burst =
     ap before_stall (later-legal config.profile
     (Message.A (acquisition (acquire_opcode is_it.whole) is_it.grow ((s.block n).source c) n)) i
     (on_link c sys.manager.trace) burst)
@@ -336,11 +329,8 @@ early-acquire {w} config log mail request s sys c n (suc i) is is_it burst =
 
 pub offered-taken : {w : ℕ} (config : Config) (link : Link) (ch : Channel) (x : Beat w) (e : End w)
     → judged config link ch x e ≡ Passes
-    → offered config link ch x e ≡ (
-      manager.Sent (reaction config link x e).handed,
-      taken link x
-          (reaction config link x e) e,
-    )
+    → offered config link ch x e
+    ≡ (manager.Sent (reaction config link x e).handed, taken link x (reaction config link x e) e)
 unfolding offered
 offered-taken config link ch x e f = ap (λ j. offered_as j config link x e) f
 

@@ -148,24 +148,23 @@ pub record IsComing {w : ℕ} (config : Config) (c k : ℕ) (m : MessageA w) (e 
   pub blank : IsBlankAfter (beats_of (A m)) (A m)
   pub passes : judged config (link_of c) Channel.A (Beat.A (a_beat_of m k)) e ≡ Passes
 
-pub taken-coming : {w : ℕ} (config : Config) (c k : ℕ) (m : MessageA w) (e : End w) → IsComing config c k m e
+pub taken-coming : {w : ℕ} {config : Config} {c k : ℕ} {m : MessageA w} {e : End w} → IsComing config c k m e
     → IsTaken config (link_of c) (Beat.A (a_beat_of m k)) e
-taken-coming config c k m e is = is_taken config (link_of c) (Beat.A (a_beat_of m k)) e is.width
+taken-coming {config} {c} {k} {m} {e} is = is_taken config (link_of c) (Beat.A (a_beat_of m k)) e is.width
     (passed config (link_of c) Channel.A (Beat.A (a_beat_of m k)) e is.typed is.passes) is.kept
 
-pub ends-coming : {w : ℕ} (config : Config) (c k : ℕ) (m : MessageA w) (e : End w) → IsComing config c k m e
+pub ends-coming : {w : ℕ} {config : Config} {c k : ℕ} {m : MessageA w} {e : End w} → IsComing config c k m e
     → ends (Beat.A (a_beat_of m k)) (on_link c e.trace) ≡ (k + 1 == beats_of (A m))
-ends-coming config c k m e is = rw (is.burst, length-begun (A m) k) refl
+ends-coming {k} {m} is = rw (is.burst, length-begun (A m) k) refl
 
 -- the service of the request that it completes
 abbrev pub service_for : {w : ℕ} → ℕ → MessageA w → Trace w → Service w
 service_for c m t = record { tracker = least_untaken (trackers_of (services t)); link = link_of c; request = m }
 
-pub served-last : {w : ℕ} (config : Config) (c k : ℕ) (m : MessageA w) (e : End w) → IsComing config c k m e
-    → beats_of (A m) ≡ suc k
-    → IsServed (link_of c) (a_beat_of m k) (service_for c m e.trace) e.trace
-served-last {w} config c k m e is last = record {
-  last = ends-coming config c k m e is ∙ rw last (is_last k (suc k) (omega arith));
+pub served-last : {w : ℕ} {config : Config} {c k : ℕ} {m : MessageA w} {e : End w} → IsComing config c k m e
+    → beats_of (A m) ≡ suc k → IsServed (link_of c) (a_beat_of m k) (service_for c m e.trace) e.trace
+served-last {w} {config} {c} {k} {m} {e} is last = record {
+  last = ends-coming is ∙ rw last (is_last k (suc k) (omega arith));
   made = cc (
     is.burst,
     request-again m (begun (A m) (suc k)) is.width
@@ -177,13 +176,12 @@ served-last {w} config c k m e is last = record {
     with_tracker r = record { tracker = least_untaken (trackers_of (services e.trace)); link = link_of c; request = r }
 
 -- and it may be performed
-pub ready-last : {w : ℕ} (config : Config) (c k : ℕ) (m : MessageA w) (e : End w) → IsComing config c k m e
-    → beats_of (A m) ≡ suc k
-    → IsReady config (block_at m.address) (service_for c m e.trace) (with_beat c m k e.trace)
-ready-last {w} config c k m e is last =
-    let served = served-last config c k m e is last in
+pub ready-last : {w : ℕ} {config : Config} {c k : ℕ} {m : MessageA w} {e : End w} → IsComing config c k m e
+    → beats_of (A m) ≡ suc k → IsReady config (block_at m.address) (service_for c m e.trace) (with_beat c m k e.trace)
+ready-last {w} {config} {c} {k} {m} {e} is last =
+    let served = served-last is last in
     let found = made (link_of c) (a_beat_of m k) e.trace served.last (le-leb m.size 6 m.small) in
     let same = some_is (service_made (link_of c) (a_beat_of m k) e.trace found.0) (service_for c m e.trace)
     (sym found.1.made ∙ served.made) in
     subst (λ (v : Service w). IsReady config (block_at m.address) v (with_beat c m k e.trace)) same
-    (request-ready config (link_of c) (a_beat_of m k) e found.0 (taken-coming config c k m e is) found.1)
+    (request-ready config (link_of c) (a_beat_of m k) e found.0 (taken-coming is) found.1)

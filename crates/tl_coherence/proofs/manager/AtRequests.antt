@@ -34,39 +34,38 @@ end_after config c k m e =
 abbrev pub end_with : {w : ℕ} → ℕ → ℕ → MessageA w → Reaction w → End w → End w
 end_with c k m d e = taken (link_of c) (Beat.A (a_beat_of m k)) d e
 
-pub kept-coming : {w : ℕ} (config : Config) (c k : ℕ) (m : MessageA w) (e : End w) → IsComing config c k m e
+pub kept-coming : {w : ℕ} {config : Config} {c k : ℕ} {m : MessageA w} {e : End w} → IsComing config c k m e
     → IsKept config (end_after config c k m e)
-kept-coming {w} config c k m e is =
-    subst (λ (p : Reception w × End w). IsKept config p.1)
+kept-coming {w} {config} {c} {k} {m} {e} is = subst (λ (p : Reception w × End w). IsKept config p.1)
     (offered-taken config (link_of c) Channel.A (Beat.A (a_beat_of m k)) e is.passes)
     (kept-offered config (link_of c) Channel.A (Beat.A (a_beat_of m k)) e is.width is.typed is.kept)
 
 -- other blocks of the memory stay
-pub memory-coming : {w : ℕ} (config : Config) (c k i : ℕ) (m : MessageA w) (e : End w) → IsComing config c k m e
+pub memory-coming : {w : ℕ} {config : Config} {c k : ℕ} (i : ℕ) {m : MessageA w} {e : End w} → IsComing config c k m e
     → (i ≡ block_at m.address → ⊥)
     → bytes_from (end_after config c k m e).memory (64 * i) 64 ≡ bytes_from e.memory (64 * i) 64
-memory-coming {w} config c k i m e is other = cc (block-same (end_after config c k m e).memory e.memory i (λ x f. sym
+memory-coming {w} {config} {c} {k} i {m} {e} is other =
+    cc (block-same (end_after config c k m e).memory e.memory i (λ x f. sym
     (ap (λ (p : Reception w × End w). p.1.memory x) (offered-taken config (link_of c) Channel.A (Beat.A (a_beat_of m k))
     e is.passes)) ∙ memory-elsewhere config (link_of c) Channel.A (Beat.A (a_beat_of m k)) e x is.width is.typed is.kept
     (ne_eqb (block_at m.address) (block_at x) (λ g. other (sym (g ∙ f))))))
 
 -- ---- a beat that isn't the last
 
-pub at_manager-more : {w : ℕ} (caching : ℕ → Bool) (config : Config) (mail : AccessMessages w) (request : ℕ
-    → MessageA w) (s : State (List ℕ)) (c k : ℕ) (m : MessageA w) (e : End w)
-    → IsInvariant caching s → IsComing config c k m e → k + 1 < beats_of (A m) → IsUnwaited c m.source s
-    → IsAtManager config mail request s e
+pub at_manager-more : {w : ℕ} {caching : ℕ → Bool} {config : Config} {mail : AccessMessages w} {request : ℕ
+    → MessageA w} {s : State (List ℕ)} {c k : ℕ} {m : MessageA w} {e : End w} → IsInvariant caching s
+    → IsComing config c k m e → k + 1 < beats_of (A m) → IsUnwaited c m.source s → IsAtManager config mail request s e
     → IsAtManager config mail request s (end_after config c k m e)
 unfolding with_handed
-at_manager-more {w} caching config mail request s c k m e inv is more unwaited known =
+at_manager-more {w} {caching} {config} {mail} {request} {s} {c} {k} {m} {e} inv is more unwaited known =
     let part : ends (Beat.A (a_beat_of m k)) (on_link c e.trace) ≡ false =
-    ends-coming config c k m e is ∙ not_last k (beats_of (A m)) more in
+    ends-coming is ∙ not_last k (beats_of (A m)) more in
     let done = reaction-part config (link_of c) (Beat.A (a_beat_of m k)) e part in
     let kept : IsKept config (end_with c k m (nothing e.memory) e) =
-    subst (λ (d : Reaction w). IsKept config (end_with c k m d e)) done (kept-coming config c k m e is) in
+    subst (λ (d : Reaction w). IsKept config (end_with c k m d e)) done (kept-coming is) in
     subst (λ (d : Reaction w). IsAtManager config mail request s (end_with c k m d e)) (sym done)
-    (at_manager-traced caching config mail request s (end_with c k m (nothing e.memory) e) inv kept
-    (traced-more config request s c k m e is more unwaited (traced-known request s e.trace known.managed known.served))
+    (at_manager-traced mail inv kept
+    (traced-more is more unwaited (traced-known known.managed known.served))
     known.served_with known.memory known.all_live)
 
 -- ---- the last one: others are probed
@@ -84,20 +83,19 @@ reaction-probing {w} config c k n j m e is last block caps someone =
     let probing_of : ℕ → List ℕ → Reaction w = λ i ds. record { handed = probes i j ds; memory = e.memory } in
     let one = some-clients (probed config (service_for c m e.trace) j (with_beat c m k e.trace)) someone in
     reaction-probes config (link_of c) (a_beat_of m k) (service_for c m e.trace) j one.0 one.1 e
-    (served-last config c k m e is last) caps one.2
+    (served-last is last) caps one.2
     ∙ ap₂ (λ i ds. probing_of i ds) block (sym one.2)
 
-pub at_manager-probing : {w : ℕ} (caching : ℕ → Bool) (config : Config) (mail : AccessMessages w) (request : ℕ
-    → MessageA w) (c k n : ℕ) (own : Bool) (source : ℕ)
-    (j : Cap) (m : MessageA w) (s u : State (List ℕ)) (e : End w)
-    → IsInvariant caching u
-    → ((i : ℕ) → u.block i ≡ set n (served_block c own source (least_untaken (trackers_of (services e.trace))) j
-    (s.block n)) s.block i)
-    → IsProbing config c k n own source j m s e
+pub at_manager-probing : {w : ℕ} {caching : ℕ → Bool} {config : Config} {mail : AccessMessages w} {request : ℕ
+    → MessageA w} {c k n : ℕ} {own : Bool} {source : ℕ} {j : Cap} {m : MessageA w} {s u : State (List ℕ)} {e : End w}
+    → IsInvariant caching u → ((i : ℕ)
+    → u.block i ≡ set n (served_block c own source (least_untaken (trackers_of (services e.trace))) j (s.block n))
+    s.block i) → IsProbing config c k n own source j m s e
     → is_nobody (probed config (service_for c m e.trace) j (with_beat c m k e.trace)) ≡ false
-    → IsServedWith mail (Waits c own source j) m
-    → IsAtManager config mail request s e → IsAtManager config mail (set n m request) u (end_after config c k m e)
-at_manager-probing {w} caching config mail request c k n own source j m s u e inv blocks is someone with known =
+    → IsServedWith mail (Waits c own source j) m → IsAtManager config mail request s e
+    → IsAtManager config mail (set n m request) u (end_after config c k m e)
+at_manager-probing {w} {caching} {config} {mail} {request} {c} {k} {n} {own} {source} {j} {m} {s} {u} {e} inv blocks is
+    someone with known =
     let probing : Reaction w = record {
       handed = probes n j (probed config (service_for c m e.trace) j (with_beat c m k e.trace));
       memory = e.memory;
@@ -109,24 +107,25 @@ at_manager-probing {w} caching config mail request c k n own source j m s u e in
     ] in
     let done = reaction-probing config c k n j m e is.comes is.last is.for.2 is.for.3 someone in
     let kept : IsKept config (end_with c k m probing e) = subst (λ (d : Reaction w). IsKept config (end_with c k m d e))
-    done (kept-coming config c k m e is.comes) in
+    done (kept-coming is.comes) in
     subst (λ (d : Reaction w). IsAtManager config mail (set n m request) u (end_with c k m d e)) (sym done)
-    (at_manager-traced caching config mail (set n m request) u (end_with c k m probing e) inv kept
-    (traced-probing config request c k n own source j m s u e blocks is
-    (traced-known request s e.trace known.managed known.served))
+    (at_manager-traced mail inv kept
+    (traced-probing u blocks is
+    (traced-known known.managed known.served))
     served_now (λ i. known.memory i ∙ sym (ap (λ (b : Block (List ℕ)). b.memory) (blocks i) ∙ set-part
     (λ (b : Block (List ℕ)). b.memory) n new s.block refl i)) known.all_live)
 
 -- ---- the last one: the access is answered
 
-pub at_manager-answered : {w : ℕ} (caching : ℕ → Bool) (config : Config) (mail : AccessMessages w) (request : ℕ
-    → MessageA w) (c k n : ℕ) (m : MessageA w) (s u : State (List ℕ)) (e : End w)
+pub at_manager-answered : {w : ℕ} {caching : ℕ → Bool} {config : Config} {mail : AccessMessages w} {request : ℕ
+    → MessageA w} {c k n : ℕ} {m : MessageA w} {s u : State (List ℕ)} {e : End w}
     → IsInvariant caching u → ((i : ℕ) → u.block i ≡ set n (performed_block (performs m) (s.block n)) s.block i)
     → IsAnswering config c k n m s e → illegal_message_at (level_of config c) (A m) ≡ None
     → reaction config (link_of c) (Beat.A (a_beat_of m k)) e ≡ performed config (service_for c m e.trace)
     (with_beat c m k e.trace) e.memory
     → IsAtManager config mail request s e → IsAtManager config mail request u (end_after config c k m e)
-at_manager-answered {w} caching config mail request c k n m s u e inv blocks is lawful done known =
+at_manager-answered {w} {caching} {config} {mail} {request} {c} {k} {n} {m} {s} {u} {e} inv blocks is lawful done
+    known =
     let answering : Reaction w = performed config (service_for c m e.trace) (with_beat c m k e.trace) e.memory in
     let new : Block (List ℕ) = performed_block (performs m) (s.block n) in
     let served_now : (i : ℕ) → IsServedWith mail (u.block i).service (request i) =
@@ -142,30 +141,28 @@ at_manager-answered {w} caching config mail request c k n m s u e inv blocks is 
       known.memory n,
     ) in
     let memory_else : (i : ℕ) → (i ≡ n → ⊥) → bytes_from answering.memory (64 * i) 64 ≡ bytes_from e.memory (64 * i)
-    64 = λ i other. cc (done, memory-coming config c k i m e is.comes (λ f. other (f ∙ is.block))) in
+    64 = λ i other. cc (done, memory-coming i is.comes (λ f. other (f ∙ is.block))) in
     let memory_now : (i : ℕ) → bytes_from answering.memory (64 * i) 64 ≡ (u.block i).memory = λ i. elim (cases_eq i n) [
       | inl same ↦ rw (same, blocks n, set-same n new s.block) memory_here
       | inr other ↦ rw (blocks i, set-other n i new s.block other) (memory_else i other ∙ known.memory i)
     ] in
     let kept : IsKept config (end_with c k m answering e) =
-    subst (λ (d : Reaction w). IsKept config (end_with c k m d e)) done (kept-coming config c k m e is.comes) in
+    subst (λ (d : Reaction w). IsKept config (end_with c k m d e)) done (kept-coming is.comes) in
     subst (λ (d : Reaction w). IsAtManager config mail request u (end_with c k m d e)) (sym done)
-    (at_manager-traced caching config mail request u (end_with c k m answering e) inv kept
-    (traced-answered config request c k n (performs m) m s u e.memory e blocks is
-    (traced-known request s e.trace known.managed known.served)) served_now memory_now known.all_live)
+    (at_manager-traced mail inv kept
+    (traced-answered (performs m) u e.memory blocks is
+    (traced-known known.managed known.served)) served_now memory_now known.all_live)
 
 -- ---- the last one: the Acquire is granted
 
-pub at_manager-granted : {w : ℕ} (caching : ℕ → Bool) (config : Config) (mail : AccessMessages w) (request : ℕ
-    → MessageA w) (c k n : ℕ) (b : Bool) (j : Cap) (m : MessageA w) (s u : State (List ℕ)) (e : End w)
+pub at_manager-granted : {w : ℕ} {caching : ℕ → Bool} {config : Config} {mail : AccessMessages w} {request : ℕ
+    → MessageA w} {c k n : ℕ} (b : Bool) {j : Cap} {m : MessageA w} {s u : State (List ℕ)} {e : End w}
     → IsInvariant caching u → ((i : ℕ)
-    → u.block i ≡ set n (granted_at_once c (least_untaken (trackers_of (services e.trace))) b j (s.block n)) s.block
-    i)
-    → IsGranting config c k n j m s e
-    → reaction config (link_of c) (Beat.A (a_beat_of m k)) e ≡ performed config (service_for c m e.trace)
-    (with_beat c m k e.trace) e.memory
+    → u.block i ≡ set n (granted_at_once c (least_untaken (trackers_of (services e.trace))) b j (s.block n)) s.block i)
+    → IsGranting config c k n j m s e → reaction config (link_of c) (Beat.A (a_beat_of m k)) e
+    ≡ performed config (service_for c m e.trace) (with_beat c m k e.trace) e.memory
     → IsAtManager config mail request s e → IsAtManager config mail (set n m request) u (end_after config c k m e)
-at_manager-granted {w} caching config mail request c k n b j m s u e inv blocks is done known =
+at_manager-granted {w} {caching} {config} {mail} {request} {c} {k} {n} b {j} {m} {s} {u} {e} inv blocks is done known =
     let granting : Reaction w = performed config (service_for c m e.trace) (with_beat c m k e.trace) e.memory in
     let new : Block (List ℕ) = granted_at_once c (least_untaken (trackers_of (services e.trace))) b j (s.block n) in
     let served_now : (i : ℕ) → IsServedWith mail (u.block i).service (set n m request i) = λ i. elim (cases_eq i n) [
@@ -180,8 +177,8 @@ at_manager-granted {w} caching config mail request c k n b j m s u e inv blocks 
       set-part (λ (y : Block (List ℕ)). y.memory) n new s.block refl i,
     ) in
     let kept : IsKept config (end_with c k m granting e) =
-    subst (λ (d : Reaction w). IsKept config (end_with c k m d e)) done (kept-coming config c k m e is.comes) in
+    subst (λ (d : Reaction w). IsKept config (end_with c k m d e)) done (kept-coming is.comes) in
     subst (λ (d : Reaction w). IsAtManager config mail (set n m request) u (end_with c k m d e)) (sym done)
-    (at_manager-traced caching config mail (set n m request) u (end_with c k m granting e) inv kept
-    (traced-granted config request c k n b j m s u e.memory e blocks is
-    (traced-known request s e.trace known.managed known.served)) served_now memory_now known.all_live)
+    (at_manager-traced mail inv kept
+    (traced-granted b u e.memory blocks is
+    (traced-known known.managed known.served)) served_now memory_now known.all_live)

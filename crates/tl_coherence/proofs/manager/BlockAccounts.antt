@@ -105,11 +105,10 @@ granted_views (GrantTaken q) c e = not-other (c == q) Acknowledging GrantedOther
 granted_views s c e = absurd cc
 
 -- a request is granted exactly where the protocol says so
-pub granted-is : {w : ℕ} {X : Type 0} (caching : ℕ → Bool) (config : Config) (request : ℕ → MessageA w) (s : State X)
-    (e : End w) → IsInvariant caching s → IsKept config e → IsTraced request s e.trace
-    → (n : ℕ) (v : manager.Service w) → service_of_block n (services e.trace) ≡ Some v
-    → waits.is_granted e.trace v ≡ is_granted_in (s.block n).service
-granted-is {w} {X} caching config request s e inv kept is n v found = go (s.block n).service refl
+pub granted-is : {w : ℕ} {X : Type 0} {caching : ℕ → Bool} {config : Config} {request : ℕ → MessageA w} {s : State X}
+    {e : End w} → IsInvariant caching s → IsKept config e → IsTraced request s e.trace → (n : ℕ) (v : manager.Service w)
+    → service_of_block n (services e.trace) ≡ Some v → waits.is_granted e.trace v ≡ is_granted_in (s.block n).service
+granted-is {w} {X} {config} {s} {e} inv kept is n v found = go (s.block n).service refl
   where
     t : Trace w
     t = e.trace
@@ -199,10 +198,10 @@ granting-is c n tracker m t (GrantTaken q) granted = rw (granted (at_service q t
     go true = refl
     go false = refl
 
-pub managed-traced : {w : ℕ} {X : Type 0} (caching : ℕ → Bool) (config : Config) (request : ℕ → MessageA w)
-    (s : State X) (e : End w) → IsInvariant caching s
+pub managed-traced : {w : ℕ} {X : Type 0} {caching : ℕ → Bool} {config : Config} {request : ℕ → MessageA w}
+    {s : State X} {e : End w} → IsInvariant caching s
     → IsKept config e → IsTraced request s e.trace → ManagerRelation request s e.trace
-managed-traced {w} {X} caching config request s e inv kept is = record {
+managed-traced {w} {X} {caching} {config} {request} {s} {e} inv kept is = record {
   recorded_is = is.recorded_is;
   probes = is.probes;
   acquires = λ c n. (kept.steady.accounted.blocks n).acquires c ∙ ap (is_acquiring c e.trace) (is.serving_is n)
@@ -214,4 +213,4 @@ managed-traced {w} {X} caching config request s e inv kept is = record {
   where
     granted : (n : ℕ) (v : manager.Service w) → service_with (client_in (s.block n).service) (s.block n).tracker
         (request n) ≡ Some v → waits.is_granted e.trace v ≡ is_granted_in (s.block n).service
-    granted n v f = granted-is caching config request s e inv kept is n v (is.serving_is n ∙ f)
+    granted n v f = granted-is inv kept is n v (is.serving_is n ∙ f)

@@ -1,7 +1,7 @@
 -- Clients that pass a test, as the manager finds them and as the protocol does; and which source a
 -- request that waits has.
 use Rattle.tl_coherence.proofs.manager.Imports.{Config, Cap, is_nobody, some_below, IsInvariant, Own, Waits, State}
-use Rattle.tl_coherence.proofs.manager.Imports.{Acquires, InService, view, is_wanting, is_caching}
+use Rattle.tl_coherence.proofs.manager.Imports.{Acquires, InService, view, is_caching}
 use Rattle.std.proofs.Common.{◌≡◌, ℕ, zero, suc, ◌<◌, ◌≤◌, Bool, true, false, not, ◌||◌, List, [], ◌∷◌, length, refl}
 use Rattle.std.proofs.Common.{sym, ◌∙◌, ap, arith}
 use Rattle.std.{specs.Prelude.if◌then◌else◌, proofs.lemmas.Bool.lt-ltb, proofs.lemmas.Option.slice_get_past}
@@ -60,14 +60,14 @@ plain-past config d past = rw (slice_get_past config.clients.items d past) refl
 
 -- ---- the source of a request that waits
 
-pub waits-used : {X : Type 0} (caching : ℕ → Bool) (s : State X) (n r source : ℕ) (own : Bool) (k : Cap)
+pub waits-used : {X : Type 0} {caching : ℕ → Bool} {s : State X} (n r source : ℕ) (own : Bool) (k : Cap)
     → IsInvariant caching s → (s.block n).service ≡ Waits r own source k
     → s.uses r source ≡ (if own then Acquires n else InService n)
-waits-used caching s n r source true k inv e =
+waits-used {s} n r source true k inv e =
     let sourced : IsOwnSource (Waits r true source k) (s.block n).source = rw e at (inv.blocks n).own_source in
     let own_view : view (s.block n).service r ≡ Own = rw (e, same_number r) refl in
     let wants = not-calm ((s.block n).pair r).acquiring (own_wants ((s.block n).pair r) (view (s.block n).service r)
     ((inv.blocks n).phases r) own_view) in
     acquires_of-is n (s.uses r source) (inv.named.acquires r source n ∙ rw (wants, ← sourced, same_number source) refl)
-waits-used caching s n r source false k inv e =
+waits-used {s} n r source false k inv e =
     serves_of-is n (s.uses r source) (inv.named.serves r source n ∙ rw (e, same_number r, same_number source) refl)

@@ -20,69 +20,68 @@ pub record IsGiven {w : ℕ} (q n tracker : ℕ) (m : MessageD w) (u : Trace w) 
   pub sink : m.sink ≡ tracker
   pub asks : (i : ℕ) → asks_for i (request_of m.source (on_link q u)) ≡ (n == i)
 
-grants_it : {w : ℕ} (q n tracker : ℕ) (m : MessageD w) (u : Trace w) → IsGiven q n tracker m u → (d i : ℕ)
-    → (q == d) ≡ true
-    → (is_grant m.opcode && asks_for i (request_of m.source (on_link d u))) ≡ (n == i)
-grants_it q n tracker m u is d i e = rw (← eqb-true q d e, is.grants) (is.asks i)
+grants_it : {w : ℕ} {q n tracker : ℕ} {m : MessageD w} {u : Trace w} → IsGiven q n tracker m u → (d i : ℕ)
+    → (q == d) ≡ true → (is_grant m.opcode && asks_for i (request_of m.source (on_link d u))) ≡ (n == i)
+grants_it {q} is d i e = rw (← eqb-true q d e, is.grants) (is.asks i)
 
-pub given-acquires : {w : ℕ} (q n tracker : ℕ) (m : MessageD w) (u : Trace w) → IsGiven q n tracker m u → (d i : ℕ)
+pub given-acquires : {w : ℕ} {q n tracker : ℕ} {m : MessageD w} {u : Trace w} → IsGiven q n tracker m u → (d i : ℕ)
     → pending (Key.AcquireOf i) (on_link d (after_sent (record { 0 = q }) (D m) u))
     ≡ (if (q == d) && (n == i) then false else pending (Key.AcquireOf i) (on_link d u))
-given-acquires {w} q n tracker m u is d i = pending-reply (Key.AcquireOf i) (record { 0 = q }) m u d is.width
+given-acquires {w} {q} {n} {tracker} {m} {u} is d i = pending-reply (Key.AcquireOf i) (record { 0 = q }) m u d is.width
     is.whole ∙ go (q == d) refl
   where
     go : (b : Bool) → (q == d) ≡ b
         → (if b then after_whole false (is_grant m.opcode && asks_for i (request_of m.source (on_link d u)))
         (pending (Key.AcquireOf i) (on_link d u)) else pending (Key.AcquireOf i) (on_link d u))
         ≡ (if b && (n == i) then false else pending (Key.AcquireOf i) (on_link d u))
-    go true e = cc (grants_it q n tracker m u is d i e)
+    go true e = cc (grants_it is d i e)
     go false e = refl
 
-pub given-acks : {w : ℕ} (q n tracker : ℕ) (m : MessageD w) (u : Trace w) → IsGiven q n tracker m u → (d i : ℕ)
+pub given-acks : {w : ℕ} {q n tracker : ℕ} {m : MessageD w} {u : Trace w} → IsGiven q n tracker m u → (d i : ℕ)
     → pending (Key.GrantAckOf i) (on_link d (after_sent (record { 0 = q }) (D m) u))
     ≡ (if (q == d) && (n == i) then true else pending (Key.GrantAckOf i) (on_link d u))
-given-acks {w} q n tracker m u is d i = pending-reply (Key.GrantAckOf i) (record { 0 = q }) m u d is.width is.whole ∙ go
+given-acks {w} {q} {n} {tracker} {m} {u} is d i = pending-reply (Key.GrantAckOf i) (record { 0 = q }) m u d is.width
+    is.whole ∙ go
     (q == d) refl
   where
     go : (b : Bool) → (q == d) ≡ b
         → (if b then after_whole (is_grant m.opcode && asks_for i (request_of m.source (on_link d u))) false
         (pending (Key.GrantAckOf i) (on_link d u)) else pending (Key.GrantAckOf i) (on_link d u))
         ≡ (if b && (n == i) then true else pending (Key.GrantAckOf i) (on_link d u))
-    go true e = cc (grants_it q n tracker m u is d i e)
+    go true e = cc (grants_it is d i e)
     go false e = refl
 
-pub given-sinks : {w : ℕ} (q n tracker : ℕ) (m : MessageD w) (u : Trace w) → IsGiven q n tracker m u → (d i : ℕ)
+pub given-sinks : {w : ℕ} {q n tracker : ℕ} {m : MessageD w} {u : Trace w} → IsGiven q n tracker m u → (d i : ℕ)
     → pending (Key.GrantSink i) (on_link d (after_sent (record { 0 = q }) (D m) u))
     ≡ (if (q == d) && (tracker == i) then true else pending (Key.GrantSink i) (on_link d u))
-given-sinks {w} q n tracker m u is d i = pending-reply (Key.GrantSink i) (record { 0 = q }) m u d is.width is.whole ∙ rw
+given-sinks {w} {q} {tracker} {m} {u} is d i = pending-reply (Key.GrantSink i) (record { 0 = q }) m u d is.width
+    is.whole ∙ rw
     (is.grants, is.sink) (go (q == d))
   where
-    go : (b : Bool)
-        → (if b then after_whole (tracker == i) false (pending (Key.GrantSink i) (on_link d u)) else pending
+    go : (b : Bool) → (if b then after_whole (tracker == i) false (pending (Key.GrantSink i) (on_link d u)) else pending
         (Key.GrantSink i) (on_link d u))
         ≡ (if b && (tracker == i) then true else pending (Key.GrantSink i) (on_link d u))
     go true = refl
     go false = refl
 
-pub given-records : {w : ℕ} (q n tracker : ℕ) (m : MessageD w) (u : Trace w) → IsGiven q n tracker m u → (d i : ℕ)
+pub given-records : {w : ℕ} {q n tracker : ℕ} {m : MessageD w} {u : Trace w} → IsGiven q n tracker m u → (d i : ℕ)
     → recorded d i (after_sent (record { 0 = q }) (D m) u) ≡ (if (q == d) && (n == i) then capped m.param else recorded
     d i u)
-given-records {w} q n tracker m u is d i = go (q == d) refl
+given-records {w} {q} {n} {tracker} {m} {u} is d i = go (q == d) refl
   where
     said : (b : Bool) → unwrap_or (if b then Some (capped m.param) else None) (recorded d i u)
         ≡ (if b then capped m.param else recorded d i u)
     said true = refl
     said false = refl
 
-    go : (b : Bool) → (q == d) ≡ b
-        → recorded d i (after_sent (record { 0 = q }) (D m) u) ≡ (if b && (n == i) then capped m.param else recorded d i
-        u)
+    go : (b : Bool) → (q == d) ≡ b → recorded d i (after_sent (record { 0 = q }) (D m) u)
+        ≡ (if b && (n == i) then capped m.param else recorded d i u)
     go true e = cc (
       own_link d (record { 0 = q }) (D m) u e,
       held-sent_d i m (on_link d u)
           (subst (λ (j : ℕ). unfinished Channel.D (on_link j u) ≡ []) (eqb-true q d e) is.whole)
           (beats-positive (D m) is.width),
-      grants_it q n tracker m u is d i e,
+      grants_it is d i e,
       said (n == i),
     )
     go false e = ap (held i) (other_link d (record { 0 = q }) (D m) u e)

@@ -28,17 +28,14 @@ use Rattle.tl_coherence.proofs.manager.QuiescentManager.{part_none}
 abbrev pub acked : {w : ℕ} → ℕ → BeatE → Trace w → Trace w
 acked c x t = (record { 0 = c }, Beat.E x) ∷ t
 
-sinks-e : {w : ℕ} (c : ℕ) (x : BeatE) (t : Trace w) (d i : ℕ)
-    → pending (Key.GrantSink i) (on_link d (acked c x t)) ≡ (if (c == d) && (x.sink == i) then false else pending
-    (Key.GrantSink i) (on_link d t))
+sinks-e : {w : ℕ} (c : ℕ) (x : BeatE) (t : Trace w) (d i : ℕ) → pending (Key.GrantSink i) (on_link d (acked c x t))
+    ≡ (if (c == d) && (x.sink == i) then false else pending (Key.GrantSink i) (on_link d t))
 sinks-e {w} c x t d i = go (c == d) refl
   where
-    go : (b : Bool) → (c == d) ≡ b
-        → pending (Key.GrantSink i) (on_link d (acked c x t)) ≡ (if b && (x.sink == i) then false else pending
-        (Key.GrantSink i) (on_link d t))
-    go true e = ap (pending (Key.GrantSink i)) (own_beat d (record { 0 = c }) (Beat.E x) t e) ∙ pending-closed
-        (Key.GrantSink i) (Beat.E x) (on_link d t) refl
-        ∙ rw ((whole-e {w = w} x (on_link d t)).1) refl
+    go : (b : Bool) → (c == d) ≡ b → pending (Key.GrantSink i) (on_link d (acked c x t))
+        ≡ (if b && (x.sink == i) then false else pending (Key.GrantSink i) (on_link d t))
+    go true e = ap (pending (Key.GrantSink i)) (own_beat d (record { 0 = c }) (Beat.E x) t e)
+        ∙ pending-closed (Key.GrantSink i) (Beat.E x) (on_link d t) refl ∙ rw ((whole-e {w = w} x (on_link d t)).1) refl
     go false e = ap (pending (Key.GrantSink i)) (other_beat d (record { 0 = c }) (Beat.E x) t e)
 
 -- ---- the GrantAck of a block
@@ -70,10 +67,10 @@ client_busy s r e = refl
 -- ---- services
 
 -- the service of the block ends, and no other one
-serving-acked : {w : ℕ} {X : Type 0} (c n : ℕ) (x : BeatE) (request : ℕ → MessageA w) (s : State X) (t : Trace w)
+serving-acked : {w : ℕ} {X : Type 0} {c n : ℕ} {x : BeatE} {request : ℕ → MessageA w} {s : State X} {t : Trace w}
     → IsAcked c n x request s t → ManagerRelation request s t → (i : ℕ)
     → (service_of_block i (services (acked c x t)) ≡ (if i == n then None else service_of_block i (services t)))
-serving-acked {w} c n x request s t is known i =
+serving-acked {w} {c} {n} {x} {request} {s} {t} is known i =
     let passed : service_of_block i (services (acked c x t)) ≡ if_passes keeps (service_of_block i (services t)) =
     ap (service_of_block i) (services-e (record { 0 = c }) x t) ∙ serving-filter i keeps (services t) is.apart in
     let here : if_passes keeps (service_with (Some c) (s.block n).tracker (request n))
@@ -90,8 +87,8 @@ serving-acked {w} c n x request s t is known i =
     -- no two blocks have one tracker
     differ : (r : ℕ) → (i ≡ n → ⊥) → client_in (s.block i).service ≡ Some r → ((s.block i).tracker == x.sink) ≡ false
     differ r other e = cc (ne_eqb (s.block i).tracker x.sink (λ same. let first =
-        tracker-of i s is.named (client_busy (s.block i).service r e) in let second =
-        tracker-of n s is.named (rw is.taken refl) in let both : Some i ≡ Some n =
+        tracker-of i is.named (client_busy (s.block i).service r e) in let second =
+        tracker-of n is.named (rw is.taken refl) in let both : Some i ≡ Some n =
         sym first ∙ ap s.tracked (same ∙ is.sink_is) ∙ second in other (same_Some i n both)))
 
     never : (a b : Bool) → (a && (b && false)) ≡ false
@@ -112,14 +109,14 @@ serving-acked {w} c n x request s t is known i =
 
 -- ---- what is known
 
-pub managed-acked : {w : ℕ} {X : Type 0} (request : ℕ → MessageA w) (c n : ℕ) (rest : List Packet) (x : BeatE)
-    (s : State X) (t : Trace w) → IsAcked c n x request s t → ManagerRelation request s t
+pub managed-acked : {w : ℕ} {X : Type 0} {request : ℕ → MessageA w} {c n : ℕ} (rest : List Packet) {x : BeatE}
+    {s : State X} {t : Trace w} → IsAcked c n x request s t → ManagerRelation request s t
     → ManagerRelation request (grant_ack_taken c n rest s) (acked c x t)
-managed-acked {w} {X} request c n rest x s t is known =
+managed-acked {w} {X} {request} {c} {n} rest {x} {s} {t} is known =
     let new : Block X = freed_block (s.block n) in
     let serves : (i : ℕ) → service_of_block i (services u)
     ≡ (if i == n then None else service_of_block i (services t)) =
-    λ i. serving-acked c n x request s t is known i in
+    λ i. serving-acked is known i in
     let acks_now : (d i : ℕ) → is_granted_to d u (if i == n then None else service_of_block i (services t))
     ≡ (is_granting (view (set n new s.block i).service d) || is_acknowledging
     (view (set n new s.block i).service d)) = λ d i. elim (cases_eq i n) [
@@ -134,7 +131,8 @@ managed-acked {w} {X} request c n rest x s t is known =
           ∙ sym (set-part (λ (b : Block X). (b.pair d).recorded) n new s.block refl i);
       probes = λ d i. beat-keeps (pending (Key.ProbeOf i)) d (record { 0 = c }) (Beat.E x) t
           (λ h. pending-quiet (Key.ProbeOf i) (Beat.E x) h refl refl)
-          ∙ known.probes d i ∙ sym (set-part (λ (b : Block X). not (is_unprobed (b.pair d).probing)) n new s.block refl i);
+          ∙ known.probes d i ∙ sym (set-part (λ (b : Block X). not (is_unprobed (b.pair d).probing)) n new s.block refl
+          i);
       acquires = λ d i.
           beat-keeps (pending (Key.AcquireOf i)) d (record { 0 = c }) (Beat.E x) t
           (λ h. pending-quiet (Key.AcquireOf i) (Beat.E x) h refl refl) ∙ known.acquires d i
@@ -167,10 +165,10 @@ managed-acked {w} {X} request c n rest x s t is known =
         stays true g h = absurd cc
         stays false g h = refl
 
-pub are_served-acked : {w : ℕ} {X : Type 0} (request : ℕ → MessageA w) (c n : ℕ) (rest : List Packet) (x : BeatE)
-    (s : State X) (t : Trace w) → IsAcked c n x request s t → ServedSourceRelation request s t
+pub are_served-acked : {w : ℕ} {X : Type 0} {request : ℕ → MessageA w} {c n : ℕ} (rest : List Packet) {x : BeatE}
+    {s : State X} {t : Trace w} → IsAcked c n x request s t → ServedSourceRelation request s t
     → ServedSourceRelation request (grant_ack_taken c n rest s) (acked c x t)
-are_served-acked {w} {X} request c n rest x s t is known =
+are_served-acked {w} {X} {request} {c} {n} rest {x} {s} {t} is known =
     let asked_now : (i p from : ℕ) (own : Bool) (low : Cap) → (set n new s.block i).service ≡ Waits p own from low
     → request_of from (on_link p t) ≡ Some (a_beat_of (request i) 0) = λ i p from own low e. elim (cases_eq i n) [
       | inl same ↦ absurd (let free : Free ≡ Waits p own from low =
@@ -218,13 +216,13 @@ are_served-acked {w} {X} request c n rest x s t is known =
     here d = rw is.taken (awaits_if (d == c))
 
     tracked_here : s.tracked (s.block n).tracker ≡ Some n
-    tracked_here = tracker-of n s is.named (rw is.taken refl)
+    tracked_here = tracker-of n is.named (rw is.taken refl)
 
     elsewhere : (d i : ℕ) → (i ≡ (s.block n).tracker → ⊥) → (o : Option ℕ) → s.tracked i ≡ o
         → is_granted d o s ≡ is_granted d o z
     elsewhere d i other None e = refl
     elsewhere d i other (Some j) e = elim (cases_eq j n) [
-      | inl same ↦ absurd (other (tracker-alone n i s is.named (rw same at e)))
+      | inl same ↦ absurd (other (tracker-alone n i is.named (rw same at e)))
       | inr apart ↦ rw (set-other n j new s.block apart) refl
     ]
 

@@ -39,14 +39,13 @@ set_at-other c k x f d i other = elim (cases_eq d c) [
 -- ---- a tracker
 
 -- the tracker of a block that is in service is of the block, and no other one is
-pub tracker-of : {X : Type 0} (n : ℕ) (s : State X) → AreNamed s → is_busy (s.block n).service ≡ true
+pub tracker-of : {X : Type 0} (n : ℕ) {s : State X} → AreNamed s → is_busy (s.block n).service ≡ true
     → s.tracked (s.block n).tracker ≡ Some n
-tracker-of n s named busy =
-    is_of-is n (s.tracked (s.block n).tracker)
-    (named.trackers (s.block n).tracker n ∙ rw (busy, same_number (s.block n).tracker) refl)
+tracker-of n {s} named busy = is_of-is n (s.tracked (s.block n).tracker) (named.trackers (s.block n).tracker n
+    ∙ rw (busy, same_number (s.block n).tracker) refl)
 
-pub tracker-alone : {X : Type 0} (n i : ℕ) (s : State X) → AreNamed s → s.tracked i ≡ Some n → i ≡ (s.block n).tracker
-tracker-alone n i s named e =
+pub tracker-alone : {X : Type 0} (n i : ℕ) {s : State X} → AreNamed s → s.tracked i ≡ Some n → i ≡ (s.block n).tracker
+tracker-alone n i {s} named e =
     eqb-true i (s.block n).tracker
     (later (is_busy (s.block n).service) (sym (named.trackers i n) ∙ rw (e, same_number n) refl))
   where
@@ -90,26 +89,30 @@ all-quiet c n r new block pairs settled d =
       | inr other ↦ rw (ne_eqb c d other) (settled d (λ e. other (sym e)))
     ]
 
-pub managed-ended : {w : ℕ} {X : Type 0} (request : ℕ → MessageA w) (c q n source : ℕ) (k : Cap) (r : Report) (f : X
-    → X) (rest : List Packet) (x : BeatC w) (m : MessageD w) (s : State X) (t : Trace w)
+pub managed-ended : {w : ℕ} {X : Type 0} {request : ℕ → MessageA w} {c q n source : ℕ} {k : Cap} {r : Report} (f : X
+    → X) (rest : List Packet) {x : BeatC w} {m : MessageD w} {s : State X} {t : Trace w}
     → IsEnding c q n source k r x m request s t → ManagerRelation request s t
     → ManagerRelation request (report_answers c q n source r f rest s)
     (after_sent (record { 0 = q }) (D m) (taken c x t))
-managed-ended {w} {X} request c q n source k r f rest x m s t is known =
+managed-ended {w} {X} {request} {c} {q} {n} {r} f rest {x} {m} {s} {t} is known =
     let u : Trace w = taken c x t in
     let new : Block X = ended_block c r f (s.block n) in
     let other : is_grant m.opcode ≡ false = answer_kind m.opcode is.answers in
     record {
-      recorded_is = λ d i. recorded-answer (record { 0 = q }) m u is.reply.width is.reply.whole other d i ∙ reported-records
-          request c n r new x s t is.last (λ j. refl) known d i;
-      probes = λ d i. reply-quiet (Key.ProbeOf i) (record { 0 = q }) m u d is.reply.width is.reply.whole (λ e. (refl, refl))
-          ∙ reported-missing request c n r new x s t is.last is.report (λ j. refl) known d i;
+      recorded_is = λ d i. recorded-answer (record { 0 = q }) m u is.reply.width is.reply.whole other d
+          i ∙ reported-records
+          r new is.last (λ j. refl) known d i;
+      probes = λ d i. reply-quiet (Key.ProbeOf i) (record { 0 = q }) m u d is.reply.width is.reply.whole
+          (λ e. (refl, refl))
+          ∙ reported-missing r new is.last is.report (λ j. refl) known d i;
       acquires = λ d i.
-          reply-quiet (Key.AcquireOf i) (record { 0 = q }) m u d is.reply.width is.reply.whole (λ e. (refl, rw other refl))
+          reply-quiet (Key.AcquireOf i) (record { 0 = q }) m u d is.reply.width is.reply.whole
+          (λ e. (refl, rw other refl))
           ∙ (quiet-c (record { 0 = c }) x t).acquires d i ∙ known.acquires d i
           ∙ sym (set-part (λ (b : Block X). is_own (view b.service d)) n new s.block (rw is.waits refl) i);
       grant_acks = λ d i.
-          reply-quiet (Key.GrantAckOf i) (record { 0 = q }) m u d is.reply.width is.reply.whole (λ e. (rw other refl, refl))
+          reply-quiet (Key.GrantAckOf i) (record { 0 = q }) m u d is.reply.width is.reply.whole
+          (λ e. (rw other refl, refl))
           ∙ (quiet-c (record { 0 = c }) x t).grants d i ∙ known.grant_acks d i
           ∙ sym (set-part (λ (b : Block X). is_granting (view b.service d) || is_acknowledging (view b.service d)) n new
           s.block (rw is.waits refl) i);
@@ -120,28 +123,28 @@ managed-ended {w} {X} request c q n source k r f rest x m s t is known =
             | inl same ↦ rw (← same, same_number n) refl
             | inr apart ↦
                 let differ : i ≡ n → ⊥ = λ e. apart (sym e) in
-                rw (ne_eqb n i apart, ne_eqb i n differ) (ap (service_of_block i) (quiet-c (record { 0 = c }) x t).serves
+                rw (ne_eqb n i apart, ne_eqb i n differ)
+                (ap (service_of_block i) (quiet-c (record { 0 = c }) x t).serves
                 ∙ known.serving_is i)
           ];
     }
 
 -- a source that isn't pending has no unfinished request
-pub no-burst : {w : ℕ} (c q : ℕ) (t : Trace w) → IsAccounted t → pending (Key.RequestSource q) (on_link c t) ≡ false
+pub no-burst : {w : ℕ} (c q : ℕ) {t : Trace w} → IsAccounted t → pending (Key.RequestSource q) (on_link c t) ≡ false
     → comes_in_request q (unfinished Channel.A (on_link c t)) ≡ false
-no-burst c q t ok free = go (comes_in_request q (unfinished Channel.A (on_link c t)))
+no-burst c q {t} ok free = go (comes_in_request q (unfinished Channel.A (on_link c t)))
     (count_where (is_asking c q t) (services t)) (ok.sources c q ∙ ap one_if free)
   where
     go : (b : Bool) (k : ℕ) → one_if b + k ≡ 0 → b ≡ false
     go true k e = absurd (omega (arith, e))
     go false k e = refl
 
-pub are_served-ended : {w : ℕ} {X : Type 0} (request : ℕ → MessageA w) (c q n source : ℕ) (k : Cap) (r : Report) (f : X
-    → X) (rest : List Packet) (x : BeatC w)
-    (m : MessageD w) (s : State X) (t : Trace w)
+pub are_served-ended : {w : ℕ} {X : Type 0} {request : ℕ → MessageA w} {c q n source : ℕ} {k : Cap} {r : Report} (f : X
+    → X) (rest : List Packet) {x : BeatC w} {m : MessageD w} {s : State X} {t : Trace w}
     → IsEnding c q n source k r x m request s t → ServedSourceRelation request s t
     → ServedSourceRelation request (report_answers c q n source r f rest s)
     (after_sent (record { 0 = q }) (D m) (taken c x t))
-are_served-ended {w} {X} request c q n source k r f rest x m s t is known =
+are_served-ended {w} {X} {request} {c} {q} {n} {source} {r} f rest {x} {m} {s} {t} is known =
     let other : is_grant m.opcode ≡ false = answer_kind m.opcode is.answers in
     let asked_now : (i p source : ℕ) (own : Bool) (cap : Cap) → (set n new s.block i).service ≡ Waits p own source cap
     → request_of source (on_link p t) ≡ Some (a_beat_of (request i) 0) =
@@ -162,7 +165,8 @@ are_served-ended {w} {X} request c q n source k r f rest x m s t is known =
       ];
       asked = λ i p source own cap e. request-reply (record { 0 = q }) m u p
           source ∙ (quiet-c (record { 0 = c }) x t).requests p source ∙ asked_now i p source own cap e;
-      probes = λ d i e. probe-reply (record { 0 = q }) m u d i ∙ (quiet-c (record { 0 = c }) x t).probe d i ∙ probes_now d i
+      probes = λ d i e. probe-reply (record { 0 = q }) m u d i ∙ (quiet-c (record { 0 = c }) x t).probe d i ∙ probes_now
+          d i
           e;
     }
   where
@@ -194,26 +198,26 @@ are_served-ended {w} {X} request c q n source k r f rest x m s t is known =
         let client : q ≡ d = eqb-true q d p.0 in
         let mine : source ≡ i = eqb-true source i p.1 in
         let free : pending (Key.RequestSource i) (on_link d v) ≡ false = source_now d i ∙ rw e refl in
-        let none = no-burst d i v (accounted-answer n (service_for q n request s) m u is.reply is.answers is.access
+        let none = no-burst d i (accounted-answer n (service_for q n request s) m u is.reply is.answers is.access
         is.accounted) free in
         rw (free, none, ← client, ← mine, set_at-same q source Replied s.uses) refl
-    sources_now d i false e =
-        source_now d i ∙ rw (
+    sources_now d i false e = source_now d i
+        ∙ rw (
           e,
           set_at-other q source Replied s.uses d i e,
           served_now d (s.uses d i),
-          burst-reply
-              (record { 0 = q }) m u d,
+          burst-reply (record { 0 = q }) m
+              u d,
           (quiet-c (record { 0 = c }) x t).bursts d,
-        )
-        ((quiet-c (record { 0 = c }) x t).sources d i ∙ known.sources d i)
+        ) ((quiet-c (record { 0 = c }) x t).sources d i
+        ∙ known.sources d i)
 
     sinks_now : (d i : ℕ) → is_granted d (set (s.block n).tracker None s.tracked i) z ≡ is_granted d (s.tracked i) s
     sinks_now d i = elim (cases_eq i (s.block n).tracker) [
       | inl same ↦ rw (
         same,
         set-same (s.block n).tracker None s.tracked,
-        tracker-of n s is.named (rw is.waits refl),
+        tracker-of n is.named (rw is.waits refl),
         is.waits,
       ) refl
       | inr apart ↦ rw (set-other (s.block n).tracker i None s.tracked apart) (granted_now (s.tracked i))

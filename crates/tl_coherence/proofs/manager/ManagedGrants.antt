@@ -43,10 +43,10 @@ pub record IsConceded {w : ℕ} {X : Type 0} (c q n source : ℕ) (k gift : Cap)
   pub asked : request_of source (on_link q t) ≡ Some (a_beat_of (request n) 0)
   pub cap_is : capped m.param ≡ cap_right gift
 
-conceded-given : {w : ℕ} {X : Type 0} (c q n source : ℕ) (k gift : Cap) (r : Report) (x : BeatC w) (m : MessageD w)
-    (request : ℕ → MessageA w) (s : State X) (t : Trace w)
+conceded-given : {w : ℕ} {X : Type 0} {c q n source : ℕ} {k gift : Cap} {r : Report} {x : BeatC w} {m : MessageD w}
+    {request : ℕ → MessageA w} {s : State X} {t : Trace w}
     → IsConceded c q n source k gift r x m request s t → IsGiven q n (s.block n).tracker m (taken c x t)
-conceded-given c q n source k gift r x m request s t is = record {
+conceded-given {c} {q} {source} {x} {t} is = record {
   width = is.grant.reply.width;
   whole = is.grant.reply.whole;
   grants = is.grant.grants;
@@ -97,26 +97,26 @@ if_always : {A : Type 0} (b : Bool) (p q : A) → (if b && true then p else q) �
 if_always true p q = refl
 if_always false p q = refl
 
-pub managed-conceded : {w : ℕ} {X : Type 0} (request : ℕ → MessageA w) (c q n source : ℕ) (k gift : Cap) (r : Report)
-    (dt : Bool) (rest : List Packet)
-    (x : BeatC w) (m : MessageD w) (s : State X) (t : Trace w)
+pub managed-conceded : {w : ℕ} {X : Type 0} {request : ℕ → MessageA w} {c q n source : ℕ} {k gift : Cap} {r : Report}
+    (dt : Bool) (rest : List Packet) {x : BeatC w} {m : MessageD w} {s : State X} {t : Trace w}
     → IsConceded c q n source k gift r x m request s t → ManagerRelation request s t
     → ManagerRelation request (report_grants c q n r dt gift rest s) (after_sent (record { 0 = q }) (D m) (taken c x t))
-managed-conceded {w} {X} request c q n source k gift r dt rest x m s t is known =
-    let given : IsGiven q n (s.block n).tracker m u = conceded-given c q n source k gift r x m request s t is in
+managed-conceded {w} {X} {request} {c} {q} {n} {source} {k} {gift} {r} dt rest {x} {m} {s} {t} is known =
+    let given : IsGiven q n (s.block n).tracker m u = conceded-given is in
     let records_now : (d i : ℕ) → (if (q == d) && (n == i) then capped m.param else recorded d i u)
     ≡ (if (q == d) && (n == i) then cap_right gift else ((set n mid s.block i).pair d).recorded) =
-    λ d i. rw (is.cap_is, reported-records request c n r mid x s t is.last (λ j. refl) known d i) refl in
+    λ d i. rw (is.cap_is, reported-records r mid is.last (λ j. refl) known d i) refl in
     record {
-      recorded_is = λ d i. given-records q n (s.block n).tracker m u given d i ∙ records_now d i ∙ sym
+      recorded_is = λ d i. given-records given d i ∙ records_now d i ∙ sym
           (pair-over (λ p. p.recorded) q n gives new mid s.block (λ j. refl) d i);
       probes = λ d i.
           reply-quiet (Key.ProbeOf i) (record { 0 = q }) m u d given.width given.whole (λ e. (refl, refl))
-          ∙ reported-missing request c n r mid x s t is.last is.report (λ j. refl) known d i
-          ∙ sym (pair-over (λ p. not (is_unprobed p.probing)) q n gives new mid s.block (λ j. refl) d i ∙ probing_same d i
+          ∙ reported-missing r mid is.last is.report (λ j. refl) known d i
+          ∙ sym (pair-over (λ p. not (is_unprobed p.probing)) q n gives new mid s.block (λ j. refl) d i ∙ probing_same d
+          i
           ((q == d) && (n == i)) refl);
-      acquires = λ d i. given-acquires q n (s.block n).tracker m u given d i ∙ acquires_now d i;
-      grant_acks = λ d i. given-acks q n (s.block n).tracker m u given d i ∙ acks_now d i;
+      acquires = λ d i. given-acquires given d i ∙ acquires_now d i;
+      grant_acks = λ d i. given-acks given d i ∙ acks_now d i;
       serving_is = λ i.
           ap (service_of_block i) (services-grant (record { 0 = q }) m u given.width given.whole given.grants
           ∙ (quiet-c (record { 0 = c }) x t).serves) ∙ known.serving_is i
@@ -204,9 +204,9 @@ managed-conceded {w} {X} request c q n source k gift r dt rest x m s t is known 
 -- ---- sources, sinks and requests
 
 -- no other source of the client is of the block
-only_source : {X : Type 0} (q n source i : ℕ) (s : State X) → AreNamed s → s.uses q source ≡ Acquires n
+only_source : {X : Type 0} (q n source i : ℕ) {s : State X} → AreNamed s → s.uses q source ≡ Acquires n
     → s.uses q i ≡ Acquires n → i ≡ source
-only_source q n source i s named used e =
+only_source q n source i {s} named used e =
     let here : (is_wanting ((s.block n).pair q).acquiring && (source == (s.block n).source q)) ≡ true =
     sym (named.acquires q source n) ∙ rw (used, same_number n) refl in
     let there : (is_wanting ((s.block n).pair q).acquiring && (i == (s.block n).source q)) ≡ true =
@@ -217,14 +217,13 @@ only_source q n source i s named used e =
     (i == (s.block n).source q) there) in
     second ∙ sym first
 
-pub are_served-conceded : {w : ℕ} {X : Type 0} (request : ℕ → MessageA w) (c q n source : ℕ) (k gift : Cap) (r : Report)
-    (dt : Bool) (rest : List Packet)
-    (x : BeatC w) (m : MessageD w) (s : State X) (t : Trace w)
+pub are_served-conceded : {w : ℕ} {X : Type 0} {request : ℕ → MessageA w} {c q n source : ℕ} {k gift : Cap} {r : Report}
+    (dt : Bool) (rest : List Packet) {x : BeatC w} {m : MessageD w} {s : State X} {t : Trace w}
     → IsConceded c q n source k gift r x m request s t → ServedSourceRelation request s t
     → ServedSourceRelation request (report_grants c q n r dt gift rest s)
     (after_sent (record { 0 = q }) (D m) (taken c x t))
-are_served-conceded {w} {X} request c q n source k gift r dt rest x m s t is known =
-    let given : IsGiven q n (s.block n).tracker m u = conceded-given c q n source k gift r x m request s t is in
+are_served-conceded {w} {X} {request} {c} {q} {n} {source} {k} {gift} {r} dt rest {x} {m} {s} {t} is known =
+    let given : IsGiven q n (s.block n).tracker m u = conceded-given is in
     let asked_now : (i p from : ℕ) (own : Bool) (low : Cap) → (set n new s.block i).service ≡ Waits p own from low
     → request_of from (on_link p t) ≡ Some (a_beat_of (request i) 0) = λ i p from own low e. elim (cases_eq i n) [
       | inl same ↦ absurd (let sent : GrantSent q dt gift ≡ Waits p own from low =
@@ -234,15 +233,17 @@ are_served-conceded {w} {X} request c q n source k gift r dt rest x m s t is kno
     ] in
     record {
       sources = λ d i. sources_now d i ((q == d) && (source == i)) refl;
-      sinks = λ d i. given-sinks q n (s.block n).tracker m u given d i ∙ sinks_now d i
+      sinks = λ d i. given-sinks given d i ∙ sinks_now d i
           ((q == d) && ((s.block n).tracker == i)) refl;
       requests = λ i. elim (cases_eq i n) [
         | inl same ↦ rw (same, set-same n new s.block) (is.grant.acquires, is.block_is)
         | inr other ↦ rw (set-other n i new s.block other) (known.requests i)
       ];
-      asked = λ i p from own low e. request-reply (record { 0 = q }) m u p from ∙ (quiet-c (record { 0 = c }) x t).requests
+      asked = λ i p from own low e. request-reply (record { 0 = q }) m u p
+          from ∙ (quiet-c (record { 0 = c }) x t).requests
           p from ∙ asked_now i p from own low e;
-      probes = λ d i e. probe-reply (record { 0 = q }) m u d i ∙ (quiet-c (record { 0 = c }) x t).probe d i ∙ probes_now d i
+      probes = λ d i e. probe-reply (record { 0 = q }) m u d i ∙ (quiet-c (record { 0 = c }) x t).probe d i ∙ probes_now
+          d i
           e;
     }
   where
@@ -268,7 +269,7 @@ are_served-conceded {w} {X} request c q n source k gift r dt rest x m s t is kno
     unlike : (d i j : ℕ) → ((q == d) && (source == i)) ≡ false → s.uses d i ≡ Acquires j → j ≡ n → (d == q) ≡ false
     unlike d i j apart e same = elim (cases_eq d q) [
       | inl client ↦
-          let mine : i ≡ source = only_source q n source i s is.named is.used (rw (client, same) at e) in
+          let mine : i ≡ source = only_source q n source i is.named is.used (rw (client, same) at e) in
           absurd (let yes : ((q == d) && (source == i)) ≡ true = rw (client, mine, same_number q, same_number source)
           refl in let no : false ≡ true = sym apart ∙ yes in cc)
       | inr other ↦ ne_eqb d q other
@@ -289,32 +290,30 @@ are_served-conceded {w} {X} request c q n source k gift r dt rest x m s t is kno
     answered : is_served q (s.uses q source) z ≡ false
     answered = rw (is.used, set-same n new s.block) (never_own (q == q) dt gift)
 
-    sources_now : (d i : ℕ) (b : Bool) → ((q == d) && (source == i)) ≡ b
-        → pending (Key.RequestSource i) (on_link d v) ≡ (is_served d (s.uses d i) z || comes_in_request i
-        (unfinished Channel.A (on_link d v)))
+    sources_now : (d i : ℕ) (b : Bool) → ((q == d) && (source == i)) ≡ b → pending (Key.RequestSource i) (on_link d v)
+        ≡ (is_served d (s.uses d i) z || comes_in_request i (unfinished Channel.A (on_link d v)))
     sources_now d i true e =
         let p = and_parts (q == d) (source == i) e in
         let client : q ≡ d = eqb-true q d p.0 in
         let mine : source ≡ i = eqb-true source i p.1 in
         let free : pending (Key.RequestSource i) (on_link d v) ≡ false = source_now d i ∙ rw e refl in
-        let none = no-burst d i v (accounted-grant n (service_for q n request s) m u is.grant is.accounted) free in
+        let none = no-burst d i (accounted-grant n (service_for q n request s) m u is.grant is.accounted) free in
         let served : is_served d (s.uses d i) z ≡ false = rw (← client, ← mine) answered in
         free ∙ sym (ap (λ b. b || comes_in_request i (unfinished Channel.A (on_link d v))) served ∙ none)
-    sources_now d i false e =
-        source_now d i ∙ rw (
+    sources_now d i false e = source_now d i
+        ∙ rw (
           e,
           served_now d i e (s.uses d i) refl,
           burst-reply (record { 0 = q }) m u d,
           (quiet-c (record { 0 = c }) x t).bursts d,
-        )
-        ((quiet-c (record { 0 = c }) x t).sources d i ∙ known.sources d i)
+        ) ((quiet-c (record { 0 = c }) x t).sources d i ∙ known.sources d i)
 
     granted_now : (d i : ℕ) → ((q == d) && ((s.block n).tracker == i)) ≡ false → (o : Option ℕ) → s.tracked i ≡ o
         → is_granted d o s ≡ is_granted d o z
     granted_now d i apart None e = refl
     granted_now d i apart (Some j) e = elim (cases_eq j n) [
       | inl same ↦
-          let mine : i ≡ (s.block n).tracker = tracker-alone n i s is.named (rw same at e) in
+          let mine : i ≡ (s.block n).tracker = tracker-alone n i is.named (rw same at e) in
           rw (same, set-same n new s.block, is.waits)
           (waits_ungranted (d == q) k ∙ sym (granted_if (d == q) dt gift ∙ away (cases_eq d q) mine))
       | inr other ↦ rw (set-other n j new s.block other) refl
@@ -335,7 +334,7 @@ are_served-conceded {w} {X} request c q n source k gift r dt rest x m s t is kno
     sinks_now d i true e =
         let p = and_parts (q == d) ((s.block n).tracker == i) e in
         rw (e, ← eqb-true q d p.0, ← eqb-true (s.block n).tracker i p.1)
-        (sym (ap (λ o. is_granted q o z) (tracker-of n s is.named (rw is.waits refl)) ∙ granted_here))
+        (sym (ap (λ o. is_granted q o z) (tracker-of n is.named (rw is.waits refl)) ∙ granted_here))
     sinks_now d i false e = rw e ((quiet-c (record { 0 = c }) x t).sinks d i ∙ known.sinks d i ∙ granted_now d i e
         (s.tracked i) refl)
 

@@ -31,10 +31,10 @@ block-alike n f g same = bytes_same f g (64 * n) 64 (λ i lt. same (64 * n + i) 
 
 -- ---- other blocks than the one of a beat
 
-pub other-blocks : {w : ℕ} (config : Config) (link : Link) (ch : Channel) (x : BeatC w) (e : manager_end.End w) (n : ℕ)
+pub other-blocks : {w : ℕ} {config : Config} (link : Link) (ch : Channel) (x : BeatC w) {e : manager_end.End w} (n : ℕ)
     → IsWidth w → IsKept config e → block_at x.address ≡ n → (i : ℕ) → (i ≡ n → ⊥)
     → block_in (offered config link ch (Beat.C x) e).1.memory i ≡ block_in e.memory i
-other-blocks config link ch x e n width kept block i other =
+other-blocks {config} link ch x {e} n width kept block i other =
     block-alike i _ _ (λ address here. memory-elsewhere config link ch (Beat.C x) e address width tt kept
     (rw (block, here) (ne_eqb n i (λ f. other (sym f)))))
 
@@ -87,8 +87,7 @@ unfolding effect
 block-performed {w} o m memory n width lawful block =
     rw (← block) (block-alike (block_at m.address) _ _
     (after-local m.opcode m memory (bytes_at (block_at m.address) (block_in memory (block_at m.address)))
-    (room-lawful o m width lawful)
-    (bytes_at-same (block_at m.address) memory)))
+    (room-lawful o m width lawful) (bytes_at-same (block_at m.address) memory)))
 
 -- and so does what it is answered
 pub answer-performed : {w : ℕ} (o : Option Level) (m : MessageA w) (memory : Memory) (n : ℕ) → IsWidth w
@@ -96,7 +95,6 @@ pub answer-performed : {w : ℕ} (o : Option Level) (m : MessageA w) (memory : M
     → access_answer m (answer_of (Message.A m) (effect (Message.A m) memory).1) ≡ answers m (block_in memory n)
 unfolding effect
 answer-performed {w} o m memory n width lawful block =
-    rw (← block)
-    (ap (λ (r : AccessResult). access_answer m (answer_of (Message.A m) r))
+    rw (← block) (ap (λ (r : AccessResult). access_answer m (answer_of (Message.A m) r))
     (reply-local m.opcode m memory (bytes_at (block_at m.address) (block_in memory (block_at m.address)))
     (room-lawful o m width lawful) (bytes_at-same (block_at m.address) memory)))

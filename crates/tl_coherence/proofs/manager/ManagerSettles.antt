@@ -7,8 +7,8 @@ use Rattle.tl_coherence.proofs.manager.Imports.{effect, Memory, block_at, is_rel
 use Rattle.tl_coherence.proofs.manager.Imports.{access_answer, with_handed, cap_granted, recorded, reaction, End}
 use Rattle.tl_coherence.proofs.manager.Imports.{level_of, performed-access, performed-acquire, AbstractState, answers}
 use Rattle.tl_coherence.proofs.manager.Imports.{performs, acquire_opcode, gift, is_unheld, ManagerRelation, ClientBlock}
-use Rattle.tl_coherence.proofs.manager.Imports.{Waits, GrantSent, Block, State, Acquires, report_grants, granted_block}
-use Rattle.tl_coherence.proofs.manager.Imports.{reported_block, ServedSourceRelation, IsFor, set, Packet, IsServedWith}
+use Rattle.tl_coherence.proofs.manager.Imports.{GrantSent, Block, State, Acquires, report_grants, granted_block}
+use Rattle.tl_coherence.proofs.manager.Imports.{reported_block, ServedSourceRelation, set, Packet, IsServedWith}
 use Rattle.tl_coherence.proofs.manager.Imports.{Beat}
 use Rattle.tl_coherence.proofs.{manager.ManagedReports.reported-records, manager.Choices.nobody-same}
 use Rattle.tl_coherence.proofs.{queues.Tokens.set-same, queues.Tokens.set-other, queues.Codes.data-same}
@@ -35,14 +35,13 @@ use Rattle.tl_coherence.proofs.manager.SettlingService.{settling-for, settling-r
 -- ---- an access
 
 answer_is : {w : ℕ} (r : MessageA w) (kind : Answer) → (m : MessageD w) × (access_answer r kind ≡ Message.D m)
-    × (is_access_answer m.opcode ≡ true)
-    × (is_release_ack m.opcode ≡ false) × (m.source ≡ r.source)
+    × (is_access_answer m.opcode ≡ true) × (is_release_ack m.opcode ≡ false) × (m.source ≡ r.source)
 answer_is r Answer.Ack = (_, refl, refl, refl, refl)
 answer_is r kind = (_, refl, refl, refl, refl)
 
 -- what is done: the access is performed on what the ProbeAcks left of the block, and its answer is handed out
-pub reaction-ended : {w : ℕ} (config : Config) (c q n source k : ℕ) (low : Cap) (r : Report) (m : MessageC w)
-    (h : AbstractState w) (e : End w) → IsSettling config c q n source k false low r m h e
+pub reaction-ended : {w : ℕ} {config : Config} {c q n source k : ℕ} {low : Cap} {r : Report} {m : MessageC w}
+    {h : AbstractState w} {e : End w} → IsSettling config c q n source k false low r m h e
     → reaction config (record { 0 = c }) (Beat.C (c_beat_of m k)) e
     ≡ record {
       handed = (
@@ -52,10 +51,10 @@ pub reaction-ended : {w : ℕ} (config : Config) (c q n source k : ℕ) (low : C
       ) ∷ [];
       memory = (effect (Message.A (h.request n)) (memory_with (record { 0 = c }) (c_beat_of m k) e)).0;
     }
-reaction-ended {w} config c q n source k low r m h e at =
-    let for = settling-for config c q n source k false low r m h e at in
+reaction-ended {w} {config} {c} {q} {n} {source} {k} {low} {r} {m} {h} {e} at =
+    let for = settling-for at in
     let memory = memory_with (record { 0 = c }) (c_beat_of m k) e in
-    settling-reaction config c q n source k false low r m h e at ∙ performed-access config
+    settling-reaction at ∙ performed-access config
     (service_for q n h.request h.state) (trace_with c k m e) memory for.0
     ∙ ap (λ (i : Message w). record {
       handed = (record { 0 = q }, i) ∷ [];
@@ -63,18 +62,17 @@ reaction-ended {w} config c q n source k low r m h e at =
           (effect (Message.A (h.request n)) memory).0;
     })
     (answer-performed (level_of config q) (h.request n) memory n at.end.width
-    (settling-lawful config c q n source k false low r m h e at).lawful for.2
-    ∙ ap (answers (h.request n)) (settling-memory config c q n source k false low r m h e at))
+    (settling-lawful at).lawful for.2
+    ∙ ap (answers (h.request n)) (settling-memory at))
 
-pub ended-left : {w : ℕ} (config : Config) (c q n source k : ℕ) (low : Cap) (r : Report) (rest : List Packet)
-    (m : MessageC w) (h : AbstractState w) (e : End w)
-    → IsSettling config c q n source k false low r m h e
+pub ended-left : {w : ℕ} {config : Config} {c q n source k : ℕ} {low : Cap} {r : Report} (rest : List Packet)
+    {m : MessageC w} {h : AbstractState w} {e : End w} → IsSettling config c q n source k false low r m h e
     → IsManagerOf config (with_answer q source
     (answers (h.request n) (protocol.written r (h.state.block n).truth (h.state.block n).memory))
     (with_state (report_answers c q n source r (performs (h.request n)) rest h.state) h))
     (left c (Beat.C (c_beat_of m k)) (reaction config (record { 0 = c }) (Beat.C (c_beat_of m k)) e) e)
 unfolding with_handed
-ended-left {w} config c q n source k low r rest m h e at =
+ended-left {w} {config} {c} {q} {n} {source} {k} {low} {r} rest {m} {h} {e} at =
     let x : BeatC w = c_beat_of m k in
     let new : Block (List ℕ) = ended_block c r (performs (h.request n)) (h.state.block n) in
     let after : State (List ℕ) = report_answers c q n source r (performs (h.request n)) rest h.state in
@@ -84,18 +82,18 @@ ended-left {w} config c q n source k low r rest m h e at =
       memory =
           (effect (Message.A (h.request n)) (memory_with (record { 0 = c }) x e)).0;
     } in
-    let done = reaction-ended config c q n source k low r m h e at in
-    let for = settling-for config c q n source k false low r m h e at in
+    let done = reaction-ended at in
+    let for = settling-for at in
     let reply = answer_is (h.request n) _ in
     let ending : IsEnding c q n source low r x reply.0 h.request h.state e.trace = record {
-      last = settling-last config c q n source k false low r m h e at;
+      last = settling-last at;
       report = at.end.about.reports;
       waits = at.waits;
-      settled = settling-quiet config c q n source k false low r m h e at;
+      settled = settling-quiet at;
       named = at.named;
-      reply = settling-reply config c q n source k false low r m reply.0 h e at reply.4 reply.3;
+      reply = settling-reply reply.0 at reply.4 reply.3;
       answers = reply.2;
-      accounted = (settling-ready config c q n source k false low r m h e at).accounted;
+      accounted = (settling-ready at).accounted;
       access = for.0;
       source_is = for.1;
     } in
@@ -108,19 +106,19 @@ ended-left {w} config c q n source k low r rest m h e at =
       managed =
           subst (λ (i : Message w). ManagerRelation h.request after
           (with_handed ((record { 0 = q }, i) ∷ []) (trace_with c k m e))) (sym reply.1)
-          (managed-ended h.request c q n source low r (performs (h.request n)) rest x reply.0 h.state e.trace ending
+          (managed-ended (performs (h.request n)) rest ending
           at.is.managed);
       served =
           subst (λ (i : Message w). ServedSourceRelation h.request after
           (with_handed ((record { 0 = q }, i) ∷ []) (trace_with c k m e))) (sym reply.1)
-          (are_served-ended h.request c q n source low r (performs (h.request n)) rest x reply.0 h.state e.trace ending
+          (are_served-ended (performs (h.request n)) rest ending
           at.is.served);
       served_with = λ i. still i;
-      manager_kept = kept-left config c x does e at.end.width at.up done at.is.manager_kept;
+      manager_kept = kept-left x does at.end.width at.up done at.is.manager_kept;
       memory = λ i. cc (blocks-now e.memory does.memory n new h.state (block-performed (level_of config q) (h.request n)
-          (memory_with (record { 0 = c }) x e) n at.end.width (settling-lawful config c q n source k false low r m h e
-          at).lawful for.2 ∙ ap (performs (h.request n)) (settling-memory config c q n source k false low r m h e at))
-          (others-left config c n x does e at.end.width at.up done at.is.manager_kept at.end.about.block) at.is.memory
+          (memory_with (record { 0 = c }) x e) n at.end.width (settling-lawful
+          at).lawful for.2 ∙ ap (performs (h.request n)) (settling-memory at))
+          (others-left n x does at.end.width at.up done at.is.manager_kept at.end.about.block) at.is.memory
           i);
       all_live = at.is.all_live;
     })
@@ -150,20 +148,18 @@ grant-made {w} config q n tracker v t memory whole g unheld p opcode param block
 
 given_is : {w : ℕ} (q : ℕ) (d : Bool) (k : Cap) (source sink : ℕ) (payload : List ℕ)
     → (m : MessageD w) × (grant_of (GrantSent q d k) source sink payload ≡ Message.D m) × (is_grant m.opcode ≡ true)
-    × (is_release_ack m.opcode ≡ false)
-    × (m.source ≡ source) × (m.sink ≡ sink) × (m.param ≡ cap_code k)
+    × (is_release_ack m.opcode ≡ false) × (m.source ≡ source) × (m.sink ≡ sink) × (m.param ≡ cap_code k)
 given_is q d k source sink payload = let kinds = grants_by_opcode d in (_, refl, kinds.0, kinds.1, refl, refl, refl)
 
 -- what is recorded of the block before the Grant
 abbrev pub pairs_after : ℕ → Report → (ℕ → ClientBlock) → ℕ → ClientBlock
 pairs_after c r pair = set c (after_report r (pair c)) pair
 
-settling-records : {w : ℕ} (config : Config) (c q n source k : ℕ) (own : Bool) (low : Cap) (r : Report) (m : MessageC w)
-    (h : AbstractState w) (e : End w) → IsSettling config c q n source k own low r m h e
+settling-records : {w : ℕ} {config : Config} {c q n source k : ℕ} {own : Bool} {low : Cap} {r : Report} {m : MessageC w}
+    {h : AbstractState w} {e : End w} → IsSettling config c q n source k own low r m h e
     → (d : ℕ) → recorded d n (trace_with c k m e) ≡ (pairs_after c r (h.state.block n).pair d).recorded
-settling-records {w} config c q n source k own low r m h e at d =
-    reported-records h.request c n r (reported_block c r (h.state.block n)) (c_beat_of m k) h.state e.trace
-    (settling-last config c q n source k own low r m h e at) (λ j. refl) at.is.managed d n
+settling-records {w} {config} {c} {q} {n} {source} {k} {own} {low} {r} {m} {h} {e} at d =
+    reported-records r (reported_block c r (h.state.block n)) (settling-last at) (λ j. refl) at.is.managed d n
     ∙ ap (λ (b : Block (List ℕ)). (b.pair d).recorded) (set-same n (reported_block c r (h.state.block n)) h.state.block)
 
 has_copy-is : (p : Perm) → has_copy p ≡ not (same_perm p Perm.None)
@@ -189,50 +185,49 @@ grant_after config c q n source r whole g h =
     (protocol.written r (h.state.block n).truth (h.state.block n).memory)
 
 -- what is done: the Grant is handed out, with what the ProbeAcks left of the block
-pub reaction-conceded : {w : ℕ} (config : Config) (c q n source k : ℕ) (low : Cap) (r : Report) (whole : Bool)
-    (g : Grow) (m : MessageC w) (h : AbstractState w)
-    (e : End w) → IsSettling config c q n source k true low r m h e → IsWanted c q n source whole g h
+pub reaction-conceded : {w : ℕ} {config : Config} {c q n source k : ℕ} {low : Cap} {r : Report} {whole : Bool}
+    {g : Grow} {m : MessageC w} {h : AbstractState w}
+    {e : End w} → IsSettling config c q n source k true low r m h e → IsWanted c q n source whole g h
     → reaction config (record { 0 = c }) (Beat.C (c_beat_of m k)) e ≡ record {
       handed = (record { 0 = q }, grant_after config c q n source r whole g h) ∷ [];
       memory =
           memory_with (record { 0 = c }) (c_beat_of m k) e;
     }
-reaction-conceded {w} config c q n source k low r whole g m h e at wanted =
+reaction-conceded {w} {config} {c} {q} {n} {source} {k} {low} {r} {whole} {g} {m} {h} {e} at wanted =
     let u : Trace w = trace_with c k m e in
     let memory : Memory = memory_with (record { 0 = c }) (c_beat_of m k) e in
     let unheld : Bool = is_unheld (length config.clients.items) (pairs_after c r (h.state.block n).pair) in
-    let for = settling-for config c q n source k true low r m h e at in
+    let for = settling-for at in
     let none : holders.is_unheld config n u ≡ unheld =
     cc (nobody-same config (λ d. has_copy (recorded d n u))
     (λ d. not (same_perm (pairs_after c r (h.state.block n).pair d).recorded Perm.None))
-    (λ d. ap has_copy (settling-records config c q n source k true low r m h e at d)
+    (λ d. ap has_copy (settling-records at d)
     ∙ has_copy-is (pairs_after c r (h.state.block n).pair d).recorded)) in
     let mine = ap (λ (p : ClientBlock). p.recorded) (set-other c q (after_report r ((h.state.block n).pair c))
     (h.state.block n).pair (λ f. wanted.apart (sym f))) in
     let sent : grant_of (GrantSent q (is_granted_data whole g ((h.state.block n).pair q).recorded)
     (gift config.profile whole g unheld)) (h.request n).source (h.state.block n).tracker (block_in memory n)
     ≡ grant_after config c q n source r whole g h =
-    rw (for.1, settling-memory config c q n source k true low r m h e at) refl in
+    rw (for.1, settling-memory at) refl in
     cc (
-      settling-reaction config c q n source k true low r m h e at,
+      settling-reaction at,
       performed-acquire config
           (service_for q n h.request h.state) u memory for.0,
       grant-made config q n (h.state.block n).tracker (h.request n) u
           memory whole g unheld ((h.state.block n).pair q).recorded wanted.opcode_is wanted.param_is for.2 none
-          (settling-records config c q n source k true low r m h e at q ∙ mine),
+          (settling-records at q ∙ mine),
       sent,
     )
 
-pub conceded-left : {w : ℕ} (config : Config) (c q n source k : ℕ) (low : Cap) (r : Report) (whole : Bool) (g : Grow)
-    (rest : List Packet) (m : MessageC w)
-    (h : AbstractState w) (e : End w) → IsSettling config c q n source k true low r m h e
-    → IsWanted c q n source whole g h
+pub conceded-left : {w : ℕ} {config : Config} {c q n source k : ℕ} {low : Cap} {r : Report} {whole : Bool} {g : Grow}
+    (rest : List Packet) {m : MessageC w} {h : AbstractState w} {e : End w}
+    → IsSettling config c q n source k true low r m h e → IsWanted c q n source whole g h
     → IsManagerOf config (with_state
     (report_grants c q n r (is_granted_data whole g ((h.state.block n).pair q).recorded)
     (gift_after config c n r whole g h) rest h.state) h)
     (left c (Beat.C (c_beat_of m k)) (reaction config (record { 0 = c }) (Beat.C (c_beat_of m k)) e) e)
 unfolding with_handed
-conceded-left {w} config c q n source k low r whole g rest m h e at wanted =
+conceded-left {w} {config} {c} {q} {n} {source} {k} {low} {r} {whole} {g} rest {m} {h} {e} at wanted =
     let x : BeatC w = c_beat_of m k in
     let data_too : Bool = is_granted_data whole g ((h.state.block n).pair q).recorded in
     let given : Cap = gift_after config c n r whole g h in
@@ -243,26 +238,26 @@ conceded-left {w} config c q n source k low r whole g rest m h e at wanted =
       memory =
           memory_with (record { 0 = c }) x e;
     } in
-    let done = reaction-conceded config c q n source k low r whole g m h e at wanted in
-    let for = settling-for config c q n source k true low r m h e at in
+    let done = reaction-conceded at wanted in
+    let for = settling-for at in
     let reply = given_is q data_too given source (h.state.block n).tracker
     (protocol.written r (h.state.block n).truth (h.state.block n).memory) in
     let conceded : IsConceded c q n source low given r x reply.0 h.request h.state e.trace = record {
-      last = settling-last config c q n source k true low r m h e at;
+      last = settling-last at;
       report = at.end.about.reports;
       waits = at.waits;
-      settled = settling-quiet config c q n source k true low r m h e at;
+      settled = settling-quiet at;
       apart = wanted.apart;
       named = at.named;
       used = wanted.used;
       grant = record {
-        reply = settling-reply config c q n source k true low r m reply.0 h e at (reply.4 ∙ sym for.1)
+        reply = settling-reply reply.0 at (reply.4 ∙ sym for.1)
             reply.3;
         grants = reply.2;
         sink = reply.5;
         acquires = for.0;
       };
-      accounted = (settling-ready config c q n source k true low r m h e at).accounted;
+      accounted = (settling-ready at).accounted;
       source_is = for.1;
       block_is = for.2;
       asked = at.is.served.asked n q source true low at.waits;
@@ -276,18 +271,18 @@ conceded-left {w} config c q n source k low r whole g rest m h e at wanted =
       managed =
           subst (λ (i : Message w). ManagerRelation h.request after
           (with_handed ((record { 0 = q }, i) ∷ []) (trace_with c k m e))) (sym reply.1)
-          (managed-conceded h.request c q n source low given r data_too rest x reply.0 h.state e.trace conceded
+          (managed-conceded data_too rest conceded
           at.is.managed);
       served =
           subst (λ (i : Message w). ServedSourceRelation h.request after
           (with_handed ((record { 0 = q }, i) ∷ []) (trace_with c k m e))) (sym reply.1)
-          (are_served-conceded h.request c q n source low given r data_too rest x reply.0 h.state e.trace conceded
+          (are_served-conceded data_too rest conceded
           at.is.served);
       served_with = λ i. still i;
-      manager_kept = kept-left config c x does e at.end.width at.up done at.is.manager_kept;
+      manager_kept = kept-left x does at.end.width at.up done at.is.manager_kept;
       memory = λ i.
-          blocks-now e.memory does.memory n new h.state (settling-memory config c q n source k true low r m h e at)
-          (others-left config c n x does e at.end.width at.up done at.is.manager_kept at.end.about.block) at.is.memory
+          blocks-now e.memory does.memory n new h.state (settling-memory at)
+          (others-left n x does at.end.width at.up done at.is.manager_kept at.end.about.block) at.is.memory
           i;
       all_live = at.is.all_live;
     })

@@ -37,13 +37,10 @@ pub by-first_c : {w : ℕ} (P : List Packet → Type 0) (c : ℕ) (mail : Access
     (sys : System w) (x : Beat w) (queue : List (Beat w)) → IsFirst Channel.C c mail s sys x queue
     → ((n : ℕ) (rest : List Packet) → (s.link c).c ≡ packet ProbeAck n ∷ rest
     → IsNext x (unfinished Channel.C (on_link c sys.manager.trace)) (block_message ProbeAck c n (s.block n))
-    (map (message_of mail s c) rest) queue
-    → P (packet ProbeAck n ∷ rest))
+    (map (message_of mail s c) rest) queue → P (packet ProbeAck n ∷ rest))
     → ((n : ℕ) (rest : List Packet) → (s.link c).c ≡ packet Release n ∷ rest
     → IsNext x (unfinished Channel.C (on_link c sys.manager.trace)) (block_message Release c n (s.block n))
-    (map (message_of mail s c) rest) queue
-    → P (packet Release n ∷ rest))
-    → P (s.link c).c
+    (map (message_of mail s c) rest) queue → P (packet Release n ∷ rest)) → P (s.link c).c
 by-first_c {w} P c mail s sys x queue at report release = subst P (sym at.tokens) (go at.kind at.own at.tokens at.next)
   where
     Next : Kind → Type 0
@@ -57,14 +54,12 @@ by-first_c {w} P c mail s sys x queue at report release = subst P (sym at.tokens
     go k e first next = absurd cc
 
 -- or a GrantAck
-pub by-first_e : {w : ℕ} (P : List Packet → Type 0) (c : ℕ) (mail : AccessMessages w) (s : State (List ℕ))
-    (sys : System w) (x : Beat w) (queue : List (Beat w)) → IsFirst Channel.E c mail s sys x queue
+pub by-first_e : {w : ℕ} (P : List Packet → Type 0) {c : ℕ} {mail : AccessMessages w} {s : State (List ℕ)}
+    {sys : System w} {x : Beat w} {queue : List (Beat w)} → IsFirst Channel.E c mail s sys x queue
     → ((n : ℕ) (rest : List Packet) → (s.link c).e ≡ packet GrantAck n ∷ rest
     → IsNext x (unfinished Channel.E (on_link c sys.manager.trace)) (block_message GrantAck c n (s.block n))
-    (map (message_of mail s c) rest) queue
-    → P (packet GrantAck n ∷ rest))
-    → P (s.link c).e
-by-first_e {w} P c mail s sys x queue at ack = subst P (sym at.tokens) (go at.kind at.own at.tokens at.next)
+    (map (message_of mail s c) rest) queue → P (packet GrantAck n ∷ rest)) → P (s.link c).e
+by-first_e {w} P {c} {mail} {s} {sys} {x} {queue} at ack = subst P (sym at.tokens) (go at.kind at.own at.tokens at.next)
   where
     Next : Kind → Type 0
     Next k = IsNext x (unfinished Channel.E (on_link c sys.manager.trace)) (message_of_kind k mail s c at.number)
@@ -79,18 +74,18 @@ by-first_e {w} P c mail s sys x queue at ack = subst P (sym at.tokens) (go at.ki
 
 pub record IsTakenUp {w : ℕ} (config : Config) (c : ℕ) (ch : Channel) (x : Beat w) (e : End w) : Type 0 where
   pub passes : judged config (record { 0 = c }) ch x e ≡ Passes
-  pub answer : offered config (record { 0 = c }) ch x
-      e ≡ (
+  pub answer : offered config (record { 0 = c }) ch x e
+      ≡ (
         manager_offer.Sent (reaction config (record { 0 = c }) x e).handed,
         taken (record { 0 = c }) x
             (reaction config (record { 0 = c }) x e) e,
       )
 
-pub takes : {w : ℕ} (config : Config) (c : ℕ) (ch : Channel) (x : Beat w) (e : End w)
+pub takes : {w : ℕ} {config : Config} (c : ℕ) (ch : Channel) (x : Beat w) (e : End w)
     → IsSound config (record { 0 = c }, x) → is_from_client x ≡ true → channel_of x ≡ ch → e.closed ≡ []
     → broken_in_order config.profile x (on_link c e.trace) ≡ None
     → must_wait config (record { 0 = c }) x e.trace ≡ false → IsTakenUp config c ch x e
-takes {w} config c ch x e sound theirs own live order free = go (level_of config c) refl sound.lawful
+takes {w} {config} c ch x e sound theirs own live order free = go (level_of config c) refl sound.lawful
   where
     go : (o : Option Level) → level_of config c ≡ o → illegal_at o x ≡ None → IsTakenUp config c ch x e
     go None f lawful = absurd cc
@@ -146,14 +141,13 @@ by_place : {w : ℕ} (profile : Profile) (m : MessageC w) (k : ℕ) (t : History
 by_place profile m zero t rest first = first rest
 by_place profile m (suc k) t rest first = later-legal profile (Message.C m) k t rest
 
-pub report-order : {w : ℕ} (config : Config) (caching : ℕ → Bool) (request : ℕ → MessageA w) (c n k : ℕ) (r : Report)
-    (truth : List ℕ) (carries : Bool)
-    (m : MessageC w) (s : State (List ℕ)) (e : End w) → IsInvariant caching s
-    → ManagerRelation request s e.trace → ServedSourceRelation request s e.trace → IsKept config e
-    → ((s.block n).pair c).probing ≡ ProbeAnswered r → IsAbout true n (report_code r) carries truth m
+pub report-order : {w : ℕ} {config : Config} {caching : ℕ → Bool} {request : ℕ → MessageA w} (c : ℕ) {n : ℕ} (k : ℕ)
+    (r : Report) {truth : List ℕ} {carries : Bool} {m : MessageC w} {s : State (List ℕ)} {e : End w}
+    → IsInvariant caching s → ManagerRelation request s e.trace → ServedSourceRelation request s e.trace
+    → IsKept config e → ((s.block n).pair c).probing ≡ ProbeAnswered r → IsAbout true n (report_code r) carries truth m
     → unfinished Channel.C (on_link c e.trace) ≡ begun (Message.C m) k
     → broken_in_order config.profile (Beat.C (c_beat_of m k)) (on_link c e.trace) ≡ None
-report-order {w} config caching request c n k r truth carries m s e inv managed served kept answered about rest =
+report-order {w} {config} c {n} k r {m} {s} {e} inv managed served kept answered about rest =
     by_place config.profile m k t rest first
   where
     t : History w
@@ -192,8 +186,7 @@ pruned r p e = e
 
 -- a Release that is first has no ProbeAck of its block behind it
 pub unanswered : (caching : ℕ → Bool) (c n : ℕ) (rest : List Packet) (s : State (List ℕ)) → IsInvariant caching s
-    → (s.link c).c ≡ packet Release n ∷ rest
-    → is_answered ((s.block n).pair c).probing ≡ false
+    → (s.link c).c ≡ packet Release n ∷ rest → is_answered ((s.block n).pair c).probing ≡ false
 unfolding count
 unanswered caching c n rest s inv first =
     let behind = ordered-first n (s.link c).c rest (packet Release n) first (rw (same_number n) refl) (inv.ordered c n)
@@ -207,15 +200,14 @@ unanswered caching c n rest s inv first =
     none true e = absurd (omega (arith, e))
     none false e = refl
 
-pub release-order : {w : ℕ} (config : Config) (caching : ℕ → Bool) (request : ℕ → MessageA w) (c n k : ℕ) (r : Prune)
-    (rest : List Packet) (truth : List ℕ)
-    (carries : Bool) (m : MessageC w) (s : State (List ℕ)) (e : End w) → IsInvariant caching s
-    → ManagerRelation request s e.trace → IsKept config e → (s.link c).c ≡ packet Release n ∷ rest
-    → ((s.block n).pair c).letting ≡ ReleaseSent r → IsAbout false n (prune_code r) carries truth m
-    → unfinished Channel.C (on_link c e.trace) ≡ begun (Message.C m) k
+pub release-order : {w : ℕ} {config : Config} {caching : ℕ → Bool} {request : ℕ → MessageA w} (c : ℕ) {n : ℕ} (k : ℕ)
+    (r : Prune) (rest : List Packet) {truth : List ℕ} {carries : Bool} {m : MessageC w} {s : State (List ℕ)} {e : End w}
+    → IsInvariant caching s → ManagerRelation request s e.trace → IsKept config e
+    → (s.link c).c ≡ packet Release n ∷ rest → ((s.block n).pair c).letting ≡ ReleaseSent r
+    → IsAbout false n (prune_code r) carries truth m → unfinished Channel.C (on_link c e.trace) ≡ begun (Message.C m) k
     → broken_in_order config.profile (Beat.C (c_beat_of m k)) (on_link c e.trace) ≡ None
 unfolding broken_order
-release-order {w} config caching request c n k r rest truth carries m s e inv managed kept tokens releasing about
+release-order {w} {config} {caching} c {n} k r rest {m} {s} {e} inv managed kept tokens releasing about
     before = by_place config.profile m k t before first
   where
     t : History w
@@ -253,19 +245,19 @@ release-order {w} config caching request c n k r rest truth carries m s e inv ma
 ack_rule : (pends coming : Bool) → pends ≡ true → coming ≡ false → first_if (not pends || coming) H8 None ≡ None
 ack_rule pends coming e f = rw (e, f) refl
 
-pub ack-order : {w : ℕ} (config : Config) (request : ℕ → MessageA w) (c n : ℕ) (x : BeatE) (s : State (List ℕ))
-    (e : End w) → AreNamed s
+pub ack-order : {w : ℕ} {config : Config} {request : ℕ → MessageA w} (c n : ℕ) (x : BeatE) {s : State (List ℕ)}
+    {e : End w} → AreNamed s
     → ServedSourceRelation request s e.trace → IsKept config e → (s.block n).service ≡ GrantTaken c
     → x.sink ≡ (s.block n).tracker → (pending (Key.GrantSink x.sink) (on_link c e.trace) ≡ true)
     × (broken_in_order {w = w} config.profile (Beat.E x) (on_link c e.trace) ≡ None)
 unfolding broken_order
-ack-order {w} config request c n x s e named served kept taken_is sink =
+ack-order {w} c n x {s} {e} named served kept taken_is sink =
     let awaits : (b : Bool) → b ≡ true
     → (is_granting (if b then Acknowledging else GrantedOther) || is_acknowledging
     (if b then Acknowledging else GrantedOther)) ≡ true = λ b f. rw f refl in
     let pends : pending (Key.GrantSink x.sink) (on_link c e.trace) ≡ true = served.sinks c x.sink
     ∙ ap (λ i. is_granted c (s.tracked i) s) sink
-    ∙ ap (λ o. is_granted c o s) (tracker-of n s named (rw taken_is refl))
+    ∙ ap (λ o. is_granted c o s) (tracker-of n named (rw taken_is refl))
     ∙ rw taken_is (awaits (c == c) (same_number c)) in (
       pends,
       rw ((whole-e {w = w} x (on_link c e.trace)).0, (kept.whole c).1)

@@ -36,14 +36,12 @@ access-room {w} (Some l) m width lawful = room_in_block m.size m.address m.small
 
 -- the memory's bytes of the block after the access are those that the protocol gives the block
 pub performed-block : {w : ℕ} (o : Option Level) (m : MessageA w) (f : Memory) → IsWidth w
-    → illegal_message_at o (A m) ≡ None
-    → bytes_from (effect (A m) f).0 (64 * block_at m.address) 64 ≡ performs m
-    (bytes_from f (64 * block_at m.address) 64)
+    → illegal_message_at o (A m) ≡ None → bytes_from (effect (A m) f).0 (64 * block_at m.address) 64
+    ≡ performs m (bytes_from f (64 * block_at m.address) 64)
 unfolding effect
 performed-block {w} o m f width lawful =
     block-same (effect (A m) f).0
-    (effect (A m) (bytes_at (block_at m.address) (bytes_from f (64 * block_at m.address) 64))).0
-    (block_at m.address)
+    (effect (A m) (bytes_at (block_at m.address) (bytes_from f (64 * block_at m.address) 64))).0 (block_at m.address)
     (after-local m.opcode m f (bytes_at (block_at m.address) (bytes_from f (64 * block_at m.address) 64))
     (access-room o m width lawful) (again-same f (block_at m.address)))
 

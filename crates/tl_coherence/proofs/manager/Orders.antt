@@ -27,11 +27,10 @@ reports_it : {w : ℕ} (x : BeatC w) (n : ℕ) (k : Cap) (r : Report) (p : Perm)
 reports_it x n k r p o e param told = rw (e, cap-again k, param, told, same_number (report_code (report_at k p))) refl
 
 pub report-legal : {w : ℕ} (profile : Profile) (n : ℕ) (k : Cap) (r : Report) (p : Perm) (x : BeatC w) (t : History w)
-    → is_probe_ack x.opcode ≡ true → is_release x.opcode ≡ false
-    → block_at x.address ≡ n → x.param ≡ report_code r
+    → is_probe_ack x.opcode ≡ true → is_release x.opcode ≡ false → block_at x.address ≡ n → x.param ≡ report_code r
     → unfinished Channel.C t ≡ [] → pending (Key.ProbeOf n) t ≡ true → pending (Key.ReleaseOf n) t ≡ false
-    → probe_of n t ≡ Some (probe_beat n k) → held n t ≡ p → r ≡ report_at k p
-    → broken_in_order profile (Beat.C x) t ≡ None
+    → probe_of n t ≡ Some (probe_beat n k) → held n t ≡ p → r ≡ report_at k p → broken_in_order profile (Beat.C x) t
+    ≡ None
 unfolding broken_order
 report-legal {w} profile n k r p x t acks not_release block param none probed released probe is told =
     let found : probe_of (block_at x.address) t ≡ Some (probe_beat n k) = rw block probe in

@@ -62,12 +62,11 @@ pub record IsAnswering {w : ℕ} {X : Type 0} (config : Config) (c k n : ℕ) (m
   pub free : (s.block n).service ≡ Free
   pub unwaited : IsUnwaited c m.source s
 
-pub traced-answered : {w : ℕ} {X : Type 0} (config : Config) (request : ℕ → MessageA w) (c k n : ℕ) (f : X → X)
-    (m : MessageA w) (s u : State X) (memory : Memory) (e : End w)
-    → ((i : ℕ) → u.block i ≡ set n (performed_block f (s.block n)) s.block i)
-    → IsAnswering config c k n m s e → IsTraced request s e.trace
-    → IsTraced request u (with_answer config c k m memory e.trace)
-traced-answered {w} {X} config request c k n f m s u memory e blocks is known =
+pub traced-answered : {w : ℕ} {X : Type 0} {config : Config} {request : ℕ → MessageA w} {c k n : ℕ} (f : X → X)
+    {m : MessageA w} {s : State X} (u : State X) (memory : Memory) {e : End w}
+    → ((i : ℕ) → u.block i ≡ set n (performed_block f (s.block n)) s.block i) → IsAnswering config c k n m s e
+    → IsTraced request s e.trace → IsTraced request u (with_answer config c k m memory e.trace)
+traced-answered {w} {X} {config} {request} {c} {k} {n} f {m} {s} u memory {e} blocks is known =
     let after : Trace w = with_answer config c k m memory e.trace in
     let new : Block X = performed_block f (s.block n) in
     let here : u.block n ≡ new = blocks n ∙ set-same n new s.block in
@@ -90,8 +89,8 @@ traced-answered {w} {X} config request c k n f m s u memory e blocks is known =
     let served : (i : ℕ) → service_of_block i (services after)
     ≡ (if not (is_acquire m.opcode) && (block_at m.address == i) then None else service_of_block i (services t)) =
     λ i. performed-serving config (block_at m.address) i (service_for c m e.trace) t memory
-    (ready-last config c k m e is.comes is.last) in
-    traced-at n request request s u e.trace after (record {
+    (ready-last is.comes is.last) in
+    traced-at (record {
       other_blocks = λ i ne. blocks i ∙ set-other n i new s.block ne;
       other_requests = λ i ne. refl;
       recorded_here = λ d. recorded_same d n ∙ known.recorded_is d n ∙ sym
@@ -103,7 +102,7 @@ traced-answered {w} {X} config request c k n f m s u memory e blocks is known =
       serving_here = served n ∙ rw (is.access, is.block, same_number n)
           (sym (ap (λ (b : Block X). service_with (client_in b.service) b.tracker (request n)) here ∙ rw is.free refl));
       serving_else = λ i ne. let differ : n ≡ i → ⊥ = λ g. ne (sym g) in
-          served i ∙ rw (is.access, is.block, ne_eqb n i differ) (serving-others config c k n i m e is.comes is.last
+          served i ∙ rw (is.access, is.block, ne_eqb n i differ) (serving-others n i is.comes is.last
           is.block ne);
       request_here = rw (here, is.free) tt;
       asked_here = λ r src o l g. absurd (let no : Free ≡ Waits r o src l =
@@ -131,10 +130,9 @@ pub record IsGranting {w : ℕ} {X : Type 0} (config : Config) (c k n : ℕ) (j 
 
 -- a Grant, with the cap that it names
 grant_of_d : {w : ℕ} (config : Config) (n : ℕ) (j : Cap) (s : Service w) (t : Trace w) (memory : Memory)
-    → block_at s.request.address ≡ n
-    → cap_granted config.profile s.request.opcode s.request.param (holders.is_unheld config n t) ≡ j
-    → (m : MessageD w) × (grant config s t memory ≡ D m) × (is_grant m.opcode ≡ true) × (m.source ≡ s.request.source)
-    × (capped m.param ≡ cap_right j)
+    → block_at s.request.address ≡ n → cap_granted config.profile s.request.opcode s.request.param
+    (holders.is_unheld config n t) ≡ j → (m : MessageD w) × (grant config s t memory ≡ D m) × (is_grant m.opcode ≡ true)
+    × (m.source ≡ s.request.source) × (capped m.param ≡ cap_right j)
 grant_of_d config n j s t memory block given = (
   _,
   refl,
@@ -144,13 +142,12 @@ grant_of_d config n j s t memory block given = (
   rw (block, given) (cap-gives j),
 )
 
-pub traced-granted : {w : ℕ} {X : Type 0} (config : Config) (request : ℕ → MessageA w) (c k n : ℕ) (b : Bool) (j : Cap)
-    (m : MessageA w) (s u : State X) (memory : Memory) (e : End w)
+pub traced-granted : {w : ℕ} {X : Type 0} {config : Config} {request : ℕ → MessageA w} {c k n : ℕ} (b : Bool) {j : Cap}
+    {m : MessageA w} {s : State X} (u : State X) (memory : Memory) {e : End w}
     → ((i : ℕ) → u.block i ≡ set n (granted_at_once c (least_untaken (trackers_of (services e.trace))) b j (s.block n))
-    s.block i)
-    → IsGranting config c k n j m s e → IsTraced request s e.trace
+    s.block i) → IsGranting config c k n j m s e → IsTraced request s e.trace
     → IsTraced (set n m request) u (with_answer config c k m memory e.trace)
-traced-granted {w} {X} config request c k n b j m s u memory e blocks is known =
+traced-granted {w} {X} {config} {request} {c} {k} {n} b {j} {m} {s} u memory {e} blocks is known =
     let tracker : ℕ = least_untaken (trackers_of (services e.trace)) in
     let new : Block X = granted_at_once c tracker b j (s.block n) in
     let here : u.block n ≡ new = blocks n ∙ set-same n new s.block in
@@ -176,8 +173,8 @@ traced-granted {w} {X} config request c k n b j m s u memory e blocks is known =
     λ r src. cc (after_is, request-reply (link_of c) reply.0 t r src) in
     let served : (i : ℕ) → service_of_block i (services after) ≡ service_of_block i (services t) =
     λ i. performed-serving config (block_at m.address) i (service_for c m e.trace) t memory
-    (ready-last config c k m e is.comes is.last) ∙ rw is.acquires refl in
-    traced-at n request (set n m request) s u e.trace after (record {
+    (ready-last is.comes is.last) ∙ rw is.acquires refl in
+    traced-at (record {
       other_blocks = λ i ne. blocks i ∙ set-other n i new s.block ne;
       other_requests = λ i ne. set-other n i m request ne;
       recorded_here = λ d. recorded_now d ∙ sym (ap (λ (y : Block X). (y.pair d).recorded) here);
@@ -186,11 +183,11 @@ traced-granted {w} {X} config request c k n b j m s u memory e blocks is known =
           (ap (λ (y : Block X). not (is_unprobed (y.pair d).probing)) here ∙ ap not (quiet_same d));
       probes_else = λ d i ne. missing_same d i;
       serving_here =
-          served n ∙ serving-last config c k n m e is.comes is.last is.block
+          served n ∙ serving-last n is.comes is.last is.block
           ∙ sym (ap (λ (y : Block X). service_with (client_in y.service) y.tracker (set n m request n)) here
           ∙ ap (λ (r : MessageA w). Some (record { tracker = tracker; link = link_of c; request = r }))
           (set-same n m request));
-      serving_else = λ i ne. served i ∙ serving-others config c k n i m e is.comes is.last is.block ne;
+      serving_else = λ i ne. served i ∙ serving-others n i is.comes is.last is.block ne;
       request_here = rw (here, set-same n m request) (is.acquires, is.block);
       asked_here = λ r src o l g. absurd (let no : GrantSent c b j ≡ Waits r o src l =
           ap (λ (y : Block X). y.service) (sym here) ∙ g in cc);
@@ -209,9 +206,8 @@ traced-granted {w} {X} config request c k n b j m s u memory e blocks is known =
     reply = grant_of_d config n j (service_for c m e.trace) t memory is.block is.given
 
     after_is : after ≡ after_sent (link_of c) (D reply.0) t
-    after_is =
-        ap (λ (d : Reaction w). with_handed d.handed t) (performed-acquire config (service_for c m e.trace) t memory
-        is.acquires) ∙ one-handed c (grant config (service_for c m e.trace) t memory) t
+    after_is = ap (λ (d : Reaction w). with_handed d.handed t) (performed-acquire config (service_for c m e.trace) t
+        memory is.acquires) ∙ one-handed c (grant config (service_for c m e.trace) t memory) t
         ∙ ap (λ (i : Message w). after_sent (link_of c) i t) reply.1
 
     whole : (d : ℕ) → unfinished Channel.D (on_link d t) ≡ []
@@ -219,13 +215,12 @@ traced-granted {w} {X} config request c k n b j m s u memory e blocks is known =
 
     -- what the Grant says of each block
     asks : (i : ℕ) → asks_for i (request_of reply.0.source (on_link c t)) ≡ (n == i)
-    asks i = rw (reply.3, request-own config c k m e is.comes, is.block) refl
+    asks i = rw (reply.3, request-own is.comes, is.block) refl
 
     recorded_own : (i : ℕ) → recorded c i after ≡ unwrap_or (if true && (n == i) then Some (cap_right j) else None)
         (recorded c i e.trace)
-    recorded_own i =
-        ap (recorded c i) after_is ∙ ap (held i) (own_link c (link_of c) (D reply.0) t (same_number c)) ∙ held-sent_d i
-        reply.0 (on_link c t) (whole c) (beats-positive (D reply.0) is.comes.width)
+    recorded_own i = ap (recorded c i) after_is ∙ ap (held i) (own_link c (link_of c) (D reply.0) t (same_number c))
+        ∙ held-sent_d i reply.0 (on_link c t) (whole c) (beats-positive (D reply.0) is.comes.width)
         ∙ rw (reply.2, asks i, reply.4, recorded-beat c k m e.trace c i) refl
 
     recorded_apart : (d i : ℕ) → (d ≡ c → ⊥) → recorded d i after ≡ recorded d i e.trace

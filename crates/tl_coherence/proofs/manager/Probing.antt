@@ -40,13 +40,12 @@ pub record IsProbing {w : ℕ} {X : Type 0} (config : Config) (c k n : ℕ) (own
   pub beyond : (d : ℕ) → length config.clients.items ≤ d → ((s.block n).pair d).recorded ≡ Perm.None
   pub unwaited : IsUnwaited c source s
 
-pub traced-probing : {w : ℕ} {X : Type 0} (config : Config) (request : ℕ → MessageA w) (c k n : ℕ) (own : Bool)
-    (source : ℕ) (j : Cap) (m : MessageA w) (s u : State X) (e : End w)
+pub traced-probing : {w : ℕ} {X : Type 0} {config : Config} {request : ℕ → MessageA w} {c k n : ℕ} {own : Bool}
+    {source : ℕ} {j : Cap} {m : MessageA w} {s : State X} (u : State X) {e : End w}
     → ((i : ℕ) → u.block i ≡ set n (served_block c own source (least_untaken (trackers_of (services e.trace))) j
-    (s.block n)) s.block i)
-    → IsProbing config c k n own source j m s e → IsTraced request s e.trace
+    (s.block n)) s.block i) → IsProbing config c k n own source j m s e → IsTraced request s e.trace
     → IsTraced (set n m request) u (with_probes config c k m n j e.trace)
-traced-probing {w} {X} config request c k n own source j m s u e blocks is known =
+traced-probing {w} {X} {config} {request} {c} {k} {n} {own} {source} {j} {m} {s} u {e} blocks is known =
     let tracker : ℕ = least_untaken (trackers_of (services e.trace)) in
     let new : Block X = served_block c own source tracker j (s.block n) in
     let service_now : Block X → Option (Service w) =
@@ -79,7 +78,7 @@ traced-probing {w} {X} config request c k n own source j m s u e blocks is known
           ∙ missing_before d
           ∙ sym (rw (is.beyond d le, nothing-above j) refl) ∙ quiet_now d (own && (d == c))
     ] in
-    traced-at n request (set n m request) s u e.trace after (record {
+    traced-at (record {
       other_blocks = λ i ne. blocks i ∙ set-other n i new s.block ne;
       other_requests = λ i ne. set-other n i m request ne;
       recorded_here = λ d. recorded_same d n ∙ known.recorded_is d n ∙ sym
@@ -91,14 +90,14 @@ traced-probing {w} {X} config request c k n own source j m s u e blocks is known
           probes-keep (pending (ProbeOf i)) d n j asked_clients t (λ h. missing-else_b i n j h (ne_eqb n i differ))
           ∙ missing-beat c k m e.trace d i;
       serving_here =
-          ap (service_of_block n) (services-probes n j asked_clients t) ∙ serving-last config c k n m e is.comes is.last
+          ap (service_of_block n) (services-probes n j asked_clients t) ∙ serving-last n is.comes is.last
           is.for.2
           ∙ sym (ap (λ (b : Block X). service_now b) here ∙ ap
           (λ (r : MessageA w). Some (record { tracker = tracker; link = link_of c; request = r }))
           (set-same n m request));
-      serving_else = λ i ne. ap (service_of_block i) (services-probes n j asked_clients t) ∙ serving-others config c k n
-          i m
-          e is.comes is.last is.for.2 ne;
+      serving_else = λ i ne. ap (service_of_block i) (services-probes n j asked_clients t) ∙ serving-others n
+          i
+          is.comes is.last is.for.2 ne;
       request_here = rw (here, set-same n m request) is.for;
       asked_here = λ r src o l f. asked_now r src o l (ap (λ (b : Block X). b.service) (sym here) ∙ f);
       asked_else = λ i r src o l ne f. asked_same r src ∙ request-beat c k m e.trace r src
@@ -128,7 +127,7 @@ traced-probing {w} {X} config request c k n own source j m s u e blocks is known
         λ r src o l f. cc in
         let client : r ≡ c = cc in
         let number : src ≡ m.source = number_is r src o l f ∙ sym is.for.1 in
-        rw (client, number) (asked_same c m.source ∙ request-own config c k m e is.comes) ∙ ap
+        rw (client, number) (asked_same c m.source ∙ request-own is.comes) ∙ ap
         (λ (i : MessageA w). Some (a_beat_of i 0)) (sym (set-same n m request))
 
     missing_before : (d : ℕ) → pending (ProbeOf n) (on_link d t) ≡ false

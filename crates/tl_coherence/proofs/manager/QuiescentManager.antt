@@ -32,8 +32,8 @@ pub record AreQuiet {w : ℕ} (t u : Trace w) : Type 0 where
   pub probe : (c n : ℕ) → probe_of n (on_link c u) ≡ probe_of n (on_link c t)
 
 -- one after another
-pub quiet-then : {w : ℕ} (t u v : Trace w) → AreQuiet t u → AreQuiet u v → AreQuiet t v
-quiet-then t u v a b = record {
+pub quiet-then : {w : ℕ} {t u v : Trace w} → AreQuiet t u → AreQuiet u v → AreQuiet t v
+quiet-then a b = record {
   serves = b.serves ∙ a.serves;
   acquires = λ c n. b.acquires c n ∙ a.acquires c n;
   grants = λ c n. b.grants c n ∙ a.grants c n;
@@ -63,11 +63,10 @@ quiet-c link x t = record {
 }
 
 -- what is recorded after it
-recorded-c : {w : ℕ} (link : Link) (x : BeatC w) (t : Trace w) (d i : ℕ)
-    → recorded d i ((link, Beat.C x) ∷ t) ≡ unwrap_or (if (link.0 == d)
+recorded-c : {w : ℕ} (link : Link) (x : BeatC w) (t : Trace w) (d i : ℕ) → recorded d i ((link, Beat.C x) ∷ t)
+    ≡ unwrap_or (if (link.0 == d)
     && (ends (Beat.C x) (on_link d t) && ((is_probe_ack x.opcode || is_release x.opcode) && (block_at x.address == i)))
-    then Some
-    (reported x.param) else None) (recorded d i t)
+    then Some (reported x.param) else None) (recorded d i t)
 recorded-c link x t d i = recorded-taken d link i (Beat.C x) t refl
 
 -- the last beat of a ProbeAck or Release of a block
@@ -77,9 +76,9 @@ pub record IsLastOf {w : ℕ} (c n : ℕ) (right : Perm) (x : BeatC w) (t : Trac
   pub block : block_at x.address ≡ n
   pub right_is : reported x.param ≡ right
 
-pub recorded-last : {w : ℕ} (c n : ℕ) (right : Perm) (x : BeatC w) (t : Trace w) → IsLastOf c n right x t → (d i : ℕ)
+pub recorded-last : {w : ℕ} {c n : ℕ} {right : Perm} {x : BeatC w} {t : Trace w} → IsLastOf c n right x t → (d i : ℕ)
     → recorded d i ((record { 0 = c }, Beat.C x) ∷ t) ≡ (if (c == d) && (n == i) then right else recorded d i t)
-recorded-last {w} c n right x t is d i = recorded-c (record { 0 = c }) x t d i ∙ elim (cases_eq c d) [
+recorded-last {w} {c} {n} {right} {x} {t} is d i = recorded-c (record { 0 = c }) x t d i ∙ elim (cases_eq c d) [
   | inl same ↦ rw (← same, is.last, is.kind, is.block, is.right_is, same_number c) (go (n == i))
   | inr other ↦ rw (ne_eqb c d other) refl
 ]
@@ -106,24 +105,20 @@ recorded-part c x t part d i = recorded-c (record { 0 = c }) x t d i ∙ elim (c
 missing-c : {w : ℕ} (c : ℕ) (x : BeatC w) (t : Trace w) (d i : ℕ)
     → pending (Key.ProbeOf i) (on_link d ((record { 0 = c }, Beat.C x) ∷ t))
     ≡ (if (c == d) && (ends (Beat.C x) (on_link d t) && (is_probe_ack x.opcode && (block_at x.address == i))) then false
-    else pending (Key.ProbeOf i)
-    (on_link d t))
+    else pending (Key.ProbeOf i) (on_link d t))
 missing-c {w} c x t d i = go (c == d) refl
   where
-    go : (b : Bool) → (c == d) ≡ b
-        → pending (Key.ProbeOf i) (on_link d ((record { 0 = c }, Beat.C x) ∷ t))
+    go : (b : Bool) → (c == d) ≡ b → pending (Key.ProbeOf i) (on_link d ((record { 0 = c }, Beat.C x) ∷ t))
         ≡ (if b && (ends (Beat.C x) (on_link d t) && (is_probe_ack x.opcode && (block_at x.address == i))) then false
-        else pending (Key.ProbeOf i)
-        (on_link d t))
+        else pending (Key.ProbeOf i) (on_link d t))
     go true e = ap (pending (Key.ProbeOf i)) (own_beat d (record { 0 = c }) (Beat.C x) t e) ∙ pending-closed
         (Key.ProbeOf i) (Beat.C x) (on_link d t) refl
     go false e = ap (pending (Key.ProbeOf i)) (other_beat d (record { 0 = c }) (Beat.C x) t e)
 
-pub missing-last : {w : ℕ} (c n : ℕ) (right : Perm) (x : BeatC w) (t : Trace w) → IsLastOf c n right x t
-    → is_probe_ack x.opcode ≡ true → (d i : ℕ)
-    → pending (Key.ProbeOf i) (on_link d ((record { 0 = c }, Beat.C x) ∷ t)) ≡ (if (c == d) && (n == i) then false else
-    pending (Key.ProbeOf i) (on_link d t))
-missing-last c n right x t is report d i = missing-c c x t d i ∙ elim (cases_eq c d) [
+pub missing-last : {w : ℕ} {c n : ℕ} {right : Perm} {x : BeatC w} {t : Trace w} → IsLastOf c n right x t
+    → is_probe_ack x.opcode ≡ true → (d i : ℕ) → pending (Key.ProbeOf i) (on_link d ((record { 0 = c }, Beat.C x) ∷ t))
+    ≡ (if (c == d) && (n == i) then false else pending (Key.ProbeOf i) (on_link d t))
+missing-last {c} {x} {t} is report d i = missing-c c x t d i ∙ elim (cases_eq c d) [
   | inl same ↦ rw (← same, is.last, report, is.block, same_number c) refl
   | inr other ↦ rw (ne_eqb c d other) refl
 ]
@@ -134,9 +129,8 @@ none_or a b p = refl
 
 pub missing-release : {w : ℕ} (c : ℕ) (x : BeatC w) (t : Trace w) → is_probe_ack x.opcode ≡ false → (d i : ℕ)
     → pending (Key.ProbeOf i) (on_link d ((record { 0 = c }, Beat.C x) ∷ t)) ≡ pending (Key.ProbeOf i) (on_link d t)
-missing-release {w} c x t kind d i =
-    missing-c c x t d i ∙ rw kind
-    (none_or (c == d) (ends (Beat.C x) (on_link d t)) (pending (Key.ProbeOf i) (on_link d t)))
+missing-release {w} c x t kind d i = missing-c c x t d i
+    ∙ rw kind (none_or (c == d) (ends (Beat.C x) (on_link d t)) (pending (Key.ProbeOf i) (on_link d t)))
 
 pub part_none : (a b : Bool) → (if a && false then false else b) ≡ b
 part_none true b = refl
@@ -172,10 +166,9 @@ pub recorded-answer : {w : ℕ} (link : Link) (m : MessageD w) (t : Trace w) →
 recorded-answer {w} link m t width none other d i = go (link.0 == d) refl
   where
     go : (b : Bool) → (link.0 == d) ≡ b → recorded d i (after_sent link (D m) t) ≡ recorded d i t
-    go true e =
-        ap (held i) (own_link d link (D m) t e) ∙ held-sent_d i m (on_link d t)
-        (subst (λ (j : ℕ). unfinished Channel.D (on_link j t) ≡ []) (eqb-true link.0 d e) none)
-        (beats-positive (D m) width) ∙ rw other refl
+    go true e = ap (held i) (own_link d link (D m) t e)
+        ∙ held-sent_d i m (on_link d t) (subst (λ (j : ℕ). unfinished Channel.D (on_link j t) ≡ [])
+        (eqb-true link.0 d e) none) (beats-positive (D m) width) ∙ rw other refl
     go false e = ap (held i) (other_link d link (D m) t e)
 
 -- ---- the protocol: no service, source or tracker changes
@@ -186,12 +179,11 @@ pub record AreStill {X : Type 0} (s z : State X) : Type 0 where
   pub uses : (c source : ℕ) → z.uses c source ≡ s.uses c source
   pub tracked : (i : ℕ) → z.tracked i ≡ s.tracked i
 
-pub managed-still : {w : ℕ} {X : Type 0} (request : ℕ → MessageA w) (s z : State X) (t u : Trace w) → AreQuiet t u
-    → AreStill s z
-    → ((c n : ℕ) → recorded c n u ≡ ((z.block n).pair c).recorded)
+pub managed-still : {w : ℕ} {X : Type 0} {request : ℕ → MessageA w} {s z : State X} {t u : Trace w} → AreQuiet t u
+    → AreStill s z → ((c n : ℕ) → recorded c n u ≡ ((z.block n).pair c).recorded)
     → ((c n : ℕ) → pending (Key.ProbeOf n) (on_link c u) ≡ not (is_unprobed ((z.block n).pair c).probing))
     → ManagerRelation request s t → ManagerRelation request z u
-managed-still request s z t u quiet still records missing known = record {
+managed-still quiet still records missing known = record {
   recorded_is = records;
   probes = missing;
   acquires = λ c n. cc (quiet.acquires c n, known.acquires c n, still.services n);
@@ -200,27 +192,27 @@ managed-still request s z t u quiet still records missing known = record {
       refl;
 }
 
-served-still : {X : Type 0} (s z : State X) → AreStill s z → (c : ℕ) (u : SourceState)
+served-still : {X : Type 0} {s z : State X} → AreStill s z → (c : ℕ) (u : SourceState)
     → is_served c u z ≡ is_served c u s
-served-still s z still c (Acquires n) = ap (λ (v : Service). is_own (view v c)) (still.services n)
-served-still s z still c u = refl
+served-still still c (Acquires n) = ap (λ (v : Service). is_own (view v c)) (still.services n)
+served-still still c u = refl
 
-granted-still : {X : Type 0} (s z : State X) → AreStill s z → (c : ℕ) (o : Option ℕ)
+granted-still : {X : Type 0} {s z : State X} → AreStill s z → (c : ℕ) (o : Option ℕ)
     → is_granted c o z ≡ is_granted c o s
-granted-still s z still c None = refl
-granted-still s z still c (Some n) = cc (still.services n)
+granted-still still c None = refl
+granted-still still c (Some n) = cc (still.services n)
 
-pub are_served-still : {w : ℕ} {X : Type 0} (request : ℕ → MessageA w) (s z : State X) (t u : Trace w) → AreQuiet t u
+pub are_served-still : {w : ℕ} {X : Type 0} {request : ℕ → MessageA w} {s z : State X} {t u : Trace w} → AreQuiet t u
     → AreStill s z
     → ((c n : ℕ) → is_unprobed ((z.block n).pair c).probing ≡ false → is_unprobed ((s.block n).pair c).probing ≡ false)
     → ServedSourceRelation request s t → ServedSourceRelation request z u
-are_served-still {w} request s z t u quiet still probing known = record {
+are_served-still {w} {s} {z} quiet still probing known = record {
   sources = λ c q. quiet.sources c q ∙ known.sources c q ∙ rw (
     still.uses c q,
-    served-still s z still c (s.uses c q),
+    served-still still c (s.uses c q),
     quiet.bursts c,
   ) refl;
-  sinks = λ c q. quiet.sinks c q ∙ known.sinks c q ∙ rw (still.tracked q, granted-still s z still c (s.tracked q)) refl;
+  sinks = λ c q. quiet.sinks c q ∙ known.sinks c q ∙ rw (still.tracked q, granted-still still c (s.tracked q)) refl;
   requests = λ n. rw (still.services n) (known.requests n);
   asked = λ n r source own k e. quiet.requests r source ∙ known.asked n r source own k (sym (still.services n) ∙ e);
   probes = λ c n e. quiet.probe c n ∙ known.probes c n (probing c n e) ∙ rw (still.services n) refl;
@@ -247,8 +239,7 @@ pair-part {X} {A} part c n p new block is d i = elim (cases_eq i n) [
 
 -- a part that it has as before
 pub pair-still : {X A : Type 0} (part : ClientBlock → A) (c n : ℕ) (p : ClientBlock) (new : Block X) (block : ℕ
-    → Block X) → ((d : ℕ) → new.pair d ≡ set c p (block n).pair d)
-    → part p ≡ part ((block n).pair c) → (d i : ℕ)
+    → Block X) → ((d : ℕ) → new.pair d ≡ set c p (block n).pair d) → part p ≡ part ((block n).pair c) → (d i : ℕ)
     → part ((set n new block i).pair d) ≡ part ((block i).pair d)
 pair-still {X} {A} part c n p new block is same d i = pair-part part c n p new block is d i ∙ go (c == d) (n == i) refl
     refl

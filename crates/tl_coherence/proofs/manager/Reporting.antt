@@ -24,8 +24,7 @@ pub record IsAbout {w : ℕ} (is_report : Bool) (n param : ℕ) (carries : Bool)
     pub blank : IsBlankAfter (beats_of (Message.C m)) (Message.C m)
 
 about_data : {w : ℕ} (b : Bool) (opcode : OpC) (param source n : ℕ) (truth : List ℕ) → IsWidth w
-    → is_probe_ack opcode ≡ b → is_release opcode ≡ not b
-    → c_carries_data opcode ≡ true → length truth ≡ 64
+    → is_probe_ack opcode ≡ b → is_release opcode ≡ not b → c_carries_data opcode ≡ true → length truth ≡ 64
     → IsAbout {w = w} b n param true truth (about opcode param source n truth)
 about_data {w} b opcode param source n truth width reports releases carries long = record {
   reports = reports;

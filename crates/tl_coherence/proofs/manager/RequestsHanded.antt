@@ -26,15 +26,14 @@ use Rattle.tl_coherence.proofs.queues.Codes.{acquires-so, gives-some, data-same}
 
 -- ---- an access that is answered
 
-pub handed-answered : {w : ℕ} (config : Config) (log : Log w) (mail : AccessMessages w) (request : ℕ → MessageA w)
-    (s : State (List ℕ)) (sys : System w) (c source k : ℕ)
-    → SimulationRelation config log mail request s sys → (asked : IsAsked config c source mail s)
-    → IsComing config c k asked.request sys.manager → beats_of (Message.A asked.request) ≡ suc k
-    → probes_some (length config.clients.items) c false (cap_probed asked.request.opcode asked.request.param)
-    (s.block (block_at asked.request.address)).pair ≡ false
+pub handed-answered : {w : ℕ} {config : Config} {log : Log w} {mail : AccessMessages w} {request : ℕ → MessageA w}
+    {s : State (List ℕ)} {sys : System w} {c source k : ℕ} → SimulationRelation config log mail request s sys
+    → (asked : IsAsked config c source mail s) → IsComing config c k asked.request sys.manager
+    → beats_of (Message.A asked.request) ≡ suc k → probes_some (length config.clients.items) c false
+    (cap_probed asked.request.opcode asked.request.param) (s.block (block_at asked.request.address)).pair ≡ false
     → (reaction config (link_of c) (Beat.A (a_beat_of asked.request k)) sys.manager).handed
     ≡ (link_of c, answers asked.request (s.block (block_at asked.request.address)).memory) ∷ []
-handed-answered {w} config log mail request s sys c source k is asked comes last none =
+handed-answered {w} {config} {log} {mail} {request} {s} {sys} {c} {k} is asked comes last none =
     let m : MessageA w = asked.request in
     let n : ℕ = block_at m.address in
     let e : End w = sys.manager in
@@ -50,11 +49,10 @@ handed-answered {w} config log mail request s sys c source k is asked comes last
 
 -- who is granted a block is recorded with what it is given, so that nobody else has it to write: the
 -- memory is its truth
-pub memory-granted : (caching : ℕ → Bool) (q : ℕ) (d : Bool) (k : Cap) (new : Block (List ℕ)) → IsWell caching new
-    → new.service ≡ GrantSent q d k
-    → (new.pair q).recorded ≡ cap_right k → same_perm (cap_right k) Perm.None ≡ false
+pub memory-granted : {caching : ℕ → Bool} (q : ℕ) (d : Bool) (k : Cap) {new : Block (List ℕ)} → IsWell caching new
+    → new.service ≡ GrantSent q d k → (new.pair q).recorded ≡ cap_right k → same_perm (cap_right k) Perm.None ≡ false
     → new.memory ≡ new.truth
-memory-granted caching q d k new well granted given some =
+memory-granted q d k {new} well granted given some =
     let own_view : is_granting (view new.service q) ≡ true = rw (granted, same_number q) refl in
     let nobody : (i : ℕ) → is_out (new.pair i) (view new.service i) ≡ false = λ i. elim (cases_eq i q) [
       | inl same ↦ rw same (ap (λ x. same_perm (new.pair q).recorded Perm.Trunk && not x) own_view ∙ and-false
@@ -76,19 +74,17 @@ payload-same true f n truth e = e
 payload-same false f n truth e = refl
 
 grant-is : {w : ℕ} (v : manager.Service w) (q n source tracker : ℕ) (d : Bool) (k : Cap) (f : Memory) (truth : List ℕ)
-    → v.request.source ≡ source
-    → v.tracker ≡ tracker → block_at v.request.address ≡ n → bytes_from f (64 * n) 64 ≡ truth
-    → grant_with v k d f ≡ grant_of (GrantSent q d k) source tracker truth
+    → v.request.source ≡ source → v.tracker ≡ tracker → block_at v.request.address ≡ n
+    → bytes_from f (64 * n) 64 ≡ truth → grant_with v k d f ≡ grant_of (GrantSent q d k) source tracker truth
 grant-is v q n source tracker d k f truth sourced tracked block bytes =
     rw (sourced, tracked, block, payload-same d f n truth bytes) refl
 
 -- the Grant is that of the token, where the block is well afterwards
-pub handed-granted : {w : ℕ} (config : Config) (log : Log w) (mail : AccessMessages w) (request : ℕ → MessageA w)
-    (s : State (List ℕ)) (sys : System w)
-    (caching : ℕ → Bool) (c n k : ℕ) → SimulationRelation config log mail request s sys → (asked : IsWanted w c n s)
-    → IsComing config c k (acquire_wanted c n s asked) sys.manager
-    → beats_of (Message.A (acquire_wanted c n s asked)) ≡ suc k
-    → probes_some (length config.clients.items) c true (cap_probed (acquire_wanted {w = w} c n s asked).opcode
+pub handed-granted : {w : ℕ} {config : Config} {log : Log w} {mail : AccessMessages w} {request : ℕ → MessageA w}
+    {s : State (List ℕ)} {sys : System w} {caching : ℕ → Bool} {c n k : ℕ}
+    → SimulationRelation config log mail request s sys → (asked : IsWanted w c n s)
+    → IsComing config c k (acquire_wanted c n s asked) sys.manager → beats_of (Message.A (acquire_wanted c n s asked))
+    ≡ suc k → probes_some (length config.clients.items) c true (cap_probed (acquire_wanted {w = w} c n s asked).opcode
     (acquire_wanted {w = w} c n s asked).param) (s.block n).pair ≡ false
     → IsWell caching (granted_at_once c (next_tracker sys)
     (is_granted_data asked.whole asked.grow ((s.block n).pair c).recorded)
@@ -96,13 +92,13 @@ pub handed-granted : {w : ℕ} (config : Config) (log : Log w) (mail : AccessMes
     → (reaction config (link_of c) (Beat.A (a_beat_of (acquire_wanted c n s asked) k)) sys.manager).handed
     ≡ (
       link_of c,
-      block_message Grant c n (granted_at_once c (next_tracker sys)
-          (is_granted_data asked.whole asked.grow ((s.block n).pair c).recorded)
+      block_message Grant c n
+          (granted_at_once c (next_tracker sys) (is_granted_data asked.whole asked.grow ((s.block n).pair c).recorded)
           (gift config.profile asked.whole asked.grow (is_unheld (length config.clients.items) (s.block n).pair))
           (s.block n)),
     ) ∷ []
 unfolding block_message
-handed-granted {w} config log mail request s sys caching c n k is asked comes last none well =
+handed-granted {w} {config} {log} {mail} {request} {s} {sys} {caching} {c} {n} {k} is asked comes last none well =
     let b : Block (List ℕ) = s.block n in
     let m : MessageA w = acquire_wanted c n s asked in
     let e : End w = sys.manager in
@@ -113,7 +109,7 @@ handed-granted {w} config log mail request s sys caching c n k is asked comes la
     let new : Block (List ℕ) = granted_at_once c (next_tracker sys) data_too gift_is b in
     let recorded_now = ap (λ (p : ClientBlock). p.recorded) (set-same c (after_grant_sent gift_is (b.pair c)) b.pair) in
     let given : cap_granted config.profile m.opcode m.param (holders.is_unheld config (block_at m.address) u)
-    ≡ gift_is = cc (same_block n, unheld-same config log mail request s sys c k n m is) in
+    ≡ gift_is = cc (same_block n, unheld-same c k n m is) in
     let carried : handing.is_granted_data m.opcode m.param (recorded c (block_at m.address) u) ≡ data_too =
     cc (
       same_block n,
@@ -129,5 +125,5 @@ handed-granted {w} config log mail request s sys caching c n k is asked comes la
     (ap₂ (λ (j : Cap) (d : Bool). grant_with (service_for c m e.trace) j d e.memory) given carried
     ∙ grant-is (service_for c m e.trace) c n (b.source c) (next_tracker sys) data_too gift_is e.memory b.truth refl refl
     (same_block n)
-    (is.memory n ∙ memory-granted caching c data_too gift_is new well refl recorded_now
+    (is.memory n ∙ memory-granted c data_too gift_is well refl recorded_now
     (gives-some config.profile asked.whole asked.grow unheld)))

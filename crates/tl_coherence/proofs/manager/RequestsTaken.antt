@@ -27,11 +27,10 @@ use Rattle.tl_coherence.proofs.manager.UnwaitedRequests.{reaction-performed, som
 
 -- ---- an access
 
-pub unwaited-asked : {w : ℕ} (config : Config) (log : Log w) (mail : AccessMessages w) (request : ℕ → MessageA w)
-    (s : State (List ℕ)) (sys : System w) (c source : ℕ)
+pub unwaited-asked : {w : ℕ} {config : Config} {log : Log w} {mail : AccessMessages w} {request : ℕ → MessageA w}
+    {s : State (List ℕ)} {sys : System w} (c source : ℕ)
     → SimulationRelation config log mail request s sys → s.uses c source ≡ Asked → IsUnwaited c source s
-unwaited-asked {w} config log mail request s sys c source is used i src own j e same =
-    go own (waits-used (is_caching config) s i c src own j is.invariant e)
+unwaited-asked {w} {config} {s} c source is used i src own j e same = go own (waits-used i c src own j is.invariant e)
   where
     here : s.uses c src ≡ Asked
     here = ap (s.uses c) (sym same) ∙ used
@@ -49,10 +48,11 @@ with-same mail after (GrantSent q d k) m same ok = tt
 with-same mail after (GrantTaken q) m same ok = tt
 
 -- other answers change nothing
-pub at_manager-answers : {w : ℕ} (config : Config) (mail after : AccessMessages w) (request : ℕ → MessageA w)
-    (s : State (List ℕ)) (e : End w)
+pub at_manager-answers : {w : ℕ} {config : Config} {mail : AccessMessages w} (after : AccessMessages w) {request : ℕ
+    → MessageA w}
+    {s : State (List ℕ)} {e : End w}
     → after.request ≡ mail.request → IsAtManager config mail request s e → IsAtManager config after request s e
-at_manager-answers config mail after request s e same is = record {
+at_manager-answers {mail} after {request} {s} same is = record {
   managed = is.managed;
   served = is.served;
   served_with = λ n. with-same mail after (s.block n).service (request n) same (is.served_with n);
@@ -61,32 +61,25 @@ at_manager-answers config mail after request s e same is = record {
   all_live = is.all_live;
 }
 
-pub ready-request : {w : ℕ} (config : Config) (log : Log w) (h : AbstractState w) (sys : System w) (c source k : ℕ)
-    → SimulationRelation config log h.mail h.request h.state sys
-    → (asked : IsAsked config c source h.mail h.state)
+pub ready-request : {w : ℕ} {config : Config} {log : Log w} (h : AbstractState w) {sys : System w} {c source k : ℕ}
+    → SimulationRelation config log h.mail h.request h.state sys → (asked : IsAsked config c source h.mail h.state)
     → IsComing config c k asked.request sys.manager → beats_of (Message.A asked.request) ≡ suc k
     → must_wait config (link_of c) (Beat.A (a_beat_of asked.request k)) sys.manager.trace ≡ false
     → IsReady (next_tracker sys) c Request source h
-ready-request config log h sys c source k is asked comes last moves = (
-  asked.request,
-  asked.is_it,
-  asked.access,
-  free-last config log h.mail h.request h.state sys c k asked.request is
-      comes last moves,
-  untracked-next config log h.mail h.request h.state sys is,
-)
+ready-request {config} {log} h {sys} {c} {k} is asked comes last moves =
+    (asked.request, asked.is_it, asked.access, free-last is comes last moves, untracked-next is)
 
 -- after the last beat of an access that was taken
-pub at_manager-request_taken : {w : ℕ} (config : Config) (log : Log w) (h : AbstractState w) (sys : System w)
-    (c source k : ℕ) (rest : List Packet) → SimulationRelation config log h.mail h.request h.state sys
+pub at_manager-request_taken : {w : ℕ} {config : Config} {log : Log w} (h : AbstractState w) {sys : System w}
+    {c source k : ℕ} (rest : List Packet) → SimulationRelation config log h.mail h.request h.state sys
     → (h.state.link c).a ≡ packet Request source ∷ rest → (asked : IsAsked config c source h.mail h.state)
     → IsComing config c k asked.request sys.manager → beats_of (Message.A asked.request) ≡ suc k
     → must_wait config (link_of c) (Beat.A (a_beat_of asked.request k)) sys.manager.trace ≡ false
     → IsManagerOf config (kind_taken config (next_tracker sys) c Request source rest h)
     (end_after config c k asked.request sys.manager)
-at_manager-request_taken {w} config log h sys c source k rest is first asked comes last moves =
+at_manager-request_taken {w} {config} {log} h {sys} {c} {source} {k} rest is first asked comes last moves =
     let inv = invariant-taken config log h sys c Request source rest is first
-    (ready-request config log h sys c source k is asked comes last moves) in
+    (ready-request h is asked comes last moves) in
     subst (λ (i : Message w). IsManagerOf config (request_taken clients c source i tracker rest h) after)
     (sym asked.is_it)
     (go (probes_some clients c false (cap_probed m.opcode m.param) b.pair) (cap_probed m.opcode m.param) refl refl
@@ -115,10 +108,10 @@ at_manager-request_taken {w} config log h sys c source k rest is first asked com
     tracker = next_tracker sys
 
     free : b.service ≡ Free
-    free = free-last config log h.mail h.request h.state sys c k m is comes last moves
+    free = free-last is comes last moves
 
     unwaited : IsUnwaited c source h.state
-    unwaited = unwaited-asked config log h.mail h.request h.state sys c source is asked.used
+    unwaited = unwaited-asked c source is asked.used
 
     answering : IsAnswering config c k n m h.state e
     answering = record {
@@ -135,16 +128,11 @@ at_manager-request_taken {w} config log h sys c source k rest is first asked com
         → IsInvariant (is_caching config) (access_taken c source m tracker p o rest h).state
         → access_taken c source m tracker p o rest h ≡ access_taken c source m tracker false None rest h
         → reaction config (link_of c) (Beat.A (a_beat_of m k)) e ≡ performed config (service_for c m e.trace)
-        (with_beat c m k e.trace) e.memory
-        → IsManagerOf config (access_taken c source m tracker p o rest h) after
-    answered p o kept same done =
-        subst (λ (i : AbstractState w). IsManagerOf config i after) (sym same)
-        (at_manager-answered (is_caching config) config (access_taken c source m tracker false None rest h).mail
-        h.request c k n m h.state (access_taken c source m tracker false None rest h).state e
-        (subst (λ (i : AbstractState w). IsInvariant (is_caching config) i.state) same kept) (λ i. refl) answering
-        asked.lawful done
-        (at_manager-answers config h.mail (access_taken c source m tracker false None rest h).mail h.request h.state e
-        refl (at_manager-matched config log h.mail h.request h.state sys is)))
+        (with_beat c m k e.trace) e.memory → IsManagerOf config (access_taken c source m tracker p o rest h) after
+    answered p o kept same done = subst (λ (i : AbstractState w). IsManagerOf config i after) (sym same)
+        (at_manager-answered (subst (λ (i : AbstractState w). IsInvariant (is_caching config) i.state) same kept)
+        (λ i. refl) answering asked.lawful done
+        (at_manager-answers (access_taken c source m tracker false None rest h).mail refl (at_manager-matched is)))
 
     done : probes_some clients c false (cap_probed m.opcode m.param) b.pair ≡ false
         → reaction config (link_of c) (Beat.A (a_beat_of m k)) e ≡ performed config (service_for c m e.trace)
@@ -163,29 +151,28 @@ at_manager-request_taken {w} config log h sys c source k rest is first asked com
     go false None f g kept = answered false None kept refl (done f)
     go false (Some j) f g kept = answered false (Some j) kept refl (done f)
     go true (Some j) f g kept =
-        let some = somebody-probed config log h.mail h.request h.state sys c k n false m is asked.access refl f in
+        let some = somebody-probed c k n false m is asked.access refl f in
         let same : some.0 ≡ j = some_cap (cap_probed m.opcode m.param) (Some j) some.0 j some.1 g refl in
-        at_manager-probing (is_caching config) config h.mail h.request c k n false source j m h.state
-        (access_taken c source m tracker true (Some j) rest h).state e kept (λ i. refl)
+        at_manager-probing
+        kept (λ i. refl)
         (record {
           comes = comes;
           last = last;
           for = (asked.access, asked.source_is, refl, g);
           free = free;
-          quiet = quiet-free config log h.mail h.request h.state sys n is free;
-          beyond = beyond-none config log h.mail h.request h.state sys n is;
+          quiet = quiet-free n is free;
+          beyond = beyond-none n is;
           unwaited = unwaited;
         })
-        (rw same at some.2) asked.is_it (at_manager-matched config log h.mail h.request h.state sys is)
+        (rw same at some.2) asked.is_it (at_manager-matched is)
 
 -- ---- an Acquire
 
-unwaited-acquires : {w : ℕ} (config : Config) (log : Log w) (mail : AccessMessages w) (request : ℕ → MessageA w)
-    (s : State (List ℕ)) (sys : System w) (c source n : ℕ)
-    → SimulationRelation config log mail request s sys → s.uses c source ≡ Acquires n
-    → (s.block n).service ≡ Free → IsUnwaited c source s
-unwaited-acquires {w} config log mail request s sys c source n is used free i src own j e same =
-    go own e (waits-used (is_caching config) s i c src own j is.invariant e)
+unwaited-acquires : {w : ℕ} {config : Config} {log : Log w} {mail : AccessMessages w} {request : ℕ → MessageA w}
+    {s : State (List ℕ)} {sys : System w} (c source n : ℕ) → SimulationRelation config log mail request s sys
+    → s.uses c source ≡ Acquires n → (s.block n).service ≡ Free → IsUnwaited c source s
+unwaited-acquires {w} {config} {s} c source n is used free i src own j e same =
+    go own e (waits-used i c src own j is.invariant e)
   where
     here : s.uses c src ≡ Acquires n
     here = ap (s.uses c) (sym same) ∙ used
@@ -200,8 +187,7 @@ unwaited-acquires {w} config log mail request s sys c source n is used free i sr
 
 pub caps_asked : (w : ℕ) (whole : Bool) (g : Grow) (source n : ℕ)
     → cap_probed (acquisition {w = w} (acquire_opcode whole) g source n).opcode
-    (acquisition {w = w} (acquire_opcode whole) g source n).param ≡ Some
-    (cap_asked (AcquireOpen whole g))
+    (acquisition {w = w} (acquire_opcode whole) g source n).param ≡ Some (cap_asked (AcquireOpen whole g))
 caps_asked w true Grow.NtoB source n = refl
 caps_asked w true Grow.NtoT source n = refl
 caps_asked w true Grow.BtoT source n = refl
@@ -213,28 +199,25 @@ caps_asked w false Grow.BtoT source n = refl
 abbrev pub acquire_wanted : {w : ℕ} (c n : ℕ) (s : State (List ℕ)) → IsWanted w c n s → MessageA w
 acquire_wanted c n s is = acquisition (acquire_opcode is.whole) is.grow ((s.block n).source c) n
 
-pub ready-acquire : {w : ℕ} (config : Config) (log : Log w) (h : AbstractState w) (sys : System w) (c n k : ℕ)
+pub ready-acquire : {w : ℕ} {config : Config} {log : Log w} (h : AbstractState w) {sys : System w} {c n k : ℕ}
     → SimulationRelation config log h.mail h.request h.state sys → (asked : IsWanted w c n h.state)
     → IsComing config c k (acquire_wanted c n h.state asked) sys.manager
     → beats_of (Message.A (acquire_wanted c n h.state asked)) ≡ suc k
     → must_wait config (link_of c) (Beat.A (a_beat_of (acquire_wanted c n h.state asked) k)) sys.manager.trace ≡ false
     → IsReady (next_tracker sys) c Acquire n h
-ready-acquire config log h sys c n k is asked comes last moves = (
-  ap (λ i. (h.state.block i).service) (sym (same_block n))
-      ∙ free-last config log h.mail h.request h.state sys c k (acquire_wanted c n h.state asked) is comes last moves,
-  untracked-next config log h.mail h.request h.state sys is,
-)
+ready-acquire {config} {log} h {sys} {c} {n} {k} is asked comes last moves =
+    (ap (λ i. (h.state.block i).service) (sym (same_block n)) ∙ free-last is comes last moves, untracked-next is)
 
 -- after an Acquire that was taken
-pub at_manager-acquire_taken : {w : ℕ} (config : Config) (log : Log w) (h : AbstractState w) (sys : System w)
-    (c n k : ℕ) (rest : List Packet) → SimulationRelation config log h.mail h.request h.state sys
+pub at_manager-acquire_taken : {w : ℕ} {config : Config} {log : Log w} (h : AbstractState w) {sys : System w}
+    {c n k : ℕ} (rest : List Packet) → SimulationRelation config log h.mail h.request h.state sys
     → (h.state.link c).a ≡ packet Acquire n ∷ rest → (asked : IsWanted w c n h.state)
     → IsComing config c k (acquire_wanted c n h.state asked) sys.manager
     → beats_of (Message.A (acquire_wanted c n h.state asked)) ≡ suc k
     → must_wait config (link_of c) (Beat.A (a_beat_of (acquire_wanted c n h.state asked) k)) sys.manager.trace ≡ false
     → IsManagerOf config (kind_taken config (next_tracker sys) c Acquire n rest h)
     (end_after config c k (acquire_wanted c n h.state asked) sys.manager)
-at_manager-acquire_taken {w} config log h sys c n k rest is first asked comes last moves =
+at_manager-acquire_taken {w} {config} {log} h {sys} {c} {n} {k} rest is first asked comes last moves =
     let inv = invariant-taken config log h sys c Acquire n rest is first ready in
     subst (λ (i : AcquirePhase). IsManagerOf config (acquire_taken clients config.profile c n i tracker rest h) after)
     (sym asked.wants)
@@ -264,7 +247,7 @@ at_manager-acquire_taken {w} config log h sys c n k rest is first asked comes la
     j = cap_asked (AcquireOpen asked.whole asked.grow)
 
     ready : IsReady tracker c Acquire n h
-    ready = ready-acquire config log h sys c n k is asked comes last moves
+    ready = ready-acquire h is asked comes last moves
 
     acquires : is_acquire m.opcode ≡ true
     acquires = acquires-so asked.whole
@@ -273,7 +256,7 @@ at_manager-acquire_taken {w} config log h sys c n k rest is first asked comes la
     caps = caps_asked w asked.whole asked.grow (b.source c) n
 
     unwaited : IsUnwaited c m.source h.state
-    unwaited = unwaited-acquires config log h.mail h.request h.state sys c m.source n is asked.used ready.0
+    unwaited = unwaited-acquires c m.source n is asked.used ready.0
 
     nobody : is_nobody (probed config (service_for c m e.trace) j (with_beat c m k e.trace)) ≡ not
         (some_below clients (λ d. is_probed c true j (b.pair d).recorded d))
@@ -291,31 +274,31 @@ at_manager-acquire_taken {w} config log h sys c n k rest is first asked comes la
         → IsInvariant (is_caching config) (state_of x)
         → IsAtManager config h.mail (set n m h.request) (state_of x) after
     go true f kept =
-        at_manager-probing (is_caching config) config h.mail h.request c k n true m.source j m h.state (state_of true) e
+        at_manager-probing
         kept (λ i. refl)
         (record {
           comes = comes;
           last = last;
           for = (acquires, refl, same_block n, caps);
           free = ready.0;
-          quiet = quiet-free config log h.mail h.request h.state sys n is ready.0;
-          beyond = beyond-none config log h.mail h.request h.state sys n is;
+          quiet = quiet-free n is ready.0;
+          beyond = beyond-none n is;
           unwaited = unwaited;
         })
-        (nobody ∙ ap not f) tt (at_manager-matched config log h.mail h.request h.state sys is)
+        (nobody ∙ ap not f) tt (at_manager-matched is)
     go false f kept =
-        at_manager-granted (is_caching config) config h.mail h.request c k n
-        (is_granted_data asked.whole asked.grow (b.pair c).recorded) given m h.state (state_of false) e kept
+        at_manager-granted
+        (is_granted_data asked.whole asked.grow (b.pair c).recorded) kept
         (λ i. refl)
         (record {
           comes = comes;
           last = last;
           acquires = acquires;
           block = same_block n;
-          given = ap (cap_granted config.profile m.opcode m.param) (unheld-same config log h.mail h.request h.state sys
+          given = ap (cap_granted config.profile m.opcode m.param) (unheld-same
               c k n m is);
           unwaited = unwaited;
         })
         (reaction-performed config log h.mail h.request h.state sys c k n true m is comes last acquires (same_block n)
         (rw caps f))
-        (at_manager-matched config log h.mail h.request h.state sys is)
+        (at_manager-matched is)

@@ -27,9 +27,9 @@ pub record IsTracedAt {w : ℕ} {X : Type 0} (n : ℕ) (request after : ℕ → 
   pub asked_else : (i r source : ℕ) (own : Bool) (k : Cap) → (i ≡ n → ⊥) → (s.block i).service ≡ Waits r own source k
       → request_of source (on_link r v) ≡ request_of source (on_link r t)
 
-pub traced-at : {w : ℕ} {X : Type 0} (n : ℕ) (request after : ℕ → MessageA w) (s u : State X) (t v : Trace w)
+pub traced-at : {w : ℕ} {X : Type 0} {n : ℕ} {request after : ℕ → MessageA w} {s u : State X} {t v : Trace w}
     → IsTracedAt n request after s u t v → IsTraced request s t → IsTraced after u v
-traced-at {w} {X} n request after s u t v at is = record {
+traced-at {w} {X} {n} {s} {u} at is = record {
   recorded_is = λ c i. elim (cases_eq i n) [
     | inl same ↦ rw same (at.recorded_here c)
     | inr other ↦ at.recorded_else c i other ∙ is.recorded_is c i ∙ ap (λ (b : Block X). (b.pair c).recorded)
@@ -98,9 +98,9 @@ same_waits Free after r source own k e f = sym e ∙ f
 same_waits (Waits i o src l) after r source own k e f = sym e ∙ f
 same_waits (GrantTaken i) after r source own k e f = sym e ∙ f
 
-pub traced-same : {w : ℕ} {X : Type 0} (request : ℕ → MessageA w) (s u : State X) (t : Trace w) → IsSameToManager s u
+pub traced-same : {w : ℕ} {X : Type 0} {request : ℕ → MessageA w} {s u : State X} {t : Trace w} → IsSameToManager s u
     → IsTraced request s t → IsTraced request u t
-traced-same {w} {X} request s u t same is = record {
+traced-same {w} {X} {request} {s} {u} same is = record {
   recorded_is = λ c n. is.recorded_is c n ∙ sym (same.recorded_same c n);
   probes = λ c n. is.probes c n ∙ ap not (sym (same.quiet_same c n));
   serving_is = λ n. is.serving_is n ∙ ap₂ (λ (o : Option ℕ) (i : ℕ). service_with o i (request n))

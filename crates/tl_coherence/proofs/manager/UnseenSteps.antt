@@ -29,31 +29,31 @@ use Rattle.tl_coherence.proofs.manager.Unseen.{at_manager-asked, is_to_clients, 
 
 -- ---- there is no client of this number
 
-pub at_manager-nobody : {w : ℕ} (config : Config) (log : Log w) (h : AbstractState w) (sys : System w) (event : Event w)
+pub at_manager-nobody : {w : ℕ} {config : Config} {log : Log w} (h : AbstractState w) {sys : System w} (event : Event w)
     → SimulationRelation config log h.mail h.request h.state sys → terms_at config (client_of event) ≡ None
     → IsManagerOf config (abstract_step config event sys h) (stepped config event sys).after.manager
 unfolding stepped
-at_manager-nobody {w} config log h sys event is none = rw none (go event)
+at_manager-nobody {w} {config} {log} h {sys} event is none = rw none (go event)
   where
     go : (event : Event w) → IsManagerOf config (abstract_step_by config event Outcome.NoSuchClient sys h) sys.manager
-    go (Ask c o) = at_manager-matched config log h.mail h.request h.state sys is
-    go (Deliver link ch) = at_manager-matched config log h.mail h.request h.state sys is
+    go (Ask c o) = at_manager-matched is
+    go (Deliver link ch) = at_manager-matched is
 
 -- ---- a client is asked
 
-pub at_manager-ask : {w : ℕ} (config : Config) (log : Log w) (h : AbstractState w) (sys : System w) (c : ℕ) (o : Op w)
+pub at_manager-ask : {w : ℕ} {config : Config} {log : Log w} (h : AbstractState w) {sys : System w} (c : ℕ) (o : Op w)
     (terms : client.EndConfig)
     → SimulationRelation config log h.mail h.request h.state sys → terms_at config c ≡ Some terms
     → IsAskable (is_caching config) c o (client_ask.asked terms o (sys.clients c)).reply h
     → IsManagerOf config (abstract_step config (Ask c o) sys h) (stepped config (Ask c o) sys).after.manager
-at_manager-ask {w} config log h sys c o terms is there may =
+at_manager-ask {w} {config} {log} h {sys} c o terms is there may =
     let a = client_ask.asked terms o (sys.clients c) in
     subst (λ (s : Step w). IsManagerOf config (abstract_step_by config (Ask c o) s.outcome sys h) s.after.manager)
     (sym (stepped-asked config c o sys terms there))
     (subst (IsManagerOf config (follow.asked c o a.reply h))
     (sym (manager-with_messages (handed_by c a.message) (with_client c a.after sys)))
-    (at_manager-asked (is_caching config) config c o a.reply h sys.manager is.invariant may
-    (at_manager-matched config log h.mail h.request h.state sys is)))
+    (at_manager-asked config c o a.reply h sys.manager is.invariant may
+    (at_manager-matched is)))
 
 -- ---- a delivery to a client
 
@@ -104,14 +104,13 @@ on-channel Channel.E GrantAck l e = refl
 on-channel ch k l e = absurd cc
 
 -- where the invariant is kept, so is what is kept of the manager's end
-pub at_manager-to_client : {w : ℕ} (config : Config) (log : Log w) (h : AbstractState w) (sys : System w) (link : Link)
-    (ch : Channel) (terms : client.EndConfig)
-    → SimulationRelation config log h.mail h.request h.state sys → terms_at config link.0 ≡ Some terms
-    → is_to_client ch ≡ true
+pub at_manager-to_client : {w : ℕ} {config : Config} {log : Log w} (h : AbstractState w) {sys : System w} (link : Link)
+    (ch : Channel) (terms : client.EndConfig) → SimulationRelation config log h.mail h.request h.state sys
+    → terms_at config link.0 ≡ Some terms → is_to_client ch ≡ true
     → IsInvariant (is_caching config) (abstract_step config (Deliver link ch) sys h).state
     → IsManagerOf config (abstract_step config (Deliver link ch) sys h)
     (stepped config (Deliver link ch) sys).after.manager
-at_manager-to_client {w} config log h sys link ch terms is there up kept =
+at_manager-to_client {w} {config} {log} h {sys} link ch terms is there up kept =
     subst (IsManagerOf config (abstract_step config (Deliver link ch) sys h))
     (sym (manager-to-client config link ch sys terms there up))
     (go (is_moving (stepped config (Deliver link ch) sys).outcome && is_last (sys.channels c ch)
@@ -121,7 +120,7 @@ at_manager-to_client {w} config log h sys link ch terms is there up kept =
     c = link.0
 
     known : IsManagerOf config h sys.manager
-    known = at_manager-matched config log h.mail h.request h.state sys is
+    known = at_manager-matched is
 
     taken : (xs : List Packet) → packets_on ch (h.state.link c) ≡ xs
         → IsInvariant (is_caching config) (packet_taken config (next_tracker sys) c xs h).state
@@ -132,7 +131,7 @@ at_manager-to_client {w} config log h sys link ch terms is there up kept =
         λ off. first_counts y ys (rw e at (is.invariant.own_kinds c ch y.kind y.number off)) in
         let first : on y.kind (h.state.link c) ≡ packet y.kind y.number ∷ ys =
         on-channel ch y.kind (h.state.link c) (true_from_ne_false (is_on ch y.kind) here) ∙ e in
-        at_manager-client_taken (is_caching config) config (next_tracker sys) c y.kind y.number ys h sys.manager
+        at_manager-client_taken config (next_tracker sys) c y.kind y.number ys h sys.manager
         (to_clients ch y.kind up here) is.invariant first inv known
 
     go : (b : Bool) → IsInvariant (is_caching config) (if b then packet_taken config (next_tracker sys) c

@@ -27,24 +27,23 @@ use Rattle.tl_coherence.proofs.protocol.FollowKept.{IsReady, IsServing, kind_tak
 abbrev pub next_tracker : {w : ℕ} → System w → ℕ
 next_tracker sys = least_untaken (trackers_of (services sys.manager.trace))
 
-pub free-last : {w : ℕ} (config : Config) (log : Log w) (mail : AccessMessages w) (request : ℕ → MessageA w)
-    (s : State (List ℕ)) (sys : System w) (c k : ℕ) (m : MessageA w)
+pub free-last : {w : ℕ} {config : Config} {log : Log w} {mail : AccessMessages w} {request : ℕ → MessageA w}
+    {s : State (List ℕ)} {sys : System w} {c k : ℕ} {m : MessageA w}
     → SimulationRelation config log mail request s sys → IsComing config c k m sys.manager
     → beats_of (Message.A m) ≡ suc k → must_wait config (link_of c) (Beat.A (a_beat_of m k)) sys.manager.trace ≡ false
     → (s.block (block_at m.address)).service ≡ Free
-free-last {w} config log mail request s sys c k m is comes last moves =
+free-last {w} {config} {request} {s} {sys} {c} {k} {m} is comes last moves =
     let ended : ends (Beat.A (a_beat_of m k)) (on_link c sys.manager.trace) ≡ true =
-    ends-coming config c k m sys.manager comes ∙ rw last (is_last k (suc k) (omega arith)) in
-    unserved-free request s sys.manager.trace (block_at m.address) is.managed
+    ends-coming comes ∙ rw last (is_last k (suc k) (omega arith)) in
+    unserved-free (block_at m.address) is.managed
     (or_parts (is_in_service (block_at m.address) (services sys.manager.trace))
     (nat_le config.trackers (length (services sys.manager.trace)))
     (rw ended at moves)).0
 
-pub untracked-next : {w : ℕ} (config : Config) (log : Log w) (mail : AccessMessages w) (request : ℕ → MessageA w)
-    (s : State (List ℕ)) (sys : System w)
+pub untracked-next : {w : ℕ} {config : Config} {log : Log w} {mail : AccessMessages w} {request : ℕ → MessageA w}
+    {s : State (List ℕ)} {sys : System w}
     → SimulationRelation config log mail request s sys → s.tracked (next_tracker sys) ≡ None
-untracked-next config log mail request s sys is = free-untracked (is_caching config) request s sys.manager.trace
-    is.invariant is.managed
+untracked-next {config} {request} {s} {sys} is = free-untracked is.invariant is.managed
 
 -- the access that has a block in service
 serving-for : {w : ℕ} (service : Service) (n : ℕ) (m : MessageA w) → IsFor service n m → IsServing service m
@@ -64,8 +63,7 @@ pub invariant-taken : {w : ℕ} (config : Config) (log : Log w) (h : AbstractSta
     → IsInvariant (is_caching config) (kind_taken config (next_tracker sys) c k i rest h).state
 invariant-taken config log h sys c k i rest is first ready =
     kind_taken-kept (is_caching config) config (next_tracker sys) c k i rest h is.invariant (plain-past config)
-    (λ n. (is.sized n).truth)
-    (serving-matched config log h.mail h.request h.state sys is) first ready
+    (λ n. (is.sized n).truth) (serving-matched config log h.mail h.request h.state sys is) first ready
 
 -- ---- who is probed
 
@@ -86,50 +84,47 @@ probed-some {w} config log mail request s sys c k n own j m is kind block =
       same_above j
           ((s.block n).pair d).recorded,
       swapped c d,
-    )
-    (and_comm (is_above j ((s.block n).pair d).recorded) (not (own && (d == c)))))
+    ) (and_comm (is_above j ((s.block n).pair d).recorded)
+    (not (own && (d == c)))))
 
 copies_so : (p : Perm) → holders.has_copy p ≡ not (same_perm p Perm.None)
 copies_so Perm.None = refl
 copies_so p = refl
 
 -- nobody has a copy, as the manager's record says, where the protocol says so
-pub unheld-same : {w : ℕ} (config : Config) (log : Log w) (mail : AccessMessages w) (request : ℕ → MessageA w)
-    (s : State (List ℕ)) (sys : System w) (c k n : ℕ)
-    (m : MessageA w) → SimulationRelation config log mail request s sys
-    → holders.is_unheld config n (with_beat c m k sys.manager.trace) ≡ is_unheld (length config.clients.items)
-    (s.block n).pair
-unheld-same {w} config log mail request s sys c k n m is =
+pub unheld-same : {w : ℕ} {config : Config} {log : Log w} {mail : AccessMessages w} {request : ℕ → MessageA w}
+    {s : State (List ℕ)} {sys : System w} (c k n : ℕ) (m : MessageA w)
+    → SimulationRelation config log mail request s sys → holders.is_unheld config n (with_beat c m k sys.manager.trace)
+    ≡ is_unheld (length config.clients.items) (s.block n).pair
+unheld-same {w} {config} {s} {sys} c k n m is =
     nobody-same config (λ d. holders.has_copy (recorded d n (with_beat c m k sys.manager.trace)))
     (λ d. not (same_perm ((s.block n).pair d).recorded Perm.None))
     (λ d. rw (recorded-beat c k m sys.manager.trace d n, is.managed.recorded_is d n)
     (copies_so ((s.block n).pair d).recorded))
 
 -- nothing is under way of a block that is free
-pub quiet-free : {w : ℕ} (config : Config) (log : Log w) (mail : AccessMessages w) (request : ℕ → MessageA w)
-    (s : State (List ℕ)) (sys : System w) (n : ℕ)
-    → SimulationRelation config log mail request s sys → (s.block n).service ≡ Free
-    → (d : ℕ) → is_unprobed ((s.block n).pair d).probing ≡ true
-quiet-free config log mail request s sys n is free d = quiet_at_rest ((s.block n).pair d) (view (s.block n).service d)
+pub quiet-free : {w : ℕ} {config : Config} {log : Log w} {mail : AccessMessages w} {request : ℕ → MessageA w}
+    {s : State (List ℕ)} {sys : System w} (n : ℕ) → SimulationRelation config log mail request s sys
+    → (s.block n).service ≡ Free → (d : ℕ) → is_unprobed ((s.block n).pair d).probing ≡ true
+quiet-free {s} n is free d = quiet_at_rest ((s.block n).pair d) (view (s.block n).service d)
     ((is.invariant.blocks n).phases d) (rw free refl)
 
-pub beyond-none : {w : ℕ} (config : Config) (log : Log w) (mail : AccessMessages w) (request : ℕ → MessageA w)
-    (s : State (List ℕ)) (sys : System w) (n : ℕ) → SimulationRelation config log mail request s sys
+pub beyond-none : {w : ℕ} {config : Config} {log : Log w} {mail : AccessMessages w} {request : ℕ → MessageA w}
+    {s : State (List ℕ)} {sys : System w} (n : ℕ) → SimulationRelation config log mail request s sys
     → (d : ℕ) → length config.clients.items ≤ d → ((s.block n).pair d).recorded ≡ Perm.None
-beyond-none config log mail request s sys n is d past =
+beyond-none {config} n is d past =
     ap (λ (p : ClientBlock). p.recorded) ((is.invariant.blocks n).outside d (plain-past config d past))
 
 -- ---- what is done
 
 -- nobody is probed: the request is performed
 pub reaction-performed : {w : ℕ} (config : Config) (log : Log w) (mail : AccessMessages w) (request : ℕ → MessageA w)
-    (s : State (List ℕ)) (sys : System w) (c k n : ℕ)
-    (own : Bool) (m : MessageA w) → SimulationRelation config log mail request s sys
-    → IsComing config c k m sys.manager → beats_of (Message.A m) ≡ suc k → is_acquire m.opcode ≡ own
-    → block_at m.address ≡ n
+    (s : State (List ℕ)) (sys : System w) (c k n : ℕ) (own : Bool) (m : MessageA w)
+    → SimulationRelation config log mail request s sys → IsComing config c k m sys.manager
+    → beats_of (Message.A m) ≡ suc k → is_acquire m.opcode ≡ own → block_at m.address ≡ n
     → probes_some (length config.clients.items) c own (cap_probed m.opcode m.param) (s.block n).pair ≡ false
-    → reaction config (link_of c) (Beat.A (a_beat_of m k)) sys.manager ≡ performed config
-    (service_for c m sys.manager.trace) (with_beat c m k sys.manager.trace) sys.manager.memory
+    → reaction config (link_of c) (Beat.A (a_beat_of m k)) sys.manager
+    ≡ performed config (service_for c m sys.manager.trace) (with_beat c m k sys.manager.trace) sys.manager.memory
 reaction-performed {w} config log mail request s sys c k n own m is comes last kind block none =
     go (cap_probed m.opcode m.param) refl
   where
@@ -139,23 +134,23 @@ reaction-performed {w} config log mail request s sys c k n own m is comes last k
     go : (o : Option Cap) → cap_probed m.opcode m.param ≡ o → reaction config (link_of c) (Beat.A (a_beat_of m k))
         e ≡ performed config (service_for c m e.trace) (with_beat c m k e.trace) e.memory
     go None f = reaction-intent config (link_of c) (a_beat_of m k) (service_for c m e.trace) e
-        (served-last config c k m e comes last) f
+        (served-last comes last) f
     go (Some j) f =
         let nobody : is_nobody (probed config (service_for c m e.trace) j (with_beat c m k e.trace)) ≡ true =
         probed-some config log mail request s sys c k n own j m is kind block ∙ ap not (rw f at none) in
         reaction-unprobed config (link_of c) (a_beat_of m k) (service_for c m e.trace) j e
-        (served-last config c k m e comes last) f
+        (served-last comes last) f
         (no-clients (probed config (service_for c m e.trace) j (with_beat c m k e.trace)) nobody)
 
 -- somebody is, with this cap
-pub somebody-probed : {w : ℕ} (config : Config) (log : Log w) (mail : AccessMessages w) (request : ℕ → MessageA w)
-    (s : State (List ℕ)) (sys : System w) (c k n : ℕ)
-    (own : Bool) (m : MessageA w) → SimulationRelation config log mail request s sys
-    → is_acquire m.opcode ≡ own → block_at m.address ≡ n
+pub somebody-probed : {w : ℕ} {config : Config} {log : Log w} {mail : AccessMessages w} {request : ℕ → MessageA w}
+    {s : State (List ℕ)} {sys : System w} (c k n : ℕ) (own : Bool) (m : MessageA w)
+    → SimulationRelation config log mail request s sys → is_acquire m.opcode ≡ own → block_at m.address ≡ n
     → probes_some (length config.clients.items) c own (cap_probed m.opcode m.param) (s.block n).pair ≡ true
     → (j : Cap) × (cap_probed m.opcode m.param ≡ Some j)
     × (is_nobody (probed config (service_for c m sys.manager.trace) j (with_beat c m k sys.manager.trace)) ≡ false)
-somebody-probed {w} config log mail request s sys c k n own m is kind block some = go (cap_probed m.opcode m.param) refl
+somebody-probed {w} {config} {log} {mail} {request} {s} {sys} c k n own m is kind block some =
+    go (cap_probed m.opcode m.param) refl
   where
     go : (o : Option Cap) → cap_probed m.opcode m.param ≡ o → (j : Cap) × (cap_probed m.opcode m.param ≡ Some j)
         × (is_nobody (probed config (service_for c m sys.manager.trace) j (with_beat c m k sys.manager.trace)) ≡ false)
@@ -163,6 +158,6 @@ somebody-probed {w} config log mail request s sys c k n own m is kind block some
     go (Some j) f = (
       j,
       f,
-      probed-some config log mail request s sys c k n own j m is kind block ∙ ap not
-          (rw f at some),
+      probed-some config log mail request s sys c k n own j m is kind block
+          ∙ ap not (rw f at some),
     )

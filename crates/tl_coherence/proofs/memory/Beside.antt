@@ -25,9 +25,9 @@ place-cases c source d i = elim (cases_eq d c) [
   | inr other ↦ inr (λ e f. other e)
 ]
 
-pub set_at-there : {X : Type 0} (c source : ℕ) (x : X) (f : ℕ → ℕ → X) (d i : ℕ) → IsElsewhere c source d i
+pub set_at-there : {X : Type 0} {c source : ℕ} (x : X) (f : ℕ → ℕ → X) {d i : ℕ} → IsElsewhere c source d i
     → set_at c source x f d i ≡ f d i
-set_at-there c source x f d i else_ = elim (cases_eq d c) [
+set_at-there {c} {source} x f {d} {i} else_ = elim (cases_eq d c) [
   | inl same ↦ elim (cases_eq i source) [
     | inl also ↦ absurd (else_ same also)
     | inr other ↦ rw (same, same_number c, ne_eqb i source other) refl
@@ -41,8 +41,7 @@ open-here c Requests source o m = rw (same_number c, same_number source) refl
 open-here c Releases source o m = rw (same_number c, same_number source) refl
 
 pub open-there : {w : ℕ} (c : ℕ) (pool : Pool) (source : ℕ) (o : Option (Open w)) (m : Machine w) (d i : ℕ)
-    → IsElsewhere c source d i
-    → (with_open c pool source o m).opened d pool i ≡ m.opened d pool i
+    → IsElsewhere c source d i → (with_open c pool source o m).opened d pool i ≡ m.opened d pool i
 open-there {w} c pool source o m d i else_ = elim (cases_eq d c) [
   | inl same ↦ elim (cases_eq i source) [
     | inl also ↦ absurd (else_ same also)
@@ -96,7 +95,8 @@ opened-still {w} c source mail mail' s s' (InService n) o request answer acquire
 opened-still {w} c source mail mail' s s' Replied o request answer acquire h = (
   h.0,
   subst (λ (m : Message w). IsAccess source m (Some h.0) o) (sym request) h.1,
-  subst (λ (m : Message w). Answers m h.0 (mail'.answer c source)) (sym request)
+  subst
+      (λ (m : Message w). Answers m h.0 (mail'.answer c source)) (sym request)
       (subst (λ (x : Message w). Answers (mail.request c source) h.0 x) (sym answer) h.2),
 )
 opened-still {w} c source mail mail' s s' (Acquires n) o request answer acquire h = h ∙ rw (acquire.0, acquire.1) refl
@@ -114,8 +114,7 @@ pub record IsStill {w : ℕ} (mail : AccessMessages w) (s s' : State (List ℕ))
 
 pub same_acquire : (c : ℕ) (s s' : State (List ℕ)) (u : SourceState)
     → ((n : ℕ) → (((s'.block n).pair c).acquiring ≡ ((s.block n).pair c).acquiring)
-    × ((s'.block n).waiting c ≡ (s.block n).waiting c))
-    → IsSameAcquire c s s' u
+    × ((s'.block n).waiting c ≡ (s.block n).waiting c)) → IsSameAcquire c s s' u
 same_acquire c s s' (Acquires n) e = e n
 same_acquire c s s' u e = tt
 
@@ -130,9 +129,9 @@ moved_opened c source mail s u v o p e f h = rw (e, f) h
 moved_let : {w : ℕ} (u v : Option ℕ) (o p : Option (Open w)) → v ≡ u → p ≡ o → IsLet u o → IsLet v p
 moved_let u v o p e f h = rw (e, f) h
 
-pub beside-still : {w : ℕ} (mail : AccessMessages w) (s s' : State (List ℕ)) (m m' : Machine w) → IsStill mail s s' m m'
+pub beside-still : {w : ℕ} {mail : AccessMessages w} {s s' : State (List ℕ)} {m m' : Machine w} → IsStill mail s s' m m'
     → MemoryRelation mail s m → MemoryRelation mail s' m'
-beside-still {w} mail s s' m m' is h = record {
+beside-still {w} {mail} {s} {s'} {m} {m'} is h = record {
   memory = is.memory;
   requests = λ d i.
       moved_opened d i mail s' (s.uses d i) (s'.uses d i) (m.opened d Requests i) (m'.opened d Requests i) (is.uses d i)
@@ -161,9 +160,9 @@ answer_as : {w : ℕ} (u : SourceState) (x y : Message w) → y ≡ x → IsSame
 answer_as Replied x y e = e
 answer_as u x y e = tt
 
-pub beside-used : {w : ℕ} (c source : ℕ) (u : SourceState) (mail mail' : AccessMessages w) (s s' : State (List ℕ))
-    (m m' : Machine w) → IsUsed c source u mail mail' s s' m m' → MemoryRelation mail s m → MemoryRelation mail' s' m'
-beside-used {w} c source u mail mail' s s' m m' is h = record {
+pub beside-used : {w : ℕ} {c source : ℕ} {u : SourceState} {mail mail' : AccessMessages w} {s s' : State (List ℕ)}
+    {m m' : Machine w} → IsUsed c source u mail mail' s s' m m' → MemoryRelation mail s m → MemoryRelation mail' s' m'
+beside-used {w} {c} {source} {u} {mail} {mail'} {s} {s'} {m} {m'} is h = record {
   memory = is.memory;
   requests = λ d i. elim (place-cases c source d i) [
     | inl same ↦ rw (same.0, same.1) (moved_opened c source mail' s' u (s'.uses c source) (m'.opened c Requests source)
@@ -171,7 +170,7 @@ beside-used {w} c source u mail mail' s s' m m' is h = record {
         (is.uses c source ∙ set_at-same c source u s.uses) refl is.here)
     | inr else_ ↦
         moved_opened d i mail' s' (s.uses d i) (s'.uses d i) (m.opened d Requests i) (m'.opened d Requests i)
-        (is.uses d i ∙ set_at-there c source u s.uses d i else_) (is.there d i else_)
+        (is.uses d i ∙ set_at-there u s.uses else_) (is.there d i else_)
         (opened-still d i mail mail' s s' (s.uses d i) (m.opened d Requests i) (is.requests d i else_)
         (answer_as (s.uses d i) (mail.answer d i) (mail'.answer d i) (is.answers d i else_)) (is.acquires d i else_)
         (h.requests d i))
@@ -192,9 +191,9 @@ pub record IsLetGo {w : ℕ} (c source : ℕ) (l : Option ℕ) (mail : AccessMes
   pub acquires : (d n : ℕ) → (((s'.block n).pair d).acquiring ≡ ((s.block n).pair d).acquiring)
       × ((s'.block n).waiting d ≡ (s.block n).waiting d)
 
-pub beside-let : {w : ℕ} (c source : ℕ) (l : Option ℕ) (mail : AccessMessages w) (s s' : State (List ℕ))
-    (m m' : Machine w) → IsLetGo c source l mail s s' m m' → MemoryRelation mail s m → MemoryRelation mail s' m'
-beside-let {w} c source l mail s s' m m' is h = record {
+pub beside-let : {w : ℕ} {c source : ℕ} {l : Option ℕ} {mail : AccessMessages w} {s s' : State (List ℕ)}
+    {m m' : Machine w} → IsLetGo c source l mail s s' m m' → MemoryRelation mail s m → MemoryRelation mail s' m'
+beside-let {w} {c} {source} {l} {mail} {s} {s'} {m} {m'} is h = record {
   memory = is.memory;
   requests = λ d i.
       moved_opened d i mail s' (s.uses d i) (s'.uses d i) (m.opened d Requests i) (m'.opened d Requests i) (is.uses d i)
@@ -206,7 +205,7 @@ beside-let {w} c source l mail s s' m m' is h = record {
     | inl same ↦ rw (same.0, same.1) (moved_let l (s'.lets c source) (m'.opened c Releases source)
         (m'.opened c Releases source) (is.lets c source ∙ set_at-same c source l s.lets) refl is.here)
     | inr else_ ↦ moved_let (s.lets d i) (s'.lets d i) (m.opened d Releases i) (m'.opened d Releases i)
-        (is.lets d i ∙ set_at-there c source l s.lets d i else_) (is.there d i else_) (h.releases d i)
+        (is.lets d i ∙ set_at-there l s.lets else_) (is.there d i else_) (h.releases d i)
   ];
 }
 

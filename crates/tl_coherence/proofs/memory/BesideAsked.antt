@@ -2,7 +2,7 @@
 use Rattle.tl_coherence.proofs.memory.Imports.{MessageA, Memory, IsBlock, block_at, same_perm, Op, Reply}
 use Rattle.tl_coherence.proofs.memory.Imports.{MemoryRelation, AbstractState, Machine, Open, Requests, Releases}
 use Rattle.tl_coherence.proofs.memory.Imports.{with_open, after_reply, ClientBlock, AcquireOpen, Block, State}
-use Rattle.tl_coherence.proofs.memory.Imports.{SourceState, Asked, Acquires, AccessMessages, set_at, Message}
+use Rattle.tl_coherence.proofs.memory.Imports.{SourceState, Acquires, AccessMessages, set_at, Message}
 use Rattle.std.proofs.Common.{◌≡◌, ℕ, Bool, true, false, ◌&&◌, List, Option, Some, None, length, refl, sym, ◌∙◌, ap}
 use Rattle.std.proofs.Common.{subst, ◌⊎◌, inl, inr}
 use Rattle.std.{specs.Prelude.◌==◌, specs.Prelude.⊤, proofs.lemmas.Bool.cases_eq}
@@ -61,9 +61,9 @@ acquires-else c n source new p s s' blocks pairs waits alone d i else_ = go (s.u
     go u e = tt
 
 -- who acquires nothing of a block has no source for it
-pub calm-none : (caching : ℕ → Bool) (s : State (List ℕ)) (c n i : ℕ) → IsInvariant caching s
+pub calm-none : {caching : ℕ → Bool} {s : State (List ℕ)} (c n i : ℕ) → IsInvariant caching s
     → ((s.block n).pair c).acquiring ≡ NoAcquire → s.uses c i ≡ Acquires n → ⊥
-calm-none caching s c n i inv calm e =
+calm-none {s} c n i inv calm e =
     let named = inv.named.acquires c i n in
     let yes : acquires_of n (s.uses c i) ≡ true = ap (acquires_of n) e ∙ same_number n in
     let no = ap (λ (x : AcquirePhase). is_wanting x && (i == (s.block n).source c)) calm in
@@ -86,20 +86,19 @@ truth_as : (f : Memory) (n i : ℕ) (new : Block (List ℕ)) (block : ℕ → Bl
 truth_as f n i new block e h =
     subst (λ (bytes : List ℕ). IsBlock f i bytes) (sym (set-part (λ (b : Block (List ℕ)). b.truth) n new block e i)) h
 
-pub beside-acquire_asked : {w : ℕ} (caching : ℕ → Bool) (c n source : ℕ) (whole : Bool) (g : Grow) (bytes : List ℕ)
-    (o : Op w) (mail : AccessMessages w)
-    (s : State (List ℕ)) (m : Machine w) → IsInvariant caching s → ((s.block n).pair c).acquiring ≡ NoAcquire
-    → op_of (AcquireOpen whole g) n bytes ≡ o → MemoryRelation mail s m
+pub beside-acquire_asked : {w : ℕ} {caching : ℕ → Bool} (c n source : ℕ) (whole : Bool) (g : Grow) (bytes : List ℕ)
+    (o : Op w) {mail : AccessMessages w} {s : State (List ℕ)} {m : Machine w} → IsInvariant caching s
+    → ((s.block n).pair c).acquiring ≡ NoAcquire → op_of (AcquireOpen whole g) n bytes ≡ o → MemoryRelation mail s m
     → MemoryRelation mail (acquire_asked c n source whole g bytes s)
     (with_open c Requests source (Some (record { asked = o; answer = None })) m)
-beside-acquire_asked {w} caching c n source whole g bytes o mail s m inv calm is h =
+beside-acquire_asked {w} {caching} c n source whole g bytes o {mail} {s} {m} inv calm is h =
     let after : ClientBlock = after_acquire whole g ((s.block n).pair c) in
     let new : Block (List ℕ) = acquiring_block c source whole g bytes (s.block n) in
     let s' : State (List ℕ) = acquire_asked c n source whole g bytes s in
     let m' : Machine w = with_open c Requests source (Some (record { asked = o; answer = None })) m in
     let opened_as : AcquirePhase → List ℕ → Option (Open w) =
     λ x y. Some (record { asked = op_of x n y; answer = None }) in
-    beside-used c source (Acquires n) mail mail s s' m m' (record {
+    beside-used (record {
       memory = λ i. truth_as m.memory n i new s.block refl (h.memory i);
       uses = λ d i. refl;
       lets = λ d i. refl;
@@ -115,17 +114,16 @@ beside-acquire_asked {w} caching c n source whole g bytes o mail s m inv calm is
       requests = λ d i else_. refl;
       answers = λ d i else_. refl;
       acquires = acquires-else c n source new after s s' (λ i. refl) (λ d. refl)
-          (λ d ne. set-other c d bytes (s.block n).waiting ne) (λ i ne e. calm-none caching s c n i inv calm e);
+          (λ d ne. set-other c d bytes (s.block n).waiting ne) (λ i ne e. calm-none c n i inv calm e);
     }) h
 
-pub beside-release_asked : {w : ℕ} (c n source : ℕ) (r : Prune) (mail : AccessMessages w) (s : State (List ℕ))
-    (m : Machine w) → MemoryRelation mail s m
-    → MemoryRelation mail (release_asked c n source r s)
+pub beside-release_asked : {w : ℕ} (c n source : ℕ) (r : Prune) {mail : AccessMessages w} {s : State (List ℕ)}
+    {m : Machine w} → MemoryRelation mail s m → MemoryRelation mail (release_asked c n source r s)
     (with_open c Releases source (Some (record { asked = Op.Release n r; answer = None })) m)
-beside-release_asked {w} c n source r mail s m h =
+beside-release_asked {w} c n source r {mail} {s} {m} h =
     let new : Block (List ℕ) = releasing_block c source r (s.block n) in
-    beside-let c source (Some n) mail s (release_asked c n source r s) m
-    (with_open c Releases source (Some (record { asked = Op.Release n r; answer = None })) m) (record {
+    beside-let
+    (record {
       memory = λ i. truth_as m.memory n i new s.block refl (h.memory i);
       uses = λ d i. refl;
       lets = λ d i. refl;
@@ -141,18 +139,14 @@ beside-release_asked {w} c n source r mail s m h =
       );
     }) h
 
-pub beside-access_asked : {w : ℕ} (c source : ℕ) (a : MessageA w) (mail : AccessMessages w) (s : State (List ℕ))
-    (m : Machine w) → MemoryRelation mail s m
+pub beside-access_asked : {w : ℕ} (c source : ℕ) (a : MessageA w) {mail : AccessMessages w} {s : State (List ℕ)}
+    {m : Machine w} → MemoryRelation mail s m
     → MemoryRelation (record { request = set_at c source (access source a) mail.request; answer = mail.answer })
     (access_asked c source s)
     (with_open c Requests source (Some (record { asked = Op.Access (Message.A a); answer = None })) m)
-beside-access_asked {w} c source a mail s m h =
-    beside-used c source Asked mail (record {
-      request = set_at c source (access source a) mail.request;
-      answer =
-          mail.answer;
-    }) s (access_asked c source s) m
-    (with_open c Requests source (Some (record { asked = Op.Access (Message.A a); answer = None })) m) (record {
+beside-access_asked {w} c source a {mail} {s} {m} h =
+    beside-used
+    (record {
       memory = h.memory;
       uses = λ d i. refl;
       lets = λ d i. refl;
@@ -165,7 +159,7 @@ beside-access_asked {w} c source a mail s m h =
       there = λ d i else_. open-there c Requests source
           (Some (record { asked = Op.Access (Message.A a); answer = None })) m d i else_;
       releases = λ d i. open-releases c source (Some (record { asked = Op.Access (Message.A a); answer = None })) m d i;
-      requests = λ d i else_. set_at-there c source (access source a) mail.request d i else_;
+      requests = λ d i else_. set_at-there (access source a) mail.request else_;
       answers = λ d i else_. refl;
       acquires = λ d i else_. same_blocks d (s.uses d i);
     }) h
@@ -174,16 +168,16 @@ beside-access_asked {w} c source a mail s m h =
     same_blocks d (Acquires n) = (refl, refl)
     same_blocks d u = tt
 
-pub beside-block_stored : {w : ℕ} (caching : ℕ → Bool) (c address size value : ℕ) (mail : AccessMessages w)
-    (s : State (List ℕ)) (m : Machine w) → IsInvariant caching s
+pub beside-block_stored : {w : ℕ} {caching : ℕ → Bool} (c address size value : ℕ) {mail : AccessMessages w}
+    {s : State (List ℕ)} {m : Machine w} → IsInvariant caching s
     → AreSized (s.block (block_at address)) → is_word address size ≡ true
     → same_perm ((s.block (block_at address)).pair c).held Perm.Trunk ≡ true → MemoryRelation mail s m
     → MemoryRelation mail (block_stored c (block_at address)
     (copy_stored address size value ((s.block (block_at address)).copy c)) s)
     (record m { memory = with_number address size value m.memory })
-beside-block_stored {w} caching c address size value mail s m inv sized word trunk h =
+beside-block_stored {w} c address size value {mail} {s} {m} inv sized word trunk h =
     let s' : State (List ℕ) = block_stored c n (copy_stored address size value copy) s in
-    beside-still mail s s' m (record m { memory = with_number address size value m.memory }) (record {
+    beside-still (record {
       memory = λ i. bytes i (cases_eq i n);
       uses = λ d i. refl;
       lets = λ d i. refl;
@@ -217,27 +211,24 @@ beside-block_stored {w} caching c address size value mail s m inv sized word tru
         subst (λ (j : ℕ). IsBlock (with_number address size value m.memory) j (set n new s.block j).truth) (sym at)
         (subst (λ (b : Block (List ℕ)). IsBlock (with_number address size value m.memory) n b.truth)
         (sym (set-same n new s.block)) here)
-    bytes i (inr other) =
-        subst (λ (b : Block (List ℕ)). IsBlock (with_number address size value m.memory) i b.truth)
-        (sym (set-other n i new s.block other))
-        (block-unstored address size value i (s.block i).truth m.memory (word_room address size word) other
-        (h.memory i))
+    bytes i (inr other) = subst (λ (b : Block (List ℕ)). IsBlock (with_number address size value m.memory) i b.truth)
+        (sym (set-other n i new s.block other)) (block-unstored address size value i (s.block i).truth m.memory
+        (word_room address size word) other (h.memory i))
 
 pub beside-asked : {w : ℕ} (caching : ℕ → Bool) (c : ℕ) (o : Op w) (r : Reply) (h : AbstractState w) (m : Machine w)
     → IsInvariant caching h.state
     → ((n : ℕ) → AreSized (h.state.block n)) → IsReply o r → IsAskable caching c o r h → IsSizedAsk c o r h
     → MemoryRelation h.mail h.state m → MemoryRelation (asked c o r h).mail (asked c o r h).state (after_reply c o r m)
 beside-asked caching c (Op.Store address size value) Reply.Stored h m inv sized is may word b =
-    beside-block_stored caching c address size value h.mail h.state m inv (sized (block_at address)) word.0 word.1 b
+    beside-block_stored c address size value inv (sized (block_at address)) word.0 word.1 b
 beside-asked caching c (Op.Acquire n g) (Reply.Started source) h m inv sized is may word b =
-    beside-acquire_asked caching c n source false g ((h.state.block n).waiting c) (Op.Acquire n g) h.mail h.state m inv
-    may.2 refl b
+    beside-acquire_asked c n source false g ((h.state.block n).waiting c) (Op.Acquire n g) inv may.2 refl b
 beside-asked caching c (Op.AcquireWhole n bytes) (Reply.Started source) h m inv sized is may word b =
-    beside-acquire_asked caching c n source true (whole_grow ((h.state.block n).pair c).held) bytes
-    (Op.AcquireWhole n bytes) h.mail h.state m inv may.2 refl b
+    beside-acquire_asked c n source true (whole_grow ((h.state.block n).pair c).held) bytes
+    (Op.AcquireWhole n bytes) inv may.2 refl b
 beside-asked caching c (Op.Release n p) (Reply.Started source) h m inv sized is may word b =
-    beside-release_asked c n source p h.mail h.state m b
+    beside-release_asked c n source p b
 beside-asked caching c (Op.Access (Message.A a)) (Reply.Started source) h m inv sized is may word b =
-    beside-access_asked c source a h.mail h.state m b
+    beside-access_asked c source a b
 beside-asked caching c o (Reply.Started source) h m inv sized is may word b = absurd is
 beside-asked caching c o r h m inv sized is may word b = b

@@ -20,7 +20,7 @@ use Rattle.tl_manager.{specs.statement.Reaction.reaction, proofs.calls.Events.pe
 use Rattle.tl_coherence.specs.refinement.AbstractStep.{probes_some, request_taken, kind_taken}
 use Rattle.tl_coherence.specs.{protocol.Invariant.cap_asked, statement.Machine.Performs, statement.System.System}
 use Rattle.tl_coherence.specs.protocol.Packet.{Request, Acquire, Packet}
-use Rattle.tl_coherence.specs.refinement.SimulationRelation.{SimulationRelation, is_caching}
+use Rattle.tl_coherence.specs.refinement.SimulationRelation.{SimulationRelation}
 use Rattle.tl_coherence.proofs.manager.Arrivals.{link_of, with_beat, IsComing, service_for}
 use Rattle.tl_coherence.proofs.{manager.AtRequests.reaction-probing, memory.BesideTaken.IsPerformed}
 use Rattle.tl_coherence.proofs.{manager.Choices.plain-past, protocol.Heads.IsAsked, protocol.Heads.IsWanted}
@@ -74,14 +74,14 @@ once-performs l h m (inr (q, source, one, opened)) =
       performing-one q source (Message.A opened.0) m opened.2,
     )
 
-pub request-accesses : {w : ℕ} (config : Config) (log : Log w) (h : AbstractState w) (sys : System w) (c source k : ℕ)
+pub request-accesses : {w : ℕ} {config : Config} {log : Log w} (h : AbstractState w) {sys : System w} {c source k : ℕ}
     → SimulationRelation config log h.mail h.request h.state sys → (asked : IsAsked config c source h.mail h.state)
     → IsComing config c k asked.request sys.manager → beats_of (Message.A asked.request) ≡ suc k
     → accesses_answered (reaction config (link_of c) (Beat.A (a_beat_of asked.request k)) sys.manager).handed
     ≡ access_list c source (probes_some (length config.clients.items) c false
     (cap_probed asked.request.opcode asked.request.param)
     (h.state.block (block_at asked.request.address)).pair) (cap_probed asked.request.opcode asked.request.param)
-request-accesses {w} config log h sys c source k is asked comes last =
+request-accesses {w} {config} {log} h {sys} {c} {source} {k} is asked comes last =
     accesses (probes_some clients c false (cap_probed m.opcode m.param) b.pair) (cap_probed m.opcode m.param) refl refl
   where
     m : MessageA w
@@ -102,8 +102,9 @@ request-accesses {w} config log h sys c source k is asked comes last =
     answered : probes_some clients c false (cap_probed m.opcode m.param) b.pair ≡ false
         → accesses_answered done ≡ (c, source) ∷ []
     answered none = cc (
-      handed-answered config log h.mail h.request h.state sys c source k is asked comes last none,
-      accesses-answer c m (answer_of (Message.A m) (effect (Message.A m) (bytes_at n b.memory)).1),
+      handed-answered is asked comes last none,
+      accesses-answer c m
+          (answer_of (Message.A m) (effect (Message.A m) (bytes_at n b.memory)).1),
       asked.source_is,
     )
 
@@ -119,17 +120,16 @@ request-accesses {w} config log h sys c source k is asked comes last =
         (with_beat c m k sys.manager.trace))
     accesses false o f g = answered f
 
-pub request-once : {w : ℕ} (config : Config) (log : Log w) (h : AbstractState w) (sys : System w) (c source k : ℕ)
-    (machine : Machine w)
-    → SimulationRelation config log h.mail h.request h.state sys → (asked : IsAsked config c source h.mail h.state)
-    → IsComing config c k asked.request sys.manager → beats_of (Message.A asked.request) ≡ suc k
-    → MemoryRelation h.mail h.state machine
+pub request-once : {w : ℕ} {config : Config} {log : Log w} (h : AbstractState w) {sys : System w} {c source k : ℕ}
+    {machine : Machine w} → SimulationRelation config log h.mail h.request h.state sys
+    → (asked : IsAsked config c source h.mail h.state) → IsComing config c k asked.request sys.manager
+    → beats_of (Message.A asked.request) ≡ suc k → MemoryRelation h.mail h.state machine
     → IsOnce (accesses_answered (reaction config (link_of c) (Beat.A (a_beat_of asked.request k)) sys.manager).handed) h
     machine
-request-once {w} config log h sys c source k machine is asked comes last beside =
+request-once {w} {config} {log} h {sys} {c} {source} {k} {machine} is asked comes last beside =
     go (probes_some (length config.clients.items) c false (cap_probed asked.request.opcode asked.request.param)
     (h.state.block (block_at asked.request.address)).pair) (cap_probed asked.request.opcode asked.request.param)
-    (request-accesses config log h sys c source k is asked comes last)
+    (request-accesses h is asked comes last)
   where
     opened : IsAccess source (h.mail.request c source) None (machine.opened c Requests source)
     opened = rw asked.used at (beside.requests c source)
@@ -142,16 +142,15 @@ request-once {w} config log h sys c source k machine is asked comes last beside 
     go true (Some j) e = inl e
     go p o e = inr (c, source, e, opened)
 
-pub beside-request_taken : {w : ℕ} (config : Config) (log : Log w) (h : AbstractState w) (sys : System w)
-    (c source k : ℕ) (rest : List Packet) (machine : Machine w)
-    → SimulationRelation config log h.mail h.request h.state sys → (asked : IsAsked config c source h.mail h.state)
-    → IsComing config c k asked.request sys.manager → beats_of (Message.A asked.request) ≡ suc k
-    → MemoryRelation h.mail h.state machine
+pub beside-request_taken : {w : ℕ} {config : Config} {log : Log w} (h : AbstractState w) {sys : System w}
+    {c source k : ℕ} (rest : List Packet) {machine : Machine w} → SimulationRelation config log h.mail h.request h.state
+    sys → (asked : IsAsked config c source h.mail h.state) → IsComing config c k asked.request sys.manager
+    → beats_of (Message.A asked.request) ≡ suc k → MemoryRelation h.mail h.state machine
     → MemoryRelation (kind_taken config (next_tracker sys) c Request source rest h).mail
     (kind_taken config (next_tracker sys) c Request source rest h).state
     (performing (accesses_answered (reaction config (link_of c) (Beat.A (a_beat_of asked.request k))
     sys.manager).handed) machine)
-beside-request_taken {w} config log h sys c source k rest machine is asked comes last beside =
+beside-request_taken {w} {config} {log} h {sys} {c} {source} {k} rest {machine} is asked comes last beside =
     let m : MessageA w = asked.request in
     let n : ℕ = block_at m.address in
     let b : Block (List ℕ) = h.state.block n in
@@ -170,8 +169,8 @@ beside-request_taken {w} config log h sys c source k rest machine is asked comes
     (performing (accesses_answered done) machine)) (sym asked.is_it)
     (subst (λ (l : List (ℕ × ℕ)). MemoryRelation (request_taken clients c source (Message.A m) tracker rest h).mail
     (request_taken clients c source (Message.A m) tracker rest h).state (performing l machine))
-    (sym (request-accesses config log h sys c source k is asked comes last))
-    (beside-request (is_caching config) config c source tracker m rest h machine is.invariant (plain-past config)
+    (sym (request-accesses h is asked comes last))
+    (beside-request tracker rest h is.invariant (plain-past config)
     performed_so beside))
   where
     clients : ℕ
@@ -223,18 +222,16 @@ acquire-accesses {w} config log h sys c n k is asked comes last =
           (with_beat c m k sys.manager.trace) sys.manager.memory,
     )
 
-pub beside-acquire_taken : {w : ℕ} (config : Config) (log : Log w) (h : AbstractState w) (sys : System w) (c n k : ℕ)
-    (rest : List Packet) (machine : Machine w)
-    → SimulationRelation config log h.mail h.request h.state sys → (asked : IsWanted w c n h.state)
-    → IsComing config c k (acquire_wanted c n h.state asked) sys.manager
+pub beside-acquire_taken : {w : ℕ} {config : Config} {log : Log w} (h : AbstractState w) {sys : System w} {c n k : ℕ}
+    (rest : List Packet) {machine : Machine w} → SimulationRelation config log h.mail h.request h.state sys
+    → (asked : IsWanted w c n h.state) → IsComing config c k (acquire_wanted c n h.state asked) sys.manager
     → beats_of (Message.A (acquire_wanted c n h.state asked)) ≡ suc k → MemoryRelation h.mail h.state machine
     → MemoryRelation (kind_taken config (next_tracker sys) c Acquire n rest h).mail
     (kind_taken config (next_tracker sys) c Acquire n rest h).state
     (performing (accesses_answered
-    (reaction config (link_of c) (Beat.A (a_beat_of (acquire_wanted c n h.state asked) k)) sys.manager).handed)
-    machine)
+    (reaction config (link_of c) (Beat.A (a_beat_of (acquire_wanted c n h.state asked) k)) sys.manager).handed) machine)
 unfolding performing
-beside-acquire_taken {w} config log h sys c n k rest machine is asked comes last beside =
+beside-acquire_taken {w} {config} {log} h {sys} {c} {n} {k} rest {machine} is asked comes last beside =
     rw (acquire-accesses config log h sys c n k is asked comes last)
     (beside-acquire (length config.clients.items) config.profile c n ((h.state.block n).pair c).acquiring
-    (next_tracker sys) rest h machine beside)
+    (next_tracker sys) rest h beside)

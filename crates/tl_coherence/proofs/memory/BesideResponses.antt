@@ -1,7 +1,7 @@
 -- The one memory stays beside the protocol where a client takes a response.
 use Rattle.tl_coherence.proofs.memory.Imports.{Cap, IsBlock, Op, MemoryRelation, Machine, Open, Requests, Releases}
 use Rattle.tl_coherence.proofs.memory.Imports.{with_open, with_memory, memory_after, after_end, AcquireOpen, Block}
-use Rattle.tl_coherence.proofs.memory.Imports.{State, SourceState, SourceFree, Replied, Acquires, AccessMessages}
+use Rattle.tl_coherence.proofs.memory.Imports.{State, SourceState, Replied, Acquires, AccessMessages}
 use Rattle.tl_coherence.proofs.memory.Imports.{Message}
 use Rattle.std.proofs.Common.{◌≡◌, subst, ℕ, Bool, true, false, ◌&&◌, List, Option, Some, None, refl, sym, ◌∙◌, ap, ◌⊎◌}
 use Rattle.std.proofs.Common.{inl, inr}
@@ -23,10 +23,10 @@ use Rattle.tl_coherence.proofs.queues.Tokens.{same_number, set-same, set-other, 
 
 -- ---- responses
 
-pub beside-answer : {w : ℕ} (c source : ℕ) (rest : List Packet) (mail : AccessMessages w) (s : State (List ℕ))
-    (m : Machine w) → s.uses c source ≡ Replied → MemoryRelation mail s m
+pub beside-answer : {w : ℕ} (c source : ℕ) (rest : List Packet) {mail : AccessMessages w} {s : State (List ℕ)}
+    {m : Machine w} → s.uses c source ≡ Replied → MemoryRelation mail s m
     → MemoryRelation mail (answer_taken c source rest s) (after_end c Requests source (m.opened c Requests source) m)
-beside-answer {w} c source rest mail s m used h =
+beside-answer {w} c source rest {mail} {s} {m} used h =
     let replied : (u : SourceState) → u ≡ Replied → IsOpened c source mail s u (m.opened c Requests source)
     → IsOpened c source mail s Replied (m.opened c Requests source) = λ u e i. rw e at i in
     go (m.opened c Requests source) refl (replied (s.uses c source) used (h.requests c source))
@@ -41,8 +41,8 @@ beside-answer {w} c source rest mail s m used h =
         let asked = some_is o (record { asked = Op.Access (Message.A i.1.0); answer = Some i.0 }) (sym e ∙ i.1.2) in
         subst (λ (y : Open w). MemoryRelation mail (answer_taken c source rest s)
         (after_end c Requests source (Some y) m)) (sym asked)
-        (beside-used c source SourceFree mail mail s (answer_taken c source rest s) m
-        (with_open c Requests source None m) (record {
+        (beside-used
+        (record {
           memory = h.memory;
           uses = λ d j. refl;
           lets = λ d j. refl;
@@ -55,25 +55,25 @@ beside-answer {w} c source rest mail s m used h =
         }) h)
 
 -- the client's Acquire of the block is the one with its source
-only_source : (caching : ℕ → Bool) (s : State (List ℕ)) (c n i : ℕ) → IsInvariant caching s
+only_source : {caching : ℕ → Bool} {s : State (List ℕ)} (c n i : ℕ) → IsInvariant caching s
     → (i ≡ (s.block n).source c → ⊥) → s.uses c i ≡ Acquires n → ⊥
-only_source caching s c n i inv ne e =
+only_source {s} c n i inv ne e =
     let yes : acquires_of n (s.uses c i) ≡ true = ap (acquires_of n) e ∙ same_number n in
     let named = inv.named.acquires c i n in
     let no : (is_wanting ((s.block n).pair c).acquiring && (i == (s.block n).source c)) ≡ false =
     cc (ne_eqb i ((s.block n).source c) ne, and-false (is_wanting ((s.block n).pair c).acquiring)) in
     let differ : true ≡ false = sym yes ∙ named ∙ no in cc
 
-pub beside-grant : {w : ℕ} (caching : ℕ → Bool) (c n : ℕ) (d : Bool) (k : Cap) (rest : List Packet)
-    (mail : AccessMessages w) (s : State (List ℕ)) (m : Machine w)
+pub beside-grant : {w : ℕ} {caching : ℕ → Bool} (c n : ℕ) (d : Bool) (k : Cap) (rest : List Packet)
+    {mail : AccessMessages w} {s : State (List ℕ)} {m : Machine w}
     → IsInvariant caching s → is_wanting ((s.block n).pair c).acquiring ≡ true → MemoryRelation mail s m
     → MemoryRelation mail (grant_taken c n (is_whole ((s.block n).pair c).acquiring) d k rest s)
     (after_end c Requests ((s.block n).source c) (m.opened c Requests ((s.block n).source c)) m)
-beside-grant {w} caching c n d k rest mail s m inv wants h =
+beside-grant {w} {caching} c n d k rest {mail} {s} {m} inv wants h =
     let s' : State (List ℕ) = grant_taken c n whole d k rest s in
     let ended : Machine w = with_open c Requests source None (with_memory (memory_after asked m.memory) m) in
     subst (λ (o : Option (Open w)). MemoryRelation mail s' (after_end c Requests source o m)) (sym opened)
-    (beside-used c source SourceFree mail mail s s' m ended (record {
+    (beside-used (record {
       memory = λ i. block_now i (cases_eq i n);
       uses = λ e i. refl;
       lets = λ e i. refl;
@@ -83,7 +83,7 @@ beside-grant {w} caching c n d k rest mail s m inv wants h =
       requests = λ e i else_. refl;
       answers = λ e i else_. refl;
       acquires = acquires-else c n source new (after_grant k (b.pair c)) s s' (λ i. refl) (λ e. refl) (λ e ne. refl)
-          (λ i ne e. only_source caching s c n i inv ne e);
+          (λ i ne e. only_source c n i inv ne e);
     }) h)
   where
     b : Block (List ℕ)
@@ -123,24 +123,21 @@ beside-grant {w} caching c n d k rest mail s m inv wants h =
     there (AcquireOpen false g) waits i e ne = h.memory i
 
     block_now : (i : ℕ) → (i ≡ n) ⊎ (i ≡ n → ⊥) → IsBlock (memory_after asked m.memory) i (set n new s.block i).truth
-    block_now i (inl same) =
-        subst (λ (j : ℕ). IsBlock (memory_after asked m.memory) j (set n new s.block j).truth) (sym same)
-        (subst (λ (y : Block (List ℕ)). IsBlock (memory_after asked m.memory) n y.truth) (sym (set-same n new s.block))
-        (here (b.pair c).acquiring (b.waiting c) wants))
+    block_now i (inl same) = subst (λ (j : ℕ). IsBlock (memory_after asked m.memory) j (set n new s.block j).truth)
+        (sym same) (subst (λ (y : Block (List ℕ)). IsBlock (memory_after asked m.memory) n y.truth)
+        (sym (set-same n new s.block)) (here (b.pair c).acquiring (b.waiting c) wants))
     block_now i (inr other) = subst (λ (y : Block (List ℕ)). IsBlock (memory_after asked m.memory) i y.truth)
-        (sym (set-other n i new s.block other))
-        (there (b.pair c).acquiring (b.waiting c) i wants other)
+        (sym (set-other n i new s.block other)) (there (b.pair c).acquiring (b.waiting c) i wants other)
 
-pub beside-release_ack : {w : ℕ} (caching : ℕ → Bool) (c n : ℕ) (rest : List Packet) (mail : AccessMessages w)
-    (s : State (List ℕ)) (m : Machine w) → IsInvariant caching s
-    → is_unreleased ((s.block n).pair c).letting ≡ false → MemoryRelation mail s m
-    → MemoryRelation mail (release_ack_taken c n rest s) (after_end c Releases ((s.block n).release_source c)
-    (m.opened c Releases ((s.block n).release_source c)) m)
-beside-release_ack {w} caching c n rest mail s m inv acked h =
+pub beside-release_ack : {w : ℕ} {caching : ℕ → Bool} (c n : ℕ) (rest : List Packet) {mail : AccessMessages w}
+    {s : State (List ℕ)} {m : Machine w} → IsInvariant caching s → is_unreleased ((s.block n).pair c).letting ≡ false
+    → MemoryRelation mail s m → MemoryRelation mail (release_ack_taken c n rest s)
+    (after_end c Releases ((s.block n).release_source c) (m.opened c Releases ((s.block n).release_source c)) m)
+beside-release_ack {w} c n rest {mail} {s} {m} inv acked h =
     let new : Block (List ℕ) = let_go_block c (s.block n) in
     let s' : State (List ℕ) = release_ack_taken c n rest s in
     subst (λ (o : Option (Open w)). MemoryRelation mail s' (after_end c Releases source o m)) (sym released.1)
-    (beside-let c source None mail s s' m (with_open c Releases source None m) (record {
+    (beside-let (record {
       memory = λ i. subst (λ (bytes : List ℕ). IsBlock m.memory i bytes)
           (sym (set-part (λ (y : Block (List ℕ)). y.truth) n new s.block refl i)) (h.memory i);
       uses = λ e i. refl;

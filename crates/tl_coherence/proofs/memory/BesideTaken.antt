@@ -23,7 +23,7 @@ use Rattle.tl_coherence.specs.{protocol.Tokens.is_sent, refinement.PacketMessage
 use Rattle.tl_coherence.specs.{refinement.SimulationRelation.IsRequest}
 use Rattle.tl_coherence.specs.protocol.Phase.{View, ProbePhase, NoProbe, ProbeAnswered, ok, same_cap, is_unprobed}
 use Rattle.tl_coherence.specs.protocol.Protocol.{Waits, view, written}
-use Rattle.tl_coherence.proofs.memory.Beside.{IsSameAcquire, done_at, set_at-there, open-here, open-there}
+use Rattle.tl_coherence.proofs.memory.Beside.{IsSameAcquire, set_at-there, open-here, open-there}
 use Rattle.tl_coherence.proofs.memory.Beside.{open-releases, performing-one, beside-used}
 use Rattle.tl_coherence.proofs.{queues.Facts.is_other, protocol.RequestsKept.some-none, queues.Perms.nothing-above}
 use Rattle.tl_coherence.proofs.{queues.Perms.not_out, queues.Tokens.set_at-same}
@@ -40,10 +40,10 @@ never_above Cap.ToB Perm.Trunk e f = absurd cc
 never_above Cap.ToN Perm.Trunk e f = absurd cc
 
 -- nobody is probed
-pub memory-unprobed : (clients : ℕ) (caching : ℕ → Bool) (c : ℕ) (k : Cap) (b : Block (List ℕ))
+pub memory-unprobed : (clients : ℕ) {caching : ℕ → Bool} (c : ℕ) (k : Cap) {b : Block (List ℕ)}
     → ((d : ℕ) → clients ≤ d → caching d ≡ false) → IsWell caching b → same_cap k Cap.ToT ≡ false
     → some_below clients (λ d. is_probed c false k (b.pair d).recorded d) ≡ false → b.memory ≡ b.truth
-memory-unprobed clients caching c k b plain well low none =
+memory-unprobed clients c k {b} plain well low none =
     let unprobed : (d : ℕ) → is_above k (b.pair d).recorded ≡ false = λ d. elim (cases_lt d clients) [
       | inl lt ↦ some-none clients (λ i. is_probed c false k (b.pair i).recorded i) none d lt
       | inr le ↦ rw (well.outside d (plain d le)) (nothing-above k)
@@ -60,19 +60,17 @@ low_all = refl
 
 low_recorded : (p : ClientBlock) (v : View) → ok p v ≡ true
     → (is_other v && (not (same_perm (report_left (report_told p.probing)) Perm.Trunk) && not (is_sent p.probing)))
-    ≡ true
-    → not (same_perm p.recorded Perm.Trunk) ≡ true
+    ≡ true → not (same_perm p.recorded Perm.Trunk) ≡ true
 unfolding low_test
 low_recorded p v h e = implies_is
     (is_other v && (not (same_perm (report_left (report_told p.probing)) Perm.Trunk) && not (is_sent p.probing)))
     (not (same_perm p.recorded Perm.Trunk)) (of_phase low_test low_all p v h) e
 
 -- the last report has been told
-pub memory-reported : (caching : ℕ → Bool) (c q source : ℕ) (r : Report) (k : Cap) (b : Block (List ℕ))
-    → IsWell caching b → b.service ≡ Waits q false source k
-    → (b.pair c).probing ≡ ProbeAnswered r → ((d : ℕ) → (d ≡ c → ⊥) → is_unprobed (b.pair d).probing ≡ true)
-    → written r b.truth b.memory ≡ b.truth
-memory-reported caching c q source r k b well waits answered settled = go (same_perm (report_left r) Perm.Trunk) refl
+pub memory-reported : {caching : ℕ → Bool} (c q source : ℕ) (r : Report) (k : Cap) {b : Block (List ℕ)}
+    → IsWell caching b → b.service ≡ Waits q false source k → (b.pair c).probing ≡ ProbeAnswered r
+    → ((d : ℕ) → (d ≡ c → ⊥) → is_unprobed (b.pair d).probing ≡ true) → written r b.truth b.memory ≡ b.truth
+memory-reported c q source r k {b} well waits answered settled = go (same_perm (report_left r) Perm.Trunk) refl
   where
     seen : (d : ℕ) → is_other (view b.service d) ≡ true
     seen d = rw waits refl
@@ -135,8 +133,9 @@ reply_reach {w} x f = go x.opcode
     go o = tt
 
 -- the machine after it
-pub beside-performed : {w : ℕ} (config : Config) (c source : ℕ) (a : MessageA w) (bytes : List ℕ)
-    (mail : AccessMessages w) (s s' : State (List ℕ)) (m : Machine w) → IsPerformed config c source a mail s m
+pub beside-performed : {w : ℕ} {config : Config} {c source : ℕ} {a : MessageA w} (bytes : List ℕ)
+    {mail : AccessMessages w} {s : State (List ℕ)} (s' : State (List ℕ)) {m : Machine w}
+    → IsPerformed config c source a mail s m
     → ((f : Memory) → IsBlock f (block_at a.address) (s.block (block_at a.address)).truth
     → (effect (Message.A a) (bytes_at (block_at a.address) (s.block (block_at a.address)).truth)).1
     ≡ (effect (Message.A a) (bytes_at (block_at a.address) bytes)).1)
@@ -148,7 +147,8 @@ pub beside-performed : {w : ℕ} (config : Config) (c source : ℕ) (a : Message
     → MemoryRelation mail s m
     → MemoryRelation (record { request = mail.request; answer = set_at c source (answers a bytes) mail.answer }) s'
     (performing ((c, source) ∷ []) m)
-beside-performed {w} config c source a bytes mail s s' m is same_reply others changed uses lets acquires h =
+beside-performed {w} {config} {c} {source} {a} bytes {mail} {s} s' {m} is same_reply others changed uses lets acquires
+    h =
     let mail' : AccessMessages w =
     record { request = mail.request; answer = set_at c source (answers a bytes) mail.answer } in
     let now : Open w = record {
@@ -167,7 +167,7 @@ beside-performed {w} config c source a bytes mail s s' m is same_reply others ch
     subst (λ (y : Memory × memory.AccessResult). IsReach a y.1) (sym effect_is) (reply_reach a m.memory) in
     subst (λ (z : Machine w). MemoryRelation mail' s' z)
     (sym (performing-one c source (Message.A is.opened.0) m is.opened.2))
-    (beside-used c source Replied mail mail' s s' m (done_at c source (Message.A is.opened.0) m) (record {
+    (beside-used (record {
       memory = λ i. block_now i (cases_eq i n);
       uses = uses;
       lets = lets;
@@ -192,7 +192,7 @@ beside-performed {w} config c source a bytes mail s s' m is same_reply others ch
       releases = λ d i. open-releases c source (Some now) (with_memory (effect (Message.A is.opened.0) m.memory).0 m) d
           i;
       requests = λ d i else_. refl;
-      answers = λ d i else_. set_at-there c source (answers a bytes) mail.answer d i else_;
+      answers = λ d i else_. set_at-there (answers a bytes) mail.answer else_;
       acquires = λ d i else_. same_acquires d (s.uses d i);
     }) h)
   where
@@ -212,13 +212,11 @@ beside-performed {w} config c source a bytes mail s s' m is same_reply others ch
 
     block_now : (i : ℕ) → (i ≡ n) ⊎ (i ≡ n → ⊥) → IsBlock (effect (Message.A is.opened.0) m.memory).0 i
         (s'.block i).truth
-    block_now i (inl same) =
-        subst (λ (j : ℕ). IsBlock (effect (Message.A is.opened.0) m.memory).0 j (s'.block j).truth) (sym same)
-        (subst (λ (y : Memory × memory.AccessResult). IsBlock y.0 n (s'.block n).truth) (sym effect_is)
+    block_now i (inl same) = subst (λ (j : ℕ). IsBlock (effect (Message.A is.opened.0) m.memory).0 j (s'.block j).truth)
+        (sym same) (subst (λ (y : Memory × memory.AccessResult). IsBlock y.0 n (s'.block n).truth) (sym effect_is)
         (subst (λ (z : List ℕ). IsBlock (effect (Message.A a) m.memory).0 n z) (sym changed) blocks.0))
-    block_now i (inr other) =
-        subst (λ (y : Memory × memory.AccessResult). IsBlock y.0 i (s'.block i).truth) (sym effect_is)
-        (subst (λ (z : List ℕ). IsBlock (effect (Message.A a) m.memory).0 i z) (sym (others i other))
+    block_now i (inr other) = subst (λ (y : Memory × memory.AccessResult). IsBlock y.0 i (s'.block i).truth)
+        (sym effect_is) (subst (λ (z : List ℕ). IsBlock (effect (Message.A a) m.memory).0 i z) (sym (others i other))
         (blocks.1 i other))
 
     same_acquires : (d : ℕ) (u : SourceState) → IsSameAcquire d s s' u

@@ -78,9 +78,8 @@ reply_opened client (Op.Access a) (Reply.Started n) m c pool source =
 reply_opened client o r m c pool source = refl
 
 end_opened : {w : ℕ} (client : ℕ) (at : Pool) (n : ℕ) (o : Option (Open w)) (m : Machine w) (c : ℕ) (pool : Pool)
-    (source : ℕ) → m.opened client at n ≡ o
-    → asked_at c pool source (after_end client at n o m) ≡ (if (client == c) && (same_pool at pool && (n == source))
-    then None else asked_at c pool source m)
+    (source : ℕ) → m.opened client at n ≡ o → asked_at c pool source (after_end client at n o m)
+    ≡ (if (client == c) && (same_pool at pool && (n == source)) then None else asked_at c pool source m)
 end_opened client at n None m c pool source e =
     same_there client at n None m c pool source (ap (option_map (λ o. o.asked)) e)
 end_opened client at n (Some o) m c pool source e =
@@ -154,15 +153,15 @@ none_is Perm.Branch Perm.Trunk e f = absurd cc
 none_is Perm.Trunk Perm.Branch e f = absurd cc
 none_is Perm.Trunk Perm.Trunk e f = absurd cc
 
-pub coherent-matched : {w : ℕ} (config : Config) (log : Log w) (mail : AccessMessages w) (request : ℕ → MessageA w)
-    (s : State (List ℕ))
-    → SimulationRelation config log mail request s (system_after config log)
+pub coherent-matched : {w : ℕ} {config : Config} {log : Log w} {mail : AccessMessages w} {request : ℕ → MessageA w}
+    {s : State (List ℕ)} → SimulationRelation config log mail request s (system_after config log)
     → IsCoherent (system_after config log) log (one_memory_after config log)
-coherent-matched {w} config log mail request s h =
+coherent-matched {w} {config} {log} {s} h =
     let some_is : (x y : List ℕ) → Some x ≡ Some y → x ≡ y = λ x y e. cc in
     record {
       one_writer = λ c d n differ writes.
-          let top = trunk_is ((s.block n).pair c).held ((s.block n).pair c).recorded (sym ((h.known c).held_is n) ∙ writes)
+          let top = trunk_is ((s.block n).pair c).held ((s.block n).pair c).recorded
+          (sym ((h.known c).held_is n) ∙ writes)
           (held_at_most ((s.block n).pair c) (view (s.block n).service c) ((h.invariant.blocks n).phases c)) in
           let none = (h.invariant.blocks n).one_owner c d top (λ e. differ (sym e)) in
           (h.known d).held_is n ∙ none_is ((s.block n).pair d).held ((s.block n).pair d).recorded none
@@ -170,7 +169,8 @@ coherent-matched {w} config log mail request s h =
       copies = λ c n bytes copy.
           let some = held-some ((s.block n).pair c).held
           (sym (sym (ap is_some copy) ∙ (h.kept c).copies_held n ∙ ap holds ((h.known c).held_is n))) in
-          let same : (s.block n).truth ≡ bytes = sym ((h.invariant.blocks n).copies c some) ∙ some_is ((s.block n).copy c)
+          let same : (s.block n).truth ≡ bytes = sym ((h.invariant.blocks n).copies c some) ∙ some_is
+          ((s.block n).copy c)
           bytes (sym (h.copies c n some) ∙ copy) in
           subst (λ (b : List ℕ). IsBlock (one_memory_after config log).memory n b) same (h.beside.memory n);
       kept = λ c n. (h.kept c).copies_held n;

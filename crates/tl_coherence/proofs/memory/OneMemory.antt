@@ -37,8 +37,7 @@ elsewhere (Some l) m f x width access lawful blank ne =
 
 -- the blocks after an access, of which one is its own
 pub blocks-performed : {w : ℕ} (o : Option Level) (m : MessageA w) (f : Memory) (truth : ℕ → List ℕ) → IsWidth w
-    → is_acquire m.opcode ≡ false
-    → illegal_message_at o (A m) ≡ None → IsBlankAfter (beats_of (A m)) (A m)
+    → is_acquire m.opcode ≡ false → illegal_message_at o (A m) ≡ None → IsBlankAfter (beats_of (A m)) (A m)
     → length (truth (block_at m.address)) ≡ 64 → ((n : ℕ) → IsBlock f n (truth n))
     → IsBlock (effect (A m) f).0 (block_at m.address) (performs m (truth (block_at m.address)))
     × ((n : ℕ) → (n ≡ block_at m.address → ⊥) → IsBlock (effect (A m) f).0 n (truth n))
@@ -47,15 +46,15 @@ blocks-performed {w} o m f truth width access lawful blank long is =
     λ n i lt ne e. ne (omega (arith, lt, e)) in (
       block-of-bytes (effect (A m) f).0 (block_at m.address) (performs m (truth (block_at m.address)))
           (performed-block o m f width lawful
-          ∙ ap (performs m) (bytes-of-block f (block_at m.address) (truth (block_at m.address)) (is (block_at m.address))
+          ∙ ap (performs m) (bytes-of-block f (block_at m.address) (truth (block_at m.address))
+          (is (block_at m.address))
           long)),
       λ n ne i lt. elsewhere o m f (64 * n + i) width access lawful blank (apart n i lt ne) ∙ is n i lt,
     )
 
 -- its reply, by the bytes of its block
 pub reply-performed : {w : ℕ} (o : Option Level) (m : MessageA w) (f : Memory) (bytes : List ℕ) → IsWidth w
-    → illegal_message_at o (A m) ≡ None
-    → IsBlock f (block_at m.address) bytes → length bytes ≡ 64
+    → illegal_message_at o (A m) ≡ None → IsBlock f (block_at m.address) bytes → length bytes ≡ 64
     → (effect (A m) f).1 ≡ (effect (A m) (bytes_at (block_at m.address) bytes)).1
 reply-performed o m f bytes width lawful is long =
     cc (performed-reply o m f width lawful, bytes-of-block f (block_at m.address) bytes is long)
@@ -123,8 +122,7 @@ block-stored address size value copy f room long is i lt = go (reaches address s
     ]
 
 pub block-unstored : (address size value k : ℕ) (old : List ℕ) (f : Memory) → address % 64 + 2 ^ size ≤ 64
-    → (k ≡ block_at address → ⊥) → IsBlock f k old
-    → IsBlock (with_number address size value f) k old
+    → (k ≡ block_at address → ⊥) → IsBlock f k old → IsBlock (with_number address size value f) k old
 block-unstored address size value k old f room ne is i lt = go (reaches address size (64 * k + i)) refl
   where
     go : (b : Bool) → reaches address size (64 * k + i) ≡ b

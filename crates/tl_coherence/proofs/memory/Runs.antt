@@ -43,8 +43,7 @@ IsTakenIn _ = ⊤
 
 -- the end that takes the beat refuses it by no rule
 abbrev pub IsTaken : {w : ℕ} → Config → EndConfig → ℕ → Channel → Beat w → System w → Type 0
-IsTaken config terms link ch x s =
-    (is_to_client ch ≡ true → IsTakenUp (offered terms ch x (s.clients link)).answer)
+IsTaken config terms link ch x s = (is_to_client ch ≡ true → IsTakenUp (offered terms ch x (s.clients link)).answer)
     × (is_to_client ch ≡ false → IsTakenIn (manager.offered config (record { 0 = link }) ch x s.manager))
 
 stall-judged : {w : ℕ} (answer : Result (Verdict × Option (Message w)) Rule) (link : ℕ) (ch : Channel) (x : Beat w)
@@ -62,9 +61,8 @@ stall-managed (manager.Refused rule, e) link ch x rest s taken = absurd taken
 stall-managed answer link ch x rest s taken = refl
 
 pub stall-delivered : {w : ℕ} (config : Config) (terms : EndConfig) (link : ℕ) (ch : Channel) (x : Beat w)
-    (rest : List (Beat w)) (s : System w)
-    → IsTaken config terms link ch x s → is_stall (delivered config terms link ch (x ∷ rest) s).outcome ≡ stalls config
-    terms link ch x s
+    (rest : List (Beat w)) (s : System w) → IsTaken config terms link ch x s
+    → is_stall (delivered config terms link ch (x ∷ rest) s).outcome ≡ stalls config terms link ch x s
 stall-delivered {w} config terms link ch x rest s taken = go (is_to_client ch) refl
   where
     go : (b : Bool) → is_to_client ch ≡ b → is_stall (delivered config terms link ch (x ∷ rest) s).outcome ≡ stalls

@@ -35,11 +35,10 @@ counted-first config =
     (λ c few. total-zero (sources_in config c) (λ i. 0) (λ i lt. refl)) in
     record { requests_are = omega (arith, requests_none); releases_are = omega (arith, releases_none) }
 
-counted-balance : {w : ℕ} {X : Type 0} (config : Config) (log : Log w) (s s' : State X) (event : Event w)
-    (o : Outcome w)
-    → IsBalance config s s' (starts_request event o) (ends_request o) (starts_release event o) (ends_release o)
-    → AreCounted config log s → AreCounted config ((event, o) ∷ log) s'
-counted-balance config log s s' event o is before = record {
+counted-balance : {w : ℕ} {X : Type 0} {config : Config} {log : Log w} {s s' : State X} (event : Event w)
+    (o : Outcome w) → IsBalance config s s' (starts_request event o) (ends_request o) (starts_release event o)
+    (ends_release o) → AreCounted config log s → AreCounted config ((event, o) ∷ log) s'
+counted-balance {log} event o is before = record {
   requests_are = omega (
     arith,
     is.requests,
@@ -59,13 +58,12 @@ counted-balance config log s s' event o is before = record {
 }
 
 -- and every event keeps it
-pub counted-next : {w : ℕ} (config : Config) (log : Log w) (h : AbstractState w) (event : Event w) → IsWidth w
+pub counted-next : {w : ℕ} {config : Config} {log : Log w} (h : AbstractState w) (event : Event w) → IsWidth w
     → SimulationRelation config log h.mail h.request h.state (system_after config log) → AreCounted config log h.state
     → AreCounted config ((event, (stepped config event (system_after config log)).outcome) ∷ log)
     (abstract_step config event (system_after config log) h).state
-counted-next config log h event width matched before =
-    counted-balance config log h.state (abstract_step config event (system_after config log) h).state event
-    (stepped config event (system_after config log)).outcome
+counted-next {config} {log} h event width matched before =
+    counted-balance event (stepped config event (system_after config log)).outcome
     (counted-followed config log h width matched event) before
 
 -- what is outstanding is what is open
@@ -79,11 +77,11 @@ pub releases-open : {w : ℕ} {X : Type 0} (config : Config) (log : Log w) (s : 
 unfolding releases
 releases-open config log s is = omega (arith, is.releases_are)
 
-pub outstanding-open : {w : ℕ} {X : Type 0} (config : Config) (log : Log w) (s : State X) → AreCounted config log s
+pub outstanding-open : {w : ℕ} {X : Type 0} {config : Config} {log : Log w} {s : State X} → AreCounted config log s
     → outstanding log ≡ open_requests config s + open_releases config s
-outstanding-open config log s is = omega (arith, requests-open config log s is, releases-open config log s is)
+outstanding-open {config} {log} {s} is = omega (arith, requests-open config log s is, releases-open config log s is)
 
 -- and the load is that of what is open
-pub load-open : {w : ℕ} {X : Type 0} (config : Config) (log : Log w) (s : State X) → AreCounted config log s
+pub load-open : {w : ℕ} {X : Type 0} {config : Config} {log : Log w} {s : State X} → AreCounted config log s
     → load log ≡ (64 / w + 33) * open_requests config s + (64 / w + 1) * open_releases config s
-load-open {w} config log s is = cc (requests-open config log s is, releases-open config log s is)
+load-open {w} {config} {log} {s} is = cc (requests-open config log s is, releases-open config log s is)

@@ -42,9 +42,9 @@ nothing_in [] e = refl
 nothing_in (x ∷ xs) e = absurd (omega (arith, e))
 
 -- nothing is counted where nothing is open
-pub none-counted : {X : Type 0} (config : Config) (s : State X) → IsClosed s → ((c : ℕ) → (s.link c).e ≡ [])
+pub none-counted : {X : Type 0} (config : Config) {s : State X} → IsClosed s → ((c : ℕ) → (s.link c).e ≡ [])
     → open_requests config s + open_releases config s ≡ 0
-none-counted config s closed no_acks =
+none-counted config {s} closed no_acks =
     let requests : open_requests config s ≡ 0 =
     total-zero (clients_in config) (λ c. total (sources_in config c) (λ i. one_if (is_used (s.uses c i))) + length
     (s.link c).e) (λ c few.
@@ -66,10 +66,11 @@ module _ {w : ℕ} (config : Config) (log : Log w) (mail : AccessMessages w) (re
       → (total (sources_in config c) (λ i. one_if (is_used (s.uses c i))) + length (s.link c).e ≡ 0)
       × (total (sources_in config c) (λ i. one_if (is_let (s.lets c i))) ≡ 0)
   of_client c few = (
-    total-none (clients_in config) (λ d. total (sources_in config d) (λ i. one_if (is_used (s.uses d i))) + length
-        (s.link d).e) (omega (arith, none)) c few,
-    total-none (clients_in config) (λ d. total (sources_in config d) (λ i. one_if (is_let (s.lets d i))))
+    total-none (clients_in config)
+        (λ d. total (sources_in config d) (λ i. one_if (is_used (s.uses d i))) + length (s.link d).e)
         (omega (arith, none)) c few,
+    total-none (clients_in config)
+        (λ d. total (sources_in config d) (λ i. one_if (is_let (s.lets d i)))) (omega (arith, none)) c few,
   )
 
   bounds : (c : ℕ) → AreBounded c (sources_in config c) config.trackers s
@@ -100,8 +101,7 @@ module _ {w : ℕ} (config : Config) (log : Log w) (mail : AccessMessages w) (re
     where
       go : (o : Option ℕ) → s.lets c source ≡ o → s.lets c source ≡ None
       go None e = e
-      go (Some n) e =
-          not_let (s.lets c source) (total-none (sources_in config c) (λ i. one_if (is_let (s.lets c i)))
+      go (Some n) e = not_let (s.lets c source) (total-none (sources_in config c) (λ i. one_if (is_let (s.lets c i)))
           (of_client c (client_below config c terms at)).1 source ((bounds c).releases source n e))
 
   no_ack : (c : ℕ) (terms : EndConfig) → terms_at config c ≡ Some terms → (s.link c).e ≡ []
@@ -131,20 +131,18 @@ module _ {w : ℕ} (config : Config) (log : Log w) (mail : AccessMessages w) (re
       go (Some terms) at = no_ack c terms at
 
 -- A delivery is next exactly while something is outstanding.
-pub next-while-outstanding : {w : ℕ} (config : Config) (log : Log w) (mail : AccessMessages w) (request : ℕ
-    → MessageA w) (s : State (List ℕ)) (matched : SimulationRelation config log mail request s
-    (system_after config log))
-    → IsCoherent (system_after config log) log (one_memory_after config log) → 0 < config.trackers
-    → ((c : ℕ) (terms : EndConfig) (ch : Channel) (x : Beat w) (rest : List (Beat w)) → terms_at config c ≡ Some terms
-    → (system_after config log).channels c ch ≡ x ∷ rest
-    → IsFirst config terms c ch x (system_after config log))
-    → IsWidth w → AreCounted config log s
+pub next-while-outstanding : {w : ℕ} {config : Config} {log : Log w} {mail : AccessMessages w} {request : ℕ
+    → MessageA w} {s : State (List ℕ)} (matched : SimulationRelation config log mail request s
+    (system_after config log)) → IsCoherent (system_after config log) log (one_memory_after config log)
+    → 0 < config.trackers → ((c : ℕ) (terms : EndConfig) (ch : Channel) (x : Beat w) (rest : List (Beat w))
+    → terms_at config c ≡ Some terms → (system_after config log).channels c ch ≡ x ∷ rest
+    → IsFirst config terms c ch x (system_after config log)) → IsWidth w → AreCounted config log s
     → is_none (next_delivery config (system_after config log)) ≡ (outstanding log == 0)
-next-while-outstanding {w} config log mail request s matched coherent trackers firsts width counted =
+next-while-outstanding {w} {config} {log} {mail} {request} {s} matched coherent trackers firsts width counted =
     go (next_delivery config (system_after config log)) refl (outstanding log == 0) refl
   where
     sum : outstanding log ≡ open_requests config s + open_releases config s
-    sum = outstanding-open config log s counted
+    sum = outstanding-open counted
 
     zero_is : (n : ℕ) → n ≡ 0 → (n == 0) ≡ true
     zero_is n e = rw e refl
@@ -153,7 +151,7 @@ next-while-outstanding {w} config log mail request s matched coherent trackers f
         → (outstanding log == 0) ≡ b → is_none o ≡ b
     go None e false f =
         let bare = bare-when-standing config log mail request s matched coherent trackers firsts e width in
-        let none = none-counted config s (closed-when-standing config log mail request s matched coherent trackers
+        let none = none-counted config (closed-when-standing config log mail request s matched coherent trackers
         firsts width e) bare.silent.e in
         absurd (let yes = zero_is (outstanding log) (sum ∙ none) in let both : true ≡ false = sym yes ∙ f in cc)
     go (Some d) e true f =

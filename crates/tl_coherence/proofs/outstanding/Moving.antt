@@ -34,9 +34,8 @@ found_first n s ss e = rw (e, same_number n) refl
 
 none_served : {w : ℕ} (ss : List (manager.Service w)) → ((n : ℕ) → service_of_block n ss ≡ None) → ss ≡ []
 none_served [] none = refl
-none_served (s ∷ ss) none =
-    absurd (let both : Some s ≡ None = sym (found_first (block_at s.request.address) s ss refl) ∙ none
-    (block_at s.request.address) in cc)
+none_served (s ∷ ss) none = absurd (let both : Some s ≡ None = sym (found_first (block_at s.request.address) s ss refl)
+    ∙ none (block_at s.request.address) in cc)
 
 few_test : (n : ℕ) → 0 < n → nat_le n 0 ≡ false
 few_test n lt = grind (arith, nat_tests, lt)
@@ -172,7 +171,7 @@ module _ {w : ℕ} (config : Config) (log : Log w) (mail : AccessMessages w) (re
       none_in_service : services (system_after config log).manager.trace ≡ []
       none_in_service = none_served (services (system_after config log).manager.trace) (λ n.
           matched.managed.serving_is n ∙ ap (λ (x : Service). service_with (client_in x) (s.block n).tracker
-          (request n)) (free-when_silent _ s n matched.invariant silent))
+          (request n)) (free-when_silent n matched.invariant silent))
 
       empty_a : (c : ℕ) (terms : EndConfig) → terms_at config c ≡ Some terms
           → (system_after config log).channels c Channel.A ≡ []

@@ -65,8 +65,7 @@ module _ {X : Type 0} (config : Config) (s : State X) where
       }
 
   release-asked : (c n source : ℕ) (r : Prune) → c < clients_in config → source < sources_in config c
-      → s.lets c source ≡ None
-      → IsBalance config s (release_asked c n source r s) false false true false
+      → s.lets c source ≡ None → IsBalance config s (release_asked c n source r s) false false true false
   release-asked c n source r few lt free =
       let l = marked-set is_let (clients_in config) (sources_in config) c source (Some n) s.lets few lt in
       let was : one_if (is_let (s.lets c source)) ≡ 0 = ap (λ (x : Option ℕ). one_if (is_let x)) free in
@@ -128,24 +127,20 @@ module _ {w : ℕ} (config : Config) (c : ℕ) (h : AbstractState w) where
       done-opens (Op.AcquireWhole n bytes) free may =
           acquire-asked config h.state c n (source_or_0 (free_request terms e.past)) true _ bytes few
           (own_source _ (least_free-some (λ s. pending (RequestSource s) e.past) 0 terms.sources free.b1).1) may.1
-      done-opens (Op.Release n r) free may =
-          release-asked config h.state c n (source_or_0 (free_release terms e.past)) r few
-          (own_source _ (least_free-some (λ s. pending (ReleaseSource s) e.past) 0 terms.sources free.b1).1) may.1
+      done-opens (Op.Release n r) free may = release-asked config h.state c n (source_or_0 (free_release terms e.past))
+          r few (own_source _ (least_free-some (λ s. pending (ReleaseSource s) e.past) 0 terms.sources free.b1).1) may.1
       done-opens (Op.Access (Message.A m)) free may =
           access-asked config h.state c (source_or_0 (free_request terms e.past)) few
           (own_source _ (least_free-some (λ s. pending (RequestSource s) e.past) 0 terms.sources free.b1).1) may
       done-opens o free may = record { requests = refl; releases = refl }
 
 -- What is open after a client is asked.
-pub balance-asked : {w : ℕ} (config : Config) (log : Log w) (h : AbstractState w) (sys : System w) (terms : EndConfig)
-    (c : ℕ) (o : Op w)
-    → SimulationRelation config log h.mail h.request h.state sys → terms_at config c ≡ Some terms
-    → c < clients_in config
-    → IsBalance config h.state (asked c o (ask.asked terms o (sys.clients c)).reply h).state
+pub balance-asked : {w : ℕ} {config : Config} {log : Log w} (h : AbstractState w) {sys : System w} (terms : EndConfig)
+    (c : ℕ) (o : Op w) → SimulationRelation config log h.mail h.request h.state sys → terms_at config c ≡ Some terms
+    → c < clients_in config → IsBalance config h.state (asked c o (ask.asked terms o (sys.clients c)).reply h).state
     (starts_request (Ask c o) (Outcome.Replied (ask.asked terms o (sys.clients c)).reply)) false
     (starts_release (Ask c o) (Outcome.Replied (ask.asked terms o (sys.clients c)).reply)) false
-balance-asked {w} config log h sys terms c o is at few =
+balance-asked {w} {config} {log} h {sys} terms c o is at few =
     asked-cases terms o (sys.clients c) (λ (x : ask.Asked w). IsAskable (is_caching config) c o x.reply h
     → IsOpenAfter config c h o x.reply) (λ b may. busy-opens config c h o b)
-    (λ free may. done-opens config c h terms (sys.clients c) at few o free may)
-    (askable config log h.mail h.request h.state sys terms c o is at)
+    (λ free may. done-opens config c h terms (sys.clients c) at few o free may) (askable terms c o is at)

@@ -5,7 +5,7 @@ use Rattle.tl_coherence.proofs.outstanding.Imports.{Message, MessageA, Config, b
 use Rattle.tl_coherence.proofs.outstanding.Imports.{is_let, State, SourceState, SourceFree, Asked, Acquires, packet}
 use Rattle.tl_coherence.proofs.outstanding.Imports.{System, Request, Acquire, Release, ReleaseAck, Packet, one_if}
 use Rattle.tl_coherence.proofs.outstanding.Imports.{SimulationRelation, is_caching}
-use Rattle.std.proofs.Common.{◌≡◌, subst, ℕ, suc, ◌+◌, ◌<◌, Bool, true, false, not, ◌&&◌, List, [], ◌∷◌, ◌++◌, length}
+use Rattle.std.proofs.Common.{◌≡◌, subst, ℕ, suc, ◌<◌, Bool, true, false, not, ◌&&◌, List, [], ◌∷◌, ◌++◌, length}
 use Rattle.std.proofs.Common.{refl, sym, ◌∙◌, ap, arith, Option, Some, None}
 use Rattle.std.{specs.Prelude.◌==◌, specs.Prelude.if◌then◌else◌, proofs.lemmas.List.length-append}
 use Rattle.tl_params.{specs.declared.param.Cap.Cap, specs.declared.param.Prune.Prune}
@@ -70,23 +70,20 @@ module _ {X : Type 0} (config : Config) (s : State X) where
 
   access-answered : (c n source : ℕ) (f : X → X) (rest : List Packet) → s.uses c source ≡ Asked
       → IsBalance config s (access_answered c n source f rest s) false false false false
-  access-answered c n source f rest used =
-      balance-same config s (access_answered c n source f rest s)
+  access-answered c n source f rest used = balance-same config s (access_answered c n source f rest s)
       (set_at-part is_used c source Replied s.uses (sym (ap is_used used))) (λ d i. refl)
       (set_e c (answered_link (packet Answer source) rest (s.link c)) s.link refl)
 
   access-served : (c n source tracker : ℕ) (k : Cap) (rest : List Packet) → s.uses c source ≡ Asked
       → IsBalance config s (access_served c n source tracker k rest s) false false false false
-  access-served c n source tracker k rest used =
-      balance-same config s (access_served c n source tracker k rest s)
+  access-served c n source tracker k rest used = balance-same config s (access_served c n source tracker k rest s)
       (set_at-part is_used c source (InService n) s.uses (sym (ap is_used used))) (λ d i. refl)
       (served_e c false n k rest (s.block n) s.link)
 
   acquire-granted : (c n tracker : ℕ) (d : Bool) (k : Cap) (rest : List Packet)
       → IsBalance config s (acquire_granted c n tracker d k rest s) false false false false
   acquire-granted c n tracker d k rest = balance-same config s (acquire_granted c n tracker d k rest s) (λ i j. refl)
-      (λ i j. refl)
-      (set_e c (answered_link (packet Grant n) rest (s.link c)) s.link refl)
+      (λ i j. refl) (set_e c (answered_link (packet Grant n) rest (s.link c)) s.link refl)
 
   acquire-served : (c n source tracker : ℕ) (k : Cap) (rest : List Packet)
       → IsBalance config s (acquire_served c n source tracker k rest s) false false false false
@@ -105,8 +102,7 @@ module _ {X : Type 0} (config : Config) (s : State X) where
 
   report-answers : (c q n source : ℕ) (r : Report) (f : X → X) (rest : List Packet) → s.uses q source ≡ InService n
       → IsBalance config s (report_answers c q n source r f rest s) false false false false
-  report-answers c q n source r f rest used =
-      balance-same config s (report_answers c q n source r f rest s)
+  report-answers c q n source r f rest used = balance-same config s (report_answers c q n source r f rest s)
       (set_at-part is_used q source Replied s.uses (sym (ap is_used used))) (λ d i. refl)
       (ended_e c q (packet Answer source) rest s.link)
 
@@ -123,8 +119,7 @@ module _ {X : Type 0} (config : Config) (s : State X) where
   -- ---- events that end something
 
   answer-taken : (c source : ℕ) (rest : List Packet) → c < clients_in config → source < sources_in config c
-      → s.uses c source ≡ Replied
-      → IsBalance config s (answer_taken c source rest s) false true false false
+      → s.uses c source ≡ Replied → IsBalance config s (answer_taken c source rest s) false true false false
   answer-taken c source rest few lt used =
       let u = marked-set is_used (clients_in config) (sources_in config) c source SourceFree s.uses few lt in
       let was : one_if (is_used (s.uses c source)) ≡ 1 = ap (λ (x : SourceState). one_if (is_used x)) used in
@@ -242,9 +237,8 @@ module _ {w : ℕ} (config : Config) (h : AbstractState w) where
       b : Block (List ℕ)
       b = h.state.block n
 
-      go : (x : Bool) → IsBalance config h.state
-          (if x then acquire_served c n (b.source c) tracker (cap_asked (AcquireOpen whole g)) rest h.state else
-          acquire_granted c n tracker
+      go : (x : Bool) → IsBalance config h.state (if x then acquire_served c n (b.source c) tracker
+          (cap_asked (AcquireOpen whole g)) rest h.state else acquire_granted c n tracker
           (is_granted_data whole g (b.pair c).recorded) (gift p whole g (is_unheld clients b.pair)) rest h.state) false
           false false false
       go true = acquire-served config h.state c n (b.source c) tracker (cap_asked (AcquireOpen whole g)) rest
@@ -278,38 +272,37 @@ module _ {w : ℕ} (config : Config) (h : AbstractState w) where
       go false = last-kind caching clients p c n r (h.state.block n).service rest inv refl
 
 -- What is open, after the first token of a channel of a client's link is taken.
-pub balance-kind : {w : ℕ} (config : Config) (log : Log w) (tracker c : ℕ) (k : Kind) (i : ℕ) (rest : List Packet)
-    (h : AbstractState w) (sys : System w)
+pub balance-kind : {w : ℕ} {config : Config} {log : Log w} (tracker : ℕ) {c : ℕ} (k : Kind) (i : ℕ) (rest : List Packet)
+    (h : AbstractState w) {sys : System w}
     → SimulationRelation config log h.mail h.request h.state sys → c < clients_in config
     → AreBounded c (sources_in config c) config.trackers h.state → on k (h.state.link c) ≡ packet k i ∷ rest
     → IsBalance config h.state (kind_taken config tracker c k i rest h).state false (is_ending k) false
     (is_letting_go k)
-balance-kind {w} config log tracker c Request i rest h sys is few own first =
-    let asked = asked-first config log h.mail h.request h.state sys c i rest is first in
+balance-kind {w} {config} {log} tracker {c} Request i rest h {sys} is few own first =
+    let asked = asked-first c i rest is first in
     subst (λ (m : Message w). IsBalance config h.state (request_taken (clients_in config) c i m tracker rest h).state
     false false false false) (sym asked.is_it)
     (request-kind config h (clients_in config) c i tracker asked.request rest asked.used)
-balance-kind config log tracker c Acquire n rest h sys is few own first =
+balance-kind {config} tracker {c} Acquire n rest h is few own first =
     acquire-kind config h (clients_in config) config.profile c n tracker ((h.state.block n).pair c).acquiring rest
-balance-kind config log tracker c Probe n rest h sys is few own first = probe-taken config h.state c n _ rest
-balance-kind config log tracker c ProbeAck n rest h sys is few own first =
+balance-kind {config} tracker {c} Probe n rest h is few own first = probe-taken config h.state c n _ rest
+balance-kind {config} tracker {c} ProbeAck n rest h is few own first =
     ack-kind config h (is_caching config) (clients_in config) config.profile c n
     (report_told ((h.state.block n).pair c).probing) rest is.invariant
-balance-kind config log tracker c Release n rest h sys is few own first = release-taken config h.state c n _ rest
-balance-kind config log tracker c Answer source rest h sys is few own first =
+balance-kind {config} tracker {c} Release n rest h is few own first = release-taken config h.state c n _ rest
+balance-kind {config} tracker {c} Answer source rest h is few own first =
     let due = answer-due (is_caching config) c source rest h.mail h.state is.invariant (is.answered c source) first in
     answer-taken config h.state c source rest few
     (own.requests source (λ closed. absurd (let both : Replied ≡ SourceFree = sym due.used ∙ closed in cc)))
     due.used
-balance-kind config log tracker c Grant n rest h sys is few own first =
+balance-kind {config} tracker {c} Grant n rest h is few own first =
     let due = grant-due (is_caching config) c n rest h.state is.invariant first in
     subst (λ (v : Service). IsBalance config h.state (taken_by_client c n v rest h).state false false false false)
     (sym due.service)
     (grant-taken config h.state c n (is_whole ((h.state.block n).pair c).acquiring) due.data_too due.k rest few
     (own.requests ((h.state.block n).source c) (λ closed. absurd (let both : Acquires n ≡ SourceFree =
     sym due.used ∙ closed in cc))) due.used)
-balance-kind config log tracker c ReleaseAck n rest h sys is few own first =
-    let let_ = ack-due (is_caching config) c n rest h.state is.invariant first in
+balance-kind {config} tracker {c} ReleaseAck n rest h is few own first =
+    let let_ = ack-due c n rest is.invariant first in
     release-ack-taken config h.state c n rest few (own.releases ((h.state.block n).release_source c) n let_) let_
-balance-kind config log tracker c GrantAck n rest h sys is few own first =
-    grant-ack-taken config h.state c n rest few first
+balance-kind {config} tracker {c} GrantAck n rest h is few own first = grant-ack-taken config h.state c n rest few first

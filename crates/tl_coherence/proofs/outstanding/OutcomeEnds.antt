@@ -96,27 +96,25 @@ probe-ends {w} x e v m of_b answer =
     (ends.0 ∙ ap is_e of_b, ends.1)
 
 -- the first beat of channel B is one of a Probe
-pub first-probe : {w : ℕ} (c : ℕ) (h : AbstractState w) (sys : System w) (x : Beat w) (queue : List (Beat w))
+pub first-probe : {w : ℕ} {c : ℕ} (h : AbstractState w) {sys : System w} {x : Beat w} {queue : List (Beat w)}
     (first : IsFirst Channel.B c h.mail h.state sys x queue)
     → (channel_of x ≡ Channel.B) × ((is_ending first.kind ≡ false) × (is_letting_go first.kind ≡ false))
-first-probe {w} c h sys x queue first = go first.kind first.own first.next
+first-probe {w} {c} h {sys} {x} {queue} first = go first.kind first.own first.next
   where
     go : (k : Kind) → is_on Channel.B k ≡ true → IsNext x (unfinished Channel.B (receiver Channel.B c sys))
-        (message_of_kind k h.mail h.state c first.number)
-        (map (message_of h.mail h.state c) first.rest) queue
+        (message_of_kind k h.mail h.state c first.number) (map (message_of h.mail h.state c) first.rest) queue
         → (channel_of x ≡ Channel.B) × ((is_ending k ≡ false) × (is_letting_go k ≡ false))
     go Probe own next = (
-      ap (λ (z : Beat w). channel_of z) next.beat_is ∙ probe_on_b w c first.number next.k
-          (h.state.block first.number),
+      ap (λ (z : Beat w). channel_of z) next.beat_is
+          ∙ probe_on_b w c first.number next.k (h.state.block first.number),
       (refl, refl),
     )
     go k own next = absurd cc
 
 -- a delivery that moves a beat is one of a client's link, which has that beat
 pub first-moved : {w : ℕ} (config : Config) (link : Link) (ch : Channel) (sys : System w)
-    → is_moving (stepped config (Deliver link ch) sys).outcome ≡ true
-    → (x : Beat w) × (queue : List (Beat w)) × (terms : EndConfig)
-    × ((sys.channels link.0 ch ≡ x ∷ queue) × (terms_at config link.0 ≡ Some terms))
+    → is_moving (stepped config (Deliver link ch) sys).outcome ≡ true → (x : Beat w) × (queue : List (Beat w))
+    × (terms : EndConfig) × ((sys.channels link.0 ch ≡ x ∷ queue) × (terms_at config link.0 ≡ Some terms))
 unfolding stepped
 first-moved {w} config link ch sys moving = go (terms_at config link.0) refl moving
   where
@@ -125,8 +123,7 @@ first-moved {w} config link ch sys moving = go (terms_at config link.0) refl mov
         × ((sys.channels link.0 ch ≡ x ∷ queue) × (terms_at config link.0 ≡ Some terms))
 
     at : (terms : EndConfig) → terms_at config link.0 ≡ Some terms → (beats : List (Beat w))
-        → sys.channels link.0 ch ≡ beats
-        → is_moving (delivered config terms link.0 ch beats sys).outcome ≡ true → First
+        → sys.channels link.0 ch ≡ beats → is_moving (delivered config terms link.0 ch beats sys).outcome ≡ true → First
     at terms e [] f m = absurd cc
     at terms e (x ∷ queue) f m = (x, queue, terms, (f, e))
 

@@ -35,7 +35,7 @@ use Rattle.tl_coherence.proofs.{queues.Codes.access_kind}
 use Rattle.tl_coherence.proofs.protocol.HeadOfD.{answer-due, grant-due, grant_message, ack_message, grant-rendered}
 use Rattle.tl_coherence.proofs.client.DeliverD.{finish_at, answer-last, answer-part, same_answers, acked}
 use Rattle.tl_coherence.proofs.deliveries.DeliverDAfter.{followed-moving, followed-still}
-use Rattle.tl_coherence.proofs.deliveries.ManagersAfter.{IsAtManager, at-manager}
+use Rattle.tl_coherence.proofs.deliveries.ManagersAfter.{at-manager}
 use Rattle.tl_coherence.proofs.protocol.OpenCounts.{clients_in, sources_in, IsBalance}
 use Rattle.tl_coherence.proofs.outstanding.OpenKinds.{is_ending, is_letting_go, balance-kind}
 use Rattle.tl_coherence.proofs.outstanding.OutcomeEnds.{Ends, still-ends, is_e, moved-ends, finish-ends, manager-kind}
@@ -67,14 +67,12 @@ module _ {w : ℕ} (config : Config) (log : Log w) (h : AbstractState w) (width 
 
   -- the last beat of a message, or another one
   counted-either : (link : Link) (ch : Channel) (o : Outcome w) (tracker : ℕ) (k : Kind) (i : ℕ) (rest : List Packet)
-      (b : Bool) → link.0 < clients_in config
-      → on k (h.state.link link.0) ≡ packet k i ∷ rest
+      (b : Bool) → link.0 < clients_in config → on k (h.state.link link.0) ≡ packet k i ∷ rest
       → (b ≡ true → Ends o (is_ending k) (is_letting_go k)) → (b ≡ false → Ends o false false)
       → IsCounted (Deliver link ch) o (if b then kind_taken config tracker link.0 k i rest h else h)
   counted-either link ch o tracker k i rest true few first last part =
-      counted-as link ch o (kind_taken config tracker link.0 k i rest h) (is_ending k)
-      (is_letting_go k) (last refl) (balance-kind config log tracker link.0 k i rest h (system_after config log) matched
-      few (bounds link.0) first)
+      counted-as link ch o (kind_taken config tracker link.0 k i rest h) (is_ending k) (is_letting_go k) (last refl)
+      (balance-kind tracker k i rest h matched few (bounds link.0) first)
   counted-either link ch o tracker k i rest false few first last part =
       counted-as link ch o h false false (part refl) unopened
 
@@ -95,13 +93,12 @@ module _ {w : ℕ} (config : Config) (log : Log w) (h : AbstractState w) (width 
   part_apart ch c x queue first part = refl
 
   counted-manager : (link : Link) (ch : Channel) (terms : EndConfig) (x : Beat w) (queue : List (Beat w))
-      → terms_at config link.0 ≡ Some terms
-      → is_to_client ch ≡ false → (system_after config log).channels link.0 ch ≡ x ∷ queue
-      → is_moving (stepped config (Deliver link ch) (system_after config log)).outcome ≡ true
+      → terms_at config link.0 ≡ Some terms → is_to_client ch ≡ false → (system_after config log).channels link.0 ch
+      ≡ x ∷ queue → is_moving (stepped config (Deliver link ch) (system_after config log)).outcome ≡ true
       → IsCounted (Deliver link ch) (stepped config (Deliver link ch) (system_after config log)).outcome
       (abstract_step config (Deliver link ch) (system_after config log) h)
   counted-manager link ch terms x queue known down beats moving =
-      let at = at-manager config log link ch h terms x queue width matched known down beats moving in
+      let at = at-manager link ch h terms x queue width matched known down beats moving in
       let ends : Ends (Outcome.Moved x) (is_e ch) false = subst (λ (i : Channel). Ends (Outcome.Moved x) (is_e i) false)
       at.of_it (moved-ends x) in
       let kinds = manager-kind ch at.first.kind down at.first.own in
@@ -126,9 +123,8 @@ module _ {w : ℕ} (config : Config) (log : Log w) (h : AbstractState w) (width 
       → (first : IsFirst ch link.0 h.mail h.state (system_after config log) x queue)
       → IsTakenByClient terms link.0 ch x queue (system_after config log)
       (stepped config (Deliver link ch) (system_after config log))
-      → ((v : Verdict) (m : Option (Message w)) → (offer.taken x ((system_after config log).clients link.0)).answer ≡ Ok
-      (v, m)
-      → (completes x (unfinished ch (receiver ch link.0 (system_after config log))) ≡ true
+      → ((v : Verdict) (m : Option (Message w)) → (offer.taken x ((system_after config log).clients link.0)).answer
+      ≡ Ok (v, m) → (completes x (unfinished ch (receiver ch link.0 (system_after config log))) ≡ true
       → Ends (outcome_of x v) (is_ending first.kind) (is_letting_go first.kind))
       × (completes x (unfinished ch (receiver ch link.0 (system_after config log))) ≡ false
       → Ends (outcome_of x v) false false))
@@ -159,7 +155,7 @@ module _ {w : ℕ} (config : Config) (log : Log w) (h : AbstractState w) (width 
   counted-b link terms x queue known beats moving =
       let first = first-token (is_caching config) Channel.B link.0 h.mail h.state (system_after config log) x queue
       width matched.invariant matched.carried beats in
-      let probe = first-probe link.0 h (system_after config log) x queue first in
+      let probe = first-probe h first in
       counted-client link Channel.B terms x queue known beats moving first
       (client-moves config link Channel.B (system_after config log) terms x queue known beats refl moving)
       (λ v m answer.
@@ -169,9 +165,8 @@ module _ {w : ℕ} (config : Config) (log : Log w) (h : AbstractState w) (width 
   -- a response, by the opcode of its message
   response-ends : (c : ℕ) (k : Kind) (mm : MessageD w) (i : ℕ) (x : Beat w) → x ≡ Beat.D (d_beat_of mm i)
       → is_access_answer mm.opcode ≡ is_ending k → is_release_ack mm.opcode ≡ is_letting_go k
-      → (v : Verdict) (m : Option (Message w)) → (offer.taken x ((system_after config log).clients c)).answer ≡ Ok
-      (v, m)
-      → (completes x (unfinished Channel.D ((system_after config log).clients c).past) ≡ true
+      → (v : Verdict) (m : Option (Message w)) → (offer.taken x ((system_after config log).clients c)).answer
+      ≡ Ok (v, m) → (completes x (unfinished Channel.D ((system_after config log).clients c).past) ≡ true
       → Ends (outcome_of x v) (is_ending k) (is_letting_go k))
       × (completes x (unfinished Channel.D ((system_after config log).clients c).past) ≡ false
       → Ends (outcome_of x v) false false)
@@ -209,8 +204,7 @@ module _ {w : ℕ} (config : Config) (log : Log w) (h : AbstractState w) (width 
       → is_moving (stepped config (Deliver link Channel.D) (system_after config log)).outcome ≡ true
       → IsCounted (Deliver link Channel.D) (stepped config (Deliver link Channel.D) (system_after config log)).outcome
       (abstract_step config (Deliver link Channel.D) (system_after config log) h)
-  counted-d link terms x queue known beats moving =
-      counted-client link Channel.D terms x queue known beats moving first
+  counted-d link terms x queue known beats moving = counted-client link Channel.D terms x queue known beats moving first
       (client-moves config link Channel.D (system_after config log) terms x queue known beats refl moving)
       (kinds first.kind first.tokens first.own first.next)
     where
@@ -223,8 +217,7 @@ module _ {w : ℕ} (config : Config) (log : Log w) (h : AbstractState w) (width 
 
       Here : Kind → Type 0
       Here k = (v : Verdict) (m : Option (Message w)) → (offer.taken x ((system_after config log).clients c)).answer
-          ≡ Ok (v, m)
-          → (completes x (unfinished Channel.D ((system_after config log).clients c).past) ≡ true
+          ≡ Ok (v, m) → (completes x (unfinished Channel.D ((system_after config log).clients c).past) ≡ true
           → Ends (outcome_of x v) (is_ending k) (is_letting_go k))
           × (completes x (unfinished Channel.D ((system_after config log).clients c).past) ≡ false
           → Ends (outcome_of x v) false false)
@@ -288,5 +281,4 @@ module _ {w : ℕ} (config : Config) (log : Log w) (h : AbstractState w) (width 
           (abstract_step_by config (Ask c o) (stepped_at config t (Ask c o) (system_after config log)).outcome
           (system_after config log) h)
       go None e = record { requests = refl; releases = refl }
-      go (Some terms) e = balance-asked config log h (system_after config log) terms c o matched e
-          (client_below config c terms e)
+      go (Some terms) e = balance-asked h terms c o matched e (client_below config c terms e)

@@ -22,7 +22,7 @@ counted config [] width typed is = counted-first config
 counted {w} config (x ∷ log) width typed is =
     subst (λ (o : Outcome w). AreCounted config ((x.0, o) ∷ log) (abstract_step config x.0 (system_after config log)
     (shadow config log)).state) (sym is.0)
-    (counted-next config log (shadow config log) x.0 width (matched config log width typed.1 is.1)
+    (counted-next (shadow config log) x.0 width (matched config log width typed.1 is.1)
     (counted config log width typed.1 is.1))
 
 -- a configuration without a fault has a tracker
@@ -31,16 +31,12 @@ some_tracker n e = grind (arith, nat_tests, e)
 
 tracked : (config : Config) → config_fault config ≡ None → 0 < config.trackers
 tracked config e = some_tracker config.trackers (limits-fit (is_from_to 1 16 (length config.clients.items))
-    (blocks_fit config.blocks)
-    (trackers_fit config.trackers) (all_sources_fit config.clients.items) e).2
+    (blocks_fit config.blocks) (trackers_fit config.trackers) (all_sources_fit config.clients.items) e).2
 
 -- a delivery is next exactly while something is outstanding
 pub moving : {w : ℕ} (config : Config) (log : Log w) → IsGiven config log
     → is_none (next_delivery config (system_after config log)) ≡ (outstanding log == 0)
-moving config log given =
-    next-while-outstanding config log (shadow config log).mail (shadow config log).request (shadow config log).state
-    (matched-given config log given)
-    (coherent config log given) (tracked config given.fits)
-    (λ c terms ch x rest at beats. first-of config log (shadow config log) c terms ch x rest given.width
-    (matched-given config log given) at beats) given.width
+moving config log given = next-while-outstanding (matched-given config log given) (coherent config log given)
+    (tracked config given.fits) (λ c terms ch x rest at beats. first-of config log (shadow config log) c terms ch x rest
+    given.width (matched-given config log given) at beats) given.width
     (counted config log given.width given.typed given.is_log)

@@ -9,7 +9,7 @@ use Rattle.tl_coherence.proofs.protocol.Imports.{Pushes, Pops, AreMoved, agrees,
 use Rattle.tl_coherence.proofs.protocol.Imports.{is_of, acquires_of, serves_of, acquires_with, serves_with}
 use Rattle.tl_coherence.proofs.protocol.Imports.{releases_with, tracks_with, IsWell, IsInvariant}
 use Rattle.std.proofs.Common.{◌≡◌, refl, sym, ◌∙◌, ap, inl, inr}
-use Rattle.std.specs.Prelude.{ℕ, Bool, true, false, not, List, ◌∷◌, ◌==◌, ◌&&◌, Some, None}
+use Rattle.std.specs.Prelude.{ℕ, Bool, true, false, not, List, ◌∷◌, ◌==◌, ◌&&◌, None}
 use Rattle.std.{proofs.lemmas.Bool.cases_eq, proofs.lemmas.Bool.ne_eqb, proofs.Math.Bool.and-false}
 use Rattle.tl_coherence.specs.protocol.PhaseSteps.{after_release_ack}
 use Rattle.tl_coherence.specs.protocol.Protocol.{let_go_block, release_ack_taken, freed_block, grant_ack_taken}
@@ -23,9 +23,9 @@ use Rattle.tl_coherence.proofs.protocol.Blocks.{outside-set, busy-inside}
 
 -- ---- a ReleaseAck
 
-pub let_go-block : {X : Type 0} (caching : ℕ → Bool) (c : ℕ) (b : Block X) → IsWell caching b
+pub let_go-block : {X : Type 0} {caching : ℕ → Bool} (c : ℕ) {b : Block X} → IsWell caching b
     → (b.pair c).letting ≡ ReleaseAcked → IsWell caching (let_go_block c b)
-let_go-block caching c b h acked =
+let_go-block {caching} c {b} h acked =
     let after : ClientBlock = after_release_ack (b.pair c) in
     let held_same = set-part (λ (p : ClientBlock). p.held) c after b.pair refl in
     let recorded_same = set-part (λ (p : ClientBlock). p.recorded) c after b.pair refl in
@@ -40,8 +40,8 @@ let_go-block caching c b h acked =
       asked_cap = asked_cap-same b.service b.pair (set c after b.pair)
           (set-part (λ (p : ClientBlock). p.acquiring) c after b.pair refl) h.asked_cap;
       own_source = h.own_source;
-      alone = alone-set c after b.pair (gentle-same (b.pair c) after refl refl) h.alone;
-      one_owner = owned-set c after b.pair (gentle-same (b.pair c) after refl refl) h.one_owner;
+      alone = alone-set c b.pair (gentle-same (b.pair c) after refl refl) h.alone;
+      one_owner = owned-set c b.pair (gentle-same (b.pair c) after refl refl) h.one_owner;
       outside = outside-set caching c after b.pair (busy-inside caching c b.pair (λ p. is_acked p.letting) refl
           (rw acked refl) h.outside) h.outside;
       copies = λ d some. h.copies d (rw (held_same d) at some);
@@ -63,10 +63,10 @@ let_go_shows n ReleaseAck p v t e = rw (same_number n) refl
 let_go_shows n GrantAck p v t e = same_again (is_acknowledging v)
 let_go_shows n k p v t e = absurd cc
 
-pub release_ack_taken-kept : {X : Type 0} (caching : ℕ → Bool) (c n : ℕ) (rest : List Packet) (s : State X)
+pub release_ack_taken-kept : {X : Type 0} {caching : ℕ → Bool} (c n : ℕ) (rest : List Packet) {s : State X}
     → IsInvariant caching s → (s.link c).d ≡ packet ReleaseAck n ∷ rest
     → ((s.block n).pair c).letting ≡ ReleaseAcked → IsInvariant caching (release_ack_taken c n rest s)
-release_ack_taken-kept {X} caching c n rest s inv first acked =
+release_ack_taken-kept {X} {caching} c n rest {s} inv first acked =
     let old : ℕ → ClientBlock = (s.block n).pair in
     let after : ClientBlock = after_release_ack (old c) in
     let new : Block X = let_go_block c (s.block n) in
@@ -74,8 +74,8 @@ release_ack_taken-kept {X} caching c n rest s inv first acked =
     let used = is_of-is n (s.lets c source) (inv.named.releases c source n ∙ rw (acked, same_number source) refl) in
     invariant-moved caching n new (set c here s.link) (moves_at c (let_go_moves n)) (set_at c source None s.lets)
     s.tracked s inv
-    (event-at caching c n new here (let_go_moves n) s (record {
-      well = let_go-block caching c (s.block n) (inv.blocks n) acked;
+    (event-at (record {
+      well = let_go-block c (inv.blocks n) acked;
       moved = moved;
       own = own;
       fits = λ k t. rw (set-same c after old) (let_go_shows n k (old c) (view (s.block n).service c) t acked);
@@ -109,9 +109,9 @@ release_ack_taken-kept {X} caching c n rest s inv first acked =
 
 -- ---- a GrantAck
 
-pub freed-block : {X : Type 0} (caching : ℕ → Bool) (c : ℕ) (b : Block X) → IsWell caching b → b.service ≡ GrantTaken c
+pub freed-block : {X : Type 0} {caching : ℕ → Bool} (c : ℕ) {b : Block X} → IsWell caching b → b.service ≡ GrantTaken c
     → IsWell caching (freed_block b)
-freed-block caching c b h taken = record {
+freed-block c {b} h taken = record {
   phases = λ d. elim (cases_eq d c) [
     | inl same ↦ rw same (ack_taken-ok (b.pair c) (view b.service c) (h.phases c) (rw (taken, same_number c) refl))
     | inr other ↦ ack_taken_other-ok (b.pair d) (view b.service d) (h.phases d) (rw (taken, ne_eqb d c other) refl)
@@ -149,17 +149,16 @@ freed_beside : (k : Kind) (p : ClientBlock) → shows k p Idle ≡ shows k p Gra
 freed_beside Request p = refl
 freed_beside k p = refl
 
-pub grant_ack_taken-kept : {X : Type 0} (caching : ℕ → Bool) (c n : ℕ) (rest : List Packet) (s : State X)
-    → IsInvariant caching s → (s.link c).e ≡ packet GrantAck n ∷ rest
-    → (s.block n).service ≡ GrantTaken c
+pub grant_ack_taken-kept : {X : Type 0} {caching : ℕ → Bool} (c n : ℕ) (rest : List Packet) {s : State X}
+    → IsInvariant caching s → (s.link c).e ≡ packet GrantAck n ∷ rest → (s.block n).service ≡ GrantTaken c
     → IsInvariant caching (grant_ack_taken c n rest s)
-grant_ack_taken-kept {X} caching c n rest s inv first taken =
+grant_ack_taken-kept {X} {caching} c n rest {s} inv first taken =
     let new : Block X = freed_block (s.block n) in
     let used = is_of-is n (s.tracked tracker) (inv.named.trackers tracker n ∙ rw (taken, same_number tracker) refl) in
     invariant-moved caching n new (set c here s.link) (moves_at c (freed_moves n)) s.lets (set tracker None s.tracked) s
     inv
-    (event-at caching c n new here (freed_moves n) s (record {
-      well = freed-block caching c (s.block n) (inv.blocks n) taken;
+    (event-at (record {
+      well = freed-block c (inv.blocks n) taken;
       moved = moved;
       own = own;
       fits = λ k t. rw (taken, same_number c) (freed_shows n k ((s.block n).pair c) t);

@@ -97,8 +97,7 @@ alike-reported c r b i = go (cases_eq i c)
 pub alike-ended : (c q source : ℕ) (r : Report) (k : Cap) (f : List ℕ → List ℕ) (b : Block (List ℕ))
     → b.service ≡ Waits q false source k
     → ((j : Kind) (i : ℕ) → shown j i b ≡ true → shown j i (ended_block c r f b) ≡ true → (carries j i b ≡ false)
-    ⊎ (f b.truth ≡ b.truth))
-    → (i : ℕ) → AreAlike i b (ended_block c r f b)
+    ⊎ (f b.truth ≡ b.truth)) → (i : ℕ) → AreAlike i b (ended_block c r f b)
 alike-ended c q source r k f b waits bytes i = go (cases_eq i c)
   where
     after : ClientBlock
@@ -131,8 +130,7 @@ alike-ended c q source r k f b waits bytes i = go (cases_eq i c)
     go at _ e g = (tt, inl refl)
 
 pub alike-granted : (c q source : ℕ) (r : Report) (own d : Bool) (k gift : Cap) (b : Block (List ℕ))
-    → b.service ≡ Waits q own source k → (c ≡ q → ⊥) → (i : ℕ)
-    → AreAlike i b (granted_block c q r d gift b)
+    → b.service ≡ Waits q own source k → (c ≡ q → ⊥) → (i : ℕ) → AreAlike i b (granted_block c q r d gift b)
 alike-granted c q source r own d k gift b waits apart i = go (cases_eq i c)
   where
     reported : ℕ → ClientBlock
@@ -236,8 +234,7 @@ alike-let_go c b i = go (cases_eq i c)
 
 pub alike-taken : (c : ℕ) (whole d : Bool) (k : Cap) (b : Block (List ℕ)) → b.service ≡ GrantSent c d k
     → ((j : Kind) (i : ℕ) → shown j i b ≡ true → shown j i (taken_block c whole d k b) ≡ true → (carries j i b ≡ false)
-    ⊎ ((taken_block c whole d k b).truth ≡ b.truth))
-    → (i : ℕ) → AreAlike i b (taken_block c whole d k b)
+    ⊎ ((taken_block c whole d k b).truth ≡ b.truth)) → (i : ℕ) → AreAlike i b (taken_block c whole d k b)
 alike-taken c whole d k b sent bytes i = go (cases_eq i c)
   where
     after : ClientBlock

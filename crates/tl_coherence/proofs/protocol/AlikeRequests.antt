@@ -47,8 +47,7 @@ taken_ungranted q i = go (i == q)
     go false = refl
 
 pub ungranted : (v : Service) (i : ℕ) (u : Service) → v ≡ u → is_granting (view u i) ≡ false
-    → is_granting (view v i) ≡ true
-    → ⊥
+    → is_granting (view v i) ≡ true → ⊥
 ungranted v i u e f g = let h : is_granting (view u i) ≡ true = rw e at g in let k : false ≡ true = sym f ∙ h in cc
 
 pub unacknowledged : (v : Service) (i : ℕ) (u : Service) → v ≡ u → is_acknowledging (view u i) ≡ false
@@ -62,10 +61,10 @@ pair_at c p f = set-same c p f
 
 -- ---- a client is asked
 
-pub alike-acquiring : (caching : ℕ → Bool) (c source : ℕ) (whole : Bool) (g : Grow) (bytes : List ℕ)
-    (b : Block (List ℕ)) → IsWell caching b → (b.pair c).acquiring ≡ NoAcquire → (i : ℕ)
+pub alike-acquiring : {caching : ℕ → Bool} (c source : ℕ) (whole : Bool) (g : Grow) (bytes : List ℕ)
+    {b : Block (List ℕ)} → IsWell caching b → (b.pair c).acquiring ≡ NoAcquire → (i : ℕ)
     → AreAlike i b (acquiring_block c source whole g bytes b)
-alike-acquiring caching c source whole g bytes b well calm i = elim (cases_eq i c) [
+alike-acquiring c source whole g bytes {b} well calm i = elim (cases_eq i c) [
   | inl same ↦ rw same (here)
   | inr other ↦ there other
 ]
@@ -206,10 +205,9 @@ unanswered : (x : ProbePhase) → is_unprobed x ≡ true → is_answered x ≡ t
 unanswered NoProbe e f = cc
 unanswered x e f = cc
 
-pub alike-served : (caching : ℕ → Bool) (r : ℕ) (own : Bool) (source tracker : ℕ) (k : Cap) (b : Block (List ℕ))
-    → IsWell caching b → b.service ≡ Free → (i : ℕ)
-    → AreAlike i b (served_block r own source tracker k b)
-alike-served caching r own source tracker k b well free i = go
+pub alike-served : {caching : ℕ → Bool} (r : ℕ) (own : Bool) (source tracker : ℕ) (k : Cap) {b : Block (List ℕ)}
+    → IsWell caching b → b.service ≡ Free → (i : ℕ) → AreAlike i b (served_block r own source tracker k b)
+alike-served r own source tracker k {b} well free i = go
   where
     quiet : is_unprobed (b.pair i).probing ≡ true
     quiet = quiet_at_rest (b.pair i) (view b.service i) (well.phases i) (rw free refl)

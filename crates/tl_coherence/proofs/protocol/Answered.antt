@@ -1,13 +1,13 @@
 -- An access that is answered as it is taken, and an answer that is taken, keep the invariant.
-use Rattle.tl_coherence.proofs.protocol.Imports.{Channel, same_perm, Kind, Request, ProbeAck, Answer, Packet, set}
-use Rattle.tl_coherence.proofs.protocol.Imports.{Block, State, Link, SourceFree, Asked, Replied, view, packet, shown}
+use Rattle.tl_coherence.proofs.protocol.Imports.{Channel, same_perm, Kind, Request, ProbeAck, Answer, Packet}
+use Rattle.tl_coherence.proofs.protocol.Imports.{Block, State, Link, Asked, Replied, view, packet, shown}
 use Rattle.tl_coherence.proofs.protocol.Imports.{is_transfer, Move, Stays, Pushes, Pops, AreMoved, is_own_move}
 use Rattle.tl_coherence.proofs.protocol.Imports.{channel_for, is_of, acquires_of, serves_of, acquires_with, serves_with}
 use Rattle.tl_coherence.proofs.protocol.Imports.{releases_with, tracks_with, IsWell, IsInvariant, Perm}
 use Rattle.std.proofs.Common.{◌≡◌, refl, sym, ◌∙◌, ap, ◌⊎◌, inl, inr}
 use Rattle.std.specs.Prelude.{ℕ, Bool, true, false, List, ◌∷◌}
 use Rattle.tl_coherence.specs.protocol.Protocol.{performed_block, answered_link, access_answered, answer_taken}
-use Rattle.tl_coherence.proofs.queues.Moves.{moves_at, event-at, bare-elsewhere, invariant-moved_access, names-block}
+use Rattle.tl_coherence.proofs.queues.Moves.{event-at, bare-elsewhere, invariant-moved_access, names-block}
 use Rattle.tl_coherence.proofs.queues.Moves.{names-set_at, invariant-moved_use}
 use Rattle.tl_coherence.proofs.{queues.KindMoves.spares, queues.KindMoves.spared-agrees, queues.Tokens.same_number}
 use Rattle.tl_coherence.proofs.{queues.Facts.held_at_most, queues.Perms.nothing_below}
@@ -18,9 +18,9 @@ use Rattle.tl_coherence.proofs.{queues.Facts.held_at_most, queues.Perms.nothing_
 abbrev pub Spares : {X : Type 0} → (X → X) → Block X → Type 0
 Spares f b = (f b.truth ≡ b.truth) ⊎ ((d : ℕ) → same_perm (b.pair d).recorded Perm.None ≡ true)
 
-pub performed-block : {X : Type 0} (caching : ℕ → Bool) (f : X → X) (b : Block X) → IsWell caching b → Spares f b
+pub performed-block : {X : Type 0} {caching : ℕ → Bool} (f : X → X) {b : Block X} → IsWell caching b → Spares f b
     → IsWell caching (performed_block f b)
-performed-block {X} caching f b h spared = record {
+performed-block {X} f {b} h spared = record {
   phases = h.phases;
   awaited = h.awaited;
   asked_cap = h.asked_cap;
@@ -52,16 +52,15 @@ answer_spared source Request t = absurd cc
 answer_spared source Answer t = absurd cc
 answer_spared source k t = refl
 
-pub access_answered-kept : {X : Type 0} (caching : ℕ → Bool) (c n source : ℕ) (f : X → X) (rest : List Packet)
-    (s : State X) → IsInvariant caching s → (s.link c).a ≡ packet Request source ∷ rest
-    → s.uses c source ≡ Asked
+pub access_answered-kept : {X : Type 0} {caching : ℕ → Bool} (c n source : ℕ) (f : X → X) (rest : List Packet)
+    {s : State X} → IsInvariant caching s → (s.link c).a ≡ packet Request source ∷ rest → s.uses c source ≡ Asked
     → Spares f (s.block n) → IsInvariant caching (access_answered c n source f rest s)
-access_answered-kept {X} caching c n source f rest s inv first asked spared =
+access_answered-kept {X} {caching} c n source f rest {s} inv first asked spared =
     let new : Block X = performed_block f (s.block n) in
-    invariant-moved_use caching n new (set c here s.link) (moves_at c (answer_moves source)) c source Replied s.tracked
-    s inv
-    (event-at caching c n new here (answer_moves source) s (record {
-      well = performed-block caching f (s.block n) (inv.blocks n) spared;
+    invariant-moved_use c source Replied s.tracked
+    inv
+    (event-at (record {
+      well = performed-block f (inv.blocks n) spared;
       moved = moved;
       own = own;
       fits = λ k t. spared-agrees (answer_moves source (channel_for k)) k n (shown k c (s.block n))
@@ -103,12 +102,11 @@ done_spared source Request t = absurd cc
 done_spared source Answer t = absurd cc
 done_spared source k t = refl
 
-pub answer_taken-kept : {X : Type 0} (caching : ℕ → Bool) (c source : ℕ) (rest : List Packet) (s : State X)
-    → IsInvariant caching s → (s.link c).d ≡ packet Answer source ∷ rest
-    → s.uses c source ≡ Replied
+pub answer_taken-kept : {X : Type 0} {caching : ℕ → Bool} (c source : ℕ) (rest : List Packet) {s : State X}
+    → IsInvariant caching s → (s.link c).d ≡ packet Answer source ∷ rest → s.uses c source ≡ Replied
     → IsInvariant caching (answer_taken c source rest s)
-answer_taken-kept caching c source rest s inv first replied = invariant-moved_access caching c source SourceFree here
-    (done_moves source) s inv (record {
+answer_taken-kept {caching} c source rest {s} inv first replied = invariant-moved_access
+    inv (record {
       moved = moved;
       own = own;
       spared = done_spared source;

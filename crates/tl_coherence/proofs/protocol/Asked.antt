@@ -3,7 +3,7 @@ use Rattle.tl_coherence.proofs.protocol.Imports.{Channel, Grow, Prune, Perm, pru
 use Rattle.tl_coherence.proofs.protocol.Imports.{Own, NoRelease, NoAcquire, AcquireOpen, is_unacquired, is_unprobed}
 use Rattle.tl_coherence.proofs.protocol.Imports.{Kind, Request, Acquire, Probe, ProbeAck, Release, Answer, Grant}
 use Rattle.tl_coherence.proofs.protocol.Imports.{ReleaseAck, GrantAck, set, set_at, Block, State, Link, SourceFree}
-use Rattle.tl_coherence.proofs.protocol.Imports.{Asked, Acquires, view, packet, shows, shown, is_transfer, is_wanting}
+use Rattle.tl_coherence.proofs.protocol.Imports.{Acquires, view, packet, shows, shown, is_transfer, is_wanting}
 use Rattle.tl_coherence.proofs.protocol.Imports.{is_unserved, is_sent, is_answered, is_releasing, is_acked, is_granting}
 use Rattle.tl_coherence.proofs.protocol.Imports.{is_acknowledging, Move, Stays, Pushes, AreMoved, agrees, is_own_move}
 use Rattle.tl_coherence.proofs.protocol.Imports.{channel_for, is_out, is_of, acquires_of, serves_of, acquires_with}
@@ -27,11 +27,11 @@ use Rattle.tl_coherence.proofs.queues.Tokens.{same_number, set-same, set-other, 
 
 -- ---- blocks
 
-pub acquiring-block : {X : Type 0} (caching : ℕ → Bool) (c source : ℕ) (whole : Bool) (g : Grow) (bytes : X)
-    (b : Block X) → IsWell caching b → caching c ≡ true → (b.pair c).acquiring ≡ NoAcquire
+pub acquiring-block : {X : Type 0} {caching : ℕ → Bool} (c source : ℕ) (whole : Bool) (g : Grow) (bytes : X)
+    {b : Block X} → IsWell caching b → caching c ≡ true → (b.pair c).acquiring ≡ NoAcquire
     → (b.pair c).letting ≡ NoRelease
     → grow_fits (b.pair c).held (AcquireOpen whole g) ≡ true → IsWell caching (acquiring_block c source whole g bytes b)
-acquiring-block caching c source whole g bytes b h inside calm kept fits =
+acquiring-block {caching} c source whole g bytes {b} h inside calm kept fits =
     let after : ClientBlock = after_acquire whole g (b.pair c) in
     let held_same = set-part (λ (p : ClientBlock). p.held) c after b.pair refl in
     let recorded_same = set-part (λ (p : ClientBlock). p.recorded) c after b.pair refl in
@@ -45,8 +45,8 @@ acquiring-block caching c source whole g bytes b h inside calm kept fits =
           (set-part (λ (p : ClientBlock). is_unprobed p.probing) c after b.pair refl) h.awaited;
       asked_cap = asked_cap-other b.service c after b.pair (λ e. not_own e) h.asked_cap;
       own_source = own_source-other b.service c source b.source (λ e. not_own e) h.own_source;
-      alone = alone-set c after b.pair (gentle-same (b.pair c) after refl refl) h.alone;
-      one_owner = owned-set c after b.pair (gentle-same (b.pair c) after refl refl) h.one_owner;
+      alone = alone-set c b.pair (gentle-same (b.pair c) after refl refl) h.alone;
+      one_owner = owned-set c b.pair (gentle-same (b.pair c) after refl refl) h.one_owner;
       outside = outside-set caching c after b.pair (λ e. absurd (let f : true ≡ false = sym inside ∙ e in cc))
           h.outside;
       copies = λ d some. h.copies d (rw (held_same d) at some);
@@ -65,10 +65,10 @@ left_some Prune.BtoN Perm.None e = absurd cc
 left_some r Perm.Branch e = refl
 left_some r Perm.Trunk e = refl
 
-pub releasing-block : {X : Type 0} (caching : ℕ → Bool) (c source : ℕ) (r : Prune) (b : Block X) → IsWell caching b
+pub releasing-block : {X : Type 0} {caching : ℕ → Bool} (c source : ℕ) (r : Prune) {b : Block X} → IsWell caching b
     → caching c ≡ true → (b.pair c).acquiring ≡ NoAcquire → (b.pair c).letting ≡ NoRelease
     → same_perm (b.pair c).held (prune_left r) ≡ true → IsWell caching (releasing_block c source r b)
-releasing-block caching c source r b h inside calm kept fits =
+releasing-block {caching} c source r {b} h inside calm kept fits =
     let after : ClientBlock = after_release r (b.pair c) in
     let recorded_same = set-part (λ (p : ClientBlock). p.recorded) c after b.pair refl in
     record {
@@ -82,8 +82,8 @@ releasing-block caching c source r b h inside calm kept fits =
       asked_cap = asked_cap-same b.service b.pair (set c after b.pair)
           (set-part (λ (p : ClientBlock). p.acquiring) c after b.pair refl) h.asked_cap;
       own_source = h.own_source;
-      alone = alone-set c after b.pair (gentle-same (b.pair c) after refl refl) h.alone;
-      one_owner = owned-set c after b.pair (gentle-same (b.pair c) after refl refl) h.one_owner;
+      alone = alone-set c b.pair (gentle-same (b.pair c) after refl refl) h.alone;
+      one_owner = owned-set c b.pair (gentle-same (b.pair c) after refl refl) h.one_owner;
       outside = outside-set caching c after b.pair (λ e. absurd (let f : true ≡ false = sym inside ∙ e in cc))
           h.outside;
       copies = λ d some. elim (cases_eq d c) [
@@ -127,10 +127,10 @@ access_spared source Request t = absurd cc
 access_spared source Answer t = absurd cc
 access_spared source k t = refl
 
-pub access_asked-kept : {X : Type 0} (caching : ℕ → Bool) (c source : ℕ) (s : State X) → IsInvariant caching s
+pub access_asked-kept : {X : Type 0} {caching : ℕ → Bool} (c source : ℕ) {s : State X} → IsInvariant caching s
     → s.uses c source ≡ SourceFree → IsInvariant caching (access_asked c source s)
-access_asked-kept caching c source s inv closed =
-    invariant-moved_access caching c source Asked (with_a (packet Request source) (s.link c)) (access_moves source) s
+access_asked-kept {caching} c source {s} inv closed =
+    invariant-moved_access
     inv (record {
       moved = moved;
       own = own;
@@ -168,19 +168,19 @@ acquire_shows n ReleaseAck whole g p v t calm out = same_again (is_acked p.letti
 acquire_shows n GrantAck whole g p v t calm out = same_again (is_acknowledging v)
 acquire_shows n k whole g p v t calm out = absurd cc
 
-pub acquire_asked-kept : {X : Type 0} (caching : ℕ → Bool) (c n source : ℕ) (whole : Bool) (g : Grow) (bytes : X)
-    (s : State X) → IsInvariant caching s → caching c ≡ true → s.uses c source ≡ SourceFree
+pub acquire_asked-kept : {X : Type 0} {caching : ℕ → Bool} (c n source : ℕ) (whole : Bool) (g : Grow) (bytes : X)
+    {s : State X} → IsInvariant caching s → caching c ≡ true → s.uses c source ≡ SourceFree
     → ((s.block n).pair c).acquiring ≡ NoAcquire → ((s.block n).pair c).letting ≡ NoRelease
     → grow_fits ((s.block n).pair c).held (AcquireOpen whole g) ≡ true
     → IsInvariant caching (acquire_asked c n source whole g bytes s)
-acquire_asked-kept {X} caching c n source whole g bytes s inv inside closed calm kept fits =
+acquire_asked-kept {X} {caching} c n source whole g bytes {s} inv inside closed calm kept fits =
     let old : ℕ → ClientBlock = (s.block n).pair in
     let after : ClientBlock = after_acquire whole g (old c) in
     let new : Block X = acquiring_block c source whole g bytes (s.block n) in
-    invariant-moved_use caching n new (set c here s.link) (moves_at c (acquire_moves n)) c source (Acquires n) s.tracked
-    s inv
-    (event-at caching c n new here (acquire_moves n) s (record {
-      well = acquiring-block caching c source whole g bytes (s.block n) (inv.blocks n) inside calm kept fits;
+    invariant-moved_use c source (Acquires n) s.tracked
+    inv
+    (event-at (record {
+      well = acquiring-block c source whole g bytes (inv.blocks n) inside calm kept fits;
       moved = moved;
       own = own;
       fits = λ k t. rw (set-same c after old) (acquire_shows n k whole g (old c) (view (s.block n).service c) t calm
@@ -233,18 +233,18 @@ release_shows n ReleaseAck r p v t kept = rw kept refl
 release_shows n GrantAck r p v t kept = same_again (is_acknowledging v)
 release_shows n k r p v t kept = absurd cc
 
-pub release_asked-kept : {X : Type 0} (caching : ℕ → Bool) (c n source : ℕ) (r : Prune) (s : State X)
+pub release_asked-kept : {X : Type 0} {caching : ℕ → Bool} (c n source : ℕ) (r : Prune) {s : State X}
     → IsInvariant caching s → caching c ≡ true → s.lets c source ≡ None
     → ((s.block n).pair c).acquiring ≡ NoAcquire → ((s.block n).pair c).letting ≡ NoRelease
     → same_perm ((s.block n).pair c).held (prune_left r) ≡ true → IsInvariant caching (release_asked c n source r s)
-release_asked-kept {X} caching c n source r s inv inside closed calm kept fits =
+release_asked-kept {X} {caching} c n source r {s} inv inside closed calm kept fits =
     let old : ℕ → ClientBlock = (s.block n).pair in
     let after : ClientBlock = after_release r (old c) in
     let new : Block X = releasing_block c source r (s.block n) in
     invariant-moved caching n new (set c here s.link) (moves_at c (release_moves n)) (set_at c source (Some n) s.lets)
     s.tracked s inv
-    (event-at caching c n new here (release_moves n) s (record {
-      well = releasing-block caching c source r (s.block n) (inv.blocks n) inside calm kept fits;
+    (event-at (record {
+      well = releasing-block c source r (inv.blocks n) inside calm kept fits;
       moved = moved;
       own = own;
       fits = λ k t. rw (set-same c after old) (release_shows n k r (old c) (view (s.block n).service c) t kept);
@@ -281,8 +281,7 @@ release_asked-kept {X} caching c n source r s inv inside closed calm kept fits =
 
 -- a store
 pub block_stored-kept : {X : Type 0} (caching : ℕ → Bool) (c n : ℕ) (bytes : X) (s : State X) → IsInvariant caching s
-    → same_perm ((s.block n).pair c).held Perm.Trunk ≡ true
-    → IsInvariant caching (block_stored c n bytes s)
+    → same_perm ((s.block n).pair c).held Perm.Trunk ≡ true → IsInvariant caching (block_stored c n bytes s)
 block_stored-kept {X} caching c n bytes s inv may =
     let new : Block X = stored_block c bytes (s.block n) in
     invariant-moved caching n new s.link (λ d ch. Stays) s.lets s.tracked s inv (record {

@@ -29,10 +29,11 @@ pub record IsGrantable {X : Type 0} (r : ℕ) (whole : Bool) (g : Grow) (gift : 
   pub low : (d : ℕ) → (d ≡ r → ⊥) → same_perm (b.pair d).recorded Perm.Trunk ≡ false
   pub room : same_cap gift Cap.ToT ≡ true → (d : ℕ) → (d ≡ r → ⊥) → same_perm (b.pair d).recorded Perm.None ≡ true
 
-pub granted_at_once-block : {X : Type 0} (caching : ℕ → Bool) (r tracker : ℕ) (whole : Bool) (g : Grow) (gift : Cap)
-    (b : Block X) → IsWell caching b → IsGrantable r whole g gift b
+pub granted_at_once-block : {X : Type 0} {caching : ℕ → Bool} {r : ℕ} (tracker : ℕ) {whole : Bool} {g : Grow}
+    {gift : Cap}
+    {b : Block X} → IsWell caching b → IsGrantable r whole g gift b
     → IsWell caching (granted_at_once r tracker (is_granted_data whole g (b.pair r).recorded) gift b)
-granted_at_once-block caching r tracker whole g gift b h is =
+granted_at_once-block {caching} {r} tracker {whole} {g} {gift} {b} h is =
     let quiet : (d : ℕ) → is_unprobed (b.pair d).probing ≡ true =
     λ d. quiet_at_rest (b.pair d) (view b.service d) (h.phases d) (idle d) in
     let quiet_same = set-part (λ (p : ClientBlock). is_unprobed p.probing) r after b.pair refl in
@@ -49,7 +50,8 @@ granted_at_once-block caching r tracker whole g gift b h is =
       own_source = tt;
       alone = λ i j trunk probed ne. rw (quiet_same j) (quiet j);
       one_owner = λ i j trunk ne. owner (gives whole g gift is.fits) i j trunk ne;
-      outside = outside-set caching r after b.pair (busy-inside caching r b.pair (λ p. not (is_unacquired p.acquiring)) refl
+      outside = outside-set caching r after b.pair (busy-inside caching r b.pair (λ p. not (is_unacquired p.acquiring))
+          refl
           (rw is.wants refl) h.outside) h.outside;
       copies = λ d some. h.copies d (rw (held_same d) at some);
       memory = λ none. h.memory (λ d. not_out (b.pair d) (view b.service d) (low d (cases_eq d r)));
@@ -108,9 +110,8 @@ once_moves n Channel.D = Pushes Grant n
 once_moves n _ = Stays
 
 once_shows : (n : ℕ) (k : Kind) (p : ClientBlock) (d : Bool) (gift : Cap) → is_transfer k ≡ true
-    → is_wanting p.acquiring ≡ true
-    → agrees (once_moves n (channel_for k)) k n (shows k p Idle) (shows k (after_grant_sent gift p) (Granting d gift))
-    ≡ true
+    → is_wanting p.acquiring ≡ true → agrees (once_moves n (channel_for k)) k n (shows k p Idle)
+    (shows k (after_grant_sent gift p) (Granting d gift)) ≡ true
 once_shows n Acquire p d gift t e = rw (e, same_number n) refl
 once_shows n Probe p d gift t e = same_again (is_sent p.probing)
 once_shows n ProbeAck p d gift t e = same_again (is_answered p.probing)
@@ -124,21 +125,20 @@ beside_shows : (k : Kind) (p : ClientBlock) → shows k p GrantedOther ≡ shows
 beside_shows Request p = refl
 beside_shows k p = refl
 
-pub acquire_granted-kept : {X : Type 0} (caching : ℕ → Bool) (r n tracker : ℕ) (whole : Bool) (g : Grow) (gift : Cap)
-    (rest : List Packet) (s : State X) → IsInvariant caching s
-    → (s.link r).a ≡ packet Acquire n ∷ rest
+pub acquire_granted-kept : {X : Type 0} {caching : ℕ → Bool} {r : ℕ} (n tracker : ℕ) {whole : Bool} {g : Grow}
+    {gift : Cap} (rest : List Packet) {s : State X} → IsInvariant caching s → (s.link r).a ≡ packet Acquire n ∷ rest
     → IsGrantable r whole g gift (s.block n) → s.tracked tracker ≡ None
     → IsInvariant caching (acquire_granted r n tracker (is_granted_data whole g ((s.block n).pair r).recorded) gift rest
     s)
-acquire_granted-kept {X} caching r n tracker whole g gift rest s inv first is unused =
+acquire_granted-kept {X} {caching} {r} n tracker {whole} {g} {gift} rest {s} inv first is unused =
     let with_data : Bool = is_granted_data whole g ((s.block n).pair r).recorded in
     let old : ℕ → ClientBlock = (s.block n).pair in
     let after : ClientBlock = after_grant_sent gift (old r) in
     let new : Block X = granted_at_once r tracker with_data gift (s.block n) in
     invariant-moved caching n new (set r here s.link) (moves_at r (once_moves n)) s.lets
     (set tracker (Some n) s.tracked) s inv
-    (event-at caching r n new here (once_moves n) s (record {
-      well = granted_at_once-block caching r tracker whole g gift (s.block n) (inv.blocks n) is;
+    (event-at (record {
+      well = granted_at_once-block tracker (inv.blocks n) is;
       moved = moved;
       own = own;
       fits = λ k t. rw (is.free, set-same r after old, same_number r)

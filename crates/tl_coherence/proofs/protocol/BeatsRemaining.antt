@@ -94,10 +94,10 @@ own_kind k = refl
 module _ {w : ℕ} (caching : ℕ → Bool) (n : ℕ) (moves : ℕ → Channel → Move) (mail mail' : AccessMessages w)
     (s s' : State (List ℕ)) (showing : IsShowing caching n moves mail mail' s s') where
   shows_before : (d : ℕ) (k : Kind) (m : ℕ) → IsHere s d k m → shows_it s d k m ≡ true
-  shows_before d k m there = shown_there caching s d (channel_for k) k m showing.before (own_kind k) there
+  shows_before d k m there = shown_there d (channel_for k) k m showing.before (own_kind k) there
 
   shows_after : (d : ℕ) (k : Kind) (m : ℕ) → IsHere s' d k m → shows_it s' d k m ≡ true
-  shows_after d k m there = shown_there caching s' d (channel_for k) k m showing.after (own_kind k) there
+  shows_after d k m there = shown_there d (channel_for k) k m showing.after (own_kind k) there
 
   transfer_same : (d : ℕ) (k : Kind) (m : ℕ) → is_transfer k ≡ true → shown k d (s.block m) ≡ true
       → shown k d (s'.block m) ≡ true → block_message {w = w} k d m (s'.block m) ≡ block_message k d m (s.block m)
@@ -149,7 +149,5 @@ module _ {w : ℕ} (caching : ℕ → Bool) (n : ℕ) (moves : ℕ → Channel �
           (rest d (channel_for k)) (is_front k m (packets_on (channel_for k) (s.link d)))
       go (inr ne) at = apart (λ e f. ne e)
       go (inl e) (inr ne) = apart (λ g f. ne f)
-      go (inl e) (inl f) =
-          taken-none k m popped.first _ _ (rest d (channel_for k)) (rest' d (channel_for k)) (rw (e, f) popped.tokens)
-          (rw (e, f) popped.none)
-          (once caching s d (channel_for k) showing.before k m) after
+      go (inl e) (inl f) = taken-none k m popped.first _ _ (rest d (channel_for k)) (rest' d (channel_for k))
+          (rw (e, f) popped.tokens) (rw (e, f) popped.none) (once caching s d (channel_for k) showing.before k m) after

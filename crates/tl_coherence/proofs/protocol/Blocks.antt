@@ -56,43 +56,43 @@ pub gentle-same : (p q : ClientBlock) → q.recorded ≡ p.recorded → is_unpro
     → IsGentle p q
 gentle-same p q e f = record { trunk = λ h. rw e at h; none = λ h. rw e h; quiet = λ h. rw f h }
 
-trunk_at : (c i : ℕ) (q : ClientBlock) (pair : ℕ → ClientBlock) → IsGentle (pair c) q
+trunk_at : (c i : ℕ) {q : ClientBlock} (pair : ℕ → ClientBlock) → IsGentle (pair c) q
     → same_perm (set c q pair i).recorded Perm.Trunk ≡ true → same_perm (pair i).recorded Perm.Trunk ≡ true
-trunk_at c i q pair g e = elim (cases_eq i c) [
+trunk_at c i {q} pair g e = elim (cases_eq i c) [
   | inl same ↦ rw same (g.trunk (rw (same, set-same c q pair) at e))
   | inr other ↦ rw (set-other c i q pair other) at e
 ]
 
-none_at : (c i : ℕ) (q : ClientBlock) (pair : ℕ → ClientBlock) → IsGentle (pair c) q
+none_at : (c i : ℕ) {q : ClientBlock} (pair : ℕ → ClientBlock) → IsGentle (pair c) q
     → same_perm (pair i).recorded Perm.None ≡ true → same_perm (set c q pair i).recorded Perm.None ≡ true
-none_at c i q pair g e = elim (cases_eq i c) [
+none_at c i {q} pair g e = elim (cases_eq i c) [
   | inl same ↦ rw (same, set-same c q pair) (g.none (rw same at e))
   | inr other ↦ rw (set-other c i q pair other) e
 ]
 
-quiet_at : (c i : ℕ) (q : ClientBlock) (pair : ℕ → ClientBlock) → IsGentle (pair c) q
+quiet_at : (c i : ℕ) {q : ClientBlock} (pair : ℕ → ClientBlock) → IsGentle (pair c) q
     → is_unprobed (pair i).probing ≡ true → is_unprobed (set c q pair i).probing ≡ true
-quiet_at c i q pair g e = elim (cases_eq i c) [
+quiet_at c i {q} pair g e = elim (cases_eq i c) [
   | inl same ↦ rw (same, set-same c q pair) (g.quiet (rw same at e))
   | inr other ↦ rw (set-other c i q pair other) e
 ]
 
-probed_at : (c i : ℕ) (q : ClientBlock) (pair : ℕ → ClientBlock) → IsGentle (pair c) q
+probed_at : (c i : ℕ) {q : ClientBlock} (pair : ℕ → ClientBlock) → IsGentle (pair c) q
     → is_unprobed (set c q pair i).probing ≡ false → is_unprobed (pair i).probing ≡ false
-probed_at c i q pair g e = go (is_unprobed (pair i).probing) refl
+probed_at c i {q} pair g e = go (is_unprobed (pair i).probing) refl
   where
     go : (b : Bool) → is_unprobed (pair i).probing ≡ b → b ≡ false
-    go true f = let now : is_unprobed (set c q pair i).probing ≡ true = quiet_at c i q pair g f in absurd cc
+    go true f = let now : is_unprobed (set c q pair i).probing ≡ true = quiet_at c i pair g f in absurd cc
     go false f = refl
 
-pub alone-set : (c : ℕ) (q : ClientBlock) (pair : ℕ → ClientBlock) → IsGentle (pair c) q → IsAlone pair
+pub alone-set : (c : ℕ) {q : ClientBlock} (pair : ℕ → ClientBlock) → IsGentle (pair c) q → IsAlone pair
     → IsAlone (set c q pair)
-alone-set c q pair g h i j trunk probed ne =
-    quiet_at c j q pair g (h i j (trunk_at c i q pair g trunk) (probed_at c i q pair g probed) ne)
+alone-set c {q} pair g h i j trunk probed ne =
+    quiet_at c j pair g (h i j (trunk_at c i pair g trunk) (probed_at c i pair g probed) ne)
 
-pub owned-set : (c : ℕ) (q : ClientBlock) (pair : ℕ → ClientBlock) → IsGentle (pair c) q → IsOwned pair
+pub owned-set : (c : ℕ) {q : ClientBlock} (pair : ℕ → ClientBlock) → IsGentle (pair c) q → IsOwned pair
     → IsOwned (set c q pair)
-owned-set c q pair g h i j trunk ne = none_at c j q pair g (h i j (trunk_at c i q pair g trunk) ne)
+owned-set c {q} pair g h i j trunk ne = none_at c j pair g (h i j (trunk_at c i pair g trunk) ne)
 
 -- ---- who has nothing to do with it
 

@@ -24,21 +24,20 @@ module _ {X : Type 0} (caching : ℕ → Bool) (s : State X) (c n : ℕ) (inv : 
   answer_named e = is_replied-is (s.uses c n) e
 
   pub acquire_named : shown Acquire c (s.block n) ≡ true → s.uses c ((s.block n).source c) ≡ Acquires n
-  acquire_named e = source_of_acquire caching s c n inv (and_parts _ _ e).0
+  acquire_named e = source_of_acquire c n inv (and_parts _ _ e).0
 
   pub grant_named : shown Grant c (s.block n) ≡ true → s.uses c ((s.block n).source c) ≡ Acquires n
-  grant_named e = source_of_acquire caching s c n inv (grants_ask ((s.block n).pair c) (view (s.block n).service c)
+  grant_named e = source_of_acquire c n inv (grants_ask ((s.block n).pair c) (view (s.block n).service c)
       ((inv.blocks n).phases c) e)
 
   pub release_named : shown Release c (s.block n) ≡ true → s.lets c ((s.block n).release_source c) ≡ Some n
-  release_named e = source_of_release caching s c n inv (releasing-open ((s.block n).pair c).letting e)
+  release_named e = source_of_release c n inv (releasing-open ((s.block n).pair c).letting e)
 
   pub release_ack_named : shown ReleaseAck c (s.block n) ≡ true → s.lets c ((s.block n).release_source c) ≡ Some n
-  release_ack_named e = source_of_release caching s c n inv (acked-open ((s.block n).pair c).letting e)
+  release_ack_named e = source_of_release c n inv (acked-open ((s.block n).pair c).letting e)
 
   tracked_probing : is_unprobed ((s.block n).pair c).probing ≡ false → s.tracked (s.block n).tracker ≡ Some n
-  tracked_probing e =
-      tracker_of_service caching s n inv
+  tracked_probing e = tracker_of_service n inv
       (busy_unless_idle (s.block n).service c (probes_serve ((s.block n).pair c) (view (s.block n).service c)
       ((inv.blocks n).phases c) e))
 
@@ -49,7 +48,7 @@ module _ {X : Type 0} (caching : ℕ → Bool) (s : State X) (c n : ℕ) (inv : 
   report_named e = tracked_probing (not-answered ((s.block n).pair c).probing e)
 
   pub grant_ack_named : shown GrantAck c (s.block n) ≡ true → s.tracked (s.block n).tracker ≡ Some n
-  grant_ack_named e = tracker_of_service caching s n inv
+  grant_ack_named e = tracker_of_service n inv
       (busy_unless_idle (s.block n).service c (go (view (s.block n).service c) e))
     where
       go : (v : View) → is_acknowledging v ≡ true → is_idle v ≡ false
@@ -87,14 +86,14 @@ module _ {X : Type 0} (caching : ℕ → Bool) (s : State X) (c sources trackers
       go : (k : Kind) → x.kind ≡ k → is_on Channel.A k ≡ true
           → (asked_by (name s c k x.number) (s.uses c (name s c k x.number)) ≡ Some x) × (name s c k x.number < sources)
       go Request e on_it =
-          let used = request_named caching s c x.number inv (shown_there caching s c Channel.A Request x.number inv refl
+          let used = request_named caching s c x.number inv (shown_there c Channel.A Request x.number inv refl
           (rw e at there)) in (
             rw used (ap (λ (y : Packet). Some y) (token-is x Request e)),
             used_below bounds x.number Asked used
                 (λ h. absurd cc),
           )
       go Acquire e on_it =
-          let used = acquire_named caching s c x.number inv (shown_there caching s c Channel.A Acquire x.number inv refl
+          let used = acquire_named caching s c x.number inv (shown_there c Channel.A Acquire x.number inv refl
           (rw e at there)) in (
             rw used (ap (λ (y : Packet). Some y) (token-is x Acquire e)),
             used_below bounds ((s.block x.number).source c)
@@ -118,14 +117,14 @@ module _ {X : Type 0} (caching : ℕ → Bool) (s : State X) (c sources trackers
           → (answered_by (name s c k x.number) (s.uses c (name s c k x.number)) ≡ Some x)
           × (name s c k x.number < sources)
       go Answer e on_it pass =
-          let used = answer_named caching s c x.number inv (shown_there caching s c Channel.D Answer x.number inv refl
+          let used = answer_named caching s c x.number inv (shown_there c Channel.D Answer x.number inv refl
           (rw e at there)) in (
             rw used (ap (λ (y : Packet). Some y) (token-is x Answer e)),
             used_below bounds x.number Replied used
                 (λ h. absurd cc),
           )
       go Grant e on_it pass =
-          let used = grant_named caching s c x.number inv (shown_there caching s c Channel.D Grant x.number inv refl
+          let used = grant_named caching s c x.number inv (shown_there c Channel.D Grant x.number inv refl
           (rw e at there)) in (
             rw used (ap (λ (y : Packet). Some y) (token-is x Grant e)),
             used_below bounds ((s.block x.number).source c)
@@ -138,11 +137,11 @@ module _ {X : Type 0} (caching : ℕ → Bool) (s : State X) (c sources trackers
       → IsThere x (packets_on ch (s.link c)) → is_of_release k ≡ true
       → (of_block k (s.lets c (name s c k x.number)) ≡ Some x) × (name s c k x.number < sources)
   released_token ch x Release e on_it there which =
-      let let_by = release_named caching s c x.number inv (shown_there caching s c ch Release x.number inv on_it
+      let let_by = release_named caching s c x.number inv (shown_there c ch Release x.number inv on_it
       (rw e at there)) in
       (rw let_by (ap (λ (y : Packet). Some y) (token-is x Release e)), bounds.releases _ x.number let_by)
   released_token ch x ReleaseAck e on_it there which =
-      let let_by = release_ack_named caching s c x.number inv (shown_there caching s c ch ReleaseAck x.number inv on_it
+      let let_by = release_ack_named caching s c x.number inv (shown_there c ch ReleaseAck x.number inv on_it
       (rw e at there)) in
       (rw let_by (ap (λ (y : Packet). Some y) (token-is x ReleaseAck e)), bounds.releases _ x.number let_by)
   released_token ch x k e on_it there which = absurd cc
@@ -159,15 +158,15 @@ module _ {X : Type 0} (caching : ℕ → Bool) (s : State X) (c sources trackers
       → IsThere x (packets_on ch (s.link c)) → is_tracked k ≡ true
       → (of_block k (s.tracked (name s c k x.number)) ≡ Some x) × (name s c k x.number < trackers)
   tracked_token ch x Probe e on_it there which =
-      let by = probe_named caching s c x.number inv (shown_there caching s c ch Probe x.number inv on_it
+      let by = probe_named caching s c x.number inv (shown_there c ch Probe x.number inv on_it
       (rw e at there)) in
       (rw by (ap (λ (y : Packet). Some y) (token-is x Probe e)), bounds.tracked _ x.number by)
   tracked_token ch x ProbeAck e on_it there which =
-      let by = report_named caching s c x.number inv (shown_there caching s c ch ProbeAck x.number inv on_it
+      let by = report_named caching s c x.number inv (shown_there c ch ProbeAck x.number inv on_it
       (rw e at there)) in
       (rw by (ap (λ (y : Packet). Some y) (token-is x ProbeAck e)), bounds.tracked _ x.number by)
   tracked_token ch x GrantAck e on_it there which =
-      let by = grant_ack_named caching s c x.number inv (shown_there caching s c ch GrantAck x.number inv on_it
+      let by = grant_ack_named caching s c x.number inv (shown_there c ch GrantAck x.number inv on_it
       (rw e at there)) in
       (rw by (ap (λ (y : Packet). Some y) (token-is x GrantAck e)), bounds.tracked _ x.number by)
   tracked_token ch x k e on_it there which = absurd cc
@@ -233,13 +232,11 @@ module _ {X : Type 0} (caching : ℕ → Bool) (s : State X) (c sources trackers
       omega (arith, pass-or-not (λ x. same_kind x.kind Release) (s.link c).c, releases, reports)
 
   pub few_acks_on_d : passing (λ x. same_kind x.kind ReleaseAck) (s.link c).d ≤ sources
-  few_acks_on_d =
-      few (λ x. same_kind x.kind ReleaseAck) (λ x. name s c x.kind x.number) (λ i. of_block ReleaseAck (s.lets c i))
-      sources (s.link c).d (once caching s c Channel.D inv)
+  few_acks_on_d = few (λ x. same_kind x.kind ReleaseAck) (λ x. name s c x.kind x.number)
+      (λ i. of_block ReleaseAck (s.lets c i)) sources (s.link c).d (once caching s c Channel.D inv)
       (λ x there pass. released_there Channel.D ReleaseAck x refl refl there (kind_is x.kind ReleaseAck pass))
 
   pub few_responses_on_d : passing (λ x. not (same_kind x.kind ReleaseAck)) (s.link c).d ≤ sources
-  few_responses_on_d =
-      few (λ x. not (same_kind x.kind ReleaseAck)) (λ x. name s c x.kind x.number) (λ i. answered_by i (s.uses c i))
-      sources (s.link c).d (once caching s c Channel.D inv)
+  few_responses_on_d = few (λ x. not (same_kind x.kind ReleaseAck)) (λ x. name s c x.kind x.number)
+      (λ i. answered_by i (s.uses c i)) sources (s.link c).d (once caching s c Channel.D inv)
       (λ x there pass. answered_token x there pass)

@@ -31,16 +31,15 @@ pub record IsLastOf {X : Type 0} (c q : ℕ) (r : Report) (f : X → X) (source 
   pub settled : (d : ℕ) → (d ≡ c → ⊥) → is_unprobed (b.pair d).probing ≡ true
   pub spares : (f b.truth ≡ b.truth) ⊎ (k ≡ Cap.ToN)
 
-pub ended-block : {X : Type 0} (caching : ℕ → Bool) (c q : ℕ) (r : Report) (f : X → X) (source : ℕ) (k : Cap)
-    (b : Block X) → IsWell caching b → IsLastOf c q r f source k b
-    → IsWell caching (ended_block c r f b)
-ended-block {X} caching c q r f source k b h last = record {
+pub ended-block : {X : Type 0} {caching : ℕ → Bool} {c q : ℕ} {r : Report} {f : X → X} {source : ℕ} {k : Cap}
+    {b : Block X} → IsWell caching b → IsLastOf c q r f source k b → IsWell caching (ended_block c r f b)
+ended-block {X} {caching} {c} {r} {f} {k} {b} h last = record {
   phases = phase;
   awaited = tt;
   asked_cap = tt;
   own_source = tt;
-  alone = alone-set c after b.pair (gentle-report r (b.pair c) begins) h.alone;
-  one_owner = owned-set c after b.pair (gentle-report r (b.pair c) begins) h.one_owner;
+  alone = alone-set c b.pair (gentle-report r (b.pair c) begins) h.alone;
+  one_owner = owned-set c b.pair (gentle-report r (b.pair c) begins) h.one_owner;
   outside = outside-set caching c after b.pair (busy-inside caching c b.pair (λ p. is_answered p.probing) refl
       (rw last.answered refl) h.outside) h.outside;
   copies = λ d some. copy_is d some last.spares;
@@ -111,9 +110,8 @@ ended_move x y n source Channel.D = if y then Pushes Answer source else Stays
 ended_move x y n source _ = Stays
 
 ended_shows : (n source : ℕ) (j : Kind) (x y : Bool) (r : Report) (k : Cap) (p : ClientBlock) → is_transfer j ≡ true
-    → (x ≡ true → p.probing ≡ ProbeAnswered r)
-    → agrees (ended_move x y n source (channel_for j)) j n (shows j p (Other k))
-    (shows j (if x then after_report r p else p) Idle) ≡ true
+    → (x ≡ true → p.probing ≡ ProbeAnswered r) → agrees (ended_move x y n source (channel_for j)) j n
+    (shows j p (Other k)) (shows j (if x then after_report r p else p) Idle) ≡ true
 ended_shows n source Request x y r k p t e = absurd cc
 ended_shows n source Answer x y r k p t e = absurd cc
 ended_shows n source Acquire true y r k p t e = same_again (is_wanting p.acquiring && true)
@@ -142,8 +140,7 @@ ended_own Channel.D x false n source = refl
 ended_own Channel.E x y n source = refl
 
 pub ended_moved : (ch : Channel) (x y : Bool) (n source : ℕ) (l : Link) (rest : List Packet)
-    → (x ≡ true → l.c ≡ packet ProbeAck n ∷ rest)
-    → IsMoved (ended_move x y n source ch) (packets_on ch l)
+    → (x ≡ true → l.c ≡ packet ProbeAck n ∷ rest) → IsMoved (ended_move x y n source ch) (packets_on ch l)
     (packets_on ch (if y then with_d (packet Answer source) (if x then record l { c = rest } else l) else
     (if x then record l { c = rest } else l)))
 ended_moved Channel.A true true n source l rest e = refl
@@ -170,9 +167,8 @@ ended_moved Channel.E false false n source l rest e = refl
 -- ---- the whole
 
 pub report_answers-kept : {X : Type 0} (caching : ℕ → Bool) (c q n : ℕ) (r : Report) (f : X → X) (source : ℕ) (k : Cap)
-    (rest : List Packet) (s : State X) → IsInvariant caching s
-    → (s.link c).c ≡ packet ProbeAck n ∷ rest → IsLastOf c q r f source k (s.block n)
-    → IsInvariant caching (report_answers c q n source r f rest s)
+    (rest : List Packet) (s : State X) → IsInvariant caching s → (s.link c).c ≡ packet ProbeAck n ∷ rest
+    → IsLastOf c q r f source k (s.block n) → IsInvariant caching (report_answers c q n source r f rest s)
 report_answers-kept {X} caching c q n r f source k rest s inv first last =
     let links : ℕ → Link = ended_link c q (packet Answer source) rest s.link in
     let used : s.uses q source ≡ InService n = serves_of-is n (s.uses q source) (inv.named.serves q source n
@@ -195,9 +191,9 @@ report_answers-kept {X} caching c q n r f source k rest s inv first last =
     → IsMoved (ended_move (d == c) (d == q) n source ch) (packets_on ch (s.link d)) (packets_on ch (links d)) =
     λ d ch h. subst (λ (l : Link). IsMoved (ended_move (d == c) (d == q) n source ch) (packets_on ch (s.link d))
     (packets_on ch (if d == q then with_d (packet Answer source) l else l))) (sym (popped d)) h in
-    invariant-moved_use caching n new links (λ d. ended_move (d == c) (d == q) n source) q source Replied
-    (set tracker None s.tracked) s inv (record {
-      well = ended-block caching c q r f source k (s.block n) (inv.blocks n) last;
+    invariant-moved_use q source Replied
+    (set tracker None s.tracked) inv (record {
+      well = ended-block (inv.blocks n) last;
       moved = λ d ch. by_link d ch (ended_moved ch (d == c) (d == q) n source (s.link d) rest (first_at d));
       own = λ d ch. ended_own ch (d == c) (d == q) n source;
       fits = λ d j t. by_pair d j (ended_move (d == c) (d == q) n source (channel_for j))
@@ -247,8 +243,7 @@ report_answers-kept {X} caching c q n r f source k rest s inv first last =
 
     by_pair : (d : ℕ) (j : Kind) (m : Move)
         → agrees m j n (shows j (old d) (Other k)) (shows j (if d == c then after_report r (old d) else old d) Idle)
-        ≡ true
-        → agrees m j n (shown j d (s.block n)) (shown j d new) ≡ true
+        ≡ true → agrees m j n (shown j d (s.block n)) (shown j d new) ≡ true
     by_pair d j m h =
         let seen : view (s.block n).service d ≡ Other k = rw last.waits refl in
         rw seen (subst (λ (p : ClientBlock). agrees m j n (shows j (old d) (Other k)) (shows j p Idle) ≡ true)

@@ -70,11 +70,10 @@ pub record IsLast {X : Type 0} (c q : ℕ) (r : Report) (whole : Bool) (g : Grow
   pub room : same_cap gift Cap.ToT ≡ true → (d : ℕ) → (d ≡ q → ⊥)
       → same_perm (set c (after_report r (b.pair c)) b.pair d).recorded Perm.None ≡ true
 
-pub granted-block : {X : Type 0} (caching : ℕ → Bool) (c q : ℕ) (r : Report) (whole : Bool) (g : Grow) (gift : Cap)
-    (source : ℕ) (k : Cap) (b : Block X) → IsWell caching b
-    → IsLast c q r whole g gift source k b
+pub granted-block : {X : Type 0} {caching : ℕ → Bool} {c q : ℕ} {r : Report} {whole : Bool} {g : Grow} {gift : Cap}
+    {source : ℕ} {k : Cap} {b : Block X} → IsWell caching b → IsLast c q r whole g gift source k b
     → IsWell caching (granted_block c q r (is_granted_data whole g (b.pair q).recorded) gift b)
-granted-block {X} caching c q r whole g gift source k b h last =
+granted-block {X} {c} {q} {r} {whole} {g} {gift} {source} {k} {b} h last =
     let with_data : Bool = is_granted_data whole g (b.pair q).recorded in
     let all_quiet : (j : ℕ) → is_unprobed (granted_pair c q r gift b.pair j).probing ≡ true = λ j. elim (cases_eq j q) [
       | inl same ↦ rw (same, granted_here) (own_quiet (b.pair q) (view b.service q) (h.phases q) own)
@@ -219,20 +218,20 @@ asks_none k whole Grow.NtoB e f = absurd cc
 asks_none k whole g e f = is_none k f
 
 -- where the Acquire asks for Trunk, all others were probed to None
-pub room-trunk : {X : Type 0} (caching : ℕ → Bool) (c q : ℕ) (r : Report) (whole : Bool) (g : Grow) (source : ℕ)
-    (k : Cap) (b : Block X) → IsWell caching b → b.service ≡ Waits q true source k
-    → (b.pair c).probing ≡ ProbeAnswered r
-    → ((d : ℕ) → (d ≡ c → ⊥) → is_unprobed (b.pair d).probing ≡ true) → (b.pair q).acquiring ≡ AcquireOpen whole g
-    → grows_to_trunk g ≡ true → (c ≡ q → ⊥) → (d : ℕ) → (d ≡ q → ⊥)
+pub room-trunk : {X : Type 0} {caching : ℕ → Bool} (c q : ℕ) (r : Report) (whole : Bool) (g : Grow) (source : ℕ)
+    (k : Cap) {b : Block X} → IsWell caching b → b.service ≡ Waits q true source k
+    → (b.pair c).probing ≡ ProbeAnswered r → ((d : ℕ) → (d ≡ c → ⊥) → is_unprobed (b.pair d).probing ≡ true)
+    → (b.pair q).acquiring ≡ AcquireOpen whole g → grows_to_trunk g ≡ true → (c ≡ q → ⊥) → (d : ℕ) → (d ≡ q → ⊥)
     → same_perm (set c (after_report r (b.pair c)) b.pair d).recorded Perm.None ≡ true
-room-trunk caching c q r whole g source k b h waits answered settled wants trunk apart d ne =
+room-trunk c q r whole g source k {b} h waits answered settled wants trunk apart d ne =
     let seen : (i : ℕ) → (i ≡ q → ⊥) → view b.service i ≡ Other k =
     λ i differs. rw waits (other_view q source i k differs) in
     let asked : IsAskedCap (Waits q true source k) b.pair = rw waits at h.asked_cap in
     let cap_is : k ≡ Cap.ToN = asks_none k whole g trunk (rw wants at asked) in
     elim (cases_eq d c) [
       | inl same ↦ rw (same, set-same c (after_report r (b.pair c)) b.pair)
-          (low_none k (report_right r) cap_is (reported_within k r (b.pair c) (view b.service c) (h.phases c) (seen c apart)
+          (low_none k (report_right r) cap_is (reported_within k r (b.pair c) (view b.service c) (h.phases c)
+          (seen c apart)
           answered))
       | inr neither ↦ rw (set-other c d (after_report r (b.pair c)) b.pair neither)
           (low_none k (b.pair d).recorded cap_is (spared_within k (b.pair d) (view b.service d) (h.phases d) (seen d ne)

@@ -41,9 +41,8 @@ at_sender n GrantAck p d gift t = refl
 at_sender n k p d gift t = absurd cc
 
 at_reporter : (n : ℕ) (k : Kind) (r : Report) (p : ClientBlock) (j : Cap) → is_transfer k ≡ true
-    → p.probing ≡ ProbeAnswered r
-    → agrees (granted_moves n 1 0 1 (channel_for k)) k n (shows k p (Other j)) (shows k (after_report r p) GrantedOther)
-    ≡ true
+    → p.probing ≡ ProbeAnswered r → agrees (granted_moves n 1 0 1 (channel_for k)) k n (shows k p (Other j))
+    (shows k (after_report r p) GrantedOther) ≡ true
 at_reporter n Acquire r p j t e = same_again (is_wanting p.acquiring && true)
 at_reporter n Probe r p j t e = rw e refl
 at_reporter n ProbeAck r p j t e = rw (same_number n) refl
@@ -80,12 +79,11 @@ moves_of_other n c q d Channel.C o m = rw (ne_eqb d c o) refl
 moves_of_other n c q d Channel.D o m = rw (ne_eqb d q m) refl
 moves_of_other n c q d ch o m = refl
 
-pub report_grants-kept : {X : Type 0} (caching : ℕ → Bool) (c q n : ℕ) (r : Report) (whole : Bool) (g : Grow)
-    (gift : Cap) (source : ℕ) (k : Cap) (rest : List Packet) (s : State X)
-    → IsInvariant caching s
+pub report_grants-kept : {X : Type 0} {caching : ℕ → Bool} {c q : ℕ} (n : ℕ) {r : Report} {whole : Bool} {g : Grow}
+    {gift : Cap} {source : ℕ} {k : Cap} (rest : List Packet) {s : State X} → IsInvariant caching s
     → (s.link c).c ≡ packet ProbeAck n ∷ rest → IsLast c q r whole g gift source k (s.block n)
     → IsInvariant caching (report_grants c q n r (is_granted_data whole g ((s.block n).pair q).recorded) gift rest s)
-report_grants-kept {X} caching c q n r whole g gift source k rest s inv first last =
+report_grants-kept {X} {caching} {c} {q} n {r} {whole} {g} {gift} {source} {k} rest {s} inv first last =
     let links : ℕ → Link = granted_link c q n rest s.link in
     let links_q : links q ≡ at_q = set-same q at_q (set c at_c s.link) in
     let links_c : links c ≡ at_c = set-other q c at_q (set c at_c s.link) apart ∙ set-same c at_c s.link in
@@ -106,7 +104,7 @@ report_grants-kept {X} caching c q n r whole g gift source k rest s inv first la
       ]
     ] in
     invariant-moved caching n new links (granted_moves n c q) s.lets s.tracked s inv (record {
-      well = granted-block caching c q r whole g gift source k (s.block n) (inv.blocks n) last;
+      well = granted-block (inv.blocks n) last;
       moved = λ d ch. moved d ch;
       own = λ d ch. own d ch;
       fits = λ d j t. fits d j t (cases_eq d q) (cases_eq d c);
@@ -220,12 +218,10 @@ report_grants-kept {X} caching c q n r whole g gift source k rest s inv first la
         (at_sender n j (old q) with_data gift t))
     fits d j t (inr m) (inl same) =
         rw same (agrees_as j (granted_moves n c q c (channel_for j)) (granted_moves n 1 0 1 (channel_for j))
-        (shown j c (s.block n)) (shown j c new)
-        (shows j (old c) (Other k)) (shows j after GrantedOther)
+        (shown j c (s.block n)) (shown j c new) (shows j (old c) (Other k)) (shows j after GrantedOther)
         (moves_of_reporter n c q (channel_for j) apart) (ap (shows j (old c)) (view_other c apart))
         (ap₂ (shows j) pair_c (new_other c apart)) (at_reporter n j r (old c) k t last.answered))
-    fits d j t (inr m) (inr o) =
-        agrees_as j (granted_moves n c q d (channel_for j)) Stays (shown j d (s.block n)) (shown j d new)
-        (shows j (old d) (Other k)) (shows j (old d) GrantedOther)
+    fits d j t (inr m) (inr o) = agrees_as j (granted_moves n c q d (channel_for j)) Stays (shown j d (s.block n))
+        (shown j d new) (shows j (old d) (Other k)) (shows j (old d) GrantedOther)
         (moves_of_other n c q d (channel_for j) o m) (ap (shows j (old d)) (view_other d m))
         (ap₂ (shows j) (pair_other d m o) (new_other d m)) (at_other n j (old d) k t)

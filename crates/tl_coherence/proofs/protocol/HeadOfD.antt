@@ -34,9 +34,8 @@ pub record IsAnswerDue {w : ℕ} (c source : ℕ) (mail : AccessMessages w) (s :
   pub size : answer.size ≡ request.size
 
 pub answer-due : {w : ℕ} (caching : ℕ → Bool) (c source : ℕ) (rest : List Packet) (mail : AccessMessages w)
-    (s : State (List ℕ)) → IsInvariant caching s
-    → IsAnswered source (mail.request c source) (mail.answer c source) (s.uses c source)
-    → (s.link c).d ≡ packet Answer source ∷ rest → IsAnswerDue c source mail s
+    (s : State (List ℕ)) → IsInvariant caching s → IsAnswered source (mail.request c source) (mail.answer c source)
+    (s.uses c source) → (s.link c).d ≡ packet Answer source ∷ rest → IsAnswerDue c source mail s
 answer-due {w} caching c source rest mail s inv answered first = go (mail.request c source) (mail.answer c source) refl
     refl (rw used at answered)
   where
@@ -97,8 +96,7 @@ wanting_is (AcquireOpen whole g) e = (whole, g, refl)
 -- the use of the source of an open Acquire
 pub acquire-used : (caching : ℕ → Bool) (c n : ℕ) (s : State (List ℕ)) → IsInvariant caching s
     → is_wanting ((s.block n).pair c).acquiring ≡ true → s.uses c ((s.block n).source c) ≡ Acquires n
-acquire-used caching c n s inv wanting =
-    acquires_of-is n (s.uses c ((s.block n).source c))
+acquire-used caching c n s inv wanting = acquires_of-is n (s.uses c ((s.block n).source c))
     (inv.named.acquires c ((s.block n).source c) n ∙ and_from (is_wanting ((s.block n).pair c).acquiring)
     ((s.block n).source c == (s.block n).source c) wanting (same_number ((s.block n).source c)))
 
@@ -172,10 +170,9 @@ acked_open : (x : ReleasePhase) → is_acked x ≡ true → not (is_unreleased x
 acked_open ReleaseAcked e = refl
 acked_open x e = absurd cc
 
-pub ack-due : (caching : ℕ → Bool) (c n : ℕ) (rest : List Packet) (s : State (List ℕ)) → IsInvariant caching s
-    → (s.link c).d ≡ packet ReleaseAck n ∷ rest
-    → s.lets c ((s.block n).release_source c) ≡ Some n
-ack-due caching c n rest s inv first =
+pub ack-due : {caching : ℕ → Bool} (c n : ℕ) (rest : List Packet) {s : State (List ℕ)} → IsInvariant caching s
+    → (s.link c).d ≡ packet ReleaseAck n ∷ rest → s.lets c ((s.block n).release_source c) ≡ Some n
+ack-due c n rest {s} inv first =
     let acked = holds-first ReleaseAck (s.link c).d rest (packet ReleaseAck n) (λ i. shown ReleaseAck c (s.block i))
     first refl (inv.transfers c ReleaseAck refl) in
     let live = acked_open ((s.block n).pair c).letting acked in

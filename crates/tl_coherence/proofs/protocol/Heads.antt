@@ -2,7 +2,7 @@
 use Rattle.tl_coherence.proofs.protocol.Imports.{Beat, Message, MessageA, beats_of, Config, Grow, is_asked, AcquireOpen}
 use Rattle.tl_coherence.proofs.protocol.Imports.{Block, State, Asked, Acquires, packet, shown, is_wanting, is_unserved}
 use Rattle.tl_coherence.proofs.protocol.Imports.{view, AccessMessages, block_message, Request, Acquire, Packet, Channel}
-use Rattle.std.proofs.Common.{◌≡◌, ℕ, ◌-◌, ◌*◌, ◌^◌, ◌<◌, Bool, true, false, ◌&&◌, List, ◌∷◌, Some, None, refl, sym}
+use Rattle.std.proofs.Common.{◌≡◌, ℕ, ◌-◌, ◌*◌, ◌^◌, ◌<◌, Bool, true, false, List, ◌∷◌, Some, None, refl, sym}
 use Rattle.std.proofs.Common.{◌∙◌, ap, inl, inr, arith}
 use Rattle.std.{proofs.lemmas.Option.same_Some, specs.Prelude.map}
 use Rattle.tl_beat.specs.statement.Width.{IsWidth}
@@ -52,11 +52,11 @@ rendered-acquire {w} c n b true g e = rw e refl
 rendered-acquire {w} c n b false g e = rw e refl
 
 -- an access that was asked is no Acquire: the client has one Acquire of a block open at most, and that is another one
-asked-access : {w : ℕ} (config : Config) (log : Log w) (mail : AccessMessages w) (request : ℕ → MessageA w)
-    (s : State (List ℕ)) (sys : System w) (c source : ℕ) (m : MessageA w)
+asked-access : {w : ℕ} {config : Config} {log : Log w} {mail : AccessMessages w} {request : ℕ → MessageA w}
+    {s : State (List ℕ)} {sys : System w} (c source : ℕ) (m : MessageA w)
     → SimulationRelation config log mail request s sys → s.uses c source ≡ Asked → mail.request c source ≡ Message.A m
     → is_acquire m.opcode ≡ false
-asked-access {w} config log mail request s sys c source m is used mailed = go (is_acquire m.opcode) refl
+asked-access {w} {s} {sys} c source m is used mailed = go (is_acquire m.opcode) refl
   where
     n : ℕ
     n = block_at m.address
@@ -88,18 +88,18 @@ asked-access {w} config log mail request s sys c source m is used mailed = go (i
     go true e = absurd (both e)
     go false e = refl
 
-pub asked-first : {w : ℕ} (config : Config) (log : Log w) (mail : AccessMessages w) (request : ℕ → MessageA w)
-    (s : State (List ℕ)) (sys : System w) (c source : ℕ) (rest : List Packet)
+pub asked-first : {w : ℕ} {config : Config} {log : Log w} {mail : AccessMessages w} {request : ℕ → MessageA w}
+    {s : State (List ℕ)} {sys : System w} (c source : ℕ) (rest : List Packet)
     → SimulationRelation config log mail request s sys → (s.link c).a ≡ packet Request source ∷ rest
     → IsAsked config c source mail s
-asked-first {w} config log mail request s sys c source rest is first =
+asked-first {w} {config} {log} {mail} {request} {s} {sys} c source rest is first =
     let of : IsOfSource source (mail.request c source) = of_source source (mail.request c source) sourced.0 in
     record {
       request = of.request;
       is_it = of.is_it;
       source_is = of.source_is;
       used = used;
-      access = asked-access config log mail request s sys c source of.request is used of.is_it;
+      access = asked-access c source of.request is used of.is_it;
       lawful = rw of.is_it at sourced.1;
       blank = rw of.is_it at sourced.2;
     }
@@ -122,10 +122,10 @@ pub record IsWanted (w c n : ℕ) (s : State (List ℕ)) : Type 0 where
   pub renders : block_message {w = w} Acquire c n (s.block n) ≡ Message.A
       (acquisition (acquire_opcode whole) grow ((s.block n).source c) n)
 
-pub wanted-first : {w : ℕ} (config : Config) (log : Log w) (mail : AccessMessages w) (request : ℕ → MessageA w)
-    (s : State (List ℕ)) (sys : System w) (c n : ℕ) (rest : List Packet)
+pub wanted-first : {w : ℕ} {config : Config} {log : Log w} {mail : AccessMessages w} {request : ℕ → MessageA w}
+    {s : State (List ℕ)} {sys : System w} (c n : ℕ) (rest : List Packet)
     → SimulationRelation config log mail request s sys → (s.link c).a ≡ packet Acquire n ∷ rest → IsWanted w c n s
-wanted-first {w} config log mail request s sys c n rest is first =
+wanted-first {w} {s} c n rest is first =
     let b : Block (List ℕ) = s.block n in
     let shows = holds-first Acquire (s.link c).a rest (packet Acquire n) (λ i. shown Acquire c (s.block i)) first refl
     (is.invariant.transfers c Acquire refl) in
@@ -167,13 +167,12 @@ acquisition-blank w whole g source n width =
 
 -- ---- its first beat that isn't taken
 
-pub front-of : {w : ℕ} (config : Config) (log : Log w) (mail : AccessMessages w) (request : ℕ → MessageA w)
-    (s : State (List ℕ)) (sys : System w) (c : ℕ) (first : Packet)
-    (rest : List Packet) (m : MessageA w) (x : Beat w) (queue : List (Beat w))
-    → IsWidth w → SimulationRelation config log mail request s sys → (s.link c).a ≡ first ∷ rest
+pub front-of : {w : ℕ} {config : Config} {log : Log w} {mail : AccessMessages w} {request : ℕ → MessageA w}
+    {s : State (List ℕ)} {sys : System w} (c : ℕ) (first : Packet) (rest : List Packet) (m : MessageA w) (x : Beat w)
+    (queue : List (Beat w)) → IsWidth w → SimulationRelation config log mail request s sys → (s.link c).a ≡ first ∷ rest
     → message_of mail s c first ≡ Message.A m → sys.channels c Channel.A ≡ x ∷ queue
     → IsNext x (unfinished Channel.A (on_link c sys.manager.trace)) (Message.A m) (map (message_of mail s c) rest) queue
-front-of {w} config log mail request s sys c first rest m x queue width is tokens is_it beats =
+front-of {w} {mail} {s} {sys} c first rest m x queue width is tokens is_it beats =
     let carried_so : (ms ns : List (Message w)) (q r : List (Beat w)) → ms ≡ ns → q ≡ r
     → IsCarried (unfinished Channel.A (on_link c sys.manager.trace)) ms q
     → IsCarried (unfinished Channel.A (on_link c sys.manager.trace)) ns r = λ ms ns q r e f h. rw (← e, ← f) h in

@@ -26,9 +26,8 @@ marked test clients sources f = total clients (λ c. total (sources c) (λ i. on
 
 -- one place changes
 pub marked-set : {B : Type 0} (test : B → Bool) (clients : ℕ) (sources : ℕ → ℕ) (c k : ℕ) (x : B) (f : ℕ → ℕ → B)
-    → c < clients → k < sources c
-    → marked test clients sources (set_at c k x f) + one_if (test (f c k)) ≡ marked test clients sources f + one_if
-    (test x)
+    → c < clients → k < sources c → marked test clients sources (set_at c k x f) + one_if (test (f c k))
+    ≡ marked test clients sources f + one_if (test x)
 marked-set {B} test clients sources c k x f few lt =
     let row : ℕ → (ℕ → B) → ℕ = λ d g. total (sources d) (λ i. one_if (test (g i))) in
     let inner = total-at (sources c) k (λ i. one_if (test (set k x (f c) i))) (λ i. one_if (test (f c i))) lt
@@ -41,8 +40,7 @@ marked-set {B} test clients sources c k x f few lt =
 
 -- no place changes, as the test has it
 pub marked-same : {B : Type 0} (test : B → Bool) (clients : ℕ) (sources : ℕ → ℕ) (f g : ℕ → ℕ → B)
-    → ((c i : ℕ) → test (f c i) ≡ test (g c i))
-    → marked test clients sources f ≡ marked test clients sources g
+    → ((c i : ℕ) → test (f c i) ≡ test (g c i)) → marked test clients sources f ≡ marked test clients sources g
 marked-same test clients sources f g same =
     cc (total-same clients (λ c. total (sources c) (λ i. one_if (test (f c i))))
     (λ c. total (sources c) (λ i. one_if (test (g c i)))) (λ c few. total-same (sources c) (λ i. one_if (test (f c i)))

@@ -28,9 +28,9 @@ less_left Cap.ToT Perm.None e = e
 less_left Cap.ToB Perm.None e = e
 less_left Cap.ToN Perm.None e = e
 
-pub probed-block : {X : Type 0} (caching : ℕ → Bool) (c : ℕ) (k : Cap) (b : Block X) → IsWell caching b
+pub probed-block : {X : Type 0} {caching : ℕ → Bool} (c : ℕ) (k : Cap) {b : Block X} → IsWell caching b
     → (b.pair c).probing ≡ ProbeSent k → (b.pair c).letting ≡ NoRelease → IsWell caching (probed_block c k b)
-probed-block caching c k b h sent kept =
+probed-block c k {b} h sent kept =
     let after : ClientBlock = after_probe k (b.pair c) in
     let quiet_same = set-part (λ (p : ClientBlock). is_unprobed p.probing) c after b.pair (rw sent refl) in
     let recorded_same = set-part (λ (p : ClientBlock). p.recorded) c after b.pair refl in
@@ -80,19 +80,18 @@ probe_shows n ReleaseAck j p v t e = same_again (is_acked p.letting)
 probe_shows n GrantAck j p v t e = same_again (is_acknowledging v)
 probe_shows n k j p v t e = absurd cc
 
-pub probe_taken-kept : {X : Type 0} (caching : ℕ → Bool) (c n : ℕ) (k : Cap) (rest : List Packet) (s : State X)
-    → IsInvariant caching s
-    → (s.link c).b ≡ packet Probe n ∷ rest → ((s.block n).pair c).probing ≡ ProbeSent k
+pub probe_taken-kept : {X : Type 0} {caching : ℕ → Bool} (c n : ℕ) (k : Cap) (rest : List Packet) {s : State X}
+    → IsInvariant caching s → (s.link c).b ≡ packet Probe n ∷ rest → ((s.block n).pair c).probing ≡ ProbeSent k
     → ((s.block n).pair c).letting ≡ NoRelease → IsInvariant caching (probe_taken c n k rest s)
-probe_taken-kept {X} caching c n k rest s inv first sent kept =
+probe_taken-kept {X} {caching} c n k rest {s} inv first sent kept =
     let after : ClientBlock = after_probe k ((s.block n).pair c) in
     let new : Block X = probed_block c k (s.block n) in
     let number_is : (m : ℕ) → Pushes ProbeAck n ≡ Pushes ProbeAck m → m ≡ n = λ m e. cc in
     let ordered : (m : ℕ) → m ≡ n → count Release m (s.link c).c ≡ 0 =
     λ m e. rw e (inv.transfers c Release refl n ∙ rw kept refl) in
     invariant-moved caching n new (set c here s.link) (moves_at c (probe_moves n)) s.lets s.tracked s inv
-    (event-at caching c n new here (probe_moves n) s (record {
-      well = probed-block caching c k (s.block n) (inv.blocks n) sent kept;
+    (event-at (record {
+      well = probed-block c k (inv.blocks n) sent kept;
       moved = moved;
       own = own;
       fits = λ j t. rw (set-same c after (s.block n).pair)

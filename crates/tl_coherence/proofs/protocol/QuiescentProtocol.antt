@@ -7,7 +7,7 @@ use Rattle.tl_coherence.proofs.protocol.Imports.{Probe, ProbeAck, Release, Answe
 use Rattle.tl_coherence.proofs.protocol.Imports.{one_if, count, Service, Free, Waits, GrantSent, GrantTaken, State}
 use Rattle.tl_coherence.proofs.protocol.Imports.{SourceState, SourceFree, Asked, InService, Replied, Acquires, view, on}
 use Rattle.tl_coherence.proofs.protocol.Imports.{packets_on, is_on, is_transfer, is_wanting, shown, IsInvariant}
-use Rattle.tl_coherence.proofs.protocol.Imports.{acquires_of, serves_of, is_of, is_asked, is_replied, acquires_with}
+use Rattle.tl_coherence.proofs.protocol.Imports.{acquires_of, serves_of, is_of, is_asked, is_replied}
 use Rattle.tl_coherence.proofs.protocol.Imports.{serves_with, releases_with}
 use Rattle.std.proofs.Common.{◌≡◌, ℕ, ◌<◌, Bool, true, false, List, [], ◌∷◌, refl, sym, ◌∙◌, arith}
 use Rattle.std.specs.Prelude.{not, ◌==◌, ◌||◌, Option, Some, None}
@@ -69,7 +69,7 @@ module _ {X : Type 0} (caching : ℕ → Bool) (s : State X) (inv : IsInvariant 
   }
     where
       free : (n : ℕ) → (s.block n).service ≡ Free
-      free n = free-when_silent caching s n inv bare.silent
+      free n = free-when_silent n inv bare.silent
 
       use_is : (c source : ℕ) (u : SourceState) → s.uses c source ≡ u → u ≡ SourceFree
       use_is c source SourceFree e = refl
@@ -118,7 +118,7 @@ module _ {X : Type 0} (caching : ℕ → Bool) (s : State X) (inv : IsInvariant 
           let own : view (s.block n).service r ≡ Own = rw (e, same_number r) refl in
           let wants = owns_ask ((s.block n).pair r) (view (s.block n).service r) ((inv.blocks n).phases r) (rw own refl)
           in
-          let used : s.uses r ((s.block n).source r) ≡ Acquires n = source_of_acquire caching s r n inv wants in
+          let used : s.uses r ((s.block n).source r) ≡ Acquires n = source_of_acquire r n inv wants in
           absurd (let both : Acquires n ≡ SourceFree = sym used ∙ closed.uses r ((s.block n).source r) in cc)
       go (Waits r false source k) e is =
           let named : serves_of n (s.uses r source) ≡ serves_with r source (s.block n) = inv.named.serves r source n in
@@ -142,22 +142,21 @@ module _ {X : Type 0} (caching : ℕ → Bool) (s : State X) (inv : IsInvariant 
   nothing_shown : (c : ℕ) (ch : Channel) (k : Kind) (n : ℕ) → IsClosed s → is_on ch k ≡ true → is_on Channel.E k ≡ false
       → 0 < count k n (packets_on ch (s.link c)) → ⊥
   nothing_shown c ch Request n closed on_it other there =
-      not_asked c n (shown_there caching s c ch Request n inv on_it there) closed
+      not_asked c n (shown_there c ch Request n inv on_it there) closed
   nothing_shown c ch Answer n closed on_it other there =
-      not_replied c n (shown_there caching s c ch Answer n inv on_it there) closed
+      not_replied c n (shown_there c ch Answer n inv on_it there) closed
   nothing_shown c ch Acquire n closed on_it other there =
-      no_use c _ n (acquire_named caching s c n inv (shown_there caching s c ch Acquire n inv on_it there)) closed
+      no_use c _ n (acquire_named caching s c n inv (shown_there c ch Acquire n inv on_it there)) closed
   nothing_shown c ch Grant n closed on_it other there =
-      no_use c _ n (grant_named caching s c n inv (shown_there caching s c ch Grant n inv on_it there)) closed
+      no_use c _ n (grant_named caching s c n inv (shown_there c ch Grant n inv on_it there)) closed
   nothing_shown c ch Release n closed on_it other there =
-      no_let c _ n (release_named caching s c n inv (shown_there caching s c ch Release n inv on_it there)) closed
+      no_let c _ n (release_named caching s c n inv (shown_there c ch Release n inv on_it there)) closed
   nothing_shown c ch ReleaseAck n closed on_it other there =
-      no_let c _ n (release_ack_named caching s c n inv (shown_there caching s c ch ReleaseAck n inv on_it there))
-      closed
+      no_let c _ n (release_ack_named caching s c n inv (shown_there c ch ReleaseAck n inv on_it there)) closed
   nothing_shown c ch Probe n closed on_it other there =
-      probed-for c n (not-sent _ (shown_there caching s c ch Probe n inv on_it there)) closed
+      probed-for c n (not-sent _ (shown_there c ch Probe n inv on_it there)) closed
   nothing_shown c ch ProbeAck n closed on_it other there =
-      probed-for c n (not-answered _ (shown_there caching s c ch ProbeAck n inv on_it there)) closed
+      probed-for c n (not-answered _ (shown_there c ch ProbeAck n inv on_it there)) closed
   nothing_shown c ch GrantAck n closed on_it other there = absurd cc
 
   empty_list : (xs : List Packet) → ((x : Packet) → IsThere x xs → ⊥) → xs ≡ []

@@ -92,11 +92,10 @@ memory-written {X} c left q service pair memory truth begins h none = go (same_p
 
 -- ---- blocks
 
-pub reported-block : {X : Type 0} (caching : ℕ → Bool) (c : ℕ) (r : Report) (b : Block X) → IsWell caching b
-    → (b.pair c).probing ≡ ProbeAnswered r → (w : ℕ) → (w ≡ c → ⊥)
-    → is_unprobed (b.pair w).probing ≡ false
+pub reported-block : {X : Type 0} {caching : ℕ → Bool} (c : ℕ) (r : Report) {b : Block X} → IsWell caching b
+    → (b.pair c).probing ≡ ProbeAnswered r → (w : ℕ) → (w ≡ c → ⊥) → is_unprobed (b.pair w).probing ≡ false
     → IsWell caching (reported_block c r b)
-reported-block caching c r b h answered w apart missing =
+reported-block {caching} c r {b} h answered w apart missing =
     let after : ClientBlock = after_report r (b.pair c) in
     let begins = report_begins r (b.pair c) (view b.service c) (h.phases c) answered in
     let held_same = set-part (λ (p : ClientBlock). p.held) c after b.pair refl in
@@ -110,18 +109,17 @@ reported-block caching c r b h answered w apart missing =
       asked_cap = asked_cap-same b.service b.pair (set c after b.pair)
           (set-part (λ (p : ClientBlock). p.acquiring) c after b.pair refl) h.asked_cap;
       own_source = h.own_source;
-      alone = alone-set c after b.pair (gentle-report r (b.pair c) begins) h.alone;
-      one_owner = owned-set c after b.pair (gentle-report r (b.pair c) begins) h.one_owner;
+      alone = alone-set c b.pair (gentle-report r (b.pair c) begins) h.alone;
+      one_owner = owned-set c b.pair (gentle-report r (b.pair c) begins) h.one_owner;
       outside = outside-set caching c after b.pair (busy-inside caching c b.pair (λ p. is_answered p.probing) refl
           (rw answered refl) h.outside) h.outside;
       copies = λ d some. h.copies d (rw (held_same d) at some);
       memory = λ none. memory-written c (report_left r) after b.service b.pair b.memory b.truth begins h.memory none;
     }
 
-pub let-block : {X : Type 0} (caching : ℕ → Bool) (c : ℕ) (r : Prune) (b : Block X) → IsWell caching b
-    → (b.pair c).letting ≡ ReleaseSent r → is_answered (b.pair c).probing ≡ false
-    → IsWell caching (let_block c r b)
-let-block caching c r b h releasing first =
+pub let-block : {X : Type 0} {caching : ℕ → Bool} (c : ℕ) (r : Prune) {b : Block X} → IsWell caching b
+    → (b.pair c).letting ≡ ReleaseSent r → is_answered (b.pair c).probing ≡ false → IsWell caching (let_block c r b)
+let-block {caching} c r {b} h releasing first =
     let after : ClientBlock = after_release_taken r (b.pair c) in
     let begins = release_begins r (b.pair c) (view b.service c) (h.phases c) releasing first in
     let held_same = set-part (λ (p : ClientBlock). p.held) c after b.pair refl in
@@ -136,8 +134,8 @@ let-block caching c r b h releasing first =
       asked_cap = asked_cap-same b.service b.pair (set c after b.pair)
           (set-part (λ (p : ClientBlock). p.acquiring) c after b.pair refl) h.asked_cap;
       own_source = h.own_source;
-      alone = alone-set c after b.pair (gentle-prune r (b.pair c) begins) h.alone;
-      one_owner = owned-set c after b.pair (gentle-prune r (b.pair c) begins) h.one_owner;
+      alone = alone-set c b.pair (gentle-prune r (b.pair c) begins) h.alone;
+      one_owner = owned-set c b.pair (gentle-prune r (b.pair c) begins) h.one_owner;
       outside = outside-set caching c after b.pair (busy-inside caching c b.pair (λ p. is_releasing p.letting) refl
           (rw releasing refl) h.outside) h.outside;
       copies = λ d some. h.copies d (rw (held_same d) at some);
@@ -162,17 +160,17 @@ report_shows n ReleaseAck r p v t e = same_again (is_acked p.letting)
 report_shows n GrantAck r p v t e = same_again (is_acknowledging v)
 report_shows n k r p v t e = absurd cc
 
-pub report_taken-kept : {X : Type 0} (caching : ℕ → Bool) (c n : ℕ) (r : Report) (rest : List Packet) (s : State X)
+pub report_taken-kept : {X : Type 0} {caching : ℕ → Bool} (c n : ℕ) (r : Report) (rest : List Packet) {s : State X}
     → IsInvariant caching s → (s.link c).c ≡ packet ProbeAck n ∷ rest
     → ((s.block n).pair c).probing ≡ ProbeAnswered r → (w : ℕ) → (w ≡ c → ⊥)
     → is_unprobed ((s.block n).pair w).probing ≡ false → IsInvariant caching (report_taken c n r rest s)
-report_taken-kept {X} caching c n r rest s inv first answered w apart missing =
+report_taken-kept {X} {caching} c n r rest {s} inv first answered w apart missing =
     let old : ℕ → ClientBlock = (s.block n).pair in
     let after : ClientBlock = after_report r (old c) in
     let new : Block X = reported_block c r (s.block n) in
     invariant-moved caching n new (set c here s.link) (moves_at c (report_moves n)) s.lets s.tracked s inv
-    (event-at caching c n new here (report_moves n) s (record {
-      well = reported-block caching c r (s.block n) (inv.blocks n) answered w apart missing;
+    (event-at (record {
+      well = reported-block c r (inv.blocks n) answered w apart missing;
       moved = moved;
       own = own;
       fits = λ k t. rw (set-same c after old) (report_shows n k r (old c) (view (s.block n).service c) t answered);
@@ -216,11 +214,10 @@ let_shows n GrantAck r p v t e = same_again (is_acknowledging v)
 let_shows n k r p v t e = absurd cc
 
 -- a Release that is first has no ProbeAck of its block beside it
-pub release_first : {X : Type 0} (caching : ℕ → Bool) (c n : ℕ) (rest : List Packet) (s : State X)
-    → IsInvariant caching s → (s.link c).c ≡ packet Release n ∷ rest
-    → is_answered ((s.block n).pair c).probing ≡ false
+pub release_first : {X : Type 0} {caching : ℕ → Bool} (c n : ℕ) (rest : List Packet) {s : State X}
+    → IsInvariant caching s → (s.link c).c ≡ packet Release n ∷ rest → is_answered ((s.block n).pair c).probing ≡ false
 unfolding count
-release_first caching c n rest s inv first =
+release_first c n rest {s} inv first =
     let behind : count ProbeAck n rest ≡ 0 = ordered-first n (s.link c).c rest (packet Release n) first
     (rw (same_number n) refl) (inv.ordered c n) in
     let all : count ProbeAck n (packet Release n ∷ rest) ≡ one_if (is_answered ((s.block n).pair c).probing) =
@@ -231,16 +228,16 @@ release_first caching c n rest s inv first =
     go true e = absurd (omega (arith, e))
     go false e = refl
 
-pub release_taken-kept : {X : Type 0} (caching : ℕ → Bool) (c n : ℕ) (r : Prune) (rest : List Packet) (s : State X)
+pub release_taken-kept : {X : Type 0} {caching : ℕ → Bool} (c n : ℕ) (r : Prune) (rest : List Packet) {s : State X}
     → IsInvariant caching s → (s.link c).c ≡ packet Release n ∷ rest
     → ((s.block n).pair c).letting ≡ ReleaseSent r → IsInvariant caching (release_taken c n r rest s)
-release_taken-kept {X} caching c n r rest s inv first releasing =
+release_taken-kept {X} {caching} c n r rest {s} inv first releasing =
     let old : ℕ → ClientBlock = (s.block n).pair in
     let after : ClientBlock = after_release_taken r (old c) in
     let new : Block X = let_block c r (s.block n) in
     invariant-moved caching n new (set c here s.link) (moves_at c (let_moves n)) s.lets s.tracked s inv
-    (event-at caching c n new here (let_moves n) s (record {
-      well = let-block caching c r (s.block n) (inv.blocks n) releasing (release_first caching c n rest s inv first);
+    (event-at (record {
+      well = let-block c r (inv.blocks n) releasing (release_first c n rest inv first);
       moved = moved;
       own = own;
       fits = λ k t. rw (set-same c after old) (let_shows n k r (old c) (view (s.block n).service c) t releasing);

@@ -102,14 +102,13 @@ leaves-bytes m bytes e long = elim (leaves_memory m (bytes_at (block_at m.addres
 
 -- ---- requests
 
-pub request_taken-kept : {w : ℕ} (caching : ℕ → Bool) (clients c source tracker : ℕ) (m : MessageA w)
+pub request_taken-kept : {w : ℕ} {caching : ℕ → Bool} (clients c source tracker : ℕ) (m : MessageA w)
     (rest : List Packet) (h : AbstractState w) → IsInvariant caching h.state
-    → ((d : ℕ) → clients ≤ d → caching d ≡ false)
-    → (h.state.link c).a ≡ packet Request source ∷ rest → is_acquire m.opcode ≡ false
-    → length (h.state.block (block_at m.address)).truth ≡ 64
+    → ((d : ℕ) → clients ≤ d → caching d ≡ false) → (h.state.link c).a ≡ packet Request source ∷ rest
+    → is_acquire m.opcode ≡ false → length (h.state.block (block_at m.address)).truth ≡ 64
     → (h.state.block (block_at m.address)).service ≡ Free → h.state.tracked tracker ≡ None
     → IsInvariant caching (request_taken clients c source (Message.A m) tracker rest h).state
-request_taken-kept {w} caching clients c source tracker m rest h inv plain first access long free unused =
+request_taken-kept {w} {caching} clients c source tracker m rest h inv plain first access long free unused =
     go (probes_some clients c false (cap_probed m.opcode m.param) b.pair) (cap_probed m.opcode m.param) refl refl
   where
     n : ℕ
@@ -136,17 +135,15 @@ request_taken-kept {w} caching clients c source tracker m rest h inv plain first
         asked_all o e f none = let same : o ≡ Some Cap.ToN = sym e ∙ f in rw same at none
 
     go : (p : Bool) (o : Option Cap) → probes_some clients c false (cap_probed m.opcode m.param) b.pair ≡ p
-        → cap_probed m.opcode m.param ≡ o
-        → IsInvariant caching (access_taken c source m tracker p o rest h).state
+        → cap_probed m.opcode m.param ≡ o → IsInvariant caching (access_taken c source m tracker p o rest h).state
     go true (Some k) e f =
         let some : some_below clients (λ d. is_probed c false k (b.pair d).recorded d) ≡ true = rw f at e in
         let one = some-one clients (λ d. is_probed c false k (b.pair d).recorded d) some in
-        access_served-kept caching c n source tracker k rest h.state inv first free asked (low_cap m.opcode m.param k f)
+        access_served-kept c n source tracker k rest inv first free asked (low_cap m.opcode m.param k f)
         unused one.0 one.1
     go true None e f = absurd (let no : false ≡ true = rw f at e in cc)
-    go false None e f = access_answered-kept caching c n source (performs m) rest h.state inv first asked
-        (spares None f refl)
-    go false (Some k) e f = access_answered-kept caching c n source (performs m) rest h.state inv first asked
+    go false None e f = access_answered-kept c n source (performs m) rest inv first asked (spares None f refl)
+    go false (Some k) e f = access_answered-kept c n source (performs m) rest inv first asked
         (spares (Some k) f (rw f at e))
 
 -- ---- Acquires
@@ -180,8 +177,7 @@ gift_trunk p whole Grow.NtoB held unheld e f = absurd cc
 
 -- nobody is recorded
 pub unheld_none : (clients : ℕ) (caching : ℕ → Bool) (pair : ℕ → ClientBlock)
-    → ((d : ℕ) → clients ≤ d → caching d ≡ false)
-    → AreOutside caching pair → is_unheld clients pair ≡ true → (d : ℕ)
+    → ((d : ℕ) → clients ≤ d → caching d ≡ false) → AreOutside caching pair → is_unheld clients pair ≡ true → (d : ℕ)
     → same_perm (pair d).recorded Perm.None ≡ true
 unheld_none clients caching pair plain outside e d = elim (cases_lt d clients) [
   | inl lt ↦ not-false (same_perm (pair d).recorded Perm.None)
@@ -190,12 +186,11 @@ unheld_none clients caching pair plain outside e d = elim (cases_lt d clients) [
   | inr le ↦ rw (outside d (plain d le)) refl
 ]
 
-pub acquire_taken-kept : {w : ℕ} (caching : ℕ → Bool) (clients : ℕ) (p : Profile) (c n tracker : ℕ) (rest : List Packet)
-    (h : AbstractState w) → IsInvariant caching h.state
-    → ((d : ℕ) → clients ≤ d → caching d ≡ false)
+pub acquire_taken-kept : {w : ℕ} {caching : ℕ → Bool} (clients : ℕ) (p : Profile) (c n tracker : ℕ) (rest : List Packet)
+    (h : AbstractState w) → IsInvariant caching h.state → ((d : ℕ) → clients ≤ d → caching d ≡ false)
     → (h.state.link c).a ≡ packet Acquire n ∷ rest → (h.state.block n).service ≡ Free → h.state.tracked tracker ≡ None
     → IsInvariant caching (acquire_taken clients p c n ((h.state.block n).pair c).acquiring tracker rest h).state
-acquire_taken-kept {w} caching clients p c n tracker rest h inv plain first free unused = go wants.0 wants.1 wants.2
+acquire_taken-kept {w} {caching} clients p c n tracker rest h inv plain first free unused = go wants.0 wants.1 wants.2
   where
     b : Block (List ℕ)
     b = h.state.block n
@@ -231,14 +226,14 @@ acquire_taken-kept {w} caching clients p c n tracker rest h inv plain first free
         served true f =
             let one = some-one clients (λ d. is_probed c true (cap_asked (AcquireOpen whole g)) (b.pair d).recorded d) f
             in
-            acquire_served-kept caching c n (b.source c) tracker whole g (cap_asked (AcquireOpen whole g)) rest h.state
+            acquire_served-kept c n (b.source c) tracker whole g (cap_asked (AcquireOpen whole g)) rest
             inv first free e low_cap unused refl one.0 one.1
         served false f =
             let spared : (d : ℕ) → (d ≡ c → ⊥) → is_above (cap_asked (AcquireOpen whole g)) (b.pair d).recorded
             ≡ false =
             λ d ne. unprobed clients caching c true (cap_asked (AcquireOpen whole g)) b.pair plain
             (inv.blocks n).outside f d (ne_eqb d c ne) in
-            acquire_granted-kept caching c n tracker whole g given rest h.state inv first (record {
+            acquire_granted-kept n tracker rest inv first (record {
               free = free;
               wants = e;
               fits = gift_fits p whole g (b.pair c).held (is_unheld clients b.pair) fits;

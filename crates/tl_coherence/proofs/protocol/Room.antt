@@ -120,8 +120,7 @@ light_ack _ e = absurd cc
 
 -- no channel holds more beats than it is made for
 pub channel-few : {w : ℕ} (caching : ℕ → Bool) (mail : AccessMessages w) (s : State (List ℕ)) (c sources trackers : ℕ)
-    (ch : Channel) (rest queue : List (Beat w))
-    → IsWidth w → IsInvariant caching s → AreBounded c sources trackers s
+    (ch : Channel) (rest queue : List (Beat w)) → IsWidth w → IsInvariant caching s → AreBounded c sources trackers s
     → IsCarried rest (messages_on ch mail s c) queue → length queue ≤ capacity (64 / w) sources trackers ch
 channel-few {w} caching mail s c sources trackers ch rest queue width inv bounds carried = go ch carried
   where

@@ -73,11 +73,10 @@ is_low : (own : Bool) (k : Cap) (p : ClientBlock) → Probes own k p → same_ca
 is_low true k p a = never_top k a.0 a.1 a.3
 is_low false k p a = a
 
-pub served-block : {X : Type 0} (caching : ℕ → Bool) (r : ℕ) (own : Bool) (source tracker : ℕ) (k : Cap) (b : Block X)
-    → IsWell caching b → b.service ≡ Free → Probes own k (b.pair r)
-    → IsOwnSource (Waits r own source k) b.source → (w : ℕ) → is_probed r own k (b.pair w).recorded w ≡ true
-    → IsWell caching (served_block r own source tracker k b)
-served-block caching r own source tracker k b h free asks sourced w probed =
+pub served-block : {X : Type 0} {caching : ℕ → Bool} (r : ℕ) {own : Bool} (source tracker : ℕ) {k : Cap} {b : Block X}
+    → IsWell caching b → b.service ≡ Free → Probes own k (b.pair r) → IsOwnSource (Waits r own source k) b.source
+    → (w : ℕ) → is_probed r own k (b.pair w).recorded w ≡ true → IsWell caching (served_block r own source tracker k b)
+served-block r {own} source tracker {k} {b} h free asks sourced w probed =
     let recorded_same = unprobed_part (λ p. p.recorded) r own k b.pair (λ p. refl) in
     let held_same = unprobed_part (λ p. p.held) r own k b.pair (λ p. refl) in
     record {
@@ -204,8 +203,7 @@ leaves part n l rest false true e = e l.a (l.b ++ packet Probe n ∷ [])
 leaves part n l rest false false e = refl
 
 any_moved : (ch : Channel) (m : Move) (n : ℕ) (l : Link) (rest : List Packet) (x p : Bool)
-    → (x ≡ true → IsMoved m l.a rest) → (x ≡ false → m ≡ Stays)
-    → IsMoved (request_move m p n ch) (packets_on ch l)
+    → (x ≡ true → IsMoved m l.a rest) → (x ≡ false → m ≡ Stays) → IsMoved (request_move m p n ch) (packets_on ch l)
     (packets_on ch (with_probe n p (if x then record l { a = rest } else l)))
 any_moved Channel.A m n l rest true true pops stays = pops refl
 any_moved Channel.A m n l rest true false pops stays = pops refl
@@ -233,15 +231,14 @@ any_own Channel.E n source own x p = refl
 
 -- ---- the whole
 
-served-event : {X : Type 0} (caching : ℕ → Bool) (r n : ℕ) (own : Bool) (source tracker : ℕ) (k : Cap)
-    (rest : List Packet) (s : State X) → IsInvariant caching s
+served-event : {X : Type 0} {caching : ℕ → Bool} (r n : ℕ) {own : Bool} (source tracker : ℕ) {k : Cap}
+    (rest : List Packet) {s : State X} → IsInvariant caching s
     → (s.link r).a ≡ packet (kind_served own) (number_served own n source) ∷ rest → (s.block n).service ≡ Free
-    → Probes own k ((s.block n).pair r)
-    → IsOwnSource (Waits r own source k) (s.block n).source → (w : ℕ)
+    → Probes own k ((s.block n).pair r) → IsOwnSource (Waits r own source k) (s.block n).source → (w : ℕ)
     → is_probed r own k ((s.block n).pair w).recorded w ≡ true
     → IsEvent caching n (served_block r own source tracker k (s.block n))
     (served_link r own n k rest (s.block n) s.link) (served_moves r own n source k (s.block n).pair) s
-served-event caching r n own source tracker k rest s inv first free asks sourced w probed =
+served-event {caching} r n {own} source tracker {k} rest {s} inv first free asks sourced w probed =
     let before : (j : Kind) (d : ℕ) (after : Bool) (m : Move) → agrees m j n (shows j ((s.block n).pair d) Idle) after
     ≡ true → agrees m j n (shown j d (s.block n)) after ≡ true = λ j d after m h. rw free h in
     let quiet : (d : ℕ) → is_unprobed ((s.block n).pair d).probing ≡ true =
@@ -250,7 +247,7 @@ served-event caching r n own source tracker k rest s inv first free asks sourced
     → IsMoved (if d == r then Pops (kind_served own) (number_served own n source) else Stays) (s.link d).a rest =
     λ d e. rw (e, eqb-true d r e) first in
     record {
-      well = served-block caching r own source tracker k (s.block n) (inv.blocks n) free asks sourced w probed;
+      well = served-block r source tracker (inv.blocks n) free asks sourced w probed;
       moved = λ d ch. any_moved ch (if d == r then Pops (kind_served own) (number_served own n source) else Stays) n
           (s.link d) rest (d == r)
           (is_probed r own k ((s.block n).pair d).recorded d) (pops d) (stays (d == r));
@@ -271,9 +268,8 @@ served-event caching r n own source tracker k rest s inv first free asks sourced
     stays false e = refl
 
 -- no access is taken or answered where an Acquire is taken
-bare_move : (x p : Bool) (n : ℕ)
-    → (spares (request_move (if x then Pops Acquire n else Stays) p n Channel.A) Request ≡ true)
-    × (spares (request_move (if x then Pops Acquire n else Stays) p n Channel.D) Answer ≡ true)
+bare_move : (x p : Bool) (n : ℕ) → (spares (request_move (if x then Pops Acquire n else Stays) p n Channel.A) Request
+    ≡ true) × (spares (request_move (if x then Pops Acquire n else Stays) p n Channel.D) Answer ≡ true)
 bare_move true p n = (refl, refl)
 bare_move false p n = (refl, refl)
 
@@ -292,18 +288,18 @@ not_named : (n m : ℕ) → (m ≡ n → ⊥) → is_of m (Some n) ≡ is_of m N
 not_named n m ne = ne_eqb m n ne
 
 -- an Acquire
-pub acquire_served-kept : {X : Type 0} (caching : ℕ → Bool) (r n source tracker : ℕ) (whole : Bool) (g : Grow) (k : Cap)
-    (rest : List Packet) (s : State X) → IsInvariant caching s
-    → (s.link r).a ≡ packet Acquire n ∷ rest → (s.block n).service ≡ Free
-    → ((s.block n).pair r).acquiring ≡ AcquireOpen whole g → same_cap k (cap_asked (AcquireOpen whole g)) ≡ true
-    → s.tracked tracker ≡ None → source ≡ (s.block n).source r
+pub acquire_served-kept : {X : Type 0} {caching : ℕ → Bool} (r n source tracker : ℕ) (whole : Bool) (g : Grow) (k : Cap)
+    (rest : List Packet) {s : State X} → IsInvariant caching s → (s.link r).a ≡ packet Acquire n ∷ rest
+    → (s.block n).service ≡ Free → ((s.block n).pair r).acquiring ≡ AcquireOpen whole g
+    → same_cap k (cap_asked (AcquireOpen whole g)) ≡ true → s.tracked tracker ≡ None → source ≡ (s.block n).source r
     → (w : ℕ) → is_probed r true k ((s.block n).pair w).recorded w ≡ true
     → IsInvariant caching (acquire_served r n source tracker k rest s)
-acquire_served-kept {X} caching r n source tracker whole g k rest s inv first free wants low unused sourced w probed =
+acquire_served-kept {X} {caching} r n source tracker whole g k rest {s} inv first free wants low unused sourced w
+    probed =
     let new : Block X = served_block r true source tracker k (s.block n) in
     invariant-moved caching n new (served_link r true n k rest (s.block n) s.link)
     (served_moves r true n source k (s.block n).pair) s.lets (set tracker (Some n) s.tracked) s inv
-    (served-event caching r n true source tracker k rest s inv first free (whole, g, wants, low) sourced w probed)
+    (served-event r n source tracker rest inv first free (whole, g, wants, low) sourced w probed)
     (λ d. bare_move (d == r) (is_probed r true k ((s.block n).pair d).recorded d) n)
     (record {
       acquires = λ c. names-block acquires_of (acquires_with c) (s.uses c) n new s.block
@@ -318,17 +314,16 @@ acquire_served-kept {X} caching r n source tracker whole g k rest s inv first fr
     })
 
 -- an access
-pub access_served-kept : {X : Type 0} (caching : ℕ → Bool) (r n source tracker : ℕ) (k : Cap) (rest : List Packet)
-    (s : State X) → IsInvariant caching s
-    → (s.link r).a ≡ packet Request source ∷ rest → (s.block n).service ≡ Free → s.uses r source ≡ Asked
-    → same_cap k Cap.ToT ≡ false → s.tracked tracker ≡ None
-    → (w : ℕ) → is_probed r false k ((s.block n).pair w).recorded w ≡ true
+pub access_served-kept : {X : Type 0} {caching : ℕ → Bool} (r n source tracker : ℕ) (k : Cap) (rest : List Packet)
+    {s : State X} → IsInvariant caching s → (s.link r).a ≡ packet Request source ∷ rest → (s.block n).service ≡ Free
+    → s.uses r source ≡ Asked → same_cap k Cap.ToT ≡ false → s.tracked tracker ≡ None → (w : ℕ)
+    → is_probed r false k ((s.block n).pair w).recorded w ≡ true
     → IsInvariant caching (access_served r n source tracker k rest s)
-access_served-kept {X} caching r n source tracker k rest s inv first free asked low unused w probed =
+access_served-kept {X} {caching} r n source tracker k rest {s} inv first free asked low unused w probed =
     let new : Block X = served_block r false source tracker k (s.block n) in
-    invariant-moved_use caching n new (served_link r false n k rest (s.block n) s.link)
-    (served_moves r false n source k (s.block n).pair) r source (InService n) (set tracker (Some n) s.tracked) s inv
-    (served-event caching r n false source tracker k rest s inv first free low tt w probed)
+    invariant-moved_use
+    r source (InService n) (set tracker (Some n) s.tracked) inv
+    (served-event r n source tracker rest inv first free low tt w probed)
     (rw (asked, same_number r, same_number source) refl) (rw asked refl)
     (λ d ne. (rw (ne_eqb d r ne) refl, refl))
     (record {

@@ -26,10 +26,10 @@ some_held : (p : Perm) → same_perm p Perm.Branch ≡ true → same_perm p Perm
 some_held Perm.Branch e = refl
 some_held p e = absurd cc
 
-pub taken-block : {X : Type 0} (caching : ℕ → Bool) (c : ℕ) (d whole : Bool) (g : Grow) (k : Cap) (b : Block X)
+pub taken-block : {X : Type 0} {caching : ℕ → Bool} (c : ℕ) (d whole : Bool) (g : Grow) (k : Cap) {b : Block X}
     → IsWell caching b → b.service ≡ GrantSent c d k
     → (b.pair c).acquiring ≡ AcquireOpen whole g → IsWell caching (taken_block c whole d k b)
-taken-block {X} caching c d whole g k b h granting wants = record {
+taken-block {X} c d whole g k {b} h granting wants = record {
   phases = λ i. elim (cases_eq i c) [
     | inl same ↦ rw (same, set-same c after b.pair, view_here)
         (grant_taken-ok d k (b.pair c) (view b.service c) (h.phases c) seen)
@@ -85,8 +85,7 @@ taken-block {X} caching c d whole g k b h granting wants = record {
         (cap_fits whole g k && (not (whole && d) && (whole || (d || same_perm (b.pair c).held Perm.Branch)))) fit
 
     owns : whole ≡ true → same_perm (b.pair c).recorded Perm.Trunk ≡ true
-    owns e =
-        whole_trunk g k (b.pair c).recorded (and_left (same_perm (b.pair c).recorded (cap_right k))
+    owns e = whole_trunk g k (b.pair c).recorded (and_left (same_perm (b.pair c).recorded (cap_right k))
         (cap_fits whole g k && (not (whole && d) && (whole || (d || same_perm (b.pair c).held Perm.Branch)))) fit)
         (rw e at (and_left (cap_fits whole g k)
         (not (whole && d) && (whole || (d || same_perm (b.pair c).held Perm.Branch))) fit_rest))

@@ -1,7 +1,7 @@
 -- A Grant that is taken keeps the invariant.
 use Rattle.tl_coherence.proofs.protocol.Imports.{Channel, Cap, Grow, ClientBlock, Granting, Acknowledging, AcquireOpen}
 use Rattle.tl_coherence.proofs.protocol.Imports.{after_grant, Kind, Acquire, Probe, ProbeAck, Release, Grant}
-use Rattle.tl_coherence.proofs.protocol.Imports.{ReleaseAck, GrantAck, Packet, set, GrantSent, Block, State, Link}
+use Rattle.tl_coherence.proofs.protocol.Imports.{ReleaseAck, GrantAck, Packet, GrantSent, Block, State, Link}
 use Rattle.tl_coherence.proofs.protocol.Imports.{SourceFree, Acquires, packet, shows, is_transfer, is_wanting, is_sent}
 use Rattle.tl_coherence.proofs.protocol.Imports.{is_answered, is_releasing, is_acked, taken_block, Move, Stays, Pushes}
 use Rattle.tl_coherence.proofs.protocol.Imports.{Pops, AreMoved, agrees, is_own_move, channel_for, is_of, acquires_of}
@@ -11,7 +11,7 @@ use Rattle.std.proofs.Common.{◌≡◌, refl, sym, ◌∙◌}
 use Rattle.std.specs.Prelude.{ℕ, Bool, true, false, List, ◌∷◌, ◌&&◌}
 use Rattle.std.{proofs.lemmas.Bool.ne_eqb, proofs.Math.Bool.and-false}
 use Rattle.tl_coherence.specs.protocol.Protocol.{taken_link, grant_taken}
-use Rattle.tl_coherence.proofs.queues.Moves.{moves_at, event-at, bare-elsewhere, names-block, names-set_at}
+use Rattle.tl_coherence.proofs.queues.Moves.{event-at, bare-elsewhere, names-block, names-set_at}
 use Rattle.tl_coherence.proofs.queues.Moves.{invariant-moved_use}
 use Rattle.tl_coherence.proofs.{queues.KindMoves.same_again, protocol.Taken.taken-block}
 use Rattle.tl_coherence.proofs.{protocol.BothParts.acquires_of-is}
@@ -38,20 +38,20 @@ taken_shows n ReleaseAck d k p t = same_again (is_acked p.letting)
 taken_shows n GrantAck d k p t = rw (same_number n) refl
 taken_shows n j d k p t = absurd cc
 
-pub grant_taken-kept : {X : Type 0} (caching : ℕ → Bool) (c n : ℕ) (d whole : Bool) (g : Grow) (k : Cap)
-    (rest : List Packet) (s : State X) → IsInvariant caching s → (s.link c).d ≡ packet Grant n ∷ rest
+pub grant_taken-kept : {X : Type 0} {caching : ℕ → Bool} (c n : ℕ) (d whole : Bool) (g : Grow) (k : Cap)
+    (rest : List Packet) {s : State X} → IsInvariant caching s → (s.link c).d ≡ packet Grant n ∷ rest
     → (s.block n).service ≡ GrantSent c d k → ((s.block n).pair c).acquiring ≡ AcquireOpen whole g
     → IsInvariant caching (grant_taken c n whole d k rest s)
-grant_taken-kept {X} caching c n d whole g k rest s inv first granting wants =
+grant_taken-kept {X} {caching} c n d whole g k rest {s} inv first granting wants =
     let old : ℕ → ClientBlock = (s.block n).pair in
     let after : ClientBlock = after_grant k (old c) in
     let new : Block X = taken_block c whole d k (s.block n) in
     let used : s.uses c source ≡ Acquires n = acquires_of-is n (s.uses c source) (inv.named.acquires c source n
     ∙ rw (wants, same_number source) refl) in
-    invariant-moved_use caching n new (set c here s.link) (moves_at c (taken_moves n)) c source SourceFree s.tracked s
+    invariant-moved_use c source SourceFree s.tracked
     inv
-    (event-at caching c n new here (taken_moves n) s (record {
-      well = taken-block caching c d whole g k (s.block n) (inv.blocks n) granting wants;
+    (event-at (record {
+      well = taken-block c d whole g k (inv.blocks n) granting wants;
       moved = moved;
       own = own;
       fits = λ j t. rw (granting, set-same c after old, same_number c) (taken_shows n j d k (old c) t);

@@ -33,24 +33,22 @@ not_there : (n : ℕ) → n ≡ 0 → 0 < n → ⊥
 not_there n e lt = absurd (omega (arith, e, lt))
 
 -- how often a token of the kind stands on the channel
-once_of : {X : Type 0} (caching : ℕ → Bool) (s : State X) (c : ℕ) (ch : Channel) (k : Kind) (n : ℕ)
+once_of : {X : Type 0} {caching : ℕ → Bool} {s : State X} (c : ℕ) (ch : Channel) (k : Kind) (n : ℕ)
     → IsInvariant caching s → is_on ch k ≡ true
     → packets_on ch (s.link c) ≡ on k (s.link c) → count k n (packets_on ch (s.link c)) ≤ 1
-once_of caching s c ch Request n inv on_it is = at_most_one _ (is_asked (s.uses c n)) (rw is (inv.requests c n))
-once_of caching s c ch Answer n inv on_it is = at_most_one _ (is_replied (s.uses c n)) (rw is (inv.answers c n))
-once_of caching s c ch Acquire n inv on_it is =
+once_of {s} c ch Request n inv on_it is = at_most_one _ (is_asked (s.uses c n)) (rw is (inv.requests c n))
+once_of {s} c ch Answer n inv on_it is = at_most_one _ (is_replied (s.uses c n)) (rw is (inv.answers c n))
+once_of {s} c ch Acquire n inv on_it is =
     at_most_one _ (shown Acquire c (s.block n)) (rw is (inv.transfers c Acquire refl n))
-once_of caching s c ch Probe n inv on_it is =
-    at_most_one _ (shown Probe c (s.block n)) (rw is (inv.transfers c Probe refl n))
-once_of caching s c ch ProbeAck n inv on_it is =
+once_of {s} c ch Probe n inv on_it is = at_most_one _ (shown Probe c (s.block n)) (rw is (inv.transfers c Probe refl n))
+once_of {s} c ch ProbeAck n inv on_it is =
     at_most_one _ (shown ProbeAck c (s.block n)) (rw is (inv.transfers c ProbeAck refl n))
-once_of caching s c ch Release n inv on_it is =
+once_of {s} c ch Release n inv on_it is =
     at_most_one _ (shown Release c (s.block n)) (rw is (inv.transfers c Release refl n))
-once_of caching s c ch Grant n inv on_it is =
-    at_most_one _ (shown Grant c (s.block n)) (rw is (inv.transfers c Grant refl n))
-once_of caching s c ch ReleaseAck n inv on_it is =
+once_of {s} c ch Grant n inv on_it is = at_most_one _ (shown Grant c (s.block n)) (rw is (inv.transfers c Grant refl n))
+once_of {s} c ch ReleaseAck n inv on_it is =
     at_most_one _ (shown ReleaseAck c (s.block n)) (rw is (inv.transfers c ReleaseAck refl n))
-once_of caching s c ch GrantAck n inv on_it is =
+once_of {s} c ch GrantAck n inv on_it is =
     at_most_one _ (shown GrantAck c (s.block n)) (rw is (inv.transfers c GrantAck refl n))
 
 -- no token stands twice on a channel
@@ -59,7 +57,7 @@ pub once : {X : Type 0} (caching : ℕ → Bool) (s : State X) (c : ℕ) (ch : C
 once caching s c ch inv k n = go (is_on ch k) refl
   where
     go : (b : Bool) → is_on ch k ≡ b → count k n (packets_on ch (s.link c)) ≤ 1
-    go true e = once_of caching s c ch k n inv e (on_same ch k (s.link c) e)
+    go true e = once_of c ch k n inv e (on_same ch k (s.link c) e)
     go false e = let none : count k n (packets_on ch (s.link c)) ≡ 0 = inv.own_kinds c ch k n e in omega (arith, none)
 
 -- a token is of a kind of its channel
@@ -77,10 +75,9 @@ shows_it s c Request n = is_asked (s.uses c n)
 shows_it s c Answer n = is_replied (s.uses c n)
 shows_it s c k n = shown k c (s.block n)
 
-pub shown_there : {X : Type 0} (caching : ℕ → Bool) (s : State X) (c : ℕ) (ch : Channel) (k : Kind) (n : ℕ)
-    → IsInvariant caching s → is_on ch k ≡ true
-    → 0 < count k n (packets_on ch (s.link c)) → shows_it s c k n ≡ true
-shown_there caching s c ch k n inv on_it there = go k refl
+pub shown_there : {X : Type 0} {caching : ℕ → Bool} {s : State X} (c : ℕ) (ch : Channel) (k : Kind) (n : ℕ)
+    → IsInvariant caching s → is_on ch k ≡ true → 0 < count k n (packets_on ch (s.link c)) → shows_it s c k n ≡ true
+shown_there {s} c ch k n inv on_it there = go k refl
   where
     on_k : 0 < count k n (on k (s.link c))
     on_k = rw (on_same ch k (s.link c) on_it) at there
@@ -127,26 +124,20 @@ name s c ReleaseAck n = (s.block n).release_source c
 name s c k n = (s.block n).tracker
 
 -- the source of an open Acquire is of its block
-pub source_of_acquire : {X : Type 0} (caching : ℕ → Bool) (s : State X) (c n : ℕ) → IsInvariant caching s
-    → is_wanting ((s.block n).pair c).acquiring ≡ true
-    → s.uses c ((s.block n).source c) ≡ Acquires n
-source_of_acquire caching s c n inv wants =
-    acquires_of-is n (s.uses c ((s.block n).source c)) (inv.named.acquires c ((s.block n).source c) n ∙ rw
-    (wants, same_number ((s.block n).source c)) refl)
+pub source_of_acquire : {X : Type 0} {caching : ℕ → Bool} {s : State X} (c n : ℕ) → IsInvariant caching s
+    → is_wanting ((s.block n).pair c).acquiring ≡ true → s.uses c ((s.block n).source c) ≡ Acquires n
+source_of_acquire {s} c n inv wants = acquires_of-is n (s.uses c ((s.block n).source c))
+    (inv.named.acquires c ((s.block n).source c) n ∙ rw (wants, same_number ((s.block n).source c)) refl)
 
-pub source_of_release : {X : Type 0} (caching : ℕ → Bool) (s : State X) (c n : ℕ) → IsInvariant caching s
-    → is_unreleased ((s.block n).pair c).letting ≡ false
-    → s.lets c ((s.block n).release_source c) ≡ Some n
-source_of_release caching s c n inv lets =
-    is_of-is n (s.lets c ((s.block n).release_source c)) (inv.named.releases c ((s.block n).release_source c) n ∙ rw
-    (lets, same_number ((s.block n).release_source c)) refl)
+pub source_of_release : {X : Type 0} {caching : ℕ → Bool} {s : State X} (c n : ℕ) → IsInvariant caching s
+    → is_unreleased ((s.block n).pair c).letting ≡ false → s.lets c ((s.block n).release_source c) ≡ Some n
+source_of_release {s} c n inv lets = is_of-is n (s.lets c ((s.block n).release_source c))
+    (inv.named.releases c ((s.block n).release_source c) n ∙ rw (lets, same_number ((s.block n).release_source c)) refl)
 
-pub tracker_of_service : {X : Type 0} (caching : ℕ → Bool) (s : State X) (n : ℕ) → IsInvariant caching s
-    → is_busy (s.block n).service ≡ true
-    → s.tracked (s.block n).tracker ≡ Some n
-tracker_of_service caching s n inv busy =
-    is_of-is n (s.tracked (s.block n).tracker)
-    (inv.named.trackers (s.block n).tracker n ∙ rw (busy, same_number (s.block n).tracker) refl)
+pub tracker_of_service : {X : Type 0} {caching : ℕ → Bool} {s : State X} (n : ℕ) → IsInvariant caching s
+    → is_busy (s.block n).service ≡ true → s.tracked (s.block n).tracker ≡ Some n
+tracker_of_service {s} n inv busy = is_of-is n (s.tracked (s.block n).tracker) (inv.named.trackers (s.block n).tracker n
+    ∙ rw (busy, same_number (s.block n).tracker) refl)
 
 -- ---- what phases say
 

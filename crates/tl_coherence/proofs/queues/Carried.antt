@@ -20,8 +20,7 @@ spelled-one m = append-nil (beats_from m 0 (beats_of m))
 -- ---- a message is pushed
 
 pub carried-push : {w : ℕ} (rest : List (Beat w)) (ms : List (Message w)) (queue : List (Beat w)) (m : Message w)
-    → 0 < beats_of m → IsCarried rest ms queue
-    → IsCarried rest (ms ++ m ∷ []) (queue ++ beats_from m 0 (beats_of m))
+    → 0 < beats_of m → IsCarried rest ms queue → IsCarried rest (ms ++ m ∷ []) (queue ++ beats_from m 0 (beats_of m))
 unfolding spelled
 carried-push {w} rest [] queue m pos h =
     let all : beats_of m - 0 ≡ beats_of m = omega arith in

@@ -20,8 +20,7 @@ staying (Pops k n) xs ys = ys
 staying _ xs ys = xs
 
 pub carried-moved : {w : ℕ} (move : Move) (xs ys : List Packet) (f g : Packet → Message w) (m : Kind → ℕ → Message w)
-    (q after r rest : List (Beat w)) → IsWidth w → IsMoved move xs ys
-    → IsQueued move m q after r rest
+    (q after r rest : List (Beat w)) → IsWidth w → IsMoved move xs ys → IsQueued move m q after r rest
     → ((k : Kind) (n : ℕ) → move ≡ Pushes k n → g (packet k n) ≡ m k n)
     → map g (staying move xs ys) ≡ map f (staying move xs ys) → IsCarried r (map f xs) q
     → IsCarried rest (map g ys) after

@@ -90,12 +90,11 @@ not_there true true n le me = inr (refl, refl)
 not_there false b n le me = inl (omega (arith, le))
 not_there true false n le me = inl (omega (arith, me))
 
-pub messages-stay : {w : ℕ} (caching : ℕ → Bool) (n : ℕ) (moves : ℕ → Channel → Move) (mail mail' : AccessMessages w)
-    (s s' : State (List ℕ)) → IsShowing caching n moves mail mail' s s' → (d : ℕ) (ch : Channel)
-    → map (message_of mail' s' d) (staying (moves d ch) (packets_on ch (s.link d)) (packets_on ch (s'.link d))) ≡ map
-    (message_of mail s d)
-    (staying (moves d ch) (packets_on ch (s.link d)) (packets_on ch (s'.link d)))
-messages-stay {w} caching n moves mail mail' s s' event d ch =
+pub messages-stay : {w : ℕ} {caching : ℕ → Bool} {n : ℕ} {moves : ℕ → Channel → Move} {mail mail' : AccessMessages w}
+    {s s' : State (List ℕ)} → IsShowing caching n moves mail mail' s s' → (d : ℕ) (ch : Channel)
+    → map (message_of mail' s' d) (staying (moves d ch) (packets_on ch (s.link d)) (packets_on ch (s'.link d)))
+    ≡ map (message_of mail s d) (staying (moves d ch) (packets_on ch (s.link d)) (packets_on ch (s'.link d)))
+messages-stay {w} {n} {moves} {mail} {mail'} {s} {s'} event d ch =
     map_kept (λ k i. message_of_kind k mail s d i) (λ k i. message_of_kind k mail' s' d i) stay
     (λ k i. each k i (is_on ch k) refl)
   where
@@ -171,23 +170,19 @@ messages-stay {w} caching n moves mail mail' s s' event d ch =
 
 -- the beats of all channels move with the tokens
 abbrev pub AreQueued : {w : ℕ} → (ℕ → Channel → Move) → AccessMessages w → State (List ℕ) → System w → System w → Type 0
-AreQueued moves mail s before after =
-    (d : ℕ) (ch : Channel)
+AreQueued moves mail s before after = (d : ℕ) (ch : Channel)
     → IsQueued (moves d ch) (λ k i. message_of mail s d (packet k i)) (before.channels d ch) (after.channels d ch)
     (unfinished ch (receiver ch d before)) (unfinished ch (receiver ch d after))
 
 -- the channels carry the messages of the tokens after every event
 pub carried-event : {w : ℕ} (caching : ℕ → Bool) (n : ℕ) (moves : ℕ → Channel → Move) (mail mail' : AccessMessages w)
-    (s s' : State (List ℕ)) (sys sys' : System w) → IsWidth w
-    → IsShowing caching n moves mail mail' s s' → AreQueued moves mail' s' sys sys' → ChannelRelation mail s sys
-    → ChannelRelation mail' s' sys'
+    (s s' : State (List ℕ)) (sys sys' : System w) → IsWidth w → IsShowing caching n moves mail mail' s s'
+    → AreQueued moves mail' s' sys sys' → ChannelRelation mail s sys → ChannelRelation mail' s' sys'
 carried-event caching n moves mail mail' s s' sys sys' width event queued h d ch =
     carried-moved (moves d ch) (packets_on ch (s.link d)) (packets_on ch (s'.link d)) (message_of mail s d)
-    (message_of mail' s' d) (λ k i. message_of mail' s' d (packet k i))
-    (sys.channels d ch) (sys'.channels d ch) (unfinished ch (receiver ch d sys)) (unfinished ch (receiver ch d sys'))
-    width (event.moved d ch) (queued d ch)
-    (λ k i e. refl)
-    (messages-stay caching n moves mail mail' s s' event d ch) (h d ch)
+    (message_of mail' s' d) (λ k i. message_of mail' s' d (packet k i)) (sys.channels d ch) (sys'.channels d ch)
+    (unfinished ch (receiver ch d sys)) (unfinished ch (receiver ch d sys')) width (event.moved d ch) (queued d ch)
+    (λ k i e. refl) (messages-stay event d ch) (h d ch)
 
 -- ---- how a channel's beats move
 
@@ -220,9 +215,8 @@ pub record IsTaken {w : ℕ} (c : ℕ) (ch : Channel) (x : Beat w) (queue : List
   pub last : completes x (unfinished ch (receiver ch c sys)) ≡ true
   pub channels : (d : ℕ) (at : Channel)
       → sys'.channels d at ≡ behind (pushes d at) (if (d == c) && same_channel at ch then queue else sys.channels d at)
-  pub rests : (d : ℕ) (at : Channel)
-      → unfinished at (receiver at d sys') ≡ (if (d == c) && same_channel at ch then [] else unfinished at
-      (receiver at d sys))
+  pub rests : (d : ℕ) (at : Channel) → unfinished at (receiver at d sys')
+      ≡ (if (d == c) && same_channel at ch then [] else unfinished at (receiver at d sys))
 
 pub same_channel-is : (a b : Channel) → same_channel a b ≡ true → a ≡ b
 same_channel-is Channel.A Channel.A e = refl
@@ -232,18 +226,15 @@ same_channel-is Channel.D Channel.D e = refl
 same_channel-is Channel.E Channel.E e = refl
 same_channel-is a b e = absurd cc
 
-pub queued-taken : {w : ℕ} (c : ℕ) (ch : Channel) (x : Beat w) (queue : List (Beat w)) (pushes : ℕ → Channel
-    → Option (Message w)) (moves : ℕ → Channel → Move)
-    (mail : AccessMessages w) (s : State (List ℕ)) (sys sys' : System w)
-    → IsTaken c ch x queue pushes sys sys'
+pub queued-taken : {w : ℕ} {c : ℕ} {ch : Channel} {x : Beat w} {queue : List (Beat w)} {pushes : ℕ → Channel
+    → Option (Message w)} (moves : ℕ → Channel → Move) (mail : AccessMessages w) (s : State (List ℕ))
+    {sys sys' : System w} → IsTaken c ch x queue pushes sys sys'
     → ((d : ℕ) (at : Channel) → Fits ((d == c) && same_channel at ch) (pushes d at) (moves d at)
-    (λ k i. message_of mail s d (packet k i)))
-    → AreQueued moves mail s sys sys'
-queued-taken {w} c ch x queue pushes moves mail s sys sys' is fits d at =
+    (λ k i. message_of mail s d (packet k i))) → AreQueued moves mail s sys sys'
+queued-taken {w} {c} {ch} {x} {queue} {pushes} moves mail s {sys} {sys'} is fits d at =
     queued-by ((d == c) && same_channel at ch) (pushes d at) (moves d at) (λ k i. message_of mail s d (packet k i)) x
-    queue (sys.channels d at)
-    (sys'.channels d at) (unfinished at (receiver at d sys)) (unfinished at (receiver at d sys'))
-    (fits d at) (is.channels d at) (is.rests d at) (λ e. here e (cases_eq d c))
+    queue (sys.channels d at) (sys'.channels d at) (unfinished at (receiver at d sys))
+    (unfinished at (receiver at d sys')) (fits d at) (is.channels d at) (is.rests d at) (λ e. here e (cases_eq d c))
   where
     here : ((d == c) && same_channel at ch) ≡ true → (d ≡ c) ⊎ (d ≡ c → ⊥) → (sys.channels d at ≡ x ∷ queue)
         × (completes x (unfinished at (receiver at d sys)) ≡ true)
@@ -260,9 +251,8 @@ pub queued-handed : {w : ℕ} (pushes : ℕ → Channel → Option (Message w)) 
     (mail : AccessMessages w) (s : State (List ℕ)) (sys sys' : System w) → IsHanded pushes sys sys'
     → ((d : ℕ) (at : Channel) → Fits false (pushes d at) (moves d at) (λ k i. message_of mail s d (packet k i)))
     → AreQueued moves mail s sys sys'
-queued-handed {w} pushes moves mail s sys sys' is fits d at =
-    queued-with (pushes d at) (moves d at) (sys.channels d at) (sys'.channels d at) (unfinished at (receiver at d sys))
-    (unfinished at (receiver at d sys'))
+queued-handed {w} pushes moves mail s sys sys' is fits d at = queued-with (pushes d at) (moves d at) (sys.channels d at)
+    (sys'.channels d at) (unfinished at (receiver at d sys)) (unfinished at (receiver at d sys'))
     (λ k i. message_of mail s d (packet k i)) (fits d at) (is.channels d at) (is.rests d at)
   where
     queued-with : (push : Option (Message w)) (move : Move) (q after r rest : List (Beat w)) (render : Kind → ℕ
@@ -293,8 +283,7 @@ moved-at c moves l link h d ch =
     ]
 
 pub fits-at : {w : ℕ} (c : ℕ) (ch : Channel) (pushes : Channel → Option (Message w)) (moves : Channel → Move)
-    (render : ℕ → Kind → ℕ → Message w)
-    → ((at : Channel) → Fits (same_channel at ch) (pushes at) (moves at) (render c))
+    (render : ℕ → Kind → ℕ → Message w) → ((at : Channel) → Fits (same_channel at ch) (pushes at) (moves at) (render c))
     → (d : ℕ) (at : Channel) → Fits ((d == c) && same_channel at ch) (pushes_at c pushes d at) (moves_at c moves d at)
     (render d)
 fits-at {w} c ch pushes moves render h d at = elim (cases_eq d c) [

@@ -76,9 +76,8 @@ named test name i x = test x && (name x == i)
 
 one-name : (b : Bool) (n bound : ℕ) → (b ≡ true → n < bound) → total bound (λ i. one_if (b && (n == i))) ≡ one_if b
 one-name false n bound below = total-zero bound (λ i. 0) (λ i lt. refl)
-one-name true n bound below =
-    total-same bound (λ i. one_if (n == i)) (λ i. if i == n then 1 else 0) (λ i lt. at i (cases_eq i n)) ∙ total-one
-    bound n 1 (below refl)
+one-name true n bound below = total-same bound (λ i. one_if (n == i)) (λ i. if i == n then 1 else 0)
+    (λ i lt. at i (cases_eq i n)) ∙ total-one bound n 1 (below refl)
   where
     at : (i : ℕ) → (i ≡ n) ⊎ (i ≡ n → ⊥) → one_if (n == i) ≡ (if i == n then 1 else 0)
     at i (inl e) = rw (e, same_number n) refl
@@ -99,8 +98,7 @@ by-names test name bound (x ∷ xs) below =
 -- no more than the bound.
 pub few : (test : Packet → Bool) (name : Packet → ℕ) (owner : ℕ → Option Packet) (bound : ℕ) (xs : List Packet)
     → ((k : Kind) (n : ℕ) → count k n xs ≤ 1) → ((x : Packet) → IsThere x xs → test x ≡ true → (owner (name x) ≡ Some x)
-    × (name x < bound))
-    → passing test xs ≤ bound
+    × (name x < bound)) → passing test xs ≤ bound
 few test name owner bound xs once own =
     let each = total-le bound (λ i. passing (named test name i) xs) (λ i. 1) (λ i lt. at i (owner i) refl) in
     omega (arith, each, by-names test name bound xs (λ x there pass. (own x there pass).1), total-const bound 1)

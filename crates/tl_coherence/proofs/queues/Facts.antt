@@ -62,9 +62,8 @@ reported_within k r p v h e answered =
     (on_answered p.probing (λ j. perm_le (report_right j) (cap_right k))) t)
 
 pub cap_is_low : (k : Cap) (p : ClientBlock) (v : View) → ok p v ≡ true → v ≡ Other k → same_cap k Cap.ToT ≡ false
-cap_is_low k p v h e =
-    not-true (same_cap k Cap.ToT) (and_left (not (same_cap k Cap.ToT))
-    (on_quiet p.probing (perm_le p.recorded (cap_right k)) && on_answered p.probing
+cap_is_low k p v h e = not-true (same_cap k Cap.ToT)
+    (and_left (not (same_cap k Cap.ToT)) (on_quiet p.probing (perm_le p.recorded (cap_right k)) && on_answered p.probing
     (λ r. perm_le (report_right r) (cap_right k))) (within_of k p v h e))
 
 -- one whose own Acquire is served isn't recorded Trunk
@@ -83,8 +82,7 @@ own_low p v h e = own_is v (not (same_perm p.recorded Perm.Trunk)) e (of_phase o
 pub report_begins : (r : Report) (p : ClientBlock) (v : View) → ok p v ≡ true → p.probing ≡ ProbeAnswered r
     → same_perm (report_left r) p.recorded ≡ true
 unfolding first_left_test
-report_begins r p v h e =
-    answered_is p.probing (λ j. same_perm (report_left j) p.recorded) r e
+report_begins r p v h e = answered_is p.probing (λ j. same_perm (report_left j) p.recorded) r e
     (and_left (on_answered p.probing (λ j. same_perm (report_left j) p.recorded))
     (on_releasing p.letting (λ j. is_answered p.probing || same_perm (prune_left j) p.recorded))
     (of_phase first_left_test first_left_all p v h))

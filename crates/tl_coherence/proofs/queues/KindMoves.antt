@@ -73,15 +73,12 @@ on_is k l = refl
 
 -- all transfers of a client after the moves of its link, where one block changes
 pub transfers-moved : {X : Type 0} (moves : Channel → Move) (l m : Link) (d n : ℕ) (b : Block X) (block : ℕ → Block X)
-    → AreMoved moves l m
-    → ((k : Kind) → is_transfer k ≡ true → agrees (moves (channel_for k)) k n (shown k d (block n)) (shown k d b)
-    ≡ true)
-    → ((k : Kind) → is_transfer k ≡ true → Holds k (on k l) (λ i. shown k d (block i)))
+    → AreMoved moves l m → ((k : Kind) → is_transfer k ≡ true → agrees (moves (channel_for k)) k n (shown k d (block n))
+    (shown k d b) ≡ true) → ((k : Kind) → is_transfer k ≡ true → Holds k (on k l) (λ i. shown k d (block i)))
     → (k : Kind) → is_transfer k ≡ true → Holds k (on k m) (λ i. shown k d (set n b block i))
 transfers-moved moves l m d n b block moved fits h k t =
     rw (on_is k m) (holds-moved k (moves (channel_for k)) (packets_on (channel_for k) l) (packets_on (channel_for k) m)
-    (shown k d) block n b
-    (moved (channel_for k)) (fits k t) (rw (on_is k l) at (h k t)))
+    (shown k d) block n b (moved (channel_for k)) (fits k t) (rw (on_is k l) at (h k t)))
 
 -- a kind that isn't one of the channel isn't one that is
 pub kinds_apart : (ch : Channel) (k j : Kind) → is_on ch k ≡ true → is_on ch j ≡ false → same_kind k j ≡ false

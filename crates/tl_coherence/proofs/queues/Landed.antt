@@ -64,8 +64,7 @@ pub record IsLanded {w : ℕ} (c : ℕ) (ch : Channel) (x : Beat w) (queue : Lis
 pub rests-ended : {w : ℕ} (c : ℕ) (ch : Channel) (x : Beat w) (sys : System w)
     → completes x (unfinished ch (receiver ch c sys)) ≡ true → (d : ℕ) (at : Channel)
     → (if (d == c) && same_channel at ch then grown x (unfinished at (receiver at d sys)) else unfinished at
-    (receiver at d sys))
-    ≡ (if (d == c) && same_channel at ch then [] else unfinished at (receiver at d sys))
+    (receiver at d sys)) ≡ (if (d == c) && same_channel at ch then [] else unfinished at (receiver at d sys))
 rests-ended {w} c ch x sys last d at = ended (cases_eq d c) (same_channel at ch) refl
   where
     rest : ℕ → Channel → List (Beat w)
@@ -77,10 +76,10 @@ rests-ended {w} c ch x sys last d at = ended (cases_eq d c) (same_channel at ch)
     ended (inl same) false f = rw (same, same_number c) refl
     ended (inr other) y f = rw (ne_eqb d c other) refl
 
-pub taken-landed : {w : ℕ} (c : ℕ) (ch : Channel) (x : Beat w) (queue : List (Beat w)) (pushes : ℕ → Channel
-    → Option (Message w)) (sys sys' : System w) → IsLanded c ch x queue pushes sys sys'
+pub taken-landed : {w : ℕ} {c : ℕ} {ch : Channel} {x : Beat w} {queue : List (Beat w)} {pushes : ℕ → Channel
+    → Option (Message w)} {sys sys' : System w} → IsLanded c ch x queue pushes sys sys'
     → completes x (unfinished ch (receiver ch c sys)) ≡ true → IsTaken c ch x queue pushes sys sys'
-taken-landed {w} c ch x queue pushes sys sys' is last = record {
+taken-landed {w} {c} {ch} {x} {sys} is last = record {
   first = is.first;
   last = last;
   channels = is.channels;
@@ -103,10 +102,8 @@ abbrev pub HasHeard : {w : ℕ} → Beat w → client.Endpoint w → client.Endp
 HasHeard x e e' = (at : Channel) → unfinished at e'.past ≡ unfinished at (x ∷ e.past)
 
 pub landed-client : {w : ℕ} (c : ℕ) (ch : Channel) (x : Beat w) (queue : List (Beat w)) (m : Option (Message w))
-    (e : client.Endpoint w) (sys : System w)
-    → is_to_client ch ≡ true → sys.channels c ch ≡ x ∷ queue → IsOn ch x
-    → HasHeard x (sys.clients c) e
-    → IsLanded c ch x queue (pushes_at c (pushes_of m)) sys
+    (e : client.Endpoint w) (sys : System w) → is_to_client ch ≡ true → sys.channels c ch ≡ x ∷ queue → IsOn ch x
+    → HasHeard x (sys.clients c) e → IsLanded c ch x queue (pushes_at c (pushes_of m)) sys
     (with_messages (handed_by c m) (with_client c e (with_channel c ch queue sys)))
 landed-client {w} c ch x queue m e sys to_client first is heard = record {
   first = first;
@@ -129,22 +126,19 @@ landed-client {w} c ch x queue m e sys to_client first is heard = record {
     ours : (d : ℕ) (at : Channel) → (d ≡ c) ⊎ (d ≡ c → ⊥)
         → unfinished at (after.clients d).past ≡ (if (d == c) && same_channel at ch then grown x
         (unfinished at (sys.clients d).past) else unfinished at (sys.clients d).past)
-    ours d at (inl same) =
-        rw same (ap (λ (f : ℕ → client.Endpoint w). unfinished at (f c).past) clients_are
-        ∙ ap (λ (b : Bool). unfinished at (if b then e else sys.clients c).past) (same_number c)
-        ∙ heard at ∙ grown_history ch at x (sys.clients c).past is
+    ours d at (inl same) = rw same (ap (λ (f : ℕ → client.Endpoint w). unfinished at (f c).past) clients_are
+        ∙ ap (λ (b : Bool). unfinished at (if b then e else sys.clients c).past) (same_number c) ∙ heard at
+        ∙ grown_history ch at x (sys.clients c).past is
         ∙ sym (ap (λ (b : Bool). if b && same_channel at ch then grown x (unfinished at (sys.clients c).past) else
         unfinished at (sys.clients c).past) (same_number c)))
-    ours d at (inr other) =
-        ap (λ (f : ℕ → client.Endpoint w). unfinished at (f d).past) clients_are
+    ours d at (inr other) = ap (λ (f : ℕ → client.Endpoint w). unfinished at (f d).past) clients_are
         ∙ ap (λ (b : Bool). unfinished at (if b then e else sys.clients d).past) (ne_eqb d c other)
         ∙ sym (ap (λ (b : Bool). if b && same_channel at ch then grown x (unfinished at (sys.clients d).past) else
         unfinished at (sys.clients d).past) (ne_eqb d c other))
 
-    theirs : (d : ℕ) (at : Channel) → same_channel at ch ≡ false
-        → unfinished at (on_link d after.manager.trace) ≡ (if (d == c)
-        && same_channel at ch then grown x (unfinished at (on_link d sys.manager.trace)) else unfinished at
-        (on_link d sys.manager.trace))
+    theirs : (d : ℕ) (at : Channel) → same_channel at ch ≡ false → unfinished at (on_link d after.manager.trace)
+        ≡ (if (d == c) && same_channel at ch then grown x (unfinished at (on_link d sys.manager.trace)) else unfinished
+        at (on_link d sys.manager.trace))
     theirs d at f = rw f (ap (λ (b : manager_end.End w). unfinished at (on_link d b.trace)) manager_is ∙ unless
         (d == c))
       where
@@ -189,8 +183,7 @@ handed-client {w} c m e sys same = record {
 
     ours : (d : ℕ) (at : Channel) → (d ≡ c) ⊎ (d ≡ c → ⊥) → unfinished at (after.clients d).past ≡ unfinished at
         (sys.clients d).past
-    ours d at (inl here) =
-        rw here (ap (λ (f : ℕ → client.Endpoint w). unfinished at (f c).past)
+    ours d at (inl here) = rw here (ap (λ (f : ℕ → client.Endpoint w). unfinished at (f c).past)
         (clients-with_messages (handed_by c m) base)
         ∙ ap (λ (b : Bool). unfinished at (if b then e else sys.clients c).past) (same_number c) ∙ same at)
     ours d at (inr other) =
@@ -240,11 +233,9 @@ rests-manager {w} c ch x queue handed e sys to_manager is heard = rests
         → unfinished at (on_link d after.manager.trace) ≡ (if (d == c)
         && same_channel at ch then grown x (unfinished at (on_link d sys.manager.trace)) else unfinished at
         (on_link d sys.manager.trace))
-    theirs d at up (inl same) =
-        rw same (ap (λ (b : manager_end.End w). unfinished at (on_link c b.trace)) manager_is ∙ heard c at up
-        ∙ ap (λ (b : Bool). unfinished at (if b then x ∷ on_link c sys.manager.trace else on_link c sys.manager.trace))
-        (same_number c)
-        ∙ grown_history ch at x (on_link c sys.manager.trace) is
+    theirs d at up (inl same) = rw same (ap (λ (b : manager_end.End w). unfinished at (on_link c b.trace)) manager_is
+        ∙ heard c at up ∙ ap (λ (b : Bool). unfinished at (if b then x ∷ on_link c sys.manager.trace else on_link c
+        sys.manager.trace)) (same_number c) ∙ grown_history ch at x (on_link c sys.manager.trace) is
         ∙ sym (ap (λ (b : Bool). if b && same_channel at ch then grown x (unfinished at (on_link c sys.manager.trace))
         else unfinished at (on_link c sys.manager.trace)) (same_number c)))
     theirs d at up (inr other) = cc (manager_is, heard d at up, swapped d other, ne_eqb d c other)
@@ -279,13 +270,10 @@ rests-manager {w} c ch x queue handed e sys to_manager is heard = rests
     rests d Channel.E = theirs d Channel.E refl (cases_eq d c)
 
 pub landed-manager : {w : ℕ} (c : ℕ) (ch : Channel) (x : Beat w) (queue : List (Beat w)) (pushes : ℕ → Channel
-    → Option (Message w)) (handed : Handed w)
-    (e : manager_end.End w) (sys : System w) → is_to_client ch ≡ false
-    → sys.channels c ch ≡ x ∷ queue
-    → IsOn ch x
-    → HasTaken c x sys.manager e
-    → ((d : ℕ) (at : Channel) → (with_messages handed (with_manager e (with_channel c ch queue sys))).channels d
-    at ≡ behind (pushes d at) ((with_channel c ch queue sys).channels d at))
+    → Option (Message w)) (handed : Handed w) (e : manager_end.End w) (sys : System w) → is_to_client ch ≡ false
+    → sys.channels c ch ≡ x ∷ queue → IsOn ch x → HasTaken c x sys.manager e
+    → ((d : ℕ) (at : Channel) → (with_messages handed (with_manager e (with_channel c ch queue sys))).channels d at
+    ≡ behind (pushes d at) ((with_channel c ch queue sys).channels d at))
     → IsLanded c ch x queue pushes sys (with_messages handed (with_manager e (with_channel c ch queue sys)))
 landed-manager c ch x queue pushes handed e sys to_manager first is heard pushed = record {
   first = first;

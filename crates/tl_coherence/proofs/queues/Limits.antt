@@ -21,12 +21,8 @@ all-fit (x ∷ clients) (suc i) d fit lt = all-fit clients i d (both-second (sou
     both-second false b e = absurd cc
 
 abbrev limits_broken : Bool → Bool → Bool → Bool → Option NewFault
-limits_broken a b c e =
-    if not a then Some NewFault.N1 else
-    if not b then Some NewFault.N2 else
-    if not c then Some NewFault.N3 else
-    if not e then Some NewFault.N4 else
-    None
+limits_broken a b c e = if not a then Some NewFault.N1 else if not b then Some NewFault.N2 else if not c then Some
+    NewFault.N3 else if not e then Some NewFault.N4 else None
 
 pub limits-fit : (a b c e : Bool) → limits_broken a b c e ≡ None → (a ≡ true) × (b ≡ true) × (c ≡ true) × (e ≡ true)
 limits-fit true true true true f = (refl, refl, refl, refl)

@@ -30,15 +30,13 @@ pub record IsEvent {X : Type 0} (caching : ℕ → Bool) (n : ℕ) (b : Block X)
 
 -- no number changes
 pub names-block : {A B : Type 0} (of : ℕ → A → Bool) (holds : ℕ → B → Bool) (f : ℕ → A) (n : ℕ) (b : B) (block : ℕ → B)
-    → ((i : ℕ) → holds i b ≡ holds i (block n)) → Names of holds f block
-    → Names of holds f (set n b block)
+    → ((i : ℕ) → holds i b ≡ holds i (block n)) → Names of holds f block → Names of holds f (set n b block)
 names-block of holds f n b block e h i = set-each (λ m x. of m (f i) ≡ holds i x) n b block (h i n ∙ sym (e i))
     (λ m other. h i m)
 
 -- the value of number i changes from one of no other block than n to another
 pub names-set : {A B : Type 0} (of : ℕ → A → Bool) (holds : ℕ → B → Bool) (f : ℕ → A) (i : ℕ) (y : A) (n : ℕ) (b : B)
-    (block : ℕ → B) → of n y ≡ holds i b
-    → ((m : ℕ) → (m ≡ n → ⊥) → of m y ≡ of m (f i))
+    (block : ℕ → B) → of n y ≡ holds i b → ((m : ℕ) → (m ≡ n → ⊥) → of m y ≡ of m (f i))
     → ((j : ℕ) → (j ≡ i → ⊥) → holds j b ≡ holds j (block n)) → Names of holds f block
     → Names of holds (set i y f) (set n b block)
 names-set of holds f i y n b block here elsewhere e h j = elim (cases_eq j i) [
@@ -50,11 +48,10 @@ names-set of holds f i y n b block here elsewhere e h j = elim (cases_eq j i) [
 
 -- the value of number i of client c changes
 pub names-set_at : {A B : Type 0} (of : ℕ → A → Bool) (holds : ℕ → ℕ → B → Bool) (c i : ℕ) (y : A) (f : ℕ → ℕ → A)
-    (n : ℕ) (b : B) (block : ℕ → B) → of n y ≡ holds c i b
-    → ((m : ℕ) → (m ≡ n → ⊥) → of m y ≡ of m (f c i))
+    (n : ℕ) (b : B) (block : ℕ → B) → of n y ≡ holds c i b → ((m : ℕ) → (m ≡ n → ⊥) → of m y ≡ of m (f c i))
     → ((j : ℕ) → (j ≡ i → ⊥) → holds c j b ≡ holds c j (block n))
-    → ((d j : ℕ) → (d ≡ c → ⊥) → holds d j b ≡ holds d j (block n))
-    → ((d : ℕ) → Names of (holds d) (f d) block) → (d : ℕ) → Names of (holds d) (set_at c i y f d) (set n b block)
+    → ((d j : ℕ) → (d ≡ c → ⊥) → holds d j b ≡ holds d j (block n)) → ((d : ℕ) → Names of (holds d) (f d) block)
+    → (d : ℕ) → Names of (holds d) (set_at c i y f d) (set n b block)
 names-set_at of holds c i y f n b block here elsewhere e others h d = elim (cases_eq d c) [
   | inl same ↦ rw (same, set-same c (set i y (f c)) f) (names-set of (holds c) (f c) i y n b block here elsewhere e
       (h c))
@@ -80,8 +77,7 @@ names-kept n b link s h acquires serves releases trackers = record {
 
 -- the tokens of a kind of all clients, where the value of number i of client c changes, and others move no token of it
 pub holds-set_at : {A : Type 0} (k : Kind) (moves : ℕ → Move) (f g : ℕ → List Packet) (q : A → Bool) (uses : ℕ → ℕ → A)
-    (c i : ℕ) (y : A) → ((d : ℕ) → IsMoved (moves d) (f d) (g d))
-    → agrees (moves c) k i (q (uses c i)) (q y) ≡ true
+    (c i : ℕ) (y : A) → ((d : ℕ) → IsMoved (moves d) (f d) (g d)) → agrees (moves c) k i (q (uses c i)) (q y) ≡ true
     → ((d : ℕ) → (d ≡ c → ⊥) → spares (moves d) k ≡ true) → ((d : ℕ) → Holds k (f d) (λ j. q (uses d j))) → (d : ℕ)
     → Holds k (g d) (λ j. q (set_at c i y uses d j))
 holds-set_at k moves f g q uses c i y moved fits others h d = elim (cases_eq d c) [
@@ -94,15 +90,14 @@ holds-set_at k moves f g q uses c i y moved fits others h d = elim (cases_eq d c
 -- ---- the whole invariant
 
 -- the invariant is kept by every event that has shown this, with these accesses and numbers
-pub invariant-moved_with : {X : Type 0} (caching : ℕ → Bool) (n : ℕ) (b : Block X) (link : ℕ → Link) (moves : ℕ
-    → Channel → Move) (uses : ℕ → ℕ → SourceState)
-    (lets : ℕ → ℕ → Option ℕ) (tracked : ℕ → Option ℕ) (s : State X)
+pub invariant-moved_with : {X : Type 0} {caching : ℕ → Bool} {n : ℕ} {b : Block X} {link : ℕ → Link} {moves : ℕ
+    → Channel → Move} (uses : ℕ → ℕ → SourceState) (lets : ℕ → ℕ → Option ℕ) (tracked : ℕ → Option ℕ) {s : State X}
     → IsInvariant caching s → IsEvent caching n b link moves s
     → ((d : ℕ) → Holds Request (link d).a (λ i. is_asked (uses d i)))
     → ((d : ℕ) → Holds Answer (link d).d (λ i. is_replied (uses d i)))
     → AreNamed (record { block = set n b s.block; link = link; uses = uses; lets = lets; tracked = tracked })
     → IsInvariant caching (record { block = set n b s.block; link = link; uses = uses; lets = lets; tracked = tracked })
-invariant-moved_with caching n b link moves uses lets tracked s inv event requests answers named = record {
+invariant-moved_with {caching} {n} {b} {link} {moves} uses lets tracked {s} inv event requests answers named = record {
   blocks = set-each (λ m. IsWell caching) n b s.block event.well (λ m other. inv.blocks m);
   transfers = λ d. transfers-moved (moves d) (s.link d) (link d) d n b s.block (event.moved d) (event.fits d)
       (inv.transfers d);
@@ -123,16 +118,14 @@ pub invariant-moved : {X : Type 0} (caching : ℕ → Bool) (n : ℕ) (b : Block
     → AreNamed (record s { block = set n b s.block; link = link; lets = lets; tracked = tracked })
     → IsInvariant caching (record s { block = set n b s.block; link = link; lets = lets; tracked = tracked })
 invariant-moved caching n b link moves lets tracked s inv event bare named =
-    invariant-moved_with caching n b link moves s.uses lets tracked s inv event
-    (λ d. holds-spared Request (moves d Channel.A) (s.link d).a (link d).a (λ m. is_asked (s.uses d m))
-    (event.moved d Channel.A) (bare d).0 (inv.requests d))
+    invariant-moved_with s.uses lets tracked inv event (λ d. holds-spared Request (moves d Channel.A) (s.link d).a
+    (link d).a (λ m. is_asked (s.uses d m)) (event.moved d Channel.A) (bare d).0 (inv.requests d))
     (λ d. holds-spared Answer (moves d Channel.D) (s.link d).d (link d).d (λ m. is_replied (s.uses d m))
-    (event.moved d Channel.D) (bare d).1 (inv.answers d))
-    named
+    (event.moved d Channel.D) (bare d).1 (inv.answers d)) named
 
 -- and by every event that changes the use of a source of client c
-pub invariant-moved_use : {X : Type 0} (caching : ℕ → Bool) (n : ℕ) (b : Block X) (link : ℕ → Link) (moves : ℕ → Channel
-    → Move) (c source : ℕ) (u : SourceState) (tracked : ℕ → Option ℕ) (s : State X)
+pub invariant-moved_use : {X : Type 0} {caching : ℕ → Bool} {n : ℕ} {b : Block X} {link : ℕ → Link} {moves : ℕ → Channel
+    → Move} (c source : ℕ) (u : SourceState) (tracked : ℕ → Option ℕ) {s : State X}
     → IsInvariant caching s → IsEvent caching n b link moves s
     → agrees (moves c Channel.A) Request source (is_asked (s.uses c source)) (is_asked u) ≡ true
     → agrees (moves c Channel.D) Answer source (is_replied (s.uses c source)) (is_replied u) ≡ true
@@ -145,13 +138,12 @@ pub invariant-moved_use : {X : Type 0} (caching : ℕ → Bool) (n : ℕ) (b : B
       tracked =
           tracked;
     })
-invariant-moved_use caching n b link moves c source u tracked s inv event asked replied bare named =
-    invariant-moved_with caching n b link moves (set_at c source u s.uses) s.lets tracked s inv event
+invariant-moved_use {caching} {n} {b} {link} {moves} c source u tracked {s} inv event asked replied bare named =
+    invariant-moved_with (set_at c source u s.uses) s.lets tracked inv event
     (holds-set_at Request (λ d. moves d Channel.A) (λ d. (s.link d).a) (λ d. (link d).a) is_asked s.uses c source u
     (λ d. event.moved d Channel.A) asked (λ d ne. (bare d ne).0) inv.requests)
     (holds-set_at Answer (λ d. moves d Channel.D) (λ d. (s.link d).d) (λ d. (link d).d) is_replied s.uses c source u
-    (λ d. event.moved d Channel.D) replied (λ d ne. (bare d ne).1) inv.answers)
-    named
+    (λ d. event.moved d Channel.D) replied (λ d ne. (bare d ne).1) inv.answers) named
 
 -- ---- events at one client
 
@@ -189,10 +181,9 @@ pub record IsEventAt {X : Type 0} (caching : ℕ → Bool) (c n : ℕ) (b : Bloc
   pub others : (d : ℕ) → (d ≡ c → ⊥) → (k : Kind) → is_transfer k ≡ true → shown k d b ≡ shown k d (s.block n)
   pub in_order : (m : ℕ) → moves Channel.C ≡ Pushes ProbeAck m → count Release m (s.link c).c ≡ 0
 
-pub event-at : {X : Type 0} (caching : ℕ → Bool) (c n : ℕ) (b : Block X) (l : Link) (moves : Channel → Move)
-    (s : State X) → IsEventAt caching c n b l moves s
-    → IsEvent caching n b (set c l s.link) (moves_at c moves) s
-event-at caching c n b l moves s event = record {
+pub event-at : {X : Type 0} {caching : ℕ → Bool} {c n : ℕ} {b : Block X} {l : Link} {moves : Channel → Move}
+    {s : State X} → IsEventAt caching c n b l moves s → IsEvent caching n b (set c l s.link) (moves_at c moves) s
+event-at {c} {n} {b} {l} {moves} {s} event = record {
   well = event.well;
   moved = λ d ch. elim (cases_eq d c) [
     | inl same ↦ rw same (moved_as (moves_at c moves c ch) (moves ch) (packets_on ch (s.link c))
@@ -238,9 +229,8 @@ bare-elsewhere c moves d ne =
 -- ---- accesses, which change no block's tokens
 
 names-use : {A B : Type 0} (of : ℕ → A → Bool) (holds : ℕ → ℕ → B → Bool) (c i : ℕ) (y : A) (f : ℕ → ℕ → A) (block : ℕ
-    → B) → ((m : ℕ) → of m y ≡ of m (f c i))
-    → ((d : ℕ) → Names of (holds d) (f d) block)
-    → (d : ℕ) → Names of (holds d) (set_at c i y f d) block
+    → B) → ((m : ℕ) → of m y ≡ of m (f c i)) → ((d : ℕ) → Names of (holds d) (f d) block) → (d : ℕ)
+    → Names of (holds d) (set_at c i y f d) block
 names-use of holds c i y f block e h d = elim (cases_eq d c) [
   | inl same ↦ rw (same, set-same c (set i y (f c)) f) (λ j m. elim (cases_eq j i) [
     | inl also ↦ rw (also, set-same i y (f c)) (e m ∙ h c i m)
@@ -261,10 +251,10 @@ pub record IsAccessEvent {X : Type 0} (c source : ℕ) (u : SourceState) (l : Li
   pub acquires : (m : ℕ) → acquires_of m u ≡ acquires_of m (s.uses c source)
   pub serves : (m : ℕ) → serves_of m u ≡ serves_of m (s.uses c source)
 
-pub invariant-moved_access : {X : Type 0} (caching : ℕ → Bool) (c source : ℕ) (u : SourceState) (l : Link)
-    (moves : Channel → Move) (s : State X) → IsInvariant caching s → IsAccessEvent c source u l moves s
+pub invariant-moved_access : {X : Type 0} {caching : ℕ → Bool} {c source : ℕ} {u : SourceState} {l : Link}
+    {moves : Channel → Move} {s : State X} → IsInvariant caching s → IsAccessEvent c source u l moves s
     → IsInvariant caching (record s { link = set c l s.link; uses = set_at c source u s.uses })
-invariant-moved_access caching c source u l moves s inv event = record {
+invariant-moved_access {c} {source} {u} {l} {moves} {s} inv event = record {
   blocks = inv.blocks;
   transfers = λ d k t. elim (cases_eq d c) [
     | inl same ↦ rw (same, set-same c l s.link) (rw (on_is k l)

@@ -118,8 +118,7 @@ unfolding each_phase acquire_test may_acquire ok
 acquire_all = refl
 
 pub acquire-ok : (whole : Bool) (g : Grow) (p : ClientBlock) (v : View) → ok p v ≡ true → p.acquiring ≡ NoAcquire
-    → p.letting ≡ NoRelease → grow_fits p.held (AcquireOpen whole g) ≡ true
-    → ok (after_acquire whole g p) v ≡ true
+    → p.letting ≡ NoRelease → grow_fits p.held (AcquireOpen whole g) ≡ true → ok (after_acquire whole g p) v ≡ true
 unfolding acquire_test may_acquire
 acquire-ok whole g p v h calm kept fits =
     let t = of_grow (λ j. where_true (may_acquire whole j p) (λ u. ok (after_acquire whole j p) v))
@@ -158,9 +157,8 @@ serve_all = refl
 pub serve-ok : (whole : Bool) (g : Grow) (p : ClientBlock) (v : View) → ok p v ≡ true → v ≡ Idle
     → p.acquiring ≡ AcquireOpen whole g → ok p Own ≡ true
 unfolding serve_test
-serve-ok whole g p v h idle wants =
-    wants_is p.acquiring (λ w j. ok p Own) whole g wants (idle_is v (on_wants p.acquiring (λ w j. ok p Own)) idle
-    (of_phase serve_test serve_all p v h))
+serve-ok whole g p v h idle wants = wants_is p.acquiring (λ w j. ok p Own) whole g wants
+    (idle_is v (on_wants p.acquiring (λ w j. ok p Own)) idle (of_phase serve_test serve_all p v h))
 
 -- another request is taken, which probes with this cap
 served_test : ClientBlock → View → Bool
@@ -174,8 +172,7 @@ served_all = refl
 pub served-ok : (k : Cap) (p : ClientBlock) (v : View) → ok p v ≡ true → v ≡ Idle → same_cap k Cap.ToT ≡ false
     → ok (after_served k p) (Other k) ≡ true
 unfolding served_test
-served-ok k p v h idle low =
-    go (same_cap k Cap.ToT) low (ok (after_served k p) (Other k))
+served-ok k p v h idle low = go (same_cap k Cap.ToT) low (ok (after_served k p) (Other k))
     (of_cap (λ j. not (same_cap j Cap.ToT) && ok (after_served j p) (Other j) || same_cap j Cap.ToT)
     (idle_is v (each_cap (λ j. not (same_cap j Cap.ToT) && ok (after_served j p) (Other j) || same_cap j Cap.ToT)) idle
     (of_phase served_test served_all p v h)) k)
@@ -241,8 +238,7 @@ kept_is x e = rw e refl
 pub probe-ok : (k : Cap) (p : ClientBlock) (v : View) → ok p v ≡ true → p.probing ≡ ProbeSent k → p.letting ≡ NoRelease
     → ok (after_probe k p) v ≡ true
 unfolding probe_test
-probe-ok k p v h sent kept =
-    where_is (is_unreleased p.letting) (λ u. ok (after_probe k p) v)
+probe-ok k p v h sent kept = where_is (is_unreleased p.letting) (λ u. ok (after_probe k p) v)
     (sent_is p.probing (λ j. where_true (is_unreleased p.letting) (λ u. ok (after_probe j p) v)) k sent
     (of_phase probe_test probe_all p v h)) (kept_is p.letting kept)
 
@@ -280,8 +276,7 @@ release_taken_all = refl
 pub release_taken-ok : (r : Prune) (p : ClientBlock) (v : View) → ok p v ≡ true → p.letting ≡ ReleaseSent r
     → is_answered p.probing ≡ false → ok (after_release_taken r p) v ≡ true
 unfolding release_taken_test
-release_taken-ok r p v h releasing first =
-    where_is (not (is_answered p.probing)) (λ u. ok (after_release_taken r p) v)
+release_taken-ok r p v h releasing first = where_is (not (is_answered p.probing)) (λ u. ok (after_release_taken r p) v)
     (releasing_is p.letting (λ j. where_true (not (is_answered p.probing)) (λ u. ok (after_release_taken j p) v)) r
     releasing (of_phase release_taken_test release_taken_all p v h)) (rw first refl)
 
@@ -343,8 +338,7 @@ granted_other_all = refl
 pub granted_other-ok : (p : ClientBlock) (v : View) → ok p v ≡ true → v ≡ Idle → same_perm p.recorded Perm.Trunk ≡ false
     → ok p GrantedOther ≡ true
 unfolding granted_other_test
-granted_other-ok p v h idle low =
-    where_is (not (same_perm p.recorded Perm.Trunk)) (λ u. ok p GrantedOther)
+granted_other-ok p v h idle low = where_is (not (same_perm p.recorded Perm.Trunk)) (λ u. ok p GrantedOther)
     (idle_is v (where_true (not (same_perm p.recorded Perm.Trunk)) (λ u. ok p GrantedOther)) idle
     (of_phase granted_other_test granted_other_all p v h)) (rw low refl)
 

@@ -79,14 +79,14 @@ nothing-moves config s c terms ch is none =
 pub no-next : {w : ℕ} (config : Config) (s : System w) → ((c : ℕ) (ch : Channel) → is_movable config c ch s ≡ false)
     → next_delivery config s ≡ None
 unfolding next_delivery
-no-next config s none =
-    rw (
-      first-none config Channel.E 0 (length config.clients.items) s (λ c. none c Channel.E),
-      first-none config Channel.D 0 (length config.clients.items) s (λ c. none c Channel.D),
-      first-none config Channel.C 0 (length config.clients.items) s (λ c. none c Channel.C),
-      first-none config Channel.B 0 (length config.clients.items) s (λ c. none c Channel.B),
-    )
-    (first-none config Channel.A 0 (length config.clients.items) s (λ c. none c Channel.A))
+no-next config s none = rw (
+  first-none config Channel.E 0 (length config.clients.items) s (λ c. none c Channel.E),
+  first-none config Channel.D 0 (length config.clients.items) s (λ c. none c Channel.D),
+  first-none config Channel.C 0
+      (length config.clients.items) s (λ c. none c Channel.C),
+  first-none config Channel.B 0 (length config.clients.items)
+      s (λ c. none c Channel.B),
+) (first-none config Channel.A 0 (length config.clients.items) s (λ c. none c Channel.A))
 
 -- ---- the delivery that is next is movable
 

@@ -81,16 +81,14 @@ abbrev pub AreAlike : ℕ → Block (List ℕ) → Block (List ℕ) → Type 0
 AreAlike d b b' = (k : Kind) → shown k d b ≡ true → shown k d b' ≡ true
     → IsAlike k d b b' × ((carries k d b ≡ false) ⊎ (b'.truth ≡ b.truth))
 
-pub showing-block : {w : ℕ} (caching : ℕ → Bool) (n : ℕ) (b' : Block (List ℕ)) (moves : ℕ → Channel → Move)
-    (mail mail' : AccessMessages w) (s s' : State (List ℕ))
-    → IsInvariant caching s → IsInvariant caching s'
+pub showing-block : {w : ℕ} {caching : ℕ → Bool} (n : ℕ) (b' : Block (List ℕ)) (moves : ℕ → Channel → Move)
+    (mail mail' : AccessMessages w) {s s' : State (List ℕ)} → IsInvariant caching s → IsInvariant caching s'
     → ((d : ℕ) → AreMoved (moves d) (s.link d) (s'.link d)) → ((i : ℕ) → s'.block i ≡ set n b' s.block i)
-    → ((d : ℕ) → AreAlike d (s.block n) b')
-    → ((d i : ℕ) → is_asked (s.uses d i) ≡ true → is_asked (s'.uses d i) ≡ true → mail'.request d i ≡ mail.request d i)
+    → ((d : ℕ) → AreAlike d (s.block n) b') → ((d i : ℕ) → is_asked (s.uses d i) ≡ true → is_asked (s'.uses d i) ≡ true
+    → mail'.request d i ≡ mail.request d i)
     → ((d i : ℕ) → is_replied (s.uses d i) ≡ true → is_replied (s'.uses d i) ≡ true
-    → mail'.answer d i ≡ mail.answer d i)
-    → IsShowing caching n moves mail mail' s s'
-showing-block {w} caching n b' moves mail mail' s s' inv inv' moved blocks alike requests answers = record {
+    → mail'.answer d i ≡ mail.answer d i) → IsShowing caching n moves mail mail' s s'
+showing-block {w} n b' moves mail mail' {s} {s'} inv inv' moved blocks alike requests answers = record {
   before = inv;
   after = inv';
   moved = moved;

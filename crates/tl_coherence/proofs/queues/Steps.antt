@@ -26,8 +26,7 @@ manager-with_messages (x ∷ handed) s = manager-with_messages handed (with_mess
 -- ---- a client is asked
 
 pub stepped-asked : {w : ℕ} (config : Config) (k : ℕ) (op : Op w) (s : System w) (t : EndConfig)
-    → terms_at config k ≡ Some t
-    → stepped config (Ask k op) s ≡ replied k (asked t op (s.clients k)) s
+    → terms_at config k ≡ Some t → stepped config (Ask k op) s ≡ replied k (asked t op (s.clients k)) s
 unfolding stepped
 stepped-asked config k op s t e = rw e refl
 

@@ -193,8 +193,7 @@ module _ {w : ℕ} (config : Config) (caching : ℕ → Bool) (mail : AccessMess
 
   -- what is left of an answer
   pub answer-left : (c source : ℕ) → IsAnswered source (mail.request c source) (mail.answer c source) (s.uses c source)
-      → s.uses c source ≡ Replied
-      → beats_left mail s rest c Answer source ≤ answer_to mail c source
+      → s.uses c source ≡ Replied → beats_left mail s rest c Answer source ≤ answer_to mail c source
   answer-left c source answered replied =
       let all = left-few mail s rest c Answer source in
       let it : IsAnswered source (mail.request c source) (mail.answer c source) Replied = rw replied at answered in

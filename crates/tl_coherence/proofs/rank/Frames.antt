@@ -42,9 +42,9 @@ module _ {X : Type 0} (caching : ℕ → Bool) (s : State X) (inv : IsInvariant 
   release-here d m e = here_if (shown Release d (s.block m)) _ (inv.transfers d Release refl m) e
 
 -- the Acquire with a source is one that its block has
-pub wants-used : {X : Type 0} (caching : ℕ → Bool) (s : State X) → IsInvariant caching s → (d i m : ℕ)
+pub wants-used : {X : Type 0} {caching : ℕ → Bool} {s : State X} → IsInvariant caching s → (d i m : ℕ)
     → s.uses d i ≡ Acquires m → is_wanting ((s.block m).pair d).acquiring ≡ true
-wants-used caching s inv d i m e = and_left (is_wanting ((s.block m).pair d).acquiring) _
+wants-used {s} inv d i m e = and_left (is_wanting ((s.block m).pair d).acquiring) _
     (sym (inv.named.acquires d i m) ∙ rw e (same_number m))
 
 -- an Acquire that isn't served
@@ -83,21 +83,18 @@ module _ {w : ℕ} (config : Config) (caching : ℕ → Bool) (n : ℕ) (moves :
       go x e = omega arith
 
   -- an Acquire that is served as before
-  pub acquire-stays : (d m : ℕ) → is_wanting ((s.block m).pair d).acquiring ≡ true
-      → ((s'.block m).pair d).acquiring ≡ ((s.block m).pair d).acquiring
-      → view (s'.block m).service d ≡ view (s.block m).service d
-      → probes_weight (clients config size left left' answer answer s s') size left' m (s'.block m) ≤ probes_weight
-      (clients config size left left' answer answer s s') size left m (s.block m)
+  pub acquire-stays : (d m : ℕ) → is_wanting ((s.block m).pair d).acquiring ≡ true → ((s'.block m).pair d).acquiring
+      ≡ ((s.block m).pair d).acquiring → view (s'.block m).service d ≡ view (s.block m).service d
+      → probes_weight (clients config size left left' answer answer s s') size left' m (s'.block m)
+      ≤ probes_weight (clients config size left left' answer answer s s') size left m (s.block m)
       → acquire_weight size (left' d Acquire m) (left' d Grant m)
       (probes_weight (clients config size left left' answer answer s s') size left' m (s'.block m))
-      (view (s'.block m).service d)
-      ≤ acquire_weight size (left d Acquire m) (left d Grant m)
+      (view (s'.block m).service d) ≤ acquire_weight size (left d Acquire m) (left d Grant m)
       (probes_weight (clients config size left left' answer answer s s') size left m (s.block m))
       (view (s.block m).service d)
   acquire-stays d m wants acquiring viewed probes = rw viewed (go (view (s.block m).service d) refl)
     where
-      go : (v : View) → view (s.block m).service d ≡ v
-          → acquire_weight size (left' d Acquire m) (left' d Grant m)
+      go : (v : View) → view (s.block m).service d ≡ v → acquire_weight size (left' d Acquire m) (left' d Grant m)
           (probes_weight (clients config size left left' answer answer s s') size left' m (s'.block m)) v
           ≤ acquire_weight size (left d Acquire m) (left d Grant m)
           (probes_weight (clients config size left left' answer answer s s') size left m (s.block m)) v
@@ -131,9 +128,8 @@ module _ {w : ℕ} (config : Config) (caching : ℕ → Bool) (n : ℕ) (moves :
         → probes_weight number size left' n (s'.block n) ≤ probes_weight number size left n (s.block n)
     pub acquires : (d i : ℕ) → s.uses d i ≡ Acquires n → s'.uses d i ≡ Acquires n
         → acquire_weight size (left' d Acquire n) (left' d Grant n) (probes_weight number size left' n (s'.block n))
-        (view (s'.block n).service d)
-        ≤ acquire_weight size (left d Acquire n) (left d Grant n) (probes_weight number size left n (s.block n))
-        (view (s.block n).service d)
+        (view (s'.block n).service d) ≤ acquire_weight size (left d Acquire n) (left d Grant n)
+        (probes_weight number size left n (s.block n)) (view (s.block n).service d)
     pub lets : (d i : ℕ) → s.lets d i ≡ Some n → s'.lets d i ≡ Some n
         → letting_weight (left' d Release n) ((s'.block n).pair d).letting ≤ letting_weight (left d Release n)
         ((s.block n).pair d).letting
@@ -147,14 +143,13 @@ module _ {w : ℕ} (config : Config) (caching : ℕ → Bool) (n : ℕ) (moves :
   pub unserved-stays : (d i m : ℕ) → s.uses d i ≡ Acquires m → s'.uses d i ≡ Acquires m
       → is_unserved (view (s.block m).service d) ≡ true → is_unserved (view (s'.block m).service d) ≡ true
       → acquire_weight size (left' d Acquire m) (left' d Grant m) (probes_weight number size left' m (s'.block m))
-      (view (s'.block m).service d)
-      ≤ acquire_weight size (left d Acquire m) (left d Grant m) (probes_weight number size left m (s.block m))
-      (view (s.block m).service d)
+      (view (s'.block m).service d) ≤ acquire_weight size (left d Acquire m) (left d Grant m)
+      (probes_weight number size left m (s.block m)) (view (s.block m).service d)
   unserved-stays d i m e f before after =
       let a = same d Acquire m
-      (acquire-here caching s showing.before d m (and_from _ _ (wants-used caching s showing.before d i m e)
+      (acquire-here caching s showing.before d m (and_from _ _ (wants-used showing.before d i m e)
       before))
-      (acquire-here caching s' showing.after d m (and_from _ _ (wants-used caching s' showing.after d i m f) after)) in
+      (acquire-here caching s' showing.after d m (and_from _ _ (wants-used showing.after d i m f) after)) in
       rw (
         unserved-weight size (left' d Acquire m) (left' d Grant m) (probes_weight number size left' m (s'.block m))
             (view (s'.block m).service d) after,
@@ -181,11 +176,10 @@ module _ {w : ℕ} (config : Config) (caching : ℕ → Bool) (n : ℕ) (moves :
 
         acquire : (m : ℕ) → s.uses d i ≡ Acquires m → (m ≡ n) ⊎ (m ≡ n → ⊥)
             → acquire_weight size (left' d Acquire m) (left' d Grant m) (probes_weight number size left' m (s'.block m))
-            (view (s'.block m).service d)
-            ≤ acquire_weight size (left d Acquire m) (left d Grant m) (probes_weight number size left m (s.block m))
-            (view (s.block m).service d)
+            (view (s'.block m).service d) ≤ acquire_weight size (left d Acquire m) (left d Grant m)
+            (probes_weight number size left m (s.block m)) (view (s.block m).service d)
         acquire m u (inl is) = rw is (block.acquires d i (rw is at u) (rw is at (e ∙ u)))
-        acquire m u (inr other) = acquire-stays d m (wants-used caching s showing.before d i m u)
+        acquire m u (inr other) = acquire-stays d m (wants-used showing.before d i m u)
             (rw (showing.blocks m other) refl) (rw (showing.blocks m other) refl) (probes-else m other)
 
     -- a Release that is of its block as before

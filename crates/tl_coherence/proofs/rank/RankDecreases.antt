@@ -54,8 +54,7 @@ module _ {X : Type 0} (config : Config) (n : ℕ) (left left' : Left) (answer an
       → ((d : ℕ) → client_weight clients n left' answer' s' (sources_of (terms_at config d)) d ≤ client_weight clients n
       left answer s (sources_of (terms_at config d)) d)
       → client_weight clients n left' answer' s' (sources_of (terms_at config c)) c + 1 ≤ client_weight clients n left
-      answer s (sources_of (terms_at config c)) c
-      → rank config n left' answer' s' + 1 ≤ rank config n left answer s
+      answer s (sources_of (terms_at config c)) c → rank config n left' answer' s' + 1 ≤ rank config n left answer s
   falls c lt le less =
       total-falls clients c 1 (λ d. client_weight clients n left answer s (sources_of (terms_at config d)) d)
       (λ d. client_weight clients n left' answer' s' (sources_of (terms_at config d)) d) lt (λ d h. le d) less
@@ -85,8 +84,7 @@ module _ {X : Type 0} (config : Config) (n : ℕ) (left left' : Left) (answer an
 
   -- what is owed for one Release falls
   pub let-falls : (c i : ℕ) → c < clients → i < sources_of (terms_at config c) → IsNoMore
-      → owed_let' c i + 1 ≤ owed_let c i
-      → rank config n left' answer' s' + 1 ≤ rank config n left answer s
+      → owed_let' c i + 1 ≤ owed_let c i → rank config n left' answer' s' + 1 ≤ rank config n left answer s
   let-falls c i lt below is less =
       let uses = total-le (sources_of (terms_at config c)) (owed_use' c) (owed_use c) (λ j h. is.uses c j) in
       let lets = total-falls (sources_of (terms_at config c)) i 1 (owed_let c) (owed_let' c) below (λ j h. is.lets c j)
@@ -148,8 +146,7 @@ module _ {X : Type 0} (config : Config) (n : ℕ) (left left' : Left) (answer an
   -- Probes and reports, pair by pair
   pub probes-no-more : (m : ℕ)
       → ((d : ℕ) → d < clients → pair_weight n left' m d ((s'.block m).pair d) ≤ pair_weight n left m d
-      ((s.block m).pair d))
-      → probes_weight clients n left' m (s'.block m) ≤ probes_weight clients n left m (s.block m)
+      ((s.block m).pair d)) → probes_weight clients n left' m (s'.block m) ≤ probes_weight clients n left m (s.block m)
   probes-no-more m le = total-le clients (λ d. pair_weight n left' m d ((s'.block m).pair d))
       (λ d. pair_weight n left m d ((s.block m).pair d)) le
 

@@ -42,18 +42,17 @@ pub record IsAsking {X : Type 0} (n q : ℕ) (own : Bool) (source : ℕ) (s : St
   pub at : ℕ
   pub used : s.uses q at ≡ (if own then Acquires n else InService n)
 
-pub asking : {X : Type 0} (caching : ℕ → Bool) (s : State X) (n q : ℕ) (own : Bool) (source : ℕ) (k : Cap)
-    → IsInvariant caching s
-    → (s.block n).service ≡ Waits q own source k → IsAsking n q own source s
-asking caching s n q true source k inv e =
+pub asking : {X : Type 0} {caching : ℕ → Bool} {s : State X} (n q : ℕ) (own : Bool) (source : ℕ) (k : Cap)
+    → IsInvariant caching s → (s.block n).service ≡ Waits q own source k → IsAsking n q own source s
+asking {caching} {s} n q true source k inv e =
     let viewed : view (s.block n).service q ≡ Own = rw (e, same_number q) refl in
     record {
       at = (s.block n).source q;
       used =
-          source_of_acquire caching s q n inv (owns_ask ((s.block n).pair q) (view (s.block n).service q)
+          source_of_acquire q n inv (owns_ask ((s.block n).pair q) (view (s.block n).service q)
           ((inv.blocks n).phases q) (rw viewed refl));
     }
-asking caching s n q false source k inv e = record { at = source; used = serving-use caching s n q source k inv e }
+asking {caching} {s} n q false source k inv e = record { at = source; used = serving-use caching s n q source k inv e }
 
 pub open_use : (own : Bool) (n : ℕ) (u : SourceState) → u ≡ (if own then Acquires n else InService n) → u ≡ SourceFree
     → ⊥
@@ -75,13 +74,11 @@ module _ {w : ℕ} (config : Config) (caching : ℕ → Bool) (n : ℕ) (moves :
 
   -- a Probe or report of the block, which is in service as before, owes one less
   pub service-falls : (q : ℕ) (own : Bool) (source : ℕ) (k : Cap) → (s.block n).service ≡ Waits q own source k
-      → (s'.block n).service ≡ (s.block n).service
-      → ((d i : ℕ) → s'.uses d i ≡ s.uses d i) → ((d i : ℕ) → s'.lets d i ≡ s.lets d i)
-      → ((d : ℕ) → length (s'.link d).e ≤ length (s.link d).e)
+      → (s'.block n).service ≡ (s.block n).service → ((d i : ℕ) → s'.uses d i ≡ s.uses d i)
+      → ((d i : ℕ) → s'.lets d i ≡ s.lets d i) → ((d : ℕ) → length (s'.link d).e ≤ length (s.link d).e)
       → ((d : ℕ) → ((s'.block n).pair d).acquiring ≡ ((s.block n).pair d).acquiring)
-      → ((d i : ℕ) → s.lets d i ≡ Some n
-      → letting_weight (left' d Release n) ((s'.block n).pair d).letting ≤ letting_weight (left d Release n)
-      ((s.block n).pair d).letting)
+      → ((d i : ℕ) → s.lets d i ≡ Some n → letting_weight (left' d Release n) ((s'.block n).pair d).letting
+      ≤ letting_weight (left d Release n) ((s.block n).pair d).letting)
       → probes_weight number size left' n (s'.block n) + 1 ≤ probes_weight number size left n (s.block n)
       → rank config size left' answer s' + 1 ≤ rank config size left answer s
   service-falls q own source k waits served uses lets acks acquiring letting less =
@@ -96,7 +93,7 @@ module _ {w : ℕ} (config : Config) (caching : ℕ → Bool) (n : ℕ) (moves :
       (all.sources q who.at (open_use own n _ who.used)) none_more (strict own who.used waits)
     where
       who : IsAsking n q own source s
-      who = asking caching s n q own source k showing.before waits
+      who = asking n q own source k showing.before waits
 
       no_more : probes_weight number size left' n (s'.block n) ≤ probes_weight number size left n (s.block n)
       no_more = omega (arith, less)
@@ -106,14 +103,13 @@ module _ {w : ℕ} (config : Config) (caching : ℕ → Bool) (n : ℕ) (moves :
         serves = λ d i e f. no_more;
         acquires = λ d i e f. acquire-stays config caching n moves mail mail' s s' showing c ch rest rest' popped size
             answer d n
-            (wants-used caching s showing.before d i n e) (acquiring d) (ap (λ (x : Service). view x d) served) no_more;
+            (wants-used showing.before d i n e) (acquiring d) (ap (λ (x : Service). view x d) served) no_more;
         lets = λ d i e f. letting d i e;
       }
 
       strict : (o : Bool) → s.uses q who.at ≡ (if o then Acquires n else InService n)
-          → (s.block n).service ≡ Waits q o source k
-          → owed_use' config size left left' answer answer s s' q who.at + 1 ≤ owed_use config size left left' answer
-          answer s s' q who.at
+          → (s.block n).service ≡ Waits q o source k → owed_use' config size left left' answer answer s s' q who.at + 1
+          ≤ owed_use config size left left' answer answer s s' q who.at
       strict true e f =
           let before : view (s.block n).service q ≡ Own = rw (f, same_number q) refl in
           let after : view (s'.block n).service q ≡ Own = rw served before in
@@ -143,9 +139,9 @@ waited (GrantTaken q) c e = never (c == q) e
     never true f = absurd cc
     never false f = absurd cc
 
-pub waited-probing : {X : Type 0} (caching : ℕ → Bool) (s : State X) (c n : ℕ) → IsInvariant caching s
+pub waited-probing : {X : Type 0} {caching : ℕ → Bool} {s : State X} (c n : ℕ) → IsInvariant caching s
     → is_unprobed ((s.block n).pair c).probing ≡ false → IsWaited (s.block n).service
-waited-probing caching s c n inv probed =
+waited-probing {s} c n inv probed =
     waited (s.block n).service c (serves_another ((s.block n).pair c) (view (s.block n).service c)
     ((inv.blocks n).phases c) probed)
 
@@ -157,17 +153,14 @@ module _ {w : ℕ} (config : Config) (caching : ℕ → Bool) (n : ℕ) (moves :
     (size : ℕ) (answer : ℕ → ℕ → ℕ) (all : AreClients config s) where
   -- one client's pair owes one less, and the others' are as before
   pub pair-falls : c < length config.clients.items → is_unprobed ((s.block n).pair c).probing ≡ false
-      → (s'.block n).service ≡ (s.block n).service
-      → ((d : ℕ) → (d ≡ c → ⊥) → (s'.block n).pair d ≡ (s.block n).pair d)
-      → ((s'.block n).pair c).acquiring ≡ ((s.block n).pair c).acquiring
-      → ((s'.block n).pair c).letting ≡ ((s.block n).pair c).letting
-      → ((d i : ℕ) → s'.uses d i ≡ s.uses d i) → ((d i : ℕ) → s'.lets d i ≡ s.lets d i)
-      → ((d : ℕ) → length (s'.link d).e ≤ length (s.link d).e)
-      → pair_weight size (beats_left mail' s' rest') n c ((s'.block n).pair c) + 1 ≤ pair_weight size
-      (beats_left mail s rest) n c ((s.block n).pair c)
+      → (s'.block n).service ≡ (s.block n).service → ((d : ℕ) → (d ≡ c → ⊥) → (s'.block n).pair d ≡ (s.block n).pair d)
+      → ((s'.block n).pair c).acquiring ≡ ((s.block n).pair c).acquiring → ((s'.block n).pair c).letting
+      ≡ ((s.block n).pair c).letting → ((d i : ℕ) → s'.uses d i ≡ s.uses d i) → ((d i : ℕ) → s'.lets d i ≡ s.lets d i)
+      → ((d : ℕ) → length (s'.link d).e ≤ length (s.link d).e) → pair_weight size (beats_left mail' s' rest') n c
+      ((s'.block n).pair c) + 1 ≤ pair_weight size (beats_left mail s rest) n c ((s.block n).pair c)
       → rank config size (beats_left mail' s' rest') answer s' + 1 ≤ rank config size (beats_left mail s rest) answer s
   pair-falls lt probed served others acquiring letting uses lets acks less =
-      let who : IsWaited (s.block n).service = waited-probing caching s c n showing.before probed in
+      let who : IsWaited (s.block n).service = waited-probing c n showing.before probed in
       service-falls config caching n moves mail mail' s s' showing c ch rest rest' popped size answer all who.client
       who.own who.source who.cap who.is served uses lets acks
       (λ d. wanted d (cases_eq d c)) (λ d i e. let-stays config caching n moves mail mail' s s' showing c ch rest rest'
@@ -205,8 +198,9 @@ module _ {w : ℕ} (config : Config) (caching : ℕ → Bool) (n : ℕ) (moves :
         serves = λ d i e f. probes;
         acquires = λ d i e f. acquire-stays config caching n moves mail mail' s s' showing c ch rest rest' popped size
             answer d n
-            (wants-used caching s showing.before d i n e) (rw same refl) (rw same refl) probes;
-        lets = λ d i e f. let-stays config caching n moves mail mail' s s' showing c ch rest rest' popped size answer d n
+            (wants-used showing.before d i n e) (rw same refl) (rw same refl) probes;
+        lets = λ d i e f. let-stays config caching n moves mail mail' s s' showing c ch rest rest' popped size answer d
+            n
             (rw same refl);
       }
 
@@ -231,8 +225,7 @@ module _ {w : ℕ} (config : Config) (caching : ℕ → Bool) (n : ℕ) (moves :
         where
           other : (d ≡ q → i ≡ j → ⊥) → owed' d i ≤ owed d i
           other ne = use-stays config caching n moves mail mail' s s' showing c ch rest rest' popped size answer block d
-              i
-              (unlike d i ne)
+              i (unlike d i ne)
 
           go : (d ≡ q) ⊎ (d ≡ q → ⊥) → (i ≡ j) ⊎ (i ≡ j → ⊥) → owed' d i ≤ owed d i
           go (inl e) (inl f) = rw (e, f) here
@@ -254,8 +247,7 @@ module _ {w : ℕ} (config : Config) (caching : ℕ → Bool) (n : ℕ) (moves :
 
       lets-same : ((d i : ℕ) → s'.lets d i ≡ s.lets d i) → (d i : ℕ) → due' d i ≤ due d i
       lets-same same d i = let-all config caching n moves mail mail' s s' showing c ch rest rest' popped size answer
-          block
-          d i (same d i)
+          block d i (same d i)
 
       uses-same : ((d i : ℕ) → s'.uses d i ≡ s.uses d i) → (d i : ℕ) → owed' d i ≤ owed d i
       uses-same same d i = use-stays config caching n moves mail mail' s s' showing c ch rest rest' popped size answer
@@ -266,8 +258,7 @@ module _ {w : ℕ} (config : Config) (caching : ℕ → Bool) (n : ℕ) (moves :
           → ((d i : ℕ) → (d ≡ q → i ≡ j → ⊥) → s'.uses d i ≡ s.uses d i) → ((d i : ℕ) → s'.lets d i ≡ s.lets d i)
           → ((d : ℕ) → length (s'.link d).e ≤ length (s.link d).e) → owed' q j + 1 ≤ owed q j
           → rank config size (beats_left mail' s' rest') answer s' + 1 ≤ rank config size (beats_left mail s rest)
-          answer
-          s
+          answer s
       request-falls q j used unlike lets acks less =
           use-falls config size (beats_left mail s rest) (beats_left mail' s' rest') answer answer s s' q j
           (all.clients q j used) (all.sources q j used)
@@ -278,8 +269,7 @@ module _ {w : ℕ} (config : Config) (caching : ℕ → Bool) (n : ℕ) (moves :
           → ((d i : ℕ) → (d ≡ q → i ≡ j → ⊥) → s'.lets d i ≡ s.lets d i)
           → ((d : ℕ) → length (s'.link d).e ≤ length (s.link d).e) → due' q j + 1 ≤ due q j
           → rank config size (beats_left mail' s' rest') answer s' + 1 ≤ rank config size (beats_left mail s rest)
-          answer
-          s
+          answer s
       release-falls q j m is uses unlike acks less =
           let-falls config size (beats_left mail s rest) (beats_left mail' s' rest') answer answer s s' q j
           (all.letters q j m is) (all.releases q j m is)
@@ -287,11 +277,9 @@ module _ {w : ℕ} (config : Config) (caching : ℕ → Bool) (n : ℕ) (moves :
 
       -- a GrantAck is taken
       pub acknowledged-falls : (q : ℕ) → q < length config.clients.items → ((d i : ℕ) → s'.uses d i ≡ s.uses d i)
-          → ((d i : ℕ) → s'.lets d i ≡ s.lets d i)
-          → ((d : ℕ) → length (s'.link d).e ≤ length (s.link d).e) → length (s'.link q).e + 1 ≤ length (s.link q).e
-          → rank config size (beats_left mail' s' rest') answer s' + 1 ≤ rank config size (beats_left mail s rest)
-          answer
-          s
+          → ((d i : ℕ) → s'.lets d i ≡ s.lets d i) → ((d : ℕ) → length (s'.link d).e ≤ length (s.link d).e)
+          → length (s'.link q).e + 1 ≤ length (s.link q).e → rank config size (beats_left mail' s' rest') answer s' + 1
+          ≤ rank config size (beats_left mail s rest) answer s
       acknowledged-falls q lt uses lets acks less =
           ack-falls config size (beats_left mail s rest) (beats_left mail' s' rest') answer answer s s' q lt
           (record { uses = uses-same uses; lets = lets-same lets; acks = acks }) less
@@ -302,8 +290,7 @@ module _ {w : ℕ} (config : Config) (caching : ℕ → Bool) (n : ℕ) (moves :
           → ((d : ℕ) → (d ≡ q → ⊥) → length (s'.link d).e ≤ length (s.link d).e)
           → length (s'.link q).e ≡ length (s.link q).e + 1 → owed' q j + 2 ≤ owed q j
           → rank config size (beats_left mail' s' rest') answer s' + 1 ≤ rank config size (beats_left mail s rest)
-          answer
-          s
+          answer s
       granted-falls q j used unlike lets acks more less =
           grant-falls config size (beats_left mail s rest) (beats_left mail' s' rest') answer answer s s' q j
           (all.clients q j used) (all.sources q j used)

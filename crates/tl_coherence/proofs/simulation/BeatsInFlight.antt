@@ -41,9 +41,8 @@ all_beats P m k (suc n) each = All-cons P (beat_of m k) (beats_from m (k + 1) n)
     (all_beats P m (k + 1) n (λ i lt. each i (omega (arith, lt))))
 
 pub all-message : {w : ℕ} (P : ℕ → Beat w → Type 0) (l : ℕ) (m : Message w) (s : System w)
-    → ((i : ℕ) → i < beats_of m → P l (beat_of m i))
-    → ((d : ℕ) (at : Channel) → All (P d) (s.channels d at)) → (d : ℕ) (at : Channel)
-    → All (P d) ((with_message l m s).channels d at)
+    → ((i : ℕ) → i < beats_of m → P l (beat_of m i)) → ((d : ℕ) (at : Channel) → All (P d) (s.channels d at))
+    → (d : ℕ) (at : Channel) → All (P d) ((with_message l m s).channels d at)
 all-message {w} P l m s each before d at = elim (cases_eq d l) [
   | inl same ↦ rw same (here (l == l) (same_number l) (same_channel at (channel_of_message m)))
   | inr other ↦ there (d == l) (ne_eqb d l other)
@@ -54,8 +53,7 @@ all-message {w} P l m s each before d at = elim (cases_eq d l) [
 
     here : (x : Bool) → x ≡ true → (y : Bool) → All (P l) (if x && y then more else s.channels l at)
     here x e true = rw e (All-append (P l) (s.channels l (channel_of_message m)) (beats_from m 0 (beats_of m))
-        (before l (channel_of_message m))
-        (all_beats (P l) m 0 (beats_of m) (λ i lt. each i (omega (arith, lt)))))
+        (before l (channel_of_message m)) (all_beats (P l) m 0 (beats_of m) (λ i lt. each i (omega (arith, lt)))))
     here x e false = rw e (before l at)
 
     there : (x : Bool) → x ≡ false
@@ -64,8 +62,7 @@ all-message {w} P l m s each before d at = elim (cases_eq d l) [
 
 pub all-messages : {w : ℕ} (P : ℕ → Beat w → Type 0) (handed : Handed w) (s : System w)
     → Each (λ x. (i : ℕ) → i < beats_of x.1 → P x.0.0 (beat_of x.1 i)) handed
-    → ((d : ℕ) (at : Channel) → All (P d) (s.channels d at))
-    → (d : ℕ) (at : Channel)
+    → ((d : ℕ) (at : Channel) → All (P d) (s.channels d at)) → (d : ℕ) (at : Channel)
     → All (P d) ((with_messages handed s).channels d at)
 unfolding with_messages
 all-messages P [] s each before d at = before d at
@@ -73,9 +70,8 @@ all-messages P (x ∷ handed) s each before d at = all-messages P handed (with_m
     (λ i j. all-message P x.0.0 x.1 s each.0 before i j) d at
 
 pub all-popped : {w : ℕ} (P : ℕ → Beat w → Type 0) (c : ℕ) (ch : Channel) (x : Beat w) (queue : List (Beat w))
-    (s : System w) → s.channels c ch ≡ x ∷ queue
-    → ((d : ℕ) (at : Channel) → All (P d) (s.channels d at)) → (d : ℕ) (at : Channel)
-    → All (P d) ((with_channel c ch queue s).channels d at)
+    (s : System w) → s.channels c ch ≡ x ∷ queue → ((d : ℕ) (at : Channel) → All (P d) (s.channels d at))
+    → (d : ℕ) (at : Channel) → All (P d) ((with_channel c ch queue s).channels d at)
 all-popped {w} P c ch x queue s first before d at = elim (cases_eq d c) [
   | inl same ↦ rw same (here (c == c) (same_number c) (same_channel at ch) refl)
   | inr other ↦ there (d == c) (ne_eqb d c other)
@@ -129,10 +125,10 @@ unspoiled (Message.D m) i is clean = absurd is
 unspoiled (Message.E m) i is clean = refl
 unspoiled m i is clean = rw clean (no_bit i)
 
-pub good-message : {w : ℕ} (config : Config) (c : ℕ) (l : Level) (m : Message w) → IsWidth w
+pub good-message : {w : ℕ} (config : Config) (c : ℕ) {l : Level} {m : Message w} → IsWidth w
     → level_of config c ≡ Some l → IsSound l m → IsOfClient m
     → is_outside config.blocks (beat_of m 0) ≡ false → HasBlock m → AreGood config c m
-good-message {w} config c l m width level sound ours inside long i lt =
+good-message {w} config c {l} {m} width level sound ours inside long i lt =
     let typed : rules.IsTyped (beat_of m i) = typed-beat m i width long lt in
     record {
       sound = record {
@@ -248,8 +244,7 @@ fit-asked terms op e typed copies = asked-cases terms op e (λ o. IsFitIfAny ter
 
 ack_fit : (w blocks : ℕ) (opcode : OpB) (p : Perm) (r : Report) (n : ℕ) (copy : List ℕ) → length copy ≡ 64
     → nat_le blocks n ≡ false → IsFit {w = w} blocks (probe_ack opcode p r n copy)
-ack_fit w blocks opcode p r n copy long e =
-    probe_ack-cases opcode p r n copy (λ m. IsFit {w = w} blocks m)
+ack_fit w blocks opcode p r n copy long e = probe_ack-cases opcode p r n copy (λ m. IsFit {w = w} blocks m)
     (record { long = long; ours = tt; inside = rw (same_block n) e })
     (record { long = refl; ours = tt; inside = rw (same_block n) e })
 

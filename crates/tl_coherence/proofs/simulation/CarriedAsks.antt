@@ -36,9 +36,8 @@ new_there k c n new block m e = ap (block_message k c n) (set-same n new block) 
 
 pub access_asked-carried : {w : ℕ} (caching : ℕ → Bool) (c source : ℕ) (m : Message w) (mail : AccessMessages w)
     (s : State (List ℕ)) (sys sys' : System w) → IsWidth w → IsInvariant caching s
-    → IsInvariant caching (access_asked c source s) → s.uses c source ≡ SourceFree
-    → channel_of_message m ≡ Channel.A → IsHanded (pushes_at c (pushes_of (Some m))) sys sys'
-    → ChannelRelation mail s sys
+    → IsInvariant caching (access_asked c source s) → s.uses c source ≡ SourceFree → channel_of_message m ≡ Channel.A
+    → IsHanded (pushes_at c (pushes_of (Some m))) sys sys' → ChannelRelation mail s sys
     → ChannelRelation (record { request = set_at c source m mail.request; answer = mail.answer })
     (access_asked c source s) sys'
 access_asked-carried {w} caching c source m mail s sys sys' width inv inv' closed chan handed h =
@@ -80,24 +79,21 @@ access_asked-carried {w} caching c source m mail s sys sys' width inv inv' close
     fits at = tt
 
 pub acquire_asked-carried : {w : ℕ} (caching : ℕ → Bool) (c n source : ℕ) (whole : Bool) (g : Grow) (bytes : List ℕ)
-    (m : Message w) (mail : AccessMessages w)
-    (s : State (List ℕ)) (sys sys' : System w) → IsWidth w
+    (m : Message w) (mail : AccessMessages w) (s : State (List ℕ)) (sys sys' : System w) → IsWidth w
     → IsInvariant caching s → IsInvariant caching (acquire_asked c n source whole g bytes s)
-    → ((s.block n).pair c).acquiring ≡ NoAcquire
-    → channel_of_message m ≡ Channel.A → block_message Acquire c n (acquiring_block c source whole g bytes (s.block n))
-    ≡ m → IsHanded (pushes_at c (pushes_of (Some m))) sys sys' → ChannelRelation mail s sys
+    → ((s.block n).pair c).acquiring ≡ NoAcquire → channel_of_message m ≡ Channel.A
+    → block_message Acquire c n (acquiring_block c source whole g bytes (s.block n)) ≡ m
+    → IsHanded (pushes_at c (pushes_of (Some m))) sys sys' → ChannelRelation mail s sys
     → ChannelRelation mail (acquire_asked c n source whole g bytes s) sys'
 acquire_asked-carried {w} caching c n source whole g bytes m mail s sys sys' width inv inv' calm chan is handed h =
     carried-event caching n (moves_at c (acquire_moves n)) mail mail s s' sys sys' width
-    (showing-block caching n new (moves_at c (acquire_moves n)) mail mail s s' inv inv'
+    (showing-block n new (moves_at c (acquire_moves n)) mail mail inv inv'
     (moved-at c (acquire_moves n) (with_a (packet Acquire n) (s.link c)) s.link moved) (λ i. refl)
-    (λ d. alike-acquiring caching c source whole g bytes (s.block n) (inv.blocks n) calm d) (λ d i e f. refl)
-    (λ d i e f. refl))
+    (λ d. alike-acquiring c source whole g bytes (inv.blocks n) calm d) (λ d i e f. refl) (λ d i e f. refl))
     (queued-handed (pushes_at c (pushes_of (Some m))) (moves_at c (acquire_moves n)) mail s' sys sys' handed
     (fits-handed c (pushes_of (Some m)) (acquire_moves n) (λ d k i. message_of mail s' d (packet k i))
     (λ at. fits_pushed false m Channel.A at (acquire_moves n at) (λ k i. message_of mail s' c (packet k i)) chan
-    (fits at))))
-    h
+    (fits at)))) h
   where
     new : Block (List ℕ)
     new = acquiring_block c source whole g bytes (s.block n)
@@ -115,22 +111,20 @@ acquire_asked-carried {w} caching c n source whole g bytes m mail s sys sys' wid
     fits at = tt
 
 pub release_asked-carried : {w : ℕ} (caching : ℕ → Bool) (c n source : ℕ) (r : Prune) (m : Message w)
-    (mail : AccessMessages w) (s : State (List ℕ)) (sys sys' : System w) → IsWidth w
-    → IsInvariant caching s → IsInvariant caching (release_asked c n source r s)
-    → ((s.block n).pair c).letting ≡ NoRelease
+    (mail : AccessMessages w) (s : State (List ℕ)) (sys sys' : System w) → IsWidth w → IsInvariant caching s
+    → IsInvariant caching (release_asked c n source r s) → ((s.block n).pair c).letting ≡ NoRelease
     → channel_of_message m ≡ Channel.C → block_message Release c n (releasing_block c source r (s.block n)) ≡ m
     → IsHanded (pushes_at c (pushes_of (Some m))) sys sys' → ChannelRelation mail s sys
     → ChannelRelation mail (release_asked c n source r s) sys'
 release_asked-carried {w} caching c n source r m mail s sys sys' width inv inv' kept chan is handed h =
     carried-event caching n (moves_at c (release_moves n)) mail mail s s' sys sys' width
-    (showing-block caching n new (moves_at c (release_moves n)) mail mail s s' inv inv'
+    (showing-block n new (moves_at c (release_moves n)) mail mail inv inv'
     (moved-at c (release_moves n) (with_c (packet Release n) (s.link c)) s.link moved) (λ i. refl)
     (λ d. alike-releasing c source r (s.block n) kept d) (λ d i e f. refl) (λ d i e f. refl))
     (queued-handed (pushes_at c (pushes_of (Some m))) (moves_at c (release_moves n)) mail s' sys sys' handed
     (fits-handed c (pushes_of (Some m)) (release_moves n) (λ d k i. message_of mail s' d (packet k i))
     (λ at. fits_pushed false m Channel.C at (release_moves n at) (λ k i. message_of mail s' c (packet k i)) chan
-    (fits at))))
-    h
+    (fits at)))) h
   where
     new : Block (List ℕ)
     new = releasing_block c source r (s.block n)
@@ -156,9 +150,8 @@ no_push true render = tt
 no_push false render = tt
 
 pub nothing_asked-carried : {w : ℕ} (caching : ℕ → Bool) (c : ℕ) (mail : AccessMessages w) (s : State (List ℕ))
-    (sys sys' : System w) → IsWidth w → IsInvariant caching s
-    → IsHanded (pushes_at c (pushes_of None)) sys sys' → ChannelRelation mail s sys
-    → ChannelRelation mail s sys'
+    (sys sys' : System w) → IsWidth w → IsInvariant caching s → IsHanded (pushes_at c (pushes_of None)) sys sys'
+    → ChannelRelation mail s sys → ChannelRelation mail s sys'
 nothing_asked-carried {w} caching c mail s sys sys' width inv handed h =
     carried-event caching 0 still_moves mail mail s s sys sys' width (record {
       before = inv;
@@ -181,7 +174,7 @@ pub block_stored-carried : {w : ℕ} (caching : ℕ → Bool) (c n : ℕ) (bytes
 block_stored-carried {w} caching c n bytes mail s sys sys' width inv inv' none handed h =
     let new : Block (List ℕ) = stored_block c bytes (s.block n) in
     carried-event caching n still_moves mail mail s (block_stored c n bytes s) sys sys' width
-    (showing-block caching n new still_moves mail mail s (block_stored c n bytes s) inv inv' (λ d ch. refl) (λ i. refl)
+    (showing-block n new still_moves mail mail inv inv' (λ d ch. refl) (λ i. refl)
     (alike-bytes (s.block n) new refl refl refl refl refl (λ k d. inl (none k d))) (λ d i e f. refl) (λ d i e f. refl))
     (queued-handed (pushes_at c (pushes_of None)) still_moves mail (block_stored c n bytes s) sys sys' handed
     (λ d at. no_push (d == c) (λ k i. message_of mail (block_stored c n bytes s) d (packet k i))))

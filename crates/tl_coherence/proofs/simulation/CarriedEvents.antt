@@ -22,23 +22,24 @@ use Rattle.tl_coherence.proofs.simulation.CarriedAsks.{only_on, fits_pushed, new
 
 -- ---- a request is taken
 
-pub access_answered-shown : {w : ℕ} (caching : ℕ → Bool) (c n source : ℕ) (f : List ℕ → List ℕ) (rest : List Packet)
-    (m : Message w) (mail : AccessMessages w)
-    (s : State (List ℕ)) → IsInvariant caching s → IsInvariant caching (access_answered c n source f rest s)
-    → (s.link c).a ≡ packet Request source ∷ rest
+pub access_answered-shown : {w : ℕ} {caching : ℕ → Bool} (c n source : ℕ) (f : List ℕ → List ℕ) (rest : List Packet)
+    (m : Message w) (mail : AccessMessages w) {s : State (List ℕ)} → IsInvariant caching s
+    → IsInvariant caching (access_answered c n source f rest s) → (s.link c).a ≡ packet Request source ∷ rest
     → s.uses c source ≡ Asked
     → ((k : Kind) (d : ℕ) → (carries k d (s.block n) ≡ false) ⊎ (f (s.block n).truth ≡ (s.block n).truth))
     → channel_of_message m ≡ Channel.D → IsShown caching n c Channel.A (pushes_at c (pushes_of (Some m))) mail
     (record { request = mail.request; answer = set_at c source m mail.answer }) s (access_answered c n source f rest s)
-access_answered-shown {w} caching c n source f rest m mail s inv inv' first used bytes chan =
+access_answered-shown {w} {caching} c n source f rest m mail {s} inv inv' first used bytes chan =
     let new : Block (List ℕ) = performed_block f (s.block n) in
     record {
       moves = (moves_at c (answer_moves source));
-      showing = showing-block caching n new (moves_at c (answer_moves source)) mail mail' s s' inv inv'
-          (moved-at c (answer_moves source) (answered_link (packet Answer source) rest (s.link c)) s.link moved) (λ i. refl)
+      showing = showing-block n new (moves_at c (answer_moves source)) mail mail' inv inv'
+          (moved-at c (answer_moves source) (answered_link (packet Answer source) rest (s.link c)) s.link moved)
+          (λ i. refl)
           (alike-bytes (s.block n) new refl refl refl refl refl bytes) (λ d i e g. refl)
           (λ d i e g. answers d i e (cases_eq d c) (cases_eq i source));
-      fits = fits-at c Channel.A (pushes_of (Some m)) (answer_moves source) (λ d k i. message_of mail' s' d (packet k i))
+      fits = fits-at c Channel.A (pushes_of (Some m)) (answer_moves source)
+          (λ d k i. message_of mail' s' d (packet k i))
           (λ at. fits_pushed (same_channel at Channel.A) m Channel.D at (answer_moves source at)
           (λ k i. message_of mail' s' c (packet k i)) chan (fits at));
     }
@@ -65,17 +66,16 @@ access_answered-shown {w} caching c n source f rest m mail s inv inv' first used
     fits Channel.D = cc (set-same c (set source m (mail.answer c)) mail.answer, set-same source m (mail.answer c))
     fits at = tt
 
-pub acquire_granted-shown : {w : ℕ} (caching : ℕ → Bool) (r n tracker : ℕ) (d : Bool) (k : Cap) (rest : List Packet)
-    (m : Message w) (mail : AccessMessages w)
-    (s : State (List ℕ)) → IsInvariant caching s → IsInvariant caching (acquire_granted r n tracker d k rest s)
-    → (s.link r).a ≡ packet Acquire n ∷ rest
+pub acquire_granted-shown : {w : ℕ} {caching : ℕ → Bool} (r n tracker : ℕ) (d : Bool) (k : Cap) (rest : List Packet)
+    (m : Message w) (mail : AccessMessages w) {s : State (List ℕ)} → IsInvariant caching s
+    → IsInvariant caching (acquire_granted r n tracker d k rest s) → (s.link r).a ≡ packet Acquire n ∷ rest
     → (s.block n).service ≡ Free → channel_of_message m ≡ Channel.D
     → block_message Grant r n (granted_at_once r tracker d k (s.block n)) ≡ m
     → IsShown caching n r Channel.A (pushes_at r (pushes_of (Some m))) mail mail s
     (acquire_granted r n tracker d k rest s)
-acquire_granted-shown {w} caching r n tracker d k rest m mail s inv inv' first free chan is = record {
+acquire_granted-shown {w} {caching} r n tracker d k rest m mail {s} inv inv' first free chan is = record {
   moves = (moves_at r (once_moves n));
-  showing = showing-block caching n new (moves_at r (once_moves n)) mail mail s s' inv inv'
+  showing = showing-block n new (moves_at r (once_moves n)) mail mail inv inv'
       (moved-at r (once_moves n) (answered_link (packet Grant n) rest (s.link r)) s.link moved) (λ i. refl)
       (alike-granted_at_once r tracker d k (s.block n) free) (λ i j e f. refl) (λ i j e f. refl);
   fits = fits-at r Channel.A (pushes_of (Some m)) (once_moves n) (λ i j l. message_of mail s' i (packet j l))
@@ -100,15 +100,15 @@ acquire_granted-shown {w} caching r n tracker d k rest m mail s inv inv' first f
 
 -- ---- a Probe is taken
 
-pub probe_taken-shown : {w : ℕ} (caching : ℕ → Bool) (c n : ℕ) (k : Cap) (rest : List Packet) (m : Message w)
-    (mail : AccessMessages w) (s : State (List ℕ))
+pub probe_taken-shown : {w : ℕ} {caching : ℕ → Bool} (c n : ℕ) (k : Cap) (rest : List Packet) (m : Message w)
+    (mail : AccessMessages w) {s : State (List ℕ)}
     → IsInvariant caching s → IsInvariant caching (probe_taken c n k rest s) → (s.link c).b ≡ packet Probe n ∷ rest
     → ((s.block n).pair c).probing ≡ ProbeSent k
     → channel_of_message m ≡ Channel.C → block_message ProbeAck c n (probed_block c k (s.block n)) ≡ m
     → IsShown caching n c Channel.B (pushes_at c (pushes_of (Some m))) mail mail s (probe_taken c n k rest s)
-probe_taken-shown {w} caching c n k rest m mail s inv inv' first sent chan is = record {
+probe_taken-shown {w} {caching} c n k rest m mail {s} inv inv' first sent chan is = record {
   moves = (moves_at c (probe_moves n));
-  showing = showing-block caching n new (moves_at c (probe_moves n)) mail mail s s' inv inv'
+  showing = showing-block n new (moves_at c (probe_moves n)) mail mail inv inv'
       (moved-at c (probe_moves n) (probed_link n rest (s.link c)) s.link moved) (λ i. refl)
       (alike-probed c k (s.block n) sent) (λ i j e f. refl) (λ i j e f. refl);
   fits = fits-at c Channel.B (pushes_of (Some m)) (probe_moves n) (λ i j l. message_of mail s' i (packet j l))
@@ -133,15 +133,15 @@ probe_taken-shown {w} caching c n k rest m mail s inv inv' first sent chan is = 
 
 -- ---- a report is taken
 
-pub report_taken-shown : {w : ℕ} (caching : ℕ → Bool) (c n : ℕ) (r : Report) (rest : List Packet)
-    (mail : AccessMessages w) (s : State (List ℕ)) → IsInvariant caching s
+pub report_taken-shown : {w : ℕ} {caching : ℕ → Bool} (c n : ℕ) (r : Report) (rest : List Packet)
+    (mail : AccessMessages w) {s : State (List ℕ)} → IsInvariant caching s
     → IsInvariant caching (report_taken c n r rest s) → (s.link c).c ≡ packet ProbeAck n ∷ rest
     → IsShown caching n c Channel.C (λ d at. None) mail mail s (report_taken c n r rest s)
-report_taken-shown {w} caching c n r rest mail s inv inv' first =
+report_taken-shown {w} {caching} c n r rest mail {s} inv inv' first =
     let new : Block (List ℕ) = reported_block c r (s.block n) in
     record {
       moves = (moves_at c (report_moves n));
-      showing = showing-block caching n new (moves_at c (report_moves n)) mail mail s s' inv inv'
+      showing = showing-block n new (moves_at c (report_moves n)) mail mail inv inv'
           (moved-at c (report_moves n) (record (s.link c) { c = rest }) s.link moved) (λ i. refl)
           (alike-reported c r (s.block n)) (λ i j e f. refl) (λ i j e f. refl);
       fits = λ d at. fits d at (d == c);
@@ -166,15 +166,14 @@ report_taken-shown {w} caching c n r rest mail s inv inv' first =
 
 -- ---- a Release is taken
 
-pub release_taken-shown : {w : ℕ} (caching : ℕ → Bool) (c n : ℕ) (r : Prune) (rest : List Packet) (m : Message w)
-    (mail : AccessMessages w) (s : State (List ℕ))
-    → IsInvariant caching s → IsInvariant caching (release_taken c n r rest s) → (s.link c).c ≡ packet Release n ∷ rest
-    → channel_of_message m ≡ Channel.D
-    → block_message ReleaseAck c n (let_block c r (s.block n)) ≡ m
+pub release_taken-shown : {w : ℕ} {caching : ℕ → Bool} (c n : ℕ) (r : Prune) (rest : List Packet) (m : Message w)
+    (mail : AccessMessages w) {s : State (List ℕ)} → IsInvariant caching s
+    → IsInvariant caching (release_taken c n r rest s) → (s.link c).c ≡ packet Release n ∷ rest
+    → channel_of_message m ≡ Channel.D → block_message ReleaseAck c n (let_block c r (s.block n)) ≡ m
     → IsShown caching n c Channel.C (pushes_at c (pushes_of (Some m))) mail mail s (release_taken c n r rest s)
-release_taken-shown {w} caching c n r rest m mail s inv inv' first chan is = record {
+release_taken-shown {w} {caching} c n r rest m mail {s} inv inv' first chan is = record {
   moves = (moves_at c (let_moves n));
-  showing = showing-block caching n new (moves_at c (let_moves n)) mail mail s s' inv inv'
+  showing = showing-block n new (moves_at c (let_moves n)) mail mail inv inv'
       (moved-at c (let_moves n) (let_link n rest (s.link c)) s.link moved) (λ i. refl)
       (alike-let c r (s.block n)) (λ i j e f. refl) (λ i j e f. refl);
   fits = fits-at c Channel.C (pushes_of (Some m)) (let_moves n) (λ i j l. message_of mail s' i (packet j l))

@@ -59,19 +59,16 @@ popped_is c d rest link = elim (cases_eq d c) [
   | inr other ↦ rw (ne_eqb d c other) refl
 ]
 
-pub report_answers-shown : {w : ℕ} (caching : ℕ → Bool) (c q n source : ℕ) (r : Report) (k : Cap) (f : List ℕ → List ℕ)
-    (rest : List Packet) (m : Message w)
-    (mail : AccessMessages w) (s : State (List ℕ)) → IsInvariant caching s
-    → IsInvariant caching (report_answers c q n source r f rest s)
-    → (s.link c).c ≡ packet ProbeAck n ∷ rest → (s.block n).service ≡ Waits q false source k
-    → is_replied (s.uses q source) ≡ false
+pub report_answers-shown : {w : ℕ} {caching : ℕ → Bool} (c q n source : ℕ) (r : Report) (k : Cap) (f : List ℕ → List ℕ)
+    (rest : List Packet) (m : Message w) (mail : AccessMessages w) {s : State (List ℕ)} → IsInvariant caching s
+    → IsInvariant caching (report_answers c q n source r f rest s) → (s.link c).c ≡ packet ProbeAck n ∷ rest
+    → (s.block n).service ≡ Waits q false source k → is_replied (s.uses q source) ≡ false
     → ((j : Kind) (i : ℕ) → shown j i (s.block n) ≡ true → shown j i (ended_block c r f (s.block n)) ≡ true
-    → (carries j i (s.block n) ≡ false)
-    ⊎ (f (s.block n).truth ≡ (s.block n).truth)) → channel_of_message m ≡ Channel.D
+    → (carries j i (s.block n) ≡ false) ⊎ (f (s.block n).truth ≡ (s.block n).truth)) → channel_of_message m ≡ Channel.D
     → IsShown caching n c Channel.C (pushes_at q (pushes_of (Some m))) mail
     (record { request = mail.request; answer = set_at q source m mail.answer }) s
     (report_answers c q n source r f rest s)
-report_answers-shown {w} caching c q n source r k f rest m mail s inv inv' first waits used bytes chan =
+report_answers-shown {w} {caching} c q n source r k f rest m mail {s} inv inv' first waits used bytes chan =
     let new : Block (List ℕ) = ended_block c r f (s.block n) in
     let mail' : AccessMessages w = record { request = mail.request; answer = set_at q source m mail.answer } in
     let s' : State (List ℕ) = report_answers c q n source r f rest s in
@@ -86,7 +83,7 @@ report_answers-shown {w} caching c q n source r k f rest m mail s inv inv' first
     c) (d == q) (λ j l. message_of mail' s' d (packet j l)) (answer_is d)) in
     record {
       moves = moves;
-      showing = showing-block caching n new moves mail mail' s s' inv inv' (λ d ch. moved d ch) (λ i. refl)
+      showing = showing-block n new moves mail mail' inv inv' (λ d ch. moved d ch) (λ i. refl)
           (alike-ended c q source r k f (s.block n) waits bytes) (λ d i e g. refl)
           (λ d i e g. answers d i e (cases_eq d q) (cases_eq i source));
       fits = λ d at. fits d at;
@@ -177,15 +174,13 @@ granted_fits {w} n m at c q d render e = rw (same at) (cases at (d == c) (d == q
     same Channel.A = refl
     same at = refl
 
-pub report_grants-shown : {w : ℕ} (caching : ℕ → Bool) (c q n source : ℕ) (r : Report) (d : Bool) (k gift : Cap)
-    (rest : List Packet) (m : Message w)
-    (mail : AccessMessages w) (s : State (List ℕ)) → IsInvariant caching s
-    → IsInvariant caching (report_grants c q n r d gift rest s)
-    → (s.link c).c ≡ packet ProbeAck n ∷ rest → (s.block n).service ≡ Waits q true source k → (c ≡ q → ⊥)
-    → channel_of_message m ≡ Channel.D
+pub report_grants-shown : {w : ℕ} {caching : ℕ → Bool} (c q n source : ℕ) (r : Report) (d : Bool) (k gift : Cap)
+    (rest : List Packet) (m : Message w) (mail : AccessMessages w) {s : State (List ℕ)} → IsInvariant caching s
+    → IsInvariant caching (report_grants c q n r d gift rest s) → (s.link c).c ≡ packet ProbeAck n ∷ rest
+    → (s.block n).service ≡ Waits q true source k → (c ≡ q → ⊥) → channel_of_message m ≡ Channel.D
     → block_message Grant q n (granted_block c q r d gift (s.block n)) ≡ m
     → IsShown caching n c Channel.C (pushes_at q (pushes_of (Some m))) mail mail s (report_grants c q n r d gift rest s)
-report_grants-shown {w} caching c q n source r d k gift rest m mail s inv inv' first waits apart chan is =
+report_grants-shown {w} {caching} c q n source r d k gift rest m mail {s} inv inv' first waits apart chan is =
     let new : Block (List ℕ) = granted_block c q r d gift (s.block n) in
     let s' : State (List ℕ) = report_grants c q n r d gift rest s in
     let moves : ℕ → Channel → Move = λ i. granted_moves n c q i in
@@ -200,7 +195,7 @@ report_grants-shown {w} caching c q n source r d k gift rest m mail s inv inv' f
     λ i at. rw chan (granted_fits n m at c q i (λ j l. message_of mail s' i (packet j l)) (grant_is i)) in
     record {
       moves = moves;
-      showing = showing-block caching n new moves mail mail s s' inv inv'
+      showing = showing-block n new moves mail mail inv inv'
           (λ i ch. granted_moved n c q i ch rest s.link apart first) (λ i. refl)
           (alike-granted c q source r true d k gift (s.block n) waits apart) (λ i j e f. refl) (λ i j e f. refl);
       fits = λ i at. fits i at;

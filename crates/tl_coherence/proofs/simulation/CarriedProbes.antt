@@ -24,8 +24,7 @@ use Rattle.tl_coherence.proofs.protocol.Served.{request_move, served_moves, kind
 -- ---- Probes that are handed out
 
 own_probe : {w : ℕ} (n : ℕ) (k : Cap) (d : ℕ) (s : System w) → (with_message d (probe_of_block n k) s).channels d
-    Channel.B ≡ s.channels d Channel.B
-    ++ beats_from (probe_of_block n k) 0 (beats_of (probe_of_block {w = w} n k))
+    Channel.B ≡ s.channels d Channel.B ++ beats_from (probe_of_block n k) 0 (beats_of (probe_of_block {w = w} n k))
 own_probe n k d s = rw (same_number d) refl
 
 other_probe : {w : ℕ} (n : ℕ) (k : Cap) (c d : ℕ) (at : Channel) (s : System w) → (d ≡ c → ⊥)
@@ -43,8 +42,7 @@ aside_probe {w} n k c d at s aside = rw aside (go (d == c))
 
 -- Probes go on channel B
 pub probes-aside : {w : ℕ} (n : ℕ) (k : Cap) (clients : List ℕ) (d : ℕ) (at : Channel) (s : System w)
-    → same_channel at Channel.B ≡ false
-    → (with_messages (probes n k clients) s).channels d at ≡ s.channels d at
+    → same_channel at Channel.B ≡ false → (with_messages (probes n k clients) s).channels d at ≡ s.channels d at
 unfolding with_messages
 probes-aside n k [] d at s aside = refl
 probes-aside n k (c ∷ clients) d at s aside = probes-aside n k clients d at (with_message c (probe_of_block n k) s)
@@ -84,9 +82,8 @@ probes-past {w} n k first (suc count) test d s le =
     go rest false = rest s
 
 pub probes-among : {w : ℕ} (n : ℕ) (k : Cap) (first count : ℕ) (test : ℕ → Bool) (d : ℕ) (s : System w) → first ≤ d
-    → d < first + count
-    → (with_messages (probes n k (clients_from first count test)) s).channels d Channel.B ≡ behind
-    (if test d then Some (probe_of_block n k) else None) (s.channels d Channel.B)
+    → d < first + count → (with_messages (probes n k (clients_from first count test)) s).channels d Channel.B
+    ≡ behind (if test d then Some (probe_of_block n k) else None) (s.channels d Channel.B)
 unfolding with_messages clients_from
 probes-among n k first zero test d s le lt = absurd (omega (arith, le, lt))
 probes-among {w} n k first (suc count) test d s le lt =
@@ -94,14 +91,12 @@ probes-among {w} n k first (suc count) test d s le lt =
     (omega (arith, lt)))
   where
     Rest : Type 0
-    Rest = (u : System w) → (with_messages (probes n k (clients_from (first + 1) count test)) u).channels d
-        Channel.B ≡ behind
-        (if test d then Some (probe_of_block n k) else None) (u.channels d Channel.B)
+    Rest = (u : System w) → (with_messages (probes n k (clients_from (first + 1) count test)) u).channels d Channel.B
+        ≡ behind (if test d then Some (probe_of_block n k) else None) (u.channels d Channel.B)
 
-    at_first : (b : Bool)
-        → (with_messages (probes n k (if b then d ∷ clients_from (d + 1) count test else clients_from (d + 1) count
-        test)) s).channels d Channel.B ≡ behind
-        (if b then Some (probe_of_block n k) else None) (s.channels d Channel.B)
+    at_first : (b : Bool) → (with_messages
+        (probes n k (if b then d ∷ clients_from (d + 1) count test else clients_from (d + 1) count test)) s).channels d
+        Channel.B ≡ behind (if b then Some (probe_of_block n k) else None) (s.channels d Channel.B)
     at_first true = probes_below n k (d + 1) count test d (with_message d (probe_of_block n k) s) (omega arith)
         ∙ own_probe n k d s
     at_first false = probes_below n k (d + 1) count test d s (omega arith)
@@ -125,8 +120,7 @@ probe_pushes n k test d Channel.B = if test d then Some (probe_of_block n k) els
 probe_pushes n k test d _ = None
 
 pub channels-probes : {w : ℕ} (n : ℕ) (k : Cap) (count : ℕ) (test probed : ℕ → Bool) (s : System w)
-    → ((d : ℕ) → d < count → test d ≡ probed d)
-    → ((d : ℕ) → count ≤ d → probed d ≡ false) → (d : ℕ) (at : Channel)
+    → ((d : ℕ) → d < count → test d ≡ probed d) → ((d : ℕ) → count ≤ d → probed d ≡ false) → (d : ℕ) (at : Channel)
     → (with_messages (probes n k (clients_from 0 count test)) s).channels d at ≡ behind (probe_pushes n k probed d at)
     (s.channels d at)
 channels-probes n k count test probed s same none d Channel.A = probes-aside n k (clients_from 0 count test) d Channel.A
@@ -145,9 +139,8 @@ channels-probes {w} n k count test probed s same none d Channel.B = elim (cases_
 -- ---- a request that probes
 
 served_moved : (ch : Channel) (x y : Bool) (j : Kind) (i n : ℕ) (l : Link) (rest : List Packet)
-    → (x ≡ true → l.a ≡ packet j i ∷ rest)
-    → IsMoved (request_move (if x then Pops j i else Stays) y n ch) (packets_on ch l)
-    (packets_on ch (with_probe n y (if x then record l { a = rest } else l)))
+    → (x ≡ true → l.a ≡ packet j i ∷ rest) → IsMoved (request_move (if x then Pops j i else Stays) y n ch)
+    (packets_on ch l) (packets_on ch (with_probe n y (if x then record l { a = rest } else l)))
 served_moved Channel.A true true j i n l rest e = e refl
 served_moved Channel.A true false j i n l rest e = e refl
 served_moved Channel.A false true j i n l rest e = refl
@@ -208,16 +201,14 @@ sent_rendered : {w : ℕ} (r : ℕ) (own : Bool) (source tracker : ℕ) (n : ℕ
 unfolding block_message
 sent_rendered {w} r own source tracker n k d b e = sent_probe w r own n k d (b.pair d) e
 
-served-shown : {w : ℕ} (caching : ℕ → Bool) (r n : ℕ) (own : Bool) (source tracker : ℕ) (k : Cap)
-    (rest : List Packet) (mail : AccessMessages w)
-    (s s' : State (List ℕ)) → IsInvariant caching s → IsInvariant caching s'
-    → (s.link r).a ≡ packet (kind_served own) (number_served own n source) ∷ rest
-    → (s.block n).service ≡ Free
+served-shown : {w : ℕ} {caching : ℕ → Bool} (r n : ℕ) (own : Bool) (source tracker : ℕ) (k : Cap) (rest : List Packet)
+    (mail : AccessMessages w) {s s' : State (List ℕ)} → IsInvariant caching s → IsInvariant caching s'
+    → (s.link r).a ≡ packet (kind_served own) (number_served own n source) ∷ rest → (s.block n).service ≡ Free
     → ((i : ℕ) → s'.block i ≡ set n (served_block r own source tracker k (s.block n)) s.block i)
     → ((d : ℕ) → s'.link d ≡ served_link r own n k rest (s.block n) s.link d)
     → IsShown caching n r Channel.A (probe_pushes n k (λ d. is_probed r own k ((s.block n).pair d).recorded d)) mail
     mail s s'
-served-shown {w} caching r n own source tracker k rest mail s s' inv inv' first free blocks links =
+served-shown {w} {caching} r n own source tracker k rest mail {s} {s'} inv inv' first free blocks links =
     let new : Block (List ℕ) = served_block r own source tracker k (s.block n) in
     let test : ℕ → Bool = λ d. is_probed r own k ((s.block n).pair d).recorded d in
     let moves : ℕ → Channel → Move = served_moves r own n source k (s.block n).pair in
@@ -237,31 +228,25 @@ served-shown {w} caching r n own source tracker k rest mail s s' inv inv' first 
     (number_served own n source) (λ j l. message_of mail s' d (packet j l)) (render_is d)) in
     record {
       moves = moves;
-      showing = showing-block caching n new moves mail mail s s' inv inv' (λ d ch. moved d ch) blocks
-          (alike-served caching r own source tracker k (s.block n) (inv.blocks n) free) (λ i j e f. refl) (λ i j e f. refl);
+      showing = showing-block n new moves mail mail inv inv' (λ d ch. moved d ch) blocks
+          (alike-served r own source tracker k (inv.blocks n) free) (λ i j e f. refl) (λ i j e f. refl);
       fits = λ d at. fits d at;
     }
 
-pub acquire_served-shown : {w : ℕ} (caching : ℕ → Bool) (r n source tracker : ℕ) (k : Cap) (rest : List Packet)
-    (mail : AccessMessages w) (s : State (List ℕ))
-    → IsInvariant caching s → IsInvariant caching (acquire_served r n source tracker k rest s)
-    → (s.link r).a ≡ packet Acquire n ∷ rest → (s.block n).service ≡ Free
+pub acquire_served-shown : {w : ℕ} {caching : ℕ → Bool} (r n source tracker : ℕ) (k : Cap) (rest : List Packet)
+    (mail : AccessMessages w) {s : State (List ℕ)} → IsInvariant caching s
+    → IsInvariant caching (acquire_served r n source tracker k rest s) → (s.link r).a ≡ packet Acquire n ∷ rest
+    → (s.block n).service ≡ Free
     → IsShown caching n r Channel.A (probe_pushes n k (λ d. is_probed r true k ((s.block n).pair d).recorded d)) mail
-    mail
-    s (acquire_served r n source tracker k rest s)
-acquire_served-shown caching r n source tracker k rest mail s inv inv' first free =
-    served-shown caching r n true source tracker k rest mail s (acquire_served r n source tracker k rest s) inv inv'
-    first
-    free (λ i. refl) (λ d. refl)
+    mail s (acquire_served r n source tracker k rest s)
+acquire_served-shown {caching} r n source tracker k rest mail {s} inv inv' first free =
+    served-shown r n true source tracker k rest mail inv inv' first free (λ i. refl) (λ d. refl)
 
-pub access_served-shown : {w : ℕ} (caching : ℕ → Bool) (r n source tracker : ℕ) (k : Cap) (rest : List Packet)
-    (mail : AccessMessages w) (s : State (List ℕ))
-    → IsInvariant caching s → IsInvariant caching (access_served r n source tracker k rest s)
-    → (s.link r).a ≡ packet Request source ∷ rest → (s.block n).service ≡ Free
+pub access_served-shown : {w : ℕ} {caching : ℕ → Bool} (r n source tracker : ℕ) (k : Cap) (rest : List Packet)
+    (mail : AccessMessages w) {s : State (List ℕ)} → IsInvariant caching s
+    → IsInvariant caching (access_served r n source tracker k rest s) → (s.link r).a ≡ packet Request source ∷ rest
+    → (s.block n).service ≡ Free
     → IsShown caching n r Channel.A (probe_pushes n k (λ d. is_probed r false k ((s.block n).pair d).recorded d)) mail
-    mail
-    s (access_served r n source tracker k rest s)
-access_served-shown caching r n source tracker k rest mail s inv inv' first free =
-    served-shown caching r n false source tracker k rest mail s (access_served r n source tracker k rest s) inv inv'
-    first
-    free (λ i. refl) (λ d. refl)
+    mail s (access_served r n source tracker k rest s)
+access_served-shown {caching} r n source tracker k rest mail {s} inv inv' first free =
+    served-shown r n false source tracker k rest mail inv inv' first free (λ i. refl) (λ d. refl)

@@ -18,11 +18,11 @@ use Rattle.tl_coherence.proofs.simulation.CarriedAsks.{only_on, fits_pushed, new
 
 -- ---- a response is taken
 
-pub answer_taken-shown : {w : ℕ} (caching : ℕ → Bool) (c source : ℕ) (rest : List Packet) (mail : AccessMessages w)
-    (s : State (List ℕ)) → IsInvariant caching s
+pub answer_taken-shown : {w : ℕ} {caching : ℕ → Bool} (c source : ℕ) (rest : List Packet) (mail : AccessMessages w)
+    {s : State (List ℕ)} → IsInvariant caching s
     → IsInvariant caching (answer_taken c source rest s) → (s.link c).d ≡ packet Answer source ∷ rest
     → IsShown caching 0 c Channel.D (pushes_at c (pushes_of None)) mail mail s (answer_taken c source rest s)
-answer_taken-shown {w} caching c source rest mail s inv inv' first = record {
+answer_taken-shown {w} c source rest mail {s} inv inv' first = record {
   moves = (moves_at c (done_moves source));
   showing = record {
     before = inv;
@@ -48,15 +48,15 @@ answer_taken-shown {w} caching c source rest mail s inv inv' first = record {
     fits Channel.A = tt
     fits at = tt
 
-pub release_ack_taken-shown : {w : ℕ} (caching : ℕ → Bool) (c n : ℕ) (rest : List Packet) (mail : AccessMessages w)
-    (s : State (List ℕ)) → IsInvariant caching s
+pub release_ack_taken-shown : {w : ℕ} {caching : ℕ → Bool} (c n : ℕ) (rest : List Packet) (mail : AccessMessages w)
+    {s : State (List ℕ)} → IsInvariant caching s
     → IsInvariant caching (release_ack_taken c n rest s) → (s.link c).d ≡ packet ReleaseAck n ∷ rest
     → IsShown caching n c Channel.D (pushes_at c (pushes_of None)) mail mail s (release_ack_taken c n rest s)
-release_ack_taken-shown {w} caching c n rest mail s inv inv' first =
+release_ack_taken-shown {w} {caching} c n rest mail {s} inv inv' first =
     let new : Block (List ℕ) = let_go_block c (s.block n) in
     record {
       moves = (moves_at c (let_go_moves n));
-      showing = showing-block caching n new (moves_at c (let_go_moves n)) mail mail s s' inv inv'
+      showing = showing-block n new (moves_at c (let_go_moves n)) mail mail inv inv'
           (moved-at c (let_go_moves n) (record (s.link c) { d = rest }) s.link moved) (λ i. refl)
           (alike-let_go c (s.block n)) (λ i j e f. refl) (λ i j e f. refl);
       fits = fits-at c Channel.D (pushes_of None) (let_go_moves n) (λ i j l. message_of mail s' i (packet j l)) fits;
@@ -74,19 +74,17 @@ release_ack_taken-shown {w} caching c n rest mail s inv inv' first =
     fits Channel.A = tt
     fits at = tt
 
-pub grant_taken-shown : {w : ℕ} (caching : ℕ → Bool) (c n : ℕ) (whole d : Bool) (k : Cap) (rest : List Packet)
-    (m : Message w) (mail : AccessMessages w)
-    (s : State (List ℕ)) → IsInvariant caching s → IsInvariant caching (grant_taken c n whole d k rest s)
-    → (s.link c).d ≡ packet Grant n ∷ rest
+pub grant_taken-shown : {w : ℕ} {caching : ℕ → Bool} (c n : ℕ) (whole d : Bool) (k : Cap) (rest : List Packet)
+    (m : Message w) (mail : AccessMessages w) {s : State (List ℕ)} → IsInvariant caching s
+    → IsInvariant caching (grant_taken c n whole d k rest s) → (s.link c).d ≡ packet Grant n ∷ rest
     → (s.block n).service ≡ GrantSent c d k → ((j : Kind) (i : ℕ) → shown j i (s.block n) ≡ true
-    → shown j i (taken_block c whole d k (s.block n)) ≡ true
-    → (carries j i (s.block n) ≡ false) ⊎ ((taken_block c whole d k (s.block n)).truth ≡ (s.block n).truth))
-    → channel_of_message m ≡ Channel.E
+    → shown j i (taken_block c whole d k (s.block n)) ≡ true → (carries j i (s.block n) ≡ false)
+    ⊎ ((taken_block c whole d k (s.block n)).truth ≡ (s.block n).truth)) → channel_of_message m ≡ Channel.E
     → block_message GrantAck c n (taken_block c whole d k (s.block n)) ≡ m
     → IsShown caching n c Channel.D (pushes_at c (pushes_of (Some m))) mail mail s (grant_taken c n whole d k rest s)
-grant_taken-shown {w} caching c n whole d k rest m mail s inv inv' first sent bytes chan is = record {
+grant_taken-shown {w} {caching} c n whole d k rest m mail {s} inv inv' first sent bytes chan is = record {
   moves = (moves_at c (taken_moves n));
-  showing = showing-block caching n new (moves_at c (taken_moves n)) mail mail s s' inv inv'
+  showing = showing-block n new (moves_at c (taken_moves n)) mail mail inv inv'
       (moved-at c (taken_moves n) (taken_link n rest (s.link c)) s.link moved) (λ i. refl)
       (alike-taken c whole d k (s.block n) sent bytes) (λ i j e f. refl) (λ i j e f. refl);
   fits = fits-at c Channel.D (pushes_of (Some m)) (taken_moves n) (λ i j l. message_of mail s' i (packet j l))
@@ -111,16 +109,15 @@ grant_taken-shown {w} caching c n whole d k rest m mail s inv inv' first sent by
 
 -- ---- a GrantAck is taken
 
-pub grant_ack_taken-shown : {w : ℕ} (caching : ℕ → Bool) (c n : ℕ) (rest : List Packet) (mail : AccessMessages w)
-    (s : State (List ℕ)) → IsInvariant caching s
-    → IsInvariant caching (grant_ack_taken c n rest s) → (s.link c).e ≡ packet GrantAck n ∷ rest
-    → (s.block n).service ≡ GrantTaken c
+pub grant_ack_taken-shown : {w : ℕ} {caching : ℕ → Bool} (c n : ℕ) (rest : List Packet) (mail : AccessMessages w)
+    {s : State (List ℕ)} → IsInvariant caching s → IsInvariant caching (grant_ack_taken c n rest s)
+    → (s.link c).e ≡ packet GrantAck n ∷ rest → (s.block n).service ≡ GrantTaken c
     → IsShown caching n c Channel.E (λ d at. None) mail mail s (grant_ack_taken c n rest s)
-grant_ack_taken-shown {w} caching c n rest mail s inv inv' first sent =
+grant_ack_taken-shown {w} {caching} c n rest mail {s} inv inv' first sent =
     let new : Block (List ℕ) = freed_block (s.block n) in
     record {
       moves = (moves_at c (freed_moves n));
-      showing = showing-block caching n new (moves_at c (freed_moves n)) mail mail s s' inv inv'
+      showing = showing-block n new (moves_at c (freed_moves n)) mail mail inv inv'
           (moved-at c (freed_moves n) (record (s.link c) { e = rest }) s.link moved) (λ i. refl)
           (alike-freed c (s.block n) sent) (λ i j e f. refl) (λ i j e f. refl);
       fits = λ d at. fits d at (d == c);

@@ -15,15 +15,14 @@ use Rattle.tl_coherence.proofs.{protocol.FollowKept.IsReady, protocol.FollowKept
 use Rattle.tl_coherence.proofs.{client.ProbeDelivered.probe-delivered, manager.UnwaitedRequests.next_tracker}
 use Rattle.tl_coherence.proofs.{queues.Steps.stepped-to-client, protocol.BothParts.kept-letting}
 
-pub invariant-asked : {w : ℕ} (config : Config) (log : Log w) (mail : AccessMessages w) (request : ℕ → MessageA w)
-    (s : State (List ℕ)) (sys : System w) (terms : EndConfig)
-    (c : ℕ) (o : Op w) → SimulationRelation config log mail request s sys
-    → terms_at config c ≡ Some terms
+pub invariant-asked : {w : ℕ} {config : Config} {log : Log w} {mail : AccessMessages w} {request : ℕ → MessageA w}
+    {s : State (List ℕ)} {sys : System w} (terms : EndConfig) (c : ℕ) (o : Op w)
+    → SimulationRelation config log mail request s sys → terms_at config c ≡ Some terms
     → IsInvariant (is_caching config) (asked c o (ask.asked terms o (sys.clients c)).reply
     (shadow_of mail request s)).state
-invariant-asked config log mail request s sys terms c o h at =
-    asked-kept (is_caching config) c o (ask.asked terms o (sys.clients c)).reply (shadow_of mail request s) h.invariant
-    (askable config log mail request s sys terms c o h at)
+invariant-asked {config} {log} {mail} {request} {s} {sys} terms c o h at =
+    asked-kept c o (ask.asked terms o (sys.clients c)).reply (shadow_of mail request s) h.invariant
+    (askable terms c o h at)
 
 pub nobody_moves : {w : ℕ} (config : Config) (sys : System w) (link : Link) (ch : Channel)
     → terms_at config link.0 ≡ None → is_moving (stepped config (Deliver link ch) sys).outcome ≡ false
@@ -31,24 +30,22 @@ unfolding stepped
 nobody_moves config sys link ch none = cc none
 
 -- a Probe that is moved doesn't wait for a Release
-probe_ready : {w : ℕ} (config : Config) (log : Log w) (mail : AccessMessages w) (request : ℕ → MessageA w)
-    (s : State (List ℕ)) (sys : System w) (link : Link) (n : ℕ)
-    (rest : List Packet) (x : Beat w) (queue : List (Beat w)) → IsWidth w
-    → SimulationRelation config log mail request s sys → is_moving (stepped config (Deliver link Channel.B) sys).outcome
-    ≡ true
-    → sys.channels link.0 Channel.B ≡ x ∷ queue → (s.link link.0).b ≡ packet Probe n ∷ rest
-    → IsNext x (unfinished Channel.B (sys.clients link.0).past) (message_of_kind Probe mail s link.0 n)
-    (map (message_of mail s link.0) rest) queue → ((s.block n).pair link.0).letting ≡ NoRelease
-probe_ready {w} config log mail request s sys link n rest x queue width h moves beats first next =
+probe_ready : {w : ℕ} {config : Config} {log : Log w} {mail : AccessMessages w} {request : ℕ → MessageA w}
+    {s : State (List ℕ)} {sys : System w} (link : Link) (n : ℕ) (rest : List Packet) {x : Beat w}
+    {queue : List (Beat w)} → IsWidth w → SimulationRelation config log mail request s sys
+    → is_moving (stepped config (Deliver link Channel.B) sys).outcome ≡ true → sys.channels link.0 Channel.B ≡ x ∷ queue
+    → (s.link link.0).b ≡ packet Probe n ∷ rest → IsNext x (unfinished Channel.B (sys.clients link.0).past)
+    (message_of_kind Probe mail s link.0 n) (map (message_of mail s link.0) rest) queue
+    → ((s.block n).pair link.0).letting ≡ NoRelease
+probe_ready {w} {config} {log} {mail} {request} {s} {sys} link n rest {x} {queue} width h moves beats first next =
     at_terms (terms_at config link.0) refl
   where
     stands : (terms : EndConfig) → terms_at config link.0 ≡ Some terms → (b : Bool)
-        → is_unreleased ((s.block n).pair link.0).letting ≡ b
-        → ((s.block n).pair link.0).letting ≡ NoRelease
+        → is_unreleased ((s.block n).pair link.0).letting ≡ b → ((s.block n).pair link.0).letting ≡ NoRelease
     stands terms at true kept = kept-letting ((s.block n).pair link.0).letting (ap not kept)
     stands terms at false waits =
-        let probed = probe-delivered config log mail request s sys terms (next_tracker sys) link.0 n rest
-        (map (message_of mail s link.0) rest) x queue width h at beats first next in
+        let probed = probe-delivered terms (next_tracker sys) link.0 n rest
+        width h at beats first next in
         let step : is_moving (stepped config (Deliver link Channel.B) sys).outcome ≡ false =
         ap (λ (i : Step w). is_moving i.outcome) (stepped-to-client config link Channel.B sys terms x queue at beats
         refl)
@@ -61,22 +58,17 @@ probe_ready {w} config log mail request s sys link n rest x queue width h moves 
     at_terms (Some terms) at = stands terms at (is_unreleased ((s.block n).pair link.0).letting) refl
 
 -- what a client takes, it may take
-pub ready-client : {w : ℕ} (config : Config) (log : Log w) (mail : AccessMessages w) (request : ℕ → MessageA w)
-    (s : State (List ℕ)) (sys : System w) (link : Link)
-    (ch : Channel) (k : Kind) (i : ℕ) (rest : List Packet) (x : Beat w) (queue : List (Beat w)) → IsWidth w
-    → SimulationRelation config log mail request s sys → is_to_client ch ≡ true → is_on ch k ≡ true
-    → is_moving (stepped config (Deliver link ch) sys).outcome ≡ true
+pub ready-client : {w : ℕ} {config : Config} {log : Log w} {mail : AccessMessages w} {request : ℕ → MessageA w}
+    {s : State (List ℕ)} {sys : System w} (link : Link) (ch : Channel) (k : Kind) (i : ℕ) (rest : List Packet)
+    {x : Beat w} {queue : List (Beat w)} → IsWidth w → SimulationRelation config log mail request s sys
+    → is_to_client ch ≡ true → is_on ch k ≡ true → is_moving (stepped config (Deliver link ch) sys).outcome ≡ true
     → sys.channels link.0 ch ≡ x ∷ queue → packets_on ch (s.link link.0) ≡ packet k i ∷ rest
     → IsNext x (unfinished ch (receiver ch link.0 sys)) (message_of_kind k mail s link.0 i)
-    (map (message_of mail s link.0) rest) queue
-    → IsReady (next_tracker sys) link.0 k i (shadow_of mail request s)
-ready-client config log mail request s sys link Channel.B Probe i rest x queue width h up own moves beats first next =
-    probe_ready config log mail request s sys link i rest x queue width h moves beats first next
-ready-client config log mail request s sys link Channel.D Answer i rest x queue width h up own moves beats first next =
-    tt
-ready-client config log mail request s sys link Channel.D Grant i rest x queue width h up own moves beats first next =
-    tt
-ready-client config log mail request s sys link Channel.D ReleaseAck i rest x queue width h up own moves beats first
-    next = tt
-ready-client config log mail request s sys link ch k i rest x queue width h up own moves beats first next =
-    absurd cc
+    (map (message_of mail s link.0) rest) queue → IsReady (next_tracker sys) link.0 k i (shadow_of mail request s)
+ready-client {config} {log} {mail} {request} {s} {sys} link Channel.B Probe i rest {x} {queue} width h up own moves
+    beats first next =
+    probe_ready link i rest width h moves beats first next
+ready-client link Channel.D Answer i rest width h up own moves beats first next = tt
+ready-client link Channel.D Grant i rest width h up own moves beats first next = tt
+ready-client link Channel.D ReleaseAck i rest width h up own moves beats first next = tt
+ready-client link ch k i rest width h up own moves beats first next = absurd cc

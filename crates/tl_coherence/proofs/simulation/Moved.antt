@@ -24,7 +24,7 @@ use Rattle.tl_coherence.specs.{declared.event.Outcome.Outcome, refinement.Carrie
 use Rattle.tl_coherence.specs.{refinement.PacketMessages.messages_on, statement.System.with_client}
 use Rattle.tl_coherence.specs.{statement.System.with_manager}
 use Rattle.tl_coherence.specs.statement.Step.{Step, handing, handed_by, outcome_of, judged, manager_took}
-use Rattle.tl_coherence.proofs.{queues.Carried.IsNext, queues.Carried.carried-next, queues.Channels.same_channel-is}
+use Rattle.tl_coherence.proofs.{queues.Carried.carried-next, queues.Channels.same_channel-is}
 use Rattle.tl_coherence.proofs.{queues.Steps.stepped-to-client, queues.Steps.stepped-to-manager}
 use Rattle.tl_coherence.proofs.{queues.Tokens.same_number}
 use Rattle.tl_coherence.proofs.queues.Landed.{IsLanded, HasHeard, HasTaken}
@@ -104,10 +104,8 @@ client_moves {w} terms c ch x queue sys moving = go (offer.offered terms ch x (s
     go a e h = absurd cc
 
 pub client-moves : {w : ℕ} (config : Config) (link : Link) (ch : Channel) (sys : System w) (terms : client.EndConfig)
-    (x : Beat w) (queue : List (Beat w))
-    → terms_at config link.0 ≡ Some terms → sys.channels link.0 ch ≡ x ∷ queue
-    → is_to_client ch ≡ true
-    → is_moving (stepped config (Deliver link ch) sys).outcome ≡ true
+    (x : Beat w) (queue : List (Beat w)) → terms_at config link.0 ≡ Some terms → sys.channels link.0 ch ≡ x ∷ queue
+    → is_to_client ch ≡ true → is_moving (stepped config (Deliver link ch) sys).outcome ≡ true
     → IsTakenByClient terms link.0 ch x queue sys (stepped config (Deliver link ch) sys)
 client-moves {w} config link ch sys terms x queue known first up moving =
     let same : (a b : Step w) → a ≡ b → IsTakenByClient terms link.0 ch x queue sys b
@@ -117,17 +115,16 @@ client-moves {w} config link ch sys terms x queue known first up moving =
     (client_took link.0 ch x queue (offer.offered terms ch x (sys.clients link.0)) sys) step
     (client_moves terms link.0 ch x queue sys (ap (λ (y : Step w). is_moving y.outcome) (sym step) ∙ moving))
 
-pub client-heard : {w : ℕ} (terms : client.EndConfig) (c : ℕ) (ch : Channel) (x : Beat w) (queue : List (Beat w))
-    (sys : System w) (step : Step w) → IsWidth w → client_kept.IsEndpointInvariant (sys.clients c)
+pub client-heard : {w : ℕ} {terms : client.EndConfig} {c : ℕ} {ch : Channel} {x : Beat w} {queue : List (Beat w)}
+    {sys : System w} {step : Step w} → IsWidth w → client_kept.IsEndpointInvariant (sys.clients c)
     → IsTakenByClient terms c ch x queue sys step → HasHeard x (sys.clients c) (offer.taken x (sys.clients c)).after
-client-heard {w} terms c ch x queue sys step width kept is at =
+client-heard {w} {terms} {c} {ch} {x} {sys} width kept is at =
     cc (is.takes, unfinished-offered terms ch x (sys.clients c) at width kept, is.heard)
 
 -- ---- to the manager
 
 pub offered-passes : {w : ℕ} (config : Config) (link : Link) (ch : Channel) (x : Beat w) (e : manager_end.End w)
-    (handed : Handed w)
-    → (manager_offer.offered config link ch x e).0 ≡ manager_offer.Sent handed
+    (handed : Handed w) → (manager_offer.offered config link ch x e).0 ≡ manager_offer.Sent handed
     → manager_offer.offered config link ch x e ≡ (
       manager_offer.Sent (manager_reaction.reaction config link x e).handed,
       manager_offer.taken link x (manager_reaction.reaction config link x e) e,
@@ -136,9 +133,11 @@ unfolding manager_offer.offered
 offered-passes {w} config link ch x e handed is = go (manager_offer.judged config link ch x e) is
   where
     go : (j : manager_offer.Judgement) → (manager_offer.offered_as j config link x e).0 ≡ manager_offer.Sent handed
-        → manager_offer.offered_as j config link x e ≡ (
+        → manager_offer.offered_as j config link x e
+        ≡ (
           manager_offer.Sent (manager_reaction.reaction config link x e).handed,
-          manager_offer.taken link x (manager_reaction.reaction config link x e) e,
+          manager_offer.taken link x
+              (manager_reaction.reaction config link x e) e,
         )
     go manager_offer.Passes h = refl
     go j h = absurd cc
@@ -157,9 +156,8 @@ pub record IsTakenByManager {w : ℕ} (config : Config) (link : Link) (ch : Chan
       (with_channel link.0 ch queue sys))
 
 manager_moves : {w : ℕ} (config : Config) (link : Link) (ch : Channel) (x : Beat w) (queue : List (Beat w))
-    (sys : System w)
-    → is_moving (manager_took link.0 ch x queue (manager_offer.offered config link ch x sys.manager) sys).outcome ≡ true
-    → IsTakenByManager config link ch x queue sys
+    (sys : System w) → is_moving (manager_took link.0 ch x queue (manager_offer.offered config link ch x sys.manager)
+    sys).outcome ≡ true → IsTakenByManager config link ch x queue sys
     (manager_took link.0 ch x queue (manager_offer.offered config link ch x sys.manager) sys)
 manager_moves {w} config link ch x queue sys moving = go (manager_offer.offered config link ch x sys.manager) refl
     moving
@@ -175,10 +173,8 @@ manager_moves {w} config link ch x queue sys moving = go (manager_offer.offered 
     go a f h = absurd cc
 
 pub manager-moves : {w : ℕ} (config : Config) (link : Link) (ch : Channel) (sys : System w) (terms : client.EndConfig)
-    (x : Beat w) (queue : List (Beat w))
-    → terms_at config link.0 ≡ Some terms → sys.channels link.0 ch ≡ x ∷ queue
-    → is_to_client ch ≡ false
-    → is_moving (stepped config (Deliver link ch) sys).outcome ≡ true
+    (x : Beat w) (queue : List (Beat w)) → terms_at config link.0 ≡ Some terms → sys.channels link.0 ch ≡ x ∷ queue
+    → is_to_client ch ≡ false → is_moving (stepped config (Deliver link ch) sys).outcome ≡ true
     → IsTakenByManager config link ch x queue sys (stepped config (Deliver link ch) sys)
 manager-moves {w} config link ch sys terms x queue known first down moving =
     let same : (a b : Step w) → a ≡ b → IsTakenByManager config link ch x queue sys b
@@ -189,8 +185,7 @@ manager-moves {w} config link ch sys terms x queue known first down moving =
     (manager_moves config link ch x queue sys (ap (λ (y : Step w). is_moving y.outcome) (sym step) ∙ moving))
 
 pub manager-heard : {w : ℕ} (config : Config) (link : Link) (ch : Channel) (x : Beat w) (queue : List (Beat w))
-    (sys : System w) (step : Step w) → IsWidth w
-    → manager.IsTyped x → manager.IsKept config sys.manager
+    (sys : System w) (step : Step w) → IsWidth w → manager.IsTyped x → manager.IsKept config sys.manager
     → IsTakenByManager config link ch x queue sys step
     → HasTaken link.0 x sys.manager (manager_offer.taken link x (manager_reaction.reaction config link x sys.manager)
     sys.manager)
@@ -200,9 +195,8 @@ manager-heard {w} config link ch x queue sys step width typed kept is d = λ at.
         (on_link d (manager_offer.taken link x (manager_reaction.reaction config link x sys.manager) sys.manager).trace)
         ≡ unfinished at
         (if link.0 == d then x ∷ on_link d sys.manager.trace else on_link d sys.manager.trace)
-    one at up =
-        ap (λ (p : manager_offer.Reception w × manager_end.End w). unfinished at (on_link d p.1.trace)) (sym is.takes)
-        ∙ manager_after.unfinished-offered config link ch x sys.manager d at width typed kept up
+    one at up = ap (λ (p : manager_offer.Reception w × manager_end.End w). unfinished at (on_link d p.1.trace))
+        (sym is.takes) ∙ manager_after.unfinished-offered config link ch x sys.manager d at width typed kept up
         ∙ ap (λ (p : manager_offer.Reception w × manager_end.End w). unfinished at
         (taken_after p.0 (link, x) d (on_link d sys.manager.trace))) is.takes
 
@@ -217,12 +211,11 @@ manager-heard {w} config link ch x queue sys step width typed kept is d = λ at.
 
 -- ---- a beat that isn't the last of its message
 
-pub carried-part : {w : ℕ} (mail : AccessMessages w) (s : State (List ℕ)) (c : ℕ) (ch : Channel) (x : Beat w)
-    (queue : List (Beat w))
-    (pushes : ℕ → Channel → Option (Message w)) (sys sys' : System w) → IsWidth w
+pub carried-part : {w : ℕ} (mail : AccessMessages w) (s : State (List ℕ)) {c : ℕ} {ch : Channel} {x : Beat w}
+    {queue : List (Beat w)} {pushes : ℕ → Channel → Option (Message w)} {sys sys' : System w} → IsWidth w
     → IsLanded c ch x queue pushes sys sys' → ((d : ℕ) (at : Channel) → pushes d at ≡ None)
     → completes x (unfinished ch (receiver ch c sys)) ≡ false → ChannelRelation mail s sys → ChannelRelation mail s sys'
-carried-part {w} mail s c ch x queue pushes sys sys' width is none part h d at =
+carried-part {w} mail s {c} {ch} {x} {queue} {sys} {sys'} width is none part h d at =
     go (cases_eq d c) (same_channel at ch) refl
   where
     rest : ℕ → Channel → List (Beat w)

@@ -69,12 +69,11 @@ sources-own {w} config log c width = go (terms_at config c) refl
     }
 
 -- no channel holds more than it is made for
-pub channels-few : {w : ℕ} (config : Config) (log : Log w) (mail : AccessMessages w) (request : ℕ → MessageA w)
-    (s : State (List ℕ)) → IsWidth w → SimulationRelation config log mail request s (system_after config log)
+pub channels-few : {w : ℕ} {config : Config} {log : Log w} {mail : AccessMessages w} {request : ℕ → MessageA w}
+    {s : State (List ℕ)} → IsWidth w → SimulationRelation config log mail request s (system_after config log)
     → (c : ℕ) (ch : Channel) → length ((system_after config log).channels c ch) ≤ capacity (64 / w)
     (sources_of (terms_at config c)) config.trackers ch
-channels-few {w} config log mail request s width matched c ch =
+channels-few {w} {config} {log} {mail} {request} {s} width matched c ch =
     channel-few (is_caching config) mail s c (sources_of (terms_at config c)) config.trackers ch _ _ width
-    matched.invariant
-    (matched-bounded config log mail request s (system_after config log) matched c (sources-own config log c width))
-    (matched.carried c ch)
+    matched.invariant (matched-bounded config log mail request s (system_after config log) matched c
+    (sources-own config log c width)) (matched.carried c ch)

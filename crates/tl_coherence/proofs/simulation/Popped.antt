@@ -57,8 +57,7 @@ fits_by : {w : ℕ} (a b : Bool) (push : Option (Message w)) (move : Move) (rend
 fits_by a b push move render e fits = rw (← e) fits
 
 pub popped-received : {w : ℕ} (c : ℕ) (ch : Channel) (pushes : ℕ → Channel → Option (Message w)) (moves : ℕ → Channel
-    → Move)
-    (render : ℕ → Kind → ℕ → Message w) (s s' : State (List ℕ)) (sys sys' : System w) → IsReceived c ch sys sys'
+    → Move) (render : ℕ → Kind → ℕ → Message w) (s s' : State (List ℕ)) (sys sys' : System w) → IsReceived c ch sys sys'
     → ((d : ℕ) (at : Channel) → Fits ((d == c) && same_channel at ch) (pushes d at) (moves d at) (render d))
     → ((d : ℕ) → AreMoved (moves d) (s.link d) (s'.link d))
     → IsPopped c ch moves (unfinished_at sys) (unfinished_at sys') s s'
@@ -120,11 +119,11 @@ kind_channel Channel.E GrantAck e = refl
 kind_channel ch k e = absurd cc
 
 -- at least its last beat is left of the message that comes first
-pub first-left : {w : ℕ} (ch : Channel) (c : ℕ) (mail : AccessMessages w) (s : State (List ℕ)) (sys : System w)
-    (x : Beat w) (queue : List (Beat w)) → (first : IsFirst ch c mail s sys x queue)
+pub first-left : {w : ℕ} {ch : Channel} {c : ℕ} {mail : AccessMessages w} {s : State (List ℕ)} {sys : System w}
+    {x : Beat w} {queue : List (Beat w)} → (first : IsFirst ch c mail s sys x queue)
     → beats_left mail s (unfinished_at sys) c first.kind first.number + first.next.k ≡ beats_of
     (message_of_kind first.kind mail s c first.number)
-first-left {w} ch c mail s sys x queue first =
+first-left {w} {ch} {c} {mail} {s} {sys} first =
     let taken : taken_of (unfinished_at sys c (channel_for first.kind))
     (is_front first.kind first.number (packets_on (channel_for first.kind) (s.link c))) ≡ first.next.k =
     rw (

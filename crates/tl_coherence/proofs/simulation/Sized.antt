@@ -42,22 +42,19 @@ strange_closed config c source uses before d i = each-set_at (λ j k v. terms_at
 -- one that is used isn't of a stranger
 strange_used : (config : Config) (c source : ℕ) (u : SourceState) (uses : ℕ → ℕ → SourceState)
     → (uses c source ≡ SourceFree → ⊥) → AreStrange config uses → AreStrange config (set_at c source u uses)
-strange_used config c source u uses used before d i =
-    each-set_at (λ j k v. terms_at config j ≡ None → v ≡ SourceFree) c source u uses
-    (λ none. absurd (used (before c source none))) before d i
+strange_used config c source u uses used before d i = each-set_at (λ j k v. terms_at config j ≡ None → v ≡ SourceFree) c
+    source u uses (λ none. absurd (used (before c source none))) before d i
 
 strange_access : {w : ℕ} (config : Config) (c source : ℕ) (m : MessageA w) (tracker : ℕ) (p : Bool) (o : Option Cap)
-    (rest : List Packet) (h : AbstractState w)
-    (terms : EndConfig) → terms_at config c ≡ Some terms → AreStrange config h.state.uses
-    → AreStrange config (access_taken c source m tracker p o rest h).state.uses
+    (rest : List Packet) (h : AbstractState w) (terms : EndConfig) → terms_at config c ≡ Some terms
+    → AreStrange config h.state.uses → AreStrange config (access_taken c source m tracker p o rest h).state.uses
 strange_access config c source m tracker true (Some k) rest h terms known before =
     strange_set config c source (InService (block_at m.address)) h.state.uses terms known before
 strange_access config c source m tracker p o rest h terms known before =
     strange_set config c source Replied h.state.uses terms known before
 
 strange_request : {w : ℕ} (config : Config) (clients c source : ℕ) (m : Message w) (tracker : ℕ) (rest : List Packet)
-    (h : AbstractState w) (terms : EndConfig)
-    → terms_at config c ≡ Some terms → AreStrange config h.state.uses
+    (h : AbstractState w) (terms : EndConfig) → terms_at config c ≡ Some terms → AreStrange config h.state.uses
     → AreStrange config (request_taken clients c source m tracker rest h).state.uses
 strange_request config clients c source (Message.A m) tracker rest h terms known before =
     strange_access config c source m tracker _ _ rest h terms known before
@@ -96,16 +93,16 @@ strange_taken config c n (GrantSent q d k) rest h before = strange_closed config
     h.state.uses before
 strange_taken config c n v rest h before = before
 
-pub strangers-kind_taken : {w : ℕ} (caching : ℕ → Bool) (config : Config) (tracker c : ℕ) (k : Kind) (i : ℕ)
+pub strangers-kind_taken : {w : ℕ} {caching : ℕ → Bool} (config : Config) (tracker c : ℕ) (k : Kind) (i : ℕ)
     (rest : List Packet) (h : AbstractState w) (terms : EndConfig)
     → IsInvariant caching h.state → terms_at config c ≡ Some terms
     → AreStrange config h.state.uses → AreStrange config (kind_taken config tracker c k i rest h).state.uses
-strangers-kind_taken caching config tracker c Request i rest h terms inv known before =
+strangers-kind_taken config tracker c Request i rest h terms inv known before =
     strange_request config _ c i (h.mail.request c i) tracker rest h terms known before
-strangers-kind_taken caching config tracker c Acquire i rest h terms inv known before =
+strangers-kind_taken config tracker c Acquire i rest h terms inv known before =
     strange_acquire config _ config.profile c i ((h.state.block i).pair c).acquiring tracker rest h before
-strangers-kind_taken caching config tracker c Probe i rest h terms inv known before = before
-strangers-kind_taken {w} caching config tracker c ProbeAck i rest h terms inv known before = either _ _ _ before
+strangers-kind_taken config tracker c Probe i rest h terms inv known before = before
+strangers-kind_taken {w} {caching} config tracker c ProbeAck i rest h terms inv known before = either _ _ _ before
     (strange_last config _ config.profile c i _ (h.state.block i).service rest h
     (λ q source j e f. absurd (let g : InService i ≡ SourceFree =
     sym (serving-use caching h.state i q source j inv e) ∙ f in cc)) before)
@@ -114,17 +111,16 @@ strangers-kind_taken {w} caching config tracker c ProbeAck i rest h terms inv kn
         → AreStrange config (if b then s else t).state.uses
     either true s t f g = f
     either false s t f g = g
-strangers-kind_taken caching config tracker c Release i rest h terms inv known before = before
-strangers-kind_taken caching config tracker c Answer i rest h terms inv known before =
+strangers-kind_taken config tracker c Release i rest h terms inv known before = before
+strangers-kind_taken config tracker c Answer i rest h terms inv known before =
     strange_closed config c i h.state.uses before
-strangers-kind_taken caching config tracker c Grant i rest h terms inv known before =
+strangers-kind_taken config tracker c Grant i rest h terms inv known before =
     strange_taken config c i (h.state.block i).service rest h before
-strangers-kind_taken caching config tracker c ReleaseAck i rest h terms inv known before = before
-strangers-kind_taken caching config tracker c GrantAck i rest h terms inv known before = before
+strangers-kind_taken config tracker c ReleaseAck i rest h terms inv known before = before
+strangers-kind_taken config tracker c GrantAck i rest h terms inv known before = before
 
 pub strangers-asked : {w : ℕ} (config : Config) (c : ℕ) (o : Op w) (r : Reply) (h : AbstractState w) (terms : EndConfig)
-    → terms_at config c ≡ Some terms
-    → AreStrange config h.state.uses → AreStrange config (asked c o r h).state.uses
+    → terms_at config c ≡ Some terms → AreStrange config h.state.uses → AreStrange config (asked c o r h).state.uses
 strangers-asked config c (Op.Load address size) r h terms known before = before
 strangers-asked config c (Op.Store address size value) Reply.Stored h terms known before = before
 strangers-asked config c (Op.Store address size value) (Reply.Value v) h terms known before = before

@@ -33,10 +33,10 @@ copy_of : (o : Option (List ℕ)) → is_some o ≡ false → length (unwrap_or 
 copy_of None e = refl
 copy_of (Some bytes) e = absurd cc
 
-pub copy-long : {w : ℕ} (config : Config) (log : Log w) (mail : AccessMessages w) (request : ℕ → MessageA w)
-    (s : State (List ℕ)) (sys : System w)
+pub copy-long : {w : ℕ} {config : Config} {log : Log w} {mail : AccessMessages w} {request : ℕ → MessageA w}
+    {s : State (List ℕ)} {sys : System w}
     → SimulationRelation config log mail request s sys → (c n : ℕ) → length (copy_at (sys.clients c) n) ≡ 64
-copy-long {w} config log mail request s sys h c n = go ((s.block n).pair c).held refl
+copy-long {w} {s} {sys} h c n = go ((s.block n).pair c).held refl
   where
     there : same_perm ((s.block n).pair c).held Perm.None ≡ false → length (copy_at (sys.clients c) n) ≡ 64
     there e = cc (h.copies c n e, (h.invariant.blocks n).copies c e, (h.sized n).truth)
@@ -53,30 +53,24 @@ abbrev AllGood : {w : ℕ} → Config → System w → Type 0
 AllGood config sys = (d : ℕ) (at : Channel) → All (IsGood config d) (sys.channels d at)
 
 one_good : {w : ℕ} (config : Config) (c : ℕ) (m : Option (Message w)) (sys : System w) (terms : client.EndConfig)
-    → IsWidth w → terms_at config c ≡ Some terms
-    → IsSoundIfAny terms.level m → IsFitIfAny config.blocks m → AllGood config sys
-    → AllGood config (with_messages (handed_by c m) sys)
+    → IsWidth w → terms_at config c ≡ Some terms → IsSoundIfAny terms.level m → IsFitIfAny config.blocks m
+    → AllGood config sys → AllGood config (with_messages (handed_by c m) sys)
 one_good {w} config c None sys terms width known sound fit before d at =
     all-messages (IsGood config) [] sys tt before d at
 one_good {w} config c (Some m) sys terms width known sound fit before d at =
-    all-messages (IsGood config) (handed_by c (Some m)) sys (
-      good-message config c terms.level m width (level-terms config c terms known).0 sound fit.ours fit.inside
-          fit.long,
-      tt,
-    ) before d at
+    all-messages (IsGood config) (handed_by c (Some m)) sys
+    (good-message config c width (level-terms config c terms known).0 sound fit.ours fit.inside fit.long, tt) before d
+    at
 
 judged_good : {w : ℕ} (config : Config) (c : ℕ) (ch : Channel) (x : Beat w) (queue : List (Beat w))
-    (a : Result (Verdict × Option (Message w)) Rule)
-    (e : client.Endpoint w) (sys : System w) (terms : client.EndConfig) → IsWidth w
-    → terms_at config c ≡ Some terms → IsSoundAnswer terms.level a → IsFitAnswer config.blocks a
-    → sys.channels c ch ≡ x ∷ queue → AllGood config sys
-    → AllGood config (judged a c ch x queue e sys).after
+    (a : Result (Verdict × Option (Message w)) Rule) (e : client.Endpoint w) (sys : System w) (terms : client.EndConfig)
+    → IsWidth w → terms_at config c ≡ Some terms → IsSoundAnswer terms.level a → IsFitAnswer config.blocks a
+    → sys.channels c ch ≡ x ∷ queue → AllGood config sys → AllGood config (judged a c ch x queue e sys).after
 judged_good config c ch x queue (Ok (Verdict.Taken, m)) e sys terms width known sound fit first before d at =
     one_good config c m (with_client c e (with_channel c ch queue sys)) terms width known sound fit
     (all-popped (IsGood config) c ch x queue sys first before) d at
 judged_good config c ch x queue (Ok (Verdict.Done source finish, m)) e sys terms width known sound fit first before d
-    at =
-    one_good config c m (with_client c e (with_channel c ch queue sys)) terms width known sound fit
+    at = one_good config c m (with_client c e (with_channel c ch queue sys)) terms width known sound fit
     (all-popped (IsGood config) c ch x queue sys first before) d at
 judged_good config c ch x queue a e sys terms width known sound fit first before d at = before d at
 
@@ -90,19 +84,17 @@ manager_good config link ch x queue manager_offer.Waits e sys width sound trace 
 manager_good {w} config link ch x queue manager_offer.Passes e sys width sound trace first before d at =
     all-messages (IsGood config) (manager_reaction.reaction config link x e).handed
     (with_manager (manager_offer.taken link x (manager_reaction.reaction config link x e) e)
-    (with_channel link.0 ch queue sys))
-    (good-handed config (manager_reaction.reaction config link x e).handed width
-    (reaction_handable config link x e width sound trace))
-    (all-popped (IsGood config) link.0 ch x queue sys first before) d at
+    (with_channel link.0 ch queue sys)) (good-handed config (manager_reaction.reaction config link x e).handed width
+    (reaction_handable config link x e width sound trace)) (all-popped (IsGood config) link.0 ch x queue sys first
+    before) d at
 
 -- ---- an event
 
-pub good-after : {w : ℕ} (config : Config) (log : Log w) (mail : AccessMessages w) (request : ℕ → MessageA w)
-    (s : State (List ℕ)) (sys : System w) → IsWidth w
-    → SimulationRelation config log mail request s sys → (event : Event w) → IsTyped event
-    → AllGood config (stepped config event sys).after
+pub good-after : {w : ℕ} {config : Config} {log : Log w} {mail : AccessMessages w} {request : ℕ → MessageA w}
+    {s : State (List ℕ)} {sys : System w} → IsWidth w → SimulationRelation config log mail request s sys
+    → (event : Event w) → IsTyped event → AllGood config (stepped config event sys).after
 unfolding stepped manager_offer.offered
-good-after {w} config log mail request s sys width h event typed =
+good-after {w} {config} {log} {mail} {request} {s} {sys} width h event typed =
     go (terms_at config (client_of event)) refl event refl typed
   where
     before : AllGood config sys
@@ -119,7 +111,7 @@ good-after {w} config log mail request s sys width h event typed =
         (with_client c (ask.asked terms o (sys.clients c)).after sys) terms width known
         (asked-sound terms o (sys.clients c) width)
         (fitted (level-terms config c terms known).1
-        (fit-asked terms o (sys.clients c) typed_op (copy-long config log mail request s sys h c))) before
+        (fit-asked terms o (sys.clients c) typed_op (copy-long h c))) before
 
     offered_fit : (c : ℕ) (ch : Channel) (x : Beat w) (terms : client.EndConfig) → terms_at config c ≡ Some terms
         → IsFitAnswer config.blocks (offer.offered terms ch x (sys.clients c)).answer
@@ -131,7 +123,7 @@ good-after {w} config log mail request s sys width h event typed =
         let same = (level-terms config c terms known).1 in
         fitted same (offered-cases terms ch x (sys.clients c) (λ o. IsFitAnswer terms.blocks o.answer) (λ rule. tt) tt
         (λ passed. fit-taken terms.blocks x (sys.clients c) passed.inside
-        (copy-long config log mail request s sys h c)))
+        (copy-long h c)))
 
     delivered_good : (c : ℕ) (ch : Channel) (terms : client.EndConfig) (beats : List (Beat w))
         → sys.channels c ch ≡ beats → terms_at config c ≡ Some terms
@@ -144,8 +136,7 @@ good-after {w} config log mail request s sys width h event typed =
             (manager_offer.offered config (record { 0 = c }) ch x sys.manager) sys).after
         to true = judged_good config c ch x queue (offer.offered terms ch x (sys.clients c)).answer
             (offer.offered terms ch x (sys.clients c)).after sys terms width known
-            (offered-sound terms ch x (sys.clients c))
-            (offered_fit c ch x terms known) first before
+            (offered-sound terms ch x (sys.clients c)) (offered_fit c ch x terms known) first before
         to false =
             let same : sys.channels c ch ≡ x ∷ queue → All (IsGood config c) (sys.channels c ch)
             → All (IsGood config c) (x ∷ queue) = λ e f. rw e at f in
@@ -160,16 +151,16 @@ good-after {w} config log mail request s sys width h event typed =
     go (Some terms) e (Deliver link ch) f ty = delivered_good link.0 ch terms (sys.channels link.0 ch) refl
         (rw (← f) at e)
 
-pub sound-after : {w : ℕ} (config : Config) (log : Log w) (mail : AccessMessages w) (request : ℕ → MessageA w)
-    (s : State (List ℕ)) (sys : System w) → IsWidth w
+pub sound-after : {w : ℕ} {config : Config} {log : Log w} {mail : AccessMessages w} {request : ℕ → MessageA w}
+    {s : State (List ℕ)} {sys : System w} → IsWidth w
     → SimulationRelation config log mail request s sys → (event : Event w) → IsTyped event → (c : ℕ) (ch : Channel)
     → All (λ x. manager.IsSound config (record { 0 = c }, x)) ((stepped config event sys).after.channels c ch)
-sound-after config log mail request s sys width h event typed c ch k y lt =
-    (good-after config log mail request s sys width h event typed c ch k y lt).sound
+sound-after {config} {log} {mail} {request} {s} {sys} width h event typed c ch k y lt =
+    (good-after width h event typed c ch k y lt).sound
 
-pub typed-after : {w : ℕ} (config : Config) (log : Log w) (mail : AccessMessages w) (request : ℕ → MessageA w)
-    (s : State (List ℕ)) (sys : System w) → IsWidth w
+pub typed-after : {w : ℕ} {config : Config} {log : Log w} {mail : AccessMessages w} {request : ℕ → MessageA w}
+    {s : State (List ℕ)} {sys : System w} → IsWidth w
     → SimulationRelation config log mail request s sys → (event : Event w) → IsTyped event → (c : ℕ) (ch : Channel)
     → All AreLanes ((stepped config event sys).after.channels c ch)
-typed-after config log mail request s sys width h event typed c ch k y lt =
-    (good-after config log mail request s sys width h event typed c ch k y lt).lanes
+typed-after {config} {log} {mail} {request} {s} {sys} width h event typed c ch k y lt =
+    (good-after width h event typed c ch k y lt).lanes

@@ -22,8 +22,7 @@ abbrev pub AreSourced : {w : ℕ} → Config → (ℕ → ℕ → Message w) →
 AreSourced config request uses = (c source : ℕ) → IsSourced config c source (request c source) (uses c source)
 
 sourced_set : {w : ℕ} (config : Config) (request : ℕ → ℕ → Message w) (c source : ℕ) (u : SourceState) (uses : ℕ → ℕ
-    → SourceState)
-    → IsSourced config c source (request c source) u → AreSourced config request uses
+    → SourceState) → IsSourced config c source (request c source) u → AreSourced config request uses
     → AreSourced config request (set_at c source u uses)
 sourced_set config request c source u uses here before d i = each-set_at (λ j k v. IsSourced config j k (request j k) v)
     c source u uses here before d i
@@ -51,8 +50,7 @@ sourced_access config c source m tracker p o rest h used before =
     (asked_request config c source (h.mail.request c source) (h.state.uses c source) used (before c source)) before
 
 sourced_request : {w : ℕ} (config : Config) (clients c source : ℕ) (m : Message w) (tracker : ℕ) (rest : List Packet)
-    (h : AbstractState w)
-    → h.state.uses c source ≡ Asked → AreSourced config h.mail.request h.state.uses
+    (h : AbstractState w) → h.state.uses c source ≡ Asked → AreSourced config h.mail.request h.state.uses
     → AreSourced config (request_taken clients c source m tracker rest h).mail.request
     (request_taken clients c source m tracker rest h).state.uses
 sourced_request config clients c source (Message.A m) tracker rest h used before =
@@ -79,9 +77,8 @@ sourced_granted config clients p c q n r NoAcquire rest h before = before
 sourced_granted config clients p c q n r (AcquireOpen whole g) rest h before = before
 
 sourced_last : {w : ℕ} (config : Config) (clients : ℕ) (p : Profile) (c n : ℕ) (r : Report) (v : Service)
-    (rest : List Packet) (h : AbstractState w)
-    → ((q source : ℕ) (k : Cap) → v ≡ Waits q false source k → h.state.uses q source ≡ InService n)
-    → AreSourced config h.mail.request h.state.uses
+    (rest : List Packet) (h : AbstractState w) → ((q source : ℕ) (k : Cap) → v ≡ Waits q false source k
+    → h.state.uses q source ≡ InService n) → AreSourced config h.mail.request h.state.uses
     → AreSourced config (last_taken clients p c n r v rest h).mail.request
     (last_taken clients p c n r v rest h).state.uses
 sourced_last config clients p c n r (Waits q true source k) rest h used before =
@@ -99,25 +96,23 @@ sourced_taken config c n (GrantSent q d k) rest h before =
     sourced_set config h.mail.request c ((h.state.block n).source c) SourceFree h.state.uses tt before
 sourced_taken config c n v rest h before = before
 
-pub first-asked : {w : ℕ} (caching : ℕ → Bool) (c i : ℕ) (rest : List Packet) (h : AbstractState w)
-    → IsInvariant caching h.state
-    → on Request (h.state.link c) ≡ packet Request i ∷ rest → h.state.uses c i ≡ Asked
-first-asked caching c i rest h inv first =
+pub first-asked : {w : ℕ} {caching : ℕ → Bool} (c i : ℕ) (rest : List Packet) (h : AbstractState w)
+    → IsInvariant caching h.state → on Request (h.state.link c) ≡ packet Request i ∷ rest → h.state.uses c i ≡ Asked
+first-asked c i rest h inv first =
     is_asked-is (h.state.uses c i) (holds-first Request (h.state.link c).a rest (packet Request i)
     (λ j. is_asked (h.state.uses c j)) first refl (inv.requests c))
 
-pub sourced-kind_taken : {w : ℕ} (caching : ℕ → Bool) (config : Config) (tracker c : ℕ) (k : Kind) (i : ℕ)
-    (rest : List Packet) (h : AbstractState w)
-    → IsInvariant caching h.state → on k (h.state.link c) ≡ packet k i ∷ rest
+pub sourced-kind_taken : {w : ℕ} {caching : ℕ → Bool} (config : Config) (tracker c : ℕ) (k : Kind) (i : ℕ)
+    (rest : List Packet) (h : AbstractState w) → IsInvariant caching h.state → on k (h.state.link c) ≡ packet k i ∷ rest
     → AreSourced config h.mail.request h.state.uses
     → AreSourced config (kind_taken config tracker c k i rest h).mail.request
     (kind_taken config tracker c k i rest h).state.uses
-sourced-kind_taken caching config tracker c Request i rest h inv first before =
-    sourced_request config _ c i (h.mail.request c i) tracker rest h (first-asked caching c i rest h inv first) before
-sourced-kind_taken caching config tracker c Acquire i rest h inv first before =
+sourced-kind_taken {caching} config tracker c Request i rest h inv first before =
+    sourced_request config _ c i (h.mail.request c i) tracker rest h (first-asked c i rest h inv first) before
+sourced-kind_taken config tracker c Acquire i rest h inv first before =
     sourced_acquire config _ config.profile c i ((h.state.block i).pair c).acquiring tracker rest h before
-sourced-kind_taken caching config tracker c Probe i rest h inv first before = before
-sourced-kind_taken {w} caching config tracker c ProbeAck i rest h inv first before =
+sourced-kind_taken config tracker c Probe i rest h inv first before = before
+sourced-kind_taken {w} {caching} config tracker c ProbeAck i rest h inv first before =
     either _ _ _ before (sourced_last config _ config.profile c i _ (h.state.block i).service rest h
     (λ q source k e. serving-use caching h.state i q source k inv e) before)
   where
@@ -126,13 +121,13 @@ sourced-kind_taken {w} caching config tracker c ProbeAck i rest h inv first befo
         → AreSourced config (if b then s else t).mail.request (if b then s else t).state.uses
     either true s t f g = f
     either false s t f g = g
-sourced-kind_taken caching config tracker c Release i rest h inv first before = before
-sourced-kind_taken caching config tracker c Answer i rest h inv first before =
+sourced-kind_taken config tracker c Release i rest h inv first before = before
+sourced-kind_taken config tracker c Answer i rest h inv first before =
     sourced_set config h.mail.request c i SourceFree h.state.uses tt before
-sourced-kind_taken caching config tracker c Grant i rest h inv first before =
+sourced-kind_taken config tracker c Grant i rest h inv first before =
     sourced_taken config c i (h.state.block i).service rest h before
-sourced-kind_taken caching config tracker c ReleaseAck i rest h inv first before = before
-sourced-kind_taken caching config tracker c GrantAck i rest h inv first before = before
+sourced-kind_taken config tracker c ReleaseAck i rest h inv first before = before
+sourced-kind_taken config tracker c GrantAck i rest h inv first before = before
 
 -- what the client's answer says of the access that starts
 abbrev pub IsSourcedAsk : {w : ℕ} → Config → ℕ → Op w → Reply → Type 0

@@ -84,33 +84,33 @@ module _ {w : ℕ} (config : Config) (log : Log w) (mail : AccessMessages w) (re
 
   nothing_shown : (ch : Channel) (k : Kind) (n : ℕ) → is_on ch k ≡ true → 0 < count k n (packets_on ch (s.link c)) → ⊥
   nothing_shown ch Request n on_it there =
-      absurd (let e = request_named _ s c n matched.invariant (shown_there _ s c ch Request n matched.invariant on_it
+      absurd (let e = request_named _ s c n matched.invariant (shown_there c ch Request n matched.invariant on_it
       there) in let both : Asked ≡ SourceFree = sym e ∙ no_use n in cc)
   nothing_shown ch Answer n on_it there =
-      absurd (let e = answer_named _ s c n matched.invariant (shown_there _ s c ch Answer n matched.invariant on_it
+      absurd (let e = answer_named _ s c n matched.invariant (shown_there c ch Answer n matched.invariant on_it
       there) in let both = sym e ∙ no_use n in cc)
   nothing_shown ch Acquire n on_it there =
-      absurd (let e = acquire_named _ s c n matched.invariant (shown_there _ s c ch Acquire n matched.invariant on_it
+      absurd (let e = acquire_named _ s c n matched.invariant (shown_there c ch Acquire n matched.invariant on_it
       there) in let both = sym e ∙ no_use _ in cc)
   nothing_shown ch Grant n on_it there =
-      absurd (let e = grant_named _ s c n matched.invariant (shown_there _ s c ch Grant n matched.invariant on_it there)
+      absurd (let e = grant_named _ s c n matched.invariant (shown_there c ch Grant n matched.invariant on_it there)
       in let both = sym e ∙ no_use _ in cc)
   nothing_shown ch Release n on_it there =
-      absurd (let e = release_named _ s c n matched.invariant (shown_there _ s c ch Release n matched.invariant on_it
+      absurd (let e = release_named _ s c n matched.invariant (shown_there c ch Release n matched.invariant on_it
       there) in let both = sym e ∙ no_let _ in cc)
   nothing_shown ch ReleaseAck n on_it there =
-      absurd (let e = release_ack_named _ s c n matched.invariant (shown_there _ s c ch ReleaseAck n matched.invariant
+      absurd (let e = release_ack_named _ s c n matched.invariant (shown_there c ch ReleaseAck n matched.invariant
       on_it there) in let both = sym e ∙ no_let _ in cc)
   nothing_shown ch Probe n on_it there =
-      absurd (let it = shown_there _ s c ch Probe n matched.invariant on_it there in
+      absurd (let it = shown_there c ch Probe n matched.invariant on_it there in
       let none : shown Probe c (s.block n) ≡ false =
       rw (at_rest n) refl in let both : true ≡ false = sym it ∙ none in cc)
   nothing_shown ch ProbeAck n on_it there =
-      absurd (let it = shown_there _ s c ch ProbeAck n matched.invariant on_it there in
+      absurd (let it = shown_there c ch ProbeAck n matched.invariant on_it there in
       let none : shown ProbeAck c (s.block n) ≡ false =
       rw (at_rest n) refl in let both : true ≡ false = sym it ∙ none in cc)
   nothing_shown ch GrantAck n on_it there =
-      not_acknowledging n (shown_there _ s c ch GrantAck n matched.invariant on_it there)
+      not_acknowledging n (shown_there c ch GrantAck n matched.invariant on_it there)
 
   pub no_tokens : (ch : Channel) → packets_on ch (s.link c) ≡ []
   no_tokens ch = go (packets_on ch (s.link c))

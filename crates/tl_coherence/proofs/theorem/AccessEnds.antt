@@ -129,10 +129,10 @@ record IsOver {w : ℕ} (config : Config) (log : Log w) (c source : ℕ) (h : Ab
   pub pending_is : request_of source ((system_after config log).clients c).past ≡ Some
       (a_beat_of (sourced source asked) 0)
 
-over : {w : ℕ} (config : Config) (log : Log w) (c source : ℕ) (h : AbstractState w)
+over : {w : ℕ} {config : Config} {log : Log w} (c source : ℕ) (h : AbstractState w)
     → SimulationRelation config log h.mail h.request h.state (system_after config log)
     → h.state.uses c source ≡ Replied → IsOver config log c source h
-over {w} config log c source h is used =
+over {w} {config} {log} c source h is used =
     let opened_as : (u : SourceState) → u ≡ Replied
     → IsOpened c source h.mail h.state u ((one_memory_after config log).opened c Requests source)
     → IsOpened c source h.mail h.state Replied ((one_memory_after config log).opened c Requests source) =
@@ -149,18 +149,19 @@ over {w} config log c source h is used =
       opened = open_.1.2;
       answer = answers.0;
       reach = answers.1;
-      pending_is = request_open source (a_beat_of (sourced source open_.1.0) 0) ((system_after config log).clients c).past
+      pending_is = request_open source (a_beat_of (sourced source open_.1.0) 0)
+          ((system_after config log).clients c).past
           ((is.known c).opens source ∙ asked_replied (h.state.uses c source) (h.mail.request c source)
           (block_message Acquire c (block_used (h.state.uses c source))
           (h.state.block (block_used (h.state.uses c source)))) used ∙ ap first_of open_.1.1);
     }
 
 -- the beats of the response, whole
-whole_response : {w : ℕ} (config : Config) (log : Log w) (link : Link) (ch : Channel) (h : AbstractState w) (x : Beat w)
-    (source : ℕ) (f : Finish) (end : IsEnding config log link ch h x source f)
+whole_response : {w : ℕ} {config : Config} {log : Log w} {link : Link} {ch : Channel} {h : AbstractState w} {x : Beat w}
+    {source : ℕ} {f : Finish} (end : IsEnding config log link ch h x source f)
     → Beat.D (d_beat_of end.response end.first.next.k) ∷ unfinished Channel.D
     ((system_after config log).clients link.0).past ≡ burst_of (Message.D end.response)
-whole_response {w} config log link ch h x source f end =
+whole_response {w} end =
     cc (
       end.beat_is,
       (end.first.next.last (eqb-true (end.first.next.k + 1) _ (sym end.first.next.completes_is
@@ -169,15 +170,14 @@ whole_response {w} config log link ch h x source f end =
     )
 
 -- an answer ends its access as the machine allows
-pub ends-answer : {w : ℕ} (config : Config) (log : Log w) (link : Link) (ch : Channel) (h : AbstractState w)
-    (x : Beat w) (source : ℕ) (f : Finish) → IsWidth w
-    → SimulationRelation config log h.mail h.request h.state (system_after config log)
-    → (end : IsEnding config log link ch h x source f) → end.first.kind ≡ Answer
+pub ends-answer : {w : ℕ} {config : Config} {log : Log w} {link : Link} {ch : Channel} {h : AbstractState w}
+    {x : Beat w} {source : ℕ} {f : Finish} → IsWidth w → SimulationRelation config log h.mail h.request h.state
+    (system_after config log) → (end : IsEnding config log link ch h x source f) → end.first.kind ≡ Answer
     → Ends ((one_memory_after config log).opened link.0 (pool_of f) source) x f
-ends-answer {w} config log link ch h x source f width is end e =
+ends-answer {w} {config} {log} {link} {ch} {h} {x} {source} {f} width is end e =
     let sys : System w = system_after config log in
     let m : Machine w = one_memory_after config log in
-    let it : IsOver config log c n h = over config log c n h is due.used in
+    let it : IsOver config log c n h = over c n h is due.used in
     let asked_is : request_of end.response.source (sys.clients c).past ≡ Some (a_beat_of (sourced n it.asked) 0) =
     ap (λ (i : ℕ). request_of i (sys.clients c).past) (sym end.source_is ∙ from) ∙ it.pending_is in
     let payload : List ℕ = payload_of (Beat.D (d_beat_of end.response end.first.next.k) ∷ unfinished Channel.D
@@ -187,7 +187,7 @@ ends-answer {w} config log link ch h x source f width is end e =
       end.finish_is,
       asked_is,
       ends_answered (level_of config c) (sourced n it.asked) end.response it.reply _
-          width it.lawful (response_is ∙ it.answer) it.reach (whole_response config log link ch h x source f end),
+          width it.lawful (response_is ∙ it.answer) it.reach (whole_response end),
       finish_sourced n it.asked it.reply,
     ) in
     subst (λ (i : Finish). Ends (m.opened c (pool_of i) source) x i) (sym fin)

@@ -6,7 +6,6 @@ use Rattle.tl_coherence.proofs.theorem.Imports.{SimulationRelation, is_caching, 
 use Rattle.std.proofs.Common.{◌≡◌, ℕ, Bool, true, false, List, ◌∷◌, Option, Some, None, refl, sym, ◌∙◌, ap, subst}
 use Rattle.tl_burst.{specs.declared.message.MessageD.MessageD, specs.statement.Burst.d_beat_of}
 use Rattle.tl_params.{specs.declared.param.Cap.Cap, specs.statement.Param.cap_right}
-use Rattle.tl_rules.specs.statement.History.{capped}
 use Rattle.tl_manager.proofs.blocks.Recording.{cap-gives}
 use Rattle.tl_coherence.specs.{refinement.MemoryRelation.IsLet, refinement.MemoryRelation.op_of}
 use Rattle.tl_coherence.specs.{protocol.Phase.grant_fits, protocol.Protocol.is_on}
@@ -34,8 +33,7 @@ whole_trunk Perm.None held d Cap.ToN Grow.NtoT e = absurd cc
 whole_trunk Perm.None held d Cap.ToN Grow.BtoT e = absurd cc
 
 ends_granted : {w : ℕ} (n : ℕ) (bytes : List ℕ) (x : Beat w) (k : Cap) (whole : Bool) (g : Grow) (y : AcquirePhase)
-    → y ≡ AcquireOpen whole g → cap_named x ≡ cap_right k
-    → (whole ≡ true → cap_right k ≡ Perm.Trunk)
+    → y ≡ AcquireOpen whole g → cap_named x ≡ cap_right k → (whole ≡ true → cap_right k ≡ Perm.Trunk)
     → EndsOp (op_of {w = w} y n bytes) None x (Finish.Granted (cap_right k))
 ends_granted n bytes x k true g y e named trunk = rw e (ap Finish.Granted (trunk refl))
 ends_granted n bytes x k false g y e named trunk = rw e (ap Finish.Granted (sym named))
@@ -47,13 +45,12 @@ let_open {w} n o opened x e is =
     go (rw e at is)
 
 -- a Grant, and a ReleaseAck, end their operations as the machine allows
-pub ends-transfer : {w : ℕ} (config : Config) (log : Log w) (link : Link) (ch : Channel) (h : AbstractState w)
-    (x : Beat w) (source : ℕ) (f : Finish)
-    → SimulationRelation config log h.mail h.request h.state (system_after config log)
-    → (end : IsEnding config log link ch h x source f) → (end.first.kind ≡ Answer → ⊥)
+pub ends-transfer : {w : ℕ} {config : Config} {log : Log w} {link : Link} {ch : Channel} {h : AbstractState w}
+    {x : Beat w} {source : ℕ} {f : Finish} → SimulationRelation config log h.mail h.request h.state
+    (system_after config log) → (end : IsEnding config log link ch h x source f) → (end.first.kind ≡ Answer → ⊥)
     → Ends ((one_memory_after config log).opened link.0 (pool_of f) source) x f
 unfolding block_message
-ends-transfer {w} config log link ch h x source f is end other = go end.first.kind refl end.first.own
+ends-transfer {w} {config} {log} {link} {h} {x} {source} {f} is end other = go end.first.kind refl end.first.own
   where
     sys : System w
     sys = system_after config log
@@ -106,8 +103,8 @@ ends-transfer {w} config log link ch h x source f is end other = go end.first.ki
         let fin : f ≡ Finish.Released = end.finish_is ∙ released-at (d_beat_of end.response end.first.next.k)
         (sys.clients c) (ap (λ (i : MessageD w). i.opcode) same) in
         let from : source ≡ (h.state.block n).release_source c = cc (end.source_is, same) in
-        let lets : h.state.lets c source ≡ Some n = ap (h.state.lets c) from ∙ ack-due (is_caching config) c n
-        end.first.rest h.state is.invariant (tokens ReleaseAck e) in
+        let lets : h.state.lets c source ≡ Some n = ap (h.state.lets c) from ∙ ack-due c n
+        end.first.rest is.invariant (tokens ReleaseAck e) in
         subst (λ (i : Finish). Ends (m.opened c (pool_of i) source) x i) (sym fin)
         (let_open n (h.state.lets c source) (m.opened c Releases source) x lets (is.beside.releases c source))
     go Answer e own = absurd (other e)

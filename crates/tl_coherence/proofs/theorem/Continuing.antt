@@ -89,8 +89,7 @@ answering-delivered {w} config log link ch h width is = go (is_moving (stepped c
     c = link.0
 
     Then : Channel → Type 0
-    Then at =
-        IsAnswering (accesses_answered (stepped config (Deliver link at) sys).handed) h m
+    Then at = IsAnswering (accesses_answered (stepped config (Deliver link at) sys).handed) h m
         (moved (Deliver link at) (stepped config (Deliver link at) sys).outcome m)
 
     head : (at : Channel) (x : Beat w) (queue : List (Beat w)) → sys.channels c at ≡ x ∷ queue
@@ -110,7 +109,7 @@ answering-delivered {w} config log link ch h width is = go (is_moving (stepped c
         let fit : IsFitAnswer config.blocks (Ok (t.verdict_is, t.message)) =
         subst (IsFitAnswer config.blocks) t.answer
         (fit-taken config.blocks x (sys.clients c) (head at x queue beats).inside
-        (copy-long config log h.mail h.request h.state sys is c)) in
+        (copy-long is c)) in
         inl (ap (λ (s : Step w). accesses_answered s.handed) t.step_is
         ∙ fit-quiet config.blocks c t.verdict_is t.message fit)
 
@@ -129,18 +128,17 @@ answering-delivered {w} config log link ch h width is = go (is_moving (stepped c
         ]
 
     moves : (at : Channel) (terms : EndConfig) (beats : List (Beat w)) → terms_at config c ≡ Some terms
-        → sys.channels c at ≡ beats
-        → is_moving (stepped config (Deliver link at) sys).outcome ≡ true → Then at
+        → sys.channels c at ≡ beats → is_moving (stepped config (Deliver link at) sys).outcome ≡ true → Then at
     moves at terms [] known none moving =
         absurd (not_moving _ _ (stepped-empty config link at sys terms known none) moving refl)
     moves Channel.A terms (x ∷ queue) known beats moving =
         let t = manager-moves config link Channel.A sys terms x queue known beats refl moving in
         up Channel.A terms x queue refl known beats moving
         (subst (λ (s : Step w). IsOnce (accesses_answered s.handed) h m) t.step_is
-        (once-delivered_a config log h sys c terms m width is known is.beside))
+        (once-delivered_a h c terms width is known is.beside))
     moves Channel.B terms (x ∷ queue) known beats moving = down Channel.B terms x queue refl known beats moving
     moves Channel.C terms (x ∷ queue) known beats moving = up Channel.C terms x queue refl known beats moving
-        (once-followed_c config log h sys c x queue m width is beats is.beside)
+        (once-followed_c h c x queue width is beats is.beside)
     moves Channel.D terms (x ∷ queue) known beats moving = down Channel.D terms x queue refl known beats moving
     moves Channel.E terms (x ∷ queue) known beats moving = up Channel.E terms x queue refl known beats moving
         (inl (acked x (first-of config log h c terms Channel.E x queue width is known beats).on))
@@ -159,7 +157,7 @@ answering-delivered {w} config log link ch h width is = go (is_moving (stepped c
     go true moving = found (terms_at config c) refl moving
     go false still = inl (still-none config link ch sys still)
 
-pub performs-delivered : {w : ℕ} (config : Config) (log : Log w) (link : Link) (ch : Channel) (h : AbstractState w)
+pub performs-delivered : {w : ℕ} {config : Config} {log : Log w} (link : Link) (ch : Channel) (h : AbstractState w)
     → IsWidth w → SimulationRelation config log h.mail h.request h.state (system_after config log)
     → Performs (accesses_answered (stepped config (Deliver link ch) (system_after config log)).handed)
     (moved (Deliver link ch) (stepped config (Deliver link ch) (system_after config log)).outcome
@@ -167,7 +165,7 @@ pub performs-delivered : {w : ℕ} (config : Config) (log : Log w) (link : Link)
     (one_memory_after config ((Deliver link ch, (stepped config (Deliver link ch) (system_after config log)).outcome)
     ∷ log))
 unfolding one_memory_after
-performs-delivered config log link ch h width is =
+performs-delivered {config} {log} link ch h width is =
     performs-answering (accesses_answered (stepped config (Deliver link ch) (system_after config log)).handed) h
     (one_memory_after config log)
     (moved (Deliver link ch) (stepped config (Deliver link ch) (system_after config log)).outcome

@@ -174,7 +174,7 @@ module _ (p : Profile) (c n source : ℕ) (a : AcquirePhase) where
           let own : view (s.block n).service r ≡ Own = rw (e, same_number r) refl in
           let wants = owns_ask ((s.block n).pair r) (view (s.block n).service r) ((inv.blocks n).phases r) (rw own refl)
           in
-          let mine = own_acquire s r ((s.block n).source r) n is (source_of_acquire caching s r n inv wants) in
+          let mine = own_acquire s r ((s.block n).source r) n is (source_of_acquire r n inv wants) in
           never (c == r) (ap (λ (j : ℕ). c == j) mine.0.0 ∙ same_number c) other
         where
           never : (b : Bool) → b ≡ true → is_other (if b then Own else Other k) ≡ true → ⊥
@@ -190,16 +190,14 @@ module _ (p : Profile) (c n source : ℕ) (a : AcquirePhase) where
 
   lone_served : (d m i tracker : ℕ) (k : Cap) (rest : List Packet) (s : State (List ℕ)) → IsLone p c n source a s
       → IsLone p c n source a (acquire_served d m i tracker k rest s)
-  lone_served d m i tracker k rest s is =
-      lone_steady s (acquire_served d m i tracker k rest s) (λ e j. refl)
+  lone_served d m i tracker k rest s is = lone_steady s (acquire_served d m i tracker k rest s) (λ e j. refl)
       (steady_at m (served_block d true i tracker k (s.block m)) s.block n c
       (λ here. steady_served d true k (s.block m).pair c)) is
 
   lone_sent : (d m tracker : ℕ) (data_too : Bool) (k : Cap) (rest : List Packet) (s : State (List ℕ))
       → IsLone p c n source a s → IsLone p c n source a (acquire_granted d m tracker data_too k rest s)
-  lone_sent d m tracker data_too k rest s is =
-      lone_steady s (acquire_granted d m tracker data_too k rest s) (λ e j. refl)
-      (steady_at m (granted_at_once d tracker data_too k (s.block m)) s.block n c
+  lone_sent d m tracker data_too k rest s is = lone_steady s (acquire_granted d m tracker data_too k rest s)
+      (λ e j. refl) (steady_at m (granted_at_once d tracker data_too k (s.block m)) s.block n c
       (λ here. steady_pair d (after_grant_sent k ((s.block m).pair d)) (s.block m).pair (refl, refl) c)) is
 
   lone_acquire : {w : ℕ} (clients : ℕ) (profile : Profile) (d m : ℕ) (x : AcquirePhase) (tracker : ℕ)
@@ -217,11 +215,9 @@ module _ (p : Profile) (c n source : ℕ) (a : AcquirePhase) where
       (lone_served d m (b.source d) tracker k rest h.state is) (lone_sent d m tracker data_too given rest h.state is)
 
   lone_probe : (caching : ℕ → Bool) (d m : ℕ) (k : Cap) (rest : List Packet) (s : State (List ℕ))
-      → IsInvariant caching s
-      → is_sent ((s.block m).pair d).probing ≡ true → IsLone p c n source a s
+      → IsInvariant caching s → is_sent ((s.block m).pair d).probing ≡ true → IsLone p c n source a s
       → IsLone p c n source a (probe_taken d m k rest s)
-  lone_probe caching d m k rest s inv sent is =
-      lone_steady s (probe_taken d m k rest s) (λ e i. refl)
+  lone_probe caching d m k rest s inv sent is = lone_steady s (probe_taken d m k rest s) (λ e i. refl)
       (steady_at m _ s.block n c (λ here. go here (cases_eq c d))) is
     where
       go : n ≡ m → (c ≡ d) ⊎ (c ≡ d → ⊥)
@@ -239,9 +235,8 @@ module _ (p : Profile) (c n source : ℕ) (a : AcquirePhase) where
       (steady_at m _ h.state.block n c (λ here. steady_granted d q r _ (h.state.block m).pair c)) is
 
   lone_last : {w : ℕ} (clients : ℕ) (profile : Profile) (d m : ℕ) (r : Report) (v : Service) (rest : List Packet)
-      (h : AbstractState w)
-      → ((q i : ℕ) (k : Cap) → v ≡ Waits q false i k → h.state.uses q i ≡ InService m) → IsLone p c n source a h.state
-      → IsLone p c n source a (last_taken clients profile d m r v rest h).state
+      (h : AbstractState w) → ((q i : ℕ) (k : Cap) → v ≡ Waits q false i k → h.state.uses q i ≡ InService m)
+      → IsLone p c n source a h.state → IsLone p c n source a (last_taken clients profile d m r v rest h).state
   lone_last clients profile d m r (Waits q true i k) rest h used is =
       lone_granted clients profile d q m r ((h.state.block m).pair q).acquiring rest h is
   lone_last clients profile d m r (Waits q false i k) rest h used is =
@@ -262,9 +257,10 @@ module _ (p : Profile) (c n source : ℕ) (a : AcquirePhase) where
         others = λ e i else_. uses_are e i ∙ each-set_at (λ j k (v : SourceState). IsElsewhere c source j k
             → v ≡ SourceFree) d src SourceFree h.state.uses (λ any. refl) is.others e i else_;
         brings = brings_granted p n a (after.uses c source) ((after.block n).pair c) (cap_right due.k)
-            (uses_are c source ∙ ap₂ (set_at d src SourceFree h.state.uses) (sym mine.0.0) (sym mine.0.1) ∙ set_at-same d
+            (uses_are c source ∙ ap₂ (set_at d src SourceFree h.state.uses) (sym mine.0.0) (sym mine.0.1) ∙ set_at-same
+            d
             src SourceFree h.state.uses)
-            (ap₂ (λ (i j : ℕ). ((after.block i).pair j).held) (sym mine.1) (sym mine.0.0) ∙ held_granted config tracker d m
+            (ap₂ (λ (i j : ℕ). ((after.block i).pair j).held) (sym mine.1) (sym mine.0.0) ∙ held_granted config tracker
             rest h due)
             (subst (λ (x : AcquirePhase). grown p x (cap_right due.k) ≡ true) wants
             (grows p due.whole due.g due.k (fits_cap ((h.state.block m).pair d).recorded ((h.state.block m).pair d).held
@@ -286,7 +282,7 @@ module _ (p : Profile) (c n source : ℕ) (a : AcquirePhase) where
       → IsInvariant caching h.state → AreGiven p h.state → on k (h.state.link d) ≡ packet k i ∷ rest
       → IsLone p c n source a h.state → IsLone p c n source a (kind_taken config tracker d k i rest h).state
   lone-kind_taken caching config tracker d Request i rest h inv given first is =
-      absurd (no_access h.state d i Asked is (first-asked caching d i rest h inv first) refl)
+      absurd (no_access h.state d i Asked is (first-asked d i rest h inv first) refl)
   lone-kind_taken caching config tracker d Answer i rest h inv given first is =
       absurd (no_access h.state d i Replied is (is_replied-is (h.state.uses d i)
       (holds-first Answer (h.state.link d).d rest (packet Answer i) (λ j. is_replied (h.state.uses d j)) first refl

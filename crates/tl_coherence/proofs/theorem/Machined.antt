@@ -50,14 +50,12 @@ delivered-so {w} config terms c ch (x ∷ rest) s = go (is_to_client ch)
 
     go : (b : Bool) → is_delivered (if b then judged (offered terms ch x (s.clients c)).answer c ch x rest
         (offered terms ch x (s.clients c)).after s else manager_took c ch x rest
-        (manager.offered config (record { 0 = c }) ch x s.manager) s).outcome
-        ≡ true
+        (manager.offered config (record { 0 = c }) ch x s.manager) s).outcome ≡ true
     go true = of_client (offered terms ch x (s.clients c)).answer _
     go false = of_manager _
 
 stepped-so : {w : ℕ} (config : Config) (link : Link) (ch : Channel) (terms : EndConfig) (s : System w)
-    → terms_at config link.0 ≡ Some terms
-    → is_delivered (stepped config (Deliver link ch) s).outcome ≡ true
+    → terms_at config link.0 ≡ Some terms → is_delivered (stepped config (Deliver link ch) s).outcome ≡ true
 unfolding stepped
 stepped-so config link ch terms s known = rw known (delivered-so config terms link.0 ch (s.channels link.0 ch) s)
 
@@ -82,82 +80,79 @@ step_allowed config link ch o m so known done = (known, tt, refl)
 
 -- ---- events
 
-nobody-continues : {w : ℕ} (config : Config) (log : Log w) (event : Event w)
-    → terms_at config (step.client_of event) ≡ None
-    → Continues config (event, (stepped config event (system_after config log)).outcome) log
+nobody-continues : {w : ℕ} (config : Config) (log : Log w) (event : Event w) → terms_at config (step.client_of event)
+    ≡ None → Continues config (event, (stepped config event (system_after config log)).outcome) log
 unfolding one_memory_after performing Performs accesses_answered
-nobody-continues {w} config log event none =
-    rw (stepped-nobody config event (system_after config log) none)
+nobody-continues {w} config log event none = rw (stepped-nobody config event (system_after config log) none)
     (one_memory_after config log, [], (rw none refl, refl), same event)
   where
     same : (e : Event w) → moved e Outcome.NoSuchClient (one_memory_after config log) ≡ one_memory_after config log
     same (Ask c o) = refl
     same (Deliver link ch) = refl
 
-continues-delivered : {w : ℕ} (config : Config) (log : Log w) (link : Link) (ch : Channel) (h : AbstractState w)
-    (terms : EndConfig) → IsWidth w
-    → SimulationRelation config log h.mail h.request h.state (system_after config log)
+continues-delivered : {w : ℕ} {config : Config} {log : Log w} (link : Link) (ch : Channel) (h : AbstractState w)
+    (terms : EndConfig) → IsWidth w → SimulationRelation config log h.mail h.request h.state (system_after config log)
     → terms_at config link.0 ≡ Some terms
     → Continues config (Deliver link ch, (stepped config (Deliver link ch) (system_after config log)).outcome) log
-continues-delivered {w} config log link ch h terms width is known = (
+continues-delivered {w} {config} {log} link ch h terms width is known = (
   moved (Deliver link ch) (stepped config (Deliver link ch) (system_after config log)).outcome m,
-  accesses_answered (stepped config (Deliver link ch) (system_after config log)).handed,
-  step_allowed config link ch (stepped config (Deliver link ch) (system_after config log)).outcome m
+  accesses_answered
+      (stepped config (Deliver link ch) (system_after config log)).handed,
+  step_allowed config link ch
+      (stepped config (Deliver link ch) (system_after config log)).outcome m
       (stepped-so config link ch terms (system_after config log) known) (ap is_some known) done,
-  performs-delivered config log link ch h width is,
+  performs-delivered link
+      ch h width is,
 )
   where
     m : Machine w
     m = one_memory_after config log
 
     done : (x : Beat w) (source : ℕ) (f : Finish) → (stepped config (Deliver link ch) (system_after config log)).outcome
-        ≡ Outcome.Done x source f → (ch ≡ Channel.D)
-        × Ends (m.opened link.0 (pool_of f) source) x f
+        ≡ Outcome.Done x source f → (ch ≡ Channel.D) × Ends (m.opened link.0 (pool_of f) source) x f
     done x source f e = (end.on_d, go end.first.kind refl)
       where
         end : IsEnding config log link ch h x source f
         end = ending config log link ch h x source f width is e
 
         go : (k : Kind) → end.first.kind ≡ k → Ends (m.opened link.0 (pool_of f) source) x f
-        go Answer g = ends-answer config log link ch h x source f width is end g
-        go Request g = ends-transfer config log link ch h x source f is end (λ i. let no_one : Request ≡ Answer =
+        go Answer g = ends-answer width is end g
+        go Request g = ends-transfer is end (λ i. let no_one : Request ≡ Answer =
             sym g ∙ i in cc)
-        go Acquire g = ends-transfer config log link ch h x source f is end (λ i. let no_one : Acquire ≡ Answer =
+        go Acquire g = ends-transfer is end (λ i. let no_one : Acquire ≡ Answer =
             sym g ∙ i in cc)
-        go Probe g = ends-transfer config log link ch h x source f is end (λ i. let no_one : Probe ≡ Answer =
+        go Probe g = ends-transfer is end (λ i. let no_one : Probe ≡ Answer =
             sym g ∙ i in cc)
-        go ProbeAck g = ends-transfer config log link ch h x source f is end (λ i. let no_one : ProbeAck ≡ Answer =
+        go ProbeAck g = ends-transfer is end (λ i. let no_one : ProbeAck ≡ Answer =
             sym g ∙ i in cc)
-        go Release g = ends-transfer config log link ch h x source f is end (λ i. let no_one : Release ≡ Answer =
+        go Release g = ends-transfer is end (λ i. let no_one : Release ≡ Answer =
             sym g ∙ i in cc)
-        go Grant g = ends-transfer config log link ch h x source f is end (λ i. let no_one : Grant ≡ Answer =
+        go Grant g = ends-transfer is end (λ i. let no_one : Grant ≡ Answer =
             sym g ∙ i in cc)
-        go ReleaseAck g = ends-transfer config log link ch h x source f is end (λ i. let no_one : ReleaseAck ≡ Answer =
+        go ReleaseAck g = ends-transfer is end (λ i. let no_one : ReleaseAck ≡ Answer =
             sym g ∙ i in cc)
-        go GrantAck g = ends-transfer config log link ch h x source f is end (λ i. let no_one : GrantAck ≡ Answer =
+        go GrantAck g = ends-transfer is end (λ i. let no_one : GrantAck ≡ Answer =
             sym g ∙ i in cc)
 
-continues_event : {w : ℕ} (config : Config) (log : Log w) (event : Event w) (h : AbstractState w) → IsWidth w
+continues_event : {w : ℕ} {config : Config} {log : Log w} (event : Event w) (h : AbstractState w) → IsWidth w
     → SimulationRelation config log h.mail h.request h.state (system_after config log)
     → Continues config (event, (stepped config event (system_after config log)).outcome) log
-continues_event {w} config log event h width is = go event (terms_at config (step.client_of event)) refl
+continues_event {w} {config} {log} event h width is = go event (terms_at config (step.client_of event)) refl
   where
     go : (e : Event w) (o : Option EndConfig) → terms_at config (step.client_of e) ≡ o
         → Continues config (e, (stepped config e (system_after config log)).outcome) log
     go e None none = nobody-continues config log e none
-    go (Deliver link ch) (Some terms) known = continues-delivered config log link ch h terms width is known
-    go (Ask c o) (Some terms) known =
-        subst (λ (i : Outcome w). Continues config (Ask c o, i) log)
+    go (Deliver link ch) (Some terms) known = continues-delivered link ch h terms width is known
+    go (Ask c o) (Some terms) known = subst (λ (i : Outcome w). Continues config (Ask c o, i) log)
         (sym (ap (λ (x : Step w). x.outcome) (stepped-asked config c o (system_after config log) terms known)))
-        (continues-ask config log h c terms o width is known)
+        (continues-ask h c terms o width is known)
 
 -- Each event goes on from the machine before it.
 pub continues : {w : ℕ} (config : Config) (log : Log w) (x : Event w × Outcome w) → IsWidth w → AreTyped log
     → IsLog config (x ∷ log) → Continues config x log
 unfolding IsLog
-continues {w} config log x width typed logged =
-    subst (λ (o : Outcome w). Continues config (x.0, o) log) (sym logged.0)
-    (continues_event config log x.0 (shadow config log) width (matched config log width typed logged.1))
+continues {w} config log x width typed logged = subst (λ (o : Outcome w). Continues config (x.0, o) log) (sym logged.0)
+    (continues_event x.0 (shadow config log) width (matched config log width typed logged.1))
 
 -- ---- runs
 

@@ -99,8 +99,7 @@ module _ {w : ℕ} (config : Config) (log : Log w) (link : Link) (ch : Channel) 
       → (access : IsAccess source (h.mail.request q source) None
       ((one_memory_after config log).opened q Requests source))
       → moved event (stepped config event (system_after config log)).outcome (one_memory_after config log)
-      ≡ one_memory_after config log
-      → (x : BeatA w) → request_of source (on_link q (trace_of after)) ≡ Some x → (n : ℕ)
+      ≡ one_memory_after config log → (x : BeatA w) → request_of source (on_link q (trace_of after)) ≡ Some x → (n : ℕ)
       → is_free n None (needs x.opcode) (block_at x.address) (trace_of after) ≡ true
   unfolding shadow system_after
   free-after q source one access still x asks n =

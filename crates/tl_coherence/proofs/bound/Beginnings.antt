@@ -39,11 +39,10 @@ module _ {X : Type 0} (config : Config) (size : ℕ) (left left' : Left) (answer
 
   probing_less : (l l' : ℕ) (p : ClientBlock) → l' ≤ l → probing_weight size l' p.recorded p.probing ≤ probing_weight
       size l p.recorded p.probing
-  probing_less l l' p less = go p.probing
-    where
-      go : (x : ProbePhase) → probing_weight size l' p.recorded x ≤ probing_weight size l p.recorded x
-      go (ProbeAnswered r) = less
-      go x = omega arith
+  probing_less l l' p less =
+      let go : (x : ProbePhase) → probing_weight size l' p.recorded x ≤ probing_weight size l p.recorded x =
+      elim [ ProbeAnswered r ↦ less | x ↦ omega arith ] in
+      go p.probing
 
   pair_less : (m d : ℕ) → pair_weight size left' m d ((s.block m).pair d) ≤ pair_weight size left m d
       ((s.block m).pair d)
@@ -118,25 +117,22 @@ module _ {X : Type 0} (config : Config) (size : ℕ) (left left' : Left) (answer
           ) (omega (arith, less)))
 
       grant_less : (m : ℕ) → left' c Grant m + 1 ≤ left c Grant m → shown Grant c (s.block m) ≡ true → Falls
-      grant_less m less e = acquire_owes m (grant_named caching s c m inv e) (go (view (s.block m).service c) e)
-        where
-          go : (v : View) → is_granting v ≡ true → acquire_weight size (left' c Acquire m) (left' c Grant m)
-              (probes_weight number size left' m (s.block m)) v + 1 ≤ acquire_weight size (left c Acquire m)
-              (left c Grant m) (probes_weight number size left m (s.block m)) v
-          go (Granting d k) f = omega (arith, less)
-          go v f = absurd cc
+      grant_less m less e =
+          let go : (v : View) → is_granting v ≡ true → acquire_weight size (left' c Acquire m) (left' c Grant m)
+          (probes_weight number size left' m (s.block m)) v + 1 ≤ acquire_weight size (left c Acquire m)
+          (left c Grant m) (probes_weight number size left m (s.block m)) v =
+          elim [ Granting d k ↦ λ f. omega (arith, less) | v ↦ λ f. absurd cc ] in
+          acquire_owes m (grant_named caching s c m inv e) (go (view (s.block m).service c) e)
 
       release_less : (m : ℕ) → left' c Release m + 1 ≤ left c Release m → shown Release c (s.block m) ≡ true → Falls
       release_less m less e =
+          let go : (x : ReleasePhase) → is_releasing x ≡ true → letting_weight (left' c Release m) x + 1
+          ≤ letting_weight (left c Release m) x =
+          elim [ ReleaseSent r ↦ λ f. omega (arith, less) | x ↦ λ f. absurd cc ] in
           let named = release_named caching s c m inv e in
           let source = (s.block m).release_source c in
           let-falls config size left left' answer answer s s c source (all.letters c source m named)
           (all.releases c source m named) none-more (rw named (go ((s.block m).pair c).letting e))
-        where
-          go : (x : ReleasePhase) → is_releasing x ≡ true → letting_weight (left' c Release m) x + 1 ≤ letting_weight
-              (left c Release m) x
-          go (ReleaseSent r) f = omega (arith, less)
-          go x f = absurd cc
 
       report_less : (m : ℕ) → left' c ProbeAck m + 1 ≤ left c ProbeAck m → shown ProbeAck c (s.block m) ≡ true → Falls
       report_less m less e = falls who.own who.is asker.used
@@ -151,13 +147,12 @@ module _ {X : Type 0} (config : Config) (size : ℕ) (left left' : Left) (answer
           asker = asking m who.client who.own who.source who.cap inv who.is
 
           here : pair_weight size left' m c ((s.block m).pair c) + 1 ≤ pair_weight size left m c ((s.block m).pair c)
-          here = go ((s.block m).pair c).probing e
-            where
-              go : (x : ProbePhase) → is_answered x ≡ true
-                  → probing_weight size (left' c ProbeAck m) ((s.block m).pair c).recorded x + 1 ≤ probing_weight size
-                  (left c ProbeAck m) ((s.block m).pair c).recorded x
-              go (ProbeAnswered r) f = less
-              go x f = absurd cc
+          here =
+              let go : (x : ProbePhase) → is_answered x ≡ true
+              → probing_weight size (left' c ProbeAck m) ((s.block m).pair c).recorded x + 1 ≤ probing_weight size
+              (left c ProbeAck m) ((s.block m).pair c).recorded x =
+              elim [ ProbeAnswered r ↦ λ f. less | x ↦ λ f. absurd cc ] in
+              go ((s.block m).pair c).probing e
 
           probes : probes_weight number size left' m (s.block m) + 1 ≤ probes_weight number size left m (s.block m)
           probes = total-falls number c 1 (λ d. pair_weight size left m d ((s.block m).pair d))

@@ -84,13 +84,11 @@ acks_set c l link e d = acks_as (set c l link d) (link d) (set-part (λ k. k.e) 
 
 acks_ended : (c q : ℕ) (x : Packet) (rest : List Packet) (link : ℕ → Link) (d : ℕ)
     → length (ended_link c q x rest link d).e ≤ length (link d).e
-acks_ended c q x rest link d = acks_as (ended_link c q x rest link d) (link d) (go (d == q)
-    ∙ set-part (λ k. k.e) c (record (link c) { c = rest }) link refl d)
-  where
-    go : (b : Bool) → (if b then with_d x (popped_link c rest link d) else popped_link c rest link d).e
-        ≡ (popped_link c rest link d).e
-    go true = refl
-    go false = refl
+acks_ended c q x rest link d =
+    let go : (b : Bool) → (if b then with_d x (popped_link c rest link d) else popped_link c rest link d).e
+    ≡ (popped_link c rest link d).e = elim [ true ↦ refl | false ↦ refl ] in
+    acks_as (ended_link c q x rest link d) (link d) (go (d == q) ∙ set-part (λ k. k.e) c (record (link c) { c = rest })
+    link refl d)
 
 acks_granted : (c q n : ℕ) (rest : List Packet) (link : ℕ → Link) (d : ℕ)
     → length (granted_link c q n rest link d).e ≤ length (link d).e

@@ -33,11 +33,10 @@ owner_quiet {s} n r inv own = go (is_unprobed ((s.block n).pair r).probing) refl
 
 served_letting : (r : ℕ) (own : Bool) (k : Cap) (pair : ℕ → ClientBlock) (d : ℕ)
     → (served_pair r own k pair d).letting ≡ (pair d).letting
-served_letting r own k pair d = go (own && (d == r))
-  where
-    go : (b : Bool) → (if b then pair d else after_served k (pair d)).letting ≡ (pair d).letting
-    go true = refl
-    go false = refl
+served_letting r own k pair d =
+    let go : (b : Bool) → (if b then pair d else after_served k (pair d)).letting ≡ (pair d).letting =
+    elim [ true ↦ refl | false ↦ refl ] in
+    go (own && (d == r))
 
 module _ {w : ℕ} (config : Config) (caching : ℕ → Bool) (n : ℕ) (moves : ℕ → Channel → Move)
     (mail mail' : AccessMessages w) (s s' : State (List ℕ)) (showing : IsShowing caching n moves mail mail' s s')

@@ -89,7 +89,12 @@ owed-unmoved {config} link ch o {log} given still = still-owed config log (shado
 owed-delivered : {w : ℕ} {config : Config} (x : Event w × Outcome w) (log : Log w) → IsGiven config (x ∷ log)
     → is_delivery x.0 ≡ true → one_if (is_moving x.1) + owed_after config (x ∷ log) ≤ owed_after config log
 unfolding IsLog
-owed-delivered {w} {config} x log given is = go x.0 x.1 refl given.is_log.0 is
+owed-delivered {w} {config} x log given is =
+    let go : (event : Event w) (o : Outcome w) → x ≡ (event, o)
+    → o ≡ (stepped config event (system_after config log)).outcome → is_delivery event ≡ true
+    → one_if (is_moving o) + owed_after config ((event, o) ∷ log) ≤ owed_after config log =
+    elim [ Ask c op ↦ λ o e f g. absurd cc | Deliver link ch ↦ λ o e f g. at link ch o (is_moving o) f refl ] in
+    go x.0 x.1 refl given.is_log.0 is
   where
     before : IsGiven config log
     before = given-before config x log given
@@ -102,22 +107,14 @@ owed-delivered {w} {config} x log given is = go x.0 x.1 refl given.is_log.0 is
     at link ch o false e f = let less = owed-unmoved link ch o before (sym (ap is_moving e) ∙ f) in
         omega (arith, less)
 
-    go : (event : Event w) (o : Outcome w) → x ≡ (event, o)
-        → o ≡ (stepped config event (system_after config log)).outcome → is_delivery event ≡ true
-        → one_if (is_moving o) + owed_after config ((event, o) ∷ log) ≤ owed_after config log
-    go (Ask c op) o e f g = absurd cc
-    go (Deliver link ch) o e f g = at link ch o (is_moving o) f refl
-
 -- ---- the bound
 
 moved-more : {w : ℕ} (x : Event w × Outcome w) (more : Log w)
     → beats_moved (x ∷ more) ≡ one_if (is_moving x.1) + beats_moved more
-moved-more {w} x more = go (is_moving x.1)
-  where
-    go : (b : Bool) → length (if b then x ∷ filter (λ y. is_moving y.1) more else filter (λ y. is_moving y.1) more)
-        ≡ one_if b + beats_moved more
-    go true = omega arith
-    go false = omega arith
+moved-more {w} x more =
+    let go : (b : Bool) → length (if b then x ∷ filter (λ y. is_moving y.1) more else filter (λ y. is_moving y.1) more)
+    ≡ one_if b + beats_moved more = elim [ true ↦ omega arith | false ↦ omega arith ] in
+    go (is_moving x.1)
 
 bounding : {w : ℕ} {config : Config} (more log : Log w) → IsGiven config (more ++ log)
     → All (λ x. is_delivery x.0 ≡ true) more

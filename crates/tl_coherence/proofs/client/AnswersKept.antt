@@ -239,16 +239,12 @@ answered_acquire : {w : ℕ} (clients : ℕ) (p : Profile) (c n tracker : ℕ) (
     (h : AbstractState w) → AreAnsweredIn h → AreAnsweredIn (acquire_taken clients p c n x tracker rest h)
 answered_acquire clients p c n tracker NoAcquire rest h all = all
 answered_acquire {w} clients p c n tracker (AcquireOpen whole g) rest h all =
+    let b : Block (List ℕ) = h.state.block n in
+    let go : (x : Bool) → AreAnswered h.mail (if x then acquire_served c n (b.source c) tracker
+    (cap_asked (AcquireOpen whole g)) rest h.state else acquire_granted c n tracker
+    (is_granted_data whole g (b.pair c).recorded) (gift p whole g (is_unheld clients b.pair)) rest h.state) =
+    elim [ true ↦ all | false ↦ all ] in
     go (some_below clients (λ i. is_probed c true (cap_asked (AcquireOpen whole g)) (b.pair i).recorded i))
-  where
-    b : Block (List ℕ)
-    b = h.state.block n
-
-    go : (x : Bool) → AreAnswered h.mail (if x then acquire_served c n (b.source c) tracker
-        (cap_asked (AcquireOpen whole g)) rest h.state else acquire_granted c n tracker
-        (is_granted_data whole g (b.pair c).recorded) (gift p whole g (is_unheld clients b.pair)) rest h.state)
-    go true = all
-    go false = all
 
 answered_granted : {w : ℕ} (clients : ℕ) (p : Profile) (c q n : ℕ) (r : Report) (x : AcquirePhase) (rest : List Packet)
     (h : AbstractState w) → AreAnsweredIn h → AreAnsweredIn (granted_after clients p c q n r x rest h)
@@ -273,12 +269,10 @@ answered_ack : {w : ℕ} (clients : ℕ) (p : Profile) (c n : ℕ) (r : Report) 
     → IsServedWith h.mail (h.state.block n).service (h.request n) → IsFor (h.state.block n).service n (h.request n)
     → AreAnsweredIn h → AreAnsweredIn (ack_taken clients p c n r rest h)
 answered_ack {w} clients p c n r rest h with for all =
+    let go : (x : Bool) → AreAnsweredIn (if x then with_state (report_taken c n r rest h.state) h else last_taken
+    clients p c n r (h.state.block n).service rest h) =
+    elim [ true ↦ all | false ↦ answered_last clients p c n r (h.state.block n).service rest h with for all ] in
     go (some_below clients (λ i. not (i == c) && not (is_unprobed ((h.state.block n).pair i).probing)))
-  where
-    go : (x : Bool) → AreAnsweredIn (if x then with_state (report_taken c n r rest h.state) h else last_taken clients p
-        c n r (h.state.block n).service rest h)
-    go true = all
-    go false = answered_last clients p c n r (h.state.block n).service rest h with for all
 
 answered_grant : {w : ℕ} (c n : ℕ) (service : Service) (rest : List Packet) (h : AbstractState w) → AreAnsweredIn h
     → AreAnsweredIn (taken_by_client c n service rest h)

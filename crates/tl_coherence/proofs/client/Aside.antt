@@ -194,11 +194,10 @@ entry_aside c n d p b b' pair held acquiring letting source copy waiting =
 
 served_aside : {A : Type 0} (part : ClientBlock → A) (r : ℕ) (own : Bool) (k : Cap) (pair : ℕ → ClientBlock) (d : ℕ)
     → part (after_served k (pair d)) ≡ part (pair d) → part (served_pair r own k pair d) ≡ part (pair d)
-served_aside {A} part r own k pair d e = go (own && (d == r))
-  where
-    go : (z : Bool) → part (if z then pair d else after_served k (pair d)) ≡ part (pair d)
-    go true = refl
-    go false = e
+served_aside {A} part r own k pair d e =
+    let go : (z : Bool) → part (if z then pair d else after_served k (pair d)) ≡ part (pair d) =
+    elim [ true ↦ refl | false ↦ e ] in
+    go (own && (d == r))
 
 pub aside-access_answered : {w : ℕ} (c n source d : ℕ) (f : List ℕ → List ℕ) (rest : List Packet)
     (mail : AccessMessages w) (answer : ℕ → ℕ → Message w) (s : State (List ℕ)) → is_access (s.uses c source) ≡ true

@@ -52,12 +52,11 @@ pub record IsWellKept {w : ℕ} (e : Endpoint w) : Type 0 where
 -- a pending request is the open one
 pub open-is : {w : ℕ} (source : ℕ) (t : History w) → is_acquire_beat (open_beat source t) ≡ true
     → request_of source t ≡ open_beat source t
-open-is {w} source t some = go (pending (RequestSource source) t) some
-  where
-    go : (b : Bool) → is_acquire_beat (cond b (request_of source t) None) ≡ true
-        → request_of source t ≡ cond b (request_of source t) None
-    go true e = refl
-    go false e = absurd cc
+open-is {w} source t some =
+    let go : (b : Bool) → is_acquire_beat (cond b (request_of source t) None) ≡ true
+    → request_of source t ≡ cond b (request_of source t) None = elim [ true ↦ λ e. refl | false ↦ λ e. absurd cc ]
+    in
+    go (pending (RequestSource source) t) some
 
 coming_is : {w : ℕ} (asked : ℕ → Option (BeatA w)) (n : ℕ) (rest : List (Beat w)) (t : History w) → IsGranting rest t
     → ((source : ℕ) → open_beat source t ≡ asked source)
@@ -251,8 +250,7 @@ end-aside {c} {mail} {mail'} {s} {s'} {e} aside end = end-same (record {
 -- a part of each value, where that at one place is another
 pub column : {A Y : Type 0} (part : Y → A) (k : ℕ) (y : Y) (f : ℕ → Y) (n : ℕ)
     → part (set k y f n) ≡ cond (n == k) (part y) (part (f n))
-column {A} {Y} part k y f n = go (n == k)
-  where
-    go : (z : Bool) → part (if z then y else f n) ≡ cond z (part y) (part (f n))
-    go true = refl
-    go false = refl
+column {A} {Y} part k y f n =
+    let go : (z : Bool) → part (if z then y else f n) ≡ cond z (part y) (part (f n)) =
+    elim [ true ↦ refl | false ↦ refl ] in
+    go (n == k)

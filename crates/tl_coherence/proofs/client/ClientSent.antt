@@ -105,6 +105,10 @@ pub opened-released : {w : ℕ} {c i : ℕ} {m : MessageC w} {p : Perm} {asked a
     → IsReleased c i m p asked asked' s s' → OpenSourceRelation asked c s t
     → OpenSourceRelation asked' c s' (sent (C m) t)
 opened-released {w} {c} {i} {m} {s} {t} width none event open_ =
+    let size : (b : Bool) (n source : ℕ) → cond b (Some i) (s.lets c source) ≡ Some n
+    → (s.lets c source ≡ Some n → option_map (λ (x : BeatC w). x.size) (release_of source t) ≡ Some 6)
+    → option_map (λ (x : BeatC w). x.size) (cond b (Some (c_beat_of m 0)) (release_of source t)) ≡ Some 6 =
+    elim [ true ↦ λ n source is before. ap Some event.whole | false ↦ λ n source is before. before is ] in
     let opens : (source : ℕ) → cond (is_release m.opcode && (m.source == source)) true
     (pending (ReleaseSource source) t) ≡ cond (m.source == source) true (pending (ReleaseSource source) t) =
     λ source. rw event.releases refl in
@@ -140,9 +144,3 @@ opened-released {w} {c} {i} {m} {s} {t} width none event open_ =
         → option_map value (cond b (Some (c_beat_of m 0)) (release_of source t)) ≡ Some n
     last true n value source is here before = ap Some (here cc)
     last false n value source is here before = before is
-
-    size : (b : Bool) (n source : ℕ) → cond b (Some i) (s.lets c source) ≡ Some n
-        → (s.lets c source ≡ Some n → option_map (λ (x : BeatC w). x.size) (release_of source t) ≡ Some 6)
-        → option_map (λ (x : BeatC w). x.size) (cond b (Some (c_beat_of m 0)) (release_of source t)) ≡ Some 6
-    size true n source is before = ap Some event.whole
-    size false n source is before = before is

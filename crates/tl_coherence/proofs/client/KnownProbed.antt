@@ -147,13 +147,11 @@ no_probe : {w : ℕ} (i : ℕ) {n : ℕ} (k : Cap) {m : MessageC w} (t : History
     → unfinished Channel.C t ≡ [] → pending (Key.ProbeOf i) t ≡ false
     → pending (Key.ProbeOf i) (after (probe_beat n k) m t) ≡ false
 no_probe {w} i {n} k {m} t width is none before =
+    let go : (same : Bool) → (n == i) ≡ same
+    → (if same then false else pending (Key.ProbeOf i) (Beat.B (probe_beat n k) ∷ t)) ≡ false =
+    elim [ true ↦ λ e. refl | false ↦ λ e. other_probe i n k t e ∙ before ] in
     pending-whole (Key.ProbeOf i) (Message.C m) (Beat.B (probe_beat n k) ∷ t) (still_whole (probe_beat n k) t ∙ none)
     (beats-positive (Message.C m) width) ∙ rw (is.acks, is.of_block) (go (n == i) refl)
-  where
-    go : (same : Bool) → (n == i) ≡ same
-        → (if same then false else pending (Key.ProbeOf i) (Beat.B (probe_beat n k) ∷ t)) ≡ false
-    go true e = refl
-    go false e = other_probe i n k t e ∙ before
 
 -- ---- what is known
 

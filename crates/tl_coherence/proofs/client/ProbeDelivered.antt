@@ -43,11 +43,10 @@ IsElse {w} n asked m = (x : MessageD w) × (m ≡ Message.D x)
 comes_else : {w : ℕ} (n : ℕ) (asked : ℕ → Option (BeatA w)) (m : Message w) (k : ℕ) (rest : List (Beat w))
     → rest ≡ begun m k → IsElse n asked m → comes_granting n asked rest ≡ false
 unfolding IsElse
-comes_else n asked m k rest e is = cc (e, is.1, go k)
-  where
-    go : (i : ℕ) → comes_granting n asked (begun (Message.D is.0) i) ≡ false
-    go zero = refl
-    go (suc i) = is.2
+comes_else n asked m k rest e is =
+    let go : (i : ℕ) → comes_granting n asked (begun (Message.D is.0) i) ≡ false =
+    elim [ zero ↦ refl | suc i ↦ is.2 ] in
+    cc (e, is.1, go k)
 
 -- a client that is probed has no Grant of the block coming
 not_granted : {caching : ℕ → Bool} (c n i : ℕ) (rest : List Packet) {s : State (List ℕ)} → IsInvariant caching s

@@ -82,16 +82,12 @@ waiting_for : {w : ℕ} (c n tracker : ℕ) (k : Cap) (whole : Bool) (g : Grow) 
     → block_message {w = w} Acquire c n (served_block c true (b.source c) tracker k b) ≡ Message.A
     (acquisition (acquire_opcode whole) g (b.source c) n)
 unfolding block_message
-waiting_for {w} c n tracker k whole g b wants = rw (spared (c == c), wants) (go whole)
-  where
-    spared : (x : Bool) → (if true && x then b.pair c else after_served k (b.pair c)).acquiring ≡ (b.pair c).acquiring
-    spared true = refl
-    spared false = refl
-
-    go : (x : Bool) → acquire_of {w = w} (AcquireOpen x g) (b.source c) n ≡ Message.A
-        (acquisition (acquire_opcode x) g (b.source c) n)
-    go true = refl
-    go false = refl
+waiting_for {w} c n tracker k whole g b wants =
+    let spared : (x : Bool) → (if true && x then b.pair c else after_served k (b.pair c)).acquiring
+    ≡ (b.pair c).acquiring = elim [ true ↦ refl | false ↦ refl ] in
+    let go : (x : Bool) → acquire_of {w = w} (AcquireOpen x g) (b.source c) n
+    ≡ Message.A (acquisition (acquire_opcode x) g (b.source c) n) = elim [ true ↦ refl | false ↦ refl ] in
+    rw (spared (c == c), wants) (go whole)
 
 access_taken-acquired : {w : ℕ} (c source tracker : ℕ) (m : MessageA w) (p : Bool) (o : Option Cap) (rest : List Packet)
     (h : AbstractState w) → AreAcquired h.request h.state.block

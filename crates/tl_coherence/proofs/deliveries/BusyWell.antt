@@ -29,12 +29,10 @@ use Rattle.tl_coherence.proofs.{simulation.SizedAfter.IsSizedAsk, simulation.Sou
 acquire_some : (w c n : ℕ) (b : Block (List ℕ))
     → is_some (asked_for {w = w} (Acquires n) (block_message Acquire c n b) (block_message Acquire c n b)) ≡ true
 unfolding block_message
-acquire_some w c n b = go (b.pair c).acquiring
-  where
-    go : (x : AcquirePhase) → is_some (first_of {w = w} (acquire_of x (b.source c) n)) ≡ true
-    go NoAcquire = refl
-    go (AcquireOpen true g) = refl
-    go (AcquireOpen false g) = refl
+acquire_some w c n b =
+    let go : (x : AcquirePhase) → is_some (first_of {w = w} (acquire_of x (b.source c) n)) ≡ true =
+    elim [ NoAcquire ↦ refl | AcquireOpen true g ↦ refl | AcquireOpen false g ↦ refl ] in
+    go (b.pair c).acquiring
 
 request_some : {w : ℕ} (config : Config) (c source : ℕ) (m : Message w) → IsRequest config c source m
     → is_some (first_of m) ≡ true

@@ -43,11 +43,10 @@ wanted_fields {w} q n false g b v wants e =
 
 -- what a client sees that has answered a Probe
 pub seen_apart : (q source : ℕ) (k : Cap) (c : ℕ) → is_other (view (Waits q true source k) c) ≡ true → c ≡ q → ⊥
-seen_apart q source k c e same = go (c == q) (rw (same, same_number q) refl) e
-  where
-    go : (b : Bool) → b ≡ true → is_other (if true && b then Own else Other k) ≡ true → ⊥
-    go true f g = cc
-    go false f g = cc
+seen_apart q source k c e same =
+    let go : (b : Bool) → b ≡ true → is_other (if true && b then Own else Other k) ≡ true → ⊥ =
+    elim [ true ↦ λ f g. cc | false ↦ λ f g. cc ] in
+    go (c == q) (rw (same, same_number q) refl) e
 
 -- ---- what is handed out
 

@@ -21,20 +21,18 @@ pub client-of : {w : ℕ} (config : Config) (c : ℕ) (ch : Channel) (x : Beat w
     → sys.channels c ch ≡ x ∷ queue → All (λ y. manager.IsSound config (record { 0 = c }, y)) (sys.channels c ch)
     → (t : EndConfig) × (terms_at config c ≡ Some t)
 client-of {w} config c ch x queue sys beats sound =
+    let go : (o : Option ClientConfig) → illegal_at (option_map (λ (i : ClientConfig). i.level) o) x ≡ None
+    → (t : EndConfig) × (option_map (λ (i : ClientConfig). record {
+      level = i.level;
+      profile =
+          config.profile;
+      sources = i.sources;
+      blocks = config.blocks;
+    }) o ≡ Some t) =
+    elim [ None ↦ λ e. absurd cc | Some i ↦ λ e. (_, refl) ] in
     let all : All (λ y. manager.IsSound config (record { 0 = c }, y)) (x ∷ queue) = rw beats at sound in
     let first : manager.IsSound config (record { 0 = c }, x) = all 0 x (omega arith) in
     go (slice_get config.clients.items c) first.lawful
-  where
-    go : (o : Option ClientConfig) → illegal_at (option_map (λ (i : ClientConfig). i.level) o) x ≡ None
-        → (t : EndConfig) × (option_map (λ (i : ClientConfig). record {
-          level = i.level;
-          profile =
-              config.profile;
-          sources = i.sources;
-          blocks = config.blocks;
-        }) o ≡ Some t)
-    go None e = absurd cc
-    go (Some i) e = (_, refl)
 
 -- what the step is
 pub step-taken : {w : ℕ} (config : Config) (c : ℕ) (ch : Channel) (x : Beat w) (queue : List (Beat w)) (sys : System w)

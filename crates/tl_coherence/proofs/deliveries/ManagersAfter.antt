@@ -163,12 +163,11 @@ at-manager {w} {config} {log} link ch h terms x queue width is known down beats 
             (subst (λ (u : SourceState). IsSourced config link.0 i (h.mail.request link.0 i) u) used
             (is.sourced link.0 i))
         asked at e f = absurd cc
-    message_channel Answer i tokens own = never ch down own
-      where
-        never : (at : Channel) → is_to_client at ≡ false → is_on at Answer ≡ true
-            → channel_of_message (h.mail.answer link.0 i) ≡ at
-        never Channel.D e f = absurd cc
-        never at e f = absurd cc
+    message_channel Answer i tokens own =
+        let never : (at : Channel) → is_to_client at ≡ false → is_on at Answer ≡ true
+        → channel_of_message (h.mail.answer link.0 i) ≡ at =
+        elim [ Channel.D ↦ λ e f. absurd cc | at ↦ λ e f. absurd cc ] in
+        never ch down own
     message_channel Acquire i tokens own = rendered_channel w ch Acquire link.0 i (h.state.block i) down own
         (λ e. absurd cc)
     message_channel Probe i tokens own = rendered_channel w ch Probe link.0 i (h.state.block i) down own

@@ -91,6 +91,10 @@ pub delivered-b : {w : ℕ} {config : Config} {log : Log w} (link : Link) (h : A
     → IsDelivered config log link Channel.B h
 unfolding performing
 delivered-b {w} {config} {log} link h terms x queue width is known beats moving =
+    let kinds : (k : Kind) (i : ℕ) → (h.state.link c).b ≡ packet k i ∷ first.rest → is_on Channel.B k ≡ true
+    → IsNext x (unfinished Channel.B e.past) (message_of_kind k h.mail h.state c i)
+    (map (message_of h.mail h.state c) first.rest) queue → IsDelivered config log link Channel.B h =
+    elim [ Probe ↦ λ n tokens own next. probe n tokens next | k ↦ λ i tokens own next. absurd cc ] in
     kinds first.kind first.number first.tokens first.own first.next
   where
     sys : System w
@@ -200,9 +204,3 @@ delivered-b {w} {config} {log} link h terms x queue width is known beats moving 
             let differ = (same_answers Verdict.Taken Verdict.Stalled (Some (handed_for y e)) None
             (offer.taken x e).answer answers stalled).0 in
             absurd (taken_stalls differ)
-
-    kinds : (k : Kind) (i : ℕ) → (h.state.link c).b ≡ packet k i ∷ first.rest → is_on Channel.B k ≡ true
-        → IsNext x (unfinished Channel.B e.past) (message_of_kind k h.mail h.state c i)
-        (map (message_of h.mail h.state c) first.rest) queue → IsDelivered config log link Channel.B h
-    kinds Probe n tokens own next = probe n tokens next
-    kinds k i tokens own next = absurd cc

@@ -69,14 +69,12 @@ report-answered : {w : ℕ} (config : Config) (c n : ℕ) (r : Report) (rest : L
     h)) ≡ accesses_by config c ProbeAck n h
 unfolding accesses_answered
 report-answered {w} config c n r rest h for =
+    let go : (y : Bool) → accesses_answered (if y then [] else pushed_last n (h.state.block n).service
+    (if y then with_state (report_taken c n r rest h.state) h else last_taken (length config.clients.items)
+    config.profile c n r (h.state.block n).service rest h))
+    ≡ (if y then [] else last_accesses (h.state.block n).service) =
+    elim [ true ↦ refl | false ↦ last-answered config c n r (h.state.block n).service rest h for ] in
     go (some_below (length config.clients.items) (others_probed c (h.state.block n).pair))
-  where
-    go : (y : Bool) → accesses_answered (if y then [] else pushed_last n (h.state.block n).service
-        (if y then with_state (report_taken c n r rest h.state) h else last_taken (length config.clients.items)
-        config.profile c n r (h.state.block n).service rest h))
-        ≡ (if y then [] else last_accesses (h.state.block n).service)
-    go true = refl
-    go false = last-answered config c n r (h.state.block n).service rest h for
 
 -- ---- the access that waits can be performed
 

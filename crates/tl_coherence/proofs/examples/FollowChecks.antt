@@ -64,13 +64,10 @@ known blocks sources mail s sys c =
 
 abbrev pub opened : {w : ℕ} → ℕ → AccessMessages w → State (List ℕ) → System w → ℕ → Bool
 opened sources mail s sys c =
+    let released : Option ℕ → Option ℕ → Bool = elim [ None ↦ λ x. true | Some n ↦ λ x. is_number n x ] in
     all_below sources (λ i. beq (pending (RequestSource i) (sys.clients c).past) (is_some (asked_by mail s c i))
     && (beq (pending (ReleaseSource i) (sys.clients c).past) (is_some (s.lets c i)) && released (s.lets c i)
     (option_map (λ x. block_at x.address) (release_of i (sys.clients c).past))))
-  where
-    released : Option ℕ → Option ℕ → Bool
-    released None x = true
-    released (Some n) x = is_number n x
 
 abbrev pub copied : Option (List ℕ) → List ℕ → Bool
 copied None bytes = false

@@ -43,6 +43,12 @@ module _ {w : ℕ} (config : Config) (log : Log w) (h : AbstractState w) (sys : 
       → IsAccess c (a_beat_of asked.request k) (is_empty (unfinished_at sys c Channel.A)) b (asked_by h.mail h.state c)
       (unfinished_at sys c) rest' h.state (replied_if source b)
   access_of source asked k ms queue next rests b last zeroth =
+      let blocks : (z : Bool) (m : ℕ) → (replied_if source z).block m ≡ h.state.block m =
+      elim [ true ↦ λ m. refl | false ↦ λ m. refl ] in
+      let lets : (z : Bool) (i : ℕ) → (replied_if source z).lets c i ≡ h.state.lets c i =
+      elim [ true ↦ λ i. refl | false ↦ λ i. refl ] in
+      let tracked : (z : Bool) (i : ℕ) → (replied_if source z).tracked i ≡ h.state.tracked i =
+      elim [ true ↦ λ i. refl | false ↦ λ i. refl ] in
       let y : Beat w = Beat.A (a_beat_of asked.request k) in
       record {
         access = asked.access;
@@ -68,22 +74,10 @@ module _ {w : ℕ} (config : Config) (log : Log w) (h : AbstractState w) (sys : 
         tracked = λ i. tracked b i;
       }
     where
-      blocks : (z : Bool) (m : ℕ) → (replied_if source z).block m ≡ h.state.block m
-      blocks true m = refl
-      blocks false m = refl
-
       uses : (z : Bool) (i : ℕ)
           → (replied_if source z).uses c i ≡ (if z && (asked.request.source == i) then Replied else h.state.uses c i)
       uses true i = set_at-if c source i Replied h.state.uses asked.request.source asked.source_is
       uses false i = refl
-
-      lets : (z : Bool) (i : ℕ) → (replied_if source z).lets c i ≡ h.state.lets c i
-      lets true i = refl
-      lets false i = refl
-
-      tracked : (z : Bool) (i : ℕ) → (replied_if source z).tracked i ≡ h.state.tracked i
-      tracked true i = refl
-      tracked false i = refl
 
   pub own-access : (source : ℕ) (asked : IsAsked config c source h.mail h.state) (x : Beat w) (ms : List (Message w))
       (queue : List (Beat w)) → IsNext x (unfinished_at sys c Channel.A) (Message.A asked.request) ms queue
@@ -210,16 +204,15 @@ module _ {w : ℕ} (config : Config) (log : Log w) (h : AbstractState w) (sys : 
           where
             go : (b : Bool) → comes_in_grant i (unfinished_at sys c Channel.D) ≡ b → b ≡ false
             go false f = refl
-            go true f = absurd (elim (cases_eq i tracker) [
-              | inl same ↦ let no : None ≡ Some of.0 = sym unused ∙ sym (ap s.tracked same) ∙ of.2 in cc
-              | inr other ↦
-                  let here = same_Some of.0 n (sym of.2 ∙ sym (set-other tracker i (Some n) s.tracked other) ∙ e) in
-                  let no : GrantSent c of.1.data_too of.1.k ≡ Free = cc (of.1.service, here, free) in
-                  cc
-            ])
-              where
-                of : (m : ℕ) × IsGrantDue c m s × (s.tracked i ≡ Some m)
-                of = coming-sink c i is f
+            go true f =
+                let of : (m : ℕ) × IsGrantDue c m s × (s.tracked i ≡ Some m) = coming-sink c i is f in
+                absurd (elim (cases_eq i tracker) [
+                  | inl same ↦ let no : None ≡ Some of.0 = sym unused ∙ sym (ap s.tracked same) ∙ of.2 in cc
+                  | inr other ↦
+                      let here = same_Some of.0 n (sym of.2 ∙ sym (set-other tracker i (Some n) s.tracked other) ∙ e) in
+                      let no : GrantSent c of.1.data_too of.1.k ≡ Free = cc (of.1.service, here, free) in
+                      cc
+                ])
 
     held_free : held_by c (s.block n) ≡ ((s.block n).pair c).recorded
     held_free = cc free

@@ -32,21 +32,18 @@ sent_sees k p v well sent = probed_sees k v (rw sent at (and_left (fits_service 
 
 waited_as : (k : Cap) (q : Service) (c : ℕ) → view q c ≡ Other k → cap_waited q ≡ k
 waited_as k Free c e = absurd (let no : Idle ≡ Other k = e in cc)
-waited_as k (Waits r own source j) c e = go (own && (c == r)) e
-  where
-    go : (b : Bool) → (if b then Own else Other j) ≡ Other k → j ≡ k
-    go true f = absurd cc
-    go false f = cc
-waited_as k (GrantSent r d j) c e = absurd (go (c == r) e)
-  where
-    go : (b : Bool) → (if b then Granting d j else GrantedOther) ≡ Other k → ⊥
-    go true f = cc
-    go false f = cc
-waited_as k (GrantTaken r) c e = absurd (go (c == r) e)
-  where
-    go : (b : Bool) → (if b then Acknowledging else GrantedOther) ≡ Other k → ⊥
-    go true f = cc
-    go false f = cc
+waited_as k (Waits r own source j) c e =
+    let go : (b : Bool) → (if b then Own else Other j) ≡ Other k → j ≡ k =
+    elim [ true ↦ λ f. absurd cc | false ↦ λ f. cc ] in
+    go (own && (c == r)) e
+waited_as k (GrantSent r d j) c e =
+    let go : (b : Bool) → (if b then Granting d j else GrantedOther) ≡ Other k → ⊥ =
+    elim [ true ↦ λ f. cc | false ↦ λ f. cc ] in
+    absurd (go (c == r) e)
+waited_as k (GrantTaken r) c e =
+    let go : (b : Bool) → (if b then Acknowledging else GrantedOther) ≡ Other k → ⊥ =
+    elim [ true ↦ λ f. cc | false ↦ λ f. cc ] in
+    absurd (go (c == r) e)
 
 module _ {w : ℕ} (config : Config) (log : Log w) (h : AbstractState w) (sys : System w) (c : ℕ)
     (is : SimulationRelation config log h.mail h.request h.state sys)

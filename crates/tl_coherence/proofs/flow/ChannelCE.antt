@@ -188,6 +188,30 @@ module _ {w : ℕ} (config : Config) (log : Log w) (h : AbstractState w) (sys : 
       → MonitorRelation before rest' c (if b then release_taken c n (prune_told ((s.block n).pair c).letting) toks s
       else s) (x ∷ t)
   own-release tokens x ms queue next rests b last =
+      let releasing : ((s.block n).pair c).letting ≡ ReleaseSent r =
+      releasing-is ((s.block n).pair c).letting (holds-first Release (s.link c).c toks (packet Release n)
+      (λ i. shown Release c (s.block i)) tokens refl (is.invariant.transfers c Release refl)) in
+      let ungranted : is_granting (view (s.block n).service c) ≡ false =
+      released_ungranted r ((s.block n).pair c) (view (s.block n).service c) well releasing in
+      let now : (z : Bool) → (released_if r z).block n ≡ block_if z =
+      elim [ true ↦ set-same n (let_block c r (s.block n)) s.block | false ↦ refl ] in
+      let elsewhere : (z : Bool) (k : ℕ) → (k ≡ n → ⊥) → (released_if r z).block k ≡ s.block k =
+      elim [ true ↦ λ k ne. set-other n k (let_block c r (s.block n)) s.block ne | false ↦ λ k ne. refl ] in
+      let uses : (z : Bool) (i : ℕ) → (released_if r z).uses c i ≡ s.uses c i =
+      elim [ true ↦ λ i. refl | false ↦ λ i. refl ] in
+      let lets : (z : Bool) (i : ℕ) → (released_if r z).lets c i ≡ s.lets c i =
+      elim [ true ↦ λ i. refl | false ↦ λ i. refl ] in
+      let tracked : (z : Bool) (i : ℕ) → (released_if r z).tracked i ≡ s.tracked i =
+      elim [ true ↦ λ i. refl | false ↦ λ i. refl ] in
+      let held_is : (z : Bool) → held_by c ((released_if r z).block n)
+      ≡ (if z then prune_right r else held_by c (s.block n)) =
+      elim [ true ↦ cc (now true, ungranted, pair) | false ↦ refl ] in
+      let service : (z : Bool) → (block_if z).service ≡ (s.block n).service = elim [ true ↦ refl | false ↦ refl ] in
+      let tracker : (z : Bool) → (block_if z).tracker ≡ (s.block n).tracker = elim [ true ↦ refl | false ↦ refl ] in
+      let release_source : (z : Bool) → (block_if z).release_source c ≡ (s.block n).release_source c =
+      elim [ true ↦ refl | false ↦ refl ] in
+      let letting_is : (z : Bool) → ((block_if z).pair c).letting ≡ letting_after z r =
+      elim [ true ↦ ap (λ (p : ClientBlock). p.letting) pair | false ↦ releasing ] in
       let about = release_rendered c n (s.block n) width (is.sized n).truth in
       let m : MessageC w = about.0 in
       let here : IsNext x (unfinished_at sys c Channel.C) (Message.C m) ms queue =
@@ -223,13 +247,6 @@ module _ {w : ℕ} (config : Config) (log : Log w) (h : AbstractState w) (sys : 
       r : Prune
       r = prune_told ((s.block n).pair c).letting
 
-      releasing : ((s.block n).pair c).letting ≡ ReleaseSent r
-      releasing = releasing-is ((s.block n).pair c).letting (holds-first Release (s.link c).c toks (packet Release n)
-          (λ i. shown Release c (s.block i)) tokens refl (is.invariant.transfers c Release refl))
-
-      ungranted : is_granting (view (s.block n).service c) ≡ false
-      ungranted = released_ungranted r ((s.block n).pair c) (view (s.block n).service c) well releasing
-
       -- the block afterwards
       block_if : Bool → Block (List ℕ)
       block_if true = let_block c r (s.block n)
@@ -238,43 +255,6 @@ module _ {w : ℕ} (config : Config) (log : Log w) (h : AbstractState w) (sys : 
       pair : (let_block c r (s.block n)).pair c ≡ after_release_taken r ((s.block n).pair c)
       pair = set-same c (after_release_taken r ((s.block n).pair c)) (s.block n).pair
 
-      now : (z : Bool) → (released_if r z).block n ≡ block_if z
-      now true = set-same n (let_block c r (s.block n)) s.block
-      now false = refl
-
-      elsewhere : (z : Bool) (k : ℕ) → (k ≡ n → ⊥) → (released_if r z).block k ≡ s.block k
-      elsewhere true k ne = set-other n k (let_block c r (s.block n)) s.block ne
-      elsewhere false k ne = refl
-
-      uses : (z : Bool) (i : ℕ) → (released_if r z).uses c i ≡ s.uses c i
-      uses true i = refl
-      uses false i = refl
-
-      lets : (z : Bool) (i : ℕ) → (released_if r z).lets c i ≡ s.lets c i
-      lets true i = refl
-      lets false i = refl
-
-      tracked : (z : Bool) (i : ℕ) → (released_if r z).tracked i ≡ s.tracked i
-      tracked true i = refl
-      tracked false i = refl
-
-      held_is : (z : Bool) → held_by c ((released_if r z).block n) ≡ (if z then prune_right r else held_by c
-          (s.block n))
-      held_is true = cc (now true, ungranted, pair)
-      held_is false = refl
-
-      service : (z : Bool) → (block_if z).service ≡ (s.block n).service
-      service true = refl
-      service false = refl
-
-      tracker : (z : Bool) → (block_if z).tracker ≡ (s.block n).tracker
-      tracker true = refl
-      tracker false = refl
-
-      release_source : (z : Bool) → (block_if z).release_source c ≡ (s.block n).release_source c
-      release_source true = refl
-      release_source false = refl
-
       acquiring : (z : Bool) → ((block_if z).pair c).acquiring ≡ ((s.block n).pair c).acquiring
       acquiring true = ap (λ (p : ClientBlock). p.acquiring) pair
       acquiring false = refl
@@ -282,10 +262,6 @@ module _ {w : ℕ} (config : Config) (log : Log w) (h : AbstractState w) (sys : 
       probing : (z : Bool) → ((block_if z).pair c).probing ≡ ((s.block n).pair c).probing
       probing true = ap (λ (p : ClientBlock). p.probing) pair
       probing false = refl
-
-      letting_is : (z : Bool) → ((block_if z).pair c).letting ≡ letting_after z r
-      letting_is true = ap (λ (p : ClientBlock). p.letting) pair
-      letting_is false = releasing
 
   -- ---- a GrantAck
 
@@ -318,8 +294,7 @@ module _ {w : ℕ} (config : Config) (log : Log w) (h : AbstractState w) (sys : 
           (is.invariant.transfers c GrantAck refl)
 
       seen : view (s.block n).service c ≡ Acknowledging
-      seen = is_seen (view (s.block n).service c) shows
-        where
-          is_seen : (v : View) → is_acknowledging v ≡ true → v ≡ Acknowledging
-          is_seen Acknowledging e = refl
-          is_seen v e = absurd cc
+      seen =
+          let is_seen : (v : View) → is_acknowledging v ≡ true → v ≡ Acknowledging =
+          elim [ Acknowledging ↦ λ e. refl | v ↦ λ e. absurd cc ] in
+          is_seen (view (s.block n).service c) shows

@@ -130,6 +130,12 @@ module _ {w : ℕ} (config : Config) (log : Log w) (h : AbstractState w) (sys : 
       → AreRests x (unfinished_at sys c) rest' → (b : Bool) → completes x (unfinished_at sys c Channel.D) ≡ b
       → MonitorRelation (asked_by h.mail (answered_if source b) c) rest' c (answered_if source b) (x ∷ t)
   own-answer source tokens x ms queue next rests b last =
+      let blocks : (z : Bool) (k : ℕ) → (answered_if source z).block k ≡ s.block k =
+      elim [ true ↦ λ k. refl | false ↦ λ k. refl ] in
+      let lets : (z : Bool) (i : ℕ) → (answered_if source z).lets c i ≡ s.lets c i =
+      elim [ true ↦ λ i. refl | false ↦ λ i. refl ] in
+      let tracked : (z : Bool) (i : ℕ) → (answered_if source z).tracked i ≡ s.tracked i =
+      elim [ true ↦ λ i. refl | false ↦ λ i. refl ] in
       let due = answer-due (is_caching config) c source toks h.mail s is.invariant (is.answered c source) tokens in
       let here : IsNext x (unfinished_at sys c Channel.D) (Message.D due.answer) ms queue =
       subst (λ (i : Message w). IsNext x (unfinished_at sys c Channel.D) i ms queue) due.answer_is next in
@@ -150,18 +156,6 @@ module _ {w : ℕ} (config : Config) (log : Log w) (h : AbstractState w) (sys : 
         tracked = tracked b;
         asked_is = λ i e. answer_asks source b i due.answer.source due.from e;
       }) flowed)
-    where
-      blocks : (z : Bool) (k : ℕ) → (answered_if source z).block k ≡ s.block k
-      blocks true k = refl
-      blocks false k = refl
-
-      lets : (z : Bool) (i : ℕ) → (answered_if source z).lets c i ≡ s.lets c i
-      lets true i = refl
-      lets false i = refl
-
-      tracked : (z : Bool) (i : ℕ) → (answered_if source z).tracked i ≡ s.tracked i
-      tracked true i = refl
-      tracked false i = refl
 
   -- ---- a ReleaseAck
 
@@ -233,6 +227,39 @@ module _ {w : ℕ} (config : Config) (log : Log w) (h : AbstractState w) (sys : 
       → MonitorRelation (asked_by h.mail (granted_if n whole due.data_too due.k b) c) rest' c
       (granted_if n whole due.data_too due.k b) (x ∷ t)
   own-grant n tokens due whole x ms queue next rests b last =
+      let seen : view (s.block n).service c ≡ Granting due.data_too due.k =
+      own_view c due.data_too due.k (s.block n).service due.service in
+      let even : ((s.block n).pair c).recorded ≡ cap_right due.k = sym (same_perms ((s.block n).pair c).recorded
+      (cap_right due.k) (and_right (is_unreleased ((s.block n).pair c).letting) _ (and_right (is_unprobed ((s.block
+      n).pair c).probing) _ (granting_alone due.data_too due.k ((s.block n).pair c) (view (s.block n).service c)
+      ((is.invariant.blocks n).phases c) seen)))) in
+      let asks : (j : ℕ) → asks_for j (before ((s.block n).source c)) ≡ (n == j) =
+      λ j. ap (asks_for j) (asks-acquire c ((s.block n).source c) n ((s.block n).source c) due.whole due.g h.mail s
+      due.used due.wants refl) ∙ ap (λ (i : ℕ). i == j) (same_block n) in
+      let asks_now : (z : Bool) (j : ℕ)
+      → (not z && (true && asks_for j (asked_by h.mail (s_if z) c ((s.block n).source c)))) ≡ (not z && (n == j)) =
+      elim [ true ↦ λ j. refl | false ↦ λ j. asks j ] in
+      -- the block afterwards
+      let block_if : Bool → Block (List ℕ) = elim [ true ↦ new | false ↦ s.block n ] in
+      let now : (z : Bool) → (s_if z).block n ≡ block_if z = elim [ true ↦ set-same n new s.block | false ↦ refl ] in
+      let elsewhere : (z : Bool) (k : ℕ) → (k ≡ n → ⊥) → (s_if z).block k ≡ s.block k =
+      elim [ true ↦ λ k ne. set-other n k new s.block ne | false ↦ λ k ne. refl ] in
+      let lets : (z : Bool) (i : ℕ) → (s_if z).lets c i ≡ s.lets c i = elim [ true ↦ λ i. refl | false ↦ λ i. refl ] in
+      let tracked : (z : Bool) (i : ℕ) → (s_if z).tracked i ≡ s.tracked i =
+      elim [ true ↦ λ i. refl | false ↦ λ i. refl ] in
+      let seen_is : (z : Bool) → view (block_if z).service c ≡ seen_after z due.data_too due.k =
+      elim [ true ↦ rw (same_number c) refl | false ↦ seen ] in
+      let held_is : (z : Bool) → held_by c ((s_if z).block n) ≡ (if z then cap_right due.k else held_by c (s.block n)) =
+      elim [ true ↦ cc (now true, seen_is true, pair, even) | false ↦ refl ] in
+      let wants_is : (z : Bool) → is_wanting ((block_if z).pair c).acquiring ≡ not z =
+      elim [ true ↦ ap (λ (p : ClientBlock). is_wanting p.acquiring) pair | false ↦ ap is_wanting due.wants ] in
+      let letting_is : (z : Bool) → ((block_if z).pair c).letting ≡ ((s.block n).pair c).letting =
+      elim [ true ↦ ap (λ (p : ClientBlock). p.letting) pair | false ↦ refl ] in
+      let release_source : (z : Bool) → (block_if z).release_source c ≡ (s.block n).release_source c =
+      elim [ true ↦ refl | false ↦ refl ] in
+      let tracker : (z : Bool) → (block_if z).tracker ≡ (s.block n).tracker = elim [ true ↦ refl | false ↦ refl ] in
+      let answered : (z : Bool) → is_answered ((block_if z).pair c).probing ≡ is_answered ((s.block n).pair c).probing =
+      elim [ true ↦ ap (λ (p : ClientBlock). is_answered p.probing) pair | false ↦ refl ] in
       let m : MessageD w = grant_message due.data_too due.k ((s.block n).source c) (s.block n).tracker (s.block n).truth
       in
       let here : IsNext x (unfinished_at sys c Channel.D) (Message.D m) ms queue =
@@ -287,75 +314,7 @@ module _ {w : ℕ} (config : Config) (log : Log w) (h : AbstractState w) (sys : 
       pair : new.pair c ≡ after_grant due.k ((s.block n).pair c)
       pair = set-same c (after_grant due.k ((s.block n).pair c)) (s.block n).pair
 
-      seen : view (s.block n).service c ≡ Granting due.data_too due.k
-      seen = own_view c due.data_too due.k (s.block n).service due.service
-
-      even : ((s.block n).pair c).recorded ≡ cap_right due.k
-      even = sym (same_perms ((s.block n).pair c).recorded (cap_right due.k)
-          (and_right (is_unreleased ((s.block n).pair c).letting) _
-          (and_right (is_unprobed ((s.block n).pair c).probing) _
-          (granting_alone due.data_too due.k ((s.block n).pair c) (view (s.block n).service c)
-          ((is.invariant.blocks n).phases c) seen))))
-
-      asks : (j : ℕ) → asks_for j (before ((s.block n).source c)) ≡ (n == j)
-      asks j = ap (asks_for j) (asks-acquire c ((s.block n).source c) n ((s.block n).source c) due.whole due.g h.mail s
-          due.used due.wants refl) ∙ ap (λ (i : ℕ). i == j) (same_block n)
-
-      asks_now : (z : Bool) (j : ℕ)
-          → (not z && (true && asks_for j (asked_by h.mail (s_if z) c ((s.block n).source c)))) ≡ (not z && (n == j))
-      asks_now true j = refl
-      asks_now false j = asks j
-
-      -- the block afterwards
-      block_if : Bool → Block (List ℕ)
-      block_if true = new
-      block_if false = s.block n
-
-      now : (z : Bool) → (s_if z).block n ≡ block_if z
-      now true = set-same n new s.block
-      now false = refl
-
-      elsewhere : (z : Bool) (k : ℕ) → (k ≡ n → ⊥) → (s_if z).block k ≡ s.block k
-      elsewhere true k ne = set-other n k new s.block ne
-      elsewhere false k ne = refl
-
       uses : (z : Bool) (i : ℕ)
           → (s_if z).uses c i ≡ (if z && ((s.block n).source c == i) then SourceFree else s.uses c i)
       uses true i = set_at-if c ((s.block n).source c) i SourceFree s.uses ((s.block n).source c) refl
       uses false i = refl
-
-      lets : (z : Bool) (i : ℕ) → (s_if z).lets c i ≡ s.lets c i
-      lets true i = refl
-      lets false i = refl
-
-      tracked : (z : Bool) (i : ℕ) → (s_if z).tracked i ≡ s.tracked i
-      tracked true i = refl
-      tracked false i = refl
-
-      seen_is : (z : Bool) → view (block_if z).service c ≡ seen_after z due.data_too due.k
-      seen_is true = rw (same_number c) refl
-      seen_is false = seen
-
-      held_is : (z : Bool) → held_by c ((s_if z).block n) ≡ (if z then cap_right due.k else held_by c (s.block n))
-      held_is true = cc (now true, seen_is true, pair, even)
-      held_is false = refl
-
-      wants_is : (z : Bool) → is_wanting ((block_if z).pair c).acquiring ≡ not z
-      wants_is true = ap (λ (p : ClientBlock). is_wanting p.acquiring) pair
-      wants_is false = ap is_wanting due.wants
-
-      letting_is : (z : Bool) → ((block_if z).pair c).letting ≡ ((s.block n).pair c).letting
-      letting_is true = ap (λ (p : ClientBlock). p.letting) pair
-      letting_is false = refl
-
-      release_source : (z : Bool) → (block_if z).release_source c ≡ (s.block n).release_source c
-      release_source true = refl
-      release_source false = refl
-
-      tracker : (z : Bool) → (block_if z).tracker ≡ (s.block n).tracker
-      tracker true = refl
-      tracker false = refl
-
-      answered : (z : Bool) → is_answered ((block_if z).pair c).probing ≡ is_answered ((s.block n).pair c).probing
-      answered true = ap (λ (p : ClientBlock). is_answered p.probing) pair
-      answered false = refl

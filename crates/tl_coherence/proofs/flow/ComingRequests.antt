@@ -57,16 +57,15 @@ comes_not : {w : ℕ} (c source : ℕ) (s : State (List ℕ)) (m : Message w) (k
     → rest ≡ begun m k → IsWaiting c s m
     → waits_on_a c (s.uses c source) s ≡ false → comes_in_request source rest ≡ false
 unfolding IsWaiting
-comes_not {w} c source s m k rest e is none = cc (e, is.1, go k)
+comes_not {w} c source s m k rest e is none =
+    let go : (i : ℕ) → comes_in_request source (begun (Message.A is.0) i) ≡ false =
+    elim [ zero ↦ refl | suc i ↦ differ (is.0.source == source) refl ] in
+    cc (e, is.1, go k)
   where
     differ : (b : Bool) → (is.0.source == source) ≡ b → b ≡ false
     differ false f = refl
     differ true f = absurd (let no : true ≡ false = sym is.2 ∙ ap (λ (j : ℕ). waits_on_a c (s.uses c j) s)
         (eqb-true is.0.source source f) ∙ none in cc)
-
-    go : (i : ℕ) → comes_in_request source (begun (Message.A is.0) i) ≡ false
-    go zero = refl
-    go (suc i) = differ (is.0.source == source) refl
 
 -- no request is half taken whose source waits for an answer
 pub not-coming_a : {w : ℕ} {config : Config} {log : Log w} {mail : AccessMessages w} {request : ℕ → MessageA w}

@@ -25,11 +25,10 @@ of_source i y t false o e f g before = rw e (before refl)
 pub of_other : {w : ℕ} (i : ℕ) (y : BeatA w) (t : History w) → (y.source == i) ≡ false
     → request_of i (Beat.A y ∷ t) ≡ request_of i t
 unfolding request_of
-of_other {w} i y t e = go (begins (Beat.A y) t) (y.source == i) e
-  where
-    go : (p q : Bool) → q ≡ false → (if p && q then Some y else request_of i t) ≡ request_of i t
-    go true q f = rw f refl
-    go false q f = refl
+of_other {w} i y t e =
+    let go : (p q : Bool) → q ≡ false → (if p && q then Some y else request_of i t) ≡ request_of i t =
+    elim [ true ↦ λ q f. rw f refl | false ↦ λ q f. refl ] in
+    go (begins (Beat.A y) t) (y.source == i) e
 
 unsaid : (last : Bool) (p : Perm) → (if last then p else p) ≡ p
 unsaid true p = refl
@@ -62,6 +61,8 @@ pub flowed-access : {w : ℕ} {X : Type 0} {c : ℕ} {y : BeatA w} {first last :
     → ends (Beat.A y) t ≡ last → AreRests (Beat.A y) rest rest' → IsAccess c y first last asked rest rest' s s'
     → MonitorRelation asked rest c s t → MonitorRelation asked rest' c s' (Beat.A y ∷ t)
 flowed-access {w} {X} {c} {y} {first} {last} {asked} {rest} {rest'} {s} {s'} {t} first_is last_is rests is before =
+    let sinks : (i : ℕ) (o : Option ℕ) → is_sunk c i (rest Channel.D) o s' ≡ is_sunk c i (rest Channel.D) o s =
+    λ i. elim [ None ↦ refl | Some m ↦ cc (is.blocks m) ] in
     let grants : (m : ℕ) → granted_by c m asked (rest' Channel.D) (s'.block m) ≡ granted_by c m asked (rest Channel.D)
     (s.block m) = λ m. cc (rests Channel.D, is.blocks m) in
     flowed-next (record {
@@ -140,7 +141,3 @@ flowed-access {w} {X} {c} {y} {first} {last} {asked} {rest} {rest'} {s} {s'} {t}
       let_by-same c i (rest Channel.C) (s.lets c i) s s'
           (λ m. ap (λ (z : Block X). (z.pair c).letting) (is.blocks m)),
     )
-
-    sinks : (i : ℕ) (o : Option ℕ) → is_sunk c i (rest Channel.D) o s' ≡ is_sunk c i (rest Channel.D) o s
-    sinks i None = refl
-    sinks i (Some m) = cc (is.blocks m)

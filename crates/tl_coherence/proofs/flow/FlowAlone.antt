@@ -111,11 +111,10 @@ flowed-grant_ack {w} {X} {c} n toks y {asked} asked' {rest} rest' {s} {t} first 
     )
       where
         no_cap : (q : Service) → view q c ≡ Acknowledging → cap_waited Free ≡ cap_waited q
-        no_cap (Waits q own source k) f = absurd (waits (own && (c == q)) k f)
-          where
-            waits : (z : Bool) (j : Cap) → (if z then Own else Other j) ≡ Acknowledging → ⊥
-            waits true j g = absurd cc
-            waits false j g = absurd cc
+        no_cap (Waits q own source k) f =
+            let waits : (z : Bool) (j : Cap) → (if z then Own else Other j) ≡ Acknowledging → ⊥ =
+            elim [ true ↦ λ j g. absurd cc | false ↦ λ j g. absurd cc ] in
+            absurd (waits (own && (c == q)) k f)
         no_cap q f = refl
 
     of_block : (m : ℕ) → granted_by c m asked (rest Channel.D) (s.block m) ≡ true → is_busy (s.block m).service ≡ true
@@ -130,13 +129,11 @@ flowed-grant_ack {w} {X} {c} n toks y {asked} asked' {rest} rest' {s} {t} first 
 
     -- blocks in service have trackers of their own
     apart : (m : ℕ) → is_busy (s.block m).service ≡ true → (m ≡ n → ⊥) → (s.block m).tracker ≡ b.tracker → ⊥
-    apart m also ne same = ne
-        (is_same (s.tracked b.tracker) (named.trackers b.tracker n ∙ rw (busy, same_number b.tracker) refl)
+    apart m also ne same =
+        let is_same : (o : Option ℕ) → is_of n o ≡ true → is_of m o ≡ true → m ≡ n =
+        elim [ None ↦ λ f g. absurd cc | Some i ↦ λ f g. eqb-true m i g ∙ sym (eqb-true n i f) ] in
+        ne (is_same (s.tracked b.tracker) (named.trackers b.tracker n ∙ rw (busy, same_number b.tracker) refl)
         (named.trackers b.tracker m ∙ rw (also, same, same_number b.tracker) refl))
-      where
-        is_same : (o : Option ℕ) → is_of n o ≡ true → is_of m o ≡ true → m ≡ n
-        is_same None f g = absurd cc
-        is_same (Some i) f g = eqb-true m i g ∙ sym (eqb-true n i f)
 
     none_comes : comes_granting n asked (rest Channel.D) ≡ false
     none_comes = no_coming (is_granting (view b.service c)) (comes_granting n asked (rest Channel.D))

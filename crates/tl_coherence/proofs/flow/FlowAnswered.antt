@@ -25,11 +25,10 @@ probed-of n y t = refl
 sunk-of : {w : ℕ} (n : ℕ) (y : BeatD w) (t : History w) → is_grant y.opcode ≡ false
     → grant_sink n (Beat.D y ∷ t) ≡ grant_sink n t
 unfolding grant_sink
-sunk-of {w} n y t e = go (begins (Beat.D y) t) (is_grant y.opcode) (asks_for n (request_of y.source t)) e
-  where
-    go : (p q r : Bool) → q ≡ false → (if p && (q && r) then Some y.sink else grant_sink n t) ≡ grant_sink n t
-    go true q r f = rw f refl
-    go false q r f = refl
+sunk-of {w} n y t e =
+    let go : (p q r : Bool) → q ≡ false → (if p && (q && r) then Some y.sink else grant_sink n t) ≡ grant_sink n t =
+    elim [ true ↦ λ q r f. rw f refl | false ↦ λ q r f. refl ] in
+    go (begins (Beat.D y) t) (is_grant y.opcode) (asks_for n (request_of y.source t)) e
 
 -- ---- what a beat opens and closes
 
@@ -70,6 +69,8 @@ pub flowed-answer : {w : ℕ} {X : Type 0} {c : ℕ} {y : BeatD w} (first : Bool
     → MonitorRelation asked rest c s t → MonitorRelation asked' rest' c s' (Beat.D y ∷ t)
 flowed-answer {w} {X} {c} {y} first {last} {asked} {asked'} {rest} {rest'} {s} {s'} {t} first_is last_is rests is
     before =
+    let sinks : (i : ℕ) (o : Option ℕ) → is_sunk c i (rest' Channel.D) o s' ≡ is_sunk c i (rest Channel.D) o s =
+    λ i. elim [ None ↦ refl | Some m ↦ cc (is.comes i, is.blocks m) ] in
     flowed-next (record {
       first_is = first_is;
       last_is = last_is;
@@ -153,10 +154,6 @@ flowed-answer {w} {X} {c} {y} first {last} {asked} {asked'} {rest} {rest'} {s} {
       let_by-same c i (rest Channel.C) (s.lets c i) s s'
           (λ m. ap (λ (z : Block X). (z.pair c).letting) (is.blocks m)),
     )
-
-    sinks : (i : ℕ) (o : Option ℕ) → is_sunk c i (rest' Channel.D) o s' ≡ is_sunk c i (rest Channel.D) o s
-    sinks i None = refl
-    sinks i (Some m) = cc (is.comes i, is.blocks m)
 
     grants : (m : ℕ) → granted_by c m asked' (rest' Channel.D) (s'.block m) ≡ granted_by c m asked (rest Channel.D)
         (s.block m)

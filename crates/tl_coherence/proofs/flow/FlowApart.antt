@@ -309,17 +309,15 @@ module _ {w : ℕ} {X : Type 0} (d : ℕ) (asked asked' : ℕ → Option (BeatA 
         new = granted_block c q r x k (s.block n)
 
         unsunk_now : (i : ℕ) → s.tracked i ≡ Some n → sunk_in d i (rest Channel.D) new ≡ false
-        unsunk_now i e = elim (cases_eq d q) [
-          | inl here ↦ ap (λ (z : Bool). is_acknowledging (view new.service d)
-              || (is_granting (view new.service d) && z)) (none i e) ∙ granted (d == q)
-          | inr other ↦ outside-unsunk (view new.service d) (comes_in_grant i (rest Channel.D))
-              (outside-sent d q x k other)
-        ]
-          where
-            granted : (z : Bool) → (is_acknowledging (if z then Granting x k else GrantedOther)
-                || (is_granting (if z then Granting x k else GrantedOther) && false)) ≡ false
-            granted true = refl
-            granted false = refl
+        unsunk_now i e =
+            let granted : (z : Bool) → (is_acknowledging (if z then Granting x k else GrantedOther) || (is_granting (if
+            z then Granting x k else GrantedOther) && false)) ≡ false = elim [ true ↦ refl | false ↦ refl ] in
+            elim (cases_eq d q) [
+              | inl here ↦ ap (λ (z : Bool). is_acknowledging (view new.service d)
+                  || (is_granting (view new.service d) && z)) (none i e) ∙ granted (d == q)
+              | inr other ↦ outside-unsunk (view new.service d) (comes_in_grant i (rest Channel.D))
+                  (outside-sent d q x k other)
+            ]
 
         unsunk_then : (i : ℕ) → sunk_in d i (rest Channel.D) (between.block n) ≡ false
         unsunk_then i = cc (seen (Waits q true source j) waits, waiting (d == q))

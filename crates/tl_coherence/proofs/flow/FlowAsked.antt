@@ -70,6 +70,8 @@ pub untouched-acquire_asked : {w : ℕ} {X : Type 0} (c n source : ℕ) (whole :
     → ((m : ℕ) → comes_granting m asked' (rest Channel.D) ≡ comes_granting m asked (rest Channel.D))
     → IsUntouched asked asked' rest c s (acquire_asked c n source whole g bytes s)
 untouched-acquire_asked {w} {X} c n source whole g bytes asked asked' rest s closed calm unserved asks grants =
+    let served : (p q : Bool) → q ≡ true → (p && not q) ≡ false = elim [ true ↦ λ q e. rw e refl | false ↦ λ q e. refl ]
+    in
     let s' : State X = acquire_asked c n source whole g bytes s in
     let letting_same : (new.pair c).letting ≡ (b.pair c).letting = ap (λ (p : ClientBlock). p.letting) pair in
     let unserved_same = set-part (λ (z : Block X). is_unserved (view z.service c)) n new s.block refl in
@@ -106,10 +108,6 @@ untouched-acquire_asked {w} {X} c n source whole g bytes asked asked' rest s clo
 
     pair : new.pair c ≡ after_acquire whole g (b.pair c)
     pair = set-same c (after_acquire whole g (b.pair c)) b.pair
-
-    served : (p q : Bool) → q ≡ true → (p && not q) ≡ false
-    served true q e = rw e refl
-    served false q e = refl
 
 -- ---- a Release
 

@@ -14,28 +14,22 @@ use Rattle.tl_coherence.proofs.{queues.Tokens.set_at-same, client.ProbeDelivered
 pub came-so : {w : ℕ} (f : List (Beat w) → Bool) {m : Message w} {x : Beat w} {rest : List (Beat w)}
     {ms : List (Message w)} {queue : List (Beat w)} (v : Bool) → IsNext x rest m ms queue → f [] ≡ false
     → ((j : ℕ) → f (begun m (suc j)) ≡ v) → f rest ≡ (not (is_empty rest) && v)
-came-so {w} f {m} v next none some = rw next.rest_is (go next.k)
-  where
-    go : (k : ℕ) → f (begun m k) ≡ (not (is_empty (begun m k)) && v)
-    go zero = none
-    go (suc j) = some j
+came-so {w} f {m} v next none some =
+    let go : (k : ℕ) → f (begun m k) ≡ (not (is_empty (begun m k)) && v) = elim [ zero ↦ none | suc j ↦ some j ] in
+    rw next.rest_is (go next.k)
 
 pub comes-so : {w : ℕ} (f : List (Beat w) → Bool) (x : Beat w) (rest : List (Beat w)) (v : Bool) → f [] ≡ false
     → f (x ∷ rest) ≡ v → f (grown x rest) ≡ (not (completes x rest) && v)
-comes-so {w} f x rest v none here = go (completes x rest)
-  where
-    go : (b : Bool) → f (if b then [] else x ∷ rest) ≡ (not b && v)
-    go true = none
-    go false = here
+comes-so {w} f x rest v none here =
+    let go : (b : Bool) → f (if b then [] else x ∷ rest) ≡ (not b && v) = elim [ true ↦ none | false ↦ here ] in
+    go (completes x rest)
 
 -- the first beat is beat 0
 pub first-zero : {w : ℕ} {m : Message w} {x : Beat w} {rest : List (Beat w)} {ms : List (Message w)}
     {queue : List (Beat w)} → (next : IsNext x rest m ms queue) → is_empty rest ≡ true → next.k ≡ 0
-first-zero {w} {m} next e = go next.k (sym (ap is_empty next.rest_is) ∙ e)
-  where
-    go : (k : ℕ) → is_empty (begun m k) ≡ true → k ≡ 0
-    go zero f = refl
-    go (suc j) f = absurd cc
+first-zero {w} {m} next e =
+    let go : (k : ℕ) → is_empty (begun m k) ≡ true → k ≡ 0 = elim [ zero ↦ λ f. refl | suc j ↦ λ f. absurd cc ] in
+    go next.k (sym (ap is_empty next.rest_is) ∙ e)
 
 -- a message of one beat
 pub one-beat : {w : ℕ} {m : Message w} {x : Beat w} {rest : List (Beat w)} {ms : List (Message w)}

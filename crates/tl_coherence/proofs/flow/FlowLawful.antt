@@ -192,12 +192,10 @@ flows-b {w} {config} {log} {mail} {request} {s} {sys} c l x queue width is flowe
     unacknowledged : (n : ℕ) → is_sent ((s.block n).pair c).probing ≡ true → (v : View) → view (s.block n).service c ≡ v
         → is_acknowledging v ≡ false
     unacknowledged n shows Acknowledging f =
+        let not_both : (p : ProbePhase) → is_sent p ≡ true → is_unprobed p ≡ true → ⊥ =
+        elim [ ProbeSent k ↦ λ g i. cc | p ↦ λ g i. cc ] in
         let quiet = acknowledging_quiet ((s.block n).pair c) (view (s.block n).service c)
         ((is.invariant.blocks n).phases c) f in absurd (not_both ((s.block n).pair c).probing shows quiet)
-      where
-        not_both : (p : ProbePhase) → is_sent p ≡ true → is_unprobed p ≡ true → ⊥
-        not_both (ProbeSent k) g i = cc
-        not_both p g i = cc
     unacknowledged n shows Idle f = refl
     unacknowledged n shows Own f = refl
     unacknowledged n shows (Other k) f = refl

@@ -101,6 +101,8 @@ same-performed d f b = others-same d b (performed_block f b) refl refl (inl refl
 pub same-served : {X : Type 0} (d r source tracker : ℕ) (own : Bool) (k : Cap) (b : Block X) → (own && (d == r)) ≡ false
     → b.service ≡ Free → is_unprobed (b.pair d).probing ≡ true → IsSameBlock d b (served_block r own source tracker k b)
 same-served {X} d r source tracker own k b other free quiet =
+    let nor_now : (a : Bool) (p : ProbePhase) → is_unprobed p ≡ true → is_answered (if a then ProbeSent k else p)
+    ≡ false = elim [ true ↦ λ p e. refl | false ↦ λ p e. quiet_unanswered p e ] in
     let before : is_outside (view b.service d) ≡ true = ap (λ (q : Service). is_outside (view q d)) free in
     let sees : IsSameView (view b.service d) (view (Waits r own source k) d) =
     outside-same (view b.service d) (view (Waits r own source k) d) before (outside-waits d r source own k other) in
@@ -119,10 +121,6 @@ same-served {X} d r source tracker own k b other free quiet =
           (b.pair d).probing quiet) ∙ e in cc);
       tracker = inr (not_in (view b.service d) before);
     }
-  where
-    nor_now : (a : Bool) (p : ProbePhase) → is_unprobed p ≡ true → is_answered (if a then ProbeSent k else p) ≡ false
-    nor_now true p e = refl
-    nor_now false p e = quiet_unanswered p e
 
 pub same-granted_at_once : {X : Type 0} (d r tracker : ℕ) (x : Bool) (k : Cap) (b : Block X) → (d ≡ r → ⊥)
     → b.service ≡ Free → is_answered (b.pair d).probing ≡ false → IsSameBlock d b (granted_at_once r tracker x k b)

@@ -246,11 +246,10 @@ module _ {w : ℕ} (config : Config) (log : Log w) (h : AbstractState w) (sys : 
     -- ---- channel E
 
     goes-grant_ack : Goes Channel.E GrantAck
-    goes-grant_ack tokens next b last ready = go b last
+    goes-grant_ack tokens next b last ready =
+        let m : MessageE = record { sink = (s.block i).tracker } in
+        go b last
       where
-        m : MessageE
-        m = record { sink = (s.block i).tracker }
-
         one : completes x (unfinished_at sys c Channel.E) ≡ true
         one = (one-beat (subst (λ (z : Message w). IsNext x (unfinished_at sys c Channel.E) z ms queue)
             (ack_rendered c i (s.block i)) next) refl).2

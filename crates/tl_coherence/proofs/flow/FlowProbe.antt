@@ -44,6 +44,8 @@ pub flowed-probe : {w : ℕ} {X : Type 0} {c : ℕ} (n : ℕ) (k : Cap) (toks : 
     (Beat.B (probe_beat n k) ∷ t)
 flowed-probe {w} {X} {c} n k toks {asked} asked' {rest} rest' {s} {t} first last rests asks at seen waited comes
     before =
+    let sunk_same : (i : ℕ) (o : Option ℕ) → is_sunk c i (rest Channel.D) o s' ≡ is_sunk c i (rest Channel.D) o s =
+    λ i. elim [ None ↦ refl | Some m ↦ cc (set-part (λ (z : Block X). z.service) n new s.block refl m) ] in
     let part_true = ap (λ (p : ClientBlock). is_answered p.probing) (set-same c (after_probe k (b.pair c)) b.pair) in
     let requests : (i : ℕ) → is_requested c i (rest' Channel.A) (s'.uses c i) s' ≡ is_requested c i (rest Channel.A)
     (s.uses c i) s = λ i. cc (
@@ -115,10 +117,6 @@ flowed-probe {w} {X} {c} n k toks {asked} asked' {rest} rest' {s} {t} first last
       let_by-same c i (rest Channel.C) (s.lets c i) s s'
           (set-part (λ (z : Block X). (z.pair c).letting) n new s.block letting_same),
     )
-
-    sunk_same : (i : ℕ) (o : Option ℕ) → is_sunk c i (rest Channel.D) o s' ≡ is_sunk c i (rest Channel.D) o s
-    sunk_same i None = refl
-    sunk_same i (Some m) = cc (set-part (λ (z : Block X). z.service) n new s.block refl m)
 
     probed : (m : ℕ) → is_answered ((s'.block m).pair c).probing ≡ true
         → (if true && (block_at (64 * n) == m) then Some y else probe_of m t) ≡ Some

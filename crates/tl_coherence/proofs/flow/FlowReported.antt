@@ -46,6 +46,8 @@ pub flowed-report : {w : ℕ} {X : Type 0} {c : ℕ} (n : ℕ) (r : Report) (tok
 flowed-report {w} {X} {c} n r toks y first {asked} {rest} rest' {s} {t} first_is last_is rests ack other comes at says
     alone
     before =
+    let sunk_same : (i : ℕ) (o : Option ℕ) → is_sunk c i (rest Channel.D) o s' ≡ is_sunk c i (rest Channel.D) o s =
+    λ i. elim [ None ↦ refl | Some m ↦ cc (set-part (λ (z : Block X). z.service) n new s.block refl m) ] in
     let apart : (m : ℕ) → (m ≡ n → ⊥) → (block_at y.address == m) ≡ false =
     λ m ne. rw at (ne_eqb n m (λ e. ne (sym e))) in
     let requests : (i : ℕ) → is_requested c i (rest' Channel.A) (s'.uses c i) s' ≡ is_requested c i (rest Channel.A)
@@ -128,10 +130,6 @@ flowed-report {w} {X} {c} n r toks y first {asked} {rest} rest' {s} {t} first_is
     lets i = let_by_rest c i (rest Channel.C) (rest' Channel.C) (s.lets c i) s' (comes i)
         ∙ let_by-same c i (rest Channel.C) (s.lets c i) s s' (set-part (λ (z : Block X). (z.pair c).letting) n new
         s.block letting_same)
-
-    sunk_same : (i : ℕ) (o : Option ℕ) → is_sunk c i (rest Channel.D) o s' ≡ is_sunk c i (rest Channel.D) o s
-    sunk_same i None = refl
-    sunk_same i (Some m) = cc (set-part (λ (z : Block X). z.service) n new s.block refl m)
 
     probed : (m : ℕ) → is_answered ((s'.block m).pair c).probing ≡ true
         → probe_of m t ≡ Some (probe_beat m (cap_waited (s'.block m).service))

@@ -135,11 +135,10 @@ IsUnreleased {w} source m = (r : MessageC w) × (m ≡ Message.C r)
 unreleased : {w : ℕ} (source : ℕ) (m : Message w) (k : ℕ) (rest : List (Beat w)) → rest ≡ begun m k
     → IsUnreleased source m → comes_in_release source rest ≡ false
 unfolding IsUnreleased
-unreleased {w} source m k rest e is = cc (e, is.1, go k)
-  where
-    go : (i : ℕ) → comes_in_release source (begun (Message.C is.0) i) ≡ false
-    go zero = refl
-    go (suc i) = is.2
+unreleased {w} source m k rest e is =
+    let go : (i : ℕ) → comes_in_release source (begun (Message.C is.0) i) ≡ false =
+    elim [ zero ↦ refl | suc i ↦ is.2 ] in
+    cc (e, is.1, go k)
 
 unreleased_report : (w : ℕ) (source : ℕ) (p : Perm) (r : Report) (n : ℕ) (copy : List ℕ)
     → IsUnreleased {w = w} source (probe_ack OpB.ProbeBlock p r n copy)
@@ -231,6 +230,9 @@ flow-ack : {w : ℕ} {config : Config} {log : Log w} {mail : AccessMessages w} {
     → broken_in_order config.profile (beat_of (Message.D (ack_message ((s.block n).release_source c))) 0) (flow c log)
     ≡ None
 flow-ack {w} {config} {log} {mail} {request} {s} {sys} c n h flowed let_ acked whole =
+    let let_acked : (x : ReleasePhase) (source : ℕ) (rest : List (Beat w)) → is_acked x ≡ true
+    → is_release_pending source rest x ≡ true =
+    elim [ ReleaseAcked ↦ λ source rest e. refl | x ↦ λ source rest e. absurd cc ] in
     let source = (s.block n).release_source c in
     let rest = unfinished Channel.C (on_link c sys.manager.trace) in
     let live : pending (ReleaseSource source) (flow c log) ≡ true =
@@ -240,11 +242,6 @@ flow-ack {w} {config} {log} {mail} {request} {s} {sys} c n h flowed let_ acked w
     c n h let_ acked)
     refl live
     ((flowed c).sizes source n let_ live)
-  where
-    let_acked : (x : ReleasePhase) (source : ℕ) (rest : List (Beat w)) → is_acked x ≡ true
-        → is_release_pending source rest x ≡ true
-    let_acked ReleaseAcked source rest e = refl
-    let_acked x source rest e = absurd cc
 
 -- ---- all of channel D
 

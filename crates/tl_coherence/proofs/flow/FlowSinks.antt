@@ -26,11 +26,9 @@ IsElse {w} sink m = (x : MessageD w) × (m ≡ Message.D x) × ((is_grant x.opco
 comes_else : {w : ℕ} (sink : ℕ) (m : Message w) (k : ℕ) (rest : List (Beat w)) → rest ≡ begun m k → IsElse sink m
     → comes_in_grant sink rest ≡ false
 unfolding IsElse
-comes_else sink m k rest e is = ap (comes_in_grant sink) e ∙ ap (λ y. comes_in_grant sink (begun y k)) is.1 ∙ go k
-  where
-    go : (i : ℕ) → comes_in_grant sink (begun (Message.D is.0) i) ≡ false
-    go zero = refl
-    go (suc i) = is.2
+comes_else sink m k rest e is =
+    let go : (i : ℕ) → comes_in_grant sink (begun (Message.D is.0) i) ≡ false = elim [ zero ↦ refl | suc i ↦ is.2 ] in
+    ap (comes_in_grant sink) e ∙ ap (λ y. comes_in_grant sink (begun y k)) is.1 ∙ go k
 
 not_both : (c : ℕ) (d : Bool) (k : Cap) (q : Service) → q ≡ GrantSent c d k → q ≡ GrantTaken c → ⊥
 not_both c d k q e f = let g : GrantSent c d k ≡ GrantTaken c = sym e ∙ f in cc

@@ -25,6 +25,9 @@ moved-first : {w : ℕ} {config : Config} {log : Log w} (h : AbstractState w) (l
     → ((d : ℕ) → flow d ((Deliver link ch, o) ∷ log) ≡ (if link.0 == d then x ∷ flow d log else flow d log))
     → (queue : List (Beat w)) × ((system_after config log).channels link.0 (channel_of x) ≡ x ∷ queue)
 moved-first {w} {config} {log} h link ch o x width is o_is moves delivered =
+    let head : (b : Bool) → b ≡ true → (if b then x ∷ flow link.0 log else flow link.0 log)
+    ≡ (if b then at.0 ∷ flow link.0 log else flow link.0 log) → at.0 ≡ x =
+    elim [ true ↦ λ e f. first_of_two x at.0 (flow link.0 log) f | false ↦ λ e f. absurd cc ] in
     let moved = moved-on link ch h at.0 at.1 at.2 width is at.3.0 at.3.1 moving (is_to_client ch) refl in
     let both : (if link.0 == link.0 then x ∷ flow link.0 log else flow link.0 log)
     ≡ (if link.0 == link.0 then at.0 ∷ flow link.0 log else flow link.0 log) =
@@ -42,11 +45,6 @@ moved-first {w} {config} {log} h link ch o x width is o_is moves delivered =
         × (((system_after config log).channels link.0 ch ≡ z ∷ queue) × (terms_at config link.0 ≡ Some terms))
     at = first-moved config link ch (system_after config log) moving
 
-    head : (b : Bool) → b ≡ true → (if b then x ∷ flow link.0 log else flow link.0 log)
-        ≡ (if b then at.0 ∷ flow link.0 log else flow link.0 log) → at.0 ≡ x
-    head true e f = first_of_two x at.0 (flow link.0 log) f
-    head false e f = absurd cc
-
     on : channel_of at.0 ≡ ch
     on = (first-of config log h link.0 at.2 ch at.0 at.1 width is at.3.1 at.3.0).on
 
@@ -56,13 +54,10 @@ moved-beat : {w : ℕ} {config : Config} {log : Log w} (h : AbstractState w) (li
     → Outcome.Moved x ≡ (stepped config (Deliver link ch) (system_after config log)).outcome → (queue : List (Beat w))
     × ((system_after config log).channels link.0 (channel_of x) ≡ x ∷ queue)
 unfolding flow
-moved-beat {w} {config} {log} h link ch x width is o_is = moved-first h link ch (Outcome.Moved x) x width is o_is
-    refl (λ d. taken_there d (link.0 == d))
-  where
-    taken_there : (d : ℕ) (b : Bool)
-        → (if b then x ∷ [] else []) ++ flow d log ≡ (if b then x ∷ flow d log else flow d log)
-    taken_there d true = refl
-    taken_there d false = refl
+moved-beat {w} {config} {log} h link ch x width is o_is =
+    let taken_there : (d : ℕ) (b : Bool) → (if b then x ∷ [] else []) ++ flow d log
+    ≡ (if b then x ∷ flow d log else flow d log) = λ d. elim [ true ↦ refl | false ↦ refl ] in
+    moved-first h link ch (Outcome.Moved x) x width is o_is refl (λ d. taken_there d (link.0 == d))
 
 done-beat : {w : ℕ} {config : Config} {log : Log w} (h : AbstractState w) (link : Link) (ch : Channel) (x : Beat w)
     (source : ℕ) (f : Finish) → IsWidth w
@@ -70,13 +65,10 @@ done-beat : {w : ℕ} {config : Config} {log : Log w} (h : AbstractState w) (lin
     → Outcome.Done x source f ≡ (stepped config (Deliver link ch) (system_after config log)).outcome
     → (queue : List (Beat w)) × ((system_after config log).channels link.0 (channel_of x) ≡ x ∷ queue)
 unfolding flow
-done-beat {w} {config} {log} h link ch x source f width is o_is = moved-first h link ch (Outcome.Done x source f)
-    x width is o_is refl (λ d. taken_there d (link.0 == d))
-  where
-    taken_there : (d : ℕ) (b : Bool)
-        → (if b then x ∷ [] else []) ++ flow d log ≡ (if b then x ∷ flow d log else flow d log)
-    taken_there d true = refl
-    taken_there d false = refl
+done-beat {w} {config} {log} h link ch x source f width is o_is =
+    let taken_there : (d : ℕ) (b : Bool) → (if b then x ∷ [] else []) ++ flow d log
+    ≡ (if b then x ∷ flow d log else flow d log) = λ d. elim [ true ↦ refl | false ↦ refl ] in
+    moved-first h link ch (Outcome.Done x source f) x width is o_is refl (λ d. taken_there d (link.0 == d))
 
 -- ---- all that is taken
 

@@ -22,11 +22,10 @@ use Rattle.tl_coherence.proofs.{simulation.BeatsInFlight.level-terms}
 on-link : {w : ℕ} (n : ℕ) (link : Link) (x : Beat w) (t : Trace w)
     → on_link n ((link, x) ∷ t) ≡ (if link.0 == n then x ∷ [] else []) ++ on_link n t
 unfolding on_link
-on-link {w} n link x t = go (link.0 == n)
-  where
-    go : (b : Bool) → (if b then x ∷ on_link n t else on_link n t) ≡ (if b then x ∷ [] else []) ++ on_link n t
-    go true = refl
-    go false = refl
+on-link {w} n link x t =
+    let go : (b : Bool) → (if b then x ∷ on_link n t else on_link n t) ≡ (if b then x ∷ [] else []) ++ on_link n t =
+    elim [ true ↦ refl | false ↦ refl ] in
+    go (link.0 == n)
 
 taken-flows : {w : ℕ} (n : ℕ) (event : Event w) (o : Outcome w) (t : Trace w)
     → on_link n (taken_at event o ++ t) ≡ taken_on n event o ++ on_link n t
@@ -41,11 +40,10 @@ trace-flows n (x ∷ log) = cc (taken-flows n x.0 x.1 (trace_of log), trace-flow
 
 -- what was taken on a link is first in its flow
 pub taken : {w : ℕ} (link : Link) (x : Beat w) (t : History w) → (if link.0 == link.0 then x ∷ [] else []) ++ t ≡ x ∷ t
-taken {w} link x t = go (link.0 == link.0) refl
-  where
-    go : (b : Bool) → (link.0 == link.0) ≡ b → (if b then x ∷ [] else []) ++ t ≡ x ∷ t
-    go true e = refl
-    go false e = absurd (eqb-false link.0 link.0 e refl)
+taken {w} link x t =
+    let go : (b : Bool) → (link.0 == link.0) ≡ b → (if b then x ∷ [] else []) ++ t ≡ x ∷ t =
+    elim [ true ↦ λ e. refl | false ↦ λ e. absurd (eqb-false link.0 link.0 e refl) ] in
+    go (link.0 == link.0) refl
 
 -- ---- a beat that is delivered breaks no rule after the earlier ones
 

@@ -47,15 +47,11 @@ ungranted_holds c b e = rw e refl
 -- what is held by what was delivered is at most what is recorded
 pub held_by_most : {X : Type 0} (c : ℕ) (b : Block X) (v : View) → perm_le (b.pair c).held (b.pair c).recorded ≡ true
     → perm_le (if is_granting v then (b.pair c).held else (b.pair c).recorded) (b.pair c).recorded ≡ true
-held_by_most c b v e = go (is_granting v) (b.pair c).recorded e
-  where
-    same : (p : Perm) → perm_le p p ≡ true
-    same Perm.None = refl
-    same p = refl
-
-    go : (x : Bool) (p : Perm) → perm_le (b.pair c).held p ≡ true → perm_le (if x then (b.pair c).held else p) p ≡ true
-    go true p f = f
-    go false p f = same p
+held_by_most c b v e =
+    let same : (p : Perm) → perm_le p p ≡ true = elim [ Perm.None ↦ refl | p ↦ refl ] in
+    let go : (x : Bool) (p : Perm) → perm_le (b.pair c).held p ≡ true → perm_le (if x then (b.pair c).held else p) p
+    ≡ true = elim [ true ↦ λ p f. f | false ↦ λ p f. same p ] in
+    go (is_granting v) (b.pair c).recorded e
 
 trunk_below : (p q : Perm) → perm_le p q ≡ true → p ≡ Perm.Trunk → same_perm q Perm.Trunk ≡ true
 trunk_below p Perm.Trunk e f = refl

@@ -200,19 +200,15 @@ renewed-acquire : {w : ℕ} (clients : ℕ) (p : Profile) (c n tracker : ℕ) (x
 renewed-acquire clients p c n tracker NoAcquire rest h =
     renewed-same h (acquire_taken clients p c n NoAcquire tracker rest h) (λ d j. refl) (λ d j. (refl, refl))
 renewed-acquire {w} clients p c n tracker (AcquireOpen whole g) rest h =
+    let b : Block (List ℕ) = h.state.block n in
+    let go : (x : Bool) (d j : ℕ)
+    → (if x then acquire_served c n (b.source c) tracker (cap_asked (AcquireOpen whole g)) rest h.state else
+    acquire_granted c n tracker (is_granted_data whole g (b.pair c).recorded)
+    (gift p whole g (is_unheld clients b.pair)) rest h.state).uses d j ≡ h.state.uses d j =
+    elim [ true ↦ λ d j. refl | false ↦ λ d j. refl ] in
     renewed-same h (acquire_taken clients p c n (AcquireOpen whole g) tracker rest h)
     (λ d j. go (some_below clients (λ i. is_probed c true (cap_asked (AcquireOpen whole g)) (b.pair i).recorded i)) d j)
     (λ d j. (refl, refl))
-  where
-    b : Block (List ℕ)
-    b = h.state.block n
-
-    go : (x : Bool) (d j : ℕ)
-        → (if x then acquire_served c n (b.source c) tracker (cap_asked (AcquireOpen whole g)) rest h.state else
-        acquire_granted c n tracker (is_granted_data whole g (b.pair c).recorded)
-        (gift p whole g (is_unheld clients b.pair)) rest h.state).uses d j ≡ h.state.uses d j
-    go true d j = refl
-    go false d j = refl
 
 renewed-granted : {w : ℕ} (clients : ℕ) (p : Profile) (c q n : ℕ) (r : Report) (x : AcquirePhase) (rest : List Packet)
     (h : AbstractState w) → AreRenewed h (granted_after clients p c q n r x rest h)

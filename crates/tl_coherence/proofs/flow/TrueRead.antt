@@ -130,8 +130,10 @@ true-next : {w : ℕ} (config : Config) (log : Log w) → IsGiven config log →
     → (system_after config log).channels c Channel.D ≡ Beat.D y ∷ queue
     → (x : BeatA w) → y.opcode ≡ OpD.AccessAckData → request_of y.source (flow c log) ≡ Some x
     → WasFound config c y.source x y.lanes (length (unfinished Channel.D (flow c log))) log
-true-next {w} config log given c y queue beats x with_data asks = next-on_d config log h c y queue given.width is values
-    beats Found (λ i due e. answer i due.request due.answer e (ap (λ (z : BeatD w). z.source) e ∙ due.from) due.used
+true-next {w} config log given c y queue beats x with_data asks =
+    let no_grant : (b : Bool) → grant_opcode b ≡ OpD.AccessAckData → ⊥ = elim [ true ↦ λ e. cc | false ↦ λ e. cc ] in
+    next-on_d config log h c y queue given.width is values beats Found
+    (λ i due e. answer i due.request due.answer e (ap (λ (z : BeatD w). z.source) e ∙ due.from) due.used
     due.request_is due.answer_is) (λ i grant. no_answer (ap (λ (z : BeatD w). z.opcode) grant.beat_is)
     (no_grant grant.due.data_too)) (λ i j e. no_answer (ap (λ (z : BeatD w). z.opcode) e) (λ f. cc))
   where
@@ -152,10 +154,6 @@ true-next {w} config log given c y queue beats x with_data asks = next-on_d conf
 
     no_answer : {o : OpD} → y.opcode ≡ o → (o ≡ OpD.AccessAckData → ⊥) → Found
     no_answer e refuse = absurd (refuse (sym e ∙ with_data))
-
-    no_grant : (b : Bool) → grant_opcode b ≡ OpD.AccessAckData → ⊥
-    no_grant true e = cc
-    no_grant false e = cc
 
     answer : (i : ℕ) (m : MessageA w) (z : MessageD w) → y ≡ d_beat_of z k → y.source ≡ i
         → h.state.uses c i ≡ Replied → h.mail.request c i ≡ Message.A m → h.mail.answer c i ≡ Message.D z → Found

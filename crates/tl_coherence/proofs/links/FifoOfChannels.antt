@@ -125,11 +125,10 @@ pub flow_moved : {w : ℕ} (link : Link) (ch : Channel) (o : Outcome w) (x : Bea
     → taken_on d (Deliver link ch) o ≡ (if link.0 == d then x ∷ [] else [])
     → flow d ((Deliver link ch, o) ∷ log) ≡ heard_at link.0 x (λ i. flow i log) d
 unfolding flow
-flow_moved {w} link ch o x log d is = ap (λ xs. xs ++ flow d log) is ∙ go (link.0 == d)
-  where
-    go : (b : Bool) → (if b then x ∷ [] else []) ++ flow d log ≡ (if b then x ∷ flow d log else flow d log)
-    go true = refl
-    go false = refl
+flow_moved {w} link ch o x log d is =
+    let go : (b : Bool) → (if b then x ∷ [] else []) ++ flow d log ≡ (if b then x ∷ flow d log else flow d log) =
+    elim [ true ↦ refl | false ↦ refl ] in
+    ap (λ xs. xs ++ flow d log) is ∙ go (link.0 == d)
 
 -- the beat that a client takes
 pub taken_at : {w : ℕ} (link : Link) (ch : Channel) (x : Beat w) (v : Verdict) (d : ℕ)
@@ -193,7 +192,9 @@ moved-passing : {w : ℕ} (config : Config) (log : Log w) (link : Link) (ch : Ch
     → IsPassing (stepped config (Deliver link ch) (system_after config log)).after
     (λ d. flow d ((Deliver link ch, (stepped config (Deliver link ch) (system_after config log)).outcome) ∷ log))
 unfolding on_link
-moved-passing {w} config log link ch terms x queue width typed logged known beats moving is = go (is_to_client ch) refl
+moved-passing {w} config log link ch terms x queue width typed logged known beats moving is =
+    let f : ℕ → History w = λ d. flow d log in
+    go (is_to_client ch) refl
   where
     sys : System w
     sys = system_after config log
@@ -215,9 +216,6 @@ moved-passing {w} config log link ch terms x queue width typed logged known beat
             (sys.channels c ch) → All (λ y. manager.IsSound config (record { 0 = c }, y)) (x ∷ queue)
         same e i = rw e at i
 
-    f : ℕ → History w
-    f d = flow d log
-
     -- what is delivered then
     f' : ℕ → History w
     f' d = flow d ((Deliver link ch, (stepped config (Deliver link ch) sys).outcome) ∷ log)
@@ -235,23 +233,20 @@ moved-passing {w} config log link ch terms x queue width typed logged known beat
                 → is_moving (outcome_of x v) ≡ true
                 → IsPassing (with_messages (handed_by c m) (with_client c (offer.taken x (sys.clients c)).after
                 (with_channel c ch queue sys))) (λ d. flow d ((Deliver link ch, outcome_of x v) ∷ log))
-            took v m answer moves = passing-same _ _ _ _ (λ d. refl) (λ d. refl) (λ d at. refl)
-                (λ d. flow_moved link ch (outcome_of x v) x log d (taken_at link ch x v d moves))
-                (says-passing c m (offer.taken x (sys.clients c)).after (sys.clients c).past
-                (with_channel c ch queue sys) (ours v m answer)
-                (ap (λ (o : offer.Offered w). o.after.past) (sym t.takes) ∙ past-offered terms ch x (sys.clients c)
-                ∙ ap (sent_if_any (client_after.handed (offer.offered terms ch x (sys.clients c)).answer)) t.heard
-                ∙ ap (λ a. sent_if_any (client_after.handed a) (x ∷ (sys.clients c).past))
-                (ap (λ (o : offer.Offered w). o.answer) t.takes ∙ answer) ∙ handed_is v m moves
-                ∙ rw (same_number c) refl) (λ d other. rw (ne_eqb c d (λ i. other (sym i))) refl)
-                (client-hears c ch x queue up on_ch beats is))
+            took v m answer moves =
+                let handed_is : (v : Verdict) (m : Option (Message w)) → is_moving (outcome_of x v) ≡ true
+                → sent_if_any (client_after.handed (Ok (v, m))) (x ∷ (sys.clients c).past)
+                ≡ sent_if_any m (x ∷ (sys.clients c).past) =
+                elim [ Verdict.Stalled ↦ λ m e. absurd cc | v ↦ λ m e. refl ] in
+                passing-same _ _ _ _ (λ d. refl) (λ d. refl) (λ d at. refl) (λ d. flow_moved link ch (outcome_of x v) x
+                log d (taken_at link ch x v d moves)) (says-passing c m (offer.taken x (sys.clients c)).after
+                (sys.clients c).past (with_channel c ch queue sys) (ours v m answer) (ap (λ (o : offer.Offered w).
+                o.after.past) (sym t.takes) ∙ past-offered terms ch x (sys.clients c) ∙ ap (sent_if_any
+                (client_after.handed (offer.offered terms ch x (sys.clients c)).answer)) t.heard ∙ ap (λ a.
+                sent_if_any (client_after.handed a) (x ∷ (sys.clients c).past)) (ap (λ (o : offer.Offered w).
+                o.answer) t.takes ∙ answer) ∙ handed_is v m moves ∙ rw (same_number c) refl) (λ d other. rw (ne_eqb
+                c d (λ i. other (sym i))) refl) (client-hears c ch x queue up on_ch beats is))
               where
-                handed_is : (v : Verdict) (m : Option (Message w)) → is_moving (outcome_of x v) ≡ true
-                    → sent_if_any (client_after.handed (Ok (v, m))) (x ∷ (sys.clients c).past) ≡ sent_if_any m
-                    (x ∷ (sys.clients c).past)
-                handed_is Verdict.Stalled m e = absurd cc
-                handed_is v m e = refl
-
                 ours : (v : Verdict) (m : Option (Message w)) → (offer.taken x (sys.clients c)).answer ≡ Ok (v, m)
                     → IsOurs m
                 ours v None e = tt

@@ -44,11 +44,10 @@ pop_order false x rest sent queue taken first is = is
 carried-begun : {w : ℕ} (m : Message w) (k : ℕ) (at : Channel) (t : History w) → carried_on at (begun m k ++ t)
     ≡ (if same_channel at (channel_of_message m) then begun m k ++ carried_on at t else carried_on at t)
 unfolding carried_on
-carried-begun {w} m zero at t = go (same_channel at (channel_of_message m))
-  where
-    go : (b : Bool) → carried_on at t ≡ (if b then carried_on at t else carried_on at t)
-    go true = refl
-    go false = refl
+carried-begun {w} m zero at t =
+    let go : (b : Bool) → carried_on at t ≡ (if b then carried_on at t else carried_on at t) =
+    elim [ true ↦ refl | false ↦ refl ] in
+    go (same_channel at (channel_of_message m))
 carried-begun {w} m (suc k) at t = go (on at (beat_of m k)) (same_channel at (channel_of_message m)) (on_message m k at)
     (carried-begun m k at t)
   where
@@ -69,16 +68,12 @@ apart : (at ch : Channel) (b : Bool) → is_to_client at ≡ b → is_to_client 
 apart at ch b e f = go (same_channel at ch) refl
   where
     differ : (x y : Bool) → x ≡ y → x ≡ b → y ≡ not b → ⊥
-    differ true true e f g = absurd (differs b f g)
-      where
-        differs : (b : Bool) → true ≡ b → true ≡ not b → ⊥
-        differs true f g = cc
-        differs false f g = cc
-    differ false false e f g = absurd (differs b f g)
-      where
-        differs : (b : Bool) → false ≡ b → false ≡ not b → ⊥
-        differs true f g = cc
-        differs false f g = cc
+    differ true true e f g =
+        let differs : (b : Bool) → true ≡ b → true ≡ not b → ⊥ = elim [ true ↦ λ f g. cc | false ↦ λ f g. cc ] in
+        absurd (differs b f g)
+    differ false false e f g =
+        let differs : (b : Bool) → false ≡ b → false ≡ not b → ⊥ = elim [ true ↦ λ f g. cc | false ↦ λ f g. cc ] in
+        absurd (differs b f g)
     differ x y e f g = cc
 
     go : (x : Bool) → same_channel at ch ≡ x → x ≡ false
@@ -134,11 +129,10 @@ said_here {w} l m p q d at taken is = elim (cases_eq d l) [
 -- on a channel on which it doesn't send, nothing changes
 unsaid_history : {w : ℕ} (l : ℕ) (m : Message w) (p : ℕ → History w) (d : ℕ) (at : Channel)
     → same_channel at (channel_of_message m) ≡ false → carried_on at (said_at l m p d) ≡ carried_on at (p d)
-unsaid_history {w} l m p d at differs = go (l == d)
-  where
-    go : (b : Bool) → carried_on at (if b then burst_of m ++ p d else p d) ≡ carried_on at (p d)
-    go true = cc (carried-begun m (beats_of m) at (p d), differs)
-    go false = refl
+unsaid_history {w} l m p d at differs =
+    let go : (b : Bool) → carried_on at (if b then burst_of m ++ p d else p d) ≡ carried_on at (p d) =
+    elim [ true ↦ cc (carried-begun m (beats_of m) at (p d), differs) | false ↦ refl ] in
+    go (l == d)
 
 unsaid_queue : {w : ℕ} (l : ℕ) (m : Message w) (q : ℕ → Channel → List (Beat w)) (d : ℕ) (at : Channel)
     → same_channel at (channel_of_message m) ≡ false → queued_at l m q d at ≡ q d at
@@ -174,12 +168,11 @@ manager-says {w} l m {p} {t} {q} ours is = record {
 heard_history : {w : ℕ} (c : ℕ) (ch : Channel) (x : Beat w) (p : ℕ → History w) (d : ℕ) (at : Channel) → IsOn ch x
     → carried_on at (heard_at c x p d) ≡ (if (c == d) && same_channel at ch then x ∷ carried_on at (p d) else carried_on
     at (p d))
-heard_history {w} c ch x p d at is = go (c == d)
-  where
-    go : (b : Bool) → carried_on at (if b then x ∷ p d else p d) ≡ (if b && same_channel at ch then x ∷ carried_on at
-        (p d) else carried_on at (p d))
-    go true = carried-beat x ch at (p d) is
-    go false = refl
+heard_history {w} c ch x p d at is =
+    let go : (b : Bool) → carried_on at (if b then x ∷ p d else p d)
+    ≡ (if b && same_channel at ch then x ∷ carried_on at (p d) else carried_on at (p d)) =
+    elim [ true ↦ carried-beat x ch at (p d) is | false ↦ refl ] in
+    go (c == d)
 
 heard_here : {w : ℕ} (c : ℕ) (ch : Channel) (x : Beat w) (queue : List (Beat w)) (p : ℕ → History w) (q : ℕ → Channel
     → List (Beat w)) (f : ℕ → History w) (d : ℕ) (at : Channel) (sent : List (Beat w)) → IsOn ch x → q c ch ≡ x ∷ queue

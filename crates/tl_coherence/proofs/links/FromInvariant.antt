@@ -38,12 +38,10 @@ coherent config log given = coherent-matched (matched-given config log given)
 -- a client has terms
 client_terms : (config : Config) (c : ℕ) → is_client config c ≡ true → (terms : EndConfig)
     × (terms_at config c ≡ Some terms)
-client_terms config c is = go (terms_at config c) refl is
-  where
-    go : (o : Option EndConfig) → terms_at config c ≡ o → is_some o ≡ true → (terms : EndConfig)
-        × (terms_at config c ≡ Some terms)
-    go (Some terms) e f = (terms, e)
-    go None e f = absurd cc
+client_terms config c is =
+    let go : (o : Option EndConfig) → terms_at config c ≡ o → is_some o ≡ true → (terms : EndConfig)
+    × (terms_at config c ≡ Some terms) = elim [ Some terms ↦ λ e f. (terms, e) | None ↦ λ e f. absurd cc ] in
+    go (terms_at config c) refl is
 
 pub stalls : {w : ℕ} (config : Config) (log : Log w) → IsGiven config log → (link : ℕ) (ch : Channel)
     → is_client config link ≡ true → IsExact config log link ch

@@ -63,11 +63,10 @@ stalled-as-it-must config link ch x e taken = go (open_level config link e) take
 up-unbroken : {w : ℕ} (terms : EndConfig) (ch : Channel) (x : Beat w) (e : client.Endpoint w)
     → IsTakenUp (offered terms ch x e).answer → is_none (offer.broken_before terms ch x e) ≡ true
 unfolding offered
-up-unbroken terms ch x e taken = go (offer.broken_before terms ch x e) taken
-  where
-    go : (o : Option Rule) → IsTakenUp (offer.judged o terms x e).answer → is_none o ≡ true
-    go None is = refl
-    go (Some r) refused = absurd refused
+up-unbroken terms ch x e taken =
+    let go : (o : Option Rule) → IsTakenUp (offer.judged o terms x e).answer → is_none o ≡ true =
+    elim [ None ↦ λ is. refl | Some r ↦ λ refused. absurd refused ] in
+    go (offer.broken_before terms ch x e) taken
 
 stalled-as-it-waits : {w : ℕ} (terms : EndConfig) (ch : Channel) (x : Beat w) (e : client.Endpoint w)
     → IsTakenUp (offered terms ch x e).answer → offer.stalls terms ch x e ≡ offer.waits x e.past

@@ -170,24 +170,20 @@ is_grant_to c service = is_granting (view service c) || is_acknowledging (view s
 granted-to : (c : ℕ) (service : Service) → is_grant_to c service ≡ true → (is_granted_in service ≡ true)
     × (client_in service ≡ Some c)
 granted-to c Free e = absurd cc
-granted-to c (Waits r own source k) e = absurd (never (own && (c == r)) e)
-  where
-    never : (b : Bool) → (is_granting (if b then Own else Other k) || is_acknowledging (if b then Own else Other k))
-        ≡ true → ⊥
-    never true g = cc
-    never false g = cc
-granted-to c (GrantSent q d k) e = let same = eqb-true c q (own (c == q) e) in (refl, rw same refl)
-  where
-    own : (b : Bool) → (is_granting (if b then Granting d k else GrantedOther) || is_acknowledging
-        (if b then Granting d k else GrantedOther)) ≡ true → b ≡ true
-    own true g = refl
-    own false g = absurd cc
-granted-to c (GrantTaken q) e = let same = eqb-true c q (own (c == q) e) in (refl, rw same refl)
-  where
-    own : (b : Bool) → (is_granting (if b then Acknowledging else GrantedOther) || is_acknowledging
-        (if b then Acknowledging else GrantedOther)) ≡ true → b ≡ true
-    own true g = refl
-    own false g = absurd cc
+granted-to c (Waits r own source k) e =
+    let never : (b : Bool) → (is_granting (if b then Own else Other k) || is_acknowledging (if b then Own else Other k))
+    ≡ true → ⊥ = elim [ true ↦ λ g. cc | false ↦ λ g. cc ] in
+    absurd (never (own && (c == r)) e)
+granted-to c (GrantSent q d k) e =
+    let own : (b : Bool) → (is_granting (if b then Granting d k else GrantedOther) || is_acknowledging
+    (if b then Granting d k else GrantedOther)) ≡ true → b ≡ true =
+    elim [ true ↦ λ g. refl | false ↦ λ g. absurd cc ] in
+    let same = eqb-true c q (own (c == q) e) in (refl, rw same refl)
+granted-to c (GrantTaken q) e =
+    let own : (b : Bool) → (is_granting (if b then Acknowledging else GrantedOther) || is_acknowledging
+    (if b then Acknowledging else GrantedOther)) ≡ true → b ≡ true =
+    elim [ true ↦ λ g. refl | false ↦ λ g. absurd cc ] in
+    let same = eqb-true c q (own (c == q) e) in (refl, rw same refl)
 
 to-granted : (c : ℕ) (service : Service) → is_granted_in service ≡ true → client_in service ≡ Some c
     → is_grant_to c service ≡ true

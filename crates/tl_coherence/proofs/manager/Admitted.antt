@@ -190,12 +190,10 @@ order-acquire {w} {config} {s} {sys} {c} {n} (suc i) is is_it free burst =
 
 pub unserved-free : {w : ℕ} {X : Type 0} {request : ℕ → MessageA w} {s : State X} {t : Trace w} (n : ℕ)
     → ManagerRelation request s t → is_in_service n (services t) ≡ false → (s.block n).service ≡ Free
-unserved-free {w} {request} {s} n is none = go (s.block n).service (ap is_some (sym (is.serving_is n)) ∙ none)
-  where
-    go : (service : Service) → is_some (service_with (client_in service) (s.block n).tracker (request n)) ≡ false
-        → service ≡ Free
-    go Free e = refl
-    go service e = absurd cc
+unserved-free {w} {request} {s} n is none =
+    let go : (service : Service) → is_some (service_with (client_in service) (s.block n).tracker (request n)) ≡ false
+    → service ≡ Free = elim [ Free ↦ λ e. refl | service ↦ λ e. absurd cc ] in
+    go (s.block n).service (ap is_some (sym (is.serving_is n)) ∙ none)
 
 -- the tracker of the next service is of no block
 pub free-untracked : {w : ℕ} {X : Type 0} {caching : ℕ → Bool} {request : ℕ → MessageA w} {s : State X} {t : Trace w}
@@ -312,14 +310,12 @@ pub early-acquire : {w : ℕ} {config : Config} {log : Log w} {mail : AccessMess
     (Beat.A (a_beat_of (acquisition (acquire_opcode is_it.whole) is_it.grow ((s.block n).source c) n) k))
     (on_link c sys.manager.trace)) ≡ None
 early-acquire {w} {config} {log} {mail} {request} {s} {sys} {c} {n} zero is is_it burst =
+    let unserved_own : (v : View) → is_unserved v ≡ true → is_own v ≡ false =
+    elim [ Own ↦ λ e. absurd cc | v ↦ λ e. refl ] in
     early_first config.profile (a_beat_of (acquisition (acquire_opcode is_it.whole) is_it.grow ((s.block n).source c) n)
     0) (on_link c sys.manager.trace) burst
     (source-free c ((s.block n).source c) is
     (rw is_it.used (unserved_own (view (s.block n).service c) is_it.unserved)) burst)
-  where
-    unserved_own : (v : View) → is_unserved v ≡ true → is_own v ≡ false
-    unserved_own Own e = absurd cc
-    unserved_own v e = refl
 early-acquire {w} {config} {s} {sys} {c} {n} (suc i) is is_it burst =
     ap before_stall (later-legal config.profile
     (Message.A (acquisition (acquire_opcode is_it.whole) is_it.grow ((s.block n).source c) n)) i

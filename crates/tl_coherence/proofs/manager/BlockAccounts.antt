@@ -115,16 +115,13 @@ granted-is {w} {X} {config} {s} {e} inv kept is n v found = go (s.block n).servi
 
     granted : is_granted_in (s.block n).service ≡ true → waits.is_granted t v ≡ true
     granted f =
+        let only : (b : Bool) → (b || false) ≡ true → b ≡ true = elim [ true ↦ λ g. refl | false ↦ λ g. absurd cc ] in
         let settled = all-settled config n t (λ c. is.probes c n
         ∙ ap not (quiet_unless ((s.block n).pair c) (view (s.block n).service c) ((inv.blocks n).phases c)
         (granted_views (s.block n).service c f)))
         in
         let awaited : is_awaited config n t (Some v) ≡ true = cc (found, kept.steady.awaited n) in
         only (waits.is_granted t v) (rw settled at awaited)
-      where
-        only : (b : Bool) → (b || false) ≡ true → b ≡ true
-        only true g = refl
-        only false g = absurd cc
 
     waiting : (service : Service) → (s.block n).service ≡ service → IsAwaited service (s.block n).pair
         → is_granted_in service ≡ false → (service ≡ Free → ⊥) → waits.is_granted t v ≡ false
@@ -157,17 +154,13 @@ acquiring-is c n tracker m t (Waits r own source k) for granted =
     go true true = refl
     go b same = refl
 acquiring-is c n tracker m t (GrantSent q d k) for granted =
+    let go : (same : Bool) → (true && (same && false)) ≡ is_own (if same then Granting d k else GrantedOther) =
+    elim [ true ↦ refl | false ↦ refl ] in
     rw (granted (at_service q tracker m) refl, for.0, swapped q c) (go (c == q))
-  where
-    go : (same : Bool) → (true && (same && false)) ≡ is_own (if same then Granting d k else GrantedOther)
-    go true = refl
-    go false = refl
-acquiring-is c n tracker m t (GrantTaken q) for granted = rw (granted (at_service q tracker m) refl, for.0, swapped q c)
-    (go (c == q))
-  where
-    go : (same : Bool) → (true && (same && false)) ≡ is_own (if same then Acknowledging else GrantedOther)
-    go true = refl
-    go false = refl
+acquiring-is c n tracker m t (GrantTaken q) for granted =
+    let go : (same : Bool) → (true && (same && false)) ≡ is_own (if same then Acknowledging else GrantedOther) =
+    elim [ true ↦ refl | false ↦ refl ] in
+    rw (granted (at_service q tracker m) refl, for.0, swapped q c) (go (c == q))
 
 abbrev is_grant_of : View → Bool
 is_grant_of v = is_granting v || is_acknowledging v
@@ -185,18 +178,14 @@ granting-is c n tracker m t (Waits r own source k) granted =
     go true false = refl
     go false true = refl
     go false false = refl
-granting-is c n tracker m t (GrantSent q d k) granted = rw (granted (at_service q tracker m) refl, swapped q c)
-    (go (c == q))
-  where
-    go : (same : Bool) → (same && true) ≡ is_grant_of (if same then Granting d k else GrantedOther)
-    go true = refl
-    go false = refl
-granting-is c n tracker m t (GrantTaken q) granted = rw (granted (at_service q tracker m) refl, swapped q c)
-    (go (c == q))
-  where
-    go : (same : Bool) → (same && true) ≡ is_grant_of (if same then Acknowledging else GrantedOther)
-    go true = refl
-    go false = refl
+granting-is c n tracker m t (GrantSent q d k) granted =
+    let go : (same : Bool) → (same && true) ≡ is_grant_of (if same then Granting d k else GrantedOther) =
+    elim [ true ↦ refl | false ↦ refl ] in
+    rw (granted (at_service q tracker m) refl, swapped q c) (go (c == q))
+granting-is c n tracker m t (GrantTaken q) granted =
+    let go : (same : Bool) → (same && true) ≡ is_grant_of (if same then Acknowledging else GrantedOther) =
+    elim [ true ↦ refl | false ↦ refl ] in
+    rw (granted (at_service q tracker m) refl, swapped q c) (go (c == q))
 
 pub managed-traced : {w : ℕ} {X : Type 0} {caching : ℕ → Bool} {config : Config} {request : ℕ → MessageA w}
     {s : State X} {e : End w} → IsInvariant caching s

@@ -27,42 +27,34 @@ grants_it {q} is d i e = rw (← eqb-true q d e, is.grants) (is.asks i)
 pub given-acquires : {w : ℕ} {q n tracker : ℕ} {m : MessageD w} {u : Trace w} → IsGiven q n tracker m u → (d i : ℕ)
     → pending (Key.AcquireOf i) (on_link d (after_sent (record { 0 = q }) (D m) u))
     ≡ (if (q == d) && (n == i) then false else pending (Key.AcquireOf i) (on_link d u))
-given-acquires {w} {q} {n} {tracker} {m} {u} is d i = pending-reply (Key.AcquireOf i) (record { 0 = q }) m u d is.width
-    is.whole ∙ go (q == d) refl
-  where
-    go : (b : Bool) → (q == d) ≡ b
-        → (if b then after_whole false (is_grant m.opcode && asks_for i (request_of m.source (on_link d u)))
-        (pending (Key.AcquireOf i) (on_link d u)) else pending (Key.AcquireOf i) (on_link d u))
-        ≡ (if b && (n == i) then false else pending (Key.AcquireOf i) (on_link d u))
-    go true e = cc (grants_it is d i e)
-    go false e = refl
+given-acquires {w} {q} {n} {tracker} {m} {u} is d i =
+    let go : (b : Bool) → (q == d) ≡ b
+    → (if b then after_whole false (is_grant m.opcode && asks_for i (request_of m.source (on_link d u)))
+    (pending (Key.AcquireOf i) (on_link d u)) else pending (Key.AcquireOf i) (on_link d u))
+    ≡ (if b && (n == i) then false else pending (Key.AcquireOf i) (on_link d u)) =
+    elim [ true ↦ λ e. cc (grants_it is d i e) | false ↦ λ e. refl ] in
+    pending-reply (Key.AcquireOf i) (record { 0 = q }) m u d is.width is.whole ∙ go (q == d) refl
 
 pub given-acks : {w : ℕ} {q n tracker : ℕ} {m : MessageD w} {u : Trace w} → IsGiven q n tracker m u → (d i : ℕ)
     → pending (Key.GrantAckOf i) (on_link d (after_sent (record { 0 = q }) (D m) u))
     ≡ (if (q == d) && (n == i) then true else pending (Key.GrantAckOf i) (on_link d u))
-given-acks {w} {q} {n} {tracker} {m} {u} is d i = pending-reply (Key.GrantAckOf i) (record { 0 = q }) m u d is.width
-    is.whole ∙ go
-    (q == d) refl
-  where
-    go : (b : Bool) → (q == d) ≡ b
-        → (if b then after_whole (is_grant m.opcode && asks_for i (request_of m.source (on_link d u))) false
-        (pending (Key.GrantAckOf i) (on_link d u)) else pending (Key.GrantAckOf i) (on_link d u))
-        ≡ (if b && (n == i) then true else pending (Key.GrantAckOf i) (on_link d u))
-    go true e = cc (grants_it is d i e)
-    go false e = refl
+given-acks {w} {q} {n} {tracker} {m} {u} is d i =
+    let go : (b : Bool) → (q == d) ≡ b
+    → (if b then after_whole (is_grant m.opcode && asks_for i (request_of m.source (on_link d u))) false
+    (pending (Key.GrantAckOf i) (on_link d u)) else pending (Key.GrantAckOf i) (on_link d u))
+    ≡ (if b && (n == i) then true else pending (Key.GrantAckOf i) (on_link d u)) =
+    elim [ true ↦ λ e. cc (grants_it is d i e) | false ↦ λ e. refl ] in
+    pending-reply (Key.GrantAckOf i) (record { 0 = q }) m u d is.width is.whole ∙ go (q == d) refl
 
 pub given-sinks : {w : ℕ} {q n tracker : ℕ} {m : MessageD w} {u : Trace w} → IsGiven q n tracker m u → (d i : ℕ)
     → pending (Key.GrantSink i) (on_link d (after_sent (record { 0 = q }) (D m) u))
     ≡ (if (q == d) && (tracker == i) then true else pending (Key.GrantSink i) (on_link d u))
-given-sinks {w} {q} {tracker} {m} {u} is d i = pending-reply (Key.GrantSink i) (record { 0 = q }) m u d is.width
-    is.whole ∙ rw
-    (is.grants, is.sink) (go (q == d))
-  where
-    go : (b : Bool) → (if b then after_whole (tracker == i) false (pending (Key.GrantSink i) (on_link d u)) else pending
-        (Key.GrantSink i) (on_link d u))
-        ≡ (if b && (tracker == i) then true else pending (Key.GrantSink i) (on_link d u))
-    go true = refl
-    go false = refl
+given-sinks {w} {q} {tracker} {m} {u} is d i =
+    let go : (b : Bool) → (if b then after_whole (tracker == i) false (pending (Key.GrantSink i) (on_link d u)) else
+    pending (Key.GrantSink i) (on_link d u))
+    ≡ (if b && (tracker == i) then true else pending (Key.GrantSink i) (on_link d u)) =
+    elim [ true ↦ refl | false ↦ refl ] in
+    pending-reply (Key.GrantSink i) (record { 0 = q }) m u d is.width is.whole ∙ rw (is.grants, is.sink) (go (q == d))
 
 pub given-records : {w : ℕ} {q n tracker : ℕ} {m : MessageD w} {u : Trace w} → IsGiven q n tracker m u → (d i : ℕ)
     → recorded d i (after_sent (record { 0 = q }) (D m) u) ≡ (if (q == d) && (n == i) then capped m.param else recorded
@@ -91,16 +83,15 @@ given-records {w} {q} {n} {tracker} {m} {u} is d i = go (q == d) refl
 pub pair-over : {X A : Type 0} (part : ClientBlock → A) (q n : ℕ) (p : ClientBlock) (new mid : Block X) (block : ℕ
     → Block X) → ((d : ℕ) → new.pair d ≡ set q p mid.pair d) → (d i : ℕ)
     → part ((set n new block i).pair d) ≡ (if (q == d) && (n == i) then part p else part ((set n mid block i).pair d))
-pair-over {X} {A} part q n p new mid block is d i = elim (cases_eq i n) [
-  | inl same ↦ rw (same, set-same n new block, set-same n mid block, same_number n, is d) (elim (cases_eq d q) [
-    | inl mine ↦ rw (mine, set-same q p mid.pair, same_number q) refl
-    | inr apart ↦ let differ : q ≡ d → ⊥ = λ e. apart (sym e) in rw (set-other q d p mid.pair apart, ne_eqb q d differ)
-        refl
-  ])
-  | inr other ↦ let differ : n ≡ i → ⊥ = λ e. other (sym e) in
-      rw (set-other n i new block other, set-other n i mid block other, ne_eqb n i differ) (never (q == d))
-]
-  where
-    never : (b : Bool) → part ((block i).pair d) ≡ (if b && false then part p else part ((block i).pair d))
-    never true = refl
-    never false = refl
+pair-over {X} {A} part q n p new mid block is d i =
+    let never : (b : Bool) → part ((block i).pair d) ≡ (if b && false then part p else part ((block i).pair d)) =
+    elim [ true ↦ refl | false ↦ refl ] in
+    elim (cases_eq i n) [
+      | inl same ↦ rw (same, set-same n new block, set-same n mid block, same_number n, is d) (elim (cases_eq d q) [
+        | inl mine ↦ rw (mine, set-same q p mid.pair, same_number q) refl
+        | inr apart ↦ let differ : q ≡ d → ⊥ = λ e. apart (sym e) in rw (set-other q d p mid.pair apart, ne_eqb q d differ)
+            refl
+      ])
+      | inr other ↦ let differ : n ≡ i → ⊥ = λ e. other (sym e) in
+          rw (set-other n i new block other, set-other n i mid block other, ne_eqb n i differ) (never (q == d))
+    ]

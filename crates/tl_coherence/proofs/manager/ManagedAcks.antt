@@ -154,16 +154,13 @@ managed-acked {w} {X} {request} {c} {n} rest {x} {s} {t} is known =
         → service_of_block i (services u) ≡ o → is_granted_to d u o ≡ is_granted_to d t o
     as_before d i other None e f = refl
     as_before d i other (Some v) e f =
+        let stays : (b : Bool) → is_ended_by (record { 0 = c }, Beat.E x) v ≡ b → (if not b then Some v else None)
+        ≡ Some v → b ≡ false = elim [ true ↦ λ g h. absurd cc | false ↦ λ g h. refl ] in
         let passes : if_passes (λ r. not (is_ended_by (record { 0 = c }, Beat.E x) r)) (Some v) ≡ Some v =
         ap (if_passes (λ (r : manager.Service w). not (is_ended_by (record { 0 = c }, Beat.E x) r))) (sym e)
         ∙ sym (ap (service_of_block i) (services-e (record { 0 = c }) x t)
         ∙ serving-filter i _ (services t) is.apart) ∙ f in
         cc (granted-left (record { 0 = c }) x t v (stays (is_ended_by (record { 0 = c }, Beat.E x) v) refl passes))
-      where
-        stays : (b : Bool) → is_ended_by (record { 0 = c }, Beat.E x) v ≡ b → (if not b then Some v else None) ≡ Some v
-            → b ≡ false
-        stays true g h = absurd cc
-        stays false g h = refl
 
 pub are_served-acked : {w : ℕ} {X : Type 0} {request : ℕ → MessageA w} {c n : ℕ} (rest : List Packet) {x : BeatE}
     {s : State X} {t : Trace w} → IsAcked c n x request s t → ServedSourceRelation request s t

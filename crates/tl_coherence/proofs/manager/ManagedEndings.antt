@@ -46,12 +46,10 @@ tracker-of n {s} named busy = is_of-is n (s.tracked (s.block n).tracker) (named.
 
 pub tracker-alone : {X : Type 0} (n i : ℕ) {s : State X} → AreNamed s → s.tracked i ≡ Some n → i ≡ (s.block n).tracker
 tracker-alone n i {s} named e =
+    let later : (b : Bool) → (b && (i == (s.block n).tracker)) ≡ true → (i == (s.block n).tracker) ≡ true =
+    elim [ true ↦ λ f. f | false ↦ λ f. absurd cc ] in
     eqb-true i (s.block n).tracker
     (later (is_busy (s.block n).service) (sym (named.trackers i n) ∙ rw (e, same_number n) refl))
-  where
-    later : (b : Bool) → (b && (i == (s.block n).tracker)) ≡ true → (i == (s.block n).tracker) ≡ true
-    later true f = f
-    later false f = absurd cc
 
 -- ---- the answer
 
@@ -132,12 +130,11 @@ managed-ended {w} {X} {request} {c} {q} {n} {r} f rest {x} {m} {s} {t} is known 
 -- a source that isn't pending has no unfinished request
 pub no-burst : {w : ℕ} (c q : ℕ) {t : Trace w} → IsAccounted t → pending (Key.RequestSource q) (on_link c t) ≡ false
     → comes_in_request q (unfinished Channel.A (on_link c t)) ≡ false
-no-burst c q {t} ok free = go (comes_in_request q (unfinished Channel.A (on_link c t)))
-    (count_where (is_asking c q t) (services t)) (ok.sources c q ∙ ap one_if free)
-  where
-    go : (b : Bool) (k : ℕ) → one_if b + k ≡ 0 → b ≡ false
-    go true k e = absurd (omega (arith, e))
-    go false k e = refl
+no-burst c q {t} ok free =
+    let go : (b : Bool) (k : ℕ) → one_if b + k ≡ 0 → b ≡ false =
+    elim [ true ↦ λ k e. absurd (omega (arith, e)) | false ↦ λ k e. refl ] in
+    go (comes_in_request q (unfinished Channel.A (on_link c t))) (count_where (is_asking c q t) (services t))
+    (ok.sources c q ∙ ap one_if free)
 
 pub are_served-ended : {w : ℕ} {X : Type 0} {request : ℕ → MessageA w} {c q n source : ℕ} {k : Cap} {r : Report} (f : X
     → X) (rest : List Packet) {x : BeatC w} {m : MessageD w} {s : State X} {t : Trace w}

@@ -73,13 +73,10 @@ pub reported-probing : {X : Type 0} (c n : ℕ) (r : Report) (new : Block X) (bl
     → ((d : ℕ) → new.pair d ≡ set c (after_report r ((block n).pair c)) (block n).pair d) → (d i : ℕ)
     → is_unprobed ((set n new block i).pair d).probing ≡ false → is_unprobed ((block i).pair d).probing ≡ false
 reported-probing c n r new block pairs d i e =
+    let go : (b : Bool) → (if b then true else is_unprobed ((block i).pair d).probing) ≡ false
+    → is_unprobed ((block i).pair d).probing ≡ false = elim [ true ↦ λ f. absurd cc | false ↦ λ f. f ] in
     go ((c == d) && (n == i))
     (sym (pair-part (λ p. is_unprobed p.probing) c n (after_report r ((block n).pair c)) new block pairs d i) ∙ e)
-  where
-    go : (b : Bool) → (if b then true else is_unprobed ((block i).pair d).probing) ≡ false
-        → is_unprobed ((block i).pair d).probing ≡ false
-    go true f = absurd cc
-    go false f = f
 
 pub managed-reported : {w : ℕ} {X : Type 0} {request : ℕ → MessageA w} {c n : ℕ} (r : Report) (rest : List Packet)
     {x : BeatC w} {s : State X} {t : Trace w} → IsLastOf c n (report_right r) x t → is_probe_ack x.opcode ≡ true

@@ -111,16 +111,14 @@ payload-end {w} {k} {m} is some =
 pub last-of : {w : ℕ} {b : Bool} {c n param : ℕ} {carries : Bool} {truth : List ℕ} {k : ℕ} (right : Perm)
     {m : MessageC w} {e : End w}
     → IsEnd b c n param carries truth k m e → reported param ≡ right → IsLastOf c n right (c_beat_of m k) e.trace
-last-of {b} {c} {n} {param} {carries} {truth} {k} right {m} {e} is said = record {
-  last = ends-it is;
-  kind = rw (is.about.reports, is.about.releases) (either b);
-  block = is.about.block;
-  right_is = ap reported is.about.param_is ∙ said;
-}
-  where
-    either : (b : Bool) → (b || not b) ≡ true
-    either true = refl
-    either false = refl
+last-of {b} {c} {n} {param} {carries} {truth} {k} right {m} {e} is said =
+    let either : (b : Bool) → (b || not b) ≡ true = elim [ true ↦ refl | false ↦ refl ] in
+    record {
+      last = ends-it is;
+      kind = rw (is.about.reports, is.about.releases) (either b);
+      block = is.about.block;
+      right_is = ap reported is.about.param_is ∙ said;
+    }
 
 -- the memory with it
 pub memory-end : {w : ℕ} {b : Bool} {c n param : ℕ} {carries : Bool} {truth : List ℕ} {k : ℕ} {m : MessageC w}

@@ -54,13 +54,12 @@ pub block-taken : {w : ℕ} (x : BeatC w) (beats : List (Beat w)) (memory : Memo
     (truth : List ℕ) → block_at x.address ≡ n
     → c_carries_data x.opcode ≡ carries → (carries ≡ true → payload_of beats ≡ truth) → length truth ≡ 64
     → block_in (written x beats memory) n ≡ (if carries then truth else block_in memory n)
-block-taken x beats memory n carries truth block is payload long = rw is (go carries payload)
-  where
-    go : (b : Bool) → (b ≡ true → payload_of beats ≡ truth)
-        → block_in (if b then with_block (block_at x.address) (payload_of beats) memory else memory)
-        n ≡ (if b then truth else block_in memory n)
-    go true p = rw (block, p refl) (block-written n truth memory long)
-    go false p = refl
+block-taken x beats memory n carries truth block is payload long =
+    let go : (b : Bool) → (b ≡ true → payload_of beats ≡ truth)
+    → block_in (if b then with_block (block_at x.address) (payload_of beats) memory else memory) n
+    ≡ (if b then truth else block_in memory n) =
+    elim [ true ↦ λ p. rw (block, p refl) (block-written n truth memory long) | false ↦ λ p. refl ] in
+    rw is (go carries payload)
 
 -- ---- an access
 

@@ -133,18 +133,15 @@ pub grant-made : {w : ℕ} (config : Config) (q n tracker : ℕ) (v : MessageA w
     → grant config (record { tracker = tracker; link = record { 0 = q }; request = v }) t memory ≡ grant_of
     (GrantSent q (is_granted_data whole g p) (gift config.profile whole g unheld)) v.source tracker (block_in memory n)
 grant-made {w} config q n tracker v t memory whole g unheld p opcode param block none held_is =
+    let go : (d : Bool) → handing.grant_with (record { tracker = tracker; link = record { 0 = q }; request = v })
+    (gift config.profile whole g unheld) d memory ≡ grant_of (GrantSent q d (gift config.profile whole g unheld))
+    v.source tracker (block_in memory n) = elim [ true ↦ rw block refl | false ↦ refl ] in
     let cap_is : cap_granted config.profile v.opcode v.param (holders.is_unheld config (block_at v.address) t) ≡ gift
     config.profile whole g unheld = rw (opcode, param, block, none) refl in
     let data_is : handing.is_granted_data v.opcode v.param (recorded q (block_at v.address) t) ≡ is_granted_data whole g
     p = rw (opcode, param, block, held_is) (data-same whole g p) in
     ap₂ (λ k d. handing.grant_with (record { tracker = tracker; link = record { 0 = q }; request = v }) k d memory)
     cap_is data_is ∙ go (is_granted_data whole g p)
-  where
-    go : (d : Bool) → handing.grant_with (record { tracker = tracker; link = record { 0 = q }; request = v })
-        (gift config.profile whole g unheld) d memory ≡ grant_of (GrantSent q d (gift config.profile whole g unheld))
-        v.source tracker (block_in memory n)
-    go true = rw block refl
-    go false = refl
 
 given_is : {w : ℕ} (q : ℕ) (d : Bool) (k : Cap) (source sink : ℕ) (payload : List ℕ)
     → (m : MessageD w) × (grant_of (GrantSent q d k) source sink payload ≡ Message.D m) × (is_grant m.opcode ≡ true)

@@ -59,16 +59,13 @@ pub by-first_e : {w : ℕ} (P : List Packet → Type 0) {c : ℕ} {mail : Access
     → ((n : ℕ) (rest : List Packet) → (s.link c).e ≡ packet GrantAck n ∷ rest
     → IsNext x (unfinished Channel.E (on_link c sys.manager.trace)) (block_message GrantAck c n (s.block n))
     (map (message_of mail s c) rest) queue → P (packet GrantAck n ∷ rest)) → P (s.link c).e
-by-first_e {w} P {c} {mail} {s} {sys} {x} {queue} at ack = subst P (sym at.tokens) (go at.kind at.own at.tokens at.next)
-  where
-    Next : Kind → Type 0
-    Next k = IsNext x (unfinished Channel.E (on_link c sys.manager.trace)) (message_of_kind k mail s c at.number)
-        (map (message_of mail s c) at.rest) queue
-
-    go : (k : Kind) → is_on Channel.E k ≡ true → (s.link c).e ≡ packet k at.number ∷ at.rest → Next k
-        → P (packet k at.number ∷ at.rest)
-    go GrantAck e first next = ack at.number at.rest first next
-    go k e first next = absurd cc
+by-first_e {w} P {c} {mail} {s} {sys} {x} {queue} at ack =
+    let Next : Kind → Type 0 = λ k. IsNext x (unfinished Channel.E (on_link c sys.manager.trace))
+    (message_of_kind k mail s c at.number) (map (message_of mail s c) at.rest) queue in
+    let go : (k : Kind) → is_on Channel.E k ≡ true → (s.link c).e ≡ packet k at.number ∷ at.rest → Next k
+    → P (packet k at.number ∷ at.rest) =
+    elim [ GrantAck ↦ λ e first next. ack at.number at.rest first next | k ↦ λ e first next. absurd cc ] in
+    subst P (sym at.tokens) (go at.kind at.own at.tokens at.next)
 
 -- ---- a beat that breaks no rule of order is taken
 
@@ -112,24 +109,18 @@ same_report-is p q e = absurd cc
 pub seen_cap : (test : Cap → Bool) (s : Service) (c : ℕ) → (on_other (view s c) test && is_other (view s c)) ≡ true
     → test (cap_waited s) ≡ true
 seen_cap test Free c e = absurd cc
-seen_cap test (Waits r own source k) c e = go (own && (c == r)) e
-  where
-    go : (b : Bool) → (on_other (if b then Own else Other k) test && is_other (if b then Own else Other k)) ≡ true
-        → test k ≡ true
-    go true f = absurd cc
-    go false f = and_left (test k) true f
-seen_cap test (GrantSent r d k) c e = absurd (go (c == r) e)
-  where
-    go : (b : Bool) → (on_other (if b then Granting d k else GrantedOther) test && is_other
-        (if b then Granting d k else GrantedOther)) ≡ true → ⊥
-    go true f = cc
-    go false f = cc
-seen_cap test (GrantTaken r) c e = absurd (go (c == r) e)
-  where
-    go : (b : Bool) → (on_other (if b then Acknowledging else GrantedOther) test && is_other
-        (if b then Acknowledging else GrantedOther)) ≡ true → ⊥
-    go true f = cc
-    go false f = cc
+seen_cap test (Waits r own source k) c e =
+    let go : (b : Bool) → (on_other (if b then Own else Other k) test && is_other (if b then Own else Other k)) ≡ true
+    → test k ≡ true = elim [ true ↦ λ f. absurd cc | false ↦ λ f. and_left (test k) true f ] in
+    go (own && (c == r)) e
+seen_cap test (GrantSent r d k) c e =
+    let go : (b : Bool) → (on_other (if b then Granting d k else GrantedOther) test && is_other
+    (if b then Granting d k else GrantedOther)) ≡ true → ⊥ = elim [ true ↦ λ f. cc | false ↦ λ f. cc ] in
+    absurd (go (c == r) e)
+seen_cap test (GrantTaken r) c e =
+    let go : (b : Bool) → (on_other (if b then Acknowledging else GrantedOther) test && is_other
+    (if b then Acknowledging else GrantedOther)) ≡ true → ⊥ = elim [ true ↦ λ f. cc | false ↦ λ f. cc ] in
+    absurd (go (c == r) e)
 
 -- the place of a beat in its message
 abbrev NextOrder : {w : ℕ} → Profile → MessageC w → ℕ → History w → Type 0
@@ -189,16 +180,14 @@ pub unanswered : (caching : ℕ → Bool) (c n : ℕ) (rest : List Packet) (s : 
     → (s.link c).c ≡ packet Release n ∷ rest → is_answered ((s.block n).pair c).probing ≡ false
 unfolding count
 unanswered caching c n rest s inv first =
+    let none : (b : Bool) → one_if b ≡ 0 → b ≡ false =
+    elim [ true ↦ λ e. absurd (omega (arith, e)) | false ↦ λ e. refl ] in
     let behind = ordered-first n (s.link c).c rest (packet Release n) first (rw (same_number n) refl) (inv.ordered c n)
     in
     let all : count ProbeAck n (packet Release n ∷ rest) ≡ one_if (is_answered ((s.block n).pair c).probing) =
     rw first at (inv.transfers c ProbeAck refl n) in
     let release : one_if (is ProbeAck n (packet Release n)) ≡ 0 = refl in
     none (is_answered ((s.block n).pair c).probing) (omega (arith, all, behind, release))
-  where
-    none : (b : Bool) → one_if b ≡ 0 → b ≡ false
-    none true e = absurd (omega (arith, e))
-    none false e = refl
 
 pub release-order : {w : ℕ} {config : Config} {caching : ℕ → Bool} {request : ℕ → MessageA w} (c : ℕ) {n : ℕ} (k : ℕ)
     (r : Prune) (rest : List Packet) {truth : List ℕ} {carries : Bool} {m : MessageC w} {s : State (List ℕ)} {e : End w}

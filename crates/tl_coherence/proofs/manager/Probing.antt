@@ -46,6 +46,15 @@ pub traced-probing : {w : ℕ} {X : Type 0} {config : Config} {request : ℕ →
     (s.block n)) s.block i) → IsProbing config c k n own source j m s e → IsTraced request s e.trace
     → IsTraced (set n m request) u (with_probes config c k m n j e.trace)
 traced-probing {w} {X} {config} {request} {c} {k} {n} {own} {source} {j} {m} {s} u {e} blocks is known =
+    let spared : (b : Bool) (p : ClientBlock) → (if b then p else after_served j p).recorded ≡ p.recorded =
+    elim [ true ↦ λ p. refl | false ↦ λ p. refl ] in
+    let missing_before : (d : ℕ) → pending (ProbeOf n) (on_link d t) ≡ false = λ d. missing-beat c k m e.trace d n
+    ∙ known.probes d n ∙ ap not (is.quiet d) in
+    let whole_b : (d : ℕ) → unfinished Channel.B (on_link d t) ≡ [] =
+    λ d. (whole-taken d (link_of c) (Beat.A (a_beat_of m k)) e.trace refl (is.comes.kept.whole d)).0 in
+    let probed_or : (d : ℕ) (b : Bool)
+    → pending (ProbeOf n) (if b then sent (probe_of_block n j) (on_link d t) else on_link d t) ≡ b =
+    λ d. elim [ true ↦ missing-own_b n j (on_link d t) (whole_b d) | false ↦ missing_before d ] in
     let tracker : ℕ = least_untaken (trackers_of (services e.trace)) in
     let new : Block X = served_block c own source tracker j (s.block n) in
     let service_now : Block X → Option (Service w) =
@@ -113,10 +122,6 @@ traced-probing {w} {X} {config} {request} {c} {k} {n} {own} {source} {j} {m} {s}
     after : Trace w
     after = with_probes config c k m n j e.trace
 
-    spared : (b : Bool) (p : ClientBlock) → (if b then p else after_served j p).recorded ≡ p.recorded
-    spared true p = refl
-    spared false p = refl
-
     asked_same : (r src : ℕ) → request_of src (on_link r after) ≡ request_of src (on_link r t)
     asked_same r src = probes-keep (request_of src) r n j asked_clients t (request_of-b src n j)
 
@@ -129,17 +134,6 @@ traced-probing {w} {X} {config} {request} {c} {k} {n} {own} {source} {j} {m} {s}
         let number : src ≡ m.source = number_is r src o l f ∙ sym is.for.1 in
         rw (client, number) (asked_same c m.source ∙ request-own is.comes) ∙ ap
         (λ (i : MessageA w). Some (a_beat_of i 0)) (sym (set-same n m request))
-
-    missing_before : (d : ℕ) → pending (ProbeOf n) (on_link d t) ≡ false
-    missing_before d = missing-beat c k m e.trace d n ∙ known.probes d n ∙ ap not (is.quiet d)
-
-    whole_b : (d : ℕ) → unfinished Channel.B (on_link d t) ≡ []
-    whole_b d = (whole-taken d (link_of c) (Beat.A (a_beat_of m k)) e.trace refl (is.comes.kept.whole d)).0
-
-    probed_or : (d : ℕ) (b : Bool)
-        → pending (ProbeOf n) (if b then sent (probe_of_block n j) (on_link d t) else on_link d t) ≡ b
-    probed_or d true = missing-own_b n j (on_link d t) (whole_b d)
-    probed_or d false = missing_before d
 
     quiet_now : (d : ℕ) (b : Bool) → (is_above j ((s.block n).pair d).recorded && not b) ≡ not
         (is_unprobed (if b then (s.block n).pair d else after_served j ((s.block n).pair d)).probing)

@@ -78,15 +78,13 @@ pub record IsLastOf {w : ℕ} (c n : ℕ) (right : Perm) (x : BeatC w) (t : Trac
 
 pub recorded-last : {w : ℕ} {c n : ℕ} {right : Perm} {x : BeatC w} {t : Trace w} → IsLastOf c n right x t → (d i : ℕ)
     → recorded d i ((record { 0 = c }, Beat.C x) ∷ t) ≡ (if (c == d) && (n == i) then right else recorded d i t)
-recorded-last {w} {c} {n} {right} {x} {t} is d i = recorded-c (record { 0 = c }) x t d i ∙ elim (cases_eq c d) [
-  | inl same ↦ rw (← same, is.last, is.kind, is.block, is.right_is, same_number c) (go (n == i))
-  | inr other ↦ rw (ne_eqb c d other) refl
-]
-  where
-    go : (b : Bool) → unwrap_or (if b then Some right else None) (recorded c i t)
-        ≡ (if b then right else recorded c i t)
-    go true = refl
-    go false = refl
+recorded-last {w} {c} {n} {right} {x} {t} is d i =
+    let go : (b : Bool) → unwrap_or (if b then Some right else None) (recorded c i t)
+    ≡ (if b then right else recorded c i t) = elim [ true ↦ refl | false ↦ refl ] in
+    recorded-c (record { 0 = c }) x t d i ∙ elim (cases_eq c d) [
+      | inl same ↦ rw (← same, is.last, is.kind, is.block, is.right_is, same_number c) (go (n == i))
+      | inr other ↦ rw (ne_eqb c d other) refl
+    ]
 
 part_or : (p : Perm) (b : Bool) (q : Perm) → unwrap_or (if b && false then Some p else None) q ≡ q
 part_or p true q = refl
@@ -223,19 +221,18 @@ are_served-still {w} {s} {z} quiet still probing known = record {
 pub pair-part : {X A : Type 0} (part : ClientBlock → A) (c n : ℕ) (p : ClientBlock) (new : Block X) (block : ℕ
     → Block X) → ((d : ℕ) → new.pair d ≡ set c p (block n).pair d) → (d i : ℕ)
     → part ((set n new block i).pair d) ≡ (if (c == d) && (n == i) then part p else part ((block i).pair d))
-pair-part {X} {A} part c n p new block is d i = elim (cases_eq i n) [
-  | inl same ↦ rw (same, set-same n new block, same_number n, is d) (elim (cases_eq d c) [
-    | inl mine ↦ rw (mine, set-same c p (block n).pair, same_number c) refl
-    | inr apart ↦ let differ : c ≡ d → ⊥ = λ e. apart (sym e) in
-        rw (set-other c d p (block n).pair apart, ne_eqb c d differ) refl
-  ])
-  | inr other ↦ let differ : n ≡ i → ⊥ = λ e. other (sym e) in rw (set-other n i new block other, ne_eqb n i differ)
-      (never (c == d))
-]
-  where
-    never : (b : Bool) → part ((block i).pair d) ≡ (if b && false then part p else part ((block i).pair d))
-    never true = refl
-    never false = refl
+pair-part {X} {A} part c n p new block is d i =
+    let never : (b : Bool) → part ((block i).pair d) ≡ (if b && false then part p else part ((block i).pair d)) =
+    elim [ true ↦ refl | false ↦ refl ] in
+    elim (cases_eq i n) [
+      | inl same ↦ rw (same, set-same n new block, same_number n, is d) (elim (cases_eq d c) [
+        | inl mine ↦ rw (mine, set-same c p (block n).pair, same_number c) refl
+        | inr apart ↦ let differ : c ≡ d → ⊥ = λ e. apart (sym e) in
+            rw (set-other c d p (block n).pair apart, ne_eqb c d differ) refl
+      ])
+      | inr other ↦ let differ : n ≡ i → ⊥ = λ e. other (sym e) in rw (set-other n i new block other, ne_eqb n i differ)
+          (never (c == d))
+    ]
 
 -- a part that it has as before
 pub pair-still : {X A : Type 0} (part : ClientBlock → A) (c n : ℕ) (p : ClientBlock) (new : Block X) (block : ℕ

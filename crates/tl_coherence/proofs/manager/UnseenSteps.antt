@@ -33,11 +33,10 @@ pub at_manager-nobody : {w : ℕ} {config : Config} {log : Log w} (h : AbstractS
     → SimulationRelation config log h.mail h.request h.state sys → terms_at config (client_of event) ≡ None
     → IsManagerOf config (abstract_step config event sys h) (stepped config event sys).after.manager
 unfolding stepped
-at_manager-nobody {w} {config} {log} h {sys} event is none = rw none (go event)
-  where
-    go : (event : Event w) → IsManagerOf config (abstract_step_by config event Outcome.NoSuchClient sys h) sys.manager
-    go (Ask c o) = at_manager-matched is
-    go (Deliver link ch) = at_manager-matched is
+at_manager-nobody {w} {config} {log} h {sys} event is none =
+    let go : (event : Event w) → IsManagerOf config (abstract_step_by config event Outcome.NoSuchClient sys h)
+    sys.manager = elim [ Ask c o ↦ at_manager-matched is | Deliver link ch ↦ at_manager-matched is ] in
+    rw none (go event)
 
 -- ---- a client is asked
 
@@ -111,6 +110,11 @@ pub at_manager-to_client : {w : ℕ} {config : Config} {log : Log w} (h : Abstra
     → IsManagerOf config (abstract_step config (Deliver link ch) sys h)
     (stepped config (Deliver link ch) sys).after.manager
 at_manager-to_client {w} {config} {log} h {sys} link ch terms is there up kept =
+    let go : (b : Bool) → IsInvariant (is_caching config) (if b then packet_taken config (next_tracker sys) c
+    (packets_on ch (h.state.link c)) h else h).state
+    → IsManagerOf config (if b then packet_taken config (next_tracker sys) c (packets_on ch (h.state.link c)) h else
+    h) sys.manager = elim [ true ↦ λ inv. taken (packets_on ch (h.state.link c)) refl inv | false ↦ λ inv. known ]
+    in
     subst (IsManagerOf config (abstract_step config (Deliver link ch) sys h))
     (sym (manager-to-client config link ch sys terms there up))
     (go (is_moving (stepped config (Deliver link ch) sys).outcome && is_last (sys.channels c ch)
@@ -133,10 +137,3 @@ at_manager-to_client {w} {config} {log} h {sys} link ch terms is there up kept =
         on-channel ch y.kind (h.state.link c) (true_from_ne_false (is_on ch y.kind) here) ∙ e in
         at_manager-client_taken config (next_tracker sys) c y.kind y.number ys h sys.manager
         (to_clients ch y.kind up here) is.invariant first inv known
-
-    go : (b : Bool) → IsInvariant (is_caching config) (if b then packet_taken config (next_tracker sys) c
-        (packets_on ch (h.state.link c)) h else h).state
-        → IsManagerOf config (if b then packet_taken config (next_tracker sys) c (packets_on ch (h.state.link c)) h else
-        h) sys.manager
-    go true inv = taken (packets_on ch (h.state.link c)) refl inv
-    go false inv = known

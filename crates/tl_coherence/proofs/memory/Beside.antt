@@ -56,19 +56,17 @@ open-there {w} c pool source o m d i else_ = elim (cases_eq d c) [
 
 pub open-releases : {w : ℕ} (c source : ℕ) (o : Option (Open w)) (m : Machine w) (d i : ℕ)
     → (with_open c Requests source o m).opened d Releases i ≡ m.opened d Releases i
-open-releases {w} c source o m d i = go (d == c)
-  where
-    go : (b : Bool) → (if b && false then o else m.opened d Releases i) ≡ m.opened d Releases i
-    go true = refl
-    go false = refl
+open-releases {w} c source o m d i =
+    let go : (b : Bool) → (if b && false then o else m.opened d Releases i) ≡ m.opened d Releases i =
+    elim [ true ↦ refl | false ↦ refl ] in
+    go (d == c)
 
 pub open-requests : {w : ℕ} (c source : ℕ) (o : Option (Open w)) (m : Machine w) (d i : ℕ)
     → (with_open c Releases source o m).opened d Requests i ≡ m.opened d Requests i
-open-requests {w} c source o m d i = go (d == c)
-  where
-    go : (b : Bool) → (if b && false then o else m.opened d Requests i) ≡ m.opened d Requests i
-    go true = refl
-    go false = refl
+open-requests {w} c source o m d i =
+    let go : (b : Bool) → (if b && false then o else m.opened d Requests i) ≡ m.opened d Requests i =
+    elim [ true ↦ refl | false ↦ refl ] in
+    go (d == c)
 
 -- ---- what is open with a source
 

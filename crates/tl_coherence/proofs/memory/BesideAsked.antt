@@ -145,6 +145,8 @@ pub beside-access_asked : {w : ℕ} (c source : ℕ) (a : MessageA w) {mail : Ac
     (access_asked c source s)
     (with_open c Requests source (Some (record { asked = Op.Access (Message.A a); answer = None })) m)
 beside-access_asked {w} c source a {mail} {s} {m} h =
+    let same_blocks : (d : ℕ) (u : SourceState) → IsSameAcquire d s (access_asked c source s) u =
+    λ d. elim [ Acquires n ↦ (refl, refl) | u ↦ tt ] in
     beside-used
     (record {
       memory = h.memory;
@@ -163,10 +165,6 @@ beside-access_asked {w} c source a {mail} {s} {m} h =
       answers = λ d i else_. refl;
       acquires = λ d i else_. same_blocks d (s.uses d i);
     }) h
-  where
-    same_blocks : (d : ℕ) (u : SourceState) → IsSameAcquire d s (access_asked c source s) u
-    same_blocks d (Acquires n) = (refl, refl)
-    same_blocks d u = tt
 
 pub beside-block_stored : {w : ℕ} {caching : ℕ → Bool} (c address size value : ℕ) {mail : AccessMessages w}
     {s : State (List ℕ)} {m : Machine w} → IsInvariant caching s

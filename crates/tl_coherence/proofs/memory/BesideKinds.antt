@@ -78,11 +78,10 @@ same_acquiring c p f e d = set-part (λ (q : ClientBlock). q.acquiring) c p f e 
 
 served_acquiring : (r : ℕ) (own : Bool) (k : Cap) (pair : ℕ → ClientBlock) (d : ℕ)
     → (if own && (d == r) then pair d else after_served k (pair d)).acquiring ≡ (pair d).acquiring
-served_acquiring r own k pair d = go (own && (d == r))
-  where
-    go : (x : Bool) → (if x then pair d else after_served k (pair d)).acquiring ≡ (pair d).acquiring
-    go true = refl
-    go false = refl
+served_acquiring r own k pair d =
+    let go : (x : Bool) → (if x then pair d else after_served k (pair d)).acquiring ≡ (pair d).acquiring =
+    elim [ true ↦ refl | false ↦ refl ] in
+    go (own && (d == r))
 
 granted_acquiring : (c q : ℕ) (r : Report) (k : Cap) (pair : ℕ → ClientBlock) (d : ℕ)
     → (granted_pair c q r k pair d).acquiring ≡ (pair d).acquiring
@@ -192,17 +191,14 @@ pub beside-acquire : {w : ℕ} (clients : ℕ) (p : Profile) (c n : ℕ) (x : Ac
     (acquire_taken clients p c n x tracker rest h).state m
 beside-acquire clients p c n NoAcquire tracker rest h beside = beside
 beside-acquire {w} clients p c n (AcquireOpen whole g) tracker rest h {m} beside =
+    let either : (y : Bool) (s t : State (List ℕ)) → MemoryRelation h.mail s m → MemoryRelation h.mail t m
+    → MemoryRelation h.mail (if y then s else t) m = elim [ true ↦ λ s t f g. f | false ↦ λ s t f g. g ] in
     let b : Block (List ℕ) = h.state.block n in
     either _ _ _ (beside_block n (served_block c true (b.source c) tracker _ b) _ (λ i. refl)
     (λ d i. refl) (λ d i. refl) refl
     (λ d. served_acquiring c true _ b.pair d) (λ d. refl) beside)
     (beside_block n (granted_at_once c tracker _ _ b) _ (λ i. refl) (λ d i. refl) (λ d i. refl) refl
     (λ d. same_acquiring c (after_grant_sent _ (b.pair c)) b.pair refl d) (λ d. refl) beside)
-  where
-    either : (y : Bool) (s t : State (List ℕ)) → MemoryRelation h.mail s m → MemoryRelation h.mail t m
-        → MemoryRelation h.mail (if y then s else t) m
-    either true s t f g = f
-    either false s t f g = g
 
 -- ---- a report
 

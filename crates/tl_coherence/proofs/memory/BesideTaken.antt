@@ -70,7 +70,10 @@ low_recorded p v h e = implies_is
 pub memory-reported : {caching : ℕ → Bool} (c q source : ℕ) (r : Report) (k : Cap) {b : Block (List ℕ)}
     → IsWell caching b → b.service ≡ Waits q false source k → (b.pair c).probing ≡ ProbeAnswered r
     → ((d : ℕ) → (d ≡ c → ⊥) → is_unprobed (b.pair d).probing ≡ true) → written r b.truth b.memory ≡ b.truth
-memory-reported c q source r k {b} well waits answered settled = go (same_perm (report_left r) Perm.Trunk) refl
+memory-reported c q source r k {b} well waits answered settled =
+    let go : (x : Bool) → same_perm (report_left r) Perm.Trunk ≡ x → (if x then b.truth else b.memory) ≡ b.truth =
+    elim [ true ↦ λ e. refl | false ↦ λ e. well.memory (λ d. not_out (b.pair d) (view b.service d) (low d e)) ] in
+    go (same_perm (report_left r) Perm.Trunk) refl
   where
     seen : (d : ℕ) → is_other (view b.service d) ≡ true
     seen d = rw waits refl
@@ -96,10 +99,6 @@ memory-reported c q source r k {b} well waits answered settled = go (same_perm (
             (ap (λ (j : ℕ). not (same_perm (report_left (report_told (b.pair j).probing)) Perm.Trunk) && not
             (is_sent (b.pair j).probing)) same ∙ told_low e)
         both d (inr other) = rw (seen d) (quiet_low (b.pair d).probing (settled d other))
-
-    go : (x : Bool) → same_perm (report_left r) Perm.Trunk ≡ x → (if x then b.truth else b.memory) ≡ b.truth
-    go true e = refl
-    go false e = well.memory (λ d. not_out (b.pair d) (view b.service d) (low d e))
 
 -- ---- an access is performed
 
@@ -149,6 +148,8 @@ pub beside-performed : {w : ℕ} {config : Config} {c source : ℕ} {a : Message
     (performing ((c, source) ∷ []) m)
 beside-performed {w} {config} {c} {source} {a} bytes {mail} {s} s' {m} is same_reply others changed uses lets acquires
     h =
+    let same_acquires : (d : ℕ) (u : SourceState) → IsSameAcquire d s s' u =
+    λ d. elim [ Acquires k ↦ acquires d k | u ↦ tt ] in
     let mail' : AccessMessages w =
     record { request = mail.request; answer = set_at c source (answers a bytes) mail.answer } in
     let now : Open w = record {
@@ -219,17 +220,11 @@ beside-performed {w} {config} {c} {source} {a} bytes {mail} {s} s' {m} is same_r
         (sym effect_is) (subst (λ (z : List ℕ). IsBlock (effect (Message.A a) m.memory).0 i z) (sym (others i other))
         (blocks.1 i other))
 
-    same_acquires : (d : ℕ) (u : SourceState) → IsSameAcquire d s s' u
-    same_acquires d (Acquires k) = acquires d k
-    same_acquires d u = tt
-
 -- what an Intent is answered doesn't depend on the bytes
 pub intent-reply : {w : ℕ} (x : MessageA w) (f g : Memory) → cap_probed x.opcode x.param ≡ None
     → (effect (Message.A x) f).1 ≡ (effect (Message.A x) g).1
 unfolding effect
-intent-reply {w} x f g e = go x.opcode refl e
-  where
-    go : (o : OpA) → x.opcode ≡ o → cap_probed o x.param ≡ None
-        → memory.access_result x.opcode x f ≡ memory.access_result x.opcode x g
-    go OpA.Intent e h = rw e refl
-    go o e h = absurd cc
+intent-reply {w} x f g e =
+    let go : (o : OpA) → x.opcode ≡ o → cap_probed o x.param ≡ None → memory.access_result x.opcode x f
+    ≡ memory.access_result x.opcode x g = elim [ OpA.Intent ↦ λ e h. rw e refl | o ↦ λ e h. absurd cc ] in
+    go x.opcode refl e

@@ -54,11 +54,10 @@ got-byte (Some x) bytes i old e are small = rw (get_or_from_slice_get bytes i x 
 put-byte : (counts : ℕ → Bool) (payload : List ℕ) (p : Option ℕ) (old : ℕ) → AreBytes payload → old < 2 ^ 8
     → unwrap_or (byte_if counts payload p) old < 2 ^ 8
 put-byte counts payload None old are small = small
-put-byte counts payload (Some p) old are small = go (counts p)
-  where
-    go : (b : Bool) → unwrap_or (if b then slice_get payload p else None) old < 2 ^ 8
-    go true = got-byte (slice_get payload p) payload p old refl are small
-    go false = small
+put-byte counts payload (Some p) old are small =
+    let go : (b : Bool) → unwrap_or (if b then slice_get payload p else None) old < 2 ^ 8 =
+    elim [ true ↦ got-byte (slice_get payload p) payload p old refl are small | false ↦ small ] in
+    go (counts p)
 
 -- what is answered are bytes
 abbrev pub IsRangedReply : memory.AccessResult → Type 0
@@ -119,15 +118,13 @@ first-ranged = record { memory = λ address. lit< tt; opened = λ c pool source.
 opened-ranged : {w : ℕ} (client : ℕ) (at : Pool) (n : ℕ) (o : Option (Open w)) (f : Memory) (m : Machine w) → HasBytes f
     → IsRangedOpen o → IsRangedMachine m → IsRangedMachine (with_open client at n o (with_memory f m))
 opened-ranged {w} client at n o f m bytes is was =
+    let go : (c : ℕ) (pool : Pool) (source : ℕ) (b : Bool) → IsRangedOpen (if b then o else m.opened c pool source) =
+    λ c pool source. elim [ true ↦ is | false ↦ was.opened c pool source ] in
     record {
       memory = bytes;
       opened =
           λ c pool source. go c pool source ((c == client) && (same_pool pool at && (source == n)));
     }
-  where
-    go : (c : ℕ) (pool : Pool) (source : ℕ) (b : Bool) → IsRangedOpen (if b then o else m.opened c pool source)
-    go c pool source true = is
-    go c pool source false = was.opened c pool source
 
 started-ranged : {w : ℕ} (client : ℕ) (o : Op w) (n : ℕ) {m : Machine w} → IsRangedOp o → IsRangedMachine m
     → IsRangedMachine (with_open client (pool_of_op o) n (Some (record { asked = o; answer = None })) m)

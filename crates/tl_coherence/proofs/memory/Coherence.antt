@@ -39,13 +39,11 @@ opened_with : {w : ℕ} (client : ℕ) (at : Pool) (n : ℕ) (o : Option (Open w
     (source : ℕ)
     → asked_at c pool source (with_open client at n o m) ≡ (if (client == c) && (same_pool at pool && (n == source))
     then option_map (λ i. i.asked) o else asked_at c pool source m)
-opened_with {w} client at n o m c pool source = rw (swapped client c, pool_swap at pool, swapped n source)
+opened_with {w} client at n o m c pool source =
+    let go : (b : Bool) → option_map (λ i. i.asked) (if b then o else m.opened c pool source)
+    ≡ (if b then option_map (λ i. i.asked) o else asked_at c pool source m) = elim [ true ↦ refl | false ↦ refl ] in
+    rw (swapped client c, pool_swap at pool, swapped n source)
     (go ((c == client) && (same_pool pool at && (source == n))))
-  where
-    go : (b : Bool) → option_map (λ i. i.asked) (if b then o else m.opened c pool source)
-        ≡ (if b then option_map (λ i. i.asked) o else asked_at c pool source m)
-    go true = refl
-    go false = refl
 
 -- where that is what was there, nothing changes
 same_there : {w : ℕ} (client : ℕ) (at : Pool) (n : ℕ) (x : Option (Op w)) (m : Machine w) (c : ℕ) (pool : Pool)
@@ -110,12 +108,11 @@ op_opened {w} client n o m c pool source e = go o.asked o.answer (ap (option_map
 
 one_opened : {w : ℕ} (client n : ℕ) (m : Machine w) (c : ℕ) (pool : Pool) (source : ℕ)
     → asked_at c pool source (unwrap_or (performed client n m) m) ≡ asked_at c pool source m
-one_opened {w} client n m c pool source = go (m.opened client Requests n) refl
-  where
-    go : (o : Option (Open w)) → m.opened client Requests n ≡ o
-        → asked_at c pool source (unwrap_or (performed_open client n o m) m) ≡ asked_at c pool source m
-    go None e = refl
-    go (Some o) e = op_opened client n o m c pool source e
+one_opened {w} client n m c pool source =
+    let go : (o : Option (Open w)) → m.opened client Requests n ≡ o
+    → asked_at c pool source (unwrap_or (performed_open client n o m) m) ≡ asked_at c pool source m =
+    elim [ None ↦ λ e. refl | Some o ↦ λ e. op_opened client n o m c pool source e ] in
+    go (m.opened client Requests n) refl
 
 performing_opened : {w : ℕ} (accesses : List (ℕ × ℕ)) (m : Machine w) (c : ℕ) (pool : Pool) (source : ℕ)
     → asked_at c pool source (performing accesses m) ≡ asked_at c pool source m

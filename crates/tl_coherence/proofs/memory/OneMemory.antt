@@ -63,11 +63,10 @@ reply-performed o m f bytes width lawful is long =
 pub effect-sourced : {w : ℕ} (source : ℕ) (m : MessageA w) (f : Memory)
     → effect (A (sourced source m)) f ≡ effect (A m) f
 unfolding effect
-effect-sourced {w} source m f = go m.opcode refl
-  where
-    go : (o : OpA) → m.opcode ≡ o → effect (A (sourced source m)) f ≡ effect (A m) f
-    go OpA.PutFullData e = rw e refl
-    go o e = rw e refl
+effect-sourced {w} source m f =
+    let go : (o : OpA) → m.opcode ≡ o → effect (A (sourced source m)) f ≡ effect (A m) f =
+    elim [ OpA.PutFullData ↦ λ e. rw e refl | o ↦ λ e. rw e refl ] in
+    go m.opcode refl
 
 -- ---- a whole block
 

@@ -53,12 +53,11 @@ module _ {w : ℕ} (config : Config) (log : Log w) (mail : AccessMessages w) (re
 
   -- and without a message it has no beat
   no_beat : (c : ℕ) (ch : Channel) → packets_on ch (s.link c) ≡ [] → (system_after config log).channels c ch ≡ []
-  no_beat c ch none = go (messages_on ch mail s c) (ap (map (message_of mail s c)) none) (matched.carried c ch)
-    where
-      go : (ms : List (Message w)) → ms ≡ [] → IsCarried (unfinished ch (receiver ch c (system_after config log))) ms
-          ((system_after config log).channels c ch) → (system_after config log).channels c ch ≡ []
-      go [] e h = h.1
-      go (m ∷ ms) e h = absurd cc
+  no_beat c ch none =
+      let go : (ms : List (Message w)) → ms ≡ [] → IsCarried (unfinished ch (receiver ch c (system_after config log)))
+      ms ((system_after config log).channels c ch) → (system_after config log).channels c ch ≡ [] =
+      elim [ [] ↦ λ e h. h.1 | m ∷ ms ↦ λ e h. absurd cc ] in
+      go (messages_on ch mail s c) (ap (map (message_of mail s c)) none) (matched.carried c ch)
 
   -- a channel whose first beat is movable, if there is one, is empty where no delivery is next
   module _ (none : next_delivery config (system_after config log) ≡ None) where
@@ -80,33 +79,30 @@ module _ {w : ℕ} (config : Config) (log : Log w) (mail : AccessMessages w) (re
 
     empty_e : (c : ℕ) (terms : EndConfig) → terms_at config c ≡ Some terms
         → (system_after config log).channels c Channel.E ≡ []
-    empty_e c terms is = nothing_first c terms Channel.E is (λ x rest e. go x (firsts c terms Channel.E x rest is e)
+    empty_e c terms is =
+        let go : (x : Beat w) → IsFirst config terms c Channel.E x (system_after config log) → Moves config log c x
+        → is_movable config c Channel.E (system_after config log) ≡ true =
+        elim [ Beat.E y ↦ λ first m. m | x ↦ λ first m. absurd (let on = first.on in cc) ] in
+        nothing_first c terms Channel.E is (λ x rest e. go x (firsts c terms Channel.E x rest is e)
         (moving c terms Channel.E x rest is e))
-      where
-        go : (x : Beat w) → IsFirst config terms c Channel.E x (system_after config log) → Moves config log c x
-            → is_movable config c Channel.E (system_after config log) ≡ true
-        go (Beat.E y) first m = m
-        go x first m = absurd (let on = first.on in cc)
 
     empty_d : (c : ℕ) (terms : EndConfig) → terms_at config c ≡ Some terms
         → (system_after config log).channels c Channel.D ≡ []
-    empty_d c terms is = nothing_first c terms Channel.D is (λ x rest e. go x (firsts c terms Channel.D x rest is e)
+    empty_d c terms is =
+        let go : (x : Beat w) → IsFirst config terms c Channel.D x (system_after config log) → Moves config log c x
+        → is_movable config c Channel.D (system_after config log) ≡ true =
+        elim [ Beat.D y ↦ λ first m. m | x ↦ λ first m. absurd (let on = first.on in cc) ] in
+        nothing_first c terms Channel.D is (λ x rest e. go x (firsts c terms Channel.D x rest is e)
         (moving c terms Channel.D x rest is e))
-      where
-        go : (x : Beat w) → IsFirst config terms c Channel.D x (system_after config log) → Moves config log c x
-            → is_movable config c Channel.D (system_after config log) ≡ true
-        go (Beat.D y) first m = m
-        go x first m = absurd (let on = first.on in cc)
 
     empty_c : (c : ℕ) (terms : EndConfig) → terms_at config c ≡ Some terms
         → (system_after config log).channels c Channel.C ≡ []
-    empty_c c terms is = nothing_first c terms Channel.C is (λ x rest e. go x (firsts c terms Channel.C x rest is e)
+    empty_c c terms is =
+        let go : (x : Beat w) → IsFirst config terms c Channel.C x (system_after config log) → Moves config log c x
+        → is_movable config c Channel.C (system_after config log) ≡ true =
+        elim [ Beat.C y ↦ λ first m. m | x ↦ λ first m. absurd (let on = first.on in cc) ] in
+        nothing_first c terms Channel.C is (λ x rest e. go x (firsts c terms Channel.C x rest is e)
         (moving c terms Channel.C x rest is e))
-      where
-        go : (x : Beat w) → IsFirst config terms c Channel.C x (system_after config log) → Moves config log c x
-            → is_movable config c Channel.C (system_after config log) ≡ true
-        go (Beat.C y) first m = m
-        go x first m = absurd (let on = first.on in cc)
 
     -- no Release is outstanding, since neither it nor its ReleaseAck is on its way
     none_releasing : (c n : ℕ) (terms : EndConfig) → terms_at config c ≡ Some terms

@@ -51,12 +51,10 @@ popped_e c rest link d = set_e c (record (link c) { c = rest }) link refl d
 
 ended_e : (c q : ℕ) (x : Packet) (rest : List Packet) (link : ℕ → Link) (d : ℕ)
     → (ended_link c q x rest link d).e ≡ (link d).e
-ended_e c q x rest link d = go (d == q) ∙ popped_e c rest link d
-  where
-    go : (b : Bool) → (if b then record (popped_link c rest link d) { d = (popped_link c rest link d).d ++ x ∷ [] } else
-        popped_link c rest link d).e ≡ (popped_link c rest link d).e
-    go true = refl
-    go false = refl
+ended_e c q x rest link d =
+    let go : (b : Bool) → (if b then record (popped_link c rest link d) { d = (popped_link c rest link d).d ++ x ∷ [] }
+    else popped_link c rest link d).e ≡ (popped_link c rest link d).e = elim [ true ↦ refl | false ↦ refl ] in
+    go (d == q) ∙ popped_e c rest link d
 
 granted_e : (c q n : ℕ) (rest : List Packet) (link : ℕ → Link) (d : ℕ) → (granted_link c q n rest link d).e ≡ (link d).e
 granted_e c q n rest link d = set_e q (record (link q) { d = (link q).d ++ packet Grant n ∷ [] })

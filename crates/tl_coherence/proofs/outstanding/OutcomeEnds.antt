@@ -116,18 +116,13 @@ pub first-moved : {w : ℕ} (config : Config) (link : Link) (ch : Channel) (sys 
     → is_moving (stepped config (Deliver link ch) sys).outcome ≡ true → (x : Beat w) × (queue : List (Beat w))
     × (terms : EndConfig) × ((sys.channels link.0 ch ≡ x ∷ queue) × (terms_at config link.0 ≡ Some terms))
 unfolding stepped
-first-moved {w} config link ch sys moving = go (terms_at config link.0) refl moving
-  where
-    First : Type 0
-    First = (x : Beat w) × (queue : List (Beat w)) × (terms : EndConfig)
-        × ((sys.channels link.0 ch ≡ x ∷ queue) × (terms_at config link.0 ≡ Some terms))
-
-    at : (terms : EndConfig) → terms_at config link.0 ≡ Some terms → (beats : List (Beat w))
-        → sys.channels link.0 ch ≡ beats → is_moving (delivered config terms link.0 ch beats sys).outcome ≡ true → First
-    at terms e [] f m = absurd cc
-    at terms e (x ∷ queue) f m = (x, queue, terms, (f, e))
-
-    go : (o : Option EndConfig) → terms_at config link.0 ≡ o
-        → is_moving (stepped_at config o (Deliver link ch) sys).outcome ≡ true → First
-    go None e m = absurd cc
-    go (Some terms) e m = at terms e (sys.channels link.0 ch) refl m
+first-moved {w} config link ch sys moving =
+    let First : Type 0 = (x : Beat w) × (queue : List (Beat w)) × (terms : EndConfig)
+    × ((sys.channels link.0 ch ≡ x ∷ queue) × (terms_at config link.0 ≡ Some terms)) in
+    let at : (terms : EndConfig) → terms_at config link.0 ≡ Some terms → (beats : List (Beat w))
+    → sys.channels link.0 ch ≡ beats → is_moving (delivered config terms link.0 ch beats sys).outcome ≡ true
+    → First = λ terms e. elim [ [] ↦ λ f m. absurd cc | x ∷ queue ↦ λ f m. (x, queue, terms, (f, e)) ] in
+    let go : (o : Option EndConfig) → terms_at config link.0 ≡ o
+    → is_moving (stepped_at config o (Deliver link ch) sys).outcome ≡ true → First =
+    elim [ None ↦ λ e m. absurd cc | Some terms ↦ λ e m. at terms e (sys.channels link.0 ch) refl m ] in
+    go (terms_at config link.0) refl moving

@@ -67,6 +67,9 @@ pub release_ack_taken-kept : {X : Type 0} {caching : ℕ → Bool} (c n : ℕ) (
     → IsInvariant caching s → (s.link c).d ≡ packet ReleaseAck n ∷ rest
     → ((s.block n).pair c).letting ≡ ReleaseAcked → IsInvariant caching (release_ack_taken c n rest s)
 release_ack_taken-kept {X} {caching} c n rest {s} inv first acked =
+    let here : Link = record (s.link c) { d = rest } in
+    let moved : AreMoved (let_go_moves n) (s.link c) here = elim [ Channel.D ↦ first | _ ↦ refl ] in
+    let own : (ch : Channel) → is_own_move ch (let_go_moves n ch) ≡ true = elim [ Channel.A ↦ refl | ch ↦ refl ] in
     let old : ℕ → ClientBlock = (s.block n).pair in
     let after : ClientBlock = after_release_ack (old c) in
     let new : Block X = let_go_block c (s.block n) in
@@ -95,40 +98,28 @@ release_ack_taken-kept {X} {caching} c n rest {s} inv first acked =
           inv.named.releases;
       trackers = names-block is_of tracks_with s.tracked n new s.block (λ i. refl) inv.named.trackers;
     })
-  where
-    here : Link
-    here = record (s.link c) { d = rest }
-
-    moved : AreMoved (let_go_moves n) (s.link c) here
-    moved Channel.D = first
-    moved _ = refl
-
-    own : (ch : Channel) → is_own_move ch (let_go_moves n ch) ≡ true
-    own Channel.A = refl
-    own ch = refl
 
 -- ---- a GrantAck
 
 pub freed-block : {X : Type 0} {caching : ℕ → Bool} (c : ℕ) {b : Block X} → IsWell caching b → b.service ≡ GrantTaken c
     → IsWell caching (freed_block b)
-freed-block c {b} h taken = record {
-  phases = λ d. elim (cases_eq d c) [
-    | inl same ↦ rw same (ack_taken-ok (b.pair c) (view b.service c) (h.phases c) (rw (taken, same_number c) refl))
-    | inr other ↦ ack_taken_other-ok (b.pair d) (view b.service d) (h.phases d) (rw (taken, ne_eqb d c other) refl)
-  ];
-  awaited = tt;
-  asked_cap = tt;
-  own_source = tt;
-  alone = h.alone;
-  one_owner = h.one_owner;
-  outside = h.outside;
-  copies = h.copies;
-  memory = λ none. h.memory (λ d. ungranted d (d == c) refl ∙ none d);
-}
-  where
-    ungranted : (d : ℕ) (x : Bool) → (d == c) ≡ x → is_out (b.pair d) (view b.service d) ≡ is_out (b.pair d) Idle
-    ungranted d true e = rw (taken, e) refl
-    ungranted d false e = rw (taken, e) refl
+freed-block c {b} h taken =
+    let ungranted : (d : ℕ) (x : Bool) → (d == c) ≡ x → is_out (b.pair d) (view b.service d) ≡ is_out (b.pair d) Idle =
+    λ d. elim [ true ↦ λ e. rw (taken, e) refl | false ↦ λ e. rw (taken, e) refl ] in
+    record {
+      phases = λ d. elim (cases_eq d c) [
+        | inl same ↦ rw same (ack_taken-ok (b.pair c) (view b.service c) (h.phases c) (rw (taken, same_number c) refl))
+        | inr other ↦ ack_taken_other-ok (b.pair d) (view b.service d) (h.phases d) (rw (taken, ne_eqb d c other) refl)
+      ];
+      awaited = tt;
+      asked_cap = tt;
+      own_source = tt;
+      alone = h.alone;
+      one_owner = h.one_owner;
+      outside = h.outside;
+      copies = h.copies;
+      memory = λ none. h.memory (λ d. ungranted d (d == c) refl ∙ none d);
+    }
 
 abbrev pub freed_moves : ℕ → Channel → Move
 freed_moves n Channel.E = Pops GrantAck n
@@ -153,6 +144,9 @@ pub grant_ack_taken-kept : {X : Type 0} {caching : ℕ → Bool} (c n : ℕ) (re
     → IsInvariant caching s → (s.link c).e ≡ packet GrantAck n ∷ rest → (s.block n).service ≡ GrantTaken c
     → IsInvariant caching (grant_ack_taken c n rest s)
 grant_ack_taken-kept {X} {caching} c n rest {s} inv first taken =
+    let here : Link = record (s.link c) { e = rest } in
+    let moved : AreMoved (freed_moves n) (s.link c) here = elim [ Channel.E ↦ first | _ ↦ refl ] in
+    let own : (ch : Channel) → is_own_move ch (freed_moves n ch) ≡ true = elim [ Channel.A ↦ refl | ch ↦ refl ] in
     let new : Block X = freed_block (s.block n) in
     let used = is_of-is n (s.tracked tracker) (inv.named.trackers tracker n ∙ rw (taken, same_number tracker) refl) in
     invariant-moved caching n new (set c here s.link) (moves_at c (freed_moves n)) s.lets (set tracker None s.tracked) s
@@ -176,16 +170,5 @@ grant_ack_taken-kept {X} {caching} c n rest {s} inv first taken =
           (λ m ne. rw used (sym (ne_eqb m n ne))) (λ i ne. rw (taken, ne_eqb i tracker ne) refl) inv.named.trackers;
     })
   where
-    here : Link
-    here = record (s.link c) { e = rest }
-
     tracker : ℕ
     tracker = (s.block n).tracker
-
-    moved : AreMoved (freed_moves n) (s.link c) here
-    moved Channel.E = first
-    moved _ = refl
-
-    own : (ch : Channel) → is_own_move ch (freed_moves n ch) ≡ true
-    own Channel.A = refl
-    own ch = refl

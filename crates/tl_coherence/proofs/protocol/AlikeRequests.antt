@@ -18,33 +18,27 @@ use Rattle.tl_coherence.proofs.queues.Tokens.{set-same, set-other, set-part}
 
 pub waits_ungranted : (own : Bool) (r source : ℕ) (k : Cap) (i : ℕ)
     → is_granting (view (Waits r own source k) i) ≡ false
-waits_ungranted own r source k i = go (own && (i == r))
-  where
-    go : (b : Bool) → is_granting (if b then Own else Other k) ≡ false
-    go true = refl
-    go false = refl
+waits_ungranted own r source k i =
+    let go : (b : Bool) → is_granting (if b then Own else Other k) ≡ false = elim [ true ↦ refl | false ↦ refl ] in
+    go (own && (i == r))
 
 pub waits_unacknowledged : (own : Bool) (r source : ℕ) (k : Cap) (i : ℕ)
     → is_acknowledging (view (Waits r own source k) i) ≡ false
-waits_unacknowledged own r source k i = go (own && (i == r))
-  where
-    go : (b : Bool) → is_acknowledging (if b then Own else Other k) ≡ false
-    go true = refl
-    go false = refl
+waits_unacknowledged own r source k i =
+    let go : (b : Bool) → is_acknowledging (if b then Own else Other k) ≡ false = elim [ true ↦ refl | false ↦ refl ] in
+    go (own && (i == r))
 
 pub sent_unacknowledged : (q : ℕ) (d : Bool) (k : Cap) (i : ℕ) → is_acknowledging (view (GrantSent q d k) i) ≡ false
-sent_unacknowledged q d k i = go (i == q)
-  where
-    go : (b : Bool) → is_acknowledging (if b then Granting d k else GrantedOther) ≡ false
-    go true = refl
-    go false = refl
+sent_unacknowledged q d k i =
+    let go : (b : Bool) → is_acknowledging (if b then Granting d k else GrantedOther) ≡ false =
+    elim [ true ↦ refl | false ↦ refl ] in
+    go (i == q)
 
 pub taken_ungranted : (q i : ℕ) → is_granting (view (GrantTaken q) i) ≡ false
-taken_ungranted q i = go (i == q)
-  where
-    go : (b : Bool) → is_granting (if b then Acknowledging else GrantedOther) ≡ false
-    go true = refl
-    go false = refl
+taken_ungranted q i =
+    let go : (b : Bool) → is_granting (if b then Acknowledging else GrantedOther) ≡ false =
+    elim [ true ↦ refl | false ↦ refl ] in
+    go (i == q)
 
 pub ungranted : (v : Service) (i : ℕ) (u : Service) → v ≡ u → is_granting (view u i) ≡ false
     → is_granting (view v i) ≡ true → ⊥

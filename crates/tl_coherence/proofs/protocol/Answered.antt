@@ -56,6 +56,9 @@ pub access_answered-kept : {X : Type 0} {caching : ℕ → Bool} (c n source : �
     {s : State X} → IsInvariant caching s → (s.link c).a ≡ packet Request source ∷ rest → s.uses c source ≡ Asked
     → Spares f (s.block n) → IsInvariant caching (access_answered c n source f rest s)
 access_answered-kept {X} {caching} c n source f rest {s} inv first asked spared =
+    let here : Link = answered_link (packet Answer source) rest (s.link c) in
+    let moved : AreMoved (answer_moves source) (s.link c) here = elim [ Channel.A ↦ first | _ ↦ refl ] in
+    let own : (ch : Channel) → is_own_move ch (answer_moves source ch) ≡ true = elim [ Channel.A ↦ refl | ch ↦ refl ] in
     let new : Block X = performed_block f (s.block n) in
     invariant-moved_use c source Replied s.tracked
     inv
@@ -80,17 +83,6 @@ access_answered-kept {X} {caching} c n source f rest {s} inv first asked spared 
       releases = λ d. names-block is_of (releases_with d) (s.lets d) n new s.block (λ i. refl) (inv.named.releases d);
       trackers = names-block is_of tracks_with s.tracked n new s.block (λ i. refl) inv.named.trackers;
     })
-  where
-    here : Link
-    here = answered_link (packet Answer source) rest (s.link c)
-
-    moved : AreMoved (answer_moves source) (s.link c) here
-    moved Channel.A = first
-    moved _ = refl
-
-    own : (ch : Channel) → is_own_move ch (answer_moves source ch) ≡ true
-    own Channel.A = refl
-    own ch = refl
 
 -- an answer is taken
 abbrev pub done_moves : ℕ → Channel → Move
@@ -105,7 +97,11 @@ done_spared source k t = refl
 pub answer_taken-kept : {X : Type 0} {caching : ℕ → Bool} (c source : ℕ) (rest : List Packet) {s : State X}
     → IsInvariant caching s → (s.link c).d ≡ packet Answer source ∷ rest → s.uses c source ≡ Replied
     → IsInvariant caching (answer_taken c source rest s)
-answer_taken-kept {caching} c source rest {s} inv first replied = invariant-moved_access
+answer_taken-kept {caching} c source rest {s} inv first replied =
+    let here : Link = record (s.link c) { d = rest } in
+    let moved : AreMoved (done_moves source) (s.link c) here = elim [ Channel.D ↦ first | _ ↦ refl ] in
+    let own : (ch : Channel) → is_own_move ch (done_moves source ch) ≡ true = elim [ Channel.A ↦ refl | ch ↦ refl ] in
+    invariant-moved_access
     inv (record {
       moved = moved;
       own = own;
@@ -116,14 +112,3 @@ answer_taken-kept {caching} c source rest {s} inv first replied = invariant-move
       acquires = λ m. rw replied refl;
       serves = λ m. rw replied refl;
     })
-  where
-    here : Link
-    here = record (s.link c) { d = rest }
-
-    moved : AreMoved (done_moves source) (s.link c) here
-    moved Channel.D = first
-    moved _ = refl
-
-    own : (ch : Channel) → is_own_move ch (done_moves source ch) ≡ true
-    own Channel.A = refl
-    own ch = refl

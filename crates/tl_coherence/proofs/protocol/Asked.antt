@@ -130,6 +130,9 @@ access_spared source k t = refl
 pub access_asked-kept : {X : Type 0} {caching : ℕ → Bool} (c source : ℕ) {s : State X} → IsInvariant caching s
     → s.uses c source ≡ SourceFree → IsInvariant caching (access_asked c source s)
 access_asked-kept {caching} c source {s} inv closed =
+    let moved : AreMoved (access_moves source) (s.link c) (with_a (packet Request source) (s.link c)) =
+    elim [ Channel.A ↦ refl | _ ↦ refl ] in
+    let own : (ch : Channel) → is_own_move ch (access_moves source ch) ≡ true = elim [ Channel.A ↦ refl | ch ↦ refl ] in
     invariant-moved_access
     inv (record {
       moved = moved;
@@ -141,14 +144,6 @@ access_asked-kept {caching} c source {s} inv closed =
       acquires = λ m. rw closed refl;
       serves = λ m. rw closed refl;
     })
-  where
-    moved : AreMoved (access_moves source) (s.link c) (with_a (packet Request source) (s.link c))
-    moved Channel.A = refl
-    moved _ = refl
-
-    own : (ch : Channel) → is_own_move ch (access_moves source ch) ≡ true
-    own Channel.A = refl
-    own ch = refl
 
 -- an Acquire
 abbrev pub acquire_moves : ℕ → Channel → Move
@@ -174,6 +169,9 @@ pub acquire_asked-kept : {X : Type 0} {caching : ℕ → Bool} (c n source : ℕ
     → grow_fits ((s.block n).pair c).held (AcquireOpen whole g) ≡ true
     → IsInvariant caching (acquire_asked c n source whole g bytes s)
 acquire_asked-kept {X} {caching} c n source whole g bytes {s} inv inside closed calm kept fits =
+    let here : Link = with_a (packet Acquire n) (s.link c) in
+    let moved : AreMoved (acquire_moves n) (s.link c) here = elim [ Channel.A ↦ refl | _ ↦ refl ] in
+    let own : (ch : Channel) → is_own_move ch (acquire_moves n ch) ≡ true = elim [ Channel.A ↦ refl | ch ↦ refl ] in
     let old : ℕ → ClientBlock = (s.block n).pair in
     let after : ClientBlock = after_acquire whole g (old c) in
     let new : Block X = acquiring_block c source whole g bytes (s.block n) in
@@ -204,17 +202,6 @@ acquire_asked-kept {X} {caching} c n source whole g bytes {s} inv inside closed 
           (λ i. rw (set-part (λ (p : ClientBlock). p.letting) c after old refl d) refl) (inv.named.releases d);
       trackers = names-block is_of tracks_with s.tracked n new s.block (λ i. refl) inv.named.trackers;
     })
-  where
-    here : Link
-    here = with_a (packet Acquire n) (s.link c)
-
-    moved : AreMoved (acquire_moves n) (s.link c) here
-    moved Channel.A = refl
-    moved _ = refl
-
-    own : (ch : Channel) → is_own_move ch (acquire_moves n ch) ≡ true
-    own Channel.A = refl
-    own ch = refl
 
 -- a Release
 abbrev pub release_moves : ℕ → Channel → Move
@@ -238,6 +225,9 @@ pub release_asked-kept : {X : Type 0} {caching : ℕ → Bool} (c n source : ℕ
     → ((s.block n).pair c).acquiring ≡ NoAcquire → ((s.block n).pair c).letting ≡ NoRelease
     → same_perm ((s.block n).pair c).held (prune_left r) ≡ true → IsInvariant caching (release_asked c n source r s)
 release_asked-kept {X} {caching} c n source r {s} inv inside closed calm kept fits =
+    let here : Link = with_c (packet Release n) (s.link c) in
+    let moved : AreMoved (release_moves n) (s.link c) here = elim [ Channel.A ↦ refl | _ ↦ refl ] in
+    let own : (ch : Channel) → is_own_move ch (release_moves n ch) ≡ true = elim [ Channel.A ↦ refl | ch ↦ refl ] in
     let old : ℕ → ClientBlock = (s.block n).pair in
     let after : ClientBlock = after_release r (old c) in
     let new : Block X = releasing_block c source r (s.block n) in
@@ -267,17 +257,6 @@ release_asked-kept {X} {caching} c n source r {s} inv inside closed calm kept fi
           inv.named.releases;
       trackers = names-block is_of tracks_with s.tracked n new s.block (λ i. refl) inv.named.trackers;
     })
-  where
-    here : Link
-    here = with_c (packet Release n) (s.link c)
-
-    moved : AreMoved (release_moves n) (s.link c) here
-    moved Channel.A = refl
-    moved _ = refl
-
-    own : (ch : Channel) → is_own_move ch (release_moves n ch) ≡ true
-    own Channel.A = refl
-    own ch = refl
 
 -- a store
 pub block_stored-kept : {X : Type 0} (caching : ℕ → Bool) (c n : ℕ) (bytes : X) (s : State X) → IsInvariant caching s

@@ -131,6 +131,9 @@ pub acquire_granted-kept : {X : Type 0} {caching : ℕ → Bool} {r : ℕ} (n tr
     → IsInvariant caching (acquire_granted r n tracker (is_granted_data whole g ((s.block n).pair r).recorded) gift rest
     s)
 acquire_granted-kept {X} {caching} {r} n tracker {whole} {g} {gift} rest {s} inv first is unused =
+    let here : Link = answered_link (packet Grant n) rest (s.link r) in
+    let moved : AreMoved (once_moves n) (s.link r) here = elim [ Channel.A ↦ first | _ ↦ refl ] in
+    let own : (ch : Channel) → is_own_move ch (once_moves n ch) ≡ true = elim [ Channel.A ↦ refl | ch ↦ refl ] in
     let with_data : Bool = is_granted_data whole g ((s.block n).pair r).recorded in
     let old : ℕ → ClientBlock = (s.block n).pair in
     let after : ClientBlock = after_grant_sent gift (old r) in
@@ -158,14 +161,3 @@ acquire_granted-kept {X} {caching} {r} n tracker {whole} {g} {gift} rest {s} inv
           (rw (same_number n, same_number tracker) refl)
           (λ m ne. rw unused (ne_eqb m n ne)) (λ i ne. rw (is.free, ne_eqb i tracker ne) refl) inv.named.trackers;
     })
-  where
-    here : Link
-    here = answered_link (packet Grant n) rest (s.link r)
-
-    moved : AreMoved (once_moves n) (s.link r) here
-    moved Channel.A = first
-    moved _ = refl
-
-    own : (ch : Channel) → is_own_move ch (once_moves n ch) ≡ true
-    own Channel.A = refl
-    own ch = refl

@@ -106,21 +106,18 @@ acked-open x e = absurd cc
 -- who sees its GrantAck under way
 pub acknowledging-is : (s : Service) (c : ℕ) → is_acknowledging (view s c) ≡ true → s ≡ GrantTaken c
 acknowledging-is Free c e = absurd cc
-acknowledging-is (Waits q o source k) c e = absurd (never (o && (c == q)) e)
-  where
-    never : (x : Bool) → is_acknowledging (if x then Own else Other k) ≡ true → ⊥
-    never true f = cc
-    never false f = cc
-acknowledging-is (GrantSent q d k) c e = absurd (never (c == q) e)
-  where
-    never : (x : Bool) → is_acknowledging (if x then Granting d k else GrantedOther) ≡ true → ⊥
-    never true f = cc
-    never false f = cc
-acknowledging-is (GrantTaken q) c e = let same : c ≡ q = eqb-true c q (own (c == q) e) in rw same refl
-  where
-    own : (x : Bool) → is_acknowledging (if x then Acknowledging else GrantedOther) ≡ true → x ≡ true
-    own true f = refl
-    own false f = absurd cc
+acknowledging-is (Waits q o source k) c e =
+    let never : (x : Bool) → is_acknowledging (if x then Own else Other k) ≡ true → ⊥ =
+    elim [ true ↦ λ f. cc | false ↦ λ f. cc ] in
+    absurd (never (o && (c == q)) e)
+acknowledging-is (GrantSent q d k) c e =
+    let never : (x : Bool) → is_acknowledging (if x then Granting d k else GrantedOther) ≡ true → ⊥ =
+    elim [ true ↦ λ f. cc | false ↦ λ f. cc ] in
+    absurd (never (c == q) e)
+acknowledging-is (GrantTaken q) c e =
+    let own : (x : Bool) → is_acknowledging (if x then Acknowledging else GrantedOther) ≡ true → x ≡ true =
+    elim [ true ↦ λ f. refl | false ↦ λ f. absurd cc ] in
+    let same : c ≡ q = eqb-true c q (own (c == q) e) in rw same refl
 
 -- who sees another's service sees no Grant
 pub not-other : (x : Bool) (u v : View) → is_other u ≡ false → is_other v ≡ false

@@ -48,12 +48,10 @@ module _ {X : Type 0} (caching : ℕ → Bool) (s : State X) (c n : ℕ) (inv : 
   report_named e = tracked_probing (not-answered ((s.block n).pair c).probing e)
 
   pub grant_ack_named : shown GrantAck c (s.block n) ≡ true → s.tracked (s.block n).tracker ≡ Some n
-  grant_ack_named e = tracker_of_service n inv
-      (busy_unless_idle (s.block n).service c (go (view (s.block n).service c) e))
-    where
-      go : (v : View) → is_acknowledging v ≡ true → is_idle v ≡ false
-      go Acknowledging h = refl
-      go v h = absurd cc
+  grant_ack_named e =
+      let go : (v : View) → is_acknowledging v ≡ true → is_idle v ≡ false =
+      elim [ Acknowledging ↦ λ h. refl | v ↦ λ h. absurd cc ] in
+      tracker_of_service n inv (busy_unless_idle (s.block n).service c (go (view (s.block n).service c) e))
 
 -- ---- the channels
 

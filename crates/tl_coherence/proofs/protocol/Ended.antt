@@ -33,30 +33,38 @@ pub record IsLastOf {X : Type 0} (c q : ℕ) (r : Report) (f : X → X) (source 
 
 pub ended-block : {X : Type 0} {caching : ℕ → Bool} {c q : ℕ} {r : Report} {f : X → X} {source : ℕ} {k : Cap}
     {b : Block X} → IsWell caching b → IsLastOf c q r f source k b → IsWell caching (ended_block c r f b)
-ended-block {X} {caching} {c} {r} {f} {k} {b} h last = record {
-  phases = phase;
-  awaited = tt;
-  asked_cap = tt;
-  own_source = tt;
-  alone = alone-set c b.pair (gentle-report r (b.pair c) begins) h.alone;
-  one_owner = owned-set c b.pair (gentle-report r (b.pair c) begins) h.one_owner;
-  outside = outside-set caching c after b.pair (busy-inside caching c b.pair (λ p. is_answered p.probing) refl
-      (rw last.answered refl) h.outside) h.outside;
-  copies = λ d some. copy_is d some last.spares;
-  memory = λ none. ap f (memory_is (same_perm (report_left r) Perm.Trunk) refl);
-}
+ended-block {X} {caching} {c} {r} {f} {k} {b} h last =
+    let begins : same_perm (report_left r) (b.pair c).recorded ≡ true =
+    report_begins r (b.pair c) (view b.service c) (h.phases c) last.answered in
+    let low : same_cap k Cap.ToT ≡ false = cap_is_low k (b.pair c) (view b.service c) (h.phases c) (other c) in
+    -- before, nobody had a Trunk but the client whose ProbeAck is taken, if that carries data
+    let none_out : same_perm (report_left r) Perm.Trunk ≡ false → (d : ℕ) → is_out (b.pair d) (view b.service d)
+    ≡ false = λ bare d. not_out (b.pair d) (view b.service d) (elim (cases_eq d c) [
+      | inl same ↦ rw same (both_trunk (report_left r) (b.pair c).recorded begins bare)
+      | inr ne ↦ low_within (b.pair d).recorded k (spared_within k (b.pair d) (view b.service d) (h.phases d) (other d)
+          (quiet-is (b.pair d).probing (last.settled d ne))) low
+    ]) in
+    let memory_is : (data_too : Bool) → same_perm (report_left r) Perm.Trunk ≡ data_too
+    → written r b.truth b.memory ≡ b.truth =
+    elim [ true ↦ λ e. rw e refl | false ↦ λ e. rw e (h.memory (none_out e)) ] in
+    record {
+      phases = phase;
+      awaited = tt;
+      asked_cap = tt;
+      own_source = tt;
+      alone = alone-set c b.pair (gentle-report r (b.pair c) begins) h.alone;
+      one_owner = owned-set c b.pair (gentle-report r (b.pair c) begins) h.one_owner;
+      outside = outside-set caching c after b.pair (busy-inside caching c b.pair (λ p. is_answered p.probing) refl
+          (rw last.answered refl) h.outside) h.outside;
+      copies = λ d some. copy_is d some last.spares;
+      memory = λ none. ap f (memory_is (same_perm (report_left r) Perm.Trunk) refl);
+    }
   where
     after : ClientBlock
     after = after_report r (b.pair c)
 
     other : (d : ℕ) → view b.service d ≡ Other k
     other d = rw last.waits refl
-
-    begins : same_perm (report_left r) (b.pair c).recorded ≡ true
-    begins = report_begins r (b.pair c) (view b.service c) (h.phases c) last.answered
-
-    low : same_cap k Cap.ToT ≡ false
-    low = cap_is_low k (b.pair c) (view b.service c) (h.phases c) (other c)
 
     phase : (d : ℕ) → ok (set c after b.pair d) Idle ≡ true
     phase d = elim (cases_eq d c) [
@@ -87,19 +95,6 @@ ended-block {X} {caching} {c} {r} {f} {k} {b} h last = record {
         let no = nothing_below (set c after b.pair d).held (set c after b.pair d).recorded
         (held_at_most (set c after b.pair d) Idle (phase d)) (nobody all d) in
         absurd (let differs : true ≡ false = sym no ∙ some in cc)
-
-    -- before, nobody had a Trunk but the client whose ProbeAck is taken, if that carries data
-    none_out : same_perm (report_left r) Perm.Trunk ≡ false → (d : ℕ) → is_out (b.pair d) (view b.service d) ≡ false
-    none_out bare d = not_out (b.pair d) (view b.service d) (elim (cases_eq d c) [
-      | inl same ↦ rw same (both_trunk (report_left r) (b.pair c).recorded begins bare)
-      | inr ne ↦ low_within (b.pair d).recorded k (spared_within k (b.pair d) (view b.service d) (h.phases d) (other d)
-          (quiet-is (b.pair d).probing (last.settled d ne))) low
-    ])
-
-    memory_is : (data_too : Bool) → same_perm (report_left r) Perm.Trunk ≡ data_too
-        → written r b.truth b.memory ≡ b.truth
-    memory_is true e = rw e refl
-    memory_is false e = rw e (h.memory (none_out e))
 
 -- ---- one link
 
@@ -170,6 +165,8 @@ pub report_answers-kept : {X : Type 0} (caching : ℕ → Bool) (c q n : ℕ) (r
     (rest : List Packet) (s : State X) → IsInvariant caching s → (s.link c).c ≡ packet ProbeAck n ∷ rest
     → IsLastOf c q r f source k (s.block n) → IsInvariant caching (report_answers c q n source r f rest s)
 report_answers-kept {X} caching c q n r f source k rest s inv first last =
+    let never_pushed : (x : Bool) (m : ℕ) → (if x then Pops ProbeAck n else Stays) ≡ Pushes ProbeAck m → ⊥ =
+    elim [ true ↦ λ m e. cc | false ↦ λ m e. cc ] in
     let links : ℕ → Link = ended_link c q (packet Answer source) rest s.link in
     let used : s.uses q source ≡ InService n = serves_of-is n (s.uses q source) (inv.named.serves q source n
     ∙ rw (last.waits, same_number q, same_number source) refl) in
@@ -230,10 +227,6 @@ report_answers-kept {X} caching c q n r f source k rest s inv first last =
 
     tracked : s.tracked tracker ≡ Some n
     tracked = is_of-is n (s.tracked tracker) (inv.named.trackers tracker n ∙ rw (last.waits, same_number tracker) refl)
-
-    never_pushed : (x : Bool) (m : ℕ) → (if x then Pops ProbeAck n else Stays) ≡ Pushes ProbeAck m → ⊥
-    never_pushed true m e = cc
-    never_pushed false m e = cc
 
     pair_is : (d : ℕ) → set c after old d ≡ (if d == c then after_report r (old d) else old d)
     pair_is d = elim (cases_eq d c) [

@@ -74,6 +74,21 @@ pub granted-block : {X : Type 0} {caching : ℕ → Bool} {c q : ℕ} {r : Repor
     {source : ℕ} {k : Cap} {b : Block X} → IsWell caching b → IsLast c q r whole g gift source k b
     → IsWell caching (granted_block c q r (is_granted_data whole g (b.pair q).recorded) gift b)
 granted-block {X} {c} {q} {r} {whole} {g} {gift} {source} {k} {b} h last =
+    -- before, nobody had a Trunk but the client whose ProbeAck is taken, if that carries data
+    let none_out : same_perm (report_left r) Perm.Trunk ≡ false → (d : ℕ) → is_out (b.pair d) (view b.service d)
+    ≡ false = λ bare d. not_out (b.pair d) (view b.service d) (elim (cases_eq d q) [
+      | inl same ↦ rw same (not-true (same_perm (b.pair q).recorded Perm.Trunk)
+          (own_low (b.pair q) (view b.service q) (h.phases q) own))
+      | inr ne ↦ elim (cases_eq d c) [
+        | inl also ↦ rw also (both_trunk (report_left r) (b.pair c).recorded
+            (report_begins r (b.pair c) (view b.service c) (h.phases c) last.answered) bare)
+        | inr neither ↦ low_within (b.pair d).recorded k (spared_within k (b.pair d) (view b.service d) (h.phases d)
+            (other d ne) (quiet-is (b.pair d).probing (last.settled d neither))) low
+      ]
+    ]) in
+    let memory_is : (data_too : Bool) → same_perm (report_left r) Perm.Trunk ≡ data_too
+    → written r b.truth b.memory ≡ b.truth =
+    elim [ true ↦ λ e. rw e refl | false ↦ λ e. rw e (h.memory (none_out e)) ] in
     let with_data : Bool = is_granted_data whole g (b.pair q).recorded in
     let all_quiet : (j : ℕ) → is_unprobed (granted_pair c q r gift b.pair j).probing ≡ true = λ j. elim (cases_eq j q) [
       | inl same ↦ rw (same, granted_here) (own_quiet (b.pair q) (view b.service q) (h.phases q) own)
@@ -168,24 +183,6 @@ granted-block {X} {c} {q} {r} {whole} {g} {gift} {source} {k} {b} h last =
       | inr differs ↦ absurd (let t : same_perm (set c after b.pair i).recorded Perm.Trunk ≡ true =
           rw (granted_elsewhere i differs) at trunk in let u = low_elsewhere i differs in cc)
     ]
-
-    -- before, nobody had a Trunk but the client whose ProbeAck is taken, if that carries data
-    none_out : same_perm (report_left r) Perm.Trunk ≡ false → (d : ℕ) → is_out (b.pair d) (view b.service d) ≡ false
-    none_out bare d = not_out (b.pair d) (view b.service d) (elim (cases_eq d q) [
-      | inl same ↦ rw same (not-true (same_perm (b.pair q).recorded Perm.Trunk)
-          (own_low (b.pair q) (view b.service q) (h.phases q) own))
-      | inr ne ↦ elim (cases_eq d c) [
-        | inl also ↦ rw also (both_trunk (report_left r) (b.pair c).recorded
-            (report_begins r (b.pair c) (view b.service c) (h.phases c) last.answered) bare)
-        | inr neither ↦ low_within (b.pair d).recorded k (spared_within k (b.pair d) (view b.service d) (h.phases d)
-            (other d ne) (quiet-is (b.pair d).probing (last.settled d neither))) low
-      ]
-    ])
-
-    memory_is : (data_too : Bool) → same_perm (report_left r) Perm.Trunk ≡ data_too
-        → written r b.truth b.memory ≡ b.truth
-    memory_is true e = rw e refl
-    memory_is false e = rw e (h.memory (none_out e))
 
     not_calm : (p : ClientBlock) → p.acquiring ≡ AcquireOpen whole g → p ≡ resting → ⊥
     not_calm p e f = let i : p.acquiring ≡ NoAcquire = ap (λ (x : ClientBlock). x.acquiring) f in

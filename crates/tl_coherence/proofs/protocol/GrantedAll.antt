@@ -27,11 +27,9 @@ granted_moves n c q d _ = Stays
 at_sender : (n : ℕ) (k : Kind) (p : ClientBlock) (d : Bool) (gift : Cap) → is_transfer k ≡ true
     → agrees (granted_moves n 0 1 1 (channel_for k)) k n (shows k p Own)
     (shows k (after_grant_sent gift p) (Granting d gift)) ≡ true
-at_sender n Acquire p d gift t = go (is_wanting p.acquiring)
-  where
-    go : (b : Bool) → beq (b && false) (b && false) ≡ true
-    go true = refl
-    go false = refl
+at_sender n Acquire p d gift t =
+    let go : (b : Bool) → beq (b && false) (b && false) ≡ true = elim [ true ↦ refl | false ↦ refl ] in
+    go (is_wanting p.acquiring)
 at_sender n Probe p d gift t = same_again (is_sent p.probing)
 at_sender n ProbeAck p d gift t = same_again (is_answered p.probing)
 at_sender n Release p d gift t = same_again (is_releasing p.letting)

@@ -73,21 +73,18 @@ pub record IsGrantDue (c n : ℕ) (s : State (List ℕ)) : Type 0 where
 pub granting-service : (s : Service) (c : ℕ) → is_granting (view s c) ≡ true → (d : Bool) × (k : Cap)
     × (s ≡ GrantSent c d k)
 granting-service Free c e = absurd cc
-granting-service (Waits q o source k) c e = absurd (never (o && (c == q)) e)
-  where
-    never : (x : Bool) → is_granting (if x then Own else Other k) ≡ true → ⊥
-    never true f = cc
-    never false f = cc
-granting-service (GrantTaken q) c e = absurd (never (c == q) e)
-  where
-    never : (x : Bool) → is_granting (if x then Acknowledging else GrantedOther) ≡ true → ⊥
-    never true f = cc
-    never false f = cc
-granting-service (GrantSent q d k) c e = let same : c ≡ q = eqb-true c q (own (c == q) e) in (d, k, rw same refl)
-  where
-    own : (x : Bool) → is_granting (if x then Granting d k else GrantedOther) ≡ true → x ≡ true
-    own true f = refl
-    own false f = absurd cc
+granting-service (Waits q o source k) c e =
+    let never : (x : Bool) → is_granting (if x then Own else Other k) ≡ true → ⊥ =
+    elim [ true ↦ λ f. cc | false ↦ λ f. cc ] in
+    absurd (never (o && (c == q)) e)
+granting-service (GrantTaken q) c e =
+    let never : (x : Bool) → is_granting (if x then Acknowledging else GrantedOther) ≡ true → ⊥ =
+    elim [ true ↦ λ f. cc | false ↦ λ f. cc ] in
+    absurd (never (c == q) e)
+granting-service (GrantSent q d k) c e =
+    let own : (x : Bool) → is_granting (if x then Granting d k else GrantedOther) ≡ true → x ≡ true =
+    elim [ true ↦ λ f. refl | false ↦ λ f. absurd cc ] in
+    let same : c ≡ q = eqb-true c q (own (c == q) e) in (d, k, rw same refl)
 
 wanting_is : (x : AcquirePhase) → not (is_unacquired x) ≡ true → (whole : Bool) × (g : Grow) × (x ≡ AcquireOpen whole g)
 wanting_is NoAcquire e = absurd cc

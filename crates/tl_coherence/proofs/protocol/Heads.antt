@@ -56,7 +56,10 @@ asked-access : {w : ℕ} {config : Config} {log : Log w} {mail : AccessMessages 
     {s : State (List ℕ)} {sys : System w} (c source : ℕ) (m : MessageA w)
     → SimulationRelation config log mail request s sys → s.uses c source ≡ Asked → mail.request c source ≡ Message.A m
     → is_acquire m.opcode ≡ false
-asked-access {w} {s} {sys} c source m is used mailed = go (is_acquire m.opcode) refl
+asked-access {w} {s} {sys} c source m is used mailed =
+    let go : (x : Bool) → is_acquire m.opcode ≡ x → x ≡ false = elim [ true ↦ λ e. absurd (both e) | false ↦ λ e. refl ]
+    in
+    go (is_acquire m.opcode) refl
   where
     n : ℕ
     n = block_at m.address
@@ -83,10 +86,6 @@ asked-access {w} {s} {sys} c source m is used mailed = go (is_acquire m.opcode) 
         let same : source ≡ b.source c = (is.kept c).once source (b.source c) n mine theirs in
         let no : Asked ≡ Acquires n = sym used ∙ ap (s.uses c) same ∙ used_too in
         cc
-
-    go : (x : Bool) → is_acquire m.opcode ≡ x → x ≡ false
-    go true e = absurd (both e)
-    go false e = refl
 
 pub asked-first : {w : ℕ} {config : Config} {log : Log w} {mail : AccessMessages w} {request : ℕ → MessageA w}
     {s : State (List ℕ)} {sys : System w} (c source : ℕ) (rest : List Packet)

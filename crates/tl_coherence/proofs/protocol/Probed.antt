@@ -84,6 +84,9 @@ pub probe_taken-kept : {X : Type 0} {caching : ℕ → Bool} (c n : ℕ) (k : Ca
     → IsInvariant caching s → (s.link c).b ≡ packet Probe n ∷ rest → ((s.block n).pair c).probing ≡ ProbeSent k
     → ((s.block n).pair c).letting ≡ NoRelease → IsInvariant caching (probe_taken c n k rest s)
 probe_taken-kept {X} {caching} c n k rest {s} inv first sent kept =
+    let here : Link = probed_link n rest (s.link c) in
+    let moved : AreMoved (probe_moves n) (s.link c) here = elim [ Channel.B ↦ first | _ ↦ refl ] in
+    let own : (ch : Channel) → is_own_move ch (probe_moves n ch) ≡ true = elim [ Channel.A ↦ refl | ch ↦ refl ] in
     let after : ClientBlock = after_probe k ((s.block n).pair c) in
     let new : Block X = probed_block c k (s.block n) in
     let number_is : (m : ℕ) → Pushes ProbeAck n ≡ Pushes ProbeAck m → m ≡ n = λ m e. cc in
@@ -104,14 +107,3 @@ probe_taken-kept {X} {caching} c n k rest {s} inv first sent kept =
     (names-kept n new (set c here s.link) s inv.named
     (λ d i. rw (set-part (λ (p : ClientBlock). p.acquiring) c after (s.block n).pair refl d) refl) (λ d i. refl)
     (λ d i. rw (set-part (λ (p : ClientBlock). p.letting) c after (s.block n).pair refl d) refl) (λ i. refl))
-  where
-    here : Link
-    here = probed_link n rest (s.link c)
-
-    moved : AreMoved (probe_moves n) (s.link c) here
-    moved Channel.B = first
-    moved _ = refl
-
-    own : (ch : Channel) → is_own_move ch (probe_moves n ch) ≡ true
-    own Channel.A = refl
-    own ch = refl

@@ -10,11 +10,10 @@ use Rattle.tl_coherence.proofs.queues.Tokens.{same_number}
 nothing_shown : {X : Type 0} {caching : ℕ → Bool} {s : State X} (c n : ℕ) (k : Kind) → IsInvariant caching s
     → is_transfer k ≡ true → on k (s.link c) ≡ [] → shown k c (s.block n) ≡ false
 unfolding count
-nothing_shown {s} c n k inv t none = go (shown k c (s.block n)) (rw none at (inv.transfers c k t n))
-  where
-    go : (b : Bool) → 0 ≡ one_if b → b ≡ false
-    go true e = absurd (omega (arith, e))
-    go false e = refl
+nothing_shown {s} c n k inv t none =
+    let go : (b : Bool) → 0 ≡ one_if b → b ≡ false = elim [ true ↦ λ e. absurd (omega (arith, e)) | false ↦ λ e. refl ]
+    in
+    go (shown k c (s.block n)) (rw none at (inv.transfers c k t n))
 
 pub record IsSilent {X : Type 0} (s : State X) : Type 0 where
   pub b : (c : ℕ) → (s.link c).b ≡ []
@@ -27,12 +26,11 @@ pub free-when_silent : {X : Type 0} {caching : ℕ → Bool} {s : State X} (n : 
 free-when_silent {X} {caching} {s} n inv silent = go (s.block n).service refl
   where
     not_probed : (c : ℕ) → is_unprobed ((s.block n).pair c).probing ≡ true
-    not_probed c = quiet_of ((s.block n).pair c).probing (nothing_shown c n Probe inv refl (silent.b c))
+    not_probed c =
+        let quiet_of : (x : ProbePhase) → is_sent x ≡ false → is_answered x ≡ false → is_unprobed x ≡ true =
+        elim [ NoProbe ↦ λ e f. refl | x ↦ λ e f. absurd cc ] in
+        quiet_of ((s.block n).pair c).probing (nothing_shown c n Probe inv refl (silent.b c))
         (nothing_shown c n ProbeAck inv refl (silent.c c))
-      where
-        quiet_of : (x : ProbePhase) → is_sent x ≡ false → is_answered x ≡ false → is_unprobed x ≡ true
-        quiet_of NoProbe e f = refl
-        quiet_of x e f = absurd cc
 
     waited : (c : ℕ) → is_unprobed ((s.block n).pair c).probing ≡ false → ⊥
     waited c e = let f = not_probed c in absurd cc

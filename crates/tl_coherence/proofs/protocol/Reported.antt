@@ -78,17 +78,15 @@ pub memory-written : {X : Type 0} (c : ℕ) (left : Perm) (q : ClientBlock) (ser
     (memory truth : X) → same_perm left (pair c).recorded ≡ true
     → (((d : ℕ) → is_out (pair d) (view service d) ≡ false) → memory ≡ truth)
     → ((d : ℕ) → is_out (set c q pair d) (view service d) ≡ false) → written_from left truth memory ≡ truth
-memory-written {X} c left q service pair memory truth begins h none = go (same_perm left Perm.Trunk) refl
-  where
-    before : same_perm left Perm.Trunk ≡ false → (d : ℕ) → is_out (pair d) (view service d) ≡ false
-    before e d = elim (cases_eq d c) [
+memory-written {X} c left q service pair memory truth begins h none =
+    let before : same_perm left Perm.Trunk ≡ false → (d : ℕ) → is_out (pair d) (view service d) ≡ false =
+    λ e d. elim (cases_eq d c) [
       | inl same ↦ rw same (not_out (pair c) (view service c) (both_trunk left (pair c).recorded begins e))
       | inr other ↦ rw (set-other c d q pair other) at (none d)
-    ]
-
-    go : (data_too : Bool) → same_perm left Perm.Trunk ≡ data_too → (if data_too then truth else memory) ≡ truth
-    go true e = refl
-    go false e = h (before e)
+    ] in
+    let go : (data_too : Bool) → same_perm left Perm.Trunk ≡ data_too → (if data_too then truth else memory) ≡ truth =
+    elim [ true ↦ λ e. refl | false ↦ λ e. h (before e) ] in
+    go (same_perm left Perm.Trunk) refl
 
 -- ---- blocks
 
@@ -165,6 +163,9 @@ pub report_taken-kept : {X : Type 0} {caching : ℕ → Bool} (c n : ℕ) (r : R
     → ((s.block n).pair c).probing ≡ ProbeAnswered r → (w : ℕ) → (w ≡ c → ⊥)
     → is_unprobed ((s.block n).pair w).probing ≡ false → IsInvariant caching (report_taken c n r rest s)
 report_taken-kept {X} {caching} c n r rest {s} inv first answered w apart missing =
+    let here : Link = record (s.link c) { c = rest } in
+    let moved : AreMoved (report_moves n) (s.link c) here = elim [ Channel.C ↦ first | _ ↦ refl ] in
+    let own : (ch : Channel) → is_own_move ch (report_moves n ch) ≡ true = elim [ Channel.A ↦ refl | ch ↦ refl ] in
     let old : ℕ → ClientBlock = (s.block n).pair in
     let after : ClientBlock = after_report r (old c) in
     let new : Block X = reported_block c r (s.block n) in
@@ -182,17 +183,6 @@ report_taken-kept {X} {caching} c n r rest {s} inv first answered w apart missin
     (names-kept n new (set c here s.link) s inv.named
     (λ d i. rw (set-part (λ (p : ClientBlock). p.acquiring) c after old refl d) refl) (λ d i. refl)
     (λ d i. rw (set-part (λ (p : ClientBlock). p.letting) c after old refl d) refl) (λ i. refl))
-  where
-    here : Link
-    here = record (s.link c) { c = rest }
-
-    moved : AreMoved (report_moves n) (s.link c) here
-    moved Channel.C = first
-    moved _ = refl
-
-    own : (ch : Channel) → is_own_move ch (report_moves n ch) ≡ true
-    own Channel.A = refl
-    own ch = refl
 
 -- ---- a Release
 
@@ -218,20 +208,21 @@ pub release_first : {X : Type 0} {caching : ℕ → Bool} (c n : ℕ) (rest : Li
     → IsInvariant caching s → (s.link c).c ≡ packet Release n ∷ rest → is_answered ((s.block n).pair c).probing ≡ false
 unfolding count
 release_first c n rest {s} inv first =
+    let go : (b : Bool) → one_if b ≡ 0 → b ≡ false = elim [ true ↦ λ e. absurd (omega (arith, e)) | false ↦ λ e. refl ]
+    in
     let behind : count ProbeAck n rest ≡ 0 = ordered-first n (s.link c).c rest (packet Release n) first
     (rw (same_number n) refl) (inv.ordered c n) in
     let all : count ProbeAck n (packet Release n ∷ rest) ≡ one_if (is_answered ((s.block n).pair c).probing) =
     rw first at (inv.transfers c ProbeAck refl n) in
     go (is_answered ((s.block n).pair c).probing) (omega (arith, behind, all))
-  where
-    go : (b : Bool) → one_if b ≡ 0 → b ≡ false
-    go true e = absurd (omega (arith, e))
-    go false e = refl
 
 pub release_taken-kept : {X : Type 0} {caching : ℕ → Bool} (c n : ℕ) (r : Prune) (rest : List Packet) {s : State X}
     → IsInvariant caching s → (s.link c).c ≡ packet Release n ∷ rest
     → ((s.block n).pair c).letting ≡ ReleaseSent r → IsInvariant caching (release_taken c n r rest s)
 release_taken-kept {X} {caching} c n r rest {s} inv first releasing =
+    let here : Link = let_link n rest (s.link c) in
+    let moved : AreMoved (let_moves n) (s.link c) here = elim [ Channel.C ↦ first | _ ↦ refl ] in
+    let own : (ch : Channel) → is_own_move ch (let_moves n ch) ≡ true = elim [ Channel.A ↦ refl | ch ↦ refl ] in
     let old : ℕ → ClientBlock = (s.block n).pair in
     let after : ClientBlock = after_release_taken r (old c) in
     let new : Block X = let_block c r (s.block n) in
@@ -250,14 +241,3 @@ release_taken-kept {X} {caching} c n r rest {s} inv first releasing =
     (λ d i. rw (set-part (λ (p : ClientBlock). p.acquiring) c after old refl d) refl) (λ d i. refl)
     (λ d i. rw (set-part (λ (p : ClientBlock). is_unreleased p.letting) c after old (rw releasing refl) d) refl)
     (λ i. refl))
-  where
-    here : Link
-    here = let_link n rest (s.link c)
-
-    moved : AreMoved (let_moves n) (s.link c) here
-    moved Channel.C = first
-    moved _ = refl
-
-    own : (ch : Channel) → is_own_move ch (let_moves n ch) ≡ true
-    own Channel.A = refl
-    own ch = refl

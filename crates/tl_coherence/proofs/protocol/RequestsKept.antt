@@ -42,12 +42,11 @@ some-none (suc n) test e i lt = go (test n) refl e (λ f. some-none n test f i)
 pub some-one : (n : ℕ) (test : ℕ → Bool) → some_below n test ≡ true → (i : ℕ) × (test i ≡ true)
 unfolding some_below
 some-one zero test e = absurd cc
-some-one (suc n) test e = go (test n) refl e (λ f. some-one n test f)
-  where
-    go : (b : Bool) → test n ≡ b → (b || some_below n test) ≡ true
-        → (some_below n test ≡ true → (i : ℕ) × (test i ≡ true)) → (i : ℕ) × (test i ≡ true)
-    go true f g h = (n, f)
-    go false f g h = h g
+some-one (suc n) test e =
+    let go : (b : Bool) → test n ≡ b → (b || some_below n test) ≡ true
+    → (some_below n test ≡ true → (i : ℕ) × (test i ≡ true)) → (i : ℕ) × (test i ≡ true) =
+    elim [ true ↦ λ f g h. (n, f) | false ↦ λ f g h. h g ] in
+    go (test n) refl e (λ f. some-one n test f)
 
 -- who isn't a client has nothing, and isn't probed
 pub unprobed : (clients : ℕ) (caching : ℕ → Bool) (c : ℕ) (own : Bool) (k : Cap) (pair : ℕ → ClientBlock)
@@ -212,11 +211,9 @@ acquire_taken-kept {w} {caching} clients p c n tracker rest h inv plain first fr
         given = gift p whole g (is_unheld clients b.pair)
 
         low_cap : same_cap (cap_asked (AcquireOpen whole g)) (cap_asked (AcquireOpen whole g)) ≡ true
-        low_cap = same_again (cap_asked (AcquireOpen whole g))
-          where
-            same_again : (k : Cap) → same_cap k k ≡ true
-            same_again Cap.ToT = refl
-            same_again k = refl
+        low_cap =
+            let same_again : (k : Cap) → same_cap k k ≡ true = elim [ Cap.ToT ↦ refl | k ↦ refl ] in
+            same_again (cap_asked (AcquireOpen whole g))
 
         served : (x : Bool) → some_below clients (λ d. is_probed c true (cap_asked (AcquireOpen whole g))
             (b.pair d).recorded d) ≡ x

@@ -28,11 +28,10 @@ use Rattle.tl_coherence.proofs.queues.KindMoves.{same_again, spares, spared-agre
 unprobed_part : {A : Type 0} (part : ClientBlock → A) (r : ℕ) (own : Bool) (k : Cap) (pair : ℕ → ClientBlock)
     → ((p : ClientBlock) → part (after_served k p) ≡ part p) → (d : ℕ)
     → part (served_pair r own k pair d) ≡ part (pair d)
-unprobed_part part r own k pair e d = go (own && (d == r))
-  where
-    go : (b : Bool) → part (if b then pair d else after_served k (pair d)) ≡ part (pair d)
-    go true = refl
-    go false = e (pair d)
+unprobed_part part r own k pair e d =
+    let go : (b : Bool) → part (if b then pair d else after_served k (pair d)) ≡ part (pair d) =
+    elim [ true ↦ refl | false ↦ e (pair d) ] in
+    go (own && (d == r))
 
 -- one who has nothing isn't probed
 none_above : (k : Cap) (p : Perm) → same_perm p Perm.None ≡ true → is_above k p ≡ false
@@ -49,11 +48,9 @@ out_same : (p q : ClientBlock) (v u : View) → q.recorded ≡ p.recorded → is
 out_same p q v u e f = rw (e, f) refl
 
 never_granting : (r s : ℕ) (own : Bool) (k : Cap) (d : ℕ) → is_granting (view (Waits r own s k) d) ≡ false
-never_granting r s own k d = go (own && (d == r))
-  where
-    go : (b : Bool) → is_granting (if b then Own else Other k) ≡ false
-    go true = refl
-    go false = refl
+never_granting r s own k d =
+    let go : (b : Bool) → is_granting (if b then Own else Other k) ≡ false = elim [ true ↦ refl | false ↦ refl ] in
+    go (own && (d == r))
 
 never_top : (k : Cap) (whole : Bool) (g : Grow) → same_cap k (cap_asked (AcquireOpen whole g)) ≡ true
     → same_cap k Cap.ToT ≡ false
@@ -77,6 +74,16 @@ pub served-block : {X : Type 0} {caching : ℕ → Bool} (r : ℕ) {own : Bool} 
     → IsWell caching b → b.service ≡ Free → Probes own k (b.pair r) → IsOwnSource (Waits r own source k) b.source
     → (w : ℕ) → is_probed r own k (b.pair w).recorded w ≡ true → IsWell caching (served_block r own source tracker k b)
 served-block r {own} source tracker {k} {b} h free asks sourced w probed =
+    let quiet : (d : ℕ) → is_unprobed (b.pair d).probing ≡ true =
+    λ d. quiet_at_rest (b.pair d) (view b.service d) (h.phases d) (idle d) in
+    let sent : (x : Bool) → (not x && is_above k (b.pair w).recorded) ≡ true
+    → is_unprobed (if x then b.pair w else after_served k (b.pair w)).probing ≡ false =
+    elim [ true ↦ λ e. absurd cc | false ↦ λ e. rw e refl ] in
+    let left : (j : ℕ) (x : Bool) → same_perm (b.pair j).recorded Perm.None ≡ true
+    → is_unprobed (if x then b.pair j else after_served k (b.pair j)).probing ≡ true =
+    λ j. elim [ true ↦ λ none. quiet j | false ↦ λ none. rw (none_above k (b.pair j).recorded none) (quiet j) ] in
+    let bare : (d : ℕ) (x : Bool) → b.pair d ≡ resting → (if x then b.pair d else after_served k (b.pair d)) ≡ resting =
+    λ d. elim [ true ↦ λ e. e | false ↦ λ e. rw (e, none_above k Perm.None refl) refl ] in
     let recorded_same = unprobed_part (λ p. p.recorded) r own k b.pair (λ p. refl) in
     let held_same = unprobed_part (λ p. p.held) r own k b.pair (λ p. refl) in
     record {
@@ -97,9 +104,6 @@ served-block r {own} source tracker {k} {b} h free asks sourced w probed =
     idle : (d : ℕ) → view b.service d ≡ Idle
     idle d = rw free refl
 
-    quiet : (d : ℕ) → is_unprobed (b.pair d).probing ≡ true
-    quiet d = quiet_at_rest (b.pair d) (view b.service d) (h.phases d) (idle d)
-
     acquiring : (o : Bool) → o ≡ true → Probes o k (b.pair r) → (d : ℕ) → d ≡ r → ok (b.pair d) Own ≡ true
     acquiring false e a d f = absurd cc
     acquiring true e a d f = rw f (serve-ok a.0 a.1 (b.pair r) (view b.service r) (h.phases r) (idle r) a.2)
@@ -109,23 +113,9 @@ served-block r {own} source tracker {k} {b} h free asks sourced w probed =
     phase d true e = acquiring own (and_left own (d == r) e) asks d (eqb-true d r (and_right own (d == r) e))
     phase d false e = served-ok k (b.pair d) (view b.service d) (h.phases d) (idle d) (is_low own k (b.pair r) asks)
 
-    sent : (x : Bool) → (not x && is_above k (b.pair w).recorded) ≡ true
-        → is_unprobed (if x then b.pair w else after_served k (b.pair w)).probing ≡ false
-    sent true e = absurd cc
-    sent false e = rw e refl
-
     asked : (o : Bool) → Probes o k (b.pair r) → IsAskedCap (Waits r o source k) (served_pair r o k b.pair)
     asked true a = rw (unprobed_part (λ p. p.acquiring) r true k b.pair (λ p. refl) r, a.2) a.3
     asked false a = tt
-
-    left : (j : ℕ) (x : Bool) → same_perm (b.pair j).recorded Perm.None ≡ true
-        → is_unprobed (if x then b.pair j else after_served k (b.pair j)).probing ≡ true
-    left j true none = quiet j
-    left j false none = rw (none_above k (b.pair j).recorded none) (quiet j)
-
-    bare : (d : ℕ) (x : Bool) → b.pair d ≡ resting → (if x then b.pair d else after_served k (b.pair d)) ≡ resting
-    bare d true e = e
-    bare d false e = rw (e, none_above k Perm.None refl) refl
 
 -- ---- one link
 
@@ -168,11 +158,10 @@ other_shows : (n : ℕ) (j : Kind) (m : Move) (k : Cap) (p : ClientBlock) (above
 other_shows n Request m k p above t u q e = absurd cc
 other_shows n Answer m k p above t u q e = absurd cc
 other_shows n Acquire m k p above t u q e = spared-agrees m Acquire n (is_wanting p.acquiring && true) u
-other_shows n Probe m k p true t u q e = rw (e, same_number n, not_sent p.probing q) refl
-  where
-    not_sent : (y : ProbePhase) → is_unprobed y ≡ true → is_sent y ≡ false
-    not_sent (ProbeSent c) f = absurd cc
-    not_sent y f = refl
+other_shows n Probe m k p true t u q e =
+    let not_sent : (y : ProbePhase) → is_unprobed y ≡ true → is_sent y ≡ false =
+    elim [ ProbeSent c ↦ λ f. absurd cc | y ↦ λ f. refl ] in
+    rw (e, same_number n, not_sent p.probing q) refl
 other_shows n Probe m k p false t u q e = rw e (same_again (is_sent p.probing))
 other_shows n ProbeAck m k p true t u q e = rw (e, quiet_unanswered p.probing q) refl
 other_shows n ProbeAck m k p false t u q e = rw e (same_again (is_answered p.probing))
@@ -239,6 +228,11 @@ served-event : {X : Type 0} {caching : ℕ → Bool} (r n : ℕ) {own : Bool} (s
     → IsEvent caching n (served_block r own source tracker k (s.block n))
     (served_link r own n k rest (s.block n) s.link) (served_moves r own n source k (s.block n).pair) s
 served-event {caching} r n {own} source tracker {k} rest {s} inv first free asks sourced w probed =
+    let wants : (o : Bool) → Probes o k ((s.block n).pair r) → (d : ℕ) → o ≡ true → (d == r) ≡ true
+    → is_wanting ((s.block n).pair d).acquiring ≡ true =
+    elim [ false ↦ λ a d e f. absurd cc | true ↦ λ a d e f. rw (eqb-true d r f, a.2) refl ] in
+    let stays : (x : Bool) → x ≡ false → (if x then Pops (kind_served own) (number_served own n source) else Stays)
+    ≡ Stays = elim [ true ↦ λ e. absurd cc | false ↦ λ e. refl ] in
     let before : (j : Kind) (d : ℕ) (after : Bool) (m : Move) → agrees m j n (shows j ((s.block n).pair d) Idle) after
     ≡ true → agrees m j n (shown j d (s.block n)) after ≡ true = λ j d after m h. rw free h in
     let quiet : (d : ℕ) → is_unprobed ((s.block n).pair d).probing ≡ true =
@@ -257,15 +251,6 @@ served-event {caching} r n {own} source tracker {k} rest {s} inv first free asks
           (any_shows n source j own (d == r) k ((s.block n).pair d) t (wants own asks d) (quiet d));
       in_order = λ d m e. absurd (let f : Stays ≡ Pushes ProbeAck m = e in cc);
     }
-  where
-    wants : (o : Bool) → Probes o k ((s.block n).pair r) → (d : ℕ) → o ≡ true → (d == r) ≡ true
-        → is_wanting ((s.block n).pair d).acquiring ≡ true
-    wants false a d e f = absurd cc
-    wants true a d e f = rw (eqb-true d r f, a.2) refl
-
-    stays : (x : Bool) → x ≡ false → (if x then Pops (kind_served own) (number_served own n source) else Stays) ≡ Stays
-    stays true e = absurd cc
-    stays false e = refl
 
 -- no access is taken or answered where an Acquire is taken
 bare_move : (x p : Bool) (n : ℕ) → (spares (request_move (if x then Pops Acquire n else Stays) p n Channel.A) Request

@@ -25,11 +25,9 @@ taken_moves n _ = Stays
 taken_shows : (n : ℕ) (j : Kind) (d : Bool) (k : Cap) (p : ClientBlock) → is_transfer j ≡ true
     → agrees (taken_moves n (channel_for j)) j n (shows j p (Granting d k)) (shows j (after_grant k p) Acknowledging)
     ≡ true
-taken_shows n Acquire d k p t = go (is_wanting p.acquiring)
-  where
-    go : (b : Bool) → agrees Stays Acquire n (b && false) false ≡ true
-    go true = refl
-    go false = refl
+taken_shows n Acquire d k p t =
+    let go : (b : Bool) → agrees Stays Acquire n (b && false) false ≡ true = elim [ true ↦ refl | false ↦ refl ] in
+    go (is_wanting p.acquiring)
 taken_shows n Probe d k p t = same_again (is_sent p.probing)
 taken_shows n ProbeAck d k p t = same_again (is_answered p.probing)
 taken_shows n Release d k p t = same_again (is_releasing p.letting)
@@ -43,6 +41,9 @@ pub grant_taken-kept : {X : Type 0} {caching : ℕ → Bool} (c n : ℕ) (d whol
     → (s.block n).service ≡ GrantSent c d k → ((s.block n).pair c).acquiring ≡ AcquireOpen whole g
     → IsInvariant caching (grant_taken c n whole d k rest s)
 grant_taken-kept {X} {caching} c n d whole g k rest {s} inv first granting wants =
+    let here : Link = taken_link n rest (s.link c) in
+    let moved : AreMoved (taken_moves n) (s.link c) here = elim [ Channel.D ↦ first | _ ↦ refl ] in
+    let own : (ch : Channel) → is_own_move ch (taken_moves n ch) ≡ true = elim [ Channel.A ↦ refl | ch ↦ refl ] in
     let old : ℕ → ClientBlock = (s.block n).pair in
     let after : ClientBlock = after_grant k (old c) in
     let new : Block X = taken_block c whole d k (s.block n) in
@@ -71,16 +72,5 @@ grant_taken-kept {X} {caching} c n d whole g k rest {s} inv first granting wants
       trackers = names-block is_of tracks_with s.tracked n new s.block (λ i. rw granting refl) inv.named.trackers;
     })
   where
-    here : Link
-    here = taken_link n rest (s.link c)
-
     source : ℕ
     source = (s.block n).source c
-
-    moved : AreMoved (taken_moves n) (s.link c) here
-    moved Channel.D = first
-    moved _ = refl
-
-    own : (ch : Channel) → is_own_move ch (taken_moves n ch) ≡ true
-    own Channel.A = refl
-    own ch = refl

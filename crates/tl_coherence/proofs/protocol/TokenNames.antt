@@ -63,11 +63,10 @@ once caching s c ch inv k n = go (is_on ch k) refl
 -- a token is of a kind of its channel
 pub kind_there : {X : Type 0} (caching : ℕ → Bool) (s : State X) (c : ℕ) (ch : Channel) (x : Packet)
     → IsInvariant caching s → IsThere x (packets_on ch (s.link c)) → is_on ch x.kind ≡ true
-kind_there caching s c ch x inv there = go (is_on ch x.kind) refl
-  where
-    go : (b : Bool) → is_on ch x.kind ≡ b → b ≡ true
-    go true e = refl
-    go false e = absurd (not_there _ (inv.own_kinds c ch x.kind x.number e) there)
+kind_there caching s c ch x inv there =
+    let go : (b : Bool) → is_on ch x.kind ≡ b → b ≡ true =
+    elim [ true ↦ λ e. refl | false ↦ λ e. absurd (not_there _ (inv.own_kinds c ch x.kind x.number e) there) ] in
+    go (is_on ch x.kind) refl
 
 -- and what it is of shows it
 abbrev pub shows_it : {X : Type 0} → State X → ℕ → Kind → ℕ → Bool

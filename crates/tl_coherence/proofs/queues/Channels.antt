@@ -42,13 +42,11 @@ map_kept : {A : Type 0} (f g : Kind → ℕ → A) (xs : List Packet)
     → map (λ x. g x.kind x.number) xs ≡ map (λ x. f x.kind x.number) xs
 unfolding count
 map_kept f g [] same = refl
-map_kept {A} f g (x ∷ xs) same = ap₂ (λ y ys. y ∷ ys) (first (same x.kind x.number))
-    (map_kept f g xs (λ k n. fewer k n (same k n)))
+map_kept {A} f g (x ∷ xs) same =
+    let fewer : (k : Kind) (n : ℕ) → (count k n (x ∷ xs) ≡ 0) ⊎ (g k n ≡ f k n) → (count k n xs ≡ 0) ⊎ (g k n ≡ f k n) =
+    λ k n. elim [ inl none ↦ inl (omega (arith, none)) | inr e ↦ inr e ] in
+    ap₂ (λ y ys. y ∷ ys) (first (same x.kind x.number)) (map_kept f g xs (λ k n. fewer k n (same k n)))
   where
-    fewer : (k : Kind) (n : ℕ) → (count k n (x ∷ xs) ≡ 0) ⊎ (g k n ≡ f k n) → (count k n xs ≡ 0) ⊎ (g k n ≡ f k n)
-    fewer k n (inl none) = inl (omega (arith, none))
-    fewer k n (inr e) = inr e
-
     first : (count x.kind x.number (x ∷ xs) ≡ 0) ⊎ (g x.kind x.number ≡ f x.kind x.number)
         → g x.kind x.number ≡ f x.kind x.number
     first (inr e) = e
@@ -123,16 +121,15 @@ messages-stay {w} {n} {moves} {mail} {mail'} {s} {s'} event d ch =
 
     transfer : (k : Kind) (i : ℕ) → is_on ch k ≡ true → is_transfer k ≡ true
         → (block_message {w = w} k d i (s'.block i) ≡ block_message k d i (s.block i)) ⊎ (count k i stay ≡ 0)
-    transfer k i own t = elim (cases_eq i n) [
-      | inl same ↦ rw same (changed (here k n (shown k d (s.block n)) (shown k d (s'.block n)) own
-          (event.before.transfers d k t n) (event.after.transfers d k t n)))
-      | inr other ↦ inl (ap (block_message k d i) (event.blocks i other))
-    ]
-      where
-        changed : (count k n stay ≡ 0) ⊎ ((shown k d (s.block n) ≡ true) × (shown k d (s'.block n) ≡ true))
-            → (block_message {w = w} k d n (s'.block n) ≡ block_message k d n (s.block n)) ⊎ (count k n stay ≡ 0)
-        changed (inl none) = inr none
-        changed (inr both) = inl (event.same d k t both.0 both.1)
+    transfer k i own t =
+        let changed : (count k n stay ≡ 0) ⊎ ((shown k d (s.block n) ≡ true) × (shown k d (s'.block n) ≡ true))
+        → (block_message {w = w} k d n (s'.block n) ≡ block_message k d n (s.block n)) ⊎ (count k n stay ≡ 0) =
+        elim [ inl none ↦ inr none | inr both ↦ inl (event.same d k t both.0 both.1) ] in
+        elim (cases_eq i n) [
+          | inl same ↦ rw same (changed (here k n (shown k d (s.block n)) (shown k d (s'.block n)) own
+              (event.before.transfers d k t n) (event.after.transfers d k t n)))
+          | inr other ↦ inl (ap (block_message k d i) (event.blocks i other))
+        ]
 
     turned : (k : Kind) (i : ℕ) → message_of_kind k mail' s' d i ≡ block_message k d i (s'.block i)
         → message_of_kind k mail s d i ≡ block_message k d i (s.block i)
@@ -286,34 +283,25 @@ pub fits-at : {w : ℕ} (c : ℕ) (ch : Channel) (pushes : Channel → Option (M
     (render : ℕ → Kind → ℕ → Message w) → ((at : Channel) → Fits (same_channel at ch) (pushes at) (moves at) (render c))
     → (d : ℕ) (at : Channel) → Fits ((d == c) && same_channel at ch) (pushes_at c pushes d at) (moves_at c moves d at)
     (render d)
-fits-at {w} c ch pushes moves render h d at = elim (cases_eq d c) [
-  | inl same ↦ rw same (go (c == c) (same_number c))
-  | inr other ↦ never (d == c) (ne_eqb d c other)
-]
-  where
-    go : (b : Bool) → b ≡ true → Fits (b && same_channel at ch) (if b then pushes at else None)
-        (if b then moves at else Stays) (render c)
-    go true e = h at
-    go false e = absurd cc
-
-    never : (b : Bool) → b ≡ false → Fits (b && same_channel at ch) (if b then pushes at else None)
-        (if b then moves at else Stays) (render d)
-    never false e = tt
-    never true e = absurd cc
+fits-at {w} c ch pushes moves render h d at =
+    let go : (b : Bool) → b ≡ true → Fits (b && same_channel at ch) (if b then pushes at else None)
+    (if b then moves at else Stays) (render c) = elim [ true ↦ λ e. h at | false ↦ λ e. absurd cc ] in
+    let never : (b : Bool) → b ≡ false → Fits (b && same_channel at ch) (if b then pushes at else None)
+    (if b then moves at else Stays) (render d) = elim [ false ↦ λ e. tt | true ↦ λ e. absurd cc ] in
+    elim (cases_eq d c) [
+      | inl same ↦ rw same (go (c == c) (same_number c))
+      | inr other ↦ never (d == c) (ne_eqb d c other)
+    ]
 
 pub fits-handed : {w : ℕ} (c : ℕ) (pushes : Channel → Option (Message w)) (moves : Channel → Move) (render : ℕ → Kind
     → ℕ → Message w) → ((at : Channel) → Fits false (pushes at) (moves at) (render c))
     → (d : ℕ) (at : Channel) → Fits false (pushes_at c pushes d at) (moves_at c moves d at) (render d)
-fits-handed {w} c pushes moves render h d at = elim (cases_eq d c) [
-  | inl same ↦ rw same (go (c == c) (same_number c))
-  | inr other ↦ never (d == c) (ne_eqb d c other)
-]
-  where
-    go : (b : Bool) → b ≡ true → Fits false (if b then pushes at else None) (if b then moves at else Stays) (render c)
-    go true e = h at
-    go false e = absurd cc
-
-    never : (b : Bool) → b ≡ false → Fits false (if b then pushes at else None) (if b then moves at else Stays)
-        (render d)
-    never false e = tt
-    never true e = absurd cc
+fits-handed {w} c pushes moves render h d at =
+    let go : (b : Bool) → b ≡ true → Fits false (if b then pushes at else None) (if b then moves at else Stays)
+    (render c) = elim [ true ↦ λ e. h at | false ↦ λ e. absurd cc ] in
+    let never : (b : Bool) → b ≡ false → Fits false (if b then pushes at else None) (if b then moves at else Stays)
+    (render d) = elim [ false ↦ λ e. tt | true ↦ λ e. absurd cc ] in
+    elim (cases_eq d c) [
+      | inl same ↦ rw same (go (c == c) (same_number c))
+      | inr other ↦ never (d == c) (ne_eqb d c other)
+    ]

@@ -37,16 +37,14 @@ cap-again k = refl
 pub low_cap : (o : OpA) (param : ℕ) (k : Cap) → cap_probed o param ≡ Some k → same_cap k Cap.ToT ≡ false
 low_cap o param Cap.ToB e = refl
 low_cap o param Cap.ToN e = refl
-low_cap OpA.AcquireBlock param Cap.ToT e = absurd (never (param == 0) e)
-  where
-    never : (b : Bool) → Some (if b then Cap.ToB else Cap.ToN) ≡ Some Cap.ToT → ⊥
-    never true f = cc
-    never false f = cc
-low_cap OpA.AcquirePerm param Cap.ToT e = absurd (never (param == 0) e)
-  where
-    never : (b : Bool) → Some (if b then Cap.ToB else Cap.ToN) ≡ Some Cap.ToT → ⊥
-    never true f = cc
-    never false f = cc
+low_cap OpA.AcquireBlock param Cap.ToT e =
+    let never : (b : Bool) → Some (if b then Cap.ToB else Cap.ToN) ≡ Some Cap.ToT → ⊥ =
+    elim [ true ↦ λ f. cc | false ↦ λ f. cc ] in
+    absurd (never (param == 0) e)
+low_cap OpA.AcquirePerm param Cap.ToT e =
+    let never : (b : Bool) → Some (if b then Cap.ToB else Cap.ToN) ≡ Some Cap.ToT → ⊥ =
+    elim [ true ↦ λ f. cc | false ↦ λ f. cc ] in
+    absurd (never (param == 0) e)
 low_cap o param Cap.ToT e = absurd cc
 
 -- a Grant gives something

@@ -27,11 +27,9 @@ pub pass-or-not : (test : Packet → Bool) (xs : List Packet) → length xs ≡ 
     xs
 unfolding passing
 pass-or-not test [] = omega arith
-pass-or-not test (x ∷ xs) = omega (arith, pass-or-not test xs, one (test x))
-  where
-    one : (b : Bool) → one_if b + one_if (not b) ≡ 1
-    one true = refl
-    one false = refl
+pass-or-not test (x ∷ xs) =
+    let one : (b : Bool) → one_if b + one_if (not b) ≡ 1 = elim [ true ↦ refl | false ↦ refl ] in
+    omega (arith, pass-or-not test xs, one (test x))
 
 -- ---- the tokens of a list
 
@@ -53,12 +51,10 @@ pub passing-one : (test : Packet → Bool) (k : Kind) (n : ℕ) (xs : List Packe
 unfolding passing count
 passing-one test k n [] one = omega arith
 passing-one test k n (x ∷ xs) one =
+    let here : (b c : Bool) → (b ≡ true → c ≡ true) → one_if b ≤ one_if c =
+    elim [ true ↦ λ c so. rw (so refl) (omega arith) | false ↦ λ c so. omega arith ] in
     let rest = passing-one test k n xs (λ y there. one y (later-there y x xs there)) in
     omega (arith, rest, here (test x) (is k n x) (one x (first-there x xs)))
-  where
-    here : (b c : Bool) → (b ≡ true → c ≡ true) → one_if b ≤ one_if c
-    here true c so = rw (so refl) (omega arith)
-    here false c so = omega arith
 
 pub passing-none : (test : Packet → Bool) (xs : List Packet) → ((x : Packet) → IsThere x xs → test x ≡ false)
     → passing test xs ≡ 0

@@ -25,11 +25,10 @@ pushes_of (Some m) at = if same_channel at (channel_of_message m) then Some m el
 pub channels-handed : {w : ℕ} (l : ℕ) (m : Option (Message w)) (s : System w) (d : ℕ) (at : Channel)
     → (with_messages (handed_by l m) s).channels d at ≡ behind (pushes_at l (pushes_of m) d at) (s.channels d at)
 unfolding with_messages
-channels-handed {w} l None s d at = go (d == l)
-  where
-    go : (b : Bool) → s.channels d at ≡ behind (if b then None else None) (s.channels d at)
-    go true = refl
-    go false = refl
+channels-handed {w} l None s d at =
+    let go : (b : Bool) → s.channels d at ≡ behind (if b then None else None) (s.channels d at) =
+    elim [ true ↦ refl | false ↦ refl ] in
+    go (d == l)
 channels-handed {w} l (Some m) s d at =
     let there : (b : Bool) → b ≡ false
     → (if b && same_channel at (channel_of_message m) then s.channels l (channel_of_message m) ++ more else
@@ -139,14 +138,11 @@ landed-client {w} c ch x queue m e sys to_client first is heard = record {
     theirs : (d : ℕ) (at : Channel) → same_channel at ch ≡ false → unfinished at (on_link d after.manager.trace)
         ≡ (if (d == c) && same_channel at ch then grown x (unfinished at (on_link d sys.manager.trace)) else unfinished
         at (on_link d sys.manager.trace))
-    theirs d at f = rw f (ap (λ (b : manager_end.End w). unfinished at (on_link d b.trace)) manager_is ∙ unless
-        (d == c))
-      where
-        unless : (b : Bool) → unfinished at (on_link d sys.manager.trace)
-            ≡ (if b && false then grown x (unfinished at (on_link d sys.manager.trace)) else unfinished at
-            (on_link d sys.manager.trace))
-        unless true = refl
-        unless false = refl
+    theirs d at f =
+        let unless : (b : Bool) → unfinished at (on_link d sys.manager.trace)
+        ≡ (if b && false then grown x (unfinished at (on_link d sys.manager.trace)) else unfinished at
+        (on_link d sys.manager.trace)) = elim [ true ↦ refl | false ↦ refl ] in
+        rw f (ap (λ (b : manager_end.End w). unfinished at (on_link d b.trace)) manager_is ∙ unless (d == c))
 
     not_here : (ch at : Channel) → is_to_client ch ≡ true → is_to_client at ≡ false → same_channel at ch ≡ false
     not_here Channel.B Channel.A a b = refl
@@ -252,13 +248,12 @@ rests-manager {w} c ch x queue handed e sys to_manager is heard = rests
     ours : (d : ℕ) (at : Channel) → same_channel at ch ≡ false
         → unfinished at (after.clients d).past ≡ (if (d == c) && same_channel at ch then grown x
         (unfinished at (sys.clients d).past) else unfinished at (sys.clients d).past)
-    ours d at f = rw f (ap (λ (g : ℕ → client.Endpoint w). unfinished at (g d).past) (clients-with_messages handed base)
+    ours d at f =
+        let unless : (b : Bool) → unfinished at (sys.clients d).past
+        ≡ (if b && false then grown x (unfinished at (sys.clients d).past) else unfinished at (sys.clients d).past)
+        = elim [ true ↦ refl | false ↦ refl ] in
+        rw f (ap (λ (g : ℕ → client.Endpoint w). unfinished at (g d).past) (clients-with_messages handed base)
         ∙ unless (d == c))
-      where
-        unless : (b : Bool) → unfinished at (sys.clients d).past
-            ≡ (if b && false then grown x (unfinished at (sys.clients d).past) else unfinished at (sys.clients d).past)
-        unless true = refl
-        unless false = refl
 
     rests : (d : ℕ) (at : Channel)
         → unfinished at (receiver at d after) ≡ (if (d == c) && same_channel at ch then grown x

@@ -8,17 +8,13 @@ use Rattle.tl_params.{specs.statement.Config.sources_fit, specs.statement.Config
 pub all-fit : (clients : List ClientConfig) (i : ℕ) (d : ClientConfig) → all_sources_fit clients ≡ true
     → i < length clients → sources_fit (slice_index_or clients i d) ≡ true
 all-fit [] i d fit lt = absurd (omega (arith, lt))
-all-fit (x ∷ clients) zero d fit lt = both-first (sources_fit x) (all_sources_fit clients) fit
-  where
-    both-first : (a b : Bool) → (a && b) ≡ true → a ≡ true
-    both-first true b e = refl
-    both-first false b e = absurd cc
-all-fit (x ∷ clients) (suc i) d fit lt = all-fit clients i d (both-second (sources_fit x) (all_sources_fit clients) fit)
-    (omega (arith, lt))
-  where
-    both-second : (a b : Bool) → (a && b) ≡ true → b ≡ true
-    both-second true b e = e
-    both-second false b e = absurd cc
+all-fit (x ∷ clients) zero d fit lt =
+    let both-first : (a b : Bool) → (a && b) ≡ true → a ≡ true = elim [ true ↦ λ b e. refl | false ↦ λ b e. absurd cc ]
+    in
+    both-first (sources_fit x) (all_sources_fit clients) fit
+all-fit (x ∷ clients) (suc i) d fit lt =
+    let both-second : (a b : Bool) → (a && b) ≡ true → b ≡ true = elim [ true ↦ λ b e. e | false ↦ λ b e. absurd cc ] in
+    all-fit clients i d (both-second (sources_fit x) (all_sources_fit clients) fit) (omega (arith, lt))
 
 abbrev limits_broken : Bool → Bool → Bool → Bool → Option NewFault
 limits_broken a b c e = if not a then Some NewFault.N1 else if not b then Some NewFault.N2 else if not c then Some

@@ -34,19 +34,17 @@ first-none config ch link (suc n) s none = rw (none link) (first-none config ch 
 
 pub client_below : (config : Config) (c : ℕ) (terms : EndConfig) → terms_at config c ≡ Some terms
     → c < length config.clients.items
-client_below config c terms is = go (slice_get config.clients.items c) refl is
-  where
-    go : (o : Option ClientConfig) → slice_get config.clients.items c ≡ o
-        → option_map (λ x. record {
-          level = x.level;
-          profile = config.profile;
-          sources = x.sources;
-          blocks =
-              config.blocks;
-        }) o ≡ Some terms
-        → c < length config.clients.items
-    go None e f = absurd cc
-    go (Some x) e f = slice_get_within config.clients.items c x e
+client_below config c terms is =
+    let go : (o : Option ClientConfig) → slice_get config.clients.items c ≡ o
+    → option_map (λ x. record {
+      level = x.level;
+      profile = config.profile;
+      sources = x.sources;
+      blocks =
+          config.blocks;
+    }) o ≡ Some terms → c < length config.clients.items =
+    elim [ None ↦ λ e f. absurd cc | Some x ↦ λ e f. slice_get_within config.clients.items c x e ] in
+    go (slice_get config.clients.items c) refl is
 
 none-both : {X : Type 0} (a b : Option X) → or_later a b ≡ None → (a ≡ None) × (b ≡ None)
 none-both None b e = (refl, e)
@@ -127,8 +125,6 @@ next-movable {w} config s d next =
 pub empty-still : {w : ℕ} (config : Config) (s : System w) (c : ℕ) (ch : Channel) → s.channels c ch ≡ []
     → is_movable config c ch s ≡ false
 unfolding is_movable
-empty-still config s c ch none = rw none (go (terms_at config c))
-  where
-    go : (o : Option EndConfig) → moves config o c ch [] s ≡ false
-    go None = refl
-    go (Some t) = refl
+empty-still config s c ch none =
+    let go : (o : Option EndConfig) → moves config o c ch [] s ≡ false = elim [ None ↦ refl | Some t ↦ refl ] in
+    rw none (go (terms_at config c))

@@ -152,7 +152,10 @@ report-one w p r n bytes e = refl
 
 untold : (p : ClientBlock) (v : View) → ok p v ≡ true → same_perm p.recorded Perm.Trunk ≡ false
     → same_perm (report_left (report_told p.probing)) Perm.Trunk ≡ false
-untold p v h none = go p.probing refl
+untold p v h none =
+    let go : (x : ProbePhase) → p.probing ≡ x → same_perm (report_left (report_told x)) Perm.Trunk ≡ false =
+    elim [ ProbeAnswered r ↦ λ e. answered r e (same_perm (report_left r) Perm.Trunk) refl | x ↦ λ e. refl ] in
+    go p.probing refl
   where
     answered : (r : Report) → p.probing ≡ ProbeAnswered r → (b : Bool) → same_perm (report_left r) Perm.Trunk ≡ b
         → b ≡ false
@@ -160,10 +163,6 @@ untold p v h none = go p.probing refl
     answered r e true f =
         let recorded = and_left (same_perm p.recorded Perm.Trunk) _ (data_carried p v h (rw e f)) in
         absurd (let both : false ≡ true = sym none ∙ recorded in cc)
-
-    go : (x : ProbePhase) → p.probing ≡ x → same_perm (report_left (report_told x)) Perm.Trunk ≡ false
-    go (ProbeAnswered r) e = answered r e (same_perm (report_left r) Perm.Trunk) refl
-    go x e = refl
 
 -- ---- all
 

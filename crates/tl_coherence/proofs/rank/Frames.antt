@@ -185,15 +185,14 @@ module _ {w : ℕ} (config : Config) (caching : ℕ → Bool) (n : ℕ) (moves :
     -- a Release that is of its block as before
     pub let-all : (d i : ℕ) → s'.lets d i ≡ s.lets d i → owed_let' config size left left' answer answer s s' d
         i ≤ owed_let config size left left' answer answer s s' d i
-    let-all d i e = go (s.lets d i) refl e
+    let-all d i e =
+        let go : (o : Option ℕ) → s.lets d i ≡ o → s'.lets d i ≡ o → let_weight left' s' d (s'.lets d i)
+        ≤ let_weight left s d (s.lets d i) =
+        elim [ None ↦ λ f g. rw (f, g) (omega arith) | Some m ↦ λ f g. rw (f, g) (at m f g (cases_eq m n)) ] in
+        go (s.lets d i) refl e
       where
         at : (m : ℕ) → s.lets d i ≡ Some m → s'.lets d i ≡ Some m → (m ≡ n) ⊎ (m ≡ n → ⊥)
             → letting_weight (left' d Release m) ((s'.block m).pair d).letting ≤ letting_weight (left d Release m)
             ((s.block m).pair d).letting
         at m f g (inl is) = rw is (block.lets d i (rw is at f) (rw is at g))
         at m f g (inr other) = let-stays d m (rw (showing.blocks m other) refl)
-
-        go : (o : Option ℕ) → s.lets d i ≡ o → s'.lets d i ≡ o → let_weight left' s' d (s'.lets d i) ≤ let_weight left s
-            d (s.lets d i)
-        go None f g = rw (f, g) (omega arith)
-        go (Some m) f g = rw (f, g) (at m f g (cases_eq m n))

@@ -30,12 +30,10 @@ pub record AreClients {X : Type 0} (config : Config) (s : State X) : Type 0 wher
 pub serving-use : {X : Type 0} (caching : ℕ → Bool) (s : State X) (n q source : ℕ) (k : Cap) → IsInvariant caching s
     → (s.block n).service ≡ Waits q false source k → s.uses q source ≡ InService n
 serving-use caching s n q source k inv e =
+    let is_serving : (u : SourceState) (m : ℕ) → serves_of m u ≡ true → u ≡ InService m =
+    elim [ InService j ↦ λ m h. ap InService (sym (eqb-true m j h)) | u ↦ λ m h. absurd cc ] in
     let it : serves_with q source (s.block n) ≡ true = rw (e, same_number q, same_number source) refl in
     is_serving (s.uses q source) n (inv.named.serves q source n ∙ it)
-  where
-    is_serving : (u : SourceState) (m : ℕ) → serves_of m u ≡ true → u ≡ InService m
-    is_serving (InService j) m h = ap InService (sym (eqb-true m j h))
-    is_serving u m h = absurd cc
 
 -- the source of the request for which a block waits
 pub record IsAsking {X : Type 0} (n q : ℕ) (own : Bool) (source : ℕ) (s : State X) : Type 0 where
@@ -128,16 +126,14 @@ pub record IsWaited (service : Service) : Type 0 where
 pub waited : (service : Service) (c : ℕ) → is_other (view service c) ≡ true → IsWaited service
 waited Free c e = absurd cc
 waited (Waits q own source k) c e = record { client = q; own = own; source = source; cap = k; is = refl }
-waited (GrantSent q d k) c e = never (c == q) e
-  where
-    never : (b : Bool) → is_other (if b then Granting d k else GrantedOther) ≡ true → IsWaited (GrantSent q d k)
-    never true f = absurd cc
-    never false f = absurd cc
-waited (GrantTaken q) c e = never (c == q) e
-  where
-    never : (b : Bool) → is_other (if b then Acknowledging else GrantedOther) ≡ true → IsWaited (GrantTaken q)
-    never true f = absurd cc
-    never false f = absurd cc
+waited (GrantSent q d k) c e =
+    let never : (b : Bool) → is_other (if b then Granting d k else GrantedOther) ≡ true → IsWaited (GrantSent q d k) =
+    elim [ true ↦ λ f. absurd cc | false ↦ λ f. absurd cc ] in
+    never (c == q) e
+waited (GrantTaken q) c e =
+    let never : (b : Bool) → is_other (if b then Acknowledging else GrantedOther) ≡ true → IsWaited (GrantTaken q) =
+    elim [ true ↦ λ f. absurd cc | false ↦ λ f. absurd cc ] in
+    never (c == q) e
 
 pub waited-probing : {X : Type 0} {caching : ℕ → Bool} {s : State X} (c n : ℕ) → IsInvariant caching s
     → is_unprobed ((s.block n).pair c).probing ≡ false → IsWaited (s.block n).service
@@ -160,6 +156,10 @@ module _ {w : ℕ} (config : Config) (caching : ℕ → Bool) (n : ℕ) (moves :
       ((s'.block n).pair c) + 1 ≤ pair_weight size (beats_left mail s rest) n c ((s.block n).pair c)
       → rank config size (beats_left mail' s' rest') answer s' + 1 ≤ rank config size (beats_left mail s rest) answer s
   pair-falls lt probed served others acquiring letting uses lets acks less =
+      let wanted : (d : ℕ) → (d ≡ c) ⊎ (d ≡ c → ⊥) → ((s'.block n).pair d).acquiring ≡ ((s.block n).pair d).acquiring =
+      λ d. elim [ inl same ↦ rw same acquiring | inr differs ↦ rw (others d differs) refl ] in
+      let let_as : (d : ℕ) → (d ≡ c) ⊎ (d ≡ c → ⊥) → ((s'.block n).pair d).letting ≡ ((s.block n).pair d).letting =
+      λ d. elim [ inl same ↦ rw same letting | inr differs ↦ rw (others d differs) refl ] in
       let who : IsWaited (s.block n).service = waited-probing c n showing.before probed in
       service-falls config caching n moves mail mail' s s' showing c ch rest rest' popped size answer all who.client
       who.own who.source who.cap who.is served uses lets acks
@@ -170,14 +170,6 @@ module _ {w : ℕ} (config : Config) (caching : ℕ → Bool) (n : ℕ) (moves :
       (λ d. pair_weight size (beats_left mail' s' rest') n d ((s'.block n).pair d)) lt (λ d h. each d (cases_eq d c))
       less)
     where
-      wanted : (d : ℕ) → (d ≡ c) ⊎ (d ≡ c → ⊥) → ((s'.block n).pair d).acquiring ≡ ((s.block n).pair d).acquiring
-      wanted d (inl same) = rw same acquiring
-      wanted d (inr differs) = rw (others d differs) refl
-
-      let_as : (d : ℕ) → (d ≡ c) ⊎ (d ≡ c → ⊥) → ((s'.block n).pair d).letting ≡ ((s.block n).pair d).letting
-      let_as d (inl same) = rw same letting
-      let_as d (inr differs) = rw (others d differs) refl
-
       each : (d : ℕ) → (d ≡ c) ⊎ (d ≡ c → ⊥) → pair_weight size (beats_left mail' s' rest') n d
           ((s'.block n).pair d) ≤ pair_weight size (beats_left mail s rest) n d ((s.block n).pair d)
       each d (inl same) = rw same (omega (arith, less))

@@ -76,11 +76,10 @@ quiet-pair n left recorded x e = absurd cc
 heavy-pair : (n left : ℕ) (recorded : Perm) (x : ProbePhase) → left ≤ n → 1 ≤ n
     → probing_weight n left recorded x ≤ n + 1
 heavy-pair n left recorded NoProbe le some = omega arith
-heavy-pair n left recorded (ProbeSent k) le some = go (same_perm recorded Perm.Trunk)
-  where
-    go : (b : Bool) → 1 + (if b then n else 1) ≤ n + 1
-    go true = omega arith
-    go false = omega (arith, some)
+heavy-pair n left recorded (ProbeSent k) le some =
+    let go : (b : Bool) → 1 + (if b then n else 1) ≤ n + 1 = elim [ true ↦ omega arith | false ↦ omega (arith, some) ]
+    in
+    go (same_perm recorded Perm.Trunk)
 heavy-pair n left recorded (ProbeAnswered r) le some = omega (arith, le)
 
 module _ {X : Type 0} (caching : ℕ → Bool) (s : State X) (inv : IsInvariant caching s) (n : ℕ) (left : Left) (answer : ℕ

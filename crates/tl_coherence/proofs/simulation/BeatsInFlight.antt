@@ -265,13 +265,11 @@ fit-taken {w} blocks (Beat.B x) e inside copies = ack_fit w blocks x.opcode (hel
     (report_for x (held_at e (block_at x.address)))
     (block_at x.address) (copy_at e (block_at x.address)) (copies (block_at x.address)) inside
 fit-taken blocks (Beat.C x) e inside copies = tt
-fit-taken {w} blocks (Beat.D x) e inside copies = go (ends (Beat.D x) e.past)
-  where
-    o : Offered w
-    o = responded x (request_of x.source e.past) (payload_of (Beat.D x ∷ unfinished Channel.D e.past)) e
-
-    go : (y : Bool) → IsFitAnswer blocks
-        (if y then o else silent Verdict.Taken (with_past (Beat.D x ∷ e.past) e)).answer
-    go true = ended_fit blocks x.opcode x _ _
-    go false = tt
+fit-taken {w} blocks (Beat.D x) e inside copies =
+    let o : Offered w = responded x (request_of x.source e.past) (payload_of (Beat.D x ∷ unfinished Channel.D e.past)) e
+    in
+    let go : (y : Bool) → IsFitAnswer blocks
+    (if y then o else silent Verdict.Taken (with_past (Beat.D x ∷ e.past) e)).answer =
+    elim [ true ↦ ended_fit blocks x.opcode x _ _ | false ↦ tt ] in
+    go (ends (Beat.D x) e.past)
 fit-taken blocks (Beat.E x) e inside copies = tt

@@ -41,6 +41,8 @@ pub access_asked-carried : {w : ℕ} (caching : ℕ → Bool) (c source : ℕ) (
     → ChannelRelation (record { request = set_at c source m mail.request; answer = mail.answer })
     (access_asked c source s) sys'
 access_asked-carried {w} caching c source m mail s sys sys' width inv inv' closed chan handed h =
+    let moved : AreMoved (access_moves source) (s.link c) (with_a (packet Request source) (s.link c)) =
+    elim [ Channel.A ↦ refl | _ ↦ refl ] in
     carried-event caching 0 (moves_at c (access_moves source)) mail mail' s s' sys sys' width (record {
       before = inv;
       after = inv';
@@ -62,10 +64,6 @@ access_asked-carried {w} caching c source m mail s sys sys' width inv inv' close
     s' : State (List ℕ)
     s' = access_asked c source s
 
-    moved : AreMoved (access_moves source) (s.link c) (with_a (packet Request source) (s.link c))
-    moved Channel.A = refl
-    moved _ = refl
-
     requests : (d i : ℕ) → is_asked (s.uses d i) ≡ true → (d ≡ c) ⊎ (d ≡ c → ⊥) → (i ≡ source) ⊎ (i ≡ source → ⊥)
         → set_at c source m mail.request d i ≡ mail.request d i
     requests d i e (inl same) (inl also) = absurd (let f : is_asked (s.uses c source) ≡ true = rw (same, also) at e in
@@ -86,6 +84,13 @@ pub acquire_asked-carried : {w : ℕ} (caching : ℕ → Bool) (c n source : ℕ
     → IsHanded (pushes_at c (pushes_of (Some m))) sys sys' → ChannelRelation mail s sys
     → ChannelRelation mail (acquire_asked c n source whole g bytes s) sys'
 acquire_asked-carried {w} caching c n source whole g bytes m mail s sys sys' width inv inv' calm chan is handed h =
+    let new : Block (List ℕ) = acquiring_block c source whole g bytes (s.block n) in
+    let s' : State (List ℕ) = acquire_asked c n source whole g bytes s in
+    let moved : AreMoved (acquire_moves n) (s.link c) (with_a (packet Acquire n) (s.link c)) =
+    elim [ Channel.A ↦ refl | _ ↦ refl ] in
+    let fits : (at : Channel) → Fits false (only_on Channel.A m at) (acquire_moves n at)
+    (λ k i. message_of mail s' c (packet k i)) =
+    elim [ Channel.A ↦ new_there Acquire c n new s.block m is | at ↦ tt ] in
     carried-event caching n (moves_at c (acquire_moves n)) mail mail s s' sys sys' width
     (showing-block n new (moves_at c (acquire_moves n)) mail mail inv inv'
     (moved-at c (acquire_moves n) (with_a (packet Acquire n) (s.link c)) s.link moved) (λ i. refl)
@@ -94,21 +99,6 @@ acquire_asked-carried {w} caching c n source whole g bytes m mail s sys sys' wid
     (fits-handed c (pushes_of (Some m)) (acquire_moves n) (λ d k i. message_of mail s' d (packet k i))
     (λ at. fits_pushed false m Channel.A at (acquire_moves n at) (λ k i. message_of mail s' c (packet k i)) chan
     (fits at)))) h
-  where
-    new : Block (List ℕ)
-    new = acquiring_block c source whole g bytes (s.block n)
-
-    s' : State (List ℕ)
-    s' = acquire_asked c n source whole g bytes s
-
-    moved : AreMoved (acquire_moves n) (s.link c) (with_a (packet Acquire n) (s.link c))
-    moved Channel.A = refl
-    moved _ = refl
-
-    fits : (at : Channel) → Fits false (only_on Channel.A m at) (acquire_moves n at)
-        (λ k i. message_of mail s' c (packet k i))
-    fits Channel.A = new_there Acquire c n new s.block m is
-    fits at = tt
 
 pub release_asked-carried : {w : ℕ} (caching : ℕ → Bool) (c n source : ℕ) (r : Prune) (m : Message w)
     (mail : AccessMessages w) (s : State (List ℕ)) (sys sys' : System w) → IsWidth w → IsInvariant caching s
@@ -117,6 +107,13 @@ pub release_asked-carried : {w : ℕ} (caching : ℕ → Bool) (c n source : ℕ
     → IsHanded (pushes_at c (pushes_of (Some m))) sys sys' → ChannelRelation mail s sys
     → ChannelRelation mail (release_asked c n source r s) sys'
 release_asked-carried {w} caching c n source r m mail s sys sys' width inv inv' kept chan is handed h =
+    let new : Block (List ℕ) = releasing_block c source r (s.block n) in
+    let s' : State (List ℕ) = release_asked c n source r s in
+    let moved : AreMoved (release_moves n) (s.link c) (with_c (packet Release n) (s.link c)) =
+    elim [ Channel.A ↦ refl | _ ↦ refl ] in
+    let fits : (at : Channel) → Fits false (only_on Channel.C m at) (release_moves n at)
+    (λ k i. message_of mail s' c (packet k i)) =
+    elim [ Channel.C ↦ new_there Release c n new s.block m is | at ↦ tt ] in
     carried-event caching n (moves_at c (release_moves n)) mail mail s s' sys sys' width
     (showing-block n new (moves_at c (release_moves n)) mail mail inv inv'
     (moved-at c (release_moves n) (with_c (packet Release n) (s.link c)) s.link moved) (λ i. refl)
@@ -125,21 +122,6 @@ release_asked-carried {w} caching c n source r m mail s sys sys' width inv inv' 
     (fits-handed c (pushes_of (Some m)) (release_moves n) (λ d k i. message_of mail s' d (packet k i))
     (λ at. fits_pushed false m Channel.C at (release_moves n at) (λ k i. message_of mail s' c (packet k i)) chan
     (fits at)))) h
-  where
-    new : Block (List ℕ)
-    new = releasing_block c source r (s.block n)
-
-    s' : State (List ℕ)
-    s' = release_asked c n source r s
-
-    moved : AreMoved (release_moves n) (s.link c) (with_c (packet Release n) (s.link c))
-    moved Channel.A = refl
-    moved _ = refl
-
-    fits : (at : Channel) → Fits false (only_on Channel.C m at) (release_moves n at)
-        (λ k i. message_of mail s' c (packet k i))
-    fits Channel.C = new_there Release c n new s.block m is
-    fits at = tt
 
 -- nothing is handed out
 abbrev still_moves : ℕ → Channel → Move

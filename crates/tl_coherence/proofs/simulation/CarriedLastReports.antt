@@ -140,7 +140,10 @@ granted_fits : {w : ℕ} (n : ℕ) (m : Message w) (at : Channel) (c q d : ℕ) 
     → ((d == q) ≡ true → render Grant n ≡ m)
     → Fits ((d == c) && same_channel at Channel.C) (if d == q then only_on Channel.D m at else None)
     (granted_moves n c q d at) render
-granted_fits {w} n m at c q d render e = rw (same at) (cases at (d == c) (d == q) e)
+granted_fits {w} n m at c q d render e =
+    let same : (at : Channel) → granted_moves n c q d at ≡ moves (d == c) (d == q) at =
+    elim [ Channel.A ↦ refl | at ↦ refl ] in
+    rw (same at) (cases at (d == c) (d == q) e)
   where
     moves : Bool → Bool → Channel → Move
     moves x y Channel.C = if x then Pops ProbeAck n else Stays
@@ -169,10 +172,6 @@ granted_fits {w} n m at c q d render e = rw (same at) (cases at (d == c) (d == q
     cases Channel.E true false e = tt
     cases Channel.E false true e = tt
     cases Channel.E false false e = tt
-
-    same : (at : Channel) → granted_moves n c q d at ≡ moves (d == c) (d == q) at
-    same Channel.A = refl
-    same at = refl
 
 pub report_grants-shown : {w : ℕ} {caching : ℕ → Bool} (c q n source : ℕ) (r : Report) (d : Bool) (k gift : Cap)
     (rest : List Packet) (m : Message w) (mail : AccessMessages w) {s : State (List ℕ)} → IsInvariant caching s

@@ -33,12 +33,11 @@ other_probe n k c d at s ne = rw (ne_eqb d c ne) refl
 
 aside_probe : {w : ℕ} (n : ℕ) (k : Cap) (c d : ℕ) (at : Channel) (s : System w) → same_channel at Channel.B ≡ false
     → (with_message c (probe_of_block n k) s).channels d at ≡ s.channels d at
-aside_probe {w} n k c d at s aside = rw aside (go (d == c))
-  where
-    go : (b : Bool) → (if b && false then s.channels c Channel.B ++ beats_from (probe_of_block n k) 0
-        (beats_of (probe_of_block {w = w} n k)) else s.channels d at) ≡ s.channels d at
-    go true = refl
-    go false = refl
+aside_probe {w} n k c d at s aside =
+    let go : (b : Bool) → (if b && false then s.channels c Channel.B ++ beats_from (probe_of_block n k) 0
+    (beats_of (probe_of_block {w = w} n k)) else s.channels d at) ≡ s.channels d at =
+    elim [ true ↦ refl | false ↦ refl ] in
+    rw aside (go (d == c))
 
 -- Probes go on channel B
 pub probes-aside : {w : ℕ} (n : ℕ) (k : Cap) (clients : List ℕ) (d : ℕ) (at : Channel) (s : System w)
@@ -87,6 +86,10 @@ pub probes-among : {w : ℕ} (n : ℕ) (k : Cap) (first count : ℕ) (test : ℕ
 unfolding with_messages clients_from
 probes-among n k first zero test d s le lt = absurd (omega (arith, le, lt))
 probes-among {w} n k first (suc count) test d s le lt =
+    let go : (d ≡ first) ⊎ (d ≡ first → ⊥) → ((d ≡ first → ⊥) → Rest)
+    → (with_messages (probes n k (clients_from first (suc count) test)) s).channels d Channel.B
+    ≡ behind (if test d then Some (probe_of_block n k) else None) (s.channels d Channel.B) =
+    elim [ inl e ↦ λ rest. rw (← e) (at_first (test d)) | inr ne ↦ λ rest. later ne (rest ne) (test first) ] in
     go (cases_eq d first) (λ ne u. probes-among n k (first + 1) count test d u (omega (arith, le, ne))
     (omega (arith, lt)))
   where
@@ -107,12 +110,6 @@ probes-among {w} n k first (suc count) test d s le lt =
         ≡ behind (if test d then Some (probe_of_block n k) else None) (s.channels d Channel.B)
     later ne rest true = cc (rest (with_message first (probe_of_block n k) s), other_probe n k first d Channel.B s ne)
     later ne rest false = rest s
-
-    go : (d ≡ first) ⊎ (d ≡ first → ⊥) → ((d ≡ first → ⊥) → Rest)
-        → (with_messages (probes n k (clients_from first (suc count) test)) s).channels d Channel.B ≡ behind
-        (if test d then Some (probe_of_block n k) else None) (s.channels d Channel.B)
-    go (inl e) rest = rw (← e) (at_first (test d))
-    go (inr ne) rest = later ne (rest ne) (test first)
 
 -- on channel B to those who pass the test
 abbrev pub probe_pushes : {w : ℕ} → ℕ → Cap → (ℕ → Bool) → ℕ → Channel → Option (Message w)

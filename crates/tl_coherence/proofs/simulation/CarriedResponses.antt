@@ -22,37 +22,36 @@ pub answer_taken-shown : {w : ℕ} {caching : ℕ → Bool} (c source : ℕ) (re
     {s : State (List ℕ)} → IsInvariant caching s
     → IsInvariant caching (answer_taken c source rest s) → (s.link c).d ≡ packet Answer source ∷ rest
     → IsShown caching 0 c Channel.D (pushes_at c (pushes_of None)) mail mail s (answer_taken c source rest s)
-answer_taken-shown {w} c source rest mail {s} inv inv' first = record {
-  moves = (moves_at c (done_moves source));
-  showing = record {
-    before = inv;
-    after = inv';
-    moved = moved-at c (done_moves source) (record (s.link c) { d = rest }) s.link moved;
-    blocks = λ i ne. refl;
-    same = λ d k t e f. refl;
-    requests = λ d i e f. refl;
-    answers = λ d i e f. refl;
-  };
-  fits = fits-at c Channel.D (pushes_of None) (done_moves source) (λ i j l. message_of mail s' i (packet j l)) fits;
-}
-  where
-    s' : State (List ℕ)
-    s' = answer_taken c source rest s
-
-    moved : AreMoved (done_moves source) (s.link c) (record (s.link c) { d = rest })
-    moved Channel.D = first
-    moved _ = refl
-
-    fits : (at : Channel) → Fits (same_channel at Channel.D) None (done_moves source at)
-        (λ j l. message_of mail s' c (packet j l))
-    fits Channel.A = tt
-    fits at = tt
+answer_taken-shown {w} c source rest mail {s} inv inv' first =
+    let s' : State (List ℕ) = answer_taken c source rest s in
+    let moved : AreMoved (done_moves source) (s.link c) (record (s.link c) { d = rest }) =
+    elim [ Channel.D ↦ first | _ ↦ refl ] in
+    let fits : (at : Channel) → Fits (same_channel at Channel.D) None (done_moves source at)
+    (λ j l. message_of mail s' c (packet j l)) = elim [ Channel.A ↦ tt | at ↦ tt ] in
+    record {
+      moves = (moves_at c (done_moves source));
+      showing = record {
+        before = inv;
+        after = inv';
+        moved = moved-at c (done_moves source) (record (s.link c) { d = rest }) s.link moved;
+        blocks = λ i ne. refl;
+        same = λ d k t e f. refl;
+        requests = λ d i e f. refl;
+        answers = λ d i e f. refl;
+      };
+      fits = fits-at c Channel.D (pushes_of None) (done_moves source) (λ i j l. message_of mail s' i (packet j l)) fits;
+    }
 
 pub release_ack_taken-shown : {w : ℕ} {caching : ℕ → Bool} (c n : ℕ) (rest : List Packet) (mail : AccessMessages w)
     {s : State (List ℕ)} → IsInvariant caching s
     → IsInvariant caching (release_ack_taken c n rest s) → (s.link c).d ≡ packet ReleaseAck n ∷ rest
     → IsShown caching n c Channel.D (pushes_at c (pushes_of None)) mail mail s (release_ack_taken c n rest s)
 release_ack_taken-shown {w} {caching} c n rest mail {s} inv inv' first =
+    let s' : State (List ℕ) = release_ack_taken c n rest s in
+    let moved : AreMoved (let_go_moves n) (s.link c) (record (s.link c) { d = rest }) =
+    elim [ Channel.D ↦ first | _ ↦ refl ] in
+    let fits : (at : Channel) → Fits (same_channel at Channel.D) None (let_go_moves n at)
+    (λ j l. message_of mail s' c (packet j l)) = elim [ Channel.A ↦ tt | at ↦ tt ] in
     let new : Block (List ℕ) = let_go_block c (s.block n) in
     record {
       moves = (moves_at c (let_go_moves n));
@@ -61,18 +60,6 @@ release_ack_taken-shown {w} {caching} c n rest mail {s} inv inv' first =
           (alike-let_go c (s.block n)) (λ i j e f. refl) (λ i j e f. refl);
       fits = fits-at c Channel.D (pushes_of None) (let_go_moves n) (λ i j l. message_of mail s' i (packet j l)) fits;
     }
-  where
-    s' : State (List ℕ)
-    s' = release_ack_taken c n rest s
-
-    moved : AreMoved (let_go_moves n) (s.link c) (record (s.link c) { d = rest })
-    moved Channel.D = first
-    moved _ = refl
-
-    fits : (at : Channel) → Fits (same_channel at Channel.D) None (let_go_moves n at)
-        (λ j l. message_of mail s' c (packet j l))
-    fits Channel.A = tt
-    fits at = tt
 
 pub grant_taken-shown : {w : ℕ} {caching : ℕ → Bool} (c n : ℕ) (whole d : Bool) (k : Cap) (rest : List Packet)
     (m : Message w) (mail : AccessMessages w) {s : State (List ℕ)} → IsInvariant caching s
@@ -82,30 +69,23 @@ pub grant_taken-shown : {w : ℕ} {caching : ℕ → Bool} (c n : ℕ) (whole d 
     ⊎ ((taken_block c whole d k (s.block n)).truth ≡ (s.block n).truth)) → channel_of_message m ≡ Channel.E
     → block_message GrantAck c n (taken_block c whole d k (s.block n)) ≡ m
     → IsShown caching n c Channel.D (pushes_at c (pushes_of (Some m))) mail mail s (grant_taken c n whole d k rest s)
-grant_taken-shown {w} {caching} c n whole d k rest m mail {s} inv inv' first sent bytes chan is = record {
-  moves = (moves_at c (taken_moves n));
-  showing = showing-block n new (moves_at c (taken_moves n)) mail mail inv inv'
-      (moved-at c (taken_moves n) (taken_link n rest (s.link c)) s.link moved) (λ i. refl)
-      (alike-taken c whole d k (s.block n) sent bytes) (λ i j e f. refl) (λ i j e f. refl);
-  fits = fits-at c Channel.D (pushes_of (Some m)) (taken_moves n) (λ i j l. message_of mail s' i (packet j l))
-      (λ at. fits_pushed (same_channel at Channel.D) m Channel.E at (taken_moves n at)
-      (λ j l. message_of mail s' c (packet j l)) chan (fits at));
-}
-  where
-    new : Block (List ℕ)
-    new = taken_block c whole d k (s.block n)
-
-    s' : State (List ℕ)
-    s' = grant_taken c n whole d k rest s
-
-    moved : AreMoved (taken_moves n) (s.link c) (taken_link n rest (s.link c))
-    moved Channel.D = first
-    moved _ = refl
-
-    fits : (at : Channel) → Fits (same_channel at Channel.D) (only_on Channel.E m at) (taken_moves n at)
-        (λ j l. message_of mail s' c (packet j l))
-    fits Channel.E = new_there GrantAck c n new s.block m is
-    fits at = tt
+grant_taken-shown {w} {caching} c n whole d k rest m mail {s} inv inv' first sent bytes chan is =
+    let new : Block (List ℕ) = taken_block c whole d k (s.block n) in
+    let s' : State (List ℕ) = grant_taken c n whole d k rest s in
+    let moved : AreMoved (taken_moves n) (s.link c) (taken_link n rest (s.link c)) =
+    elim [ Channel.D ↦ first | _ ↦ refl ] in
+    let fits : (at : Channel) → Fits (same_channel at Channel.D) (only_on Channel.E m at) (taken_moves n at)
+    (λ j l. message_of mail s' c (packet j l)) =
+    elim [ Channel.E ↦ new_there GrantAck c n new s.block m is | at ↦ tt ] in
+    record {
+      moves = (moves_at c (taken_moves n));
+      showing = showing-block n new (moves_at c (taken_moves n)) mail mail inv inv'
+          (moved-at c (taken_moves n) (taken_link n rest (s.link c)) s.link moved) (λ i. refl)
+          (alike-taken c whole d k (s.block n) sent bytes) (λ i j e f. refl) (λ i j e f. refl);
+      fits = fits-at c Channel.D (pushes_of (Some m)) (taken_moves n) (λ i j l. message_of mail s' i (packet j l))
+          (λ at. fits_pushed (same_channel at Channel.D) m Channel.E at (taken_moves n at)
+          (λ j l. message_of mail s' c (packet j l)) chan (fits at));
+    }
 
 -- ---- a GrantAck is taken
 
@@ -114,6 +94,8 @@ pub grant_ack_taken-shown : {w : ℕ} {caching : ℕ → Bool} (c n : ℕ) (rest
     → (s.link c).e ≡ packet GrantAck n ∷ rest → (s.block n).service ≡ GrantTaken c
     → IsShown caching n c Channel.E (λ d at. None) mail mail s (grant_ack_taken c n rest s)
 grant_ack_taken-shown {w} {caching} c n rest mail {s} inv inv' first sent =
+    let moved : AreMoved (freed_moves n) (s.link c) (record (s.link c) { e = rest }) =
+    elim [ Channel.E ↦ first | _ ↦ refl ] in
     let new : Block (List ℕ) = freed_block (s.block n) in
     record {
       moves = (moves_at c (freed_moves n));
@@ -125,10 +107,6 @@ grant_ack_taken-shown {w} {caching} c n rest mail {s} inv inv' first sent =
   where
     s' : State (List ℕ)
     s' = grant_ack_taken c n rest s
-
-    moved : AreMoved (freed_moves n) (s.link c) (record (s.link c) { e = rest })
-    moved Channel.E = first
-    moved _ = refl
 
     fits : (d : ℕ) (at : Channel) (b : Bool)
         → Fits (b && same_channel at Channel.E) None (if b then freed_moves n at else Stays)

@@ -40,24 +40,18 @@ is_taken _ = false
 pub offered-taken : {w : ℕ} (terms : client.EndConfig) (ch : Channel) (x : Beat w) (e : client.Endpoint w)
     → is_taken (offer.offered terms ch x e).answer ≡ true → offer.offered terms ch x e ≡ offer.taken x e
 unfolding offer.offered
-offered-taken {w} terms ch x e is = before (offer.broken_before terms ch x e) is
-  where
-    later : (o : Option Rule) → is_taken (offer.judged_later o x e).answer ≡ true
-        → offer.judged_later o x e ≡ offer.taken x e
-    later None h = refl
-    later (Some rule) h = absurd cc
-
-    waiting : (b : Bool) → is_taken (if b then offer.silent Verdict.Stalled e else offer.judged_later
-        (offer.broken_later terms x e) x e).answer ≡ true
-        → (if b then offer.silent Verdict.Stalled e else offer.judged_later (offer.broken_later terms x e) x e)
-        ≡ offer.taken x e
-    waiting true h = absurd cc
-    waiting false h = later (offer.broken_later terms x e) h
-
-    before : (o : Option Rule) → is_taken (offer.judged o terms x e).answer ≡ true
-        → offer.judged o terms x e ≡ offer.taken x e
-    before None h = waiting (offer.waits x e.past) h
-    before (Some rule) h = absurd cc
+offered-taken {w} terms ch x e is =
+    let later : (o : Option Rule) → is_taken (offer.judged_later o x e).answer ≡ true
+    → offer.judged_later o x e ≡ offer.taken x e = elim [ None ↦ λ h. refl | Some rule ↦ λ h. absurd cc ] in
+    let waiting : (b : Bool)
+    → is_taken (if b then offer.silent Verdict.Stalled e else offer.judged_later (offer.broken_later terms x e) x
+    e).answer ≡ true → (if b then offer.silent Verdict.Stalled e else offer.judged_later
+    (offer.broken_later terms x e) x e) ≡ offer.taken x e =
+    elim [ true ↦ λ h. absurd cc | false ↦ λ h. later (offer.broken_later terms x e) h ] in
+    let before : (o : Option Rule) → is_taken (offer.judged o terms x e).answer ≡ true
+    → offer.judged o terms x e ≡ offer.taken x e =
+    elim [ None ↦ λ h. waiting (offer.waits x e.past) h | Some rule ↦ λ h. absurd cc ] in
+    before (offer.broken_before terms ch x e) is
 
 -- the step, where a client takes the beat
 pub record IsTakenByClient {w : ℕ} (terms : client.EndConfig) (c : ℕ) (ch : Channel) (x : Beat w)
@@ -130,17 +124,16 @@ pub offered-passes : {w : ℕ} (config : Config) (link : Link) (ch : Channel) (x
       manager_offer.taken link x (manager_reaction.reaction config link x e) e,
     )
 unfolding manager_offer.offered
-offered-passes {w} config link ch x e handed is = go (manager_offer.judged config link ch x e) is
-  where
-    go : (j : manager_offer.Judgement) → (manager_offer.offered_as j config link x e).0 ≡ manager_offer.Sent handed
-        → manager_offer.offered_as j config link x e
-        ≡ (
-          manager_offer.Sent (manager_reaction.reaction config link x e).handed,
-          manager_offer.taken link x
-              (manager_reaction.reaction config link x e) e,
-        )
-    go manager_offer.Passes h = refl
-    go j h = absurd cc
+offered-passes {w} config link ch x e handed is =
+    let go : (j : manager_offer.Judgement) → (manager_offer.offered_as j config link x e).0 ≡ manager_offer.Sent handed
+    → manager_offer.offered_as j config link x e
+    ≡ (
+      manager_offer.Sent (manager_reaction.reaction config link x e).handed,
+      manager_offer.taken link x
+          (manager_reaction.reaction config link x e) e,
+    ) =
+    elim [ manager_offer.Passes ↦ λ h. refl | j ↦ λ h. absurd cc ] in
+    go (manager_offer.judged config link ch x e) is
 
 -- the step, where the manager takes the beat
 pub record IsTakenByManager {w : ℕ} (config : Config) (link : Link) (ch : Channel) (x : Beat w) (queue : List (Beat w))

@@ -64,12 +64,10 @@ strange_acquire : {w : ℕ} (config : Config) (clients : ℕ) (p : Profile) (c n
     (rest : List Packet) (h : AbstractState w) → AreStrange config h.state.uses
     → AreStrange config (acquire_taken clients p c n x tracker rest h).state.uses
 strange_acquire config clients p c n NoAcquire tracker rest h before = before
-strange_acquire {w} config clients p c n (AcquireOpen whole g) tracker rest h before = either _ _ _ before before
-  where
-    either : (b : Bool) (s t : State (List ℕ)) → AreStrange config s.uses → AreStrange config t.uses
-        → AreStrange config (if b then s else t).uses
-    either true s t f g = f
-    either false s t f g = g
+strange_acquire {w} config clients p c n (AcquireOpen whole g) tracker rest h before =
+    let either : (b : Bool) (s t : State (List ℕ)) → AreStrange config s.uses → AreStrange config t.uses
+    → AreStrange config (if b then s else t).uses = elim [ true ↦ λ s t f g. f | false ↦ λ s t f g. g ] in
+    either _ _ _ before before
 
 strange_granted : {w : ℕ} (config : Config) (clients : ℕ) (p : Profile) (c q n : ℕ) (r : Report) (x : AcquirePhase)
     (rest : List Packet) (h : AbstractState w) → AreStrange config h.state.uses
@@ -102,15 +100,12 @@ strangers-kind_taken config tracker c Request i rest h terms inv known before =
 strangers-kind_taken config tracker c Acquire i rest h terms inv known before =
     strange_acquire config _ config.profile c i ((h.state.block i).pair c).acquiring tracker rest h before
 strangers-kind_taken config tracker c Probe i rest h terms inv known before = before
-strangers-kind_taken {w} {caching} config tracker c ProbeAck i rest h terms inv known before = either _ _ _ before
-    (strange_last config _ config.profile c i _ (h.state.block i).service rest h
+strangers-kind_taken {w} {caching} config tracker c ProbeAck i rest h terms inv known before =
+    let either : (b : Bool) (s t : AbstractState w) → AreStrange config s.state.uses → AreStrange config t.state.uses
+    → AreStrange config (if b then s else t).state.uses = elim [ true ↦ λ s t f g. f | false ↦ λ s t f g. g ] in
+    either _ _ _ before (strange_last config _ config.profile c i _ (h.state.block i).service rest h
     (λ q source j e f. absurd (let g : InService i ≡ SourceFree =
     sym (serving-use caching h.state i q source j inv e) ∙ f in cc)) before)
-  where
-    either : (b : Bool) (s t : AbstractState w) → AreStrange config s.state.uses → AreStrange config t.state.uses
-        → AreStrange config (if b then s else t).state.uses
-    either true s t f g = f
-    either false s t f g = g
 strangers-kind_taken config tracker c Release i rest h terms inv known before = before
 strangers-kind_taken config tracker c Answer i rest h terms inv known before =
     strange_closed config c i h.state.uses before

@@ -58,13 +58,10 @@ sized_pair c p {old} new pairs same truth waiting h =
 
 sized_served : (r : ℕ) (own : Bool) (source tracker : ℕ) (k : Cap) {b : Block (List ℕ)} → AreSized b
     → AreSized (served_block r own source tracker k b)
-sized_served r own source tracker k {b} h = sized_same (served_block r own source tracker k b) h.truth (λ c. refl)
-    (λ c e. go c (own && (c == r)) e) h
-  where
-    go : (c : ℕ) (x : Bool) → is_whole (if x then b.pair c else after_served k (b.pair c)).acquiring ≡ true
-        → is_whole (b.pair c).acquiring ≡ true
-    go c true e = e
-    go c false e = e
+sized_served r own source tracker k {b} h =
+    let go : (c : ℕ) (x : Bool) → is_whole (if x then b.pair c else after_served k (b.pair c)).acquiring ≡ true
+    → is_whole (b.pair c).acquiring ≡ true = λ c. elim [ true ↦ λ e. e | false ↦ λ e. e ] in
+    sized_same (served_block r own source tracker k b) h.truth (λ c. refl) (λ c e. go c (own && (c == r)) e) h
 
 sized_granted_block : (c q : ℕ) (r : Report) (d : Bool) (k : Cap) {b : Block (List ℕ)} → AreSized b
     → AreSized (granted_block c q r d k b)
@@ -86,14 +83,13 @@ sized_granted_block c q r d k {b} h = sized_same (granted_block c q r d k b) h.t
 
 sized_taken_block : (c : ℕ) (d : Bool) (k : Cap) {b : Block (List ℕ)} → AreSized b
     → AreSized (taken_block c (is_whole (b.pair c).acquiring) d k b)
-sized_taken_block c d k {b} h = sized_same (taken_block c (is_whole (b.pair c).acquiring) d k b)
-    (bytes (b.pair c).acquiring refl) (λ i. refl) (λ i e. storing i (cases_eq i c) e) h
+sized_taken_block c d k {b} h =
+    let bytes : (x : AcquirePhase) → (b.pair c).acquiring ≡ x
+    → length (granted_truth (is_whole x) (b.waiting c) b.truth) ≡ 64 =
+    elim [ AcquireOpen true g ↦ λ e. h.waiting c (ap is_whole e) | x ↦ λ e. h.truth ] in
+    sized_same (taken_block c (is_whole (b.pair c).acquiring) d k b) (bytes (b.pair c).acquiring refl) (λ i. refl)
+    (λ i e. storing i (cases_eq i c) e) h
   where
-    bytes : (x : AcquirePhase) → (b.pair c).acquiring ≡ x
-        → length (granted_truth (is_whole x) (b.waiting c) b.truth) ≡ 64
-    bytes (AcquireOpen true g) e = h.waiting c (ap is_whole e)
-    bytes x e = h.truth
-
     storing : (i : ℕ) → (i ≡ c) ⊎ (i ≡ c → ⊥) → is_whole (set c (after_grant k (b.pair c)) b.pair i).acquiring ≡ true
         → is_whole (b.pair i).acquiring ≡ true
     storing i (inl same) e = absurd (let f : is_whole (set c (after_grant k (b.pair c)) b.pair c).acquiring ≡ true =
@@ -130,14 +126,12 @@ sized_acquire : {w : ℕ} (clients : ℕ) (p : Profile) (c n : ℕ) (x : Acquire
     (h : AbstractState w) → AllSized h.state → AllSized (acquire_taken clients p c n x tracker rest h).state
 sized_acquire clients p c n NoAcquire tracker rest h before = before
 sized_acquire {w} clients p c n (AcquireOpen whole g) tracker rest h before =
+    let either : (x : Bool) (s t : State (List ℕ)) → AllSized s → AllSized t → AllSized (if x then s else t) =
+    elim [ true ↦ λ s t f g. f | false ↦ λ s t f g. g ] in
     let b : Block (List ℕ) = h.state.block n in
     either _ _ _ (λ i. sized_block n h.state.block (sized_served c true (b.source c) tracker _ (before n)) before i)
     (λ i. sized_block n h.state.block (sized_pair c (after_grant_sent _ (b.pair c)) _ refl refl refl refl
     (before n)) before i)
-  where
-    either : (x : Bool) (s t : State (List ℕ)) → AllSized s → AllSized t → AllSized (if x then s else t)
-    either true s t f g = f
-    either false s t f g = g
 
 sized_granted : {w : ℕ} (clients : ℕ) (p : Profile) (c q n : ℕ) (r : Report) (x : AcquirePhase) (rest : List Packet)
     (h : AbstractState w) → AllSized h.state → AllSized (granted_after clients p c q n r x rest h).state
@@ -172,13 +166,10 @@ sized-kind_taken config tracker c Probe i rest h before = λ j.
     sized_block i h.state.block (sized_pair c (after_probe _ ((h.state.block i).pair c)) _ refl refl
     refl refl (before i)) before j
 sized-kind_taken {w} config tracker c ProbeAck i rest h before =
+    let either : (b : Bool) (s t : AbstractState w) → AllSized s.state → AllSized t.state
+    → AllSized (if b then s else t).state = elim [ true ↦ λ s t f g. f | false ↦ λ s t f g. g ] in
     either _ _ _ (λ j. sized_block i h.state.block (sized_pair c (after_report _ ((h.state.block i).pair c)) _ refl refl
     refl refl (before i)) before j) (sized_last _ config.profile c i _ (h.state.block i).service rest h before)
-  where
-    either : (b : Bool) (s t : AbstractState w) → AllSized s.state → AllSized t.state
-        → AllSized (if b then s else t).state
-    either true s t f g = f
-    either false s t f g = g
 sized-kind_taken config tracker c Release i rest h before = λ j.
     sized_block i h.state.block (sized_pair c (after_release_taken _ ((h.state.block i).pair c)) _
     refl refl refl refl (before i)) before j

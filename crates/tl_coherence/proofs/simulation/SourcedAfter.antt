@@ -62,12 +62,11 @@ sourced_acquire : {w : ℕ} (config : Config) (clients : ℕ) (p : Profile) (c n
     → AreSourced config (acquire_taken clients p c n x tracker rest h).mail.request
     (acquire_taken clients p c n x tracker rest h).state.uses
 sourced_acquire config clients p c n NoAcquire tracker rest h before = before
-sourced_acquire {w} config clients p c n (AcquireOpen whole g) tracker rest h before = either _ _ _ before before
-  where
-    either : (b : Bool) (s t : State (List ℕ)) → AreSourced config h.mail.request s.uses
-        → AreSourced config h.mail.request t.uses → AreSourced config h.mail.request (if b then s else t).uses
-    either true s t f g = f
-    either false s t f g = g
+sourced_acquire {w} config clients p c n (AcquireOpen whole g) tracker rest h before =
+    let either : (b : Bool) (s t : State (List ℕ)) → AreSourced config h.mail.request s.uses
+    → AreSourced config h.mail.request t.uses → AreSourced config h.mail.request (if b then s else t).uses =
+    elim [ true ↦ λ s t f g. f | false ↦ λ s t f g. g ] in
+    either _ _ _ before before
 
 sourced_granted : {w : ℕ} (config : Config) (clients : ℕ) (p : Profile) (c q n : ℕ) (r : Report) (x : AcquirePhase)
     (rest : List Packet) (h : AbstractState w) → AreSourced config h.mail.request h.state.uses
@@ -113,14 +112,11 @@ sourced-kind_taken config tracker c Acquire i rest h inv first before =
     sourced_acquire config _ config.profile c i ((h.state.block i).pair c).acquiring tracker rest h before
 sourced-kind_taken config tracker c Probe i rest h inv first before = before
 sourced-kind_taken {w} {caching} config tracker c ProbeAck i rest h inv first before =
+    let either : (b : Bool) (s t : AbstractState w) → AreSourced config s.mail.request s.state.uses
+    → AreSourced config t.mail.request t.state.uses → AreSourced config (if b then s else t).mail.request
+    (if b then s else t).state.uses = elim [ true ↦ λ s t f g. f | false ↦ λ s t f g. g ] in
     either _ _ _ before (sourced_last config _ config.profile c i _ (h.state.block i).service rest h
     (λ q source k e. serving-use caching h.state i q source k inv e) before)
-  where
-    either : (b : Bool) (s t : AbstractState w) → AreSourced config s.mail.request s.state.uses
-        → AreSourced config t.mail.request t.state.uses
-        → AreSourced config (if b then s else t).mail.request (if b then s else t).state.uses
-    either true s t f g = f
-    either false s t f g = g
 sourced-kind_taken config tracker c Release i rest h inv first before = before
 sourced-kind_taken config tracker c Answer i rest h inv first before =
     sourced_set config h.mail.request c i SourceFree h.state.uses tt before

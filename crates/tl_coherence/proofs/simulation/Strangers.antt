@@ -21,34 +21,36 @@ use Rattle.tl_coherence.proofs.{protocol.TokenNames.shown_there, protocol.TokenN
 use Rattle.tl_coherence.proofs.{queues.Distinct.IsThere, queues.Distinct.first-there, simulation.Owned.sources-own}
 
 no_level : (config : Config) (c : ℕ) → terms_at config c ≡ None → level_of config c ≡ None
-no_level config c is = go (slice_get config.clients.items c) is
-  where
-    go : (o : Option ClientConfig) → option_map {U = EndConfig}
-        (λ x. record { level = x.level; profile = config.profile; sources = x.sources; blocks = config.blocks })
-        o ≡ None → option_map (λ x. x.level) o ≡ None
-    go None e = refl
-    go (Some x) e = absurd cc
+no_level config c is =
+    let go : (o : Option ClientConfig)
+    → option_map {U = EndConfig} (λ x. record {
+      level = x.level;
+      profile = config.profile;
+      sources =
+          x.sources;
+      blocks = config.blocks;
+    }) o ≡ None → option_map (λ x. x.level) o ≡ None =
+    elim [ None ↦ λ e. refl | Some x ↦ λ e. absurd cc ] in
+    go (slice_get config.clients.items c) is
 
 acknowledged_to : (service : Service) (c : ℕ) → is_acknowledging (view service c) ≡ true → client_in service ≡ Some c
 acknowledged_to Free c e = absurd cc
-acknowledged_to (Waits r own source k) c e = never (own && (c == r)) e
-  where
-    never : (b : Bool) → is_acknowledging (if b then Own else Other k) ≡ true
-        → client_in (Waits r own source k) ≡ Some c
-    never true f = absurd cc
-    never false f = absurd cc
-acknowledged_to (GrantSent q d k) c e = never (c == q) e
-  where
-    never : (b : Bool) → is_acknowledging (if b then Granting d k else GrantedOther) ≡ true
-        → client_in (GrantSent q d k) ≡ Some c
-    never true f = absurd cc
-    never false f = absurd cc
-acknowledged_to (GrantTaken q) c e = go (c == q) refl e
-  where
-    go : (b : Bool) → (c == q) ≡ b → is_acknowledging (if b then Acknowledging else GrantedOther) ≡ true
-        → Some q ≡ Some c
-    go true same f = ap (λ (i : ℕ). Some i) (sym (eqb-true c q same))
-    go false differs f = absurd cc
+acknowledged_to (Waits r own source k) c e =
+    let never : (b : Bool) → is_acknowledging (if b then Own else Other k) ≡ true → client_in (Waits r own source k)
+    ≡ Some c = elim [ true ↦ λ f. absurd cc | false ↦ λ f. absurd cc ] in
+    never (own && (c == r)) e
+acknowledged_to (GrantSent q d k) c e =
+    let never : (b : Bool) → is_acknowledging (if b then Granting d k else GrantedOther) ≡ true
+    → client_in (GrantSent q d k) ≡ Some c = elim [ true ↦ λ f. absurd cc | false ↦ λ f. absurd cc ] in
+    never (c == q) e
+acknowledged_to (GrantTaken q) c e =
+    let go : (b : Bool) → (c == q) ≡ b → is_acknowledging (if b then Acknowledging else GrantedOther) ≡ true
+    → Some q ≡ Some c = elim [
+      | true ↦ λ same f. ap (λ (i : ℕ). Some i)
+          (sym (eqb-true c q same))
+      | false ↦ λ differs f. absurd cc
+    ] in
+    go (c == q) refl e
 
 module _ {w : ℕ} (config : Config) (log : Log w) (mail : AccessMessages w) (request : ℕ → MessageA w)
     (s : State (List ℕ)) (matched : SimulationRelation config log mail request s (system_after config log))
@@ -71,16 +73,14 @@ module _ {w : ℕ} (config : Config) (log : Log w) (mail : AccessMessages w) (re
 
   not_acknowledging : (n : ℕ) → shown GrantAck c (s.block n) ≡ true → ⊥
   not_acknowledging n e =
+      let lawless : (o : Option Level) (m : Message w) → o ≡ None → kept.illegal_message_at o m ≡ None → ⊥ =
+      elim [ None ↦ λ m h f. absurd cc | Some l ↦ λ m h f. absurd cc ] in
       let served : service_of_block n (services (system_after config log).manager.trace) ≡ service_with (Some c)
       (s.block n).tracker (request n) = cc (matched.managed.serving_is n, acknowledged_to (s.block n).service c e)
       in
       let performable = of_served (kept.IsPerformable config) n (services (system_after config log).manager.trace) _
       served matched.manager_kept.requests in
       lawless (level_of config c) (Message.A (request n)) (no_level config c is) performable.lawful
-    where
-      lawless : (o : Option Level) (m : Message w) → o ≡ None → kept.illegal_message_at o m ≡ None → ⊥
-      lawless None m h f = absurd cc
-      lawless (Some l) m h f = absurd cc
 
   nothing_shown : (ch : Channel) (k : Kind) (n : ℕ) → is_on ch k ≡ true → 0 < count k n (packets_on ch (s.link c)) → ⊥
   nothing_shown ch Request n on_it there =
@@ -113,9 +113,8 @@ module _ {w : ℕ} (config : Config) (log : Log w) (mail : AccessMessages w) (re
       not_acknowledging n (shown_there c ch GrantAck n matched.invariant on_it there)
 
   pub no_tokens : (ch : Channel) → packets_on ch (s.link c) ≡ []
-  no_tokens ch = go (packets_on ch (s.link c))
+  no_tokens ch =
+      let go : (xs : List Packet) → ((x : Packet) → IsThere x xs → ⊥) → xs ≡ [] =
+      elim [ [] ↦ λ none. refl | x ∷ xs ↦ λ none. absurd (none x (first-there x xs)) ] in
+      go (packets_on ch (s.link c))
       (λ x there. nothing_shown ch x.kind x.number (kind_there _ s c ch x matched.invariant there) there)
-    where
-      go : (xs : List Packet) → ((x : Packet) → IsThere x xs → ⊥) → xs ≡ []
-      go [] none = refl
-      go (x ∷ xs) none = absurd (none x (first-there x xs))

@@ -102,11 +102,10 @@ open_ends c source m a r x e = rw e refl
 -- a request that is open is the pending one
 request_open : {w : ℕ} (source : ℕ) (x : BeatA w) (t : History w) → open_beat source t ≡ Some x
     → request_of source t ≡ Some x
-request_open {w} source x t e = go (pending (RequestSource source) t) e
-  where
-    go : (b : Bool) → cond b (request_of source t) None ≡ Some x → request_of source t ≡ Some x
-    go true f = f
-    go false f = absurd cc
+request_open {w} source x t e =
+    let go : (b : Bool) → cond b (request_of source t) None ≡ Some x → request_of source t ≡ Some x =
+    elim [ true ↦ λ f. f | false ↦ λ f. absurd cc ] in
+    go (pending (RequestSource source) t) e
 
 sourced_request : {w : ℕ} (config : Config) (c source : ℕ) (m : Message w) (u : SourceState) → u ≡ Replied
     → IsSourced config c source m u → IsRequest config c source m

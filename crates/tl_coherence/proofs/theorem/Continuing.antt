@@ -140,13 +140,12 @@ answering-delivered {w} config log link ch h width is = go (is_moving (stepped c
     moves Channel.C terms (x ∷ queue) known beats moving = up Channel.C terms x queue refl known beats moving
         (once-followed_c h c x queue width is beats is.beside)
     moves Channel.D terms (x ∷ queue) known beats moving = down Channel.D terms x queue refl known beats moving
-    moves Channel.E terms (x ∷ queue) known beats moving = up Channel.E terms x queue refl known beats moving
+    moves Channel.E terms (x ∷ queue) known beats moving =
+        let acked : (y : Beat w) → channel_of y ≡ Channel.E
+        → accesses_answered (reaction config link y sys.manager).handed ≡ [] =
+        elim [ Beat.E y ↦ λ e. ack-none config link (Beat.E y) sys y refl | y ↦ λ e. absurd cc ] in
+        up Channel.E terms x queue refl known beats moving
         (inl (acked x (first-of config log h c terms Channel.E x queue width is known beats).on))
-      where
-        acked : (y : Beat w) → channel_of y ≡ Channel.E → accesses_answered (reaction config link y sys.manager).handed
-            ≡ []
-        acked (Beat.E y) e = ack-none config link (Beat.E y) sys y refl
-        acked y e = absurd cc
 
     found : (o : Option EndConfig) → terms_at config c ≡ o
         → is_moving (stepped config (Deliver link ch) sys).outcome ≡ true → Then ch

@@ -171,15 +171,13 @@ module _ (p : Profile) (c n source : ℕ) (a : AcquirePhase) where
       go (GrantTaken q) e other = taken-unseen (c == q) other
       go (Waits r false i k) e other = no_access s r i (InService n) is (serving-use caching s n r i k inv e) refl
       go (Waits r true i k) e other =
+          let never : (b : Bool) → b ≡ true → is_other (if b then Own else Other k) ≡ true → ⊥ =
+          elim [ true ↦ λ e f. absurd cc | false ↦ λ e f. absurd cc ] in
           let own : view (s.block n).service r ≡ Own = rw (e, same_number r) refl in
           let wants = owns_ask ((s.block n).pair r) (view (s.block n).service r) ((inv.blocks n).phases r) (rw own refl)
           in
           let mine = own_acquire s r ((s.block n).source r) n is (source_of_acquire r n inv wants) in
           never (c == r) (ap (λ (j : ℕ). c == j) mine.0.0 ∙ same_number c) other
-        where
-          never : (b : Bool) → b ≡ true → is_other (if b then Own else Other k) ≡ true → ⊥
-          never true e f = absurd cc
-          never false e f = absurd cc
 
   -- ---- messages that are taken
 

@@ -83,12 +83,11 @@ step_allowed config link ch o m so known done = (known, tt, refl)
 nobody-continues : {w : ℕ} (config : Config) (log : Log w) (event : Event w) → terms_at config (step.client_of event)
     ≡ None → Continues config (event, (stepped config event (system_after config log)).outcome) log
 unfolding one_memory_after performing Performs accesses_answered
-nobody-continues {w} config log event none = rw (stepped-nobody config event (system_after config log) none)
+nobody-continues {w} config log event none =
+    let same : (e : Event w) → moved e Outcome.NoSuchClient (one_memory_after config log) ≡ one_memory_after config
+    log = elim [ Ask c o ↦ refl | Deliver link ch ↦ refl ] in
+    rw (stepped-nobody config event (system_after config log) none)
     (one_memory_after config log, [], (rw none refl, refl), same event)
-  where
-    same : (e : Event w) → moved e Outcome.NoSuchClient (one_memory_after config log) ≡ one_memory_after config log
-    same (Ask c o) = refl
-    same (Deliver link ch) = refl
 
 continues-delivered : {w : ℕ} {config : Config} {log : Log w} (link : Link) (ch : Channel) (h : AbstractState w)
     (terms : EndConfig) → IsWidth w → SimulationRelation config log h.mail h.request h.state (system_after config log)

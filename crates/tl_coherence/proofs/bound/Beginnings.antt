@@ -57,13 +57,11 @@ module _ {X : Type 0} (config : Config) (size : ℕ) (left left' : Left) (answer
 
   pub none-more : IsNoMore config size left left' answer answer s s
   none-more = record {
-    uses = λ c i.
-        use-no-more config size left left' answer answer s s c i (s.uses c i) refl refl (omega arith)
+    uses = λ c i. use-no-more config size left left' answer answer s s c i (s.uses c i) refl refl (omega arith)
         (λ u. le c Request i) (λ u. le c Answer i) (λ m u. probes_less m)
         (λ m u. acquire-no-more size (left c Acquire m) (left' c Acquire m) (left c Grant m) (left' c Grant m)
-        (probes_weight number size left m (s.block m))
-        (probes_weight number size left' m (s.block m)) (view (s.block m).service c) (λ v. le c Acquire m)
-        (le c Grant m) (probes_less m));
+        (probes_weight number size left m (s.block m)) (probes_weight number size left' m (s.block m))
+        (view (s.block m).service c) (λ v. le c Acquire m) (le c Grant m) (probes_less m));
     lets = λ c i. lets_less c (s.lets c i);
     acks = λ c. omega arith;
   }

@@ -133,10 +133,9 @@ module _ {w : ℕ} (config : Config) (log : Log w) (h : AbstractState w) (width 
       (stepped config (Deliver link ch) (system_after config log)).after ≤ owed config h.mail h.state
       (system_after config log)
   still-owed link ch still =
-      subst (λ (z : AbstractState w). owed config z.mail z.state sys' ≤ owed config h.mail h.state sys)
-      (sym (followed-still config link ch sys h still))
-      (stays config (64 / w) (left sys) (left sys') (answer_to h.mail) (answer_to h.mail) h.state h.state
-      (none-more config (64 / w) (left sys) (left sys') (answer_to h.mail) h.state less))
+      rw (followed-still config link ch sys h still) (stays config (64 / w) (left sys) (left sys') (answer_to h.mail)
+      (answer_to h.mail) h.state h.state (none-more config (64 / w) (left sys) (left sys') (answer_to h.mail) h.state
+      less))
     where
       sys : System w
       sys = system_after config log

@@ -35,8 +35,7 @@ grown-moved {w} {config} {log} h link ch terms x queue width is known beats movi
     sys = system_after config log
 
     on_ch : IsOn ch x
-    on_ch = subst (λ (i : Channel). IsOn i x) (first-of config log h link.0 terms ch x queue width is known beats).on
-        (on_it x)
+    on_ch = rw (← (first-of config log h link.0 terms ch x queue width is known beats).on) (on_it x)
 
     go : (b : Bool) → is_to_client ch ≡ b → IsGrown link.0 ch x sys (stepped config (Deliver link ch) sys).after
     go true up =

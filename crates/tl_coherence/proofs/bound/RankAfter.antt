@@ -78,8 +78,7 @@ pub kept-matched : {w : ℕ} {config : Config} {log : Log w} {mail : AccessMessa
 kept-matched is = record {
   invariant = is.invariant;
   sourced = is.sourced;
-  answered =
-      is.answered;
+  answered = is.answered;
 }
 
 module _ {w : ℕ} (config : Config) (log : Log w) (mail : AccessMessages w) (request : ℕ → MessageA w)

@@ -65,17 +65,15 @@ module _ {w : ℕ} (config : Config) (log : Log w) (h : AbstractState w) (sys' :
   pub grant-owed : (h.state.link c).d ≡ packet Grant n ∷ rest → IsReceived c Channel.D (system_after config log) sys'
       → Kept Grant → TakenFalls Grant
   grant-owed first received kept =
-      subst (λ (z : AbstractState w). owed config z.mail z.state sys' + 1 ≤ owed config h.mail h.state
-      (system_after config log)) (sym same) (grant_taken-owed config log h.mail h.request h.state sys' width matched c n
-      rest lt due.whole due.data_too due.k first due.service (bare h due matched.invariant) received
+      rw same (grant_taken-owed config log h.mail h.request h.state sys' width matched c n rest lt due.whole
+      due.data_too due.k first due.service (bare h due matched.invariant) received
       (subst (λ (z : AbstractState w). IsKeptAfter config z.mail z.state) same kept))
     where
       due : IsGrantDue c n h.state
       due = grant-due (is_caching config) c n rest h.state matched.invariant first
 
       same : kind_taken config tracker c Grant n rest h ≡ record h {
-        state =
-            grant_taken c n due.whole due.data_too due.k rest h.state;
+        state = grant_taken c n due.whole due.data_too due.k rest h.state;
       }
       same = ap (λ (v : Service). taken_by_client c n v rest h) due.service ∙ ap
           (λ (a : AcquirePhase). record h { state = grant_taken c n (is_whole a) due.data_too due.k rest h.state })

@@ -26,9 +26,8 @@ pub request-owed : {w : ℕ} (config : Config) (log : Log w) (h : AbstractState 
     (kind_taken config tracker c Request source rest h).state sys' + 1 ≤ owed config h.mail h.state
     (system_after config log)
 request-owed {w} config log h sys' tracker c source rest m width matched lt sixteen first is_it access free received
-    kept = subst (λ (i : Message w). Falls (request_taken clients c source i tracker rest h)) (sym is_it)
-    (go (probes_some clients c false (cap_probed m.opcode m.param) b.pair) (cap_probed m.opcode m.param) refl refl
-    (subst (λ (i : Message w). Kept (request_taken clients c source i tracker rest h)) is_it kept))
+    kept = rw is_it (go (probes_some clients c false (cap_probed m.opcode m.param) b.pair) (cap_probed m.opcode m.param)
+    refl refl (subst (λ (i : Message w). Kept (request_taken clients c source i tracker rest h)) is_it kept))
   where
     n : ℕ
     n = block_at m.address

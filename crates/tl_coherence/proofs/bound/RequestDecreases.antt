@@ -69,13 +69,11 @@ module _ {w : ℕ} (config : Config) (caching : ℕ → Bool) (n : ℕ) (moves :
       (ap (λ (p : ℕ → ClientBlock). (p d).recorded) pairs)) in
       record {
         serves = λ d i e f. probes;
-        acquires = λ d i e f.
-            acquire-stays config caching n moves mail mail' s s' showing c ch rest rest' popped size answer d n
-            (wants-used showing.before d i n e)
-            (ap (λ (p : ℕ → ClientBlock). (p d).acquiring) pairs) (ap (λ (u : Service). view u d) service) probes;
+        acquires = λ d i e f. acquire-stays config caching n moves mail mail' s s' showing c ch rest rest' popped size
+            answer d n (wants-used showing.before d i n e) (ap (λ (p : ℕ → ClientBlock). (p d).acquiring) pairs)
+            (ap (λ (u : Service). view u d) service) probes;
         lets = λ d i e f. let-stays config caching n moves mail mail' s s' showing c ch rest rest' popped size answer d
-            n
-            (ap (λ (p : ℕ → ClientBlock). (p d).letting) pairs);
+            n (ap (λ (p : ℕ → ClientBlock). (p d).letting) pairs);
       }
 
   pub answered-falls : (source : ℕ) (f : List ℕ → List ℕ) → s.uses c source ≡ Asked → s'.uses c source ≡ Replied

@@ -191,11 +191,9 @@ module _ {w : ℕ} (config : Config) (caching : ℕ → Bool) (n : ℕ) (moves :
       block : IsBlockNoMore config caching n moves mail mail' s s' showing c ch rest rest' popped size answer
       block = record {
         serves = λ d i e f. probes;
-        acquires = λ d i e f.
-            acquire-stays config caching n moves mail mail' s s' showing c ch rest rest' popped size answer d n
-            (wants-used showing.before d i n e)
-            (kept_at (λ p. p.acquiring) (after_release_taken r was) refl pairs d)
-            (ap (λ (b : Block (List ℕ)). view b.service d) new) probes;
+        acquires = λ d i e f. acquire-stays config caching n moves mail mail' s s' showing c ch rest rest' popped size
+            answer d n (wants-used showing.before d i n e) (kept_at (λ p. p.acquiring) (after_release_taken r was) refl
+            pairs d) (ap (λ (b : Block (List ℕ)). view b.service d) new) probes;
         lets = λ d i e f. letting d (cases_eq d c);
       }
 
@@ -235,11 +233,9 @@ module _ {w : ℕ} (config : Config) (caching : ℕ → Bool) (n : ℕ) (moves :
       block : IsBlockNoMore config caching n moves mail mail' s s' showing c ch rest rest' popped size answer
       block = record {
         serves = λ d i e f. probes;
-        acquires = λ d i e f.
-            acquire-stays config caching n moves mail mail' s s' showing c ch rest rest' popped size answer d n
-            (wants-used showing.before d i n e)
-            (kept_at (λ p. p.acquiring) (after_release_ack was) refl pairs d)
-            (ap (λ (b : Block (List ℕ)). view b.service d) new) probes;
+        acquires = λ d i e f. acquire-stays config caching n moves mail mail' s s' showing c ch rest rest' popped size
+            answer d n (wants-used showing.before d i n e) (kept_at (λ p. p.acquiring) (after_release_ack was) refl
+            pairs d) (ap (λ (b : Block (List ℕ)). view b.service d) new) probes;
         lets = λ d i e f. letting d (cases_eq d c);
       }
 
@@ -252,9 +248,8 @@ module _ {w : ℕ} (config : Config) (caching : ℕ → Bool) (n : ℕ) (moves :
       let block : IsBlockNoMore config caching n moves mail mail' s s' showing c ch rest rest' popped size answer =
       record {
         serves = λ d i e f. absurd (nobody-serving n d i showing.before (ap is_for_access taken) e);
-        acquires = λ d i e f.
-            unserved-stays config caching n moves mail mail' s s' showing c ch rest rest' popped size answer d i n e f
-            (ap (λ (u : Service). is_unserved (view u d)) taken ∙ granted_unserved q d)
+        acquires = λ d i e f. unserved-stays config caching n moves mail mail' s s' showing c ch rest rest' popped size
+            answer d i n e f (ap (λ (u : Service). is_unserved (view u d)) taken ∙ granted_unserved q d)
             (ap (λ (u : Service). is_unserved (view u d)) free);
         lets = λ d i e f. letting_stays d (ap (λ (b : Block (List ℕ)). (b.pair d).letting) new);
       } in

@@ -45,8 +45,7 @@ given-before config x log given = record {
   width = given.width;
   fits = given.fits;
   typed = given.typed.1;
-  is_log =
-      given.is_log.1;
+  is_log = given.is_log.1;
 }
 
 given-older : {w : ℕ} {config : Config} (more log : Log w) → IsGiven config (more ++ log) → IsGiven config log
@@ -64,8 +63,7 @@ unfolding AreTyped IsLog
 given-delivering config link ch log given = record {
   width = given.width;
   fits = given.fits;
-  typed =
-      (tt, given.typed);
+  typed = (tt, given.typed);
   is_log = (refl, given.is_log);
 }
 

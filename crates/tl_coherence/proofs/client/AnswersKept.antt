@@ -42,8 +42,7 @@ answer_message opcode payload m = record {
   param = 0;
   size = m.size;
   source = m.source;
-  sink =
-      0;
+  sink = 0;
   denied = false;
   payload = payload;
   corrupt = 0;

@@ -48,8 +48,7 @@ release_message Prune.TtoB source n copy = (
   refl,
   record {
     releases = refl;
-    of_block =
-        same_block n;
+    of_block = same_block n;
     whole = refl;
     from = refl;
   },
@@ -59,8 +58,7 @@ release_message Prune.TtoN source n copy = (
   refl,
   record {
     releases = refl;
-    of_block =
-        same_block n;
+    of_block = same_block n;
     whole = refl;
     from = refl;
   },
@@ -70,8 +68,7 @@ release_message Prune.BtoN source n copy = (
   refl,
   record {
     releases = refl;
-    of_block =
-        same_block n;
+    of_block = same_block n;
     whole = refl;
     from = refl;
   },
@@ -92,10 +89,8 @@ end-release_asked {w} {c} n source r copy mail {s} {e} width begins kept end =
     λ i. ap (λ (x : Message w). held i (sent x e.past)) (sym p.1) ∙ held-release i r source n copy e.past width
     end.kept.c_whole in
     record {
-      known = known-released width past
-          end.kept.c_whole left kept event end.known;
-      opened = rw past (opened-released width
-          end.kept.c_whole event end.opened);
+      known = known-released width past end.kept.c_whole left kept event end.known;
+      opened = rw past (opened-released width end.kept.c_whole event end.opened);
       kept = kept.kept;
       accounted = kept.accounted;
       copies = λ i some. kept_copies n (prune_right r) (sending (release r source n copy) e) i
@@ -179,8 +174,7 @@ end-stored {w} {c} n bytes mail {s} {e} kept end =
           (λ j used. set-part (λ (b : Block (List ℕ)). b.source c) n new s.block refl j);
     } in
     record {
-      known = known-same same
-          end.known;
+      known = known-same same end.known;
       opened = opened-same same end.opened;
       kept = kept.kept;
       accounted = kept.accounted;
@@ -288,6 +282,5 @@ end-asked terms c o h e width named end =
     asked-cases terms o e (IsAfter c o h) (λ b kept. end_busy c o b h e end) (end_done terms c o h e width named end)
     (record {
       kept = kept-asked terms o e width end.kept;
-      accounted =
-          accounted-asked terms o e width end.kept end.accounted;
+      accounted = accounted-asked terms o e width end.kept end.accounted;
     })

@@ -80,8 +80,7 @@ echo-none x t = record {
   acquires = λ k. refl;
   releases = λ k. refl;
   opens = λ i. refl;
-  requests =
-      λ i. refl;
+  requests = λ i. refl;
   release_sources = λ i. refl;
   released = λ i. refl;
 }

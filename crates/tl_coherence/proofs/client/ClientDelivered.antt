@@ -66,8 +66,7 @@ well-taken {w} terms x {e} f width takes is well =
     subst (λ (g : Endpoint w). IsWellKept g) same
     (record {
       kept = kept-offered terms Channel.D x e width well.kept;
-      accounted =
-          accounted-offered terms Channel.D x e width well.kept well.accounted;
+      accounted = accounted-offered terms Channel.D x e width well.kept well.accounted;
     })
 
 -- the end before, as the protocol has it
@@ -93,14 +92,9 @@ taken-by {w} config terms tracker c h m {x} e width end next takes lasts =
     record {
       takes = takes;
       more = λ goes. subst (λ (z : Beat w). IsEndOf c h (taken z e).after) (sym x_is)
-          (end-part y
-          (part_end y e (sym (ends_at x_is) ∙ goes)) (sym (ends_at x_is) ∙ goes)
-          (well_y well) end);
-      last = λ done. subst (λ (z : Beat w). IsEndOf c (packet_taken config tracker c (h.state.link c).d h)
-          (taken z e).after) (sym x_is)
-          (lasts y x_is refl refl refl (sym (ends_at x_is) ∙ done)
-          (next.last (eqb-true (next.k + 1) (beats_of (Message.D m)) (sym next.completes_is ∙ done))).1
-          (well_y well));
+          (end-part y (part_end y e (sym (ends_at x_is) ∙ goes)) (sym (ends_at x_is) ∙ goes) (well_y well) end);
+      last = λ done. rw x_is (lasts y x_is refl refl refl (sym (ends_at x_is) ∙ done)
+          (next.last (eqb-true (next.k + 1) (beats_of (Message.D m)) (sym next.completes_is ∙ done))).1 (well_y well));
     }
 
 -- ---- an answer, a Grant, a ReleaseAck
@@ -113,8 +107,7 @@ shadow_of mail request s = record { state = s; mail = mail; request = request }
 taken_token : {w : ℕ} (config : Config) (tracker c : ℕ) (k : Kind) (n : ℕ) (rest : List Packet) (h : AbstractState w)
     (e : Endpoint w) → (h.state.link c).d ≡ packet k n ∷ rest → IsEndOf c (kind_taken config tracker c k n rest h) e
     → IsEndOf c (packet_taken config tracker c (h.state.link c).d h) e
-taken_token config tracker c k n rest h e first end =
-    subst (λ (xs : List Packet). IsEndOf c (packet_taken config tracker c xs h) e) (sym first) end
+taken_token config tracker c k n rest h e first end = rw first end
 
 pub answer-delivered : {w : ℕ} {config : Config} {log : Log w} {mail : AccessMessages w} {request : ℕ → MessageA w}
     {s : State (List ℕ)} {sys : System w} (terms : EndConfig)

@@ -39,8 +39,7 @@ end-matched h c = record {
   kept = h.kept c;
   accounted = h.accounted c;
   copies = h.copies c;
-  waiting =
-      h.waiting c;
+  waiting = h.waiting c;
   live = h.live c;
 }
 

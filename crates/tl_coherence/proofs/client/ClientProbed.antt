@@ -40,10 +40,8 @@ end-probe_taken {w} {c} n k rest mail {s} {e} width well end =
     let here : ClientRelation (asked_by mail s c) (unfinished Channel.D f.past) c s' f.past =
     subst (λ (b : List (Beat w)). ClientRelation (asked_by mail s c) b c s' f.past) (sym known.rest_is) known in
     record {
-      known = known-same same
-          here;
-      opened = opened-same same
-          (opened-probed n k rest e width end.kept.c_whole end.opened);
+      known = known-same same here;
+      opened = opened-same same (opened-probed n k rest e width end.kept.c_whole end.opened);
       kept = well.kept;
       accounted = well.accounted;
       copies = λ i some. kept_copies n left g i ∙ copy_of i (i == n) refl

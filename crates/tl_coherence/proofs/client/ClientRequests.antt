@@ -32,8 +32,7 @@ asks_access : {w : ℕ} (c i : ℕ) (m : MessageA w) (mail : AccessMessages w) (
 asks_access {w} c i m mail s =
     let mail' : AccessMessages w = record {
       request = set_at c m.source (Message.A m) mail.request;
-      answer =
-          mail.answer;
+      answer = mail.answer;
     } in
     let s' : State (List ℕ) = access_asked c m.source s in
     elim (cases_eq i m.source) [
@@ -63,12 +62,10 @@ end-access_asked {w} {c} m mail {s} {e} width plain kept end =
       letting = λ n. refl;
       lets = λ source. refl;
       acquiring = λ n. same n;
-      asks =
-          λ source. asks_access c source m mail s;
+      asks = λ source. asks_access c source m mail s;
     } in
     record {
-      known = known-requested width refl
-          end.kept.a_whole kept event end.known;
+      known = known-requested width refl end.kept.a_whole kept event end.known;
       opened = opened-requested width end.kept.a_whole event end.opened;
       kept = kept.kept;
       accounted = kept.accounted;
@@ -142,10 +139,8 @@ end-acquire_asked {w} {c} n source whole g bytes mail {s} {e} {f} width named id
       asks = λ i. asks_acquire c n source i whole g bytes mail named calm;
     } in
     record {
-      known = known-requested width past end.kept.a_whole kept event
-          end.known;
-      opened = rw past (opened-requested width end.kept.a_whole event
-          end.opened);
+      known = known-requested width past end.kept.a_whole kept event end.known;
+      opened = rw past (opened-requested width end.kept.a_whole event end.opened);
       kept = kept.kept;
       accounted = kept.accounted;
       copies = λ i some. cc (
@@ -171,9 +166,8 @@ end-acquire_asked {w} {c} n source whole g bytes mail {s} {e} {f} width named id
         → f.waiting i ≡ Some ((s'.block i).waiting c)
     go i storing (inl same) =
         let now : is_whole (AcquireOpen whole g) ≡ true =
-        sym (ap (λ (b : Block (List ℕ)). is_whole (b.pair c).acquiring)
-        (ap s'.block same ∙ set-same n new s.block) ∙ ap (λ (p : ClientBlock). is_whole p.acquiring) pair_is)
-        ∙ storing in
+        sym (ap (λ (b : Block (List ℕ)). is_whole (b.pair c).acquiring) (ap s'.block same ∙ set-same n new s.block)
+        ∙ ap (λ (p : ClientBlock). is_whole p.acquiring) pair_is) ∙ storing in
         ap f.waiting same ∙ here now ∙ ap Some
         (sym (ap (λ (b : Block (List ℕ)). b.waiting c) (ap s'.block same ∙ set-same n new s.block) ∙ set-same c
         bytes (s.block n).waiting))

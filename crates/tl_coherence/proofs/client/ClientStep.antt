@@ -53,9 +53,8 @@ client_leaves : {w : ℕ} (config : Config) (tracker : ℕ) {c : ℕ} {ch : Chan
     → is_to_client ch ≡ true → (d ≡ c → ⊥) → IsFirst ch c h.mail h.state sys x queue
     → Leaves d h (packet_taken config tracker c (packets_on ch (h.state.link c)) h)
 client_leaves {w} config tracker {c} {ch} h d up other first =
-    subst (λ (xs : List Packet). Leaves d h (packet_taken config tracker c xs h)) (sym first.tokens)
-    (leaves-at_client config tracker c first.kind first.number first.rest h d (client_kind ch first.kind up first.own)
-    other)
+    rw first.tokens (leaves-at_client config tracker c first.kind first.number first.rest h d
+    (client_kind ch first.kind up first.own) other)
 
 -- the beat was taken: the ends after its step, given the client's own
 taken_ends : {w : ℕ} {config : Config} {log : Log w} {mail : AccessMessages w} {request : ℕ → MessageA w}
@@ -106,10 +105,8 @@ taken_ends {w} {config} {log} {mail} {request} {s} {sys} link ch k x queue o wid
 
     go : (b : Bool) → completes x rest_now ≡ b → (k ≡ link.0) ⊎ (k ≡ link.0 → ⊥)
         → IsEndOf k (if b then event else before) (after.clients k)
-    go true done (inl same) = subst (λ (e : Endpoint w). IsEndOf k event e) (sym (own same))
-        (subst (λ (i : ℕ). IsEndOf i event t.after) (sym same) (last done))
-    go false goes (inl same) = subst (λ (e : Endpoint w). IsEndOf k before e) (sym (own same))
-        (subst (λ (i : ℕ). IsEndOf i before t.after) (sym same) (more goes))
+    go true done (inl same) = rw (own same) (subst (λ (i : ℕ). IsEndOf i event t.after) (sym same) (last done))
+    go false goes (inl same) = rw (own same) (subst (λ (i : ℕ). IsEndOf i before t.after) (sym same) (more goes))
     go true done (inr ne) = left_alone k before event (sys.clients k) (after.clients k)
         (client_leaves config (least_untaken (trackers_of (services sys.manager.trace))) before k up ne
         (first-token (is_caching config) ch link.0 mail s sys x queue width h.invariant h.carried beats)) (others ne)
@@ -146,8 +143,7 @@ b_ends {w} {config} {log} {mail} {request} {s} {sys} terms link k x queue width 
     go true kept = taken_ends link Channel.B k x queue (offered terms Channel.B x (sys.clients link.0)) width h beats
         refl (comes.1.takes kept) (λ goes. absurd (let no : true ≡ false = sym comes.1.whole ∙ goes in cc))
         (λ done. comes.1.last kept)
-    go false open_ = subst (λ (o : Offered w). AreEnds config (Deliver link Channel.B) sys (shadow_of mail request s) k
-        (client_took link.0 Channel.B x queue o sys)) (sym (comes.1.waits_for open_)) (end-matched h k)
+    go false open_ = rw (comes.1.waits_for open_) (end-matched h k)
 
 -- ---- every event
 

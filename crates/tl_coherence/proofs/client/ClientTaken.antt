@@ -39,10 +39,8 @@ end-part {w} {asked} {c} x {s} {e} {f} is more well end =
     let echo : IsEcho x e.past f.past = subst (IsEcho x e.past) (sym (ap (λ (g : Endpoint w). g.past) is))
     (echo-none x e.past) in
     record {
-      known = known-heard
-          echo well event end.known;
-      opened = opened-heard
-          echo event end.opened;
+      known = known-heard echo well event end.known;
+      opened = opened-heard echo event end.opened;
       kept = well.kept;
       accounted = well.accounted;
       copies = λ n some. ap (λ (g : Endpoint w). g.copies n) is ∙ end.copies n some;
@@ -75,10 +73,8 @@ end-answer_taken {w} {c} source x rest mail {s} {e} {f} is last plain other from
     let echo : IsEcho x e.past f.past = subst (IsEcho x e.past) (sym (ap (λ (g : Endpoint w). g.past) is))
     (echo-none x e.past) in
     record {
-      known = known-heard
-          echo well event end.known;
-      opened = opened-heard
-          echo event end.opened;
+      known = known-heard echo well event end.known;
+      opened = opened-heard echo event end.opened;
       kept = well.kept;
       accounted = well.accounted;
       copies = λ n some. ap (λ (g : Endpoint w). g.copies n) is ∙ end.copies n some;
@@ -133,10 +129,8 @@ end-release_ack_taken {w} {c} n x rest mail {s} {e} {f} is last plain acks from 
     let echo : IsEcho x e.past f.past = subst (IsEcho x e.past) (sym (ap (λ (g : Endpoint w). g.past) is))
     (echo-none x e.past) in
     record {
-      known = known-heard
-          echo well event end.known;
-      opened = opened-heard
-          echo event end.opened;
+      known = known-heard echo well event end.known;
+      opened = opened-heard echo event end.opened;
       kept = well.kept;
       accounted = well.accounted;
       copies = λ k some. cc (
@@ -254,10 +248,8 @@ end-grant_taken {w} {c} {n} {whole} {data_too} {g} {k} {x} {payload} rest mail {
     subst (IsEcho x e.past) (sym does.past_is) (echo-e x (record { sink = x.sink }) e.past width end.kept.e_whole)
     in
     record {
-      known = known-heard
-          echo well event end.known;
-      opened = opened-heard
-          echo event end.opened;
+      known = known-heard echo well event end.known;
+      opened = opened-heard echo event end.opened;
       kept = well.kept;
       accounted = well.accounted;
       copies = λ i some. does.new_copies i ∙ copy_now i (cases_eq i n) some;

@@ -47,8 +47,7 @@ terms-are config c terms e = go (slice_get config.clients.items c) refl
           level = x.level;
           profile = config.profile;
           sources = x.sources;
-          blocks =
-              config.blocks;
+          blocks = config.blocks;
         })) f) ∙ e in cc)
     go (Some x) f =
         let is : record { level = x.level; profile = config.profile; sources = x.sources; blocks = config.blocks }
@@ -58,8 +57,7 @@ terms-are config c terms e = go (slice_get config.clients.items c) refl
         (sym (ap (option_map (λ (y : ClientConfig). record {
           level = y.level;
           profile = config.profile;
-          sources =
-              y.sources;
+          sources = y.sources;
           blocks = config.blocks;
         })) f)
         ∙ e) in
@@ -181,8 +179,7 @@ fitting recorded held data_too k whole g fits =
     record {
       cap_is = and_left _ _ more;
       bare = not-true (whole && data_too) (and_left _ _ rest);
-      carried =
-          and_right _ _ rest;
+      carried = and_right _ _ rest;
     }
 
 pub has_data : (whole data_too : Bool) (q : Perm) → (whole || (data_too || same_perm q Perm.Branch)) ≡ true

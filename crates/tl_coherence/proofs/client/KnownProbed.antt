@@ -92,8 +92,7 @@ ack_of Perm.Trunk r n copy = (
   record {
     acks = refl;
     releases_none = refl;
-    of_block =
-        same_block n;
+    of_block = same_block n;
   },
 )
 ack_of p r n copy = (
@@ -102,8 +101,7 @@ ack_of p r n copy = (
   record {
     acks = refl;
     releases_none = refl;
-    of_block =
-        same_block n;
+    of_block = same_block n;
   },
 )
 
@@ -237,10 +235,8 @@ opened-probed {w} n k rest e width none open_ =
     kept_past n (report_right r) (sending (probe_ack OpB.ProbeBlock p r n (copy_at e n)) (with_past (Beat.B x ∷ t) e))
     ∙ ap (λ m. sent m (Beat.B x ∷ t)) a.1 in
     rw past (record {
-      requests = λ source. same_pending (Key.RequestSource source) x t width a.2 none refl ∙ open_.requests
-          source;
-      releases = λ source. same_pending (Key.ReleaseSource source) x t width a.2 none refl ∙ open_.releases
-          source;
+      requests = λ source. same_pending (Key.RequestSource source) x t width a.2 none refl ∙ open_.requests source;
+      releases = λ source. same_pending (Key.ReleaseSource source) x t width a.2 none refl ∙ open_.releases source;
       released = λ source i some. ap (option_map (λ y. block_at y.address))
           (same_release source x a.0 t width a.2.releases_none none) ∙ open_.released source i some;
       sizes = λ source i some. cc (same_release source x a.0 t width a.2.releases_none none, open_.sizes source i some);

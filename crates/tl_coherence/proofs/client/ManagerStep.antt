@@ -105,8 +105,7 @@ manager_leaves : {w : ℕ} {caching : ℕ → Bool} (config : Config) (tracker :
     → IsInvariant caching h.state → IsFirst ch c h.mail h.state sys x queue
     → Leaves d h (packet_taken config tracker c (packets_on ch (h.state.link c)) h)
 manager_leaves {w} {caching} config tracker {c} {ch} h d down inv first =
-    subst (λ (xs : List Packet). Leaves d h (packet_taken config tracker c xs h)) (sym first.tokens)
-    (leaves-at_manager config tracker c first.kind first.number first.rest h d
+    rw first.tokens (leaves-at_manager config tracker c first.kind first.number first.rest h d
     (manager_kind ch first.kind down first.own) inv (on_same ch first.kind (h.state.link c) first.own ∙ first.tokens))
 
 pub manager_ends : {w : ℕ} {config : Config} {log : Log w} {mail : AccessMessages w} {request : ℕ → MessageA w}

@@ -200,8 +200,7 @@ probe-delivered {w} {config} {log} {mail} {request} {s} {sys} terms tracker c n 
     let taken_is : is_unreleased ((s.block n).pair c).letting ≡ true → offered terms Channel.B (Beat.B (probe_beat n k))
     e ≡ probed (probe_beat n k) n (held_at e n) e =
     λ kept. cc (probe-taken terms n k e (h.live c) lawful inside end.kept.b_whole (end.known.releases n
-    ∙ ap not kept) (end.known.probes n) (end.known.grants n ∙ not_coming c n h sent))
-    in
+    ∙ ap not kept) (end.known.probes n) (end.known.grants n ∙ not_coming c n h sent)) in
     let same_taken = ap (λ (i : ℕ). probed (probe_beat n k) i (held_at e i) e) (same_block n) in
     let takes : is_unreleased ((s.block n).pair c).letting ≡ true → offered terms Channel.B x e ≡ taken x e =
     λ kept. cc (beat_is, taken_is kept, same_taken) in
@@ -210,8 +209,7 @@ probe-delivered {w} {config} {log} {mail} {request} {s} {sys} terms tracker c n 
     λ kept. subst (λ (o : Offered w). IsWellKept o.after) (taken_is kept)
     (record {
       kept = kept-offered terms Channel.B (Beat.B (probe_beat n k)) e width end.kept;
-      accounted =
-          accounted-offered terms Channel.B (Beat.B (probe_beat n k)) e width end.kept end.accounted;
+      accounted = accounted-offered terms Channel.B (Beat.B (probe_beat n k)) e width end.kept end.accounted;
     }) in
     let last : is_unreleased ((s.block n).pair c).letting ≡ true → IsEndOf c (packet_taken config tracker c (s.link c).b
     (shadow_of mail request s)) (taken x e).after = λ kept. subst (λ (xs : List Packet). IsEndOf c (packet_taken
@@ -223,8 +221,7 @@ probe-delivered {w} {config} {log} {mail} {request} {s} {sys} terms tracker c n 
       whole = whole;
       waits_for =
           λ open_. stalls terms x e (before beat_is) (ap (λ (y : Beat w). waits y e.past) beat_is ∙ pends open_);
-      takes =
-          takes;
+      takes = takes;
       last = last;
     }
   where

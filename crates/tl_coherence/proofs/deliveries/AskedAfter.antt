@@ -196,15 +196,12 @@ carried_asked {w} config log h sys c o r width is may_be =
     handed_as : (m n : Option (Message w)) (e : client.Endpoint w) → m ≡ n
         → IsHanded (pushes_at c (pushes_of m)) sys (with_messages (handed_by c m) (with_client c e sys))
         → IsHanded (pushes_at c (pushes_of n)) sys (with_messages (handed_by c n) (with_client c e sys))
-    handed_as m n e f i = subst (λ (x : Option (Message w)). IsHanded (pushes_at c (pushes_of x)) sys
-        (with_messages (handed_by c x) (with_client c e sys))) f i
+    handed_as m n e f i = rw (← f) i
 
     carried_as : (m n : Option (Message w)) (mail : AccessMessages w) (z : State (List ℕ)) (e : client.Endpoint w)
         → m ≡ n → ChannelRelation mail z (with_messages (handed_by c n) (with_client c e sys))
         → ChannelRelation mail z (with_messages (handed_by c m) (with_client c e sys))
-    carried_as m n mail z e f i =
-        subst (λ (x : Option (Message w)). ChannelRelation mail z (with_messages (handed_by c x) (with_client c e sys)))
-        (sym f) i
+    carried_as m n mail z e f i = rw f i
 
     low : (n : ℕ) → same_perm ((s.block n).pair c).held Perm.Trunk ≡ true → (d : ℕ)
         → (same_perm ((s.block n).pair d).held Perm.Trunk || same_perm ((s.block n).pair d).recorded Perm.None) ≡ true

@@ -89,8 +89,7 @@ asked-well {w} config log h sys c terms o width is known = asked-cases terms o e
       word = tt;
       source = tt;
       reply = tt;
-      replies =
-          refl;
+      replies = refl;
       message = refl;
     }
     load_well address size Perm.Branch f word =
@@ -133,8 +132,7 @@ asked-well {w} config log h sys c terms o width is known = asked-cases terms o e
       word = tt;
       source = tt;
       reply = tt;
-      replies =
-          refl;
+      replies = refl;
       message = refl;
     }
 
@@ -154,13 +152,11 @@ asked-well {w} config log h sys c terms o width is known = asked-cases terms o e
 
     well : (i : Op w) → NotBusy terms i e → IsAskedWell config c i h m (done terms i e)
     well (Op.Load address size) free =
-        subst (λ (p : Perm). IsAskedWell config c (Op.Load address size) h m (load address size p e))
-        (sym (held_is (block_at address))) (load_well address size ((s.block (block_at address)).pair c).held refl
+        rw (held_is (block_at address)) (load_well address size ((s.block (block_at address)).pair c).held refl
         (formed (Op.Load address size) free))
     well (Op.Store address size value) free =
-        subst (λ (p : Perm). IsAskedWell config c (Op.Store address size value) h m (store address size value p e))
-        (sym (held_is (block_at address))) (store_well address size value ((s.block (block_at address)).pair c).held
-        refl (formed (Op.Store address size value) free))
+        rw (held_is (block_at address)) (store_well address size value ((s.block (block_at address)).pair c).held refl
+        (formed (Op.Store address size value) free))
     well (Op.Acquire n g) free =
         let closed = free_source free.b1 in
         let still = transfers n free.b2 in
@@ -170,8 +166,7 @@ asked-well {w} config log h sys c terms o width is known = asked-cases terms o e
           may = (caching free.b4, closed, still.0, still.1, begins);
           word = tt;
           source = tt;
-          reply =
-              tt;
+          reply = tt;
           replies = (refl, unopened _ closed);
           message = refl;
         }
@@ -212,8 +207,7 @@ asked-well {w} config log h sys c terms o width is known = asked-cases terms o e
           word = tt;
           source = access_sent x free;
           reply = tt;
-          replies =
-              (refl, unopened _ closed);
+          replies = (refl, unopened _ closed);
           message = refl;
         }
     well (Op.Access (Message.B x)) free = busy_well config c (Op.Access (Message.B x)) _ h m e

@@ -89,8 +89,7 @@ busy_well config c (Op.Access (Message.A x)) why h m e = record {
   may = tt;
   word = tt;
   source = tt;
-  reply =
-      tt;
+  reply = tt;
   replies = tt;
   message = refl;
 }
@@ -98,8 +97,7 @@ busy_well config c (Op.Access (Message.B x)) why h m e = record {
   may = tt;
   word = tt;
   source = tt;
-  reply =
-      tt;
+  reply = tt;
   replies = tt;
   message = refl;
 }
@@ -107,8 +105,7 @@ busy_well config c (Op.Access (Message.C x)) why h m e = record {
   may = tt;
   word = tt;
   source = tt;
-  reply =
-      tt;
+  reply = tt;
   replies = tt;
   message = refl;
 }
@@ -116,8 +113,7 @@ busy_well config c (Op.Access (Message.D x)) why h m e = record {
   may = tt;
   word = tt;
   source = tt;
-  reply =
-      tt;
+  reply = tt;
   replies = tt;
   message = refl;
 }
@@ -125,8 +121,7 @@ busy_well config c (Op.Access (Message.E x)) why h m e = record {
   may = tt;
   word = tt;
   source = tt;
-  reply =
-      tt;
+  reply = tt;
   replies = tt;
   message = refl;
 }
@@ -135,8 +130,7 @@ busy_well config c o why h m e = record {
   word = tt;
   source = tt;
   reply = tt;
-  replies =
-      tt;
+  replies = tt;
   message = refl;
 }
 

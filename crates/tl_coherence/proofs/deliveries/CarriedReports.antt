@@ -197,8 +197,7 @@ carried-followed_c {w} {config} {log} h {sys} c x queue width is beats =
       is = is;
       beats = beats;
       down = refl;
-      on_ch =
-          received_on h c x queue width is beats;
+      on_ch = received_on h c x queue width is beats;
       up = any.up;
     }
 

@@ -101,23 +101,15 @@ unfolding accesses_answered
 responded-answer {w} {config} {log} h {sys} {c} {source} rest {x} {queue} due width matched first is =
     let plain = access_kind due.answer.opcode due.answers_access in
     let none = acked_none is.y.opcode is.y.sink (ap is_grant is.opcode ∙ plain.0) in
-    let pool : pool_of (finish_at is.y (sys.clients c)) ≡ Requests =
-    finish_pool_is is ∙ rw plain.1 refl in
+    let pool : pool_of (finish_at is.y (sys.clients c)) ≡ Requests = finish_pool_is is ∙ rw plain.1 refl in
     let from : is.y.source ≡ source = is.source ∙ due.from in
     let inv = invariant-taken config log h sys c Answer source rest matched first tt in
     record {
-      carried = subst (λ (m : Option (Message w)). ChannelRelation h.mail (answer_taken c source rest h.state)
-          (after_heard c Channel.D x queue sys m)) (sym none)
-          (carried-shown width (answer_taken-shown c source rest h.mail matched.invariant
-          inv first)
+      carried = rw none (carried-shown width (answer_taken-shown c source rest h.mail matched.invariant inv first)
           (taken_d None is) matched.carried);
-      beside = subst (λ (p : Pool). MemoryRelation h.mail (answer_taken c source rest h.state)
-          (after_end c p is.y.source ((one_memory_after config log).opened c p is.y.source)
-          (one_memory_after config log))) (sym pool)
-          (subst (λ (i : ℕ). MemoryRelation h.mail (answer_taken c source rest h.state)
-          (after_end c Requests i ((one_memory_after config log).opened c Requests i)
-          (one_memory_after config log))) (sym from)
-          (beside-answer c source rest due.used matched.beside));
+      beside = rw pool (subst (λ (i : ℕ). MemoryRelation h.mail (answer_taken c source rest h.state)
+          (after_end c Requests i ((one_memory_after config log).opened c Requests i) (one_memory_after config log)))
+          (sym from) (beside-answer c source rest due.used matched.beside));
       quiet = ap (λ (m : Option (Message w)). accesses_answered (handed_by c m)) none;
     }
 
@@ -135,19 +127,11 @@ responded-release_ack {w} {config} {log} h {sys} {c} n rest {x} {queue} width ma
     let pool = finish_pool_is is in
     let inv = invariant-taken config log h sys c ReleaseAck n rest matched first tt in
     record {
-      carried = subst (λ (m : Option (Message w)). ChannelRelation h.mail (release_ack_taken c n rest h.state)
-          (after_heard c Channel.D x queue sys m)) (sym none)
-          (carried-shown width (release_ack_taken-shown c n rest h.mail matched.invariant
-          inv first)
+      carried = rw none (carried-shown width (release_ack_taken-shown c n rest h.mail matched.invariant inv first)
           (taken_d None is) matched.carried);
-      beside = subst (λ (p : Pool). MemoryRelation h.mail (release_ack_taken c n rest h.state)
-          (after_end c p is.y.source ((one_memory_after config log).opened c p is.y.source)
-          (one_memory_after config log))) (sym pool)
-          (subst (λ (i : ℕ). MemoryRelation h.mail (release_ack_taken c n rest h.state)
-          (after_end c Releases i ((one_memory_after config log).opened c Releases i)
-          (one_memory_after config log))) (sym is.source)
-          (beside-release_ack c n rest
-          matched.invariant open_ matched.beside));
+      beside = rw pool (subst (λ (i : ℕ). MemoryRelation h.mail (release_ack_taken c n rest h.state)
+          (after_end c Releases i ((one_memory_after config log).opened c Releases i) (one_memory_after config log)))
+          (sym is.source) (beside-release_ack c n rest matched.invariant open_ matched.beside));
       quiet = ap (λ (m : Option (Message w)). accesses_answered (handed_by c m)) none;
     }
 
@@ -170,31 +154,23 @@ pub responded-grant : {w : ℕ} {config : Config} {log : Log w} (h : AbstractSta
     is.y.source (finish_at is.y (sys.clients c)) (acked is.y.opcode is.y.sink)
     (kind_taken config (next_tracker sys) c Grant n rest h)
 unfolding accesses_answered
-responded-grant {w} {config} {log} h {sys} {c} {n} rest {x} {queue} due width matched first bare is =
-    subst (λ (z : AbstractState w). IsResponded c x queue sys (one_memory_after config log) is.y.source
-    (finish_at is.y (sys.clients c)) (acked is.y.opcode is.y.sink) z) (sym same)
-    (record {
-      carried = subst (λ (m : Option (Message w)). ChannelRelation h.mail
-          (grant_taken c n due.whole due.data_too due.k rest h.state) (after_heard c Channel.D x queue sys m))
-          (sym some)
-          (carried-shown width (grant_taken-shown c n due.whole due.data_too due.k rest (grant_ack
-          (h.state.block n).tracker) h.mail matched.invariant inv first due.service bare refl (rendered_ack c n
-          due.whole due.data_too due.k (h.state.block n)))
-          (taken_d (Some (grant_ack (h.state.block n).tracker)) is) matched.carried);
-      beside = subst (λ (p : Pool). MemoryRelation h.mail (grant_taken c n due.whole due.data_too due.k rest h.state)
-          (after_end c p is.y.source ((one_memory_after config log).opened c p is.y.source)
-          (one_memory_after config log))) (sym pool)
-          (subst (λ (i : ℕ). MemoryRelation h.mail (grant_taken c n due.whole due.data_too due.k rest h.state)
-          (after_end c Requests i ((one_memory_after config log).opened c Requests i) (one_memory_after config log)))
-          (sym is.source)
-          (subst (λ (b : Bool). MemoryRelation h.mail (grant_taken c n b due.data_too due.k rest h.state)
-          (after_end c Requests ((h.state.block n).source c)
-          ((one_memory_after config log).opened c Requests ((h.state.block n).source c))
-          (one_memory_after config log))) (ap is_whole due.wants)
-          (beside-grant c n due.data_too due.k rest
-          matched.invariant (ap is_wanting due.wants) matched.beside)));
-      quiet = ap (λ (m : Option (Message w)). accesses_answered (handed_by c m)) some;
-    })
+responded-grant {w} {config} {log} h {sys} {c} {n} rest {x} {queue} due width matched first bare is = rw same (record {
+  carried = subst (λ (m : Option (Message w)). ChannelRelation h.mail (grant_taken c n due.whole due.data_too due.k
+      rest h.state) (after_heard c Channel.D x queue sys m)) (sym some) (carried-shown width (grant_taken-shown c n
+      due.whole due.data_too due.k rest (grant_ack (h.state.block n).tracker) h.mail matched.invariant inv first
+      due.service bare refl (rendered_ack c n due.whole due.data_too due.k (h.state.block n))) (taken_d (Some (grant_ack
+      (h.state.block n).tracker)) is) matched.carried);
+  beside = subst (λ (p : Pool). MemoryRelation h.mail (grant_taken c
+      n due.whole due.data_too due.k rest h.state) (after_end c p is.y.source ((one_memory_after config log).opened c p
+      is.y.source) (one_memory_after config log))) (sym pool) (subst (λ (i : ℕ). MemoryRelation h.mail (grant_taken c n
+      due.whole due.data_too due.k rest h.state) (after_end c Requests i ((one_memory_after config log).opened c Requests
+      i) (one_memory_after config log))) (sym is.source) (subst (λ (b : Bool). MemoryRelation h.mail (grant_taken c n b
+      due.data_too due.k rest h.state) (after_end c Requests ((h.state.block n).source c) ((one_memory_after config
+      log).opened c Requests ((h.state.block n).source c)) (one_memory_after config log))) (ap is_whole due.wants)
+      (beside-grant c n due.data_too due.k rest matched.invariant (ap is_wanting due.wants) matched.beside)));
+  quiet = ap
+      (λ (m : Option (Message w)). accesses_answered (handed_by c m)) some;
+})
   where
     mm : MessageD w
     mm = grant_message due.data_too due.k ((h.state.block n).source c) (h.state.block n).tracker (h.state.block n).truth
@@ -206,13 +182,11 @@ responded-grant {w} {config} {log} h {sys} {c} {n} rest {x} {queue} due width ma
     pool = cc (finish_pool_is is, no_ack_grant due.data_too)
 
     same : kind_taken config (next_tracker sys) c Grant n rest h ≡ record h {
-      state =
-          grant_taken c n due.whole due.data_too due.k rest h.state;
+      state = grant_taken c n due.whole due.data_too due.k rest h.state;
     }
     same = ap (λ (v : Service). taken_by_client c n v rest h) due.service ∙ ap
         (λ (a : AcquirePhase). record h { state = grant_taken c n (is_whole a) due.data_too due.k rest h.state })
         due.wants
 
     inv : IsInvariant (is_caching config) (grant_taken c n due.whole due.data_too due.k rest h.state)
-    inv = subst (λ (z : AbstractState w). IsInvariant (is_caching config) z.state) same
-        (invariant-taken config log h sys c Grant n rest matched first tt)
+    inv = rw same at (invariant-taken config log h sys c Grant n rest matched first tt)

@@ -92,8 +92,7 @@ only_unmoved o sys still = record {
   channels = λ d at. refl;
   rests = λ d at. refl;
   pasts = λ d. refl;
-  trace =
-      refl;
+  trace = refl;
   handed = refl;
   machine = still;
 }
@@ -104,8 +103,7 @@ refused_unmoved {w} c e sys same = record {
   channels = λ d at. refl;
   rests = rests;
   pasts = past_of;
-  trace =
-      refl;
+  trace = refl;
   handed = refl;
   machine = λ link ch m. refl;
 }
@@ -128,8 +126,7 @@ closed_unmoved {w} e sys same = record {
   channels = λ d at. refl;
   rests = rests;
   pasts = λ d. refl;
-  trace =
-      same;
+  trace = same;
   handed = refl;
   machine = λ link ch m. refl;
 }
@@ -223,11 +220,8 @@ pub delivered_as : {w : ℕ} (config : Config) (log : Log w) (link : Link) (ch :
     (one_memory_after config ((Deliver link ch, (stepped config (Deliver link ch) (system_after config log)).outcome)
     ∷ log)) → IsDelivered config log link ch h
 delivered_as {w} config log link ch h h' e carried beside = record {
-  carried = subst (λ (z : AbstractState w). ChannelRelation z.mail z.state
-      (stepped config (Deliver link ch) (system_after config log)).after) (sym e) carried;
-  beside = subst (λ (z : AbstractState w). MemoryRelation z.mail z.state
-      (one_memory_after config ((Deliver link ch, (stepped config (Deliver link ch) (system_after config log)).outcome)
-      ∷ log))) (sym e) beside;
+  carried = rw e carried;
+  beside = rw e beside;
 }
 
 pub delivered-unmoved : {w : ℕ} {config : Config} {log : Log w} (link : Link) (ch : Channel) (h : AbstractState w)

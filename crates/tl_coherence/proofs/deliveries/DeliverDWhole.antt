@@ -176,8 +176,7 @@ delivered-d {w} {config} {log} link h terms x queue width is known beats moving 
             let last : IsLastBeat c x queue sys mm = record {
               y = d_beat_of mm next.k;
               x_is = x_is;
-              opcode =
-                  refl;
+              opcode = refl;
               source = refl;
               sink = refl;
               first = beats;

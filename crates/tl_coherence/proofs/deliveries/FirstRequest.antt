@@ -77,19 +77,15 @@ on_link-access {w} {config} {log} h {sys} {c} {source} rest is first asked = rec
   on_it = first;
   renders = asked.is_it;
   blank = asked.blank;
-  order = λ k lt burst moves. order-access c source asked.request k is
-      asked.used asked.source_is asked.access burst;
+  order = λ k lt burst moves. order-access c source asked.request k is asked.used asked.source_is asked.access burst;
   early = λ k burst. ap before_stall (order-access c source asked.request k is
       asked.used asked.source_is asked.access burst);
   unwaited = λ k more i src own j f same. unwaited-asked c source is asked.used
       i src own j f (sym asked.source_is ∙ same);
   ready = λ k comes last moves. ready-request h is asked comes last moves;
-  after = λ k comes last moves. at_manager-request_taken h rest is first asked comes last
-      moves;
-  carried = λ k queue comes beats last moves. carried-request_taken h rest queue is first
-      asked comes beats last moves;
-  beside = λ k machine comes last beside. beside-request_taken h rest is asked comes
-      last beside;
+  after = λ k comes last moves. at_manager-request_taken h rest is first asked comes last moves;
+  carried = λ k queue comes beats last moves. carried-request_taken h rest queue is first asked comes beats last moves;
+  beside = λ k machine comes last beside. beside-request_taken h rest is asked comes last beside;
   once = λ k machine comes last beside. request-once h is asked comes last beside;
 }
 
@@ -102,17 +98,14 @@ on_link-acquire {w} {config} {log} h {sys} {c} {n} rest width is first asked = r
   on_it = first;
   renders = asked.renders;
   blank = acquisition-blank w asked.whole asked.grow ((h.state.block n).source c) n width;
-  order = λ k lt burst moves. order-acquire k is asked
-      (free k lt burst moves) burst;
+  order = λ k lt burst moves. order-acquire k is asked (free k lt burst moves) burst;
   early = λ k burst. early-acquire k is asked burst;
   unwaited = λ k more. let one = acquisition_beats w asked.whole asked.grow ((h.state.block n).source c) n in
       absurd (omega (arith, more, one));
   ready = λ k comes last moves. ready-acquire h is asked comes last moves;
   after = λ k comes last moves. at_manager-acquire_taken h rest is first asked comes last moves;
-  carried = λ k queue comes beats last moves. carried-acquire_taken h rest queue is first asked
-      comes beats last moves;
-  beside = λ k machine comes last beside. beside-acquire_taken h rest is asked comes last
-      beside;
+  carried = λ k queue comes beats last moves. carried-acquire_taken h rest queue is first asked comes beats last moves;
+  beside = λ k machine comes last beside. beside-acquire_taken h rest is asked comes last beside;
   once = λ k machine comes last beside. inl (acquire-accesses config log h sys c n k is asked comes last);
 }
   where
@@ -169,8 +162,7 @@ arrival-first {w} {config} {log} h {sys} c x queue width is beats = go (h.state.
       rest = rest;
       request = m;
       is_it = on;
-      next = front-of c (packet k i) rest m x queue width is on.tokens
-          on.renders beats;
+      next = front-of c (packet k i) rest m x queue width is on.tokens on.renders beats;
     }
 
     of_kind : (k : Kind) (i : ℕ) (rest : List Packet) → (h.state.link c).a ≡ packet k i ∷ rest

@@ -126,8 +126,7 @@ reported-last {w} {config} {log} h {sys} {c} {n} {k} rest {m} is tokens answered
           alone = alone;
           waits = f;
           named = is.invariant.named;
-          is =
-              at_manager-matched is;
+          is = at_manager-matched is;
         } in (
           ended-left rest at,
           ap (λ (d : Reaction w). d.handed) (reaction-ended at)
@@ -169,16 +168,14 @@ reported-last {w} {config} {log} h {sys} {c} {n} {k} rest {m} is tokens answered
               alone = alone;
               waits = f;
               named = is.invariant.named;
-              is =
-                  at_manager-matched is;
+              is = at_manager-matched is;
             } in
             let wanted : IsWanted c q n source whole grow h =
             record {
               apart = seen_apart q source low c (rw f at seen);
               used = used;
               opcode_is = fields.0;
-              param_is =
-                  fields.1;
+              param_is = fields.1;
             } in
             let new : Block (List ℕ) = granted_block c q r (is_granted_data whole grow (b.pair q).recorded)
             (gift_after config c n r whole grow h) b in

@@ -81,17 +81,14 @@ delivered-c {w} config h h' kind c n m e width is sound next order last =
         let done = last next.k (eqb-true (next.k + 1) (beats_of (Message.C m)) f) next.rest_is up in
         record {
           up = up;
-          manager = subst (λ (b : Bool). IsManagerOf config (if b then h' else h)
-              (left c y (reaction config (record { 0 = c }) y e) e)) (sym ended) done.0;
+          manager = rw ended done.0;
           handed = done.1 ∙ sym (ap (λ (b : Bool). if b then pushes else []) ended);
         }
     go false f =
         let part : completes y rest ≡ false = completes_it ∙ f in
         record {
           up = up;
-          manager = subst (λ (b : Bool). IsManagerOf config (if b then h' else h)
-              (left c y (reaction config (record { 0 = c }) y e) e)) (sym part)
-              (report_part-left (c_beat_of m next.k) h width up part is);
+          manager = rw part (report_part-left (c_beat_of m next.k) h width up part is);
           handed = cc (reaction-part config (record { 0 = c }) y e part, part);
         }
 
@@ -182,11 +179,7 @@ acks-delivered {w} {config} {log} h {sys} c n rest {x} {queue} width is beats to
     let whole : completes {w = w} (Beat.E y) before ≡ true = (whole-e {w = w} y (on_link c e.trace)).1 in
     subst (Delivered config c Channel.E before h after [] e) (sym next.beat_is) (record {
       up = up;
-      manager =
-          subst (λ (b : Bool). IsManagerOf config (if b then after else h)
-          (left c (Beat.E y) (reaction config (record { 0 = c }) (Beat.E y) e) e)) (sym whole)
-          (acked-left rest h width up acks (at_manager-matched
-          is));
+      manager = rw whole (acked-left rest h width up acks (at_manager-matched is));
       handed = ap (λ (d : Reaction w). d.handed) (reaction-ack config (record { 0 = c }) y e) ∙ sym
           (ap (λ (b : Bool). if b then [] else []) whole);
     })

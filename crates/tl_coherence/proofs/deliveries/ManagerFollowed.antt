@@ -24,8 +24,7 @@ client-of {w} config c ch x queue sys beats sound =
     let go : (o : Option ClientConfig) → illegal_at (option_map (λ (i : ClientConfig). i.level) o) x ≡ None
     → (t : EndConfig) × (option_map (λ (i : ClientConfig). record {
       level = i.level;
-      profile =
-          config.profile;
+      profile = config.profile;
       sources = i.sources;
       blocks = config.blocks;
     }) o ≡ Some t) =

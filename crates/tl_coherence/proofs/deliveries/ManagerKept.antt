@@ -29,8 +29,7 @@ empty-delivered : {w : ℕ} {config : Config} {log : Log w} (h : AbstractState w
     → sys.channels c ch ≡ [] → IsManagerOf config (abstract_step config (Deliver (record { 0 = c }) ch) sys h)
     (stepped config (Deliver (record { 0 = c }) ch) sys).after.manager
 empty-delivered {w} {config} {log} h {sys} c ch terms is client none =
-    subst (λ (s : Step w). IsManagerOf config (abstract_delivery config c ch s.outcome sys h) s.after.manager)
-    (sym (stepped-empty config (record { 0 = c }) ch sys terms client none)) (at_manager-matched is)
+    rw (stepped-empty config (record { 0 = c }) ch sys terms client none) (at_manager-matched is)
 
 pub manager-kept : {w : ℕ} {config : Config} {log : Log w} (h : AbstractState w) {sys : System w} (event : Event w)
     → IsWidth w → SimulationRelation config log h.mail h.request h.state sys

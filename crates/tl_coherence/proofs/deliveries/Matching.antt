@@ -55,8 +55,7 @@ delivered-a {w} {config} {log} c h terms width is at =
     (λ e. refl) (λ x queue e waits. refl) (λ x queue e arrives moves. refl) in
     record {
       carried = carried-delivered_a h c terms width is at;
-      beside = beside-delivered_a h c terms width is
-          at (subst (MemoryRelation h.mail h.state) (sym still) is.beside);
+      beside = beside-delivered_a h c terms width is at (subst (MemoryRelation h.mail h.state) (sym still) is.beside);
     }
 
 delivered-all : {w : ℕ} {config : Config} {log : Log w} (link : Link) (ch : Channel) (h : AbstractState w) → IsWidth w

@@ -129,8 +129,7 @@ delivered-b {w} {config} {log} link h terms x queue width is known beats moving 
         probed : IsProbed config terms (next_tracker sys) c n (record {
           state = h.state;
           mail = h.mail;
-          request =
-              h.request;
+          request = h.request;
         }) x e
         probed = probe-delivered terms (next_tracker sys) c n first.rest
             width is known beats tokens next

@@ -239,21 +239,10 @@ delivered-c {w} {config} {log} c h x queue width is beats =
     let d = channel_c-delivered (next_tracker sys) h c x queue width is beats in
     record {
       carried = carried-followed_c h c x queue width is beats;
-      beside =
-          subst (λ (i : AbstractState w). MemoryRelation i.mail i.state
-          (one_memory_after config
-          ((
-            Deliver (record { 0 = c }) Channel.C,
-            (stepped config (Deliver (record { 0 = c }) Channel.C)
-                sys).outcome,
-          ) ∷ log)))
-          (sym (followed-taken queue sys h t.0 t.1 beats refl d.up))
-          (subst
-          (λ (i : Machine w). MemoryRelation (if completes x (unfinished Channel.C (on_link c sys.manager.trace)) then
-          packet_taken config (next_tracker sys) c (h.state.link c).c h else h).mail
-          (if completes x (unfinished Channel.C (on_link c sys.manager.trace)) then packet_taken config
-          (next_tracker sys) c (h.state.link c).c h else h).state i)
-          (sym (remembered_after config log (record { 0 = c }) Channel.C _
-          (step-taken config c Channel.C x queue sys t.0 t.1 beats refl d.up)))
+      beside = rw (followed-taken queue sys h t.0 t.1 beats refl d.up) (subst (λ (i : Machine w). MemoryRelation (if
+          completes x (unfinished Channel.C (on_link c sys.manager.trace)) then packet_taken config (next_tracker sys) c
+          (h.state.link c).c h else h).mail (if completes x (unfinished Channel.C (on_link c sys.manager.trace)) then
+          packet_taken config (next_tracker sys) c (h.state.link c).c h else h).state i) (sym (remembered_after config
+          log (record { 0 = c }) Channel.C _ (step-taken config c Channel.C x queue sys t.0 t.1 beats refl d.up)))
           (beside-followed_c h c x queue width is beats is.beside));
     }

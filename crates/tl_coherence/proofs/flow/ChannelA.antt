@@ -60,8 +60,7 @@ module _ {w : ℕ} (config : Config) (log : Log w) (h : AbstractState w) (sys : 
               h.mail h.state (ap is_access asked.used) asked.is_it,
           zeroth first,
         );
-        came = λ i. came-so (comes_in_request i)
-            (asked.request.source == i) next refl (λ j. refl);
+        came = λ i. came-so (comes_in_request i) (asked.request.source == i) next refl (λ j. refl);
         comes = λ i. cc (
           rests Channel.A,
           comes-so (comes_in_request i) y (unfinished_at sys c Channel.A)
@@ -186,8 +185,7 @@ module _ {w : ℕ} (config : Config) (log : Log w) (h : AbstractState w) (sys : 
           sinks = λ i. sunk-elsewhere c i n (unfinished_at sys c Channel.D) (s.tracked i) (s'.tracked i) s s'
               (λ m ne. changed m ∙ set-other n m new s.block ne)
               (subst (λ (o : Option ℕ). (o ≡ s.tracked i) ⊎ (IsWithin n (s.tracked i) × IsWithin n o)) (sym (tracked i))
-              (tracked-new n tracker s.tracked unused i))
-              (λ e. rw free refl) (λ e. unsunk i (sym (tracked i) ∙ e));
+              (tracked-new n tracker s.tracked unused i)) (λ e. rw free refl) (λ e. unsunk i (sym (tracked i) ∙ e));
           held_is = ap (held_by c) now ∙ taken.keeps_held;
           served = ap (λ (b : Block (List ℕ)). is_unserved (view b.service c)) now ∙ taken.serves;
           waits = ap (λ (b : Block (List ℕ)). is_acknowledging (view b.service c)) now ∙ taken.waits_so;

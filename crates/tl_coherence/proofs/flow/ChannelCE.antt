@@ -134,8 +134,7 @@ module _ {w : ℕ} (config : Config) (log : Log w) (h : AbstractState w) (sys : 
       → AreRests x (unfinished_at sys c) rest' → (b : Bool) → completes x (unfinished_at sys c Channel.C) ≡ b
       → MonitorRelation before rest' c (if b then report_taken c n (report_told ((s.block n).pair c).probing) toks s
       else s) (x ∷ t)
-  own-report tokens x ms queue next rests b last =
-      subst (λ (z : Beat w). MonitorRelation before rest' c (reported_if r b) (z ∷ t)) (sym here.beat_is) (go b last)
+  own-report tokens x ms queue next rests b last = rw here.beat_is (go b last)
     where
       r : Report
       r = report_told ((s.block n).pair c).probing

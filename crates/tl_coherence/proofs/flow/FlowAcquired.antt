@@ -62,8 +62,7 @@ flowed-acquire {w} {X} {c} {n} {y} {asked} {asked'} {rest} {rest'} {s} {s'} {t} 
       comes-same m asked asked' (rest Channel.D) is.asked_is,
       each-block
           (λ j z. granted_by c j asked (rest Channel.D) z ≡ granted_by c j asked (rest Channel.D) (s.block j)) n s s'
-          is.elsewhere (neither (is_acknowledging (view new.service c)) (comes_granting n asked (rest Channel.D))
-          is.waits
+          is.elsewhere (neither (is_acknowledging (view new.service c)) (comes_granting n asked (rest Channel.D)) is.waits
           none_comes ∙ sym granted_then) (λ j ne. refl) m,
     ) in
     let tracked : (m : ℕ) → granted_by c m asked' (rest' Channel.D) (s'.block m) ≡ true → grant_sink m t ≡ Some
@@ -80,8 +79,7 @@ flowed-acquire {w} {X} {c} {n} {y} {asked} {asked'} {rest} {rest'} {s} {s'} {t} 
       acquires = each-block (λ m z. acquired_by c z ≡ step true true (is_acquire y.opcode && (block_at y.address == m))
           false (acquired_by c (s.block m))) n s s' is.elsewhere
           (and_from (is_wanting (new.pair c).acquiring) (not (is_unserved (view new.service c))) is.wants
-          (ap not is.served)
-          ∙ sym (whole_opened (is_acquire y.opcode && (block_at y.address == n)) (acquired_by c b)
+          (ap not is.served) ∙ sym (whole_opened (is_acquire y.opcode && (block_at y.address == n)) (acquired_by c b)
           (and_from (is_acquire y.opcode) (block_at y.address == n) is.acquire (rw is.at (same_number n)))))
           (λ m ne. sym (whole_unopened (is_acquire y.opcode && (block_at y.address == m)) (acquired_by c (s.block m))
           (and_right (is_acquire y.opcode) (block_at y.address == m) (rw is.at (ne_eqb n m (λ e. ne (sym e)))))));

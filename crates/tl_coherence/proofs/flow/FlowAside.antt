@@ -27,8 +27,7 @@ same-block d b = record {
   unserved = refl;
   letting = refl;
   source = refl;
-  acknowledging =
-      refl;
+  acknowledging = refl;
   answered = refl;
   cap = λ e. refl;
   tracker = inl refl;
@@ -110,9 +109,8 @@ flowed-aside {w} {X} {asked} {asked'} {rest} {d} {s} {s'} {t} is = flowed-untouc
       (rest Channel.C) (s.lets d i) s s' (λ n. (is.blocks n).letting);
   lets = λ i n e f. sym (is.lets i) ∙ f;
   releases = λ n. ap (λ (i : ℕ). is_release_pending i (rest Channel.C) ((s'.block n).pair d).letting)
-      (is.blocks n).source
-      ∙ ap (λ (l : ReleasePhase). is_release_pending ((s.block n).release_source d) (rest Channel.C) l)
-      (is.blocks n).letting;
+      (is.blocks n).source ∙ ap (λ (l : ReleasePhase). is_release_pending ((s.block n).release_source d)
+      (rest Channel.C) l) (is.blocks n).letting;
   sinks = is.sinks;
   grants = λ n. either_same (is.blocks n).acknowledging (comes-same n asked asked' (rest Channel.D) is.asked_is);
   probes = λ n. (is.blocks n).answered;

@@ -88,11 +88,9 @@ untouched-acquire_asked {w} {X} c n source whole g bytes asked asked' rest s clo
           (set-part (λ (z : Block X). (z.pair c).letting) n new s.block letting_same);
       lets = λ i m e f. f;
       releases = set-part (let_of c (rest Channel.C)) n new s.block
-          (ap (is_release_pending (b.release_source c) (rest Channel.C))
-          letting_same);
+          (ap (is_release_pending (b.release_source c) (rest Channel.C)) letting_same);
       sinks = λ i. sunk-as c i (rest Channel.D) (s.tracked i) s s'
-          (set-part (sunk_in c i (rest Channel.D)) n new s.block
-          refl);
+          (set-part (sunk_in c i (rest Channel.D)) n new s.block refl);
       grants = λ m. cc (grants m, set-part (granted_by c m asked (rest Channel.D)) n new s.block refl m);
       probes = set-part (λ (z : Block X). is_answered (z.pair c).probing) n new s.block
           (ap (λ (p : ClientBlock). is_answered p.probing) pair);
@@ -141,8 +139,7 @@ untouched-release_asked {w} {X} c n source r asked asked' rest s free none kept 
           ∙ ap (λ (j : ℕ). comes_in_release j (rest Channel.C)) (set-same c source b.release_source) ∙ none
           ∙ sym (ap (is_release_pending (b.release_source c) (rest Channel.C)) kept));
       sinks = λ i. sunk-as c i (rest Channel.D) (s.tracked i) s s'
-          (set-part (sunk_in c i (rest Channel.D)) n new s.block
-          refl);
+          (set-part (sunk_in c i (rest Channel.D)) n new s.block refl);
       grants = λ m. cc (
         comes-same m asked asked' (rest Channel.D) asks,
         set-part (granted_by c m asked (rest Channel.D)) n

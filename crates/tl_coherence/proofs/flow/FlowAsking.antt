@@ -46,9 +46,7 @@ module _ {w : ℕ} (config : Config) (log : Log w) (h : AbstractState w) (sys : 
       (asked c o r h).state t
 
   asked-nothing : (d : ℕ) (t : History w) (o : Op w) (r : Reply) → IsPlain o r → IsAskedOn d t o r
-  asked-nothing d t o r plain may before =
-      subst (λ (x : AbstractState w). MonitorRelation (asked_by x.mail x.state d) (unfinished_at sys d) d x.state t)
-      (sym (plain c h).0) before
+  asked-nothing d t o r plain may before = rw (plain c h).0 before
 
   -- ---- the client's own link
 
@@ -112,8 +110,7 @@ module _ {w : ℕ} (config : Config) (log : Log w) (h : AbstractState w) (sys : 
   own-access t m source closed =
       let mail' : AccessMessages w = record {
         request = set_at c source (access source m) h.mail.request;
-        answer =
-            h.mail.answer;
+        answer = h.mail.answer;
       } in
       let before : ℕ → Option (BeatA w) = asked_by h.mail h.state c in
       let after : ℕ → Option (BeatA w) = asked_by mail' (access_asked c source h.state) c in
@@ -145,8 +142,7 @@ module _ {w : ℕ} (config : Config) (log : Log w) (h : AbstractState w) (sys : 
       → (((k : ℕ) → after i j k ≡ before k) → IsAside before (after i j) (unfinished_at sys d) d h.state
       (asked c i j h).state) → MonitorRelation before (unfinished_at sys d) d h.state t
       → MonitorRelation (after i j) (unfinished_at sys d) d (asked c i j h).state t =
-      λ i j aside. flowed-aside
-      (aside (asks-left d h (asked c i j h) (leaves-asked c i j h d ne))) in
+      λ i j aside. flowed-aside (aside (asks-left d h (asked c i j h) (leaves-asked c i j h d ne))) in
       reply-cases (IsAskedOn d t) o r may_be (λ address size value may. left (Op.Store address size value) Reply.Stored
       (λ asks. left-block_stored d before (after (Op.Store address size value) Reply.Stored) (unfinished_at sys d)
       h.state asks coming c (block_at address) (copy_stored address size value ((h.state.block (block_at

@@ -169,12 +169,11 @@ flowed-grant {w} {X} {c} {n} {d} {k} {y} {first} {last} {asked} {asked'} {rest} 
       first_is = first_is;
       last_is = last_is;
       rests = rests;
-      held_is = each-block (λ m z. held_by c z ≡ (if last then unwrap_or
-          (if is_grant y.opcode && asks_for m (request_of y.source t) then Some (capped y.param) else None)
-          (held_by c (s.block m)) else held_by c
-          (s.block m))) n s s' is.elsewhere
-          (is.held_is ∙ ap (λ (q : Perm). if last then q else held_by c b) (sym is.says) ∙ sym
-          (said last (grants_at n) (capped y.param) (held_by c b) (names n ∙ same_number n)))
+      held_is = each-block (λ m z. held_by c z
+          ≡ (if last then unwrap_or (if is_grant y.opcode && asks_for m (request_of y.source t) then Some
+          (capped y.param) else None) (held_by c (s.block m)) else held_by c (s.block m))) n s s' is.elsewhere
+          (is.held_is ∙ ap (λ (q : Perm). if last then q else held_by c b) (sym is.says)
+          ∙ sym (said last (grants_at n) (capped y.param) (held_by c b) (names n ∙ same_number n)))
           (λ m ne. sym (unsaid last (grants_at m) (capped y.param) (held_by c (s.block m)) (apart m ne)));
       requests = λ i. use_at i ∙ requests i last (y.source == i) refl refl;
       asked_is = λ i e. asked_still i e (last && (y.source == i)) refl;
@@ -195,15 +194,14 @@ flowed-grant {w} {X} {c} {n} {d} {k} {y} {first} {last} {asked} {asked'} {rest} 
           (let_of c (rest Channel.C) (s.block m)) is.ack);
       sinks = λ i. ap (λ (o : Option ℕ). is_sunk c i (rest' Channel.D) o s') (is.tracked i) ∙ sinks i (y.sink == i)
           (s.tracked i) refl refl;
-      grants = each-block (λ m z. granted_by c m asked' (rest' Channel.D) z ≡ step first last
-          (is_grant y.opcode && asks_for m (request_of y.source t)) false
+      grants = each-block (λ m z. granted_by c m asked' (rest' Channel.D) z
+          ≡ step first last (is_grant y.opcode && asks_for m (request_of y.source t)) false
           (granted_by c m asked (rest Channel.D) (s.block m))) n s s' is.elsewhere
-          (now_granted last d k (view new.service c) (comes_granting n asked' (rest' Channel.D)) is.seen_is
-          (is.grants n ∙ with_true (not last) (n == n) (same_number n))
+          (now_granted last d k (view new.service c) (comes_granting n asked' (rest' Channel.D)) is.seen_is (is.grants n
+          ∙ with_true (not last) (n == n) (same_number n))
           ∙ sym (begun first last (grants_at n) (granted_by c n asked (rest Channel.D) b) (names n ∙ same_number n)
-          granted_then))
-          (λ m ne. grants_other m ne ∙ sym
-          (unbegun first last (grants_at m) (granted_by c m asked (rest Channel.D) (s.block m)) (apart m ne)));
+          granted_then)) (λ m ne. grants_other m ne
+          ∙ sym (unbegun first last (grants_at m) (granted_by c m asked (rest Channel.D) (s.block m)) (apart m ne)));
       probes = λ m. answered m ∙ sym (step_quiet first last (is_answered ((s.block m).pair c).probing));
       probed = λ m e. probed-of m y t ∙ probed m e;
       sunk = each-block (λ m z. granted_by c m asked' (rest' Channel.D) z ≡ true

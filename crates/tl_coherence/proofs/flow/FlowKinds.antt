@@ -58,8 +58,7 @@ module _ {w : ℕ} (config : Config) (log : Log w) (h : AbstractState w) (sys : 
     before = asked_by h.mail h.state d
 
     coming : IsComing (asked_by h.mail h.state d) (rest Channel.D) d h.state
-    coming = subst (λ (l : List (Beat w)). IsComing (asked_by h.mail h.state d) l d h.state) (sym same_d)
-        (coming-granting d is)
+    coming = rw same_d (coming-granting d is)
 
     -- ---- an access
 

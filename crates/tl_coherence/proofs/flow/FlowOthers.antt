@@ -177,8 +177,7 @@ same-given {X} c q source r j k x b other waits even quiet =
       acknowledging = ap is_acknowledging now ∙ sym (ap is_acknowledging then_);
       answered = cc (pair, same);
       cap = λ e. absurd (let f : false ≡ true = sym quiet ∙ sym (ap (λ (p : ClientBlock). is_answered p.probing) pair)
-          ∙ e
-          in cc);
+          ∙ e in cc);
       tracker = inl refl;
     }
   where

@@ -76,10 +76,9 @@ module _ {w : ℕ} (config : Config) (log : Log w) (h : AbstractState w) (sys : 
             let same : told.0 ≡ asked.request = (let both : Message.A told.0 ≡ Message.A asked.request =
             sym told.1 ∙ asked.is_it in cc) in
             let left : Leaves c h (request_taken (length config.clients.items) c i (Message.A asked.request) tracker
-            toks h) =
-            subst (λ (m : Message w). Leaves c h (request_taken (length config.clients.items) c i m tracker toks h))
-            asked.is_it
-            (leaves-at_manager config tracker c Request i toks h c refl is.invariant tokens) in
+            toks h) = subst (λ (m : Message w). Leaves c h (request_taken (length config.clients.items) c i m
+            tracker toks h)) asked.is_it (leaves-at_manager config tracker c Request i toks h c refl is.invariant
+            tokens) in
             subst (λ (m : Message w). FlowsWith x (request_taken (length config.clients.items) c i m tracker toks h))
             (sym asked.is_it)
             (settled-request config log h sys c is tracker c rest' (d_same (Message.A asked.request) here.k here.beat_is
@@ -134,8 +133,7 @@ module _ {w : ℕ} (config : Config) (log : Log w) (h : AbstractState w) (sys : 
         go : (z : Bool) → completes x (unfinished_at sys c Channel.A) ≡ z → (z ≡ true → IsReady tracker c Acquire i h)
             → FlowsWith x (if z then kind_taken config tracker c Acquire i toks h else h)
         go false e r = contrary (completes x (unfinished_at sys c Channel.A)) one e
-        go true e r = subst (λ (a : AcquirePhase). FlowsWith x
-            (acquire_taken (length config.clients.items) config.profile c i a tracker toks h)) (sym wanted.wants)
+        go true e r = rw wanted.wants
             (taken (r refl) (subst (λ (a : AcquirePhase). Leaves c h
             (acquire_taken (length config.clients.items) config.profile c i a tracker toks h)) wanted.wants
             (leaves-at_manager config tracker c Acquire i toks h c refl is.invariant tokens)))
@@ -218,9 +216,8 @@ module _ {w : ℕ} (config : Config) (log : Log w) (h : AbstractState w) (sys : 
             → FlowsWith x (if z then kind_taken config tracker c Grant i toks h else h)
         go false e = own-grant config log h sys c is t flowed rest' toks i tokens due
             (is_whole ((s.block i).pair c).acquiring) x ms queue next rests false e
-        go true e = subst (λ (q : Service). FlowsWith x (taken_by_client c i q toks h)) (sym due.service)
-            (own-grant config log h sys c is t flowed rest' toks i tokens due (is_whole ((s.block i).pair c).acquiring)
-            x ms queue next rests true e)
+        go true e = rw due.service (own-grant config log h sys c is t flowed rest' toks i tokens due
+            (is_whole ((s.block i).pair c).acquiring) x ms queue next rests true e)
 
     goes-release_ack : Goes Channel.D ReleaseAck
     goes-release_ack tokens next b last ready = go b last

@@ -80,15 +80,13 @@ flowed-probe {w} {X} {c} n k toks {asked} asked' {rest} rest' {s} {t} first last
           (before.release_sources i ∙ sym (lets i) ∙ f);
       releases = λ m. ap (λ (r : List (Beat w)). let_of c r (s'.block m)) (rests Channel.C)
           ∙ set-part (let_of c (rest Channel.C)) n new s.block
-          (ap (is_release_pending (b.release_source c) (rest Channel.C))
-          letting_same) m;
+          (ap (is_release_pending (b.release_source c) (rest Channel.C)) letting_same) m;
       sinks = λ i. ap (λ (r : List (Beat w)). is_sunk c i r (s.tracked i) s') (rests Channel.D) ∙ sunk_same i
           (s.tracked i);
       grants = grants;
       probes = set-each (λ m z. is_answered (z.pair c).probing ≡ step true true (block_at (64 * n) == m) false
-          (is_answered ((s.block m).pair c).probing)) n new s.block
-          (part_true ∙ sym (whole_opened (block_at (64 * n) == n) (is_answered (b.pair c).probing)
-          (rw at (same_number n))))
+          (is_answered ((s.block m).pair c).probing)) n new s.block (part_true
+          ∙ sym (whole_opened (block_at (64 * n) == n) (is_answered (b.pair c).probing) (rw at (same_number n))))
           (λ m ne. sym (whole_unopened (block_at (64 * n) == m) (is_answered ((s.block m).pair c).probing)
           (rw at (ne_eqb n m (λ e. ne (sym e))))));
       probed = λ m e. probed-of m y t first ∙ probed m e;

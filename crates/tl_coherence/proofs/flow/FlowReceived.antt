@@ -99,8 +99,7 @@ moved-to_client {w} {config} {log} link ch h terms x queue width is known up bea
           (taken_at link ch x t.verdict_is d (sym (ap (λ (y : Step w). is_moving y.outcome) t.step_is) ∙ moving));
       rests = λ d i. ap (λ (y : Step w). unfinished_at y.after d i) t.step_is
           ∙ (landed-client link.0 ch x queue t.message (offer.taken x (sys.clients link.0)).after sys up beats on_ch
-          (client-heard width (is.kept link.0) t)).rests
-          d i;
+          (client-heard width (is.kept link.0) t)).rests d i;
       follows = cc (followed-moving config link ch sys h x queue moving beats, first.tokens);
     }
 

@@ -173,10 +173,9 @@ flowed-release {w} {X} {c} {n} {r} {y} {first} {last} {asked} {rest} {rest'} {s}
       first_is = first_is;
       last_is = last_is;
       rests = rests;
-      held_is = each-block (λ m z. held_by c z ≡ (if last then unwrap_or
-          (if (is_probe_ack y.opcode || is_release y.opcode) && (block_at y.address == m) then Some (reported y.param)
-          else None)
-          (held_by c (s.block m)) else held_by c (s.block m))) n s s' is.elsewhere
+      held_is = each-block (λ m z. held_by c z
+          ≡ (if last then unwrap_or (if (is_probe_ack y.opcode || is_release y.opcode) && (block_at y.address == m) then
+          Some (reported y.param) else None) (held_by c (s.block m)) else held_by c (s.block m))) n s s' is.elsewhere
           (is.held_is ∙ ap (λ (q : Perm). if last then q else held_by c b) (sym is.says)
           ∙ sym (said last (is_probe_ack y.opcode) (is_release y.opcode) (block_at y.address == n) (reported y.param)
           (held_by c b) is.release here_at))

@@ -72,14 +72,12 @@ flowed-report {w} {X} {c} n r toks y first {asked} {rest} rest' {s} {t} first_is
       first_is = first_is;
       last_is = last_is;
       rests = rests;
-      held_is = set-each (λ m z. held_by c z ≡ unwrap_or
-          (if (is_probe_ack y.opcode || is_release y.opcode) && (block_at y.address == m) then Some (reported y.param)
-          else None) (held_by c (s.block m))) n
-          new s.block
+      held_is = set-each (λ m z. held_by c z
+          ≡ unwrap_or (if (is_probe_ack y.opcode || is_release y.opcode) && (block_at y.address == m) then Some
+          (reported y.param) else None) (held_by c (s.block m))) n new s.block
           (ap (λ (g : Bool). if g then (new.pair c).held else (new.pair c).recorded) alone ∙ recorded ∙ sym says
           ∙ sym (said (is_probe_ack y.opcode) (is_release y.opcode) (block_at y.address == n) (reported y.param)
-          (held_by c b) ack
-          (rw at (same_number n))))
+          (held_by c b) ack (rw at (same_number n))))
           (λ m ne. sym (unsaid (is_probe_ack y.opcode) (is_release y.opcode) (block_at y.address == m)
           (reported y.param) (held_by c (s.block m)) (apart m ne)));
       requests = λ i. requests i ∙ sym (step_quiet first true (is_requested c i (rest Channel.A) (s.uses c i) s));
@@ -93,9 +91,8 @@ flowed-report {w} {X} {c} n r toks y first {asked} {rest} rest' {s} {t} first_is
           (before.release_sources i ∙ sym (lets i) ∙ f);
       releases = λ m. releases m ∙ sym (unopened first true (is_release y.opcode) (block_at y.address == m)
           (let_of c (rest Channel.C) (s.block m)) other);
-      sinks = λ i. ap (λ (l : List (Beat w)). is_sunk c i l (s.tracked i) s') (rests Channel.D) ∙ sunk_same i
-          (s.tracked i)
-          ∙ sym (step_quiet first true (is_sunk c i (rest Channel.D) (s.tracked i) s));
+      sinks = λ i. ap (λ (l : List (Beat w)). is_sunk c i l (s.tracked i) s') (rests Channel.D)
+          ∙ sunk_same i (s.tracked i) ∙ sym (step_quiet first true (is_sunk c i (rest Channel.D) (s.tracked i) s));
       grants = λ m. grants m ∙ sym (step_quiet first true (granted_by c m asked (rest Channel.D) (s.block m)));
       probes = set-each (λ m z. is_answered (z.pair c).probing ≡ step first true false
           (is_probe_ack y.opcode && (block_at y.address == m)) (is_answered ((s.block m).pair c).probing)) n new s.block

@@ -85,20 +85,16 @@ moved-flowed {w} {config} {log} {link} {ch} {h} {x} {queue} width is flowed beat
 
     own : MonitorRelation (asked_by h'.mail h'.state c) (unfinished_at sys' c) c h'.state
         (if c == c then x ∷ flow c log else flow c log)
-    own = subst (λ (b : Bool). MonitorRelation (asked_by h'.mail h'.state c) (unfinished_at sys' c) c h'.state
-        (if b then x ∷ flow c log else flow c log)) (sym (same_number c))
-        (own-kind config log h sys c width is (next_tracker sys) (flow c log) (flowed c) (unfinished_at sys' c)
-        at.first.number at.first.rest x (map (message_of h.mail h.state c) at.first.rest) queue rests ch at.first.kind
-        at.first.own at.first.tokens at.first.next last refl ready)
+    own = rw (same_number c) (own-kind config log h sys c width is (next_tracker sys) (flow c log) (flowed c)
+        (unfinished_at sys' c) at.first.number at.first.rest x (map (message_of h.mail h.state c) at.first.rest) queue
+        rests ch at.first.kind at.first.own at.first.tokens at.first.next last refl ready)
       where
         rests : AreRests x (unfinished_at sys c) (unfinished_at sys' c)
         rests i = cc (at.rests c i, same_number c, at.on_ch i)
 
     others : (d ≡ c → ⊥) → MonitorRelation (asked_by h'.mail h'.state d) (unfinished_at sys' d) d h'.state
         (if c == d then x ∷ flow d log else flow d log)
-    others ne = subst (λ (b : Bool). MonitorRelation (asked_by h'.mail h'.state d) (unfinished_at sys' d) d h'.state
-        (if b then x ∷ flow d log else flow d log)) (sym (ne_eqb c d (λ e. ne (sym e))))
-        (flowed-rests (unfinished_at sys' d) rests (either last refl))
+    others ne = rw (ne_eqb c d (λ e. ne (sym e))) (flowed-rests (unfinished_at sys' d) rests (either last refl))
       where
         rests : (i : Channel) → unfinished_at sys' d i ≡ unfinished_at sys d i
         rests i = cc (at.rests d i, ne_eqb d c ne)
@@ -258,8 +254,7 @@ legal : {w : ℕ} (config : Config) (log : Log w) (d : ℕ) (l : Level) → IsWi
 unfolding AreTyped IsLog flow is_legal
 legal config [] d l width typed is level = refl
 legal {w} config (x ∷ log) d l width typed is level =
-    subst (λ (o : Outcome w). is_legal l config.profile (flow d ((x.0, o) ∷ log)) ≡ true) (sym is.0)
-    (legal-event (shadow config log) x.0 d l width (matched config log width typed.1 is.1)
+    rw is.0 (legal-event (shadow config log) x.0 d l width (matched config log width typed.1 is.1)
     (flowed config log width typed.1 is.1) level (legal config log d l width typed.1 is.1 level))
 
 -- A monitor in the middle of a link finds no fault in what is delivered there.

@@ -289,8 +289,7 @@ pub renewed-kind_taken : {w : ℕ} (config : Config) (log : Log w) (tracker c : 
     → SimulationRelation config log h.mail h.request h.state sys → on k (h.state.link c) ≡ packet k i ∷ rest
     → IsReady tracker c k i h → AreRenewed h (kind_taken config tracker c k i rest h)
 renewed-kind_taken {w} config log tracker c Request i rest h sys is first ready =
-    subst (λ (z : Message w). AreRenewed h (request_taken (length config.clients.items) c i z tracker rest h))
-    (sym ready.1) (renewed-request tracker c i ready.0 rest h is ready.1 ready.2)
+    rw ready.1 (renewed-request tracker c i ready.0 rest h is ready.1 ready.2)
 renewed-kind_taken config log tracker c Acquire n rest h sys is first ready =
     renewed-acquire (length config.clients.items) config.profile c n tracker ((h.state.block n).pair c).acquiring rest h
 renewed-kind_taken config log tracker c Probe n rest h sys is first ready =

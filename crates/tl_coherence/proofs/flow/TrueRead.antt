@@ -61,15 +61,13 @@ answered {w} config (x ∷ log) given c source m used request =
     → IsAnswered config m (h'.mail.answer c source) (x ∷ log) log = λ i asked settled replied same. record {
       free = λ n. free-now config (x ∷ log) h' sys' is' values c source m used request
           (subst (λ (j : MessageA w). IsSettledFor j h'.state) same settled) n;
-      reply_is = subst (λ (j : MessageA w). h'.mail.answer c source ≡ answers j
-          (h.state.block (block_at j.address)).truth)
-          same replied
+      reply_is = subst (λ (j : MessageA w). h'.mail.answer c source
+          ≡ answers j (h.state.block (block_at j.address)).truth) same replied
           ∙ ap (λ r. access_answer m (answer_of (Message.A m) r))
           (sym (reply-performed (level_of config c) m (one_memory_after config log).memory
           (h.state.block (block_at m.address)).truth given.width
           (lawful_request config c source m (h'.mail.request c source) (h'.state.uses c source) (is'.sourced c source)
-          used request)
-          (is.beside.memory (block_at m.address)) (is.sized (block_at m.address)).truth));
+          used request) (is.beside.memory (block_at m.address)) (is.sized (block_at m.address)).truth));
     } in (
       opened-now config (x ∷ log) h' sys' is' values c source m used request,
       elim (renewed-followed config log x.0 h given.width is c source used) [

@@ -182,17 +182,13 @@ windowed-event {config} {log} h (Deliver link ch) (Outcome.Done x source f) widt
     windowed-more h (abstract_step config (Deliver link ch) (system_after config log) h) (link, x) (trace_of log) is'
     values refl (renewed-followed config log (Deliver link ch) h width is) before
 windowed-event {w} {config} {log} h (Deliver link ch) (Outcome.Replied r) width is o_is is' values before =
-    subst (λ (i : AbstractState w). AreWindowed i (trace_of log))
-    (sym (followed-still config link ch (system_after config log) h (sym (ap is_moving o_is)))) before
+    rw (followed-still config link ch (system_after config log) h (sym (ap is_moving o_is))) before
 windowed-event {w} {config} {log} h (Deliver link ch) Outcome.Empty width is o_is is' values before =
-    subst (λ (i : AbstractState w). AreWindowed i (trace_of log))
-    (sym (followed-still config link ch (system_after config log) h (sym (ap is_moving o_is)))) before
+    rw (followed-still config link ch (system_after config log) h (sym (ap is_moving o_is))) before
 windowed-event {w} {config} {log} h (Deliver link ch) Outcome.Stalled width is o_is is' values before =
-    subst (λ (i : AbstractState w). AreWindowed i (trace_of log))
-    (sym (followed-still config link ch (system_after config log) h (sym (ap is_moving o_is)))) before
+    rw (followed-still config link ch (system_after config log) h (sym (ap is_moving o_is))) before
 windowed-event {w} {config} {log} h (Deliver link ch) Outcome.NoSuchClient width is o_is is' values before =
-    subst (λ (i : AbstractState w). AreWindowed i (trace_of log))
-    (sym (followed-still config link ch (system_after config log) h (sym (ap is_moving o_is)))) before
+    rw (followed-still config link ch (system_after config log) h (sym (ap is_moving o_is))) before
 
 pub closed_first : SourceFree ≡ Replied → ⊥
 closed_first e = cc

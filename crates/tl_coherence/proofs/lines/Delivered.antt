@@ -105,8 +105,7 @@ module _ {w : ℕ} (config : Config) (P : Beat w → Type 0) (Q : Log w → Type
           width = given.width;
           fits = given.fits;
           typed = given.typed.1;
-          is_log =
-              given.is_log.1;
+          is_log = given.is_log.1;
         } in
         subst (λ (o : Outcome w). All P (flow d ((x.0, o) ∷ log))) (sym given.is_log.0)
         (next log x.0 d before (earlier x log q) (all-delivered log before (earlier x log q) d))

@@ -136,8 +136,7 @@ few-sources config c fits = go (slice_get config.clients.items c) refl
         → sources_of (option_map {U = EndConfig} (λ x. record {
           level = x.level;
           profile = config.profile;
-          sources =
-              x.sources;
+          sources = x.sources;
           blocks = config.blocks;
         }) o) ≤ 8
     go None e = omega arith

@@ -123,8 +123,7 @@ ending_d {w} {config} {log} link h terms y queue x source f width is known beats
           source_is = i;
           finish_is = j;
           follows = followed-moving config link Channel.D sys h y queue moving beats
-              ∙ ap (λ (b : Bool). if b then packet_taken config (next_tracker sys) c (h.state.link c).d h else h)
-              whole
+              ∙ ap (λ (b : Bool). if b then packet_taken config (next_tracker sys) c (h.state.link c).d h else h) whole
               ∙ ap (λ (l : List Packet). packet_taken config (next_tracker sys) c l h) first.tokens;
         }) in
         let ended : completes (Beat.D z) (unfinished Channel.D e.past) ≡ true = cc (y_is, last) in

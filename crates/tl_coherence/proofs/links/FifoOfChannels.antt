@@ -206,8 +206,7 @@ moved-passing {w} config log link ch terms x queue width typed logged known beat
     h = matched config log width typed logged
 
     on_ch : IsOn ch x
-    on_ch = subst (λ (i : Channel). IsOn i x) (first-of config log (shadow config log) c terms ch x queue width h known
-        beats).on (on_it x)
+    on_ch = rw (← (first-of config log (shadow config log) c terms ch x queue width h known beats).on) (on_it x)
 
     head : manager.IsSound config (record { 0 = c }, x)
     head = All-head (λ y. manager.IsSound config (record { 0 = c }, y)) x queue (same beats (h.sound c ch))
@@ -253,8 +252,7 @@ moved-passing {w} config log link ch terms x queue width typed logged known beat
                 ours v (Some m) e =
                     let fit : IsFitAnswer config.blocks (Ok (v, Some m)) =
                     subst (IsFitAnswer config.blocks) e (fit-taken config.blocks x (sys.clients c) head.inside
-                    (copy-long
-                    h c)) in
+                    (copy-long h c)) in
                     ours_from m fit.ours
     go false down = by_manager (manager-moves config link ch sys terms x queue known beats down moving)
       where
@@ -321,9 +319,8 @@ pub passing : {w : ℕ} (config : Config) (log : Log w) → IsWidth w → AreTyp
 unfolding system_after AreTyped IsLog
 passing {w} config [] width typed logged = first-passing w
 passing {w} config (x ∷ log) width typed logged =
-    subst (λ (o : Outcome w). IsPassing (stepped config x.0 (system_after config log)).after
-    (λ d. flow d ((x.0, o) ∷ log))) (sym logged.0)
-    (passing-event config log x.0 width typed.1 logged.1 typed.0 (passing config log width typed.1 logged.1))
+    rw logged.0 (passing-event config log x.0 width typed.1 logged.1 typed.0
+    (passing config log width typed.1 logged.1))
 
 pub carried-passing : {w : ℕ} (config : Config) (log : Log w) (link : ℕ) (ch : Channel)
     → IsPassing (system_after config log) (λ d. flow d log) → IsFifo (system_after config log) log link ch

@@ -82,8 +82,7 @@ opened-acquire {w} config log h sys c source n u is e f =
     → (one_memory_after config log).opened c Requests source
     ≡ Some (record {
       asked = op_of ((h.state.block n).pair c).acquiring n ((h.state.block n).waiting c);
-      answer =
-          None;
+      answer = None;
     }) = λ v g i. rw g at i in
     go (h.state.uses c source) (e ∙ f) (is.beside.requests c source)
 

@@ -111,10 +111,8 @@ first-of {w} config log h c terms Channel.A x queue width is at beats =
     let on = on_a h c x queue width is beats in
     record {
       on = on;
-      taken =
-          (λ e. absurd cc, λ e. either (manager.must_wait config (record { 0 = c }) x sys.manager.trace) refl);
-      probes =
-          λ y e. not_probe x y Channel.A on (λ f. absurd cc) e;
+      taken = (λ e. absurd cc, λ e. either (manager.must_wait config (record { 0 = c }) x sys.manager.trace) refl);
+      probes = λ y e. not_probe x y Channel.A on (λ f. absurd cc) e;
     }
   where
     arrives : IsArrival config h (system_after config log) c x queue
@@ -130,8 +128,7 @@ first-of {w} config log h c terms Channel.B x queue width is at beats =
     λ y e. ap (λ (z : BeatB w). is_probe z.opcode) (sym (same_b (probe_beat probed.0 k) y e)) in
     record {
       on = ap (λ (y : Beat w). channel_of y) probed.1.beat_is;
-      taken =
-          (λ e. either (is_unreleased ((h.state.block probed.0).pair c).letting) refl, λ e. absurd cc);
+      taken = (λ e. either (is_unreleased ((h.state.block probed.0).pair c).letting) refl, λ e. absurd cc);
       probes = λ y e. is_one y (sym probed.1.beat_is ∙ e);
     }
   where
@@ -155,8 +152,7 @@ first-of {w} config log h c terms Channel.C x queue width is at beats =
     record {
       on = on;
       taken = (λ e. absurd cc, λ e. taken_in _ _ d.up.answer tt);
-      probes =
-          λ y e. not_probe x y Channel.C on (λ f. absurd cc) e;
+      probes = λ y e. not_probe x y Channel.C on (λ f. absurd cc) e;
     }
 first-of {w} config log h c terms Channel.D x queue width is at beats =
     let sys : System w = system_after config log in
@@ -178,6 +174,5 @@ first-of {w} config log h c terms Channel.E x queue width is at beats =
     record {
       on = on;
       taken = (λ e. absurd cc, λ e. taken_in _ _ d.up.answer tt);
-      probes =
-          λ y e. not_probe x y Channel.E on (λ f. absurd cc) e;
+      probes = λ y e. not_probe x y Channel.E on (λ f. absurd cc) e;
     }

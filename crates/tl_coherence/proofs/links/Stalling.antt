@@ -120,9 +120,8 @@ module _ {w : ℕ} (config : Config) (log : Log w) (mail : AccessMessages w) (re
           let asked : option_map (λ x. x.asked) ((one_memory_after config log).opened c Releases source) ≡ Some
           (Release m p) = rw opened refl in
           let same : m ≡ n = same_release m p _ _ asked asked_is refl in
-          let named : releases_with c source (s.block n) ≡ true =
-          sym (matched.invariant.named.releases c source n) ∙ is_some_of n (s.lets c source)
-          (e ∙ ap (λ (i : ℕ). Some i) same) in
+          let named : releases_with c source (s.block n) ≡ true = sym (matched.invariant.named.releases c source n)
+          ∙ is_some_of n (s.lets c source) (e ∙ ap (λ (i : ℕ). Some i) same) in
           (matched.known c).releases n ∙ and_left (not (is_unreleased ((s.block n).pair c).letting)) _ named
 
 -- ---- deliveries

@@ -156,8 +156,7 @@ sources-traced {w} {X} {caching} {config} {request} {s} {e} inv kept is c source
         let found : service_of_block one.block (services t) ≡ Some v = is.serving_is one.block ∙ rw one.waits_so refl in
         let for : IsFor (Waits c one.own source one.cap) one.block (request one.block) =
         rw one.waits_so at (is.requests one.block) in
-        let granted : waits.is_granted t v ≡ false = granted-is inv kept is one.block v
-        found ∙ rw one.waits_so refl in
+        let granted : waits.is_granted t v ≡ false = granted-is inv kept is one.block v found ∙ rw one.waits_so refl in
         any-of one.block (is_asking c source t) (services t) v found
         (rw (same_number c, for.1, same_number source, granted) refl)
 
@@ -221,8 +220,7 @@ sinks-traced {w} {X} {caching} {config} {request} {s} {e} inv kept is c sink =
         let number = eqb-true v.tracker sink (and_left (v.tracker == sink) _ (and_right (v.link.0 == c) _ one.passes))
         in
         let yes = and_right (v.tracker == sink) _ (and_right (v.link.0 == c) _ one.passes) in
-        let granted : is_granted_in (s.block n).service ≡ true =
-        sym (granted-is inv kept is n v one.serves) ∙ yes in
+        let granted : is_granted_in (s.block n).service ≡ true = sym (granted-is inv kept is n v one.serves) ∙ yes in
         let of = client_of (client_in (s.block n).service) (s.block n).tracker (request n) v
         (sym (is.serving_is n) ∙ one.serves) in
         let tracker_is : sink ≡ (s.block n).tracker = sym number ∙ of.1 in
@@ -239,8 +237,7 @@ sinks-traced {w} {X} {caching} {config} {request} {s} {e} inv kept is c sink =
         let to = granted-to c (s.block n).service g in
         let v : manager.Service w = at_service c (s.block n).tracker (request n) in
         let found : service_of_block n (services t) ≡ Some v = cc (is.serving_is n, to.1) in
-        let granted : waits.is_granted t v ≡ true = granted-is inv kept is n v found ∙ to.0
-        in
+        let granted : waits.is_granted t v ≡ true = granted-is inv kept is n v found ∙ to.0 in
         let tracks : tracks_with sink (s.block n) ≡ true = sym (inv.named.trackers sink n) ∙ rw (f, same_number n) refl
         in
         let number = eqb-true sink (s.block n).tracker

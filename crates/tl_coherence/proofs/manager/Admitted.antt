@@ -210,8 +210,7 @@ free-untracked {w} {request} {s} {t} inv is = go (s.tracked i) refl
         tracker_among n (services t) (record {
           tracker = (s.block n).tracker;
           link = record { 0 = r };
-          request =
-              request n;
+          request = request n;
         }) found in
         let none : is_one_of (s.block n).tracker (trackers_of (services t)) ≡ false =
         cc (same, least_free-is_free (trackers_of (services t))) in

@@ -75,8 +75,7 @@ pub reaction-probing : {w : ℕ} (config : Config) (c k n : ℕ) (j : Cap) (m : 
     → block_at m.address ≡ n → cap_probed m.opcode m.param ≡ Some j
     → is_nobody (probed config (service_for c m e.trace) j (with_beat c m k e.trace)) ≡ false
     → reaction config (link_of c) (Beat.A (a_beat_of m k)) e ≡ record {
-      handed =
-          probes n j (probed config (service_for c m e.trace) j (with_beat c m k e.trace));
+      handed = probes n j (probed config (service_for c m e.trace) j (with_beat c m k e.trace));
       memory = e.memory;
     }
 reaction-probing {w} config c k n j m e is last block caps someone =

@@ -60,8 +60,7 @@ any-found {w} test (s ∷ ss) apart e = go (test s) refl (λ f. any-found test s
     go true f more g = record {
       block = block_at s.request.address;
       service = s;
-      serves =
-          rw (same_number (block_at s.request.address)) refl;
+      serves = rw (same_number (block_at s.request.address)) refl;
       passes = f;
     }
     go false f more g = later (more g)

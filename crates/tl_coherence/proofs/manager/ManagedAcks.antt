@@ -115,8 +115,7 @@ pub managed-acked : {w : ℕ} {X : Type 0} {request : ℕ → MessageA w} {c n :
 managed-acked {w} {X} {request} {c} {n} rest {x} {s} {t} is known =
     let new : Block X = freed_block (s.block n) in
     let serves : (i : ℕ) → service_of_block i (services u)
-    ≡ (if i == n then None else service_of_block i (services t)) =
-    λ i. serving-acked is known i in
+    ≡ (if i == n then None else service_of_block i (services t)) = λ i. serving-acked is known i in
     let acks_now : (d i : ℕ) → is_granted_to d u (if i == n then None else service_of_block i (services t))
     ≡ (is_granting (view (set n new s.block i).service d) || is_acknowledging
     (view (set n new s.block i).service d)) = λ d i. elim (cases_eq i n) [
@@ -127,14 +126,11 @@ managed-acked {w} {X} {request} {c} {n} rest {x} {s} {t} is known =
     ] in
     record {
       recorded_is = λ d i. beat-keeps (held i) d (record { 0 = c }) (Beat.E x) t (λ h. held_unsaid i (Beat.E x) h refl)
-          ∙ known.recorded_is d i
-          ∙ sym (set-part (λ (b : Block X). (b.pair d).recorded) n new s.block refl i);
+          ∙ known.recorded_is d i ∙ sym (set-part (λ (b : Block X). (b.pair d).recorded) n new s.block refl i);
       probes = λ d i. beat-keeps (pending (Key.ProbeOf i)) d (record { 0 = c }) (Beat.E x) t
-          (λ h. pending-quiet (Key.ProbeOf i) (Beat.E x) h refl refl)
-          ∙ known.probes d i ∙ sym (set-part (λ (b : Block X). not (is_unprobed (b.pair d).probing)) n new s.block refl
-          i);
-      acquires = λ d i.
-          beat-keeps (pending (Key.AcquireOf i)) d (record { 0 = c }) (Beat.E x) t
+          (λ h. pending-quiet (Key.ProbeOf i) (Beat.E x) h refl refl) ∙ known.probes d i
+          ∙ sym (set-part (λ (b : Block X). not (is_unprobed (b.pair d).probing)) n new s.block refl i);
+      acquires = λ d i. beat-keeps (pending (Key.AcquireOf i)) d (record { 0 = c }) (Beat.E x) t
           (λ h. pending-quiet (Key.AcquireOf i) (Beat.E x) h refl refl) ∙ known.acquires d i
           ∙ sym (set-part (λ (b : Block X). is_own (view b.service d)) n new s.block
           (rw is.taken (sym (not_owned (d == c)))) i);
@@ -174,8 +170,7 @@ are_served-acked {w} {X} {request} {c} {n} rest {x} {s} {t} is known =
           (ap (λ (b : Block X). b.service) (sym (set-other n i new s.block other)) ∙ e)
     ] in
     record {
-      sources = λ d i.
-          beat-keeps (pending (Key.RequestSource i)) d (record { 0 = c }) (Beat.E x) t
+      sources = λ d i. beat-keeps (pending (Key.RequestSource i)) d (record { 0 = c }) (Beat.E x) t
           (λ h. pending-quiet (Key.RequestSource i) (Beat.E x) h refl refl) ∙ known.sources d i
           ∙ sym (rw (
             served_now d (s.uses d i),

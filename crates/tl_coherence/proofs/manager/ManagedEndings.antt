@@ -97,21 +97,15 @@ managed-ended {w} {X} {request} {c} {q} {n} {r} f rest {x} {m} {s} {t} is known 
     let new : Block X = ended_block c r f (s.block n) in
     let other : is_grant m.opcode ≡ false = answer_kind m.opcode is.answers in
     record {
-      recorded_is = λ d i. recorded-answer (record { 0 = q }) m u is.reply.width is.reply.whole other d
-          i ∙ reported-records
-          r new is.last (λ j. refl) known d i;
+      recorded_is = λ d i. recorded-answer (record { 0 = q }) m u is.reply.width is.reply.whole other d i
+          ∙ reported-records r new is.last (λ j. refl) known d i;
       probes = λ d i. reply-quiet (Key.ProbeOf i) (record { 0 = q }) m u d is.reply.width is.reply.whole
-          (λ e. (refl, refl))
-          ∙ reported-missing r new is.last is.report (λ j. refl) known d i;
-      acquires = λ d i.
-          reply-quiet (Key.AcquireOf i) (record { 0 = q }) m u d is.reply.width is.reply.whole
-          (λ e. (refl, rw other refl))
-          ∙ (quiet-c (record { 0 = c }) x t).acquires d i ∙ known.acquires d i
+          (λ e. (refl, refl)) ∙ reported-missing r new is.last is.report (λ j. refl) known d i;
+      acquires = λ d i. reply-quiet (Key.AcquireOf i) (record { 0 = q }) m u d is.reply.width is.reply.whole
+          (λ e. (refl, rw other refl)) ∙ (quiet-c (record { 0 = c }) x t).acquires d i ∙ known.acquires d i
           ∙ sym (set-part (λ (b : Block X). is_own (view b.service d)) n new s.block (rw is.waits refl) i);
-      grant_acks = λ d i.
-          reply-quiet (Key.GrantAckOf i) (record { 0 = q }) m u d is.reply.width is.reply.whole
-          (λ e. (rw other refl, refl))
-          ∙ (quiet-c (record { 0 = c }) x t).grants d i ∙ known.grant_acks d i
+      grant_acks = λ d i. reply-quiet (Key.GrantAckOf i) (record { 0 = q }) m u d is.reply.width is.reply.whole
+          (λ e. (rw other refl, refl)) ∙ (quiet-c (record { 0 = c }) x t).grants d i ∙ known.grant_acks d i
           ∙ sym (set-part (λ (b : Block X). is_granting (view b.service d) || is_acknowledging (view b.service d)) n new
           s.block (rw is.waits refl) i);
       serving_is = λ i.
@@ -162,9 +156,8 @@ are_served-ended {w} {X} {request} {c} {q} {n} {source} {r} f rest {x} {m} {s} {
       ];
       asked = λ i p source own cap e. request-reply (record { 0 = q }) m u p
           source ∙ (quiet-c (record { 0 = c }) x t).requests p source ∙ asked_now i p source own cap e;
-      probes = λ d i e. probe-reply (record { 0 = q }) m u d i ∙ (quiet-c (record { 0 = c }) x t).probe d i ∙ probes_now
-          d i
-          e;
+      probes = λ d i e. probe-reply (record { 0 = q }) m u d i ∙ (quiet-c (record { 0 = c }) x t).probe d i
+          ∙ probes_now d i e;
     }
   where
     u : Trace w

@@ -109,12 +109,10 @@ managed-conceded {w} {X} {request} {c} {q} {n} {source} {k} {gift} {r} dt rest {
     record {
       recorded_is = λ d i. given-records given d i ∙ records_now d i ∙ sym
           (pair-over (λ p. p.recorded) q n gives new mid s.block (λ j. refl) d i);
-      probes = λ d i.
-          reply-quiet (Key.ProbeOf i) (record { 0 = q }) m u d given.width given.whole (λ e. (refl, refl))
+      probes = λ d i. reply-quiet (Key.ProbeOf i) (record { 0 = q }) m u d given.width given.whole (λ e. (refl, refl))
           ∙ reported-missing r mid is.last is.report (λ j. refl) known d i
-          ∙ sym (pair-over (λ p. not (is_unprobed p.probing)) q n gives new mid s.block (λ j. refl) d i ∙ probing_same d
-          i
-          ((q == d) && (n == i)) refl);
+          ∙ sym (pair-over (λ p. not (is_unprobed p.probing)) q n gives new mid s.block (λ j. refl) d i
+          ∙ probing_same d i ((q == d) && (n == i)) refl);
       acquires = λ d i. given-acquires given d i ∙ acquires_now d i;
       grant_acks = λ d i. given-acks given d i ∙ acks_now d i;
       serving_is = λ i.
@@ -233,18 +231,15 @@ are_served-conceded {w} {X} {request} {c} {q} {n} {source} {k} {gift} {r} dt res
     ] in
     record {
       sources = λ d i. sources_now d i ((q == d) && (source == i)) refl;
-      sinks = λ d i. given-sinks given d i ∙ sinks_now d i
-          ((q == d) && ((s.block n).tracker == i)) refl;
+      sinks = λ d i. given-sinks given d i ∙ sinks_now d i ((q == d) && ((s.block n).tracker == i)) refl;
       requests = λ i. elim (cases_eq i n) [
         | inl same ↦ rw (same, set-same n new s.block) (is.grant.acquires, is.block_is)
         | inr other ↦ rw (set-other n i new s.block other) (known.requests i)
       ];
-      asked = λ i p from own low e. request-reply (record { 0 = q }) m u p
-          from ∙ (quiet-c (record { 0 = c }) x t).requests
-          p from ∙ asked_now i p from own low e;
-      probes = λ d i e. probe-reply (record { 0 = q }) m u d i ∙ (quiet-c (record { 0 = c }) x t).probe d i ∙ probes_now
-          d i
-          e;
+      asked = λ i p from own low e. request-reply (record { 0 = q }) m u p from
+          ∙ (quiet-c (record { 0 = c }) x t).requests p from ∙ asked_now i p from own low e;
+      probes = λ d i e. probe-reply (record { 0 = q }) m u d i ∙ (quiet-c (record { 0 = c }) x t).probe d i
+          ∙ probes_now d i e;
     }
   where
     u : Trace w

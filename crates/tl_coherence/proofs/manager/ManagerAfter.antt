@@ -138,8 +138,7 @@ pub reaction-released : {w : ℕ} (config : Config) {c n k : ℕ} (r : Prune) {m
     {e : End w}
     → IsEnd false c n (prune_code r) (same_perm (prune_left r) Perm.Trunk) (h.state.block n).truth k m e
     → reaction config (record { 0 = c }) (Beat.C (c_beat_of m k)) e ≡ record {
-      handed =
-          (record { 0 = c }, release_ack m.source) ∷ [];
+      handed = (record { 0 = c }, release_ack m.source) ∷ [];
       memory = memory_with (record { 0 = c }) (c_beat_of m k) e;
     }
 reaction-released config {c} {n} {k} r {m} h {e} end = reaction-release config (record { 0 = c }) (c_beat_of m k) e
@@ -157,8 +156,7 @@ released-left {w} {config} {c} {n} {k} r rest {m} h {e} up end is =
     let after : State (List ℕ) = release_taken c n r rest h.state in
     let does : Reaction w = record {
       handed = (record { 0 = c }, release_ack x.source) ∷ [];
-      memory =
-          memory_with (record { 0 = c }) x e;
+      memory = memory_with (record { 0 = c }) x e;
     } in
     let done : reaction config (record { 0 = c }) (Beat.C x) e ≡ does = reaction-released config r h end in
     let answer = release_is x.source in
@@ -167,30 +165,24 @@ released-left {w} {config} {c} {n} {k} r rest {m} h {e} up end is =
       other = end.about.reports;
       ack = answer.2;
       none = answer.3;
-      whole =
-          (whole-taken c (record { 0 = c }) (Beat.C x) e.trace refl (is.manager_kept.whole c)).1;
+      whole = (whole-taken c (record { 0 = c }) (Beat.C x) e.trace refl (is.manager_kept.whole c)).1;
     } in
     let still : (i : ℕ) → IsServedWith h.mail (after.block i).service (h.request i) = λ i. elim (cases_eq i n) [
       | inl same ↦ rw (same, set-same n (let_block c r (h.state.block n)) h.state.block) (is.served_with n)
       | inr other ↦ rw (set-other n i (let_block c r (h.state.block n)) h.state.block other) (is.served_with i)
     ] in
     subst (λ (d : Reaction w). IsManagerOf config (with_state after h) (left c (Beat.C x) d e)) (sym done) (record {
-      managed =
-          subst (λ (i : Message w). ManagerRelation h.request after
+      managed = subst (λ (i : Message w). ManagerRelation h.request after
           (with_handed ((record { 0 = c }, i) ∷ []) ((record { 0 = c }, Beat.C x) ∷ e.trace))) (sym answer.1)
-          (managed-released r rest
-          (last-of (prune_right r) end (reported-prune r)) released
-          is.managed);
-      served =
-          subst (λ (i : Message w). ServedSourceRelation h.request after
+          (managed-released r rest (last-of (prune_right r) end (reported-prune r)) released is.managed);
+      served = subst (λ (i : Message w). ServedSourceRelation h.request after
           (with_handed ((record { 0 = c }, i) ∷ []) ((record { 0 = c }, Beat.C x) ∷ e.trace))) (sym answer.1)
           (are_served-released n r rest released is.served);
       served_with = λ i. still i;
       manager_kept = kept-left x does end.width up done is.manager_kept;
-      memory = λ i. cc (blocks-now e.memory does.memory n (let_block c r (h.state.block n)) h.state
-          (memory-end end ∙ ap (λ z. if carries then truth else z)
-          (is.memory n)) (others-left n x does end.width up done is.manager_kept end.about.block) is.memory
-          i);
+      memory = λ i. cc (blocks-now e.memory does.memory n (let_block c r (h.state.block n)) h.state (memory-end end
+          ∙ ap (λ z. if carries then truth else z) (is.memory n))
+          (others-left n x does end.width up done is.manager_kept end.about.block) is.memory i);
       all_live = is.all_live;
     })
   where
@@ -261,10 +253,9 @@ reported-left {w} {config} {c} {n} {k} r rest {m} h {e} up end others is =
       served = are_served-reported c n r rest x is.served;
       served_with = λ i. still i;
       manager_kept = kept-left x does end.width up done is.manager_kept;
-      memory = λ i. cc (blocks-now e.memory does.memory n (reported_block c r (h.state.block n)) h.state
-          (memory-end end ∙ ap (λ z. if carries then truth else z)
-          (is.memory n)) (others-left n x does end.width up done is.manager_kept end.about.block) is.memory
-          i);
+      memory = λ i. cc (blocks-now e.memory does.memory n (reported_block c r (h.state.block n)) h.state (memory-end end
+          ∙ ap (λ z. if carries then truth else z) (is.memory n))
+          (others-left n x does end.width up done is.manager_kept end.about.block) is.memory i);
       all_live = is.all_live;
     })
   where

@@ -58,8 +58,7 @@ reaction-ended {w} {config} {c} {q} {n} {source} {k} {low} {r} {m} {h} {e} at =
     (service_for q n h.request h.state) (trace_with c k m e) memory for.0
     ∙ ap (λ (i : Message w). record {
       handed = (record { 0 = q }, i) ∷ [];
-      memory =
-          (effect (Message.A (h.request n)) memory).0;
+      memory = (effect (Message.A (h.request n)) memory).0;
     })
     (answer-performed (level_of config q) (h.request n) memory n at.end.width
     (settling-lawful at).lawful for.2
@@ -79,8 +78,7 @@ ended-left {w} {config} {c} {q} {n} {source} {k} {low} {r} rest {m} {h} {e} at =
     let said = answers (h.request n) (protocol.written r (h.state.block n).truth (h.state.block n).memory) in
     let does : Reaction w = record {
       handed = (record { 0 = q }, said) ∷ [];
-      memory =
-          (effect (Message.A (h.request n)) (memory_with (record { 0 = c }) x e)).0;
+      memory = (effect (Message.A (h.request n)) (memory_with (record { 0 = c }) x e)).0;
     } in
     let done = reaction-ended at in
     let for = settling-for at in
@@ -103,23 +101,16 @@ ended-left {w} {config} {c} {q} {n} {source} {k} {low} {r} rest {m} {h} {e} at =
     ] in
     subst (λ (d : Reaction w). IsManagerOf config (with_answer q source said (with_state after h))
     (left c (Beat.C x) d e)) (sym done) (record {
-      managed =
-          subst (λ (i : Message w). ManagerRelation h.request after
+      managed = subst (λ (i : Message w). ManagerRelation h.request after
           (with_handed ((record { 0 = q }, i) ∷ []) (trace_with c k m e))) (sym reply.1)
-          (managed-ended (performs (h.request n)) rest ending
-          at.is.managed);
-      served =
-          subst (λ (i : Message w). ServedSourceRelation h.request after
-          (with_handed ((record { 0 = q }, i) ∷ []) (trace_with c k m e))) (sym reply.1)
-          (are_served-ended (performs (h.request n)) rest ending
-          at.is.served);
+          (managed-ended (performs (h.request n)) rest ending at.is.managed);
+      served = rw reply.1 (are_served-ended (performs (h.request n)) rest ending at.is.served);
       served_with = λ i. still i;
       manager_kept = kept-left x does at.end.width at.up done at.is.manager_kept;
       memory = λ i. cc (blocks-now e.memory does.memory n new h.state (block-performed (level_of config q) (h.request n)
-          (memory_with (record { 0 = c }) x e) n at.end.width (settling-lawful
-          at).lawful for.2 ∙ ap (performs (h.request n)) (settling-memory at))
-          (others-left n x does at.end.width at.up done at.is.manager_kept at.end.about.block) at.is.memory
-          i);
+          (memory_with (record { 0 = c }) x e) n at.end.width (settling-lawful at).lawful for.2
+          ∙ ap (performs (h.request n)) (settling-memory at))
+          (others-left n x does at.end.width at.up done at.is.manager_kept at.end.about.block) at.is.memory i);
       all_live = at.is.all_live;
     })
 
@@ -187,8 +178,7 @@ pub reaction-conceded : {w : ℕ} {config : Config} {c q n source k : ℕ} {low 
     {e : End w} → IsSettling config c q n source k true low r m h e → IsWanted c q n source whole g h
     → reaction config (record { 0 = c }) (Beat.C (c_beat_of m k)) e ≡ record {
       handed = (record { 0 = q }, grant_after config c q n source r whole g h) ∷ [];
-      memory =
-          memory_with (record { 0 = c }) (c_beat_of m k) e;
+      memory = memory_with (record { 0 = c }) (c_beat_of m k) e;
     }
 reaction-conceded {w} {config} {c} {q} {n} {source} {k} {low} {r} {whole} {g} {m} {h} {e} at wanted =
     let u : Trace w = trace_with c k m e in
@@ -198,14 +188,12 @@ reaction-conceded {w} {config} {c} {q} {n} {source} {k} {low} {r} {whole} {g} {m
     let none : holders.is_unheld config n u ≡ unheld =
     cc (nobody-same config (λ d. has_copy (recorded d n u))
     (λ d. not (same_perm (pairs_after c r (h.state.block n).pair d).recorded Perm.None))
-    (λ d. ap has_copy (settling-records at d)
-    ∙ has_copy-is (pairs_after c r (h.state.block n).pair d).recorded)) in
+    (λ d. ap has_copy (settling-records at d) ∙ has_copy-is (pairs_after c r (h.state.block n).pair d).recorded)) in
     let mine = ap (λ (p : ClientBlock). p.recorded) (set-other c q (after_report r ((h.state.block n).pair c))
     (h.state.block n).pair (λ f. wanted.apart (sym f))) in
     let sent : grant_of (GrantSent q (is_granted_data whole g ((h.state.block n).pair q).recorded)
     (gift config.profile whole g unheld)) (h.request n).source (h.state.block n).tracker (block_in memory n)
-    ≡ grant_after config c q n source r whole g h =
-    rw (for.1, settling-memory at) refl in
+    ≡ grant_after config c q n source r whole g h = rw (for.1, settling-memory at) refl in
     cc (
       settling-reaction at,
       performed-acquire config
@@ -232,8 +220,7 @@ conceded-left {w} {config} {c} {q} {n} {source} {k} {low} {r} {whole} {g} rest {
     let after : State (List ℕ) = report_grants c q n r data_too given rest h.state in
     let does : Reaction w = record {
       handed = (record { 0 = q }, grant_after config c q n source r whole g h) ∷ [];
-      memory =
-          memory_with (record { 0 = c }) x e;
+      memory = memory_with (record { 0 = c }) x e;
     } in
     let done = reaction-conceded at wanted in
     let for = settling-for at in
@@ -248,8 +235,7 @@ conceded-left {w} {config} {c} {q} {n} {source} {k} {low} {r} {whole} {g} rest {
       named = at.named;
       used = wanted.used;
       grant = record {
-        reply = settling-reply reply.0 at (reply.4 ∙ sym for.1)
-            reply.3;
+        reply = settling-reply reply.0 at (reply.4 ∙ sym for.1) reply.3;
         grants = reply.2;
         sink = reply.5;
         acquires = for.0;
@@ -265,21 +251,15 @@ conceded-left {w} {config} {c} {q} {n} {source} {k} {low} {r} {whole} {g} rest {
       | inr other ↦ rw (set-other n i new h.state.block other) (at.is.served_with i)
     ] in
     subst (λ (d : Reaction w). IsManagerOf config (with_state after h) (left c (Beat.C x) d e)) (sym done) (record {
-      managed =
-          subst (λ (i : Message w). ManagerRelation h.request after
+      managed = subst (λ (i : Message w). ManagerRelation h.request after
           (with_handed ((record { 0 = q }, i) ∷ []) (trace_with c k m e))) (sym reply.1)
-          (managed-conceded data_too rest conceded
-          at.is.managed);
-      served =
-          subst (λ (i : Message w). ServedSourceRelation h.request after
+          (managed-conceded data_too rest conceded at.is.managed);
+      served = subst (λ (i : Message w). ServedSourceRelation h.request after
           (with_handed ((record { 0 = q }, i) ∷ []) (trace_with c k m e))) (sym reply.1)
-          (are_served-conceded data_too rest conceded
-          at.is.served);
+          (are_served-conceded data_too rest conceded at.is.served);
       served_with = λ i. still i;
       manager_kept = kept-left x does at.end.width at.up done at.is.manager_kept;
-      memory = λ i.
-          blocks-now e.memory does.memory n new h.state (settling-memory at)
-          (others-left n x does at.end.width at.up done at.is.manager_kept at.end.about.block) at.is.memory
-          i;
+      memory = λ i. blocks-now e.memory does.memory n new h.state (settling-memory at)
+          (others-left n x does at.end.width at.up done at.is.manager_kept at.end.about.block) at.is.memory i;
       all_live = at.is.all_live;
     })

@@ -120,8 +120,7 @@ at_manager-request_taken {w} {config} {log} h {sys} {c} {source} {k} rest is fir
       access = asked.access;
       block = refl;
       free = free;
-      unwaited =
-          λ i src own j f same. unwaited i src own j f (sym asked.source_is ∙ same);
+      unwaited = λ i src own j f same. unwaited i src own j f (sym asked.source_is ∙ same);
     }
 
     answered : (p : Bool) (o : Option Cap)
@@ -295,8 +294,7 @@ at_manager-acquire_taken {w} {config} {log} h {sys} {c} {n} {k} rest is first as
           last = last;
           acquires = acquires;
           block = same_block n;
-          given = ap (cap_granted config.profile m.opcode m.param) (unheld-same
-              c k n m is);
+          given = ap (cap_granted config.profile m.opcode m.param) (unheld-same c k n m is);
           unwaited = unwaited;
         })
         (reaction-performed config log h.mail h.request h.state sys c k n true m is comes last acquires (same_block n)

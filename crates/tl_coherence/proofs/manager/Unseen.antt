@@ -105,8 +105,7 @@ same-stored c bytes b = record {
   recorded_same = λ d. refl;
   quiet_same = λ d. refl;
   tracker_same = refl;
-  service_same =
-      same-again b.service;
+  service_same = same-again b.service;
   memory_same = refl;
 }
 
@@ -232,9 +231,8 @@ at_manager-client_taken {w} {caching} config tracker c Grant n rest h e kind inv
         → IsManagerOf config (taken_by_client c n service rest h) e
     go (GrantSent q d k) f kept =
         let seen : is_granting (view (GrantSent q d k) c) ≡ true =
-        rw f at (holds-first Grant (h.state.link c).d rest (packet Grant n) (λ i. shown Grant c (h.state.block i)) first
-        refl
-        (inv.transfers c Grant refl)) in
+        rw f at (holds-first Grant (h.state.link c).d rest (packet Grant n) (λ i. shown Grant c (h.state.block i))
+        first refl (inv.transfers c Grant refl)) in
         let same : c ≡ q = eqb-true c q (granting-own (c == q) d k seen) in
         let whole = is_whole ((h.state.block n).pair c).acquiring in
         at_manager-unseen n

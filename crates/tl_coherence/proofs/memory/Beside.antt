@@ -86,10 +86,8 @@ pub opened-still : {w : ℕ} (c source : ℕ) (mail mail' : AccessMessages w) (s
     → mail'.request c source ≡ mail.request c source → IsSameAnswer u (mail.answer c source) (mail'.answer c source)
     → IsSameAcquire c s s' u → IsOpened c source mail s u o → IsOpened c source mail' s' u o
 opened-still c source mail mail' s s' SourceFree o request answer acquire h = h
-opened-still {w} c source mail mail' s s' Asked o request answer acquire h =
-    subst (λ (m : Message w). IsAccess source m None o) (sym request) h
-opened-still {w} c source mail mail' s s' (InService n) o request answer acquire h =
-    subst (λ (m : Message w). IsAccess source m None o) (sym request) h
+opened-still {w} c source mail mail' s s' Asked o request answer acquire h = rw request h
+opened-still {w} c source mail mail' s s' (InService n) o request answer acquire h = rw request h
 opened-still {w} c source mail mail' s s' Replied o request answer acquire h = (
   h.0,
   subst (λ (m : Message w). IsAccess source m (Some h.0) o) (sym request) h.1,
@@ -131,12 +129,10 @@ pub beside-still : {w : ℕ} {mail : AccessMessages w} {s s' : State (List ℕ)}
     → MemoryRelation mail s m → MemoryRelation mail s' m'
 beside-still {w} {mail} {s} {s'} {m} {m'} is h = record {
   memory = is.memory;
-  requests = λ d i.
-      moved_opened d i mail s' (s.uses d i) (s'.uses d i) (m.opened d Requests i) (m'.opened d Requests i) (is.uses d i)
-      (is.opened d Requests i)
-      (opened-still d i mail mail s s' (s.uses d i) (m.opened d Requests i) refl
-      (same_answer (s.uses d i) (mail.answer d i))
-      (same_acquire d s s' (s.uses d i) (λ n. is.acquires d n)) (h.requests d i));
+  requests = λ d i. moved_opened d i mail s' (s.uses d i) (s'.uses d i) (m.opened d Requests i) (m'.opened d Requests i)
+      (is.uses d i) (is.opened d Requests i) (opened-still d i mail mail s s' (s.uses d i) (m.opened d Requests i) refl
+      (same_answer (s.uses d i) (mail.answer d i)) (same_acquire d s s' (s.uses d i) (λ n. is.acquires d n))
+      (h.requests d i));
   releases = λ d i. moved_let (s.lets d i) (s'.lets d i) (m.opened d Releases i) (m'.opened d Releases i) (is.lets d i)
       (is.opened d Releases i) (h.releases d i);
 }
@@ -193,12 +189,10 @@ pub beside-let : {w : ℕ} {c source : ℕ} {l : Option ℕ} {mail : AccessMessa
     {m m' : Machine w} → IsLetGo c source l mail s s' m m' → MemoryRelation mail s m → MemoryRelation mail s' m'
 beside-let {w} {c} {source} {l} {mail} {s} {s'} {m} {m'} is h = record {
   memory = is.memory;
-  requests = λ d i.
-      moved_opened d i mail s' (s.uses d i) (s'.uses d i) (m.opened d Requests i) (m'.opened d Requests i) (is.uses d i)
-      (is.requests d i)
-      (opened-still d i mail mail s s' (s.uses d i) (m.opened d Requests i) refl
-      (same_answer (s.uses d i) (mail.answer d i))
-      (same_acquire d s s' (s.uses d i) (λ n. is.acquires d n)) (h.requests d i));
+  requests = λ d i. moved_opened d i mail s' (s.uses d i) (s'.uses d i) (m.opened d Requests i) (m'.opened d Requests i)
+      (is.uses d i) (is.requests d i) (opened-still d i mail mail s s' (s.uses d i) (m.opened d Requests i) refl
+      (same_answer (s.uses d i) (mail.answer d i)) (same_acquire d s s' (s.uses d i) (λ n. is.acquires d n))
+      (h.requests d i));
   releases = λ d i. elim (place-cases c source d i) [
     | inl same ↦ rw (same.0, same.1) (moved_let l (s'.lets c source) (m'.opened c Releases source)
         (m'.opened c Releases source) (is.lets c source ∙ set_at-same c source l s.lets) refl is.here)

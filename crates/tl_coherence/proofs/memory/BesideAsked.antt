@@ -83,8 +83,7 @@ IsReply o r = ⊤
 
 truth_as : (f : Memory) (n i : ℕ) (new : Block (List ℕ)) (block : ℕ → Block (List ℕ)) → new.truth ≡ (block n).truth
     → IsBlock f i (block i).truth → IsBlock f i (set n new block i).truth
-truth_as f n i new block e h =
-    subst (λ (bytes : List ℕ). IsBlock f i bytes) (sym (set-part (λ (b : Block (List ℕ)). b.truth) n new block e i)) h
+truth_as f n i new block e h = rw (set-part (λ (b : Block (List ℕ)). b.truth) n new block e i) h
 
 pub beside-acquire_asked : {w : ℕ} {caching : ℕ → Bool} (c n source : ℕ) (whole : Bool) (g : Grow) (bytes : List ℕ)
     (o : Op w) {mail : AccessMessages w} {s : State (List ℕ)} {m : Machine w} → IsInvariant caching s
@@ -205,13 +204,11 @@ beside-block_stored {w} c address size value {mail} {s} {m} inv sized word trunk
 
     bytes : (i : ℕ) → (i ≡ n) ⊎ (i ≡ n → ⊥) → IsBlock (with_number address size value m.memory) i
         (set n new s.block i).truth
-    bytes i (inl at) =
-        subst (λ (j : ℕ). IsBlock (with_number address size value m.memory) j (set n new s.block j).truth) (sym at)
+    bytes i (inl at) = rw at
         (subst (λ (b : Block (List ℕ)). IsBlock (with_number address size value m.memory) n b.truth)
         (sym (set-same n new s.block)) here)
-    bytes i (inr other) = subst (λ (b : Block (List ℕ)). IsBlock (with_number address size value m.memory) i b.truth)
-        (sym (set-other n i new s.block other)) (block-unstored address size value i (s.block i).truth m.memory
-        (word_room address size word) other (h.memory i))
+    bytes i (inr other) = rw (set-other n i new s.block other) (block-unstored address size value i (s.block i).truth
+        m.memory (word_room address size word) other (h.memory i))
 
 pub beside-asked : {w : ℕ} (caching : ℕ → Bool) (c : ℕ) (o : Op w) (r : Reply) (h : AbstractState w) (m : Machine w)
     → IsInvariant caching h.state

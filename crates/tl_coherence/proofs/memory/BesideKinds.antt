@@ -57,9 +57,8 @@ pub beside_block : {w : ℕ} (n : ℕ) (new : Block (List ℕ)) {mail : AccessMe
     → new.truth ≡ (s.block n).truth → ((d : ℕ) → (new.pair d).acquiring ≡ ((s.block n).pair d).acquiring)
     → ((d : ℕ) → new.waiting d ≡ (s.block n).waiting d) → MemoryRelation mail s m → MemoryRelation mail s' m
 beside_block {w} n new {mail} {s} s' {m} blocks uses lets truth acquiring waiting h = beside-still (record {
-  memory = λ i. subst (λ (bytes : List ℕ). IsBlock m.memory i bytes)
-      (sym (ap (λ (b : Block (List ℕ)). b.truth) (blocks i) ∙ set-part (λ (b : Block (List ℕ)). b.truth) n new s.block
-      truth i)) (h.memory i);
+  memory = λ i. rw (ap (λ (b : Block (List ℕ)). b.truth) (blocks i) ∙ set-part (λ (b : Block (List ℕ)). b.truth) n new
+      s.block truth i) (h.memory i);
   uses = uses;
   lets = lets;
   opened = λ d pool i. refl;
@@ -105,8 +104,7 @@ beside_served {w} {c} {source} {x} tracker k rest {mail} {s} {m} is h =
     let new : Block (List ℕ) = served_block c false source tracker k (s.block n) in
     let s' : State (List ℕ) = access_served c n source tracker k rest s in
     beside-used (record {
-      memory = λ i. subst (λ (bytes : List ℕ). IsBlock m.memory i bytes)
-          (sym (set-part (λ (b : Block (List ℕ)). b.truth) n new s.block refl i)) (h.memory i);
+      memory = λ i. rw (set-part (λ (b : Block (List ℕ)). b.truth) n new s.block refl i) (h.memory i);
       uses = λ d i. refl;
       lets = λ d i. refl;
       here = is.opened;
@@ -118,7 +116,8 @@ beside_served {w} {c} {source} {x} tracker k rest {mail} {s} {m} is h =
           (λ j. (
             set-part (λ (b : Block (List ℕ)). (b.pair d).acquiring) n new s.block
                 (served_acquiring c false k (s.block n).pair d) j,
-            set-part (λ (b : Block (List ℕ)). b.waiting d) n new s.block refl j,
+            set-part (λ (b : Block (List ℕ)). b.waiting d) n new
+                s.block refl j,
           ));
     }) h
 
@@ -128,8 +127,7 @@ beside_answered : {w : ℕ} {config : Config} {c source : ℕ} {x : MessageA w} 
     ⊎ (cap_probed x.opcode x.param ≡ None) → MemoryRelation mail s m
     → MemoryRelation (record {
       request = mail.request;
-      answer =
-          set_at c source (answers x (s.block (block_at x.address)).memory) mail.answer;
+      answer = set_at c source (answers x (s.block (block_at x.address)).memory) mail.answer;
     })
     (access_answered c (block_at x.address) source (performs x) rest s) (performing ((c, source) ∷ []) m)
 beside_answered {w} {config} {c} {source} {x} rest {mail} {s} {m} is same h =
@@ -217,8 +215,7 @@ beside_ended : {w : ℕ} {caching : ℕ → Bool} {config : Config} (c : ℕ) {q
     → MemoryRelation h.mail h.state m
     → MemoryRelation (record {
       request = h.mail.request;
-      answer =
-          set_at q source (answers (h.request n) (written r (h.state.block n).truth (h.state.block n).memory))
+      answer = set_at q source (answers (h.request n) (written r (h.state.block n).truth (h.state.block n).memory))
           h.mail.answer;
     })
     (report_answers c q n source r (performs (h.request n)) rest h.state)

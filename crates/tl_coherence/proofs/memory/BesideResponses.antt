@@ -138,8 +138,7 @@ beside-release_ack {w} c n rest {mail} {s} {m} inv acked h =
     let s' : State (List ℕ) = release_ack_taken c n rest s in
     subst (λ (o : Option (Open w)). MemoryRelation mail s' (after_end c Releases source o m)) (sym released.1)
     (beside-let (record {
-      memory = λ i. subst (λ (bytes : List ℕ). IsBlock m.memory i bytes)
-          (sym (set-part (λ (y : Block (List ℕ)). y.truth) n new s.block refl i)) (h.memory i);
+      memory = λ i. rw (set-part (λ (y : Block (List ℕ)). y.truth) n new s.block refl i) (h.memory i);
       uses = λ e i. refl;
       lets = λ e i. refl;
       here = open-here c Releases source None m;

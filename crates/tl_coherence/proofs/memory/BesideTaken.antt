@@ -154,8 +154,7 @@ beside-performed {w} {config} {c} {source} {a} bytes {mail} {s} s' {m} is same_r
     record { request = mail.request; answer = set_at c source (answers a bytes) mail.answer } in
     let now : Open w = record {
       asked = Op.Access (Message.A is.opened.0);
-      answer =
-          Some (effect (Message.A is.opened.0) m.memory).1;
+      answer = Some (effect (Message.A is.opened.0) m.memory).1;
     } in
     let reply_is : (effect (Message.A is.opened.0) m.memory).1 ≡ (effect (Message.A a) (bytes_at n bytes)).1 =
     cc (

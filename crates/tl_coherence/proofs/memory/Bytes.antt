@@ -122,8 +122,7 @@ opened-ranged {w} client at n o f m bytes is was =
     λ c pool source. elim [ true ↦ is | false ↦ was.opened c pool source ] in
     record {
       memory = bytes;
-      opened =
-          λ c pool source. go c pool source ((c == client) && (same_pool pool at && (source == n)));
+      opened = λ c pool source. go c pool source ((c == client) && (same_pool pool at && (source == n)));
     }
 
 started-ranged : {w : ℕ} (client : ℕ) (o : Op w) (n : ℕ) {m : Machine w} → IsRangedOp o → IsRangedMachine m

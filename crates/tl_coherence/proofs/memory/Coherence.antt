@@ -166,9 +166,8 @@ coherent-matched {w} {config} {log} {s} h =
       copies = λ c n bytes copy.
           let some = held-some ((s.block n).pair c).held
           (sym (sym (ap is_some copy) ∙ (h.kept c).copies_held n ∙ ap holds ((h.known c).held_is n))) in
-          let same : (s.block n).truth ≡ bytes = sym ((h.invariant.blocks n).copies c some) ∙ some_is
-          ((s.block n).copy c)
-          bytes (sym (h.copies c n some) ∙ copy) in
+          let same : (s.block n).truth ≡ bytes = sym ((h.invariant.blocks n).copies c some)
+          ∙ some_is ((s.block n).copy c) bytes (sym (h.copies c n some) ∙ copy) in
           subst (λ (b : List ℕ). IsBlock (one_memory_after config log).memory n b) same (h.beside.memory n);
       kept = λ c n. (h.kept c).copies_held n;
       opened = λ c pool source. opened-started config log c pool source;

@@ -111,8 +111,7 @@ module _ {w : ℕ} (config : Config) (log : Log w) (mail : AccessMessages w) (re
   pub closed-when-counted : IsClosed s
   closed-when-counted = record {
     uses = λ c source. use_is c source (terms_at config c) refl;
-    lets =
-        λ c source. let_is c source (terms_at config c) refl;
+    lets = λ c source. let_is c source (terms_at config c) refl;
   }
     where
       use_is : (c source : ℕ) (o : Option EndConfig) → terms_at config c ≡ o → s.uses c source ≡ SourceFree

@@ -159,8 +159,7 @@ module _ {w : ℕ} (config : Config) (log : Log w) (mail : AccessMessages w) (re
       silent = record {
         b = by_client Channel.B empty_b;
         c = by_client Channel.C empty_c;
-        d =
-            by_client Channel.D empty_d;
+        d = by_client Channel.D empty_d;
         e = by_client Channel.E empty_e;
       }
 

@@ -249,10 +249,7 @@ module _ {w : ℕ} (config : Config) (log : Log w) (h : AbstractState w) (width 
       → is_moving (stepped config (Deliver link ch) (system_after config log)).outcome ≡ b
       → IsCounted (Deliver link ch) (stepped config (Deliver link ch) (system_after config log)).outcome
       (abstract_step config (Deliver link ch) (system_after config log) h)
-  counted-delivery link ch false still =
-      subst (λ (z : AbstractState w). IsCounted (Deliver link ch)
-      (stepped config (Deliver link ch) (system_after config log)).outcome z)
-      (sym (followed-still config link ch (system_after config log) h still))
+  counted-delivery link ch false still = rw (followed-still config link ch (system_after config log) h still)
       (counted-as link ch (stepped config (Deliver link ch) (system_after config log)).outcome h false false
       (still-ends (stepped config (Deliver link ch) (system_after config log)).outcome still) unopened)
   counted-delivery link ch true moving = go ch (first-moved config link ch (system_after config log) moving) moving

@@ -20,9 +20,7 @@ pub counted : {w : ℕ} (config : Config) (log : Log w) → IsWidth w → AreTyp
 unfolding shadow AreTyped IsLog
 counted config [] width typed is = counted-first config
 counted {w} config (x ∷ log) width typed is =
-    subst (λ (o : Outcome w). AreCounted config ((x.0, o) ∷ log) (abstract_step config x.0 (system_after config log)
-    (shadow config log)).state) (sym is.0)
-    (counted-next (shadow config log) x.0 width (matched config log width typed.1 is.1)
+    rw is.0 (counted-next (shadow config log) x.0 width (matched config log width typed.1 is.1)
     (counted config log width typed.1 is.1))
 
 -- a configuration without a fault has a tracker

@@ -249,11 +249,9 @@ release_asked-kept {X} {caching} c n source r {s} inv inside closed calm kept fi
       serves = λ d. names-block serves_of (serves_with d) (s.uses d) n new s.block (λ i. refl) (inv.named.serves d);
       releases = names-set_at is_of releases_with c source (Some n) s.lets n new s.block
           (rw (same_number n, set-same c after old, set-same c source (s.block n).release_source, same_number source)
-          refl)
-          (λ m ne. rw closed (ne_eqb m n ne))
+          refl) (λ m ne. rw closed (ne_eqb m n ne))
           (λ i ne. rw (set-same c after old, set-same c source (s.block n).release_source, ne_eqb i source ne, kept)
-          refl)
-          (λ d i ne. rw (set-other c d after old ne, set-other c d source (s.block n).release_source ne) refl)
+          refl) (λ d i ne. rw (set-other c d after old ne, set-other c d source (s.block n).release_source ne) refl)
           inv.named.releases;
       trackers = names-block is_of tracks_with s.tracked n new s.block (λ i. refl) inv.named.trackers;
     })

@@ -51,8 +51,7 @@ granted_at_once-block {caching} {r} tracker {whole} {g} {gift} {b} h is =
       alone = λ i j trunk probed ne. rw (quiet_same j) (quiet j);
       one_owner = λ i j trunk ne. owner (gives whole g gift is.fits) i j trunk ne;
       outside = outside-set caching r after b.pair (busy-inside caching r b.pair (λ p. not (is_unacquired p.acquiring))
-          refl
-          (rw is.wants refl) h.outside) h.outside;
+          refl (rw is.wants refl) h.outside) h.outside;
       copies = λ d some. h.copies d (rw (held_same d) at some);
       memory = λ none. h.memory (λ d. not_out (b.pair d) (view b.service d) (low d (cases_eq d r)));
     }

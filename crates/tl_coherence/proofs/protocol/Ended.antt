@@ -203,8 +203,7 @@ report_answers-kept {X} caching c q n r f source k rest s inv first last =
           ((rw used at (inv.named.acquires q source n)) ∙ sym (acquires_same q source)) (λ m ne. rw used refl)
           (λ i ne. acquires_same q i) (λ d i ne. acquires_same d i) inv.named.acquires;
       serves = names-set_at serves_of serves_with q source Replied s.uses n new s.block refl
-          (λ m ne. rw used (sym (ne_eqb m n ne)))
-          (λ i ne. rw (last.waits, same_number q, ne_eqb i source ne) refl)
+          (λ m ne. rw used (sym (ne_eqb m n ne))) (λ i ne. rw (last.waits, same_number q, ne_eqb i source ne) refl)
           (λ d i ne. rw (last.waits, ne_eqb d q ne) refl) inv.named.serves;
       releases = λ d. names-block is_of (releases_with d) (s.lets d) n new s.block
           (λ i. rw (set-part (λ (p : ClientBlock). p.letting) c after old refl d) refl) (inv.named.releases d);

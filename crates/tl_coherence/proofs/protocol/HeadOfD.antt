@@ -156,8 +156,7 @@ ack_message source = record {
   size = 6;
   source = source;
   sink = 0;
-  denied =
-      false;
+  denied = false;
   payload = no_payload;
   corrupt = 0;
   small = lit≤ tt;

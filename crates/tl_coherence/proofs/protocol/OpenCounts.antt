@@ -102,6 +102,5 @@ balance-same config s s' uses lets links =
     let l = marked-same is_let (clients_in config) (sources_in config) s'.lets s.lets lets in
     record {
       requests = omega (arith, u, a, requests-split config s, requests-split config s');
-      releases =
-          omega (arith, l);
+      releases = omega (arith, l);
     }

@@ -64,8 +64,7 @@ module _ {X : Type 0} (caching : ℕ → Bool) (s : State X) (inv : IsInvariant 
   unfolding count
   closed-when_bare bare = record {
     uses = λ c source. use_is c source (s.uses c source) refl;
-    lets =
-        λ c source. let_is c source (s.lets c source) refl;
+    lets = λ c source. let_is c source (s.lets c source) refl;
   }
     where
       free : (n : ℕ) → (s.block n).service ≡ Free

@@ -44,8 +44,7 @@ pub gentle-report : (r : Report) (p : ClientBlock) → same_perm (report_left r)
     → IsGentle p (after_report r p)
 gentle-report r p e = record {
   trunk = λ f. report_trunk r p.recorded e f;
-  none =
-      λ f. report_none r p.recorded e f;
+  none = λ f. report_none r p.recorded e f;
   quiet = λ f. refl;
 }
 
@@ -66,8 +65,7 @@ gentle-prune : (r : Prune) (p : ClientBlock) → same_perm (prune_left r) p.reco
     → IsGentle p (after_release_taken r p)
 gentle-prune r p e = record {
   trunk = λ f. prune_trunk r p.recorded e f;
-  none =
-      λ f. prune_none r p.recorded e f;
+  none = λ f. prune_none r p.recorded e f;
   quiet = λ f. f;
 }
 

@@ -227,8 +227,7 @@ acquire_taken-kept {w} {caching} clients p c n tracker rest h inv plain first fr
             inv first free e low_cap unused refl one.0 one.1
         served false f =
             let spared : (d : ℕ) → (d ≡ c → ⊥) → is_above (cap_asked (AcquireOpen whole g)) (b.pair d).recorded
-            ≡ false =
-            λ d ne. unprobed clients caching c true (cap_asked (AcquireOpen whole g)) b.pair plain
+            ≡ false = λ d ne. unprobed clients caching c true (cap_asked (AcquireOpen whole g)) b.pair plain
             (inv.blocks n).outside f d (ne_eqb d c ne) in
             acquire_granted-kept n tracker rest inv first (record {
               free = free;

@@ -243,8 +243,7 @@ served-event {caching} r n {own} source tracker {k} rest {s} inv first free asks
     record {
       well = served-block r source tracker (inv.blocks n) free asks sourced w probed;
       moved = λ d ch. any_moved ch (if d == r then Pops (kind_served own) (number_served own n source) else Stays) n
-          (s.link d) rest (d == r)
-          (is_probed r own k ((s.block n).pair d).recorded d) (pops d) (stays (d == r));
+          (s.link d) rest (d == r) (is_probed r own k ((s.block n).pair d).recorded d) (pops d) (stays (d == r));
       own = λ d ch. any_own ch n source own (d == r) (is_probed r own k ((s.block n).pair d).recorded d);
       fits = λ d j t. before j d (shown j d (served_block r own source tracker k (s.block n)))
           (served_moves r own n source k (s.block n).pair d (channel_for j))

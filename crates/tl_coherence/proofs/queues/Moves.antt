@@ -135,8 +135,7 @@ pub invariant-moved_use : {X : Type 0} {caching : ℕ → Bool} {n : ℕ} {b : B
       block = set n b s.block;
       link = link;
       uses = set_at c source u s.uses;
-      tracked =
-          tracked;
+      tracked = tracked;
     })
 invariant-moved_use {caching} {n} {b} {link} {moves} c source u tracked {s} inv event asked replied bare named =
     invariant-moved_with (set_at c source u s.uses) s.lets tracked inv event
@@ -264,14 +263,12 @@ invariant-moved_access {c} {source} {u} {l} {moves} {s} inv event = record {
     | inr other ↦ rw (set-other c d l s.link other) (inv.transfers d k t)
   ];
   requests = holds-set_at Request (λ d. moves_at c moves d Channel.A) (λ d. (s.link d).a) (λ d. (set c l s.link d).a)
-      is_asked s.uses c source u (λ d. moved d Channel.A)
-      (agrees_as Request source (moves_at c moves c Channel.A) (moves Channel.A) (is_asked (s.uses c source))
-      (is_asked u) (moves-here c moves Channel.A) event.asked)
+      is_asked s.uses c source u (λ d. moved d Channel.A) (agrees_as Request source (moves_at c moves c Channel.A)
+      (moves Channel.A) (is_asked (s.uses c source)) (is_asked u) (moves-here c moves Channel.A) event.asked)
       (λ d ne. (bare-elsewhere c moves d ne).0) inv.requests;
   answers = holds-set_at Answer (λ d. moves_at c moves d Channel.D) (λ d. (s.link d).d) (λ d. (set c l s.link d).d)
-      is_replied s.uses c source u (λ d. moved d Channel.D)
-      (agrees_as Answer source (moves_at c moves c Channel.D) (moves Channel.D) (is_replied (s.uses c source))
-      (is_replied u) (moves-here c moves Channel.D) event.replied)
+      is_replied s.uses c source u (λ d. moved d Channel.D) (agrees_as Answer source (moves_at c moves c Channel.D)
+      (moves Channel.D) (is_replied (s.uses c source)) (is_replied u) (moves-here c moves Channel.D) event.replied)
       (λ d ne. (bare-elsewhere c moves d ne).1) inv.answers;
   own_kinds = λ d ch k i off. elim (cases_eq d c) [
     | inl same ↦ rw (same, set-same c l s.link) (own_kinds-moved ch (moves ch) (packets_on ch (s.link c))

@@ -40,8 +40,7 @@ client_below config c terms is =
       level = x.level;
       profile = config.profile;
       sources = x.sources;
-      blocks =
-          config.blocks;
+      blocks = config.blocks;
     }) o ≡ Some terms → c < length config.clients.items =
     elim [ None ↦ λ e f. absurd cc | Some x ↦ λ e f. slice_get_within config.clients.items c x e ] in
     go (slice_get config.clients.items c) refl is
@@ -99,8 +98,7 @@ first-some config ch link (suc n) s d e =
         → (if b then Some (record { 0 = link }, ch) else first_movable config ch (link + 1) n s) ≡ Some d
         → (first_movable config ch (link + 1) n s ≡ Some d → is_movable config d.0.0 d.1 s ≡ true)
         → is_movable config d.0.0 d.1 s ≡ true
-    go true f g rest = subst (λ (i : Link × Channel). is_movable config i.0.0 i.1 s ≡ true)
-        (same_Some (record { 0 = link }, ch) d g) f
+    go true f g rest = rw (← (same_Some (record { 0 = link }, ch) d g)) f
     go false f g rest = rest g
 
 by-either : {X : Type 0} (a b : Option X) (x : X) (P : Type 0) → (a ≡ Some x → P) → (b ≡ Some x → P)

@@ -53,8 +53,7 @@ data-few {w} m width = beats-few (Message.D (record {
   source = 0;
   sink = 0;
   denied = false;
-  payload =
-      m.payload;
+  payload = m.payload;
   corrupt = 0;
   small = m.small;
 })) width

@@ -46,8 +46,7 @@ asking {caching} {s} n q true source k inv e =
     let viewed : view (s.block n).service q ≡ Own = rw (e, same_number q) refl in
     record {
       at = (s.block n).source q;
-      used =
-          source_of_acquire q n inv (owns_ask ((s.block n).pair q) (view (s.block n).service q)
+      used = source_of_acquire q n inv (owns_ask ((s.block n).pair q) (view (s.block n).service q)
           ((inv.blocks n).phases q) (rw viewed refl));
     }
 asking {caching} {s} n q false source k inv e = record { at = source; used = serving-use caching s n q source k inv e }
@@ -189,11 +188,9 @@ module _ {w : ℕ} (config : Config) (caching : ℕ → Bool) (n : ℕ) (moves :
       record {
         serves = λ d i e f. probes;
         acquires = λ d i e f. acquire-stays config caching n moves mail mail' s s' showing c ch rest rest' popped size
-            answer d n
-            (wants-used showing.before d i n e) (rw same refl) (rw same refl) probes;
+            answer d n (wants-used showing.before d i n e) (rw same refl) (rw same refl) probes;
         lets = λ d i e f. let-stays config caching n moves mail mail' s s' showing c ch rest rest' popped size answer d
-            n
-            (rw same refl);
+            n (rw same refl);
       }
 
   module _ (block : IsBlockNoMore config caching n moves mail mail' s s' showing c ch rest rest' popped size answer)

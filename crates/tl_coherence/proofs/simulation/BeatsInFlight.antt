@@ -225,8 +225,7 @@ fit_done {w} terms (Op.Release n p) e free typed copies =
     record {
       long = one.0;
       ours = one.1;
-      inside =
-          release_inside w terms.blocks p s n (copy_at e n) (first_false (nat_le terms.blocks n) _ free.b5);
+      inside = release_inside w terms.blocks p s n (copy_at e n) (first_false (nat_le terms.blocks n) _ free.b5);
     }
 fit_done terms (Op.Access (Message.A m)) e free typed copies =
     record { long = typed; ours = tt; inside = first_false (nat_le terms.blocks (block_at m.address)) _ free.b5 }

@@ -37,13 +37,11 @@ access_answered-shown {w} {caching} c n source f rest m mail {s} inv inv' first 
       moves = (moves_at c (answer_moves source));
       showing = showing-block n new (moves_at c (answer_moves source)) mail mail' inv inv'
           (moved-at c (answer_moves source) (answered_link (packet Answer source) rest (s.link c)) s.link moved)
-          (λ i. refl)
-          (alike-bytes (s.block n) new refl refl refl refl refl bytes) (λ d i e g. refl)
+          (λ i. refl) (alike-bytes (s.block n) new refl refl refl refl refl bytes) (λ d i e g. refl)
           (λ d i e g. answers d i e (cases_eq d c) (cases_eq i source));
       fits = fits-at c Channel.A (pushes_of (Some m)) (answer_moves source)
-          (λ d k i. message_of mail' s' d (packet k i))
-          (λ at. fits_pushed (same_channel at Channel.A) m Channel.D at (answer_moves source at)
-          (λ k i. message_of mail' s' c (packet k i)) chan (fits at));
+          (λ d k i. message_of mail' s' d (packet k i)) (λ at. fits_pushed (same_channel at Channel.A) m Channel.D at
+          (answer_moves source at) (λ k i. message_of mail' s' c (packet k i)) chan (fits at));
     }
   where
     mail' : AccessMessages w

@@ -56,8 +56,7 @@ delivered-cases {w} {config} {mail} {request} {s} {sys} link ch P width h none k
     event = packet_taken config (next_tracker sys) link.0 (packets_on ch (s.link link.0)) before
 
     taken : (x : Beat w) (queue : List (Beat w)) → IsDelivery config mail s sys link ch x queue → P event
-    taken x queue d = subst (λ (xs : List Packet). P (packet_taken config (next_tracker sys) link.0 xs before))
-        (sym d.first.tokens) (kinds x queue d)
+    taken x queue d = rw d.first.tokens (kinds x queue d)
 
     either : (x y : Bool) → (x ≡ true → y ≡ true → P event) → P (if x && y then event else before)
     either true true both = both refl refl

@@ -104,8 +104,7 @@ fresh-matched {w} config = record {
   opened = λ c. record {
     requests = λ source. refl;
     releases = λ source. refl;
-    released =
-        λ source n some. absurd cc;
+    released = λ source n some. absurd cc;
     sizes = λ source n some. absurd cc;
   };
   kept = λ c. kept-fresh w;

@@ -48,8 +48,7 @@ probe_ready {w} {config} {log} {mail} {request} {s} {sys} link n rest {x} {queue
         width h at beats first next in
         let step : is_moving (stepped config (Deliver link Channel.B) sys).outcome ≡ false =
         ap (λ (i : Step w). is_moving i.outcome) (stepped-to-client config link Channel.B sys terms x queue at beats
-        refl)
-        ∙ ap (λ (o : Offered w). is_moving (client_took link.0 Channel.B x queue o sys).outcome)
+        refl) ∙ ap (λ (o : Offered w). is_moving (client_took link.0 Channel.B x queue o sys).outcome)
         (probed.waits_for waits) in
         absurd (let no : true ≡ false = sym moves ∙ step in cc)
 

@@ -26,8 +26,7 @@ no_level config c is =
     → option_map {U = EndConfig} (λ x. record {
       level = x.level;
       profile = config.profile;
-      sources =
-          x.sources;
+      sources = x.sources;
       blocks = config.blocks;
     }) o ≡ None → option_map (λ x. x.level) o ≡ None =
     elim [ None ↦ λ e. refl | Some x ↦ λ e. absurd cc ] in

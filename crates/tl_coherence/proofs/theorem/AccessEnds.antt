@@ -188,7 +188,8 @@ ends-answer {w} {config} {log} {link} {ch} {h} {x} {source} {f} width is end e =
       ends_answered (level_of config c) (sourced n it.asked) end.response it.reply _
           width it.lawful (response_is ∙ it.answer) it.reach (whole_response end),
       finish_sourced n it.asked it.reply,
-    ) in
+    )
+    in
     subst (λ (i : Finish). Ends (m.opened c (pool_of i) source) x i) (sym fin)
     (subst (λ (i : ℕ). Ends (m.opened c (pool_of (finish_with (Message.A it.asked) it.reply)) i) x
     (finish_with (Message.A it.asked) it.reply)) (sym from)

@@ -56,8 +56,7 @@ performs-answering : {w : ℕ} (l : List (ℕ × ℕ)) (h : AbstractState w) (be
     → IsAnswering l h before next → Performs l next (performing l next)
 performs-answering l h before next (inl none) = performs-none l next none
 performs-answering {w} l h before next (inr (q, source, one, opened, still)) =
-    subst (λ (m : Machine w). Performs l m (performing l m)) (sym still)
-    (once-performs l h before (inr (q, source, one, opened)))
+    rw still (once-performs l h before (inr (q, source, one, opened)))
 
 still-none : {w : ℕ} (config : Config) (link : Link) (ch : Channel) (sys : System w)
     → is_moving (stepped config (Deliver link ch) sys).outcome ≡ false
@@ -108,8 +107,7 @@ answering-delivered {w} config log link ch h width is = go (is_moving (stepped c
         let t = client-moves config link at sys terms x queue known beats theirs moving in
         let fit : IsFitAnswer config.blocks (Ok (t.verdict_is, t.message)) =
         subst (IsFitAnswer config.blocks) t.answer
-        (fit-taken config.blocks x (sys.clients c) (head at x queue beats).inside
-        (copy-long is c)) in
+        (fit-taken config.blocks x (sys.clients c) (head at x queue beats).inside (copy-long is c)) in
         inl (ap (λ (s : Step w). accesses_answered s.handed) t.step_is
         ∙ fit-quiet config.blocks c t.verdict_is t.message fit)
 

@@ -67,8 +67,7 @@ lone_started : {w : ℕ} {config : Config} {log : Log w} {c n source : ℕ} {op 
     → IsLone config.profile c n source a (shadow config ((Ask c op, Replied (Started source)) ∷ log)).state
 unfolding shadow IsLog
 lone_started {w} {config} {log} {c} {n} {source} {op} {a} is =
-    subst (λ (o : Outcome w). IsLone config.profile c n source a
-    (abstract_step_by config (Ask c op) o (system_after config log) (shadow config log)).state) is.given.is_log.0
+    rw (← is.given.is_log.0)
     (is.begins (nothing_open (given-before config (Ask c op, Replied (Started source)) log is.given) is.alone))
 
 -- ---- as it is drained
@@ -109,8 +108,7 @@ lone_drained {config} (suc k) {log} {c} {n} {source} {a} is =
     lone_drained k
     (record {
       given = given_delivering o is.given;
-      lone =
-          lone_next o is.given is.lone;
+      lone = lone_next o is.given is.lone;
     })
 
 -- ---- what it has brought
@@ -169,6 +167,5 @@ alone_whole config log client block source n bytes none given drains =
     (record {
       given = given;
       alone = none;
-      begins = λ closed. lone_asked config.profile client block source true
-          (whole_grow before) bytes closed;
+      begins = λ closed. lone_asked config.profile client block source true (whole_grow before) bytes closed;
     }) drains)

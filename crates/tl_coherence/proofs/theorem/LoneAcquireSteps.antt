@@ -77,8 +77,7 @@ steady_served : (r : ℕ) (own : Bool) (k : Cap) (pair : ℕ → ClientBlock) (d
 steady_served r own k pair d = go (own && (d == r))
   where
     go : (b : Bool) → IsSteady (pair d) (if b then pair d else record (pair d) {
-      probing =
-          (served_pair r false k pair d).probing;
+      probing = (served_pair r false k pair d).probing;
     })
     go true = (refl, refl)
     go false = (refl, refl)
@@ -255,11 +254,9 @@ module _ (p : Profile) (c n source : ℕ) (a : AcquirePhase) where
         others = λ e i else_. uses_are e i ∙ each-set_at (λ j k (v : SourceState). IsElsewhere c source j k
             → v ≡ SourceFree) d src SourceFree h.state.uses (λ any. refl) is.others e i else_;
         brings = brings_granted p n a (after.uses c source) ((after.block n).pair c) (cap_right due.k)
-            (uses_are c source ∙ ap₂ (set_at d src SourceFree h.state.uses) (sym mine.0.0) (sym mine.0.1) ∙ set_at-same
-            d
-            src SourceFree h.state.uses)
-            (ap₂ (λ (i j : ℕ). ((after.block i).pair j).held) (sym mine.1) (sym mine.0.0) ∙ held_granted config tracker
-            rest h due)
+            (uses_are c source ∙ ap₂ (set_at d src SourceFree h.state.uses) (sym mine.0.0) (sym mine.0.1)
+            ∙ set_at-same d src SourceFree h.state.uses) (ap₂ (λ (i j : ℕ). ((after.block i).pair j).held) (sym mine.1)
+            (sym mine.0.0) ∙ held_granted config tracker rest h due)
             (subst (λ (x : AcquirePhase). grown p x (cap_right due.k) ≡ true) wants
             (grows p due.whole due.g due.k (fits_cap ((h.state.block m).pair d).recorded ((h.state.block m).pair d).held
             due.data_too due.k due.whole due.g due.fits) gives));

@@ -1,35 +1,29 @@
 -- What is owed falls as a beat is taken that isn't the last of its message.
 use Rattle.tl_coherence.proofs.bound.Imports.{Beat, Channel, beats_of, Config, IsInvariant, channel_for, ClientBlock}
-use Rattle.tl_coherence.proofs.bound.Imports.{Own, Granting, ProbePhase, NoProbe, ProbeSent, ProbeAnswered, NoRelease}
-use Rattle.tl_coherence.proofs.bound.Imports.{ReleaseSent, ReleaseAcked, is_unprobed, Left, probing_weight, pair_weight}
-use Rattle.tl_coherence.proofs.bound.Imports.{probes_weight, acquire_weight, letting_weight, rank, Waits, State}
-use Rattle.tl_coherence.proofs.bound.Imports.{SourceFree, Asked, InService, Replied, Acquires, packet, view}
-use Rattle.tl_coherence.proofs.bound.Imports.{is_unserved, is_wanting, is_answered, packets_on, AccessMessages}
-use Rattle.tl_coherence.proofs.bound.Imports.{message_of_kind, System, Kind, Request, Acquire, Probe, ProbeAck, Release}
-use Rattle.tl_coherence.proofs.bound.Imports.{Answer, Grant, ReleaseAck, GrantAck}
+use Rattle.tl_coherence.proofs.bound.Imports.{Own, Granting, ProbePhase, ProbeAnswered, ReleaseSent, is_unprobed, Left}
+use Rattle.tl_coherence.proofs.bound.Imports.{probing_weight, pair_weight, probes_weight, acquire_weight}
+use Rattle.tl_coherence.proofs.bound.Imports.{letting_weight, rank, Waits, State, SourceFree, Asked, InService, Replied}
+use Rattle.tl_coherence.proofs.bound.Imports.{Acquires, packet, view, is_unserved, is_wanting, is_answered, packets_on}
+use Rattle.tl_coherence.proofs.bound.Imports.{AccessMessages, message_of_kind, System, Kind, Request, Acquire, ProbeAck}
+use Rattle.tl_coherence.proofs.bound.Imports.{Release, Answer, Grant}
 use Rattle.std.proofs.Common.{◌≡◌, ℕ, ◌+◌, ◌<◌, ◌≤◌, Bool, true, false, List, ◌∷◌, refl, sym, ◌∙◌, arith, ◌⊎◌, inl, inr}
 use Rattle.std.specs.Prelude.{if◌then◌else◌, Option, Some, None, length}
 use Rattle.std.proofs.lemmas.Bool.{cases_eq}
-use Rattle.tl_coherence.specs.protocol.Invariant.{is_asked, is_replied}
-use Rattle.tl_coherence.specs.protocol.Phase.{View, Idle, Other, Acknowledging, GrantedOther, ReleasePhase}
-use Rattle.tl_coherence.specs.bound.Rank.{let_weight}
+use Rattle.tl_coherence.specs.{protocol.Invariant.is_asked, protocol.Invariant.is_replied, protocol.Phase.View}
+use Rattle.tl_coherence.specs.{protocol.Phase.ReleasePhase, bound.Rank.let_weight}
 use Rattle.tl_coherence.specs.protocol.Tokens.{is_granting, is_releasing, shown}
-use Rattle.tl_coherence.proofs.protocol.Capacities.{request_named, answer_named, acquire_named}
-use Rattle.tl_coherence.proofs.protocol.TokenNames.{shown_there, shows_it}
-use Rattle.tl_coherence.proofs.protocol.Capacities.{grant_named, release_named}
-use Rattle.tl_coherence.proofs.queues.Distinct.{first-there}
+use Rattle.tl_coherence.proofs.protocol.Capacities.{request_named, answer_named, acquire_named, grant_named}
+use Rattle.tl_coherence.proofs.protocol.Capacities.{release_named}
+use Rattle.tl_coherence.proofs.{protocol.TokenNames.shown_there, protocol.TokenNames.shows_it}
+use Rattle.tl_coherence.proofs.{queues.Distinct.first-there, queues.FirstToken.IsFirst, rank.Frames.unserved-weight}
+use Rattle.tl_coherence.proofs.{queues.Phases.and_right, protocol.Room.is_light, protocol.Room.light-one}
+use Rattle.tl_coherence.proofs.{queues.Rendered.same_kind_again, queues.Tokens.same_number}
+use Rattle.tl_coherence.proofs.{protocol.BothParts.not-answered}
 use Rattle.tl_coherence.proofs.rank.RankDecreases.{IsNoMore, owed_use, owed_use', use-falls, let-falls, use-no-more}
 use Rattle.tl_coherence.proofs.rank.RankDecreases.{probes-no-more, acquire-no-more, total-falls}
-use Rattle.tl_coherence.proofs.queues.FirstToken.{IsFirst}
-use Rattle.tl_coherence.proofs.rank.Frames.{unserved-weight}
 use Rattle.tl_coherence.proofs.protocol.BeatsRemaining.{beats_left, taken_of, is_front, same_channels}
 use Rattle.tl_coherence.proofs.rank.RankParts.{AreClients, IsAsking, asking, IsWaited, waited-probing, open_use}
-use Rattle.tl_coherence.proofs.queues.Phases.{and_right}
 use Rattle.tl_coherence.proofs.simulation.Popped.{unfinished_at, first-left, kind_channel}
-use Rattle.tl_coherence.proofs.protocol.Room.{is_light, light-one}
-use Rattle.tl_coherence.proofs.queues.Rendered.{same_kind_again}
-use Rattle.tl_coherence.proofs.queues.Tokens.{same_number}
-use Rattle.tl_coherence.proofs.protocol.BothParts.{not-answered}
 
 -- The receiver of channel ch of client c's link has one beat more, and the others have what they had.
 pub record IsBegun {w : ℕ} (c : ℕ) (ch : Channel) (x : Beat w) (rest rest' : ℕ → Channel → List (Beat w)) : Type 0 where
@@ -45,12 +39,10 @@ module _ {X : Type 0} (config : Config) (size : ℕ) (left left' : Left) (answer
 
   probing_less : (l l' : ℕ) (p : ClientBlock) → l' ≤ l → probing_weight size l' p.recorded p.probing ≤ probing_weight
       size l p.recorded p.probing
-  probing_less l l' p less = go p.probing
-    where
-      go : (x : ProbePhase) → probing_weight size l' p.recorded x ≤ probing_weight size l p.recorded x
-      go NoProbe = omega arith
-      go (ProbeSent k) = omega arith
-      go (ProbeAnswered r) = less
+  probing_less l l' p less =
+      let go : (x : ProbePhase) → probing_weight size l' p.recorded x ≤ probing_weight size l p.recorded x =
+      elim [ ProbeAnswered r ↦ less | x ↦ omega arith ] in
+      go p.probing
 
   pair_less : (m d : ℕ) → pair_weight size left' m d ((s.block m).pair d) ≤ pair_weight size left m d
       ((s.block m).pair d)
@@ -60,19 +52,16 @@ module _ {X : Type 0} (config : Config) (size : ℕ) (left left' : Left) (answer
   probes_less m = probes-no-more config size left left' answer answer s s m (λ d lt. pair_less m d)
 
   letting_less : (l l' : ℕ) (x : ReleasePhase) → l' ≤ l → letting_weight l' x ≤ letting_weight l x
-  letting_less l l' NoRelease less = omega arith
   letting_less l l' (ReleaseSent r) less = omega (arith, less)
-  letting_less l l' ReleaseAcked less = omega arith
+  letting_less l l' x less = omega arith
 
   pub none-more : IsNoMore config size left left' answer answer s s
   none-more = record {
-    uses = λ c i.
-        use-no-more config size left left' answer answer s s c i (s.uses c i) refl refl (omega arith)
+    uses = λ c i. use-no-more config size left left' answer answer s s c i (s.uses c i) refl refl (omega arith)
         (λ u. le c Request i) (λ u. le c Answer i) (λ m u. probes_less m)
         (λ m u. acquire-no-more size (left c Acquire m) (left' c Acquire m) (left c Grant m) (left' c Grant m)
-        (probes_weight number size left m (s.block m))
-        (probes_weight number size left' m (s.block m)) (view (s.block m).service c) (λ v. le c Acquire m)
-        (le c Grant m) (probes_less m));
+        (probes_weight number size left m (s.block m)) (probes_weight number size left' m (s.block m))
+        (view (s.block m).service c) (λ v. le c Acquire m) (le c Grant m) (probes_less m));
     lets = λ c i. lets_less c (s.lets c i);
     acks = λ c. omega arith;
   }
@@ -107,10 +96,8 @@ module _ {X : Type 0} (config : Config) (size : ℕ) (left left' : Left) (answer
 
       acquire_owes : (m : ℕ) → s.uses c ((s.block m).source c) ≡ Acquires m
           → acquire_weight size (left' c Acquire m) (left' c Grant m) (probes_weight number size left' m (s.block m))
-          (view (s.block m).service c) + 1
-          ≤ acquire_weight size (left c Acquire m) (left c Grant m) (probes_weight number size left m (s.block m))
-          (view (s.block m).service c)
-          → Falls
+          (view (s.block m).service c) + 1 ≤ acquire_weight size (left c Acquire m) (left c Grant m)
+          (probes_weight number size left m (s.block m)) (view (s.block m).service c) → Falls
       acquire_owes m used less =
           use_owes c ((s.block m).source c) (λ closed. absurd (let both : Acquires m ≡ SourceFree = sym used ∙ closed in
           cc)) (rw used less)
@@ -128,32 +115,22 @@ module _ {X : Type 0} (config : Config) (size : ℕ) (left left' : Left) (answer
           ) (omega (arith, less)))
 
       grant_less : (m : ℕ) → left' c Grant m + 1 ≤ left c Grant m → shown Grant c (s.block m) ≡ true → Falls
-      grant_less m less e = acquire_owes m (grant_named caching s c m inv e) (go (view (s.block m).service c) e)
-        where
-          go : (v : View) → is_granting v ≡ true
-              → acquire_weight size (left' c Acquire m) (left' c Grant m)
-              (probes_weight number size left' m (s.block m))
-              v + 1 ≤ acquire_weight size
-              (left c Acquire m) (left c Grant m) (probes_weight number size left m (s.block m)) v
-          go (Granting d k) f = omega (arith, less)
-          go Idle f = absurd cc
-          go Own f = absurd cc
-          go (Other k) f = absurd cc
-          go Acknowledging f = absurd cc
-          go GrantedOther f = absurd cc
+      grant_less m less e =
+          let go : (v : View) → is_granting v ≡ true → acquire_weight size (left' c Acquire m) (left' c Grant m)
+          (probes_weight number size left' m (s.block m)) v + 1 ≤ acquire_weight size (left c Acquire m)
+          (left c Grant m) (probes_weight number size left m (s.block m)) v =
+          elim [ Granting d k ↦ λ f. omega (arith, less) | v ↦ λ f. absurd cc ] in
+          acquire_owes m (grant_named caching s c m inv e) (go (view (s.block m).service c) e)
 
       release_less : (m : ℕ) → left' c Release m + 1 ≤ left c Release m → shown Release c (s.block m) ≡ true → Falls
       release_less m less e =
+          let go : (x : ReleasePhase) → is_releasing x ≡ true → letting_weight (left' c Release m) x + 1
+          ≤ letting_weight (left c Release m) x =
+          elim [ ReleaseSent r ↦ λ f. omega (arith, less) | x ↦ λ f. absurd cc ] in
           let named = release_named caching s c m inv e in
           let source = (s.block m).release_source c in
           let-falls config size left left' answer answer s s c source (all.letters c source m named)
           (all.releases c source m named) none-more (rw named (go ((s.block m).pair c).letting e))
-        where
-          go : (x : ReleasePhase) → is_releasing x ≡ true → letting_weight (left' c Release m) x + 1 ≤ letting_weight
-              (left c Release m) x
-          go (ReleaseSent r) f = omega (arith, less)
-          go NoRelease f = absurd cc
-          go ReleaseAcked f = absurd cc
 
       report_less : (m : ℕ) → left' c ProbeAck m + 1 ≤ left c ProbeAck m → shown ProbeAck c (s.block m) ≡ true → Falls
       report_less m less e = falls who.own who.is asker.used
@@ -162,20 +139,18 @@ module _ {X : Type 0} (config : Config) (size : ℕ) (left left' : Left) (answer
           probed = not-answered ((s.block m).pair c).probing e
 
           who : IsWaited (s.block m).service
-          who = waited-probing caching s c m inv probed
+          who = waited-probing c m inv probed
 
           asker : IsAsking m who.client who.own who.source s
-          asker = asking caching s m who.client who.own who.source who.cap inv who.is
+          asker = asking m who.client who.own who.source who.cap inv who.is
 
           here : pair_weight size left' m c ((s.block m).pair c) + 1 ≤ pair_weight size left m c ((s.block m).pair c)
-          here = go ((s.block m).pair c).probing e
-            where
-              go : (x : ProbePhase) → is_answered x ≡ true
-                  → probing_weight size (left' c ProbeAck m) ((s.block m).pair c).recorded x + 1 ≤ probing_weight size
-                  (left c ProbeAck m) ((s.block m).pair c).recorded x
-              go (ProbeAnswered r) f = less
-              go (ProbeSent k) f = absurd cc
-              go NoProbe f = absurd cc
+          here =
+              let go : (x : ProbePhase) → is_answered x ≡ true
+              → probing_weight size (left' c ProbeAck m) ((s.block m).pair c).recorded x + 1 ≤ probing_weight size
+              (left c ProbeAck m) ((s.block m).pair c).recorded x =
+              elim [ ProbeAnswered r ↦ λ f. less | x ↦ λ f. absurd cc ] in
+              go ((s.block m).pair c).probing e
 
           probes : probes_weight number size left' m (s.block m) + 1 ≤ probes_weight number size left m (s.block m)
           probes = total-falls number c 1 (λ d. pair_weight size left m d ((s.block m).pair d))
@@ -191,17 +166,14 @@ module _ {X : Type 0} (config : Config) (size : ℕ) (left left' : Left) (answer
 
       -- whichever message it is, of those that have more than one beat
       pub message-less : (k : Kind) (m : ℕ) → shows_it s c k m ≡ true → left' c k m + 1 ≤ left c k m
-          → is_light k ≡ false
-          → Falls
+          → is_light k ≡ false → Falls
       message-less Request m e less heavy = request_less m less e
       message-less Answer m e less heavy = answer_less m less e
       message-less Acquire m e less heavy = acquire_less m less e
       message-less Grant m e less heavy = grant_less m less e
       message-less Release m e less heavy = release_less m less e
       message-less ProbeAck m e less heavy = report_less m less e
-      message-less Probe m e less heavy = absurd cc
-      message-less ReleaseAck m e less heavy = absurd cc
-      message-less GrantAck m e less heavy = absurd cc
+      message-less k m e less heavy = absurd cc
 
 -- ---- a beat that isn't the last of its message
 
@@ -210,16 +182,16 @@ taken_more : {w : ℕ} (b : Bool) (rest rest' : List (Beat w)) → length rest �
 taken_more true rest rest' le = le
 taken_more false rest rest' le = omega arith
 
-pub beat-falls : {w : ℕ} (config : Config) (caching : ℕ → Bool) (ch : Channel) (c : ℕ) (mail : AccessMessages w)
-    (s : State (List ℕ)) (sys sys' : System w) (x : Beat w)
-    (queue : List (Beat w)) (size : ℕ) (answer : ℕ → ℕ → ℕ)
-    → (first : IsFirst ch c mail s sys x queue)
+pub beat-falls : {w : ℕ} {config : Config} {caching : ℕ → Bool} {ch : Channel} {c : ℕ} {mail : AccessMessages w}
+    {s : State (List ℕ)} {sys : System w} (sys' : System w) {x : Beat w} {queue : List (Beat w)} (size : ℕ) (answer : ℕ
+    → ℕ → ℕ) → (first : IsFirst ch c mail s sys x queue)
     → first.next.k + 1 < beats_of (message_of_kind first.kind mail s c first.number)
-    → IsBegun c ch x (unfinished_at sys) (unfinished_at sys')
-    → IsInvariant caching s → AreClients config s → c < length config.clients.items
-    → rank config size (beats_left mail s (unfinished_at sys')) answer s + 1 ≤ rank config size
-    (beats_left mail s (unfinished_at sys)) answer s
-beat-falls {w} config caching ch c mail s sys sys' x queue size answer first more begun inv all lt =
+    → IsBegun c ch x (unfinished_at sys) (unfinished_at sys') → IsInvariant caching s → AreClients config s
+    → c < length config.clients.items → rank config size (beats_left mail s (unfinished_at sys')) answer s + 1
+    ≤ rank config size (beats_left mail s (unfinished_at sys)) answer s
+beat-falls {w} {config} {caching} {ch} {c} {mail} {s} {sys} sys' {x} {queue} size answer first more begun inv all lt =
+    let shown_it : shows_it s c first.kind first.number ≡ true = shown_there c ch first.kind first.number inv
+    first.own (rw first.tokens (first-there (packet first.kind first.number) first.rest)) in
     message-less config size (beats_left mail s (unfinished_at sys))
     (beats_left mail s (unfinished_at sys')) answer s less caching inv all c lt first.kind first.number shown_it
     one_less (heavy (is_light first.kind) refl)
@@ -237,10 +209,6 @@ beat-falls {w} config caching ch c mail s sys sys' x queue size answer first mor
         (unfinished_at sys d (channel_for k)) (unfinished_at sys' d (channel_for k))
         (longer d (channel_for k) (cases_eq d c) (same_channels (channel_for k) ch)) in
         omega (arith, more)
-
-    shown_it : shows_it s c first.kind first.number ≡ true
-    shown_it = shown_there caching s c ch first.kind first.number inv first.own
-        (rw first.tokens (first-there (packet first.kind first.number) first.rest))
 
     heavy : (b : Bool) → is_light first.kind ≡ b → b ≡ false
     heavy false e = refl
@@ -268,6 +236,6 @@ beat-falls {w} config caching ch c mail s sys sys' x queue size answer first mor
     one_less : beats_left mail s (unfinished_at sys') c first.kind first.number + 1 ≤ beats_left mail s
         (unfinished_at sys) c first.kind first.number
     one_less =
-        let all = first-left ch c mail s sys x queue first in
+        let all = first-left first in
         let t = taken (is_front first.kind first.number (packets_on (channel_for first.kind) (s.link c))) front in
         omega (arith, all, t, more)

@@ -1,37 +1,28 @@
 -- What is owed in a world falls at every delivery that moves a beat, and rises at none.
-use Rattle.tl_coherence.proofs.bound.Imports.{IsWidth, Beat, Link, Channel, beats_of, completes, Config, Deliver}
+use Rattle.tl_coherence.proofs.bound.Imports.{IsWidth, Beat, Link, Channel, completes, Config, Deliver}
 use Rattle.tl_coherence.proofs.bound.Imports.{is_moving, AbstractState, kind_taken, Log, system_after, channel_for}
-use Rattle.tl_coherence.proofs.bound.Imports.{packet, packets_on, message_of_kind, stepped, System, Kind, Request}
+use Rattle.tl_coherence.proofs.bound.Imports.{packet, packets_on, stepped, System, Kind, Request}
 use Rattle.tl_coherence.proofs.bound.Imports.{Acquire, Probe, ProbeAck, Release, Answer, Grant, ReleaseAck, GrantAck}
 use Rattle.tl_coherence.proofs.bound.Imports.{Packet, SimulationRelation, is_caching}
-use Rattle.std.proofs.Common.{◌≡◌, ℕ, ◌+◌, ◌-◌, ◌<◌, ◌≤◌, Bool, true, false, List, ◌∷◌, refl, sym, ◌∙◌, ap, subst}
-use Rattle.std.proofs.Common.{arith}
-use Rattle.std.specs.Prelude.{◌/◌, if◌then◌else◌, length, Some}
+use Rattle.std.proofs.Common.{◌≡◌, ℕ, ◌+◌, ◌<◌, ◌≤◌, Bool, true, false, List, ◌∷◌, refl, sym, subst, arith}
+use Rattle.std.specs.Prelude.{◌/◌, length, Some}
 use Rattle.tl_client.specs.statement.Endpoint.{EndConfig}
-use Rattle.tl_coherence.specs.refinement.AbstractStep.{abstract_step, packet_taken}
-use Rattle.tl_coherence.specs.statement.System.{terms_at}
-use Rattle.tl_coherence.proofs.bound.Beginnings.{none-more}
-use Rattle.tl_coherence.proofs.rank.RankDecreases.{stays}
-use Rattle.tl_coherence.proofs.simulation.FollowCases.{IsDelivery}
-use Rattle.tl_coherence.proofs.protocol.FollowKept.{IsReady}
-use Rattle.tl_coherence.proofs.queues.FirstToken.{IsFirst, first-token}
+use Rattle.tl_coherence.specs.{refinement.AbstractStep.abstract_step, statement.System.terms_at}
+use Rattle.tl_coherence.proofs.{bound.Beginnings.none-more, rank.RankDecreases.stays, simulation.FollowCases.IsDelivery}
+use Rattle.tl_coherence.proofs.{protocol.FollowKept.IsReady, queues.FirstToken.first-token}
+use Rattle.tl_coherence.proofs.{deliveries.InvariantKept.ready-delivered, deliveries.Matching.matched-event}
+use Rattle.tl_coherence.proofs.{outstanding.Outstanding.first-moved, bound.RankOfLog.owed, bound.RankOfLog.owed-begun}
+use Rattle.tl_coherence.proofs.{bound.RankAfter.IsKeptAfter, bound.RankAfter.kept-matched}
+use Rattle.tl_coherence.proofs.{bound.RankOfReports.report-owed, bound.RankOfRequests.request-owed}
+use Rattle.tl_coherence.proofs.{rank.BeatsRemainingSums.answer_to, manager.UnwaitedRequests.next_tracker}
+use Rattle.tl_coherence.proofs.{queues.QuiescentQueues.client_below}
 use Rattle.tl_coherence.proofs.bound.PartialMessages.{grown-moved, grown-received, grown-begun}
 use Rattle.tl_coherence.proofs.deliveries.DeliverDAfter.{followed-moving, followed-still}
 use Rattle.tl_coherence.proofs.deliveries.DeliverDUnmoved.{IsUnmoved, unmoved}
-use Rattle.tl_coherence.proofs.deliveries.InvariantKept.{ready-delivered}
-use Rattle.tl_coherence.proofs.protocol.BeatsRemaining.{beats_left, taken_of, is_front}
-use Rattle.tl_coherence.proofs.deliveries.Matching.{matched-event}
-use Rattle.tl_coherence.proofs.outstanding.Outstanding.{first-moved}
-use Rattle.tl_coherence.proofs.bound.RankOfLog.{owed, owed-begun}
-use Rattle.tl_coherence.proofs.bound.RankAfter.{IsKeptAfter, kept-matched}
+use Rattle.tl_coherence.proofs.protocol.BeatsRemaining.{beats_left}
 use Rattle.tl_coherence.proofs.bound.RankByKind.{probe-owed, release-owed, answer-owed, release_ack-owed}
 use Rattle.tl_coherence.proofs.bound.RankByKind.{grant_ack-owed, grant-owed, acquire-owed}
-use Rattle.tl_coherence.proofs.bound.RankOfReports.{report-owed}
-use Rattle.tl_coherence.proofs.bound.RankOfRequests.{request-owed}
 use Rattle.tl_coherence.proofs.simulation.Popped.{unfinished_at, IsReceived, kind_channel}
-use Rattle.tl_coherence.proofs.rank.BeatsRemainingSums.{answer_to}
-use Rattle.tl_coherence.proofs.manager.UnwaitedRequests.{next_tracker}
-use Rattle.tl_coherence.proofs.queues.QuiescentQueues.{client_below}
 
 module _ {w : ℕ} (config : Config) (log : Log w) (h : AbstractState w) (width : IsWidth w)
     (matched : SimulationRelation config log h.mail h.request h.state (system_after config log)) where
@@ -45,8 +36,7 @@ module _ {w : ℕ} (config : Config) (log : Log w) (h : AbstractState w) (width 
   -- ---- the last beat of a message
 
   by-kind : (tracker c : ℕ) (k : Kind) (i : ℕ) (rest : List Packet) (sys' : System w) → c < length config.clients.items
-      → length config.clients.items ≤ 16
-      → packets_on (channel_for k) (h.state.link c) ≡ packet k i ∷ rest
+      → length config.clients.items ≤ 16 → packets_on (channel_for k) (h.state.link c) ≡ packet k i ∷ rest
       → IsReceived c (channel_for k) (system_after config log) sys' → IsReady tracker c k i h
       → Kept (kind_taken config tracker c k i rest h) → IsLess (kind_taken config tracker c k i rest h) sys'
   by-kind tracker c Request i rest sys' lt sixteen first received ready kept =
@@ -74,19 +64,16 @@ module _ {w : ℕ} (config : Config) (log : Log w) (h : AbstractState w) (width 
       → link.0 < length config.clients.items → length config.clients.items ≤ 16
       → IsReceived link.0 ch (system_after config log) sys'
       → Kept (kind_taken config (next_tracker (system_after config log)) link.0 d.first.kind d.first.number d.first.rest
-      h)
-      → IsLess (kind_taken config (next_tracker (system_after config log)) link.0 d.first.kind d.first.number
+      h) → IsLess (kind_taken config (next_tracker (system_after config log)) link.0 d.first.kind d.first.number
       d.first.rest h) sys'
   by-first link ch x queue sys' d lt sixteen received kept =
+      let on : channel_for d.first.kind ≡ ch = kind_channel ch d.first.kind d.first.own in
       by-kind (next_tracker (system_after config log)) link.0 d.first.kind d.first.number d.first.rest sys' lt sixteen
       (subst (λ (i : Channel). packets_on i (h.state.link link.0) ≡ packet d.first.kind d.first.number ∷ d.first.rest)
       (sym on) d.first.tokens)
       (subst (λ (i : Channel). IsReceived link.0 i (system_after config log) sys') (sym on) received)
       (ready-delivered config log h.mail h.request h.state (system_after config log) link ch x queue width matched d)
       kept
-    where
-      on : channel_for d.first.kind ≡ ch
-      on = kind_channel ch d.first.kind d.first.own
 
   -- ---- a delivery
 
@@ -105,44 +92,33 @@ module _ {w : ℕ} (config : Config) (log : Log w) (h : AbstractState w) (width 
       kept : Kept (abstract_step config (Deliver link ch) sys h)
       kept =
           let h' : AbstractState w = abstract_step config (Deliver link ch) sys h in
-          kept-matched config ((Deliver link ch, (stepped config (Deliver link ch) sys).outcome) ∷ log) h'.mail
-          h'.request h'.state sys' (matched-event config log h (Deliver link ch) width tt matched)
+          kept-matched
+          (matched-event h (Deliver link ch) width tt matched)
 
       taken : (x : Beat w) (queue : List (Beat w)) (terms : EndConfig) → terms_at config link.0 ≡ Some terms
           → sys.channels link.0 ch ≡ x ∷ queue → (b : Bool)
           → completes x (unfinished_at sys link.0 ch) ≡ b → IsLess (abstract_step config (Deliver link ch) sys h) sys'
       taken x queue terms known beats true last =
+          let first = first-token (is_caching config) ch link.0 h.mail h.state sys x queue width matched.invariant
+          matched.carried beats in
+          let d : IsDelivery config h.mail h.state sys link ch x queue =
+          record { moves = moving; beats = beats; whole = last; first = first } in
+          let follows : abstract_step config (Deliver link ch) sys h ≡ kind_taken config (next_tracker sys) link.0
+          first.kind first.number first.rest h =
+          cc (followed-moving config link ch sys h x queue moving beats, last, first.tokens) in
           subst (λ (z : AbstractState w). IsLess z sys') (sym follows)
           (by-first link ch x queue sys' d (client_below config link.0 terms known) sixteen
-          (grown-received link.0 ch x sys sys' (grown-moved config log h link ch terms x queue width matched known beats
+          (grown-received link.0 ch x sys sys' (grown-moved h link ch terms x queue width matched known beats
           moving) last)
           (subst Kept follows kept))
-        where
-          first : IsFirst ch link.0 h.mail h.state sys x queue
-          first = first-token (is_caching config) ch link.0 h.mail h.state sys x queue width matched.invariant
-              matched.carried beats
-
-          d : IsDelivery config h.mail h.state sys link ch x queue
-          d = record { moves = moving; beats = beats; whole = last; first = first }
-
-          follows : abstract_step config (Deliver link ch) sys h ≡ kind_taken config (next_tracker sys) link.0
-              first.kind first.number first.rest h
-          follows =
-              followed-moving config link ch sys h x queue moving beats ∙ ap
-              (λ (b : Bool). if b then packet_taken config (next_tracker sys) link.0
-              (packets_on ch (h.state.link link.0)) h else h) last
-              ∙ ap (λ (l : List Packet). packet_taken config (next_tracker sys) link.0 l h) first.tokens
       taken x queue terms known beats false part =
+          let follows : abstract_step config (Deliver link ch) sys h ≡ h =
+          cc (followed-moving config link ch sys h x queue moving beats, part) in
           subst (λ (z : AbstractState w). IsLess z sys') (sym follows)
-          (owed-begun config log h.mail h.request h.state sys' ch link.0 x queue width matched
+          (owed-begun sys' queue width matched
           (client_below config link.0 terms known) beats part
-          (grown-begun link.0 ch x sys sys' (grown-moved config log h link ch terms x queue width matched known beats
+          (grown-begun link.0 ch x sys sys' (grown-moved h link ch terms x queue width matched known beats
           moving) part))
-        where
-          follows : abstract_step config (Deliver link ch) sys h ≡ h
-          follows = followed-moving config link ch sys h x queue moving beats
-              ∙ ap (λ (b : Bool). if b then packet_taken config (next_tracker sys) link.0
-              (packets_on ch (h.state.link link.0)) h else h) part
 
       go : ((x : Beat w) × (queue : List (Beat w)) × (terms : EndConfig)
           × ((sys.channels link.0 ch ≡ x ∷ queue) × (terms_at config link.0 ≡ Some terms)))
@@ -157,10 +133,9 @@ module _ {w : ℕ} (config : Config) (log : Log w) (h : AbstractState w) (width 
       (stepped config (Deliver link ch) (system_after config log)).after ≤ owed config h.mail h.state
       (system_after config log)
   still-owed link ch still =
-      subst (λ (z : AbstractState w). owed config z.mail z.state sys' ≤ owed config h.mail h.state sys)
-      (sym (followed-still config link ch sys h still))
-      (stays config (64 / w) (left sys) (left sys') (answer_to h.mail) (answer_to h.mail) h.state h.state
-      (none-more config (64 / w) (left sys) (left sys') (answer_to h.mail) h.state less))
+      rw (followed-still config link ch sys h still) (stays config (64 / w) (left sys) (left sys') (answer_to h.mail)
+      (answer_to h.mail) h.state h.state (none-more config (64 / w) (left sys) (left sys') (answer_to h.mail) h.state
+      less))
     where
       sys : System w
       sys = system_after config log
@@ -176,7 +151,5 @@ module _ {w : ℕ} (config : Config) (log : Log w) (h : AbstractState w) (width 
 
       less : (c : ℕ) (k : Kind) (m : ℕ) → left sys' c k m ≤ left sys c k m
       less c k m =
-          let as_much : left sys' c k m ≡ left sys c k m = ap
-          (λ (rest : List (Beat w)). beats_of (message_of_kind k h.mail h.state c m) - taken_of rest
-          (is_front k m (packets_on (channel_for k) (h.state.link c)))) (same.rests c (channel_for k)) in
+          let as_much : left sys' c k m ≡ left sys c k m = cc (same.rests c (channel_for k)) in
           omega (arith, as_much)

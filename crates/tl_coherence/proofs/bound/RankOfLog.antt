@@ -4,16 +4,13 @@ use Rattle.tl_coherence.proofs.bound.Imports.{system_after, rank, State, AccessM
 use Rattle.tl_coherence.proofs.bound.Imports.{SimulationRelation, is_caching}
 use Rattle.std.proofs.Common.{◌≡◌, ℕ, ◌+◌, ◌*◌, ◌/◌, ◌<◌, ◌≤◌, Bool, true, false, List, ◌∷◌, refl, sym, ◌∙◌, arith, ◌⊎◌}
 use Rattle.std.proofs.Common.{inl, inr}
-use Rattle.std.specs.Prelude.{◌==◌, length}
-use Rattle.std.proofs.lemmas.Bool.{cases_eq}
+use Rattle.std.{specs.Prelude.◌==◌, specs.Prelude.length, proofs.lemmas.Bool.cases_eq}
 use Rattle.tl_coherence.specs.bound.Rank.{open_requests, open_releases}
-use Rattle.tl_coherence.proofs.bound.Beginnings.{IsBegun, beat-falls}
-use Rattle.tl_coherence.proofs.queues.FirstToken.{IsFirst, first-token}
-use Rattle.tl_coherence.proofs.protocol.BeatsRemaining.{beats_left}
-use Rattle.tl_coherence.proofs.simulation.Popped.{unfinished_at, are-clients}
+use Rattle.tl_coherence.proofs.{bound.Beginnings.IsBegun, bound.Beginnings.beat-falls}
+use Rattle.tl_coherence.proofs.{queues.FirstToken.first-token, protocol.BeatsRemaining.beats_left}
+use Rattle.tl_coherence.proofs.{simulation.Popped.unfinished_at, simulation.Popped.are-clients}
+use Rattle.tl_coherence.proofs.{queues.Tokens.same_number, rank.Weights.IsLeft, rank.Weights.potential-few}
 use Rattle.tl_coherence.proofs.rank.BeatsRemainingSums.{answer_to, is-left, wide-block}
-use Rattle.tl_coherence.proofs.queues.Tokens.{same_number}
-use Rattle.tl_coherence.proofs.rank.Weights.{IsLeft, potential-few}
 
 abbrev pub owed : {w : ℕ} → Config → AccessMessages w → State (List ℕ) → System w → ℕ
 owed {w} config mail s sys = rank config (64 / w) (beats_left mail s (unfinished_at sys)) (answer_to mail) s
@@ -23,22 +20,21 @@ narrow-block w (inl e) = rw e (omega arith)
 narrow-block w (inr (inl e)) = rw e (omega arith)
 narrow-block w (inr (inr e)) = rw e (omega arith)
 
-pub left-matched : {w : ℕ} (config : Config) (log : Log w) (mail : AccessMessages w) (request : ℕ → MessageA w)
-    (s : State (List ℕ)) (sys : System w) → IsWidth w → SimulationRelation config log mail request s sys
+pub left-matched : {w : ℕ} {config : Config} {log : Log w} {mail : AccessMessages w} {request : ℕ → MessageA w}
+    {s : State (List ℕ)} {sys : System w} → IsWidth w → SimulationRelation config log mail request s sys
     → IsLeft (64 / w) (beats_left mail s (unfinished_at sys)) (answer_to mail) s
-left-matched config log mail request s sys width matched = is-left config (is_caching config) mail s (unfinished_at sys)
+left-matched {config} {mail} {s} {sys} width matched = is-left config (is_caching config) mail s (unfinished_at sys)
     width matched.invariant matched.sourced
 
 -- what is owed is at most a block's beats and 33 for each open request, a block's beats and one for each open Release
-pub owed-few : {w : ℕ} (config : Config) (log : Log w) (mail : AccessMessages w) (request : ℕ → MessageA w)
-    (s : State (List ℕ)) (sys : System w) → IsWidth w
+pub owed-few : {w : ℕ} {config : Config} {log : Log w} {mail : AccessMessages w} {request : ℕ → MessageA w}
+    {s : State (List ℕ)} {sys : System w} → IsWidth w
     → SimulationRelation config log mail request s sys → length config.clients.items ≤ 16
     → owed config mail s sys ≤ (64 / w + 33) * open_requests config s + (64 / w + 1) * open_releases config s
-owed-few {w} config log mail request s sys width matched sixteen =
+owed-few {w} {config} {log} {mail} {request} {s} {sys} width matched sixteen =
     potential-few (is_caching config) s matched.invariant (64 / w) (beats_left mail s (unfinished_at sys))
-    (answer_to mail) (left-matched config log mail request s sys width matched)
-    (let wide = wide-block w width in omega (arith, wide)) (narrow-block w width) (length config.clients.items) sixteen
-    config refl
+    (answer_to mail) (left-matched width matched) (let wide = wide-block w width in omega (arith, wide))
+    (narrow-block w width) (length config.clients.items) sixteen config refl
 
 not_last : (b : Bool) (k n : ℕ) → b ≡ (k + 1 == n) → b ≡ false → k < n → k + 1 < n
 not_last b k n e f lt = go (cases_eq (k + 1) n)
@@ -49,22 +45,18 @@ not_last b k n e f lt = go (cases_eq (k + 1) n)
     go (inr differs) = omega (arith, lt, differs)
 
 -- a beat that isn't the last of its message is taken
-pub owed-begun : {w : ℕ} (config : Config) (log : Log w) (mail : AccessMessages w) (request : ℕ → MessageA w)
-    (s : State (List ℕ)) (sys' : System w) (ch : Channel)
-    (c : ℕ) (x : Beat w) (queue : List (Beat w)) → IsWidth w
+pub owed-begun : {w : ℕ} {config : Config} {log : Log w} {mail : AccessMessages w} {request : ℕ → MessageA w}
+    {s : State (List ℕ)} (sys' : System w) {ch : Channel} {c : ℕ} {x : Beat w} (queue : List (Beat w)) → IsWidth w
     → SimulationRelation config log mail request s (system_after config log) → c < length config.clients.items
-    → (system_after config log).channels c ch ≡ x ∷ queue
-    → completes x (unfinished_at (system_after config log) c ch) ≡ false
-    → IsBegun c ch x (unfinished_at (system_after config log)) (unfinished_at sys')
+    → (system_after config log).channels c ch ≡ x ∷ queue → completes x (unfinished_at (system_after config log) c ch)
+    ≡ false → IsBegun c ch x (unfinished_at (system_after config log)) (unfinished_at sys')
     → owed config mail s sys' + 1 ≤ owed config mail s (system_after config log)
-owed-begun {w} config log mail request s sys' ch c x queue width matched lt beats part begun =
-    beat-falls config (is_caching config) ch c mail s (system_after config log) sys' x queue (64 / w) (answer_to mail)
+owed-begun {w} {config} {log} {mail} {request} {s} sys' {ch} {c} {x} queue width matched lt beats part begun =
+    let first = first-token (is_caching config) ch c mail s (system_after config log) x queue width matched.invariant
+    matched.carried beats in
+    beat-falls sys' (64 / w) (answer_to mail)
     first
     (not_last (completes x (unfinished_at (system_after config log) c ch)) first.next.k
     (beats_of (message_of_kind first.kind mail s c first.number)) first.next.completes_is part first.next.within) begun
     matched.invariant
     (are-clients config log mail request s matched width) lt
-  where
-    first : IsFirst ch c mail s (system_after config log) x queue
-    first = first-token (is_caching config) ch c mail s (system_after config log) x queue width matched.invariant
-        matched.carried beats

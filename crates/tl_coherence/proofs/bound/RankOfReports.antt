@@ -1,39 +1,30 @@
 -- What is owed in a world falls as the last beat of a report is taken.
 use Rattle.tl_coherence.proofs.bound.Imports.{IsWidth, Message, MessageA, Config, Report, AbstractState, kind_taken}
 use Rattle.tl_coherence.proofs.bound.Imports.{IsInvariant, Log, system_after, ProbeAnswered, Service, Free, Waits}
-use Rattle.tl_coherence.proofs.bound.Imports.{GrantSent, GrantTaken, Block, packet, view, ended_block}
-use Rattle.tl_coherence.proofs.bound.Imports.{report_taken, System, ProbeAck, Packet, SimulationRelation, is_caching}
+use Rattle.tl_coherence.proofs.bound.Imports.{GrantSent, GrantTaken, Block, packet, view, ended_block, report_taken}
+use Rattle.tl_coherence.proofs.bound.Imports.{System, ProbeAck, Packet, SimulationRelation, is_caching, Channel}
 use Rattle.std.proofs.Common.{◌≡◌, ℕ, ◌+◌, ◌<◌, ◌≤◌, Bool, true, false, List, ◌∷◌, refl, subst}
 use Rattle.std.specs.Prelude.{◌==◌, if◌then◌else◌, length}
-use Rattle.tl_beat.specs.declared.channel.Channel.TheVariants as channel
 use Rattle.tl_coherence.specs.refinement.AbstractStep.{last_taken, granted_after, performs, answers, some_below}
 use Rattle.tl_coherence.specs.refinement.AbstractStep.{with_state}
-use Rattle.tl_coherence.specs.protocol.Invariant.{IsWell}
+use Rattle.tl_coherence.specs.{protocol.Invariant.IsWell, protocol.PhaseSteps.is_granted_data}
+use Rattle.tl_coherence.specs.{refinement.PacketMessages.report_told, refinement.SourceRelation.IsFor}
 use Rattle.tl_coherence.specs.protocol.Phase.{AcquirePhase, NoAcquire, AcquireOpen}
-use Rattle.tl_coherence.specs.protocol.PhaseSteps.{is_granted_data}
 use Rattle.tl_coherence.specs.protocol.Protocol as protocol
-use Rattle.tl_coherence.specs.refinement.PacketMessages.{report_told}
-use Rattle.tl_coherence.specs.refinement.SourceRelation.{IsFor}
-use Rattle.tl_coherence.proofs.deliveries.LandedReports.{ended-bytes}
-use Rattle.tl_coherence.proofs.deliveries.CarriedRequests.{answer_on_d}
-use Rattle.tl_coherence.proofs.manager.Choices.{plain-past}
-use Rattle.tl_coherence.proofs.bound.EventDecreases.{shown-first}
+use Rattle.tl_coherence.proofs.{deliveries.LandedReports.ended-bytes, deliveries.CarriedRequests.answer_on_d}
+use Rattle.tl_coherence.proofs.{manager.Choices.plain-past, bound.EventDecreases.shown-first}
+use Rattle.tl_coherence.proofs.{protocol.RequestsKept.settled_all, manager.ManagerAfter.others_probed}
+use Rattle.tl_coherence.proofs.{deliveries.LastReportDelivered.seen_apart, manager.ManagerSettles.gift_after}
+use Rattle.tl_coherence.proofs.{bound.RankOfLog.owed, simulation.Popped.IsReceived, queues.Tokens.same_number}
+use Rattle.tl_coherence.proofs.{queues.Tokens.set-same, rank.RankParts.serving-use}
 use Rattle.tl_coherence.proofs.queues.Facts.{answered_other, is_other, own_wants}
-use Rattle.tl_coherence.proofs.protocol.RequestsKept.{settled_all}
-use Rattle.tl_coherence.proofs.manager.ManagerAfter.{others_probed}
-use Rattle.tl_coherence.proofs.deliveries.LastReportDelivered.{seen_apart}
-use Rattle.tl_coherence.proofs.manager.ManagerSettles.{gift_after}
-use Rattle.tl_coherence.proofs.bound.RankOfLog.{owed}
 use Rattle.tl_coherence.proofs.bound.RankAfter.{IsKeptAfter, report_taken-owed, report_answers-owed, report_grants-owed}
-use Rattle.tl_coherence.proofs.simulation.Popped.{IsReceived}
-use Rattle.tl_coherence.proofs.queues.Tokens.{same_number, set-same}
 use Rattle.tl_coherence.proofs.protocol.BothParts.{answered-is, taken-unseen, granted-unseen}
-use Rattle.tl_coherence.proofs.rank.RankParts.{serving-use}
 
 pub report-owed : {w : ℕ} (config : Config) (log : Log w) (h : AbstractState w) (sys' : System w) (tracker c n : ℕ)
     (rest : List Packet) → IsWidth w
     → SimulationRelation config log h.mail h.request h.state (system_after config log) → c < length config.clients.items
-    → (h.state.link c).c ≡ packet ProbeAck n ∷ rest → IsReceived c channel.C (system_after config log) sys'
+    → (h.state.link c).c ≡ packet ProbeAck n ∷ rest → IsReceived c Channel.C (system_after config log) sys'
     → IsKeptAfter config (kind_taken config tracker c ProbeAck n rest h).mail
     (kind_taken config tracker c ProbeAck n rest h).state
     → owed config (kind_taken config tracker c ProbeAck n rest h).mail
@@ -61,7 +52,7 @@ report-owed {w} config log h sys' tracker c n rest width matched lt first receiv
     Kept z = IsKeptAfter config z.mail z.state
 
     answered : (b.pair c).probing ≡ ProbeAnswered r
-    answered = answered-is (b.pair c).probing (shown-first (is_caching config) channel.C c ProbeAck n rest h.state inv
+    answered = answered-is (b.pair c).probing (shown-first (is_caching config) Channel.C c ProbeAck n rest h.state inv
         refl first)
 
     seen : is_other (view b.service c) ≡ true
@@ -74,6 +65,9 @@ report-owed {w} config log h sys' tracker c n rest width matched lt first receiv
     last alone (GrantSent q d low) f is = absurd (granted-unseen (c == q) d low (rw f at seen))
     last alone (GrantTaken q) f is = absurd (taken-unseen (c == q) (rw f at seen))
     last alone (Waits q false source low) f is =
+        let v : MessageA w = h.request n in
+        let said : Message w = answers v (protocol.written r b.truth b.memory) in
+        let for : IsFor (Waits q false source low) n v = rw f at (matched.served.requests n) in
         report_answers-owed config log h.mail h.request h.state sys' width matched c n rest lt q source r low
         (performs v) said first f
         (rw (serving-use (is_caching config) h.state n q source low inv f) refl)
@@ -83,15 +77,6 @@ report-owed {w} config log h sys' tracker c n rest width matched lt first receiv
         (settled_all clients (is_caching config) c b.pair (plain-past config) (inv.blocks n).outside alone) for.0 for.3
         (matched.sized n).truth)
         (answer_on_d v _) received is
-      where
-        v : MessageA w
-        v = h.request n
-
-        said : Message w
-        said = answers v (protocol.written r b.truth b.memory)
-
-        for : IsFor (Waits q false source low) n v
-        for = rw f at (matched.served.requests n)
     last alone (Waits q true source low) f is = go (b.pair q).acquiring refl is
       where
         go : (y : AcquirePhase) → (b.pair q).acquiring ≡ y
@@ -100,17 +85,15 @@ report-owed {w} config log h sys' tracker c n rest width matched lt first receiv
         go NoAcquire g then_kept =
             absurd (let wants = own_wants (b.pair q) (view b.service q) ((inv.blocks n).phases q)
             (rw (f, same_number q) refl) in let none : false ≡ true = rw g at wants in cc)
-        go (AcquireOpen whole grow) g then_kept =
-            report_grants-owed config log h.mail h.request h.state sys' width matched c n rest lt q source low
-            (gift_after config c n r whole grow h) r
+        go (AcquireOpen whole grow) g then_kept = report_grants-owed config log h.mail h.request h.state sys' width
+            matched c n rest lt q source low (gift_after config c n r whole grow h) r
             (is_granted_data whole grow (b.pair q).recorded) first f (seen_apart q source low c (rw f at seen)) received
             then_kept
 
     others : (y : Bool) → some_below clients (others_probed c b.pair) ≡ y
         → Kept (if y then with_state (report_taken c n r rest h.state) h else last_taken clients config.profile c n r
-        b.service rest h)
-        → Falls (if y then with_state (report_taken c n r rest h.state) h else last_taken clients config.profile c n r
-        b.service rest h)
+        b.service rest h) → Falls (if y then with_state (report_taken c n r rest h.state) h else last_taken clients
+        config.profile c n r b.service rest h)
     others true f is = report_taken-owed config log h.mail h.request h.state sys' width matched c n rest lt r first
         received is
     others false f is = last f b.service refl is

@@ -10,26 +10,23 @@ use Rattle.std.proofs.Common.{◌≡◌, ℕ, zero, suc, ◌+◌, ◌<◌, ◌�
 use Rattle.std.proofs.Common.{inl, inr}
 use Rattle.std.specs.Prelude.{if◌then◌else◌, length}
 use Rattle.std.proofs.lemmas.Bool.{cases_eq, ne_eqb}
-use Rattle.tl_params.specs.declared.perm.Perm.TheVariants as perm
 use Rattle.tl_params.specs.statement.Param.{report_at}
 use Rattle.tl_rules.specs.statement.Conformance.{same_perm}
-use Rattle.tl_coherence.specs.protocol.Invariant.{serves_of, is_serving}
+use Rattle.tl_coherence.specs.{protocol.Invariant.serves_of, protocol.Invariant.is_serving, bound.Rank.total}
+use Rattle.tl_coherence.specs.{protocol.Protocol.reported_block}
 use Rattle.tl_coherence.specs.protocol.PhaseSteps.{after_probe, after_report, after_grant_sent}
-use Rattle.tl_coherence.specs.bound.Rank.{total}
-use Rattle.tl_coherence.specs.protocol.Protocol.{reported_block}
-use Rattle.tl_coherence.proofs.queues.Channels.{IsShowing}
+use Rattle.tl_coherence.proofs.{queues.Channels.IsShowing, protocol.BeatsRemaining.IsPopped}
+use Rattle.tl_coherence.proofs.{protocol.BeatsRemaining.beats_left, rank.Weights.IsLeft}
 use Rattle.tl_coherence.proofs.rank.Frames.{IsBlockNoMore, let-stays, unserved-stays}
-use Rattle.tl_coherence.proofs.protocol.BeatsRemaining.{IsPopped, beats_left}
 use Rattle.tl_coherence.proofs.rank.RankParts.{AreClients, pair-falls, request-falls}
 use Rattle.tl_coherence.proofs.queues.Tokens.{same_number, set-same, set-other, set-part}
-use Rattle.tl_coherence.proofs.rank.Weights.{IsLeft}
 
 -- ---- one client's pair
 
 probed-less : (size l l' : ℕ) (recorded : Perm) (k : Cap) (r : Report)
-    → (same_perm recorded perm.Trunk ≡ false → l' ≤ 1) → l' ≤ size
+    → (same_perm recorded Perm.Trunk ≡ false → l' ≤ 1) → l' ≤ size
     → probing_weight size l' recorded (ProbeAnswered r) + 1 ≤ probing_weight size l recorded (ProbeSent k)
-probed-less size l l' recorded k r one few = go (same_perm recorded perm.Trunk) one
+probed-less size l l' recorded k r one few = go (same_perm recorded Perm.Trunk) one
   where
     go : (b : Bool) → (b ≡ false → l' ≤ 1) → l' + 1 ≤ 1 + (if b then size else 1)
     go true h = omega (arith, few)
@@ -54,18 +51,18 @@ summand-few (suc bound) m f lt = go (cases_eq m bound) (λ below. summand-few bo
 
 -- ---- who has the block in service
 
-pub serving : {X : Type 0} (caching : ℕ → Bool) (s : State X) (n d i : ℕ) → IsInvariant caching s
+pub serving : {X : Type 0} {caching : ℕ → Bool} {s : State X} (n d i : ℕ) → IsInvariant caching s
     → s.uses d i ≡ InService n → is_serving d i (s.block n).service ≡ true
-serving caching s n d i inv e = sym (inv.named.serves d i n) ∙ (ap (serves_of n) e ∙ same_number n)
+serving n d i inv e = sym (inv.named.serves d i n) ∙ (ap (serves_of n) e ∙ same_number n)
 
 -- nobody, where it isn't in service for an access
 abbrev pub is_for_access : Service → Bool
 is_for_access (Waits q false source k) = true
 is_for_access _ = false
 
-pub nobody-serving : {X : Type 0} (caching : ℕ → Bool) (s : State X) (n d i : ℕ) → IsInvariant caching s
+pub nobody-serving : {X : Type 0} {caching : ℕ → Bool} {s : State X} (n d i : ℕ) → IsInvariant caching s
     → is_for_access (s.block n).service ≡ false → s.uses d i ≡ InService n → ⊥
-nobody-serving caching s n d i inv none e = go (s.block n).service none (serving caching s n d i inv e)
+nobody-serving {caching} {s} n d i inv none e = go (s.block n).service none (serving n d i inv e)
   where
     go : (u : Service) → is_for_access u ≡ false → is_serving d i u ≡ true → ⊥
     go Free f h = cc
@@ -89,8 +86,7 @@ module _ {w : ℕ} (config : Config) (caching : ℕ → Bool) (n : ℕ) (moves :
 
   -- a part of pairs that an event leaves alone
   kept_at : {A : Type 0} (part : ClientBlock → A) (p : ClientBlock) → part p ≡ part ((s.block n).pair c)
-      → (s'.block n).pair ≡ set c p (s.block n).pair → (d : ℕ)
-      → part ((s'.block n).pair d) ≡ part ((s.block n).pair d)
+      → (s'.block n).pair ≡ set c p (s.block n).pair → (d : ℕ) → part ((s'.block n).pair d) ≡ part ((s.block n).pair d)
   kept_at part p e new d = ap (λ (f : ℕ → ClientBlock). part (f d)) new ∙ set-part part c p (s.block n).pair e d
 
   other_at : (p : ClientBlock) → (s'.block n).pair ≡ set c p (s.block n).pair → (d : ℕ) → (d ≡ c → ⊥)
@@ -101,11 +97,12 @@ module _ {w : ℕ} (config : Config) (caching : ℕ → Bool) (n : ℕ) (moves :
   own_at p new = ap (λ (f : ℕ → ClientBlock). f c) new ∙ set-same c p (s.block n).pair
 
   pub probe-falls : (k : Cap) → c < number → ((s.block n).pair c).probing ≡ ProbeSent k
-      → s'.block n ≡ probed_block c k (s.block n) → IsLeft size left' answer s'
-      → ((d i : ℕ) → s'.uses d i ≡ s.uses d i) → ((d i : ℕ) → s'.lets d i ≡ s.lets d i)
-      → ((d : ℕ) → length (s'.link d).e ≤ length (s.link d).e)
+      → s'.block n ≡ probed_block c k (s.block n) → IsLeft size left' answer s' → ((d i : ℕ) → s'.uses d i ≡ s.uses d i)
+      → ((d i : ℕ) → s'.lets d i ≡ s.lets d i) → ((d : ℕ) → length (s'.link d).e ≤ length (s.link d).e)
       → rank config size left' answer s' + 1 ≤ rank config size left answer s
   probe-falls k lt sent new is uses lets acks =
+      let pairs = ap (λ (b : Block (List ℕ)). b.pair) new in
+      let is_pair : (s'.block n).pair c ≡ after_probe k was = own_at (after_probe k was) pairs in
       pair-falls config caching n moves mail mail' s s' showing c ch rest rest' popped size answer all lt (rw sent refl)
       (ap (λ (b : Block (List ℕ)). b.service) new)
       (other_at (after_probe k was) pairs) (kept_at (λ p. p.acquiring) (after_probe k was) refl pairs c)
@@ -115,33 +112,22 @@ module _ {w : ℕ} (config : Config) (caching : ℕ → Bool) (n : ℕ) (moves :
       was : ClientBlock
       was = (s.block n).pair c
 
-      pairs : (s'.block n).pair ≡ set c (after_probe k was) (s.block n).pair
-      pairs = ap (λ (b : Block (List ℕ)). b.pair) new
-
-      is_pair : (s'.block n).pair c ≡ after_probe k was
-      is_pair = own_at (after_probe k was) pairs
-
       less : (p : ClientBlock) → p ≡ after_probe k was
-          → (is_unprobed p.probing ≡ false → same_perm p.recorded perm.Trunk ≡ false → left' c ProbeAck n ≤ 1)
+          → (is_unprobed p.probing ≡ false → same_perm p.recorded Perm.Trunk ≡ false → left' c ProbeAck n ≤ 1)
           → pair_weight size left' n c p + 1 ≤ pair_weight size left n c ((s.block n).pair c)
       less p e reports =
+          let after_probe_report : ClientBlock → Report = λ q. report_at k q.held in
           rw (e, sent) (probed-less size (left c ProbeAck n) (left' c ProbeAck n) was.recorded k
           (after_probe_report was) (λ none. reports (rw e refl) (rw e none)) (is.few c ProbeAck n))
-        where
-          after_probe_report : ClientBlock → Report
-          after_probe_report q = report_at k q.held
 
   pub report-falls : (told r : Report) → c < number → ((s.block n).pair c).probing ≡ ProbeAnswered told
-      → 1 ≤ left c ProbeAck n → s'.block n ≡ reported_block c r (s.block n)
-      → ((d i : ℕ) → s'.uses d i ≡ s.uses d i) → ((d i : ℕ) → s'.lets d i ≡ s.lets d i)
-      → ((d : ℕ) → length (s'.link d).e ≤ length (s.link d).e)
+      → 1 ≤ left c ProbeAck n → s'.block n ≡ reported_block c r (s.block n) → ((d i : ℕ) → s'.uses d i ≡ s.uses d i)
+      → ((d i : ℕ) → s'.lets d i ≡ s.lets d i) → ((d : ℕ) → length (s'.link d).e ≤ length (s.link d).e)
       → rank config size left' answer s' + 1 ≤ rank config size left answer s
-  report-falls told r lt answered some new uses lets acks =
-      pair-falls config caching n moves mail mail' s s' showing c ch rest rest' popped size answer all lt
-      (rw answered refl) (ap (λ (b : Block (List ℕ)). b.service) new)
+  report-falls told r lt answered some new uses lets acks = pair-falls config caching n moves mail mail' s s' showing c
+      ch rest rest' popped size answer all lt (rw answered refl) (ap (λ (b : Block (List ℕ)). b.service) new)
       (other_at (after_report r was) pairs) (kept_at (λ p. p.acquiring) (after_report r was) refl pairs c)
-      (kept_at (λ p. p.letting) (after_report r was) refl pairs c)
-      uses lets acks less
+      (kept_at (λ p. p.letting) (after_report r was) refl pairs c) uses lets acks less
     where
       was : ClientBlock
       was = (s.block n).pair c
@@ -167,12 +153,11 @@ module _ {w : ℕ} (config : Config) (caching : ℕ → Bool) (n : ℕ) (moves :
       let all = summand-few number c (λ d. pair_weight size left n d ((s.block n).pair d)) lt in
       omega (arith, one, all, some)
 
-  unserved : (d i : ℕ) → s.uses d i ≡ Acquires n → s'.uses d i ≡ Acquires n
-      → is_unserved (view (s.block n).service d) ≡ true → is_unserved (view (s'.block n).service d) ≡ true
+  unserved : (d i : ℕ) → s.uses d i ≡ Acquires n → s'.uses d i ≡ Acquires n → is_unserved (view (s.block n).service d)
+      ≡ true → is_unserved (view (s'.block n).service d) ≡ true
       → acquire_weight size (left' d Acquire n) (left' d Grant n) (probes_weight number size left' n (s'.block n))
-      (view (s'.block n).service d)
-      ≤ acquire_weight size (left d Acquire n) (left d Grant n) (probes_weight number size left n (s.block n))
-      (view (s.block n).service d)
+      (view (s'.block n).service d) ≤ acquire_weight size (left d Acquire n) (left d Grant n)
+      (probes_weight number size left n (s.block n)) (view (s.block n).service d)
   unserved d i e f before after = unserved-stays config caching n moves mail mail' s s' showing c ch rest rest' popped
       size answer d i n e f before after
 
@@ -182,50 +167,39 @@ module _ {w : ℕ} (config : Config) (caching : ℕ → Bool) (n : ℕ) (moves :
   lets-kept d e = let-stays config caching n moves mail mail' s s' showing c ch rest rest' popped size answer d n e
 
   pub answering-falls : (q source : ℕ) (k : Cap) (told r : Report) (f : List ℕ → List ℕ) → c < number
-      → ((s.block n).pair c).probing ≡ ProbeAnswered told
-      → 1 ≤ left c ProbeAck n → (s.block n).service ≡ Waits q false source k
-      → s.uses q source ≡ InService n → left' q Answer source ≤ answer q source
-      → s'.block n ≡ ended_block c r f (s.block n) → s'.uses q source ≡ Replied
-      → ((d i : ℕ) → (d ≡ q → i ≡ source → ⊥) → s'.uses d i ≡ s.uses d i) → ((d i : ℕ) → s'.lets d i ≡ s.lets d i)
-      → ((d : ℕ) → length (s'.link d).e ≤ length (s.link d).e)
+      → ((s.block n).pair c).probing ≡ ProbeAnswered told → 1 ≤ left c ProbeAck n
+      → (s.block n).service ≡ Waits q false source k → s.uses q source ≡ InService n
+      → left' q Answer source ≤ answer q source → s'.block n ≡ ended_block c r f (s.block n)
+      → s'.uses q source ≡ Replied → ((d i : ℕ) → (d ≡ q → i ≡ source → ⊥) → s'.uses d i ≡ s.uses d i)
+      → ((d i : ℕ) → s'.lets d i ≡ s.lets d i) → ((d : ℕ) → length (s'.link d).e ≤ length (s.link d).e)
       → rank config size left' answer s' + 1 ≤ rank config size left answer s
   answering-falls q source k told r f lt answered some waits used few new replied unlike lets acks =
-      request-falls config caching n moves mail mail' s s' showing c ch rest rest' popped size answer all block q source
-      opened unlike lets acks
-      (rw (used, replied) (let owed = report-owed told lt answered some in omega (arith, few, owed)))
-    where
-      was : ClientBlock
-      was = (s.block n).pair c
-
-      opened : s.uses q source ≡ SourceFree → ⊥
-      opened e = absurd (let both : InService n ≡ SourceFree = sym used ∙ e in cc)
-
-      pairs : (s'.block n).pair ≡ set c (after_report r was) (s.block n).pair
-      pairs = ap (λ (b : Block (List ℕ)). b.pair) new
-
-      free : (s'.block n).service ≡ Free
-      free = ap (λ (b : Block (List ℕ)). b.service) new
-
-      gone : is_for_access (s'.block n).service ≡ false
-      gone = ap is_for_access free
-
-      block : IsBlockNoMore config caching n moves mail mail' s s' showing c ch rest rest' popped size answer
-      block = record {
-        serves = λ d i e g. absurd (nobody-serving caching s' n d i showing.after gone g);
+      let was : ClientBlock = (s.block n).pair c in
+      let opened : s.uses q source ≡ SourceFree → ⊥ = λ e. absurd (let both : InService n ≡ SourceFree = sym used ∙ e in
+      cc) in
+      let pairs = ap (λ (b : Block (List ℕ)). b.pair) new in
+      let free : (s'.block n).service ≡ Free = ap (λ (b : Block (List ℕ)). b.service) new in
+      let gone : is_for_access (s'.block n).service ≡ false = ap is_for_access free in
+      let block : IsBlockNoMore config caching n moves mail mail' s s' showing c ch rest rest' popped size answer =
+      record {
+        serves = λ d i e g. absurd (nobody-serving n d i showing.after gone g);
         acquires = λ d i e g. unserved d i e g (ap (λ (u : Service). is_unserved (view u d)) waits)
             (ap (λ (u : Service). is_unserved (view u d)) free);
         lets = λ d i e g. lets-kept d (kept_at (λ p. p.letting) (after_report r was) refl pairs d);
-      }
+      } in
+      request-falls config caching n moves mail mail' s s' showing c ch rest rest' popped size answer all block q source
+      opened unlike lets acks
+      (rw (used, replied) (let owed = report-owed told lt answered some in omega (arith, few, owed)))
 
   pub granting-falls : (q source at : ℕ) (k gift : Cap) (told r : Report) (data_too : Bool) → c < number
-      → ((s.block n).pair c).probing ≡ ProbeAnswered told
-      → 1 ≤ left c ProbeAck n → (s.block n).service ≡ Waits q true at k
-      → s.uses q source ≡ Acquires n → IsLeft size left' answer s'
-      → s'.block n ≡ granted_block c q r data_too gift (s.block n)
-      → ((d i : ℕ) → s'.uses d i ≡ s.uses d i) → ((d i : ℕ) → s'.lets d i ≡ s.lets d i)
-      → ((d : ℕ) → length (s'.link d).e ≤ length (s.link d).e)
+      → ((s.block n).pair c).probing ≡ ProbeAnswered told → 1 ≤ left c ProbeAck n
+      → (s.block n).service ≡ Waits q true at k → s.uses q source ≡ Acquires n → IsLeft size left' answer s'
+      → s'.block n ≡ granted_block c q r data_too gift (s.block n) → ((d i : ℕ) → s'.uses d i ≡ s.uses d i)
+      → ((d i : ℕ) → s'.lets d i ≡ s.lets d i) → ((d : ℕ) → length (s'.link d).e ≤ length (s.link d).e)
       → rank config size left' answer s' + 1 ≤ rank config size left answer s
   granting-falls q source at k gift told r data_too lt answered some waits used is new uses lets acks =
+      let opened : s.uses q source ≡ SourceFree → ⊥ = λ e. absurd (let both : Acquires n ≡ SourceFree = sym used ∙ e in
+      cc) in
       request-falls config caching n moves mail mail' s s' showing c ch rest rest' popped size answer all block q source
       opened (λ d i ne. uses d i) lets acks
       (rw (uses q source, used) (falls-at q refl))
@@ -233,19 +207,15 @@ module _ {w : ℕ} (config : Config) (caching : ℕ → Bool) (n : ℕ) (moves :
       was : ClientBlock
       was = (s.block n).pair c
 
-      opened : s.uses q source ≡ SourceFree → ⊥
-      opened e = absurd (let both : Acquires n ≡ SourceFree = sym used ∙ e in cc)
-
       given : (s'.block n).service ≡ GrantSent q data_too gift
       given = ap (λ (b : Block (List ℕ)). b.service) new
 
       gone : is_for_access (s'.block n).service ≡ false
       gone = ap is_for_access given
 
-      falls-at : (d : ℕ) → d ≡ q
-          → acquire_weight size (left' d Acquire n) (left' d Grant n) (probes_weight number size left' n (s'.block n))
-          (view (s'.block n).service d) + 1
-          ≤ acquire_weight size (left d Acquire n) (left d Grant n) (probes_weight number size left n (s.block n))
+      falls-at : (d : ℕ) → d ≡ q → acquire_weight size (left' d Acquire n) (left' d Grant n)
+          (probes_weight number size left' n (s'.block n)) (view (s'.block n).service d) + 1 ≤ acquire_weight size
+          (left d Acquire n) (left d Grant n) (probes_weight number size left n (s.block n))
           (view (s.block n).service d)
       falls-at d e =
           let after : view (s'.block n).service d ≡ Granting data_too gift = rw (given, e, same_number q) refl in
@@ -262,23 +232,24 @@ module _ {w : ℕ} (config : Config) (caching : ℕ → Bool) (n : ℕ) (moves :
 
       acquire : (d i : ℕ) → s.uses d i ≡ Acquires n → s'.uses d i ≡ Acquires n → (d ≡ q) ⊎ (d ≡ q → ⊥)
           → acquire_weight size (left' d Acquire n) (left' d Grant n) (probes_weight number size left' n (s'.block n))
-          (view (s'.block n).service d)
-          ≤ acquire_weight size (left d Acquire n) (left d Grant n) (probes_weight number size left n (s.block n))
-          (view (s.block n).service d)
+          (view (s'.block n).service d) ≤ acquire_weight size (left d Acquire n) (left d Grant n)
+          (probes_weight number size left n (s.block n)) (view (s.block n).service d)
       acquire d i e g (inl same) = let less = falls-at d same in omega (arith, less)
       acquire d i e g (inr other) = unserved d i e g (waiting_else d other) (given_else d other)
 
       letting : (d : ℕ) → ((s'.block n).pair d).letting ≡ ((s.block n).pair d).letting
-      letting d =
-          ap (λ (b : Block (List ℕ)). (b.pair d).letting) new
-          ∙ (set-part (λ p. p.letting) q (after_grant_sent gift ((s.block n).pair q))
-          (set c (after_report r was) (s.block n).pair)
-          (sym (set-part (λ p. p.letting) c (after_report r was) (s.block n).pair refl q)) d
-          ∙ set-part (λ p. p.letting) c (after_report r was) (s.block n).pair refl d)
+      letting d = cc (
+        new,
+        set-part (λ p. p.letting) q (after_grant_sent gift ((s.block n).pair q))
+            (set c (after_report r was) (s.block n).pair)
+            (sym (set-part (λ p. p.letting) c (after_report r was) (s.block n).pair refl q)) d,
+        set-part (λ p. p.letting)
+            c (after_report r was) (s.block n).pair refl d,
+      )
 
       block : IsBlockNoMore config caching n moves mail mail' s s' showing c ch rest rest' popped size answer
       block = record {
-        serves = λ d i e g. absurd (nobody-serving caching s' n d i showing.after gone g);
+        serves = λ d i e g. absurd (nobody-serving n d i showing.after gone g);
         acquires = λ d i e g. acquire d i e g (cases_eq d q);
         lets = λ d i e g. lets-kept d (letting d);
       }

@@ -10,38 +10,33 @@ use Rattle.std.proofs.lemmas.Bool.{cases_eq, ne_eqb}
 use Rattle.tl_coherence.specs.protocol.Phase.{Idle}
 use Rattle.tl_coherence.specs.protocol.PhaseSteps.{after_served, after_grant_sent}
 use Rattle.tl_coherence.specs.protocol.Protocol.{performed_block, served_block, served_pair}
-use Rattle.tl_coherence.proofs.queues.Channels.{IsShowing}
+use Rattle.tl_coherence.proofs.{queues.Channels.IsShowing, protocol.BeatsRemaining.IsPopped}
+use Rattle.tl_coherence.proofs.{protocol.BeatsRemaining.beats_left, rank.RankParts.AreClients}
+use Rattle.tl_coherence.proofs.{rank.RankParts.request-falls, protocol.QuiescentProtocol.serves_another}
+use Rattle.tl_coherence.proofs.{queues.Sums.total-le, queues.Tokens.same_number, queues.Tokens.set-part}
 use Rattle.tl_coherence.proofs.rank.Frames.{IsBlockNoMore, acquire-stays, let-stays, pair-stays, unserved-stays}
 use Rattle.tl_coherence.proofs.rank.Frames.{wants-used}
-use Rattle.tl_coherence.proofs.protocol.BeatsRemaining.{IsPopped, beats_left}
-use Rattle.tl_coherence.proofs.rank.RankParts.{AreClients, request-falls}
 use Rattle.tl_coherence.proofs.bound.ReportDecreases.{is_for_access, nobody-serving}
-use Rattle.tl_coherence.proofs.protocol.QuiescentProtocol.{serves_another}
-use Rattle.tl_coherence.proofs.queues.Sums.{total-le}
-use Rattle.tl_coherence.proofs.queues.Tokens.{same_number, set-part}
 use Rattle.tl_coherence.proofs.rank.Weights.{IsLeft, probes-few, probes-fewer}
-use Rattle.tl_coherence.proofs.queues.Facts.{is_other}
 
 -- a client whose own Acquire is in service isn't probed for it
-owner_quiet : (caching : ℕ → Bool) (s : State (List ℕ)) (n r : ℕ) → IsInvariant caching s
+owner_quiet : {caching : ℕ → Bool} {s : State (List ℕ)} (n r : ℕ) → IsInvariant caching s
     → view (s.block n).service r ≡ Own → is_unprobed ((s.block n).pair r).probing ≡ true
-owner_quiet caching s n r inv own = go (is_unprobed ((s.block n).pair r).probing) refl
+owner_quiet {s} n r inv own = go (is_unprobed ((s.block n).pair r).probing) refl
   where
     go : (b : Bool) → is_unprobed ((s.block n).pair r).probing ≡ b → b ≡ true
     go true e = refl
     go false e =
-        let other : is_other (view (s.block n).service r) ≡ true =
-        serves_another ((s.block n).pair r) (view (s.block n).service r) ((inv.blocks n).phases r) e in
+        let other = serves_another ((s.block n).pair r) (view (s.block n).service r) ((inv.blocks n).phases r) e in
         let no : false ≡ true = rw own at other in
         absurd cc
 
 served_letting : (r : ℕ) (own : Bool) (k : Cap) (pair : ℕ → ClientBlock) (d : ℕ)
     → (served_pair r own k pair d).letting ≡ (pair d).letting
-served_letting r own k pair d = go (own && (d == r))
-  where
-    go : (b : Bool) → (if b then pair d else after_served k (pair d)).letting ≡ (pair d).letting
-    go true = refl
-    go false = refl
+served_letting r own k pair d =
+    let go : (b : Bool) → (if b then pair d else after_served k (pair d)).letting ≡ (pair d).letting =
+    elim [ true ↦ refl | false ↦ refl ] in
+    go (own && (d == r))
 
 module _ {w : ℕ} (config : Config) (caching : ℕ → Bool) (n : ℕ) (moves : ℕ → Channel → Move)
     (mail mail' : AccessMessages w) (s s' : State (List ℕ)) (showing : IsShowing caching n moves mail mail' s s')
@@ -67,22 +62,19 @@ module _ {w : ℕ} (config : Config) (caching : ℕ → Bool) (n : ℕ) (moves :
   -- a block whose parts in flight are as before owes no more
   pub block-alike : (s'.block n).pair ≡ (s.block n).pair → (s'.block n).service ≡ (s.block n).service
       → IsBlockNoMore config caching n moves mail mail' s s' showing c ch rest rest' popped size answer
-  block-alike pairs service = record {
-    serves = λ d i e f. probes;
-    acquires = λ d i e f.
-        acquire-stays config caching n moves mail mail' s s' showing c ch rest rest' popped size answer d n
-        (wants-used caching s showing.before d i n e)
-        (ap (λ (p : ℕ → ClientBlock). (p d).acquiring) pairs) (ap (λ (u : Service). view u d) service) probes;
-    lets = λ d i e f. let-stays config caching n moves mail mail' s s' showing c ch rest rest' popped size answer d n
-        (ap (λ (p : ℕ → ClientBlock). (p d).letting) pairs);
-  }
-    where
-      probes : probes_weight number size left' n (s'.block n) ≤ probes_weight number size left n (s.block n)
-      probes = total-le number (λ d. pair_weight size left' n d ((s'.block n).pair d))
-          (λ d. pair_weight size left n d ((s.block n).pair d))
-          (λ d lt. pair-stays config caching n moves mail mail' s s' showing c ch rest rest' popped size answer d n
-          (ap (λ (p : ℕ → ClientBlock). (p d).probing) pairs)
-          (ap (λ (p : ℕ → ClientBlock). (p d).recorded) pairs))
+  block-alike pairs service =
+      let probes = total-le number (λ d. pair_weight size left' n d ((s'.block n).pair d))
+      (λ d. pair_weight size left n d ((s.block n).pair d)) (λ d lt. pair-stays config caching n moves mail mail' s
+      s' showing c ch rest rest' popped size answer d n (ap (λ (p : ℕ → ClientBlock). (p d).probing) pairs)
+      (ap (λ (p : ℕ → ClientBlock). (p d).recorded) pairs)) in
+      record {
+        serves = λ d i e f. probes;
+        acquires = λ d i e f. acquire-stays config caching n moves mail mail' s s' showing c ch rest rest' popped size
+            answer d n (wants-used showing.before d i n e) (ap (λ (p : ℕ → ClientBlock). (p d).acquiring) pairs)
+            (ap (λ (u : Service). view u d) service) probes;
+        lets = λ d i e f. let-stays config caching n moves mail mail' s s' showing c ch rest rest' popped size answer d
+            n (ap (λ (p : ℕ → ClientBlock). (p d).letting) pairs);
+      }
 
   pub answered-falls : (source : ℕ) (f : List ℕ → List ℕ) → s.uses c source ≡ Asked → s'.uses c source ≡ Replied
       → left' c Answer source ≤ answer c source → s'.block n ≡ performed_block f (s.block n)
@@ -90,12 +82,11 @@ module _ {w : ℕ} (config : Config) (caching : ℕ → Bool) (n : ℕ) (moves :
       → ((d : ℕ) → length (s'.link d).e ≤ length (s.link d).e)
       → rank config size left' answer s' + 1 ≤ rank config size left answer s
   answered-falls source f asked replied few new unlike lets acks =
+      let opened : s.uses c source ≡ SourceFree → ⊥ = λ e. absurd (let both : Asked ≡ SourceFree = sym asked ∙ e in cc)
+      in
       request-falls config caching n moves mail mail' s s' showing c ch rest rest' popped size answer all
       (block-alike (ap (λ (b : Block (List ℕ)). b.pair) new) (ap (λ (b : Block (List ℕ)). b.service) new))
       c source opened unlike lets acks (rw (asked, replied) (omega (arith, few)))
-    where
-      opened : s.uses c source ≡ SourceFree → ⊥
-      opened e = absurd (let both : Asked ≡ SourceFree = sym asked ∙ e in cc)
 
   -- ---- a free block comes into service
 
@@ -108,7 +99,7 @@ module _ {w : ℕ} (config : Config) (caching : ℕ → Bool) (n : ℕ) (moves :
     come-into-service : ((d : ℕ) → (is_unserved (view (s'.block n).service d) ≡ true) ⊎ (owed_for' d ≤ owed_for d))
         → IsBlockNoMore config caching n moves mail mail' s s' showing c ch rest rest' popped size answer
     come-into-service each = record {
-      serves = λ d i e f. absurd (nobody-serving caching s n d i showing.before none_before e);
+      serves = λ d i e f. absurd (nobody-serving n d i showing.before none_before e);
       acquires = λ d i e f. acquire d i e f (each d);
       lets = λ d i e f. let-stays config caching n moves mail mail' s s' showing c ch rest rest' popped size answer d n
           (letting d);
@@ -117,8 +108,7 @@ module _ {w : ℕ} (config : Config) (caching : ℕ → Bool) (n : ℕ) (moves :
         acquire : (d i : ℕ) → s.uses d i ≡ Acquires n → s'.uses d i ≡ Acquires n
             → (is_unserved (view (s'.block n).service d) ≡ true) ⊎ (owed_for' d ≤ owed_for d) → owed_for' d ≤ owed_for d
         acquire d i e f (inl waits) = unserved-stays config caching n moves mail mail' s s' showing c ch rest rest'
-            popped size answer d i n e f
-            (ap (λ (u : Service). is_unserved (view u d)) free) waits
+            popped size answer d i n e f (ap (λ (u : Service). is_unserved (view u d)) free) waits
         acquire d i e f (inr less) = less
 
     idle : (d : ℕ) → view (s.block n).service d ≡ Idle
@@ -131,29 +121,24 @@ module _ {w : ℕ} (config : Config) (caching : ℕ → Bool) (n : ℕ) (moves :
         → ((d : ℕ) → length (s'.link d).e ≤ length (s.link d).e)
         → rank config size left' answer s' + 1 ≤ rank config size left answer s
     serving-falls source at k wide narrow sixteen waits asked served some is unlike lets acks =
+        let opened : s.uses c source ≡ SourceFree → ⊥ = λ e. absurd (let both : Asked ≡ SourceFree = sym asked ∙ e in
+        cc) in
+        let probes = probes-few caching s' showing.after size left' answer is wide narrow number sixteen n in
         request-falls config caching n moves mail mail' s s' showing c ch rest rest' popped size answer all
         (come-into-service (λ d. inl (ap (λ (u : Service). is_unserved (view u d)) waits)))
         c source opened unlike lets acks (rw (asked, served) (omega (arith, some, probes)))
-      where
-        opened : s.uses c source ≡ SourceFree → ⊥
-        opened e = absurd (let both : Asked ≡ SourceFree = sym asked ∙ e in cc)
-
-        probes : probes_weight number size left' n (s'.block n) ≤ 32
-        probes = probes-few caching s' showing.after size left' answer is wide narrow number sixteen n
 
     pub acquire-granted-falls : (source : ℕ) (data_too : Bool) (k : Cap) → (s'.block n).service ≡ GrantSent c data_too k
-        → s.uses c source ≡ Acquires n → IsLeft size left' answer s'
-        → ((d i : ℕ) → s'.uses d i ≡ s.uses d i) → ((d i : ℕ) → s'.lets d i ≡ s.lets d i)
-        → ((d : ℕ) → length (s'.link d).e ≤ length (s.link d).e)
+        → s.uses c source ≡ Acquires n → IsLeft size left' answer s' → ((d i : ℕ) → s'.uses d i ≡ s.uses d i)
+        → ((d i : ℕ) → s'.lets d i ≡ s.lets d i) → ((d : ℕ) → length (s'.link d).e ≤ length (s.link d).e)
         → rank config size left' answer s' + 1 ≤ rank config size left answer s
     acquire-granted-falls source data_too k given used is uses lets acks =
+        let opened : s.uses c source ≡ SourceFree → ⊥ =
+        λ e. absurd (let both : Acquires n ≡ SourceFree = sym used ∙ e in cc) in
         request-falls config caching n moves mail mail' s s' showing c ch rest rest' popped size answer all
         (come-into-service (λ d. at d (cases_eq d c)))
         c source opened (λ d i ne. uses d i) lets acks (rw (uses c source, used) (less c refl))
       where
-        opened : s.uses c source ≡ SourceFree → ⊥
-        opened e = absurd (let both : Acquires n ≡ SourceFree = sym used ∙ e in cc)
-
         less : (d : ℕ) → d ≡ c → owed_for' d + 1 ≤ owed_for d
         less d e =
             let after : view (s'.block n).service d ≡ Granting data_too k = rw (given, e, same_number c) refl in
@@ -166,11 +151,10 @@ module _ {w : ℕ} (config : Config) (caching : ℕ → Bool) (n : ℕ) (moves :
         at d (inr ne) = inl (rw (given, ne_eqb d c ne) refl)
 
     pub acquire-served-falls : (source at : ℕ) (k : Cap) → 1 ≤ size → size ≤ 16 → number ≤ 16
-        → (s'.block n).service ≡ Waits c true at k
-        → s.uses c source ≡ Acquires n → 1 ≤ left c Acquire n → IsLeft size left' answer s'
-        → ((d i : ℕ) → s'.uses d i ≡ s.uses d i) → ((d i : ℕ) → s'.lets d i ≡ s.lets d i)
-        → ((d : ℕ) → length (s'.link d).e ≤ length (s.link d).e)
-        → rank config size left' answer s' + 1 ≤ rank config size left answer s
+        → (s'.block n).service ≡ Waits c true at k → s.uses c source ≡ Acquires n → 1 ≤ left c Acquire n
+        → IsLeft size left' answer s' → ((d i : ℕ) → s'.uses d i ≡ s.uses d i) → ((d i : ℕ) → s'.lets d i ≡ s.lets d i)
+        → ((d : ℕ) → length (s'.link d).e ≤ length (s.link d).e) → rank config size left' answer s' + 1
+        ≤ rank config size left answer s
     acquire-served-falls source at k wide narrow sixteen waits used some is uses lets acks =
         request-falls config caching n moves mail mail' s s' showing c ch rest rest' popped size answer all
         (come-into-service (λ d. each d (cases_eq d c)))
@@ -184,7 +168,7 @@ module _ {w : ℕ} (config : Config) (caching : ℕ → Bool) (n : ℕ) (moves :
 
         probes : probes_weight number size left' n (s'.block n) ≤ 30
         probes = probes-fewer caching s' showing.after size left' answer is wide narrow number sixteen n c
-            (all.clients c source opened) (owner_quiet caching s' n c showing.after own)
+            (all.clients c source opened) (owner_quiet n c showing.after own)
 
         less : owed_for' c + 1 ≤ owed_for c
         less = rw (own, idle c) (omega (arith, probes, some))
@@ -196,13 +180,11 @@ module _ {w : ℕ} (config : Config) (caching : ℕ → Bool) (n : ℕ) (moves :
 
   -- the parts of Releases, in a block that is served or granted
   pub served-letting : (own : Bool) (source tracker : ℕ) (k : Cap) → s'.block n ≡ served_block c own source tracker k
-      (s.block n) → (d : ℕ)
-      → ((s'.block n).pair d).letting ≡ ((s.block n).pair d).letting
+      (s.block n) → (d : ℕ) → ((s'.block n).pair d).letting ≡ ((s.block n).pair d).letting
   served-letting own source tracker k new d = ap (λ (b : Block (List ℕ)). (b.pair d).letting) new ∙ served_letting c own
       k (s.block n).pair d
 
   pub granted-letting : (tracker : ℕ) (data_too : Bool) (k : Cap) → s'.block n ≡ granted_at_once c tracker data_too k
-      (s.block n) → (d : ℕ)
-      → ((s'.block n).pair d).letting ≡ ((s.block n).pair d).letting
+      (s.block n) → (d : ℕ) → ((s'.block n).pair d).letting ≡ ((s.block n).pair d).letting
   granted-letting tracker data_too k new d = ap (λ (b : Block (List ℕ)). (b.pair d).letting) new ∙ set-part
       (λ p. p.letting) c (after_grant_sent k ((s.block n).pair c)) (s.block n).pair refl d

@@ -9,55 +9,46 @@ use Rattle.tl_coherence.proofs.bound.Imports.{AccessMessages, Acquire, Grant, Pr
 use Rattle.std.proofs.Common.{◌≡◌, ℕ, ◌+◌, ◌<◌, ◌≤◌, Bool, true, false, List, refl, sym, ◌∙◌, ap, arith, ◌⊎◌, inl, inr}
 use Rattle.std.specs.Prelude.{◌==◌, if◌then◌else◌, Some, None, length}
 use Rattle.std.proofs.lemmas.Bool.{cases_eq, ne_eqb, eqb-true}
-use Rattle.tl_params.specs.declared.param.Prune.TheVariants as prune
-use Rattle.tl_params.specs.declared.perm.Perm.TheVariants as perm
 use Rattle.tl_params.specs.statement.Param.{prune_right}
 use Rattle.tl_rules.specs.statement.Conformance.{same_perm}
-use Rattle.tl_coherence.specs.protocol.Invariant.{acquires_of, acquires_with}
+use Rattle.tl_coherence.specs.protocol.Invariant.{acquires_with}
 use Rattle.tl_coherence.specs.protocol.Phase.{Acknowledging, GrantedOther}
 use Rattle.tl_coherence.specs.protocol.PhaseSteps.{after_release_taken, after_release_ack, after_grant}
 use Rattle.tl_coherence.specs.protocol.Protocol.{let_go_block, freed_block}
-use Rattle.tl_coherence.proofs.queues.Channels.{IsShowing}
-use Rattle.tl_coherence.proofs.rank.RankDecreases.{owed_use, owed_use'}
+use Rattle.tl_coherence.proofs.{queues.Channels.IsShowing, rank.RankDecreases.owed_use, rank.RankDecreases.owed_use'}
+use Rattle.tl_coherence.proofs.{queues.Phases.and_right, queues.Sums.total-le}
 use Rattle.tl_coherence.proofs.rank.Frames.{IsBlockNoMore, acquire-stays, let-stays, pair-stays, unserved-stays}
 use Rattle.tl_coherence.proofs.rank.Frames.{wants-used, report-here}
 use Rattle.tl_coherence.proofs.protocol.BeatsRemaining.{IsPopped, beats_left, left-same}
 use Rattle.tl_coherence.proofs.rank.RankParts.{AreClients, request-falls, release-falls, acknowledged-falls}
 use Rattle.tl_coherence.proofs.rank.RankParts.{granted-falls, block-same}
-use Rattle.tl_coherence.proofs.queues.Phases.{and_right}
 use Rattle.tl_coherence.proofs.bound.ReportDecreases.{nobody-serving, is_for_access}
-use Rattle.tl_coherence.proofs.queues.Sums.{total-le}
 use Rattle.tl_coherence.proofs.queues.Tokens.{same_number, set-same, set-other, set-part}
 
 -- who has released is no longer recorded as the writer
-pruned : (r : Prune) → same_perm (prune_right r) perm.Trunk ≡ false
-pruned prune.TtoB = refl
-pruned prune.TtoN = refl
-pruned prune.BtoN = refl
+pruned : (r : Prune) → same_perm (prune_right r) Perm.Trunk ≡ false
+pruned Prune.TtoB = refl
+pruned r = refl
 
 pruned-weight : (size l l' : ℕ) (recorded : Perm) (r : Prune) (x : ProbePhase) → 1 ≤ size → ((a : ℕ) → l' ≤ l)
     → probing_weight size l' (prune_right r) x ≤ probing_weight size l recorded x
 pruned-weight size l l' recorded r NoProbe some le = omega arith
-pruned-weight size l l' recorded r (ProbeSent k) some le = rw (pruned r) (go (same_perm recorded perm.Trunk))
-  where
-    go : (b : Bool) → 2 ≤ 1 + (if b then size else 1)
-    go true = omega (arith, some)
-    go false = omega arith
+pruned-weight size l l' recorded r (ProbeSent k) some le =
+    let go : (b : Bool) → 2 ≤ 1 + (if b then size else 1) = elim [ true ↦ omega (arith, some) | false ↦ omega arith ] in
+    rw (pruned r) (go (same_perm recorded Perm.Trunk))
 pruned-weight size l l' recorded r (ProbeAnswered x) some le = le 0
 
 granted_unserved : (q d : ℕ) → is_unserved (view (GrantTaken q) d) ≡ true
-granted_unserved q d = go (d == q)
-  where
-    go : (b : Bool) → is_unserved (if b then Acknowledging else GrantedOther) ≡ true
-    go true = refl
-    go false = refl
+granted_unserved q d =
+    let go : (b : Bool) → is_unserved (if b then Acknowledging else GrantedOther) ≡ true =
+    elim [ true ↦ refl | false ↦ refl ] in
+    go (d == q)
 
 -- an Acquire has one source
-acquired_with : (caching : ℕ → Bool) (s : State (List ℕ)) (n c i : ℕ) → IsInvariant caching s → s.uses c i ≡ Acquires n
+acquired_with : {caching : ℕ → Bool} {s : State (List ℕ)} (n c i : ℕ) → IsInvariant caching s → s.uses c i ≡ Acquires n
     → i ≡ (s.block n).source c
-acquired_with caching s n c i inv e =
-    let named : acquires_with c i (s.block n) ≡ true =
-    sym (inv.named.acquires c i n) ∙ (ap (acquires_of n) e ∙ same_number n) in
+acquired_with {s} n c i inv e =
+    let named : acquires_with c i (s.block n) ≡ true = cc (inv.named.acquires c i n, e, same_number n) in
     eqb-true i ((s.block n).source c) (and_right (is_wanting ((s.block n).pair c).acquiring) (i == (s.block n).source c)
     named)
 
@@ -76,8 +67,7 @@ module _ {w : ℕ} (config : Config) (caching : ℕ → Bool) (n : ℕ) (moves :
 
   -- a part of pairs that an event leaves alone
   kept_at : {A : Type 0} (part : ClientBlock → A) (p : ClientBlock) → part p ≡ part ((s.block n).pair c)
-      → (s'.block n).pair ≡ set c p (s.block n).pair → (d : ℕ)
-      → part ((s'.block n).pair d) ≡ part ((s.block n).pair d)
+      → (s'.block n).pair ≡ set c p (s.block n).pair → (d : ℕ) → part ((s'.block n).pair d) ≡ part ((s.block n).pair d)
   kept_at part p e new d = ap (λ (f : ℕ → ClientBlock). part (f d)) new ∙ set-part part c p (s.block n).pair e d
 
   letting_stays : (d : ℕ) → ((s'.block n).pair d).letting ≡ ((s.block n).pair d).letting
@@ -86,81 +76,71 @@ module _ {w : ℕ} (config : Config) (caching : ℕ → Bool) (n : ℕ) (moves :
   letting_stays d e = let-stays config caching n moves mail mail' s s' showing c ch rest rest' popped size answer d n e
 
   pub answer-falls : (source : ℕ) → s.uses c source ≡ Replied → s'.uses c source ≡ SourceFree → 1 ≤ left c Answer source
-      → s'.block n ≡ s.block n
-      → ((d i : ℕ) → (d ≡ c → i ≡ source → ⊥) → s'.uses d i ≡ s.uses d i) → ((d i : ℕ) → s'.lets d i ≡ s.lets d i)
-      → ((d : ℕ) → length (s'.link d).e ≤ length (s.link d).e)
+      → s'.block n ≡ s.block n → ((d i : ℕ) → (d ≡ c → i ≡ source → ⊥) → s'.uses d i ≡ s.uses d i)
+      → ((d i : ℕ) → s'.lets d i ≡ s.lets d i) → ((d : ℕ) → length (s'.link d).e ≤ length (s.link d).e)
       → rank config size left' answer s' + 1 ≤ rank config size left answer s
   answer-falls source replied closed some same unlike lets acks =
+      let opened : s.uses c source ≡ SourceFree → ⊥ = λ e. absurd (let both : Replied ≡ SourceFree = sym replied ∙ e in
+      cc) in
       request-falls config caching n moves mail mail' s s' showing c ch rest rest' popped size answer all
       (block-same config caching n moves mail mail' s s' showing c ch rest rest' popped size answer all same)
       c source opened unlike lets acks (rw (replied, closed) (omega (arith, some)))
-    where
-      opened : s.uses c source ≡ SourceFree → ⊥
-      opened e = absurd (let both : Replied ≡ SourceFree = sym replied ∙ e in cc)
 
   pub grant-taken-falls : (data_too was_data whole : Bool) (k cap : Cap)
-      → (s.block n).service ≡ GrantSent c was_data cap
-      → s.uses c ((s.block n).source c) ≡ Acquires n → s'.uses c ((s.block n).source c) ≡ SourceFree
-      → 1 ≤ left c Grant n → s'.block n ≡ taken_block c whole data_too k (s.block n)
-      → ((d i : ℕ) → (d ≡ c → i ≡ (s.block n).source c → ⊥) → s'.uses d i ≡ s.uses d i)
-      → ((d i : ℕ) → s'.lets d i ≡ s.lets d i)
+      → (s.block n).service ≡ GrantSent c was_data cap → s.uses c ((s.block n).source c) ≡ Acquires n
+      → s'.uses c ((s.block n).source c) ≡ SourceFree → 1 ≤ left c Grant n
+      → s'.block n ≡ taken_block c whole data_too k (s.block n) → ((d i : ℕ) → (d ≡ c → i ≡ (s.block n).source c → ⊥)
+      → s'.uses d i ≡ s.uses d i) → ((d i : ℕ) → s'.lets d i ≡ s.lets d i)
       → ((d : ℕ) → (d ≡ c → ⊥) → length (s'.link d).e ≤ length (s.link d).e)
-      → length (s'.link c).e ≡ length (s.link c).e + 1
-      → rank config size left' answer s' + 1 ≤ rank config size left answer s
+      → length (s'.link c).e ≡ length (s.link c).e + 1 → rank config size left' answer s' + 1 ≤ rank config size left
+      answer s
   grant-taken-falls data_too was_data whole k cap given used closed some new unlike lets acks more =
+      let opened : s.uses c ((s.block n).source c) ≡ SourceFree → ⊥ =
+      λ e. absurd (let both : Acquires n ≡ SourceFree = sym used ∙ e in cc) in
+      let less : owed_use' config size left left' answer answer s s' c ((s.block n).source c) + 2 ≤ owed_use config size
+      left left' answer answer s s' c ((s.block n).source c) = rw (used, closed, before) (omega (arith, some)) in
       granted-falls config caching n moves mail mail' s s' showing c ch rest rest' popped size answer all block c
       ((s.block n).source c) opened unlike lets acks more less
     where
-      opened : s.uses c ((s.block n).source c) ≡ SourceFree → ⊥
-      opened e = absurd (let both : Acquires n ≡ SourceFree = sym used ∙ e in cc)
-
       taken : (s'.block n).service ≡ GrantTaken c
       taken = ap (λ (b : Block (List ℕ)). b.service) new
 
       before : view (s.block n).service c ≡ Granting was_data cap
       before = rw (given, same_number c) refl
 
-      less : owed_use' config size left left' answer answer s s' c ((s.block n).source c) + 2 ≤ owed_use config size
-          left left' answer answer s s' c ((s.block n).source c)
-      less = rw (used, closed, before) (omega (arith, some))
-
       waiting : (d : ℕ) → (d ≡ c → ⊥) → is_unserved (view (s.block n).service d) ≡ true
       waiting d ne = rw (given, ne_eqb d c ne) refl
 
       acquire : (d i : ℕ) → s.uses d i ≡ Acquires n → s'.uses d i ≡ Acquires n → (d ≡ c) ⊎ (d ≡ c → ⊥)
           → acquire_weight size (left' d Acquire n) (left' d Grant n) (probes_weight number size left' n (s'.block n))
-          (view (s'.block n).service d)
-          ≤ acquire_weight size (left d Acquire n) (left d Grant n) (probes_weight number size left n (s.block n))
-          (view (s.block n).service d)
+          (view (s'.block n).service d) ≤ acquire_weight size (left d Acquire n) (left d Grant n)
+          (probes_weight number size left n (s.block n)) (view (s.block n).service d)
       acquire d i e f (inl same) =
           let own : s.uses c i ≡ Acquires n = rw same at e in
-          let at = acquired_with caching s n c i showing.before own in
+          let at = acquired_with n c i showing.before own in
           let end : s'.uses c i ≡ SourceFree = rw at closed in
           let still : s'.uses c i ≡ Acquires n = rw same at f in
           absurd (let both : Acquires n ≡ SourceFree = sym still ∙ end in cc)
-      acquire d i e f (inr other) =
-          unserved-stays config caching n moves mail mail' s s' showing c ch rest rest' popped size answer d i n e f
-          (waiting d other)
-          (ap (λ (u : Service). is_unserved (view u d)) taken ∙ granted_unserved c d)
+      acquire d i e f (inr other) = unserved-stays config caching n moves mail mail' s s' showing c ch rest rest' popped
+          size answer d i n e f (waiting d other) (ap (λ (u : Service). is_unserved (view u d)) taken
+          ∙ granted_unserved c d)
 
       block : IsBlockNoMore config caching n moves mail mail' s s' showing c ch rest rest' popped size answer
       block = record {
-        serves = λ d i e f. absurd (nobody-serving caching s n d i showing.before (ap is_for_access given) e);
+        serves = λ d i e f. absurd (nobody-serving n d i showing.before (ap is_for_access given) e);
         acquires = λ d i e f. acquire d i e f (cases_eq d c);
         lets = λ d i e f. letting_stays d (kept_at (λ p. p.letting) (after_grant k ((s.block n).pair c)) refl
             (ap (λ (b : Block (List ℕ)). b.pair) new) d);
       }
 
   pub release-taken-falls : (source : ℕ) (told r : Prune) → 1 ≤ size → s.lets c source ≡ Some n
-      → ((s.block n).pair c).letting ≡ ReleaseSent told
-      → 1 ≤ left c Release n → s'.block n ≡ let_block c r (s.block n)
+      → ((s.block n).pair c).letting ≡ ReleaseSent told → 1 ≤ left c Release n → s'.block n ≡ let_block c r (s.block n)
       → ((d i : ℕ) → s'.uses d i ≡ s.uses d i) → ((d i : ℕ) → s'.lets d i ≡ s.lets d i)
-      → ((d : ℕ) → length (s'.link d).e ≤ length (s.link d).e)
-      → rank config size left' answer s' + 1 ≤ rank config size left answer s
+      → ((d : ℕ) → length (s'.link d).e ≤ length (s.link d).e) → rank config size left' answer s' + 1
+      ≤ rank config size left answer s
   release-taken-falls source told r wide used releasing some new uses lets acks =
       release-falls config caching n moves mail mail' s s' showing c ch rest rest' popped size answer all block c source
-      n used uses (λ d i ne. lets d i) acks
-      (rw (lets c source, used, releasing, acked) (omega (arith, some)))
+      n used uses (λ d i ne. lets d i) acks (rw (lets c source, used, releasing, acked) (omega (arith, some)))
     where
       was : ClientBlock
       was = (s.block n).pair c
@@ -172,8 +152,7 @@ module _ {w : ℕ} (config : Config) (caching : ℕ → Bool) (n : ℕ) (moves :
       own = ap (λ (f : ℕ → ClientBlock). f c) pairs ∙ set-same c (after_release_taken r was) (s.block n).pair
 
       other : (d : ℕ) → (d ≡ c → ⊥) → (s'.block n).pair d ≡ (s.block n).pair d
-      other d ne = ap (λ (f : ℕ → ClientBlock). f d) pairs ∙ set-other c d (after_release_taken r was) (s.block n).pair
-          ne
+      other d ne = cc (pairs, set-other c d (after_release_taken r was) (s.block n).pair ne)
 
       acked : ((s'.block n).pair c).letting ≡ ReleaseAcked
       acked = ap (λ (p : ClientBlock). p.letting) own
@@ -197,28 +176,24 @@ module _ {w : ℕ} (config : Config) (caching : ℕ → Bool) (n : ℕ) (moves :
       each : (d : ℕ) → (d ≡ c) ⊎ (d ≡ c → ⊥) → pair_weight size left' n d ((s'.block n).pair d) ≤ pair_weight size left
           n d ((s.block n).pair d)
       each d (inl same) = rw same here
-      each d (inr ne) =
-          pair-stays config caching n moves mail mail' s s' showing c ch rest rest' popped size answer d n
+      each d (inr ne) = pair-stays config caching n moves mail mail' s s' showing c ch rest rest' popped size answer d n
           (ap (λ (p : ClientBlock). p.probing) (other d ne)) (ap (λ (p : ClientBlock). p.recorded) (other d ne))
 
       probes : probes_weight number size left' n (s'.block n) ≤ probes_weight number size left n (s.block n)
       probes = total-le number (λ d. pair_weight size left' n d ((s'.block n).pair d))
           (λ d. pair_weight size left n d ((s.block n).pair d)) (λ d lt. each d (cases_eq d c))
 
-      letting : (d : ℕ) → (d ≡ c) ⊎ (d ≡ c → ⊥)
-          → letting_weight (left' d Release n) ((s'.block n).pair d).letting ≤ letting_weight (left d Release n)
-          ((s.block n).pair d).letting
+      letting : (d : ℕ) → (d ≡ c) ⊎ (d ≡ c → ⊥) → letting_weight (left' d Release n) ((s'.block n).pair d).letting
+          ≤ letting_weight (left d Release n) ((s.block n).pair d).letting
       letting d (inl same) = rw (same, acked, releasing) (omega arith)
       letting d (inr ne) = letting_stays d (ap (λ (p : ClientBlock). p.letting) (other d ne))
 
       block : IsBlockNoMore config caching n moves mail mail' s s' showing c ch rest rest' popped size answer
       block = record {
         serves = λ d i e f. probes;
-        acquires = λ d i e f.
-            acquire-stays config caching n moves mail mail' s s' showing c ch rest rest' popped size answer d n
-            (wants-used caching s showing.before d i n e)
-            (kept_at (λ p. p.acquiring) (after_release_taken r was) refl pairs d)
-            (ap (λ (b : Block (List ℕ)). view b.service d) new) probes;
+        acquires = λ d i e f. acquire-stays config caching n moves mail mail' s s' showing c ch rest rest' popped size
+            answer d n (wants-used showing.before d i n e) (kept_at (λ p. p.acquiring) (after_release_taken r was) refl
+            pairs d) (ap (λ (b : Block (List ℕ)). view b.service d) new) probes;
         lets = λ d i e f. letting d (cases_eq d c);
       }
 
@@ -246,25 +221,21 @@ module _ {w : ℕ} (config : Config) (caching : ℕ → Bool) (n : ℕ) (moves :
 
       probes : probes_weight number size left' n (s'.block n) ≤ probes_weight number size left n (s.block n)
       probes = total-le number (λ d. pair_weight size left' n d ((s'.block n).pair d))
-          (λ d. pair_weight size left n d ((s.block n).pair d))
-          (λ d lt. pair-stays config caching n moves mail mail' s s' showing c ch rest rest' popped size answer d n
-          (kept_at (λ p. p.probing) (after_release_ack was) refl pairs d)
-          (kept_at (λ p. p.recorded) (after_release_ack was) refl pairs d))
+          (λ d. pair_weight size left n d ((s.block n).pair d)) (λ d lt. pair-stays config caching n moves mail mail' s
+          s' showing c ch rest rest' popped size answer d n (kept_at (λ p. p.probing) (after_release_ack was) refl pairs
+          d) (kept_at (λ p. p.recorded) (after_release_ack was) refl pairs d))
 
-      letting : (d : ℕ) → (d ≡ c) ⊎ (d ≡ c → ⊥)
-          → letting_weight (left' d Release n) ((s'.block n).pair d).letting ≤ letting_weight (left d Release n)
-          ((s.block n).pair d).letting
+      letting : (d : ℕ) → (d ≡ c) ⊎ (d ≡ c → ⊥) → letting_weight (left' d Release n) ((s'.block n).pair d).letting
+          ≤ letting_weight (left d Release n) ((s.block n).pair d).letting
       letting d (inl same) = rw (same, kept) (omega arith)
       letting d (inr ne) = letting_stays d (ap (λ (p : ClientBlock). p.letting) (other d ne))
 
       block : IsBlockNoMore config caching n moves mail mail' s s' showing c ch rest rest' popped size answer
       block = record {
         serves = λ d i e f. probes;
-        acquires = λ d i e f.
-            acquire-stays config caching n moves mail mail' s s' showing c ch rest rest' popped size answer d n
-            (wants-used caching s showing.before d i n e)
-            (kept_at (λ p. p.acquiring) (after_release_ack was) refl pairs d)
-            (ap (λ (b : Block (List ℕ)). view b.service d) new) probes;
+        acquires = λ d i e f. acquire-stays config caching n moves mail mail' s s' showing c ch rest rest' popped size
+            answer d n (wants-used showing.before d i n e) (kept_at (λ p. p.acquiring) (after_release_ack was) refl
+            pairs d) (ap (λ (b : Block (List ℕ)). view b.service d) new) probes;
         lets = λ d i e f. letting d (cases_eq d c);
       }
 
@@ -273,18 +244,14 @@ module _ {w : ℕ} (config : Config) (caching : ℕ → Bool) (n : ℕ) (moves :
       → ((d : ℕ) → length (s'.link d).e ≤ length (s.link d).e) → length (s'.link c).e + 1 ≤ length (s.link c).e
       → rank config size left' answer s' + 1 ≤ rank config size left answer s
   grant-ack-falls q lt taken new uses lets acks less =
-      acknowledged-falls config caching n moves mail mail' s s' showing c ch rest rest' popped size answer all block c
-      lt uses lets acks less
-    where
-      free : (s'.block n).service ≡ Free
-      free = ap (λ (b : Block (List ℕ)). b.service) new
-
-      block : IsBlockNoMore config caching n moves mail mail' s s' showing c ch rest rest' popped size answer
-      block = record {
-        serves = λ d i e f. absurd (nobody-serving caching s n d i showing.before (ap is_for_access taken) e);
-        acquires = λ d i e f.
-            unserved-stays config caching n moves mail mail' s s' showing c ch rest rest' popped size answer d i n e f
-            (ap (λ (u : Service). is_unserved (view u d)) taken ∙ granted_unserved q d)
+      let free : (s'.block n).service ≡ Free = ap (λ (b : Block (List ℕ)). b.service) new in
+      let block : IsBlockNoMore config caching n moves mail mail' s s' showing c ch rest rest' popped size answer =
+      record {
+        serves = λ d i e f. absurd (nobody-serving n d i showing.before (ap is_for_access taken) e);
+        acquires = λ d i e f. unserved-stays config caching n moves mail mail' s s' showing c ch rest rest' popped size
+            answer d i n e f (ap (λ (u : Service). is_unserved (view u d)) taken ∙ granted_unserved q d)
             (ap (λ (u : Service). is_unserved (view u d)) free);
         lets = λ d i e f. letting_stays d (ap (λ (b : Block (List ℕ)). (b.pair d).letting) new);
-      }
+      } in
+      acknowledged-falls config caching n moves mail mail' s s' showing c ch rest rest' popped size answer all block c
+      lt uses lets acks less

@@ -5,42 +5,35 @@ use Rattle.std.proofs.Common.{◌≡◌, ℕ, zero, suc, ◌+◌, ◌≤◌, Boo
 use Rattle.std.proofs.Common.{refl, sym, ◌∙◌, ap, subst, arith}
 use Rattle.std.specs.Prelude.{All, if◌then◌else◌, filter}
 use Rattle.std.proofs.lemmas.List.Elements.{All-head, All-tail}
-use Rattle.tl_manager.proofs.blocks.Placing.{limits}
-use Rattle.tl_coherence.specs.declared.event.Event.{Event}
-use Rattle.tl_coherence.specs.declared.event.Event.TheVariants.{Ask}
-use Rattle.tl_coherence.specs.declared.event.Outcome.{Outcome}
+use Rattle.tl_manager.{proofs.blocks.Placing.limits, specs.laws.Pending.one_if}
+use Rattle.tl_coherence.specs.{declared.event.Event.Event, declared.event.Event.TheVariants.Ask}
+use Rattle.tl_coherence.specs.{declared.event.Outcome.Outcome, statement.Headline.AreTyped, statement.Headline.IsGiven}
+use Rattle.tl_coherence.specs.{statement.Load.load, statement.Log.IsLog}
 use Rattle.tl_coherence.specs.statement.Draining.{is_delivery, beats_moved, IsDrained}
-use Rattle.tl_coherence.specs.statement.Headline.{AreTyped, IsGiven}
-use Rattle.tl_coherence.specs.statement.Load.{load}
-use Rattle.tl_coherence.specs.statement.Log.{IsLog}
 use Rattle.tl_coherence.specs.statement.Movable.{next_delivery, drained, with_delivery}
-use Rattle.tl_manager.specs.laws.Pending.{one_if}
-use Rattle.tl_coherence.proofs.outstanding.Counted.{load-open}
-use Rattle.tl_coherence.proofs.links.FromInvariant.{matched-given, stalls}
+use Rattle.tl_coherence.proofs.{outstanding.Counted.load-open, links.FromInvariant.matched-given}
+use Rattle.tl_coherence.proofs.{links.FromInvariant.stalls, deliveries.Matching.shadow}
+use Rattle.tl_coherence.proofs.{outstanding.Movement.none-outstanding, bound.RankOfLog.owed, bound.RankOfLog.owed-few}
+use Rattle.tl_coherence.proofs.{outstanding.Progress.counted, outstanding.Progress.moving, links.Stalling.movable-moves}
+use Rattle.tl_coherence.proofs.{queues.QuiescentQueues.next-movable}
 use Rattle.tl_coherence.proofs.bound.DeliveriesDecrease.{moving-owed, still-owed}
-use Rattle.tl_coherence.proofs.deliveries.Matching.{shadow}
-use Rattle.tl_coherence.proofs.outstanding.Movement.{none-outstanding}
-use Rattle.tl_coherence.proofs.bound.RankOfLog.{owed, owed-few}
-use Rattle.tl_coherence.proofs.outstanding.Progress.{counted, moving}
-use Rattle.tl_coherence.proofs.links.Stalling.{movable-moves}
-use Rattle.tl_coherence.proofs.queues.QuiescentQueues.{next-movable}
 
 -- ---- what is owed after a log
 
 abbrev pub owed_after : {w : ℕ} → Config → Log w → ℕ
 owed_after config log = owed config (shadow config log).mail (shadow config log).state (system_after config log)
 
-sixteen : {w : ℕ} (config : Config) (log : Log w) → IsGiven config log → length config.clients.items ≤ 16
-sixteen config log given = (limits config given.fits).0
+sixteen : {w : ℕ} {config : Config} {log : Log w} → IsGiven config log → length config.clients.items ≤ 16
+sixteen {config} given = (limits config given.fits).0
 
 -- it is at most the load
-owed-load : {w : ℕ} (config : Config) (log : Log w) → IsGiven config log → owed_after config log ≤ load log
-owed-load {w} config log given =
-    let few = owed-few config log (shadow config log).mail (shadow config log).request (shadow config log).state
-    (system_after config log) given.width
-    (matched-given config log given) (sixteen config log given) in
+owed-load : {w : ℕ} {config : Config} {log : Log w} → IsGiven config log → owed_after config log ≤ load log
+owed-load {w} {config} {log} given =
+    let few = owed-few
+    given.width
+    (matched-given config log given) (sixteen given) in
     subst (λ (n : ℕ). owed_after config log ≤ n)
-    (sym (load-open config log (shadow config log).state (counted config log given.width given.typed given.is_log)))
+    (sym (load-open (counted config log given.width given.typed given.is_log)))
     few
 
 -- ---- logs
@@ -52,13 +45,12 @@ given-before config x log given = record {
   width = given.width;
   fits = given.fits;
   typed = given.typed.1;
-  is_log =
-      given.is_log.1;
+  is_log = given.is_log.1;
 }
 
-given-older : {w : ℕ} (config : Config) (more log : Log w) → IsGiven config (more ++ log) → IsGiven config log
-given-older config [] log given = given
-given-older config (x ∷ more) log given = given-older config more log (given-before config x (more ++ log) given)
+given-older : {w : ℕ} {config : Config} (more log : Log w) → IsGiven config (more ++ log) → IsGiven config log
+given-older [] log given = given
+given-older {config} (x ∷ more) log given = given-older more log (given-before config x (more ++ log) given)
 
 -- with one delivery more
 abbrev delivering : {w : ℕ} → Config → Link → Channel → Log w → Log w
@@ -71,33 +63,36 @@ unfolding AreTyped IsLog
 given-delivering config link ch log given = record {
   width = given.width;
   fits = given.fits;
-  typed =
-      (tt, given.typed);
+  typed = (tt, given.typed);
   is_log = (refl, given.is_log);
 }
 
 -- ---- one delivery
 
-owed-moved : {w : ℕ} (config : Config) (link : Link) (ch : Channel) (o : Outcome w) (log : Log w) → IsGiven config log
+owed-moved : {w : ℕ} {config : Config} (link : Link) (ch : Channel) (o : Outcome w) {log : Log w} → IsGiven config log
     → is_moving (stepped config (Deliver link ch) (system_after config log)).outcome ≡ true
     → owed_after config ((Deliver link ch, o) ∷ log) + 1 ≤ owed_after config log
 unfolding shadow system_after
-owed-moved config link ch o log given moves = moving-owed config log (shadow config log) given.width
-    (matched-given config log given) link ch (sixteen config log given) moves
+owed-moved {config} link ch o {log} given moves = moving-owed config log (shadow config log) given.width
+    (matched-given config log given) link ch (sixteen given) moves
 
-owed-unmoved : {w : ℕ} (config : Config) (link : Link) (ch : Channel) (o : Outcome w) (log : Log w) → IsGiven config log
+owed-unmoved : {w : ℕ} {config : Config} (link : Link) (ch : Channel) (o : Outcome w) {log : Log w} → IsGiven config log
     → is_moving (stepped config (Deliver link ch) (system_after config log)).outcome ≡ false
     → owed_after config ((Deliver link ch, o) ∷ log) ≤ owed_after config log
 unfolding shadow system_after
-owed-unmoved config link ch o log given still = still-owed config log (shadow config log) given.width
+owed-unmoved {config} link ch o {log} given still = still-owed config log (shadow config log) given.width
     (matched-given config log given) link ch still
 
 -- it takes one off what is owed, where it moves a beat
-owed-delivered : {w : ℕ} (config : Config) (x : Event w × Outcome w) (log : Log w) → IsGiven config (x ∷ log)
-    → is_delivery x.0 ≡ true
-    → one_if (is_moving x.1) + owed_after config (x ∷ log) ≤ owed_after config log
+owed-delivered : {w : ℕ} {config : Config} (x : Event w × Outcome w) (log : Log w) → IsGiven config (x ∷ log)
+    → is_delivery x.0 ≡ true → one_if (is_moving x.1) + owed_after config (x ∷ log) ≤ owed_after config log
 unfolding IsLog
-owed-delivered {w} config x log given is = go x.0 x.1 refl given.is_log.0 is
+owed-delivered {w} {config} x log given is =
+    let go : (event : Event w) (o : Outcome w) → x ≡ (event, o)
+    → o ≡ (stepped config event (system_after config log)).outcome → is_delivery event ≡ true
+    → one_if (is_moving o) + owed_after config ((event, o) ∷ log) ≤ owed_after config log =
+    elim [ Ask c op ↦ λ o e f g. absurd cc | Deliver link ch ↦ λ o e f g. at link ch o (is_moving o) f refl ] in
+    go x.0 x.1 refl given.is_log.0 is
   where
     before : IsGiven config log
     before = given-before config x log given
@@ -105,44 +100,36 @@ owed-delivered {w} config x log given is = go x.0 x.1 refl given.is_log.0 is
     at : (link : Link) (ch : Channel) (o : Outcome w) (b : Bool)
         → o ≡ (stepped config (Deliver link ch) (system_after config log)).outcome → is_moving o ≡ b
         → one_if b + owed_after config ((Deliver link ch, o) ∷ log) ≤ owed_after config log
-    at link ch o true e f = let less = owed-moved config link ch o log before (sym (ap is_moving e) ∙ f) in
+    at link ch o true e f = let less = owed-moved link ch o before (sym (ap is_moving e) ∙ f) in
         omega (arith, less)
-    at link ch o false e f = let less = owed-unmoved config link ch o log before (sym (ap is_moving e) ∙ f) in
+    at link ch o false e f = let less = owed-unmoved link ch o before (sym (ap is_moving e) ∙ f) in
         omega (arith, less)
-
-    go : (event : Event w) (o : Outcome w) → x ≡ (event, o)
-        → o ≡ (stepped config event (system_after config log)).outcome → is_delivery event ≡ true
-        → one_if (is_moving o) + owed_after config ((event, o) ∷ log) ≤ owed_after config log
-    go (Ask c op) o e f g = absurd cc
-    go (Deliver link ch) o e f g = at link ch o (is_moving o) f refl
 
 -- ---- the bound
 
 moved-more : {w : ℕ} (x : Event w × Outcome w) (more : Log w)
     → beats_moved (x ∷ more) ≡ one_if (is_moving x.1) + beats_moved more
-moved-more {w} x more = go (is_moving x.1)
-  where
-    go : (b : Bool) → length (if b then x ∷ filter (λ y. is_moving y.1) more else filter (λ y. is_moving y.1) more)
-        ≡ one_if b + beats_moved more
-    go true = omega arith
-    go false = omega arith
+moved-more {w} x more =
+    let go : (b : Bool) → length (if b then x ∷ filter (λ y. is_moving y.1) more else filter (λ y. is_moving y.1) more)
+    ≡ one_if b + beats_moved more = elim [ true ↦ omega arith | false ↦ omega arith ] in
+    go (is_moving x.1)
 
-bounding : {w : ℕ} (config : Config) (more log : Log w) → IsGiven config (more ++ log)
+bounding : {w : ℕ} {config : Config} (more log : Log w) → IsGiven config (more ++ log)
     → All (λ x. is_delivery x.0 ≡ true) more
     → beats_moved more + owed_after config (more ++ log) ≤ owed_after config log
-bounding config [] log given all = omega arith
-bounding config (x ∷ more) log given all =
-    let rest = bounding config more log (given-before config x (more ++ log) given)
+bounding [] log given all = omega arith
+bounding {config} (x ∷ more) log given all =
+    let rest = bounding more log (given-before config x (more ++ log) given)
     (All-tail (λ y. is_delivery y.0 ≡ true) x more all) in
-    let here = owed-delivered config x (more ++ log) given (All-head (λ y. is_delivery y.0 ≡ true) x more all) in
+    let here = owed-delivered x (more ++ log) given (All-head (λ y. is_delivery y.0 ≡ true) x more all) in
     let count = moved-more x more in
     omega (arith, rest, here, count)
 
 pub bound : {w : ℕ} (config : Config) (more log : Log w) → IsGiven config (more ++ log)
     → All (λ x. is_delivery x.0 ≡ true) more → beats_moved more ≤ load log
 bound config more log given all =
-    let beats = bounding config more log given all in
-    let few = owed-load config log (given-older config more log given) in
+    let beats = bounding more log given all in
+    let few = owed-load (given-older more log given) in
     omega (arith, beats, few)
 
 -- ---- draining
@@ -155,24 +142,26 @@ record IsStanding {w : ℕ} (config : Config) (log : Log w) (n : ℕ) : Type 0 w
   given : IsGiven config (drained config n log)
 
 -- the next delivery moves a beat
-next-moves : {w : ℕ} (config : Config) (log : Log w) (d : Link × Channel) → IsGiven config log
+next-moves : {w : ℕ} {config : Config} {log : Log w} (d : Link × Channel) → IsGiven config log
     → next_delivery config (system_after config log) ≡ Some d
     → is_moving (stepped config (Deliver d.0 d.1) (system_after config log)).outcome ≡ true
-next-moves config log d given is =
+next-moves {config} {log} d given is =
     movable-moves config log d.0.0 d.1 (λ client. stalls config log given d.0.0 d.1 client)
     (next-movable config (system_after config log) d is)
 
-standing : {w : ℕ} (config : Config) (log : Log w) (o : Option (Link × Channel)) → IsGiven config log
+standing : {w : ℕ} {config : Config} {log : Log w} (o : Option (Link × Channel)) → IsGiven config log
     → next_delivery config (system_after config log) ≡ o
     → ((d : Link × Channel) → next_delivery config (system_after config log) ≡ Some d
     → (n : ℕ) × IsStanding config (delivering config d.0 d.1 log) n) → (n : ℕ) × IsStanding config log n
 unfolding drained
-standing config log None given none rest =
-    (0, record { so_many = omega arith; few = omega arith; stands = none; given = given })
-standing {w} config log (Some d) given next rest =
+standing None given none rest = (0, record { so_many = omega arith; few = omega arith; stands = none; given = given })
+standing {w} {config} {log} (Some d) given next rest =
+    let same : (n : ℕ) → drained config n (with_delivery config (next_delivery config (system_after config log)) log)
+    ≡ drained config n (delivering config d.0 d.1 log) =
+    λ n. ap (λ (o : Option (Link × Channel)). drained config n (with_delivery config o log)) next in
     let later = rest d next in
-    let less = owed-moved config d.0 d.1 (stepped config (Deliver d.0 d.1) (system_after config log)).outcome log given
-    (next-moves config log d given next) in
+    let less = owed-moved d.0 d.1 (stepped config (Deliver d.0 d.1) (system_after config log)).outcome given
+    (next-moves d given next) in
     let few = later.1.few in
     let count = later.1.so_many in (
       suc later.0,
@@ -183,31 +172,27 @@ standing {w} config log (Some d) given next rest =
         given = subst (IsGiven config) (sym (same later.0)) later.1.given;
       },
     )
-  where
-    same : (n : ℕ) → drained config n (with_delivery config (next_delivery config (system_after config log)) log)
-        ≡ drained config n (delivering config d.0 d.1 log)
-    same n = ap (λ (o : Option (Link × Channel)). drained config n (with_delivery config o log)) next
 
 -- it comes to that after as many deliveries as are owed at most
-coming-to-stand : {w : ℕ} (config : Config) (fuel : ℕ) (log : Log w) → IsGiven config log → owed_after config log ≤ fuel
+coming-to-stand : {w : ℕ} {config : Config} (fuel : ℕ) {log : Log w} → IsGiven config log → owed_after config log ≤ fuel
     → (n : ℕ) × IsStanding config log n
-coming-to-stand config zero log given le =
-    standing config log (next_delivery config (system_after config log)) given refl
-    (λ d next. let less = owed-moved config d.0 d.1 (stepped config (Deliver d.0 d.1) (system_after config log)).outcome
-    log given (next-moves config log d given next) in absurd (omega (arith, le, less)))
-coming-to-stand config (suc fuel) log given le =
-    standing config log (next_delivery config (system_after config log)) given refl
+coming-to-stand {config} zero {log} given le =
+    standing (next_delivery config (system_after config log)) given refl
+    (λ d next. let less = owed-moved d.0 d.1 (stepped config (Deliver d.0 d.1) (system_after config log)).outcome
+    given (next-moves d given next) in absurd (omega (arith, le, less)))
+coming-to-stand {config} (suc fuel) {log} given le =
+    standing (next_delivery config (system_after config log)) given refl
     (λ d next.
-    let less = owed-moved config d.0 d.1 (stepped config (Deliver d.0 d.1) (system_after config log)).outcome log given
-    (next-moves config log d given next) in
-    coming-to-stand config fuel (delivering config d.0 d.1 log) (given-delivering config d.0 d.1 log given)
+    let less = owed-moved d.0 d.1 (stepped config (Deliver d.0 d.1) (system_after config log)).outcome given
+    (next-moves d given next) in
+    coming-to-stand fuel (given-delivering config d.0 d.1 log given)
     (omega (arith, le, less)))
 
 pub drain : {w : ℕ} (config : Config) (log : Log w) → IsGiven config log → (n : ℕ) × IsDrained config log n
 drain config log given =
-    let stood = coming-to-stand config (owed_after config log) log given (omega arith) in
+    let stood = coming-to-stand (owed_after config log) given (omega arith) in
     let few = stood.1.few in
-    let load_is = owed-load config log given in (
+    let load_is = owed-load given in (
       stood.0,
       record {
         so_many = stood.1.so_many;

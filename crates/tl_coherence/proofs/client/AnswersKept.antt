@@ -12,27 +12,19 @@ use Rattle.tl_coherence.proofs.client.Imports.{Request, Acquire, Probe, ProbeAck
 use Rattle.tl_coherence.proofs.client.Imports.{GrantAck, Packet, set_at, SimulationRelation}
 use Rattle.std.proofs.Common.{◌≡◌, subst, ℕ, Bool, true, false, not, ◌&&◌, List, ◌∷◌, Option, Some, None, length, refl}
 use Rattle.std.proofs.Common.{sym, ◌∙◌, ap, ◌⊎◌, inl, inr}
-use Rattle.std.specs.Prelude.{◌==◌, ◌%◌, if◌then◌else◌}
-use Rattle.std.proofs.lemmas.Bool.{cases_eq}
+use Rattle.std.{specs.Prelude.◌==◌, specs.Prelude.◌%◌, specs.Prelude.if◌then◌else◌, proofs.lemmas.Bool.cases_eq}
 use Rattle.tl_beat.specs.declared.opcode.OpA.{OpA}
-use Rattle.tl_beat.specs.declared.opcode.OpA.TheVariants as a
-use Rattle.tl_beat.specs.declared.opcode.OpD.TheVariants as opd
-use Rattle.tl_burst.specs.declared.message.Message.TheVariants as message
 use Rattle.tl_rules.specs.statement.Effect as memory
 use Rattle.tl_rules.specs.statement.Effect.{Memory, effect, answer_of, as_payload, bytes_from, byte_count}
-use Rattle.tl_client.specs.declared.operation.Op.TheVariants as op
-use Rattle.tl_client.specs.declared.reply.Reply.TheVariants as reply
 use Rattle.tl_client.specs.statement.Send.{access}
 use Rattle.tl_manager.specs.statement.Handing.{access_answer, no_payload}
 use Rattle.tl_manager.specs.statement.Service.{is_access_answer}
 use Rattle.tl_coherence.specs.refinement.AbstractStep as follow
-use Rattle.tl_coherence.specs.refinement.AbstractStep.{bytes_at}
-use Rattle.tl_coherence.specs.protocol.Protocol.{written}
-use Rattle.tl_coherence.specs.refinement.SourceRelation.{IsFor}
+use Rattle.tl_coherence.specs.{refinement.AbstractStep.bytes_at, protocol.Protocol.written}
+use Rattle.tl_coherence.specs.{refinement.SourceRelation.IsFor}
 use Rattle.tl_coherence.specs.refinement.SimulationRelation.{IsAnswer, IsAnswered, IsServedWith}
-use Rattle.tl_coherence.proofs.client.Aside.{set_at-else, set_at-other}
-use Rattle.tl_coherence.proofs.protocol.Heads.{asked-first}
-use Rattle.tl_coherence.proofs.queues.Tokens.{set_at-same}
+use Rattle.tl_coherence.proofs.{client.Aside.set_at-else, client.Aside.set_at-other, protocol.Heads.asked-first}
+use Rattle.tl_coherence.proofs.{queues.Tokens.set_at-same}
 
 abbrev pub AreAnswered : {w : ℕ} → AccessMessages w → State (List ℕ) → Type 0
 AreAnswered mail s = (c source : ℕ) → IsAnswered source (mail.request c source) (mail.answer c source) (s.uses c source)
@@ -41,7 +33,7 @@ AreAnswered mail s = (c source : ℕ) → IsAnswered source (mail.request c sour
 
 -- the message is an answer to a request of this opcode, with the source and size of m
 IsAnswerTo : {w : ℕ} → OpA → MessageA w → Message w → Type 0
-IsAnswerTo {w} o m y = (x : MessageD w) × (y ≡ message.D x) × (is_access_answer x.opcode ≡ true)
+IsAnswerTo {w} o m y = (x : MessageD w) × (y ≡ Message.D x) × (is_access_answer x.opcode ≡ true)
     × (answers x.opcode o ≡ true) × (x.source ≡ m.source) × (x.size ≡ m.size)
 
 abbrev pub answer_message : {w : ℕ} → OpD → List ℕ → MessageA w → MessageD w
@@ -50,8 +42,7 @@ answer_message opcode payload m = record {
   param = 0;
   size = m.size;
   source = m.source;
-  sink =
-      0;
+  sink = 0;
   denied = false;
   payload = payload;
   corrupt = 0;
@@ -59,45 +50,45 @@ answer_message opcode payload m = record {
 }
 
 answer_kind : {w : ℕ} (o : OpA) (m : MessageA w) (f : Memory) → is_acquire o ≡ false
-    → IsAnswerTo o m (access_answer m (answer_of (message.A m) (memory.access_result o m f)))
+    → IsAnswerTo o m (access_answer m (answer_of (Message.A m) (memory.access_result o m f)))
 unfolding IsAnswerTo
-answer_kind a.PutFullData m f e = (answer_message opd.AccessAck no_payload m, refl, refl, refl, refl, refl)
-answer_kind a.PutPartialData m f e = (answer_message opd.AccessAck no_payload m, refl, refl, refl, refl, refl)
-answer_kind {w} a.ArithmeticData m f e = (
-  answer_message opd.AccessAckData (as_payload (m.address % w) (bytes_from f m.address (byte_count m))) m,
+answer_kind OpA.PutFullData m f e = (answer_message OpD.AccessAck no_payload m, refl, refl, refl, refl, refl)
+answer_kind OpA.PutPartialData m f e = (answer_message OpD.AccessAck no_payload m, refl, refl, refl, refl, refl)
+answer_kind {w} OpA.ArithmeticData m f e = (
+  answer_message OpD.AccessAckData (as_payload (m.address % w) (bytes_from f m.address (byte_count m))) m,
   refl,
   refl,
   refl,
   refl,
   refl,
 )
-answer_kind {w} a.LogicalData m f e = (
-  answer_message opd.AccessAckData (as_payload (m.address % w) (bytes_from f m.address (byte_count m))) m,
+answer_kind {w} OpA.LogicalData m f e = (
+  answer_message OpD.AccessAckData (as_payload (m.address % w) (bytes_from f m.address (byte_count m))) m,
   refl,
   refl,
   refl,
   refl,
   refl,
 )
-answer_kind {w} a.Get m f e = (
-  answer_message opd.AccessAckData (as_payload (m.address % w) (bytes_from f m.address (byte_count m))) m,
+answer_kind {w} OpA.Get m f e = (
+  answer_message OpD.AccessAckData (as_payload (m.address % w) (bytes_from f m.address (byte_count m))) m,
   refl,
   refl,
   refl,
   refl,
   refl,
 )
-answer_kind a.Intent m f e = (answer_message opd.HintAck no_payload m, refl, refl, refl, refl, refl)
-answer_kind a.AcquireBlock m f e = absurd cc
-answer_kind a.AcquirePerm m f e = absurd cc
+answer_kind OpA.Intent m f e = (answer_message OpD.HintAck no_payload m, refl, refl, refl, refl, refl)
+answer_kind OpA.AcquireBlock m f e = absurd cc
+answer_kind OpA.AcquirePerm m f e = absurd cc
 
 -- what the manager answers to an access, whatever the bytes of its block
 pub answers-access : {w : ℕ} (source : ℕ) (m : MessageA w) (bytes : List ℕ) → is_acquire m.opcode ≡ false
-    → m.source ≡ source → IsAnswer source (message.A m) (follow.answers m bytes)
+    → m.source ≡ source → IsAnswer source (Message.A m) (follow.answers m bytes)
 unfolding effect IsAnswerTo
 answers-access {w} source m bytes access from =
     let is = answer_kind m.opcode m (bytes_at (block_at m.address) bytes) access in
-    subst (λ (y : Message w). IsAnswer source (message.A m) y) (sym is.1) (is.2, is.3, is.4 ∙ from, is.5)
+    subst (λ (y : Message w). IsAnswer source (Message.A m) y) (sym is.1) (is.2, is.3, is.4 ∙ from, is.5)
 
 -- ---- one source
 
@@ -135,38 +126,33 @@ is_unanswered _ = true
 
 unanswered : {w : ℕ} (source : ℕ) (request answer : Message w) (u : SourceState) → is_unanswered u ≡ true
     → IsAnswered source request answer u
-unanswered source request answer SourceFree e = tt
-unanswered source request answer Asked e = tt
-unanswered source request answer (InService n) e = tt
-unanswered source request answer (Acquires n) e = tt
 unanswered source request answer Replied e = absurd cc
+unanswered source request answer u e = tt
 
 -- a source whose use is now another that is no answer's, whatever its request
 answered-used : {w : ℕ} (c source : ℕ) (u : SourceState) (mail : AccessMessages w) (s s' : State (List ℕ))
     → is_unanswered u ≡ true → s'.uses ≡ set_at c source u s.uses → AreAnswered mail s → AreAnswered mail s'
 answered-used c source u mail s s' none uses h =
-    answered-at c source mail mail s s'
-    (λ d i other. (
+    answered-at c source mail mail s s' (λ d i other. (
       refl,
       refl,
-      ap (λ (f : ℕ → ℕ → SourceState). f d i) uses ∙ set_at-apart c source u s.uses d i
-          other,
-    ))
-    (unanswered source (mail.request c source) (mail.answer c source) (s'.uses c source)
-    (ap is_unanswered (ap (λ (f : ℕ → ℕ → SourceState). f c source) uses ∙ set_at-same c source u s.uses) ∙ none)) h
+      ap (λ (f : ℕ → ℕ → SourceState). f d i) uses
+          ∙ set_at-apart c source u s.uses d i other,
+    )) (unanswered source (mail.request c source) (mail.answer c source)
+    (s'.uses c source) (ap is_unanswered (ap (λ (f : ℕ → ℕ → SourceState). f c source) uses
+    ∙ set_at-same c source u s.uses) ∙ none)) h
 
 -- an access that is answered
 answered-now : {w : ℕ} (c source : ℕ) (x : Message w) (mail : AccessMessages w) (s s' : State (List ℕ))
-    → s'.uses ≡ set_at c source Replied s.uses
-    → IsAnswer source (mail.request c source) x → AreAnswered mail s
+    → s'.uses ≡ set_at c source Replied s.uses → IsAnswer source (mail.request c source) x → AreAnswered mail s
     → AreAnswered (record { request = mail.request; answer = set_at c source x mail.answer }) s'
 answered-now {w} c source x mail s s' uses new h =
     answered-at c source mail (record { request = mail.request; answer = set_at c source x mail.answer }) s s'
     (λ d i other. (
       refl,
       set_at-apart c source x mail.answer d i other,
-      ap (λ (f : ℕ → ℕ → SourceState). f d i)
-          uses ∙ set_at-apart c source Replied s.uses d i other,
+      ap (λ (f : ℕ → ℕ → SourceState). f d i) uses
+          ∙ set_at-apart c source Replied s.uses d i other,
     ))
     (rw (
       ap (λ (f : ℕ → ℕ → SourceState). f c source) uses ∙ set_at-same c source Replied s.uses,
@@ -181,32 +167,32 @@ AreAnsweredIn h = AreAnswered h.mail h.state
 
 pub answered-asked : {w : ℕ} (c : ℕ) (o : Op w) (r : Reply) (h : AbstractState w) → AreAnswered h.mail h.state
     → AreAnswered (asked c o r h).mail (asked c o r h).state
-answered-asked c (op.Load address size) r h all = all
-answered-asked c (op.Store address size value) reply.Stored h all = all
-answered-asked c (op.Store address size value) (reply.Value v) h all = all
-answered-asked c (op.Store address size value) reply.Miss h all = all
-answered-asked c (op.Store address size value) (reply.Started source) h all = all
-answered-asked c (op.Store address size value) (reply.Busy why) h all = all
-answered-asked c (op.Acquire n g) (reply.Started source) h all = answered-used c source (Acquires n) h.mail h.state
-    (asked c (op.Acquire n g) (reply.Started source) h).state refl refl all
-answered-asked c (op.Acquire n g) (reply.Value v) h all = all
-answered-asked c (op.Acquire n g) reply.Stored h all = all
-answered-asked c (op.Acquire n g) reply.Miss h all = all
-answered-asked c (op.Acquire n g) (reply.Busy why) h all = all
-answered-asked c (op.AcquireWhole n bytes) (reply.Started source) h all =
-    answered-used c source (Acquires n) h.mail h.state (asked c (op.AcquireWhole n bytes) (reply.Started source)
+answered-asked c (Op.Load address size) r h all = all
+answered-asked c (Op.Store address size value) Reply.Stored h all = all
+answered-asked c (Op.Store address size value) (Reply.Value v) h all = all
+answered-asked c (Op.Store address size value) Reply.Miss h all = all
+answered-asked c (Op.Store address size value) (Reply.Started source) h all = all
+answered-asked c (Op.Store address size value) (Reply.Busy why) h all = all
+answered-asked c (Op.Acquire n g) (Reply.Started source) h all = answered-used c source (Acquires n) h.mail h.state
+    (asked c (Op.Acquire n g) (Reply.Started source) h).state refl refl all
+answered-asked c (Op.Acquire n g) (Reply.Value v) h all = all
+answered-asked c (Op.Acquire n g) Reply.Stored h all = all
+answered-asked c (Op.Acquire n g) Reply.Miss h all = all
+answered-asked c (Op.Acquire n g) (Reply.Busy why) h all = all
+answered-asked c (Op.AcquireWhole n bytes) (Reply.Started source) h all =
+    answered-used c source (Acquires n) h.mail h.state (asked c (Op.AcquireWhole n bytes) (Reply.Started source)
     h).state refl refl all
-answered-asked c (op.AcquireWhole n bytes) (reply.Value v) h all = all
-answered-asked c (op.AcquireWhole n bytes) reply.Stored h all = all
-answered-asked c (op.AcquireWhole n bytes) reply.Miss h all = all
-answered-asked c (op.AcquireWhole n bytes) (reply.Busy why) h all = all
-answered-asked c (op.Release n r) (reply.Started source) h all = all
-answered-asked c (op.Release n r) (reply.Value v) h all = all
-answered-asked c (op.Release n r) reply.Stored h all = all
-answered-asked c (op.Release n r) reply.Miss h all = all
-answered-asked c (op.Release n r) (reply.Busy why) h all = all
-answered-asked {w} c (op.Access (message.A m)) (reply.Started source) h all =
-    let h' : AbstractState w = asked c (op.Access (message.A m)) (reply.Started source) h in
+answered-asked c (Op.AcquireWhole n bytes) (Reply.Value v) h all = all
+answered-asked c (Op.AcquireWhole n bytes) Reply.Stored h all = all
+answered-asked c (Op.AcquireWhole n bytes) Reply.Miss h all = all
+answered-asked c (Op.AcquireWhole n bytes) (Reply.Busy why) h all = all
+answered-asked c (Op.Release n r) (Reply.Started source) h all = all
+answered-asked c (Op.Release n r) (Reply.Value v) h all = all
+answered-asked c (Op.Release n r) Reply.Stored h all = all
+answered-asked c (Op.Release n r) Reply.Miss h all = all
+answered-asked c (Op.Release n r) (Reply.Busy why) h all = all
+answered-asked {w} c (Op.Access (Message.A m)) (Reply.Started source) h all =
+    let h' : AbstractState w = asked c (Op.Access (Message.A m)) (Reply.Started source) h in
     answered-at c source h.mail h'.mail h.state h'.state
     (λ d i other. (
       set_at-apart c source (access source m) h.mail.request d i other,
@@ -216,21 +202,20 @@ answered-asked {w} c (op.Access (message.A m)) (reply.Started source) h all =
     ))
     (unanswered source (h'.mail.request c source) (h'.mail.answer c source) (h'.state.uses c source)
     (ap is_unanswered (set_at-same c source Asked h.state.uses))) all
-answered-asked c (op.Access (message.A m)) (reply.Value v) h all = all
-answered-asked c (op.Access (message.A m)) reply.Stored h all = all
-answered-asked c (op.Access (message.A m)) reply.Miss h all = all
-answered-asked c (op.Access (message.A m)) (reply.Busy why) h all = all
-answered-asked c (op.Access (message.B m)) r h all = all
-answered-asked c (op.Access (message.C m)) r h all = all
-answered-asked c (op.Access (message.D m)) r h all = all
-answered-asked c (op.Access (message.E m)) r h all = all
+answered-asked c (Op.Access (Message.A m)) (Reply.Value v) h all = all
+answered-asked c (Op.Access (Message.A m)) Reply.Stored h all = all
+answered-asked c (Op.Access (Message.A m)) Reply.Miss h all = all
+answered-asked c (Op.Access (Message.A m)) (Reply.Busy why) h all = all
+answered-asked c (Op.Access (Message.B m)) r h all = all
+answered-asked c (Op.Access (Message.C m)) r h all = all
+answered-asked c (Op.Access (Message.D m)) r h all = all
+answered-asked c (Op.Access (Message.E m)) r h all = all
 
 -- ---- messages that are taken
 
 answered_request : {w : ℕ} (clients c source tracker : ℕ) (m : MessageA w) (rest : List Packet) (h : AbstractState w)
-    → h.mail.request c source ≡ message.A m
-    → is_acquire m.opcode ≡ false → m.source ≡ source → AreAnsweredIn h
-    → AreAnsweredIn (request_taken clients c source (message.A m) tracker rest h)
+    → h.mail.request c source ≡ Message.A m → is_acquire m.opcode ≡ false → m.source ≡ source → AreAnsweredIn h
+    → AreAnsweredIn (request_taken clients c source (Message.A m) tracker rest h)
 answered_request {w} clients c source tracker m rest h is access from all =
     go (probes_some clients c false (cap_probed m.opcode m.param) (h.state.block n).pair) (cap_probed m.opcode m.param)
   where
@@ -247,36 +232,26 @@ answered_request {w} clients c source tracker m rest h is access from all =
     go : (b : Bool) (o : Option Cap) → AreAnsweredIn (access_taken c source m tracker b o rest h)
     go true (Some k) = answered-used c source (InService n) h.mail h.state
         (access_taken c source m tracker true (Some k) rest h).state refl refl all
-    go true None = now
-    go false None = now
-    go false (Some k) = now
+    go b o = now
 
 answered_acquire : {w : ℕ} (clients : ℕ) (p : Profile) (c n tracker : ℕ) (x : AcquirePhase) (rest : List Packet)
-    (h : AbstractState w) → AreAnsweredIn h
-    → AreAnsweredIn (acquire_taken clients p c n x tracker rest h)
+    (h : AbstractState w) → AreAnsweredIn h → AreAnsweredIn (acquire_taken clients p c n x tracker rest h)
 answered_acquire clients p c n tracker NoAcquire rest h all = all
 answered_acquire {w} clients p c n tracker (AcquireOpen whole g) rest h all =
+    let b : Block (List ℕ) = h.state.block n in
+    let go : (x : Bool) → AreAnswered h.mail (if x then acquire_served c n (b.source c) tracker
+    (cap_asked (AcquireOpen whole g)) rest h.state else acquire_granted c n tracker
+    (is_granted_data whole g (b.pair c).recorded) (gift p whole g (is_unheld clients b.pair)) rest h.state) =
+    elim [ true ↦ all | false ↦ all ] in
     go (some_below clients (λ i. is_probed c true (cap_asked (AcquireOpen whole g)) (b.pair i).recorded i))
-  where
-    b : Block (List ℕ)
-    b = h.state.block n
-
-    go : (x : Bool)
-        → AreAnswered h.mail (if x then acquire_served c n (b.source c) tracker (cap_asked (AcquireOpen whole g)) rest
-        h.state else acquire_granted c n tracker
-        (is_granted_data whole g (b.pair c).recorded) (gift p whole g (is_unheld clients b.pair)) rest h.state)
-    go true = all
-    go false = all
 
 answered_granted : {w : ℕ} (clients : ℕ) (p : Profile) (c q n : ℕ) (r : Report) (x : AcquirePhase) (rest : List Packet)
-    (h : AbstractState w) → AreAnsweredIn h
-    → AreAnsweredIn (granted_after clients p c q n r x rest h)
+    (h : AbstractState w) → AreAnsweredIn h → AreAnsweredIn (granted_after clients p c q n r x rest h)
 answered_granted clients p c q n r NoAcquire rest h all = all
 answered_granted clients p c q n r (AcquireOpen whole g) rest h all = all
 
 answered_last : {w : ℕ} (clients : ℕ) (p : Profile) (c n : ℕ) (r : Report) (service : Service) (rest : List Packet)
-    (h : AbstractState w)
-    → IsServedWith h.mail service (h.request n) → IsFor service n (h.request n) → AreAnsweredIn h
+    (h : AbstractState w) → IsServedWith h.mail service (h.request n) → IsFor service n (h.request n) → AreAnsweredIn h
     → AreAnsweredIn (last_taken clients p c n r service rest h)
 answered_last clients p c n r Free rest h with for all = all
 answered_last clients p c n r (GrantSent q d k) rest h with for all = all
@@ -285,53 +260,46 @@ answered_last clients p c n r (Waits q true source k) rest h with for all =
     answered_granted clients p c q n r ((h.state.block n).pair q).acquiring rest h all
 answered_last {w} clients p c n r (Waits q false source k) rest h with for all =
     answered-now q source (follow.answers (h.request n) (written r (h.state.block n).truth (h.state.block n).memory))
-    h.mail h.state
-    (last_taken clients p c n r (Waits q false source k) rest h).state refl
+    h.mail h.state (last_taken clients p c n r (Waits q false source k) rest h).state refl
     (rw with (answers-access source (h.request n) (written r (h.state.block n).truth (h.state.block n).memory) for.0
     for.1)) all
 
 answered_ack : {w : ℕ} (clients : ℕ) (p : Profile) (c n : ℕ) (r : Report) (rest : List Packet) (h : AbstractState w)
     → IsServedWith h.mail (h.state.block n).service (h.request n) → IsFor (h.state.block n).service n (h.request n)
-    → AreAnsweredIn h
-    → AreAnsweredIn (ack_taken clients p c n r rest h)
+    → AreAnsweredIn h → AreAnsweredIn (ack_taken clients p c n r rest h)
 answered_ack {w} clients p c n r rest h with for all =
+    let go : (x : Bool) → AreAnsweredIn (if x then with_state (report_taken c n r rest h.state) h else last_taken
+    clients p c n r (h.state.block n).service rest h) =
+    elim [ true ↦ all | false ↦ answered_last clients p c n r (h.state.block n).service rest h with for all ] in
     go (some_below clients (λ i. not (i == c) && not (is_unprobed ((h.state.block n).pair i).probing)))
-  where
-    go : (x : Bool) → AreAnsweredIn (if x then with_state (report_taken c n r rest h.state) h else last_taken clients p
-        c n r (h.state.block n).service rest h)
-    go true = all
-    go false = answered_last clients p c n r (h.state.block n).service rest h with for all
 
 answered_grant : {w : ℕ} (c n : ℕ) (service : Service) (rest : List Packet) (h : AbstractState w) → AreAnsweredIn h
     → AreAnsweredIn (taken_by_client c n service rest h)
-answered_grant c n Free rest h all = all
-answered_grant c n (Waits q own source k) rest h all = all
-answered_grant c n (GrantTaken q) rest h all = all
 answered_grant c n (GrantSent q d k) rest h all = answered-used c ((h.state.block n).source c) SourceFree h.mail h.state
     (taken_by_client c n (GrantSent q d k) rest h).state refl refl all
+answered_grant c n service rest h all = all
 
-pub answered-kind_taken : {w : ℕ} (config : Config) (log : Log w) (tracker c : ℕ) (k : Kind) (i : ℕ)
-    (rest : List Packet) (h : AbstractState w) (sys : System w)
+pub answered-kind_taken : {w : ℕ} {config : Config} {log : Log w} (tracker c : ℕ) (k : Kind) (i : ℕ)
+    (rest : List Packet) (h : AbstractState w) {sys : System w}
     → SimulationRelation config log h.mail h.request h.state sys → on k (h.state.link c) ≡ packet k i ∷ rest
     → AreAnswered (kind_taken config tracker c k i rest h).mail (kind_taken config tracker c k i rest h).state
-answered-kind_taken {w} config log tracker c Request i rest h sys is first =
-    let asked = asked-first config log h.mail h.request h.state sys c i rest is first in
+answered-kind_taken {w} {config} {log} tracker c Request i rest h {sys} is first =
+    let asked = asked-first c i rest is first in
     subst (λ (m : Message w). AreAnsweredIn (request_taken (length config.clients.items) c i m tracker rest h))
     (sym asked.is_it)
     (answered_request (length config.clients.items) c i tracker asked.request rest h asked.is_it asked.access
     asked.source_is is.answered)
-answered-kind_taken config log tracker c Acquire n rest h sys is first =
+answered-kind_taken {config} tracker c Acquire n rest h is first =
     answered_acquire (length config.clients.items) config.profile c n tracker ((h.state.block n).pair c).acquiring rest
     h is.answered
-answered-kind_taken config log tracker c Probe n rest h sys is first = is.answered
-answered-kind_taken config log tracker c ProbeAck n rest h sys is first =
+answered-kind_taken tracker c Probe n rest h is first = is.answered
+answered-kind_taken {config} tracker c ProbeAck n rest h is first =
     answered_ack (length config.clients.items) config.profile c n (report_told ((h.state.block n).pair c).probing) rest
     h (is.served_with n) (is.served.requests n) is.answered
-answered-kind_taken config log tracker c Release n rest h sys is first = is.answered
-answered-kind_taken config log tracker c Answer i rest h sys is first =
+answered-kind_taken tracker c Release n rest h is first = is.answered
+answered-kind_taken {config} tracker c Answer i rest h is first =
     answered-used c i SourceFree h.mail h.state (kind_taken config tracker c Answer i rest h).state refl refl
     is.answered
-answered-kind_taken config log tracker c Grant n rest h sys is first =
-    answered_grant c n (h.state.block n).service rest h is.answered
-answered-kind_taken config log tracker c ReleaseAck n rest h sys is first = is.answered
-answered-kind_taken config log tracker c GrantAck n rest h sys is first = is.answered
+answered-kind_taken tracker c Grant n rest h is first = answered_grant c n (h.state.block n).service rest h is.answered
+answered-kind_taken tracker c ReleaseAck n rest h is first = is.answered
+answered-kind_taken tracker c GrantAck n rest h is first = is.answered

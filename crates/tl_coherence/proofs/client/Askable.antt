@@ -2,65 +2,44 @@
 use Rattle.tl_coherence.proofs.client.Imports.{Message, MessageA, Config, RequestSource, ReleaseSource, AcquireOf}
 use Rattle.tl_coherence.proofs.client.Imports.{ReleaseOf, Level, Perm, block_at, pending, same_perm, Op, EndConfig}
 use Rattle.tl_coherence.proofs.client.Imports.{Endpoint, held_at, level_of, AbstractState, Log, AcquirePhase, NoAcquire}
-use Rattle.tl_coherence.proofs.client.Imports.{AcquireOpen, State, SourceState, SourceFree, Asked, InService, Replied}
-use Rattle.tl_coherence.proofs.client.Imports.{Acquires, AccessMessages, acquire_of, block_message, System, terms_at}
-use Rattle.tl_coherence.proofs.client.Imports.{Acquire, SimulationRelation, is_caching, asked_by}
+use Rattle.tl_coherence.proofs.client.Imports.{AcquireOpen, State, SourceState, SourceFree, Asked, Replied, Acquires}
+use Rattle.tl_coherence.proofs.client.Imports.{AccessMessages, acquire_of, block_message, System, terms_at, Acquire}
+use Rattle.tl_coherence.proofs.client.Imports.{SimulationRelation, is_caching, asked_by, Reply}
 use Rattle.std.proofs.Common.{◌≡◌, ℕ, Bool, true, false, List, Option, Some, None, refl, sym, ◌∙◌, ap}
-use Rattle.std.specs.Prelude.{is_some}
-use Rattle.std.proofs.lemmas.Bool.{or_parts, not-false}
-use Rattle.tl_burst.specs.declared.message.Message.TheVariants as message
-use Rattle.tl_params.specs.declared.level.Level.TheVariants as level
-use Rattle.tl_params.specs.declared.perm.Perm.TheVariants as perm
+use Rattle.std.{specs.Prelude.is_some, proofs.lemmas.Bool.or_parts, proofs.lemmas.Bool.not-false}
 use Rattle.tl_params.specs.statement.Param.{grow_left, prune_left}
 use Rattle.tl_rules.specs.statement.Legality.{has_transfers}
-use Rattle.tl_client.specs.declared.busy.Busy.{Busy}
-use Rattle.tl_client.specs.declared.operation.Op.TheVariants as op
-use Rattle.tl_client.specs.declared.reply.Reply.TheVariants as reply
+use Rattle.tl_client.{specs.declared.busy.Busy.Busy, proofs.endpoint.Cases.NotBusy, proofs.endpoint.Cases.asked-cases}
+use Rattle.tl_client.{proofs.pending.Free.least_free-some}
 use Rattle.tl_client.specs.statement.Ask as ask
-use Rattle.tl_client.specs.statement.Ask.{done, load, store, free_request, free_release, source_or_0}
-use Rattle.tl_client.proofs.endpoint.Cases.{NotBusy, asked-cases}
-use Rattle.tl_client.proofs.pending.Free.{least_free-some}
+use Rattle.tl_client.specs.statement.Ask.{done, store, free_request, free_release, source_or_0}
 use Rattle.tl_coherence.specs.refinement.SimulationRelation.{IsSourced, IsAnswered, IsAnswer, is_c, asked_for}
 use Rattle.tl_coherence.specs.refinement.SimulationRelation.{block_used, first_of, request_source}
-use Rattle.tl_coherence.proofs.client.ClientDelivered.{shadow_of}
-use Rattle.tl_coherence.proofs.client.ClientEnd.{IsEnd, end-matched}
-use Rattle.tl_coherence.proofs.client.ClientTakes.{terms-are}
-use Rattle.tl_coherence.proofs.protocol.FollowKept.{IsAskable}
-use Rattle.tl_coherence.proofs.protocol.BothParts.{calm-is, kept-letting}
+use Rattle.tl_coherence.proofs.{client.ClientDelivered.shadow_of, client.ClientEnd.IsEnd, client.ClientEnd.end-matched}
+use Rattle.tl_coherence.proofs.{client.ClientTakes.terms-are, protocol.FollowKept.IsAskable, protocol.BothParts.calm-is}
+use Rattle.tl_coherence.proofs.{protocol.BothParts.kept-letting}
 
 -- ---- sources that are free
 
 -- the request of a use that isn't an Acquire is one
 is_request : {w : ℕ} → Message w → Bool
-is_request (message.A m) = true
-is_request (message.B m) = false
-is_request (message.C m) = false
-is_request (message.D m) = false
-is_request (message.E m) = false
+is_request (Message.A m) = true
+is_request _ = false
 
 sourced_request : {w : ℕ} (m : Message w) (source : ℕ) → request_source m ≡ Some source → is_request m ≡ true
 unfolding is_request
-sourced_request (message.A m) source e = refl
-sourced_request (message.B m) source e = absurd cc
-sourced_request (message.C m) source e = absurd cc
-sourced_request (message.D m) source e = absurd cc
-sourced_request (message.E m) source e = absurd cc
+sourced_request (Message.A m) source e = refl
+sourced_request m source e = absurd cc
 
 answered_request : {w : ℕ} (source : ℕ) (m x : Message w) → IsAnswer source m x → is_request m ≡ true
 unfolding is_request
-answered_request source (message.A m) x is = refl
-answered_request source (message.B m) x is = absurd is
-answered_request source (message.C m) x is = absurd is
-answered_request source (message.D m) x is = absurd is
-answered_request source (message.E m) x is = absurd is
+answered_request source (Message.A m) x is = refl
+answered_request source m x is = absurd is
 
 asks_something : {w : ℕ} (m : Message w) → is_request m ≡ true → is_some (first_of m) ≡ true
 unfolding is_request
-asks_something (message.A m) e = refl
-asks_something (message.B m) e = absurd cc
-asks_something (message.C m) e = absurd cc
-asks_something (message.D m) e = absurd cc
-asks_something (message.E m) e = absurd cc
+asks_something (Message.A m) e = refl
+asks_something m e = absurd cc
 
 pub acquires_something : (w : ℕ) (a : AcquirePhase) (source n : ℕ)
     → is_some (first_of (acquire_of {w = w} a source n)) ≡ true
@@ -69,29 +48,26 @@ acquires_something w (AcquireOpen true g) source n = refl
 acquires_something w (AcquireOpen false g) source n = refl
 
 -- a source that asks for nothing is closed
-pub closed-source : {w : ℕ} (config : Config) (c source : ℕ) (mail : AccessMessages w) (s : State (List ℕ))
+pub closed-source : {w : ℕ} (config : Config) (c : ℕ) {source : ℕ} (mail : AccessMessages w) (s : State (List ℕ))
     → IsSourced config c source (mail.request c source) (s.uses c source)
     → IsAnswered source (mail.request c source) (mail.answer c source) (s.uses c source)
     → is_some (asked_by mail s c source) ≡ false → s.uses c source ≡ SourceFree
 unfolding block_message
-closed-source {w} config c source mail s sourced answered none = go (s.uses c source) refl sourced answered none
+closed-source {w} config c {source} mail s sourced answered none = go (s.uses c source) refl sourced answered none
   where
     go : (u : SourceState) → s.uses c source ≡ u → IsSourced config c source (mail.request c source) u
         → IsAnswered source (mail.request c source) (mail.answer c source) u
         → is_some (asked_for u (mail.request c source)
         (block_message Acquire c (block_used u) (s.block (block_used u)))) ≡ false → u ≡ SourceFree
     go SourceFree e a b f = refl
-    go Asked e a b f = absurd (let no : true ≡ false =
-        sym (asks_something (mail.request c source) (sourced_request (mail.request c source) source a.0)) ∙ f in cc)
-    go (InService n) e a b f =
-        absurd (let no : true ≡ false =
-        sym (asks_something (mail.request c source) (sourced_request (mail.request c source) source a.0)) ∙ f in cc)
     go Replied e a b f = absurd (let no : true ≡ false =
         sym (asks_something (mail.request c source)
         (answered_request source (mail.request c source) (mail.answer c source) b)) ∙ f in cc)
     go (Acquires n) e a b f =
         absurd (let no : true ≡ false =
         sym (acquires_something w ((s.block n).pair c).acquiring ((s.block n).source c) n) ∙ f in cc)
+    go u e a b f = absurd (let no : true ≡ false =
+        sym (asks_something (mail.request c source) (sourced_request (mail.request c source) source a.0)) ∙ f in cc)
 
 pub no_let : (o : Option ℕ) → is_some o ≡ false → o ≡ None
 no_let None e = refl
@@ -101,38 +77,32 @@ no_let (Some n) e = absurd cc
 
 pub caches : (config : Config) (c : ℕ) (l : Level) → level_of config c ≡ Some l → has_transfers l ≡ true
     → is_caching config c ≡ true
-caches config c level.C at transfers = ap is_c at
-caches config c level.UL at transfers = absurd cc
-caches config c level.UH at transfers = absurd cc
+caches config c Level.C at transfers = ap is_c at
+caches config c l at transfers = absurd cc
 
 pub swap_perms : (p q : Perm) → same_perm p q ≡ same_perm q p
-swap_perms perm.None perm.None = refl
-swap_perms perm.None perm.Branch = refl
-swap_perms perm.None perm.Trunk = refl
-swap_perms perm.Branch perm.None = refl
-swap_perms perm.Branch perm.Branch = refl
-swap_perms perm.Branch perm.Trunk = refl
-swap_perms perm.Trunk perm.None = refl
-swap_perms perm.Trunk perm.Branch = refl
-swap_perms perm.Trunk perm.Trunk = refl
+swap_perms Perm.None Perm.None = refl
+swap_perms Perm.None Perm.Branch = refl
+swap_perms Perm.None Perm.Trunk = refl
+swap_perms Perm.Branch Perm.None = refl
+swap_perms Perm.Branch Perm.Branch = refl
+swap_perms Perm.Branch Perm.Trunk = refl
+swap_perms Perm.Trunk Perm.None = refl
+swap_perms Perm.Trunk Perm.Branch = refl
+swap_perms Perm.Trunk Perm.Trunk = refl
 
 -- ---- what is started
 
 busy_may : {w : ℕ} (caching : ℕ → Bool) (c : ℕ) (o : Op w) (b : Busy) (h : AbstractState w)
-    → IsAskable caching c o (reply.Busy b) h
-busy_may caching c (op.Load address size) b h = tt
-busy_may caching c (op.Store address size value) b h = tt
-busy_may caching c (op.Acquire n g) b h = tt
-busy_may caching c (op.AcquireWhole n bytes) b h = tt
-busy_may caching c (op.Release n r) b h = tt
-busy_may caching c (op.Access m) b h = tt
+    → IsAskable caching c o (Reply.Busy b) h
+busy_may caching c (Op.Load address size) b h = tt
+busy_may caching c o b h = tt
 
 store_may : {w : ℕ} (caching : ℕ → Bool) (c address size value : ℕ) (p : Perm) (e : Endpoint w) (h : AbstractState w)
     → p ≡ ((h.state.block (block_at address)).pair c).held
-    → IsAskable caching c (op.Store address size value) (store address size value p e).reply h
-store_may caching c address size value perm.None e h is = tt
-store_may caching c address size value perm.Branch e h is = tt
-store_may caching c address size value perm.Trunk e h is = rw (sym is) refl
+    → IsAskable caching c (Op.Store address size value) (store address size value p e).reply h
+store_may caching c address size value Perm.Trunk e h is = rw (sym is) refl
+store_may caching c address size value p e h is = tt
 
 -- what is given of a client that is asked
 record IsAt {w : ℕ} (config : Config) (c : ℕ) (terms : EndConfig) (h : AbstractState w) (e : Endpoint w) : Type 0 where
@@ -140,37 +110,34 @@ record IsAt {w : ℕ} (config : Config) (c : ℕ) (terms : EndConfig) (h : Abstr
   level_is : level_of config c ≡ Some terms.level
   closes : (source : ℕ) → is_some (asked_by h.mail h.state c source) ≡ false → h.state.uses c source ≡ SourceFree
 
-free_use : {w : ℕ} (config : Config) (c source : ℕ) (terms : EndConfig) (h : AbstractState w) (e : Endpoint w)
-    → IsAt config c terms h e
-    → pending (RequestSource source) e.past ≡ false → h.state.uses c source ≡ SourceFree
-free_use config c source terms h e at free = at.closes source (sym (at.end.opened.requests source) ∙ free)
+free_use : {w : ℕ} {config : Config} {c : ℕ} (source : ℕ) {terms : EndConfig} {h : AbstractState w} {e : Endpoint w}
+    → IsAt config c terms h e → pending (RequestSource source) e.past ≡ false → h.state.uses c source ≡ SourceFree
+free_use source at free = at.closes source (sym (at.end.opened.requests source) ∙ free)
 
 done_may : {w : ℕ} (config : Config) (c : ℕ) (terms : EndConfig) (o : Op w) (h : AbstractState w) (e : Endpoint w)
-    → IsAt config c terms h e → NotBusy terms o e
-    → IsAskable (is_caching config) c o (done terms o e).reply h
-done_may config c terms (op.Load address size) h e at free = tt
-done_may config c terms (op.Store address size value) h e at free = store_may (is_caching config) c address size value
+    → IsAt config c terms h e → NotBusy terms o e → IsAskable (is_caching config) c o (done terms o e).reply h
+done_may config c terms (Op.Store address size value) h e at free = store_may (is_caching config) c address size value
     (held_at e (block_at address)) e h (at.end.known.held_is (block_at address))
-done_may config c terms (op.Acquire n g) h e at free =
+done_may config c terms (Op.Acquire n g) h e at free =
     let idle = or_parts (pending (AcquireOf n) e.past) (pending (ReleaseOf n) e.past) free.b2 in (
       caches config c terms.level at.level_is (not-false (has_transfers terms.level) free.b4),
-      free_use config c (source_or_0 (free_request terms e.past)) terms h e at
+      free_use (source_or_0 (free_request terms e.past)) at
           (least_free-some (λ s. pending (RequestSource s) e.past) 0 terms.sources free.b1).0,
       calm-is ((h.state.block n).pair c).acquiring (sym (at.end.known.acquires n) ∙ idle.0),
       kept-letting ((h.state.block n).pair c).letting (sym (at.end.known.releases n) ∙ idle.1),
       ap (same_perm (grow_left g)) (sym (at.end.known.held_is n)) ∙ not-false (same_perm (grow_left g) (held_at e n))
           free.b3,
     )
-done_may config c terms (op.AcquireWhole n bytes) h e at free =
+done_may config c terms (Op.AcquireWhole n bytes) h e at free =
     let idle = or_parts (pending (AcquireOf n) e.past) (pending (ReleaseOf n) e.past) free.b2 in (
       caches config c terms.level at.level_is (not-false (has_transfers terms.level) free.b4),
-      free_use config c (source_or_0 (free_request terms e.past)) terms h e at
+      free_use (source_or_0 (free_request terms e.past)) at
           (least_free-some (λ s. pending (RequestSource s) e.past) 0 terms.sources free.b1).0,
       calm-is ((h.state.block n).pair c).acquiring (sym (at.end.known.acquires n) ∙ idle.0),
       kept-letting ((h.state.block n).pair c).letting (sym (at.end.known.releases n) ∙ idle.1),
-      ap (same_perm perm.Trunk) (sym (at.end.known.held_is n)) ∙ free.b3,
+      ap (same_perm Perm.Trunk) (sym (at.end.known.held_is n)) ∙ free.b3,
     )
-done_may config c terms (op.Release n r) h e at free =
+done_may config c terms (Op.Release n r) h e at free =
     let idle = or_parts (pending (AcquireOf n) e.past) (pending (ReleaseOf n) e.past) free.b2 in
     let source = source_or_0 (free_release terms e.past) in (
       caches config c terms.level at.level_is (not-false (has_transfers terms.level) free.b4),
@@ -183,25 +150,20 @@ done_may config c terms (op.Release n r) h e at free =
           (sym (at.end.known.held_is n))
           ∙ not-false (same_perm (prune_left r) (held_at e n)) free.b3,
     )
-done_may config c terms (op.Access (message.A m)) h e at free =
-    free_use config c (source_or_0 (free_request terms e.past)) terms h e at
+done_may config c terms (Op.Access (Message.A m)) h e at free = free_use (source_or_0 (free_request terms e.past)) at
     (least_free-some (λ s. pending (RequestSource s) e.past) 0 terms.sources free.b1).0
-done_may config c terms (op.Access (message.B m)) h e at free = tt
-done_may config c terms (op.Access (message.C m)) h e at free = tt
-done_may config c terms (op.Access (message.D m)) h e at free = tt
-done_may config c terms (op.Access (message.E m)) h e at free = tt
+done_may config c terms o h e at free = tt
 
 -- What a client answers to an operation, the protocol allows.
-pub askable : {w : ℕ} (config : Config) (log : Log w) (mail : AccessMessages w) (request : ℕ → MessageA w)
-    (s : State (List ℕ)) (sys : System w) (terms : EndConfig) (c : ℕ)
-    (o : Op w) → SimulationRelation config log mail request s sys
-    → terms_at config c ≡ Some terms
+pub askable : {w : ℕ} {config : Config} {log : Log w} {mail : AccessMessages w} {request : ℕ → MessageA w}
+    {s : State (List ℕ)} {sys : System w} (terms : EndConfig) (c : ℕ) (o : Op w)
+    → SimulationRelation config log mail request s sys → terms_at config c ≡ Some terms
     → IsAskable (is_caching config) c o (ask.asked terms o (sys.clients c)).reply (shadow_of mail request s)
-askable {w} config log mail request s sys terms c o h at =
+askable {w} {config} {log} {mail} {request} {s} {sys} terms c o h at =
     asked-cases terms o (sys.clients c) (λ (x : ask.Asked w). IsAskable (is_caching config) c o x.reply
     (shadow_of mail request s)) (λ b. busy_may (is_caching config) c o b (shadow_of mail request s))
     (done_may config c terms o (shadow_of mail request s) (sys.clients c) (record {
-      end = end-matched config log mail request s sys h c;
+      end = end-matched h c;
       level_is = (terms-are config c terms at).level;
-      closes = λ source none. closed-source config c source mail s (h.sourced c source) (h.answered c source) none;
+      closes = λ source none. closed-source config c mail s (h.sourced c source) (h.answered c source) none;
     }))

@@ -1,48 +1,35 @@
 -- A client's end after it was asked for an operation: what it does is what the protocol does.
-use Rattle.tl_coherence.proofs.client.Imports.{IsWidth, BeatA, Message, MessageC, unfinished}
-use Rattle.tl_coherence.proofs.client.Imports.{AcquireOf, ReleaseOf, Perm, sent, block_at, is_release}
-use Rattle.tl_coherence.proofs.client.Imports.{held, pending, same_perm, Op, copy_stored, whole_grow, EndConfig}
-use Rattle.tl_coherence.proofs.client.Imports.{Endpoint, copy_at, held_at, sending, acquisition, same_block}
-use Rattle.tl_coherence.proofs.client.Imports.{AbstractState, ClientBlock, is_unreleased}
-use Rattle.tl_coherence.proofs.client.Imports.{after_release, Block, State, is_wanting}
-use Rattle.tl_coherence.proofs.client.Imports.{releasing_block, stored_block, AccessMessages}
-use Rattle.tl_coherence.proofs.client.Imports.{asked_by, is_whole}
+use Rattle.tl_coherence.proofs.client.Imports.{IsWidth, BeatA, Message, MessageC, AcquireOf, ReleaseOf}
+use Rattle.tl_coherence.proofs.client.Imports.{Perm, sent, block_at, is_release, held, pending, same_perm, Op}
+use Rattle.tl_coherence.proofs.client.Imports.{copy_stored, whole_grow, EndConfig, Endpoint, copy_at, held_at, sending}
+use Rattle.tl_coherence.proofs.client.Imports.{acquisition, same_block, AbstractState, ClientBlock, is_unreleased}
+use Rattle.tl_coherence.proofs.client.Imports.{after_release, Block, State, is_wanting, releasing_block, stored_block}
+use Rattle.tl_coherence.proofs.client.Imports.{AccessMessages, asked_by, is_whole, Reply}
 use Rattle.std.proofs.Common.{◌≡◌, subst, ℕ, Bool, true, false, not, ◌&&◌, cond, List, Option, Some, None, refl, sym}
 use Rattle.std.proofs.Common.{◌∙◌, ap, ◌⊎◌, inl, inr}
 use Rattle.std.specs.Prelude.{◌==◌, unwrap_or}
 use Rattle.std.proofs.lemmas.Bool.{cases_eq, eqb-true, ne_eqb, or_parts, not-false}
-use Rattle.tl_beat.specs.declared.channel.Channel.TheVariants as channel
-use Rattle.tl_beat.specs.declared.opcode.OpA.TheVariants as a
-use Rattle.tl_beat.specs.declared.opcode.OpC.TheVariants as opc
-use Rattle.tl_burst.specs.declared.message.Message.TheVariants as message
+use Rattle.tl_beat.{specs.declared.opcode.OpA.OpA}
+use Rattle.tl_beat.{specs.declared.opcode.OpC.OpC}
 use Rattle.tl_params.specs.declared.param.Prune.{Prune}
-use Rattle.tl_params.specs.declared.param.Prune.TheVariants as prune
-use Rattle.tl_params.specs.declared.perm.Perm.TheVariants as perm
 use Rattle.tl_params.specs.statement.Param.{prune_code, prune_left, prune_right}
-use Rattle.tl_client.specs.declared.busy.Busy.{Busy}
-use Rattle.tl_client.specs.declared.operation.Op.TheVariants as op
-use Rattle.tl_client.specs.declared.reply.Reply.TheVariants as reply
+use Rattle.tl_client.{specs.declared.busy.Busy.Busy, specs.statement.EndpointInvariant.holds}
+use Rattle.tl_client.{proofs.pending.Accounted.accounted-asked, proofs.endpoint.Cases.NotBusy}
+use Rattle.tl_client.{proofs.endpoint.Cases.asked-cases}
 use Rattle.tl_client.specs.statement.Ask as ask
-use Rattle.tl_client.specs.statement.Ask.{done, load, store, free_request, free_release, source_or_0}
-use Rattle.tl_client.specs.statement.Ask.{is_access_of}
+use Rattle.tl_client.specs.statement.Ask.{done, load, store, free_request, free_release, source_or_0, is_access_of}
 use Rattle.tl_client.specs.statement.Endpoint.{zeros, with_copy, with_waiting, kept_for}
-use Rattle.tl_client.specs.statement.EndpointInvariant.{holds}
 use Rattle.tl_client.specs.statement.Send.{sourced, about, release}
-use Rattle.tl_client.proofs.pending.Accounted.{accounted-asked}
 use Rattle.tl_client.proofs.endpoint.AfterAsked.{kept_copies, kept_closed}
 use Rattle.tl_client.proofs.pending.KeptAsked.{kept_waiting, no_acquire, falls_to, kept-asked}
-use Rattle.tl_client.proofs.endpoint.Cases.{NotBusy, asked-cases}
 use Rattle.tl_client.proofs.endpoint.HeldAfter.{swapped, held-release, kept_past}
 use Rattle.tl_coherence.specs.refinement.AbstractStep as world
 use Rattle.tl_coherence.specs.protocol.Invariant.{AreNamed}
 use Rattle.tl_coherence.specs.protocol.Protocol.{release_asked, block_stored}
-use Rattle.tl_coherence.proofs.client.Aside.{set_at-else}
-use Rattle.tl_coherence.proofs.client.ClientEnd.{IsWellKept, IsEnd, IsSame, known-same, opened-same}
-use Rattle.tl_coherence.proofs.client.ClientEnd.{asks-same, column}
-use Rattle.tl_coherence.proofs.client.ClientSent.{IsReleased}
-use Rattle.tl_coherence.proofs.client.ClientSent.{known-released, opened-released}
+use Rattle.tl_coherence.proofs.{client.Aside.set_at-else, queues.Perms.held-some}
+use Rattle.tl_coherence.proofs.client.ClientEnd.{IsWellKept, IsEnd, IsSame, known-same, opened-same, asks-same, column}
+use Rattle.tl_coherence.proofs.client.ClientSent.{IsReleased, known-released, opened-released}
 use Rattle.tl_coherence.proofs.queues.Tokens.{same_number, set-same, set-other, set-part, set_at-same}
-use Rattle.tl_coherence.proofs.queues.Perms.{held-some}
 use Rattle.tl_coherence.proofs.client.ClientRequests.{chosen, passed, end-access_asked, end-acquire_asked}
 
 -- ---- a Release
@@ -55,64 +42,59 @@ record IsRelease {w : ℕ} (source n : ℕ) (m : MessageC w) : Type 0 where
   from : m.source ≡ source
 
 release_message : {w : ℕ} (r : Prune) (source n : ℕ) (copy : List ℕ)
-    → (m : MessageC w) × (release r source n copy ≡ message.C m) × IsRelease source n m
-release_message prune.TtoB source n copy = (
-  about opc.ReleaseData (prune_code prune.TtoB) source n copy,
+    → (m : MessageC w) × (release r source n copy ≡ Message.C m) × IsRelease source n m
+release_message Prune.TtoB source n copy = (
+  about OpC.ReleaseData (prune_code Prune.TtoB) source n copy,
   refl,
   record {
     releases = refl;
-    of_block =
-        same_block n;
+    of_block = same_block n;
     whole = refl;
     from = refl;
   },
 )
-release_message prune.TtoN source n copy = (
-  about opc.ReleaseData (prune_code prune.TtoN) source n copy,
+release_message Prune.TtoN source n copy = (
+  about OpC.ReleaseData (prune_code Prune.TtoN) source n copy,
   refl,
   record {
     releases = refl;
-    of_block =
-        same_block n;
+    of_block = same_block n;
     whole = refl;
     from = refl;
   },
 )
-release_message prune.BtoN source n copy = (
-  about opc.Release (prune_code prune.BtoN) source n zeros,
+release_message Prune.BtoN source n copy = (
+  about OpC.Release (prune_code Prune.BtoN) source n zeros,
   refl,
   record {
     releases = refl;
-    of_block =
-        same_block n;
+    of_block = same_block n;
     whole = refl;
     from = refl;
   },
 )
 
-pub end-release_asked : {w : ℕ} (c n source : ℕ) (r : Prune) (copy : List ℕ) (mail : AccessMessages w)
-    (s : State (List ℕ)) (e : Endpoint w) → IsWidth w
-    → same_perm (prune_left r) (held n e.past) ≡ true
+pub end-release_asked : {w : ℕ} {c : ℕ} (n source : ℕ) (r : Prune) (copy : List ℕ) (mail : AccessMessages w)
+    {s : State (List ℕ)} {e : Endpoint w} → IsWidth w → same_perm (prune_left r) (held n e.past) ≡ true
     → IsWellKept (kept_for n (prune_right r) (sending (release r source n copy) e)) → IsEnd (asked_by mail s c) c s e
     → IsEnd (asked_by mail (release_asked c n source r s) c) c (release_asked c n source r s)
     (kept_for n (prune_right r) (sending (release r source n copy) e))
-end-release_asked {w} c n source r copy mail s e width begins kept end =
+end-release_asked {w} {c} n source r copy mail {s} {e} width begins kept end =
+    let f : Endpoint w = kept_for n (prune_right r) (sending (release r source n copy) e) in
     let p = release_message {w = w} r source n copy in
     let event = event_of p.0 p.2 in
-    let past : f.past ≡ sent (message.C p.0) e.past = kept_past n (prune_right r) (sending (release r source n copy) e)
+    let past : f.past ≡ sent (Message.C p.0) e.past = kept_past n (prune_right r) (sending (release r source n copy) e)
     ∙ ap (λ (x : Message w). sent x e.past) p.1 in
-    let left : (i : ℕ) → held i (sent (message.C p.0) e.past) ≡ cond (i == n) (prune_right r) (held i e.past) =
+    let left : (i : ℕ) → held i (sent (Message.C p.0) e.past) ≡ cond (i == n) (prune_right r) (held i e.past) =
     λ i. ap (λ (x : Message w). held i (sent x e.past)) (sym p.1) ∙ held-release i r source n copy e.past width
     end.kept.c_whole in
     record {
-      known = known-released c n p.0 (prune_right r) (asked_by mail s c) asked' s s' e.past f width past
-          end.kept.c_whole left kept event end.known;
-      opened = rw past (opened-released c n p.0 (prune_right r) (asked_by mail s c) asked' s s' e.past width
-          end.kept.c_whole event end.opened);
+      known = known-released width past end.kept.c_whole left kept event end.known;
+      opened = rw past (opened-released width end.kept.c_whole event end.opened);
       kept = kept.kept;
       accounted = kept.accounted;
       copies = λ i some. kept_copies n (prune_right r) (sending (release r source n copy) e) i
-          ∙ copy_of i (i == n) refl (sym (ap (λ (q : Perm). same_perm q perm.None) (event.held i)) ∙ some) ∙ ap Some
+          ∙ copy_of i (i == n) refl (sym (ap (λ (q : Perm). same_perm q Perm.None) (event.held i)) ∙ some) ∙ ap Some
           (sym (set-part (λ (b : Block (List ℕ)). b.copy c) n new s.block refl i));
       waiting = λ i storing. kept_waiting n (prune_right r) (sending (release r source n copy) e) i
           ∙ end.waiting i (sym (set-part (λ (b : Block (List ℕ)). is_whole (b.pair c).acquiring) n new s.block
@@ -121,9 +103,6 @@ end-release_asked {w} c n source r copy mail s e width begins kept end =
       live = kept_closed n (prune_right r) (sending (release r source n copy) e) ∙ end.live;
     }
   where
-    f : Endpoint w
-    f = kept_for n (prune_right r) (sending (release r source n copy) e)
-
     new : Block (List ℕ)
     new = releasing_block c source r (s.block n)
 
@@ -142,12 +121,12 @@ end-release_asked {w} c n source r copy mail s e width begins kept end =
       releases = is.releases;
       of_block = is.of_block;
       whole = is.whole;
-      held = λ i. column (λ (b : Block (List ℕ)). (b.pair c).held) n new s.block i ∙ ap
-          (λ (q : Perm). cond (i == n) q ((s.block i).pair c).held) (ap (λ (q : ClientBlock). q.held) pair_is);
-      letting = λ i. column (λ (b : Block (List ℕ)). not (is_unreleased (b.pair c).letting)) n new s.block i
-          ∙ ap (λ (x : Bool). cond (i == n) x (not (is_unreleased ((s.block i).pair c).letting)))
-          (ap (λ (q : ClientBlock). not (is_unreleased q.letting)) pair_is)
-          ∙ ap (λ (b : Bool). cond b true (not (is_unreleased ((s.block i).pair c).letting))) (swapped i n);
+      held = λ i. cc (column (λ (b : Block (List ℕ)). (b.pair c).held) n new s.block i, pair_is);
+      letting = λ i. cc (
+        column (λ (b : Block (List ℕ)). not (is_unreleased (b.pair c).letting)) n new s.block i,
+        pair_is,
+        swapped i n,
+      );
       lets = λ i. lets_now i is.from (cases_eq i source);
       acquiring = λ i. set-part (λ (b : Block (List ℕ)). is_wanting (b.pair c).acquiring) n new s.block
           (ap (λ (q : ClientBlock). is_wanting q.acquiring) pair_is) i;
@@ -164,14 +143,12 @@ end-release_asked {w} c n source r copy mail s e width begins kept end =
         lets_now i from (inr other) = set_at-else c source i (Some n) s.lets other c ∙ sym
             (passed (m.source == i) (Some n) (s.lets c i) (rw from (ne_eqb source i (λ e. other (sym e)))))
 
-    kept_some : (q : Perm) (x y : Option (List ℕ)) → same_perm q perm.None ≡ false → cond (not (holds q)) x y ≡ y
-    kept_some perm.None x y some = absurd cc
-    kept_some perm.Branch x y some = refl
-    kept_some perm.Trunk x y some = refl
+    kept_some : (q : Perm) (x y : Option (List ℕ)) → same_perm q Perm.None ≡ false → cond (not (holds q)) x y ≡ y
+    kept_some Perm.None x y some = absurd cc
+    kept_some q x y some = refl
 
-    copy_of : (i : ℕ) (b : Bool) → (i == n) ≡ b → same_perm (cond b (prune_right r) ((s.block i).pair c).held)
-        perm.None ≡ false
-        → cond (b && not (holds (prune_right r))) None (e.copies i) ≡ Some ((s.block i).copy c)
+    copy_of : (i : ℕ) (b : Bool) → (i == n) ≡ b → same_perm (cond b (prune_right r) ((s.block i).pair c).held) Perm.None
+        ≡ false → cond (b && not (holds (prune_right r))) None (e.copies i) ≡ Some ((s.block i).copy c)
     copy_of i true same some =
         let before : holds ((s.block n).pair c).held ≡ true =
         ap holds (sym (end.known.held_is n)) ∙ falls_to r (held n e.past) begins in
@@ -182,29 +159,12 @@ end-release_asked {w} c n source r copy mail s e width begins kept end =
 
 -- ---- a store
 
-pub end-stored : {w : ℕ} (c n : ℕ) (bytes : List ℕ) (mail : AccessMessages w) (s : State (List ℕ)) (e : Endpoint w)
+pub end-stored : {w : ℕ} {c : ℕ} (n : ℕ) (bytes : List ℕ) (mail : AccessMessages w) {s : State (List ℕ)}
+    {e : Endpoint w}
     → IsWellKept (with_copy n (Some bytes) e) → IsEnd (asked_by mail s c) c s e
     → IsEnd (asked_by mail (block_stored c n bytes s) c) c (block_stored c n bytes s) (with_copy n (Some bytes) e)
-end-stored {w} c n bytes mail s e kept end = record {
-  known = known-same c (asked_by mail s c) (asked_by mail s' c) (unfinished channel.D e.past) s s' e.past same
-      end.known;
-  opened = opened-same c (asked_by mail s c) (asked_by mail s' c) s s' e.past same end.opened;
-  kept = kept.kept;
-  accounted = kept.accounted;
-  copies = λ i some. copy_of i (cases_eq i n) (sym (ap (λ (p : Perm). same_perm p perm.None) (same.held i)) ∙ some);
-  waiting = λ i storing. end.waiting i (sym (ap is_whole (same.acquiring i)) ∙ storing) ∙ ap Some
-      (sym (set-part (λ (b : Block (List ℕ)). b.waiting c) n new s.block refl i));
-  live = end.live;
-}
-  where
-    new : Block (List ℕ)
-    new = stored_block c bytes (s.block n)
-
-    s' : State (List ℕ)
-    s' = block_stored c n bytes s
-
-    same : IsSame c (asked_by mail s c) (asked_by mail s' c) s s'
-    same = record {
+end-stored {w} {c} n bytes mail {s} {e} kept end =
+    let same : IsSame c (asked_by mail s c) (asked_by mail s' c) s s' = record {
       held = λ i. set-part (λ (b : Block (List ℕ)). (b.pair c).held) n new s.block refl i;
       acquiring = λ i. set-part (λ (b : Block (List ℕ)). (b.pair c).acquiring) n new s.block refl i;
       letting = λ i. set-part (λ (b : Block (List ℕ)). is_unreleased (b.pair c).letting) n new s.block refl i;
@@ -212,9 +172,25 @@ end-stored {w} c n bytes mail s e kept end = record {
       asks = λ i. asks-same c i mail mail s s' refl (inl refl)
           (λ j used. set-part (λ (b : Block (List ℕ)). (b.pair c).acquiring) n new s.block refl j)
           (λ j used. set-part (λ (b : Block (List ℕ)). b.source c) n new s.block refl j);
+    } in
+    record {
+      known = known-same same end.known;
+      opened = opened-same same end.opened;
+      kept = kept.kept;
+      accounted = kept.accounted;
+      copies = λ i some. copy_of i (cases_eq i n) (sym (ap (λ (p : Perm). same_perm p Perm.None) (same.held i)) ∙ some);
+      waiting = λ i storing. end.waiting i (sym (ap is_whole (same.acquiring i)) ∙ storing) ∙ ap Some
+          (sym (set-part (λ (b : Block (List ℕ)). b.waiting c) n new s.block refl i));
+      live = end.live;
     }
+  where
+    new : Block (List ℕ)
+    new = stored_block c bytes (s.block n)
 
-    copy_of : (i : ℕ) → (i ≡ n) ⊎ (i ≡ n → ⊥) → same_perm ((s.block i).pair c).held perm.None ≡ false
+    s' : State (List ℕ)
+    s' = block_stored c n bytes s
+
+    copy_of : (i : ℕ) → (i ≡ n) ⊎ (i ≡ n → ⊥) → same_perm ((s.block i).pair c).held Perm.None ≡ false
         → cond (i == n) (Some bytes) (e.copies i) ≡ Some ((s'.block i).copy c)
     copy_of i (inl here) some = chosen (i == n) (Some bytes) (e.copies i) (rw here (same_number n))
         ∙ ap Some (sym (ap (λ (b : Block (List ℕ)). b.copy c) (ap s'.block here ∙ set-same n new s.block) ∙ set-same c
@@ -232,74 +208,71 @@ abbrev IsAfter : {w : ℕ} → ℕ → Op w → AbstractState w → ask.Asked w 
 IsAfter c o h x = IsWellKept x.after → IsEndOf c (world.asked c o x.reply h) x.after
 
 end_busy : {w : ℕ} (c : ℕ) (o : Op w) (b : Busy) (h : AbstractState w) (e : Endpoint w) → IsEndOf c h e
-    → IsEndOf c (world.asked c o (reply.Busy b) h) e
-end_busy c (op.Load address size) b h e end = end
-end_busy c (op.Store address size value) b h e end = end
-end_busy c (op.Acquire n g) b h e end = end
-end_busy c (op.AcquireWhole n bytes) b h e end = end
-end_busy c (op.Release n r) b h e end = end
-end_busy c (op.Access (message.A m)) b h e end = end
-end_busy c (op.Access (message.B m)) b h e end = end
-end_busy c (op.Access (message.C m)) b h e end = end
-end_busy c (op.Access (message.D m)) b h e end = end
-end_busy c (op.Access (message.E m)) b h e end = end
+    → IsEndOf c (world.asked c o (Reply.Busy b) h) e
+end_busy c (Op.Load address size) b h e end = end
+end_busy c (Op.Store address size value) b h e end = end
+end_busy c (Op.Acquire n g) b h e end = end
+end_busy c (Op.AcquireWhole n bytes) b h e end = end
+end_busy c (Op.Release n r) b h e end = end
+end_busy c (Op.Access (Message.A m)) b h e end = end
+end_busy c (Op.Access (Message.B m)) b h e end = end
+end_busy c (Op.Access (Message.C m)) b h e end = end
+end_busy c (Op.Access (Message.D m)) b h e end = end
+end_busy c (Op.Access (Message.E m)) b h e end = end
 
 end_load : {w : ℕ} (c address size : ℕ) (p : Perm) (h : AbstractState w) (e : Endpoint w) → IsEndOf c h e
-    → IsAfter c (op.Load address size) h (load address size p e)
-end_load c address size perm.None h e end kept = end
-end_load c address size perm.Branch h e end kept = end
-end_load c address size perm.Trunk h e end kept = end
+    → IsAfter c (Op.Load address size) h (load address size p e)
+end_load c address size Perm.None h e end kept = end
+end_load c address size p h e end kept = end
 
 end_store : {w : ℕ} (c address size value : ℕ) (p : Perm) (h : AbstractState w) (e : Endpoint w)
     → ((h.state.block (block_at address)).pair c).held ≡ p → IsEndOf c h e
-    → IsAfter c (op.Store address size value) h (store address size value p e)
-end_store c address size value perm.None h e is end kept = end
-end_store c address size value perm.Branch h e is end kept = end
-end_store {w} c address size value perm.Trunk h e is end kept =
+    → IsAfter c (Op.Store address size value) h (store address size value p e)
+end_store c address size value Perm.None h e is end kept = end
+end_store c address size value Perm.Branch h e is end kept = end
+end_store {w} c address size value Perm.Trunk h e is end kept =
     let n = block_at address in
-    let same : copy_at e n ≡ (h.state.block n).copy c =
-    ap (λ (o : Option (List ℕ)). unwrap_or o zeros) (end.copies n (rw is refl)) in
-    let bytes : copy_stored address size value (copy_at e n) ≡ copy_stored address size value
-    ((h.state.block n).copy c) = ap (copy_stored address size value) same in
+    let same = ap (λ (o : Option (List ℕ)). unwrap_or o zeros) (end.copies n (rw is refl)) in
+    let bytes = ap (copy_stored address size value) same in
     subst (λ (x : List ℕ). IsWellKept (with_copy n (Some x) e)
     → IsEnd (asked_by h.mail (block_stored c n (copy_stored address size value ((h.state.block n).copy c)) h.state) c) c
     (block_stored c n (copy_stored address size value ((h.state.block n).copy c)) h.state) (with_copy n (Some x) e))
-    (sym bytes) (λ k. end-stored c n (copy_stored address size value ((h.state.block n).copy c)) h.mail h.state e k end)
+    (sym bytes) (λ k. end-stored n (copy_stored address size value ((h.state.block n).copy c)) h.mail k end)
     kept
 
 end_done : {w : ℕ} (terms : EndConfig) (c : ℕ) (o : Op w) (h : AbstractState w) (e : Endpoint w) → IsWidth w
     → AreNamed h.state → IsEndOf c h e → NotBusy terms o e → IsAfter c o h (done terms o e)
-end_done terms c (op.Load address size) h e width named end free kept =
+end_done terms c (Op.Load address size) h e width named end free kept =
     end_load c address size (held_at e (block_at address)) h e end kept
-end_done terms c (op.Store address size value) h e width named end free kept =
+end_done terms c (Op.Store address size value) h e width named end free kept =
     end_store c address size value (held_at e (block_at address)) h e (sym (end.known.held_is (block_at address))) end
     kept
-end_done terms c (op.Acquire n g) h e width named end free kept =
+end_done terms c (Op.Acquire n g) h e width named end free kept =
     let idle = or_parts (pending (AcquireOf n) e.past) (pending (ReleaseOf n) e.past) free.b2 in
     let source = source_or_0 (free_request terms e.past) in
-    end-acquire_asked c n source false g ((h.state.block n).waiting c) h.mail h.state e
-    (sending (message.A (acquisition a.AcquireBlock g source n)) e) width named
+    end-acquire_asked n source false g ((h.state.block n).waiting c) h.mail
+    width named
     idle.0 refl refl refl (λ i other. refl) (λ whole. absurd cc) kept end
-end_done {w} terms c (op.AcquireWhole n bytes) h e width named end free kept =
+end_done {w} terms c (Op.AcquireWhole n bytes) h e width named end free kept =
     let idle = or_parts (pending (AcquireOf n) e.past) (pending (ReleaseOf n) e.past) free.b2 in
     let source = source_or_0 (free_request terms e.past) in
-    let m : Perm → Message w = λ p. message.A (acquisition a.AcquirePerm (whole_grow p) source n) in
+    let m : Perm → Message w = λ p. Message.A (acquisition OpA.AcquirePerm (whole_grow p) source n) in
     let f : Endpoint w = with_waiting n (Some bytes) (sending (m (held_at e n)) e) in
-    end-acquire_asked c n source true (whole_grow ((h.state.block n).pair c).held) bytes h.mail h.state e f width named
+    end-acquire_asked n source true (whole_grow ((h.state.block n).pair c).held) bytes h.mail width named
     idle.0 (ap (λ (p : Perm). sent (m p) e.past) (end.known.held_is n)) refl refl
     (λ i other. passed (i == n) (Some bytes) (e.waiting i) (ne_eqb i n other))
     (λ whole. chosen (n == n) (Some bytes) (e.waiting n) (same_number n)) kept end
-end_done terms c (op.Release n r) h e width named end free kept =
-    end-release_asked c n (source_or_0 (free_release terms e.past)) r (copy_at e n) h.mail h.state e width
+end_done terms c (Op.Release n r) h e width named end free kept =
+    end-release_asked n (source_or_0 (free_release terms e.past)) r (copy_at e n) h.mail width
     (not-false (same_perm (prune_left r) (held_at e n)) free.b3) kept end
-end_done terms c (op.Access (message.A m)) h e width named end free kept =
+end_done terms c (Op.Access (Message.A m)) h e width named end free kept =
     let source = source_or_0 (free_request terms e.past) in
     let plain = no_acquire terms.level m.opcode (not-false (is_access_of terms.level m.opcode) free.b4) in
-    end-access_asked c (sourced source m) h.mail h.state e width plain.0 kept end
-end_done terms c (op.Access (message.B m)) h e width named end free kept = end
-end_done terms c (op.Access (message.C m)) h e width named end free kept = end
-end_done terms c (op.Access (message.D m)) h e width named end free kept = end
-end_done terms c (op.Access (message.E m)) h e width named end free kept = end
+    end-access_asked (sourced source m) h.mail width plain.0 kept end
+end_done terms c (Op.Access (Message.B m)) h e width named end free kept = end
+end_done terms c (Op.Access (Message.C m)) h e width named end free kept = end
+end_done terms c (Op.Access (Message.D m)) h e width named end free kept = end
+end_done terms c (Op.Access (Message.E m)) h e width named end free kept = end
 
 -- a client's end is that of the protocol after it was asked, whatever it answers
 pub end-asked : {w : ℕ} (terms : EndConfig) (c : ℕ) (o : Op w) (h : AbstractState w) (e : Endpoint w) → IsWidth w
@@ -309,6 +282,5 @@ end-asked terms c o h e width named end =
     asked-cases terms o e (IsAfter c o h) (λ b kept. end_busy c o b h e end) (end_done terms c o h e width named end)
     (record {
       kept = kept-asked terms o e width end.kept;
-      accounted =
-          accounted-asked terms o e width end.kept end.accounted;
+      accounted = accounted-asked terms o e width end.kept end.accounted;
     })

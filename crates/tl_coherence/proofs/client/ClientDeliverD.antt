@@ -3,20 +3,15 @@ use Rattle.tl_coherence.proofs.client.Imports.{IsWidth, BeatA, BeatC, BeatD, His
 use Rattle.tl_coherence.proofs.client.Imports.{RequestSource, ReleaseSource, AcquireOf, ReleaseOf, Perm, sent, block_at}
 use Rattle.tl_coherence.proofs.client.Imports.{ends, is_grant, is_release_ack, held, pending, request_of, release_of}
 use Rattle.tl_coherence.proofs.client.Imports.{pending-whole, release_of-whole, Endpoint, open_beat, ClientRelation}
-use Rattle.tl_coherence.proofs.client.Imports.{is_unreleased, State, is_wanting, OpenSourceRelation}
+use Rattle.tl_coherence.proofs.client.Imports.{is_unreleased, State, is_wanting, OpenSourceRelation, Beat}
 use Rattle.std.proofs.Common.{◌≡◌, ℕ, Bool, true, false, not, ◌&&◌, cond, List, [], ◌∷◌, Option, Some, None, refl, sym}
 use Rattle.std.proofs.Common.{◌∙◌, ap}
-use Rattle.std.proofs.lemmas.Option.{same_Some}
-use Rattle.std.specs.Prelude.{◌==◌, is_some, option_map}
-use Rattle.tl_beat.specs.declared.beat.Beat.TheVariants as beat
-use Rattle.tl_beat.specs.declared.channel.Channel.TheVariants as channel
-use Rattle.tl_burst.specs.declared.message.Message.TheVariants.{E}
-use Rattle.tl_burst.specs.declared.message.MessageE.{MessageE}
+use Rattle.std.{proofs.lemmas.Option.same_Some, specs.Prelude.◌==◌, specs.Prelude.is_some, specs.Prelude.option_map}
+use Rattle.tl_beat.specs.declared.channel.Channel.{Channel}
+use Rattle.tl_burst.{specs.declared.message.Message.TheVariants.E, specs.declared.message.MessageE.MessageE}
 use Rattle.tl_rules.specs.statement.History.{grants, releases, capped}
-use Rattle.tl_rules.proofs.Handed.{held-whole}
-use Rattle.tl_rules.proofs.Sent.{pending-closed}
-use Rattle.tl_client.proofs.pending.AccountedResponse.{release_of-d}
-use Rattle.tl_client.proofs.endpoint.HeldAfter.{held-beat_d}
+use Rattle.tl_rules.{proofs.Handed.held-whole, proofs.Sent.pending-closed}
+use Rattle.tl_client.{proofs.pending.AccountedResponse.release_of-d, proofs.endpoint.HeldAfter.held-beat_d}
 use Rattle.tl_client.proofs.pending.Opens.{acquire_of-d, open_beat-d, open_beat-e, unfinished-d}
 use Rattle.tl_coherence.proofs.client.ClientEnd.{IsWellKept, known-kept}
 
@@ -24,25 +19,21 @@ use Rattle.tl_coherence.proofs.client.ClientEnd.{IsWellKept, known-kept}
 
 -- it is the last of a Grant of block k; of a ReleaseAck
 abbrev pub ends_grant : {w : ℕ} → BeatD w → History w → ℕ → Bool
-ends_grant x t k = ends (beat.D x) t && grants k x t
+ends_grant x t k = ends (Beat.D x) t && grants k x t
 
 -- what is open of Releases of block k, and with Release source i
-release_now : {w : ℕ} (k : ℕ) (x : BeatD w) (t : History w)
-    → pending (ReleaseOf k) (beat.D x ∷ t) ≡ cond
-    (ends (beat.D x) t && (is_release_ack x.opcode && releases k (release_of x.source t))) false
+release_now : {w : ℕ} (k : ℕ) (x : BeatD w) (t : History w) → pending (ReleaseOf k) (Beat.D x ∷ t)
+    ≡ cond (ends (Beat.D x) t && (is_release_ack x.opcode && releases k (release_of x.source t))) false
     (pending (ReleaseOf k) t)
-release_now k x t = pending-closed (ReleaseOf k) (beat.D x) t refl
+release_now k x t = pending-closed (ReleaseOf k) (Beat.D x) t refl
 
-source_now : {w : ℕ} (i : ℕ) (x : BeatD w) (t : History w)
-    → pending (RequestSource i) (beat.D x ∷ t) ≡ cond
-    (ends (beat.D x) t && (not (is_release_ack x.opcode) && (x.source == i))) false
-    (pending (RequestSource i) t)
-source_now i x t = pending-closed (RequestSource i) (beat.D x) t refl
+source_now : {w : ℕ} (i : ℕ) (x : BeatD w) (t : History w) → pending (RequestSource i) (Beat.D x ∷ t)
+    ≡ cond (ends (Beat.D x) t && (not (is_release_ack x.opcode) && (x.source == i))) false (pending (RequestSource i) t)
+source_now i x t = pending-closed (RequestSource i) (Beat.D x) t refl
 
-release_source_now : {w : ℕ} (i : ℕ) (x : BeatD w) (t : History w)
-    → pending (ReleaseSource i) (beat.D x ∷ t) ≡ cond
-    (ends (beat.D x) t && (is_release_ack x.opcode && (x.source == i))) false (pending (ReleaseSource i) t)
-release_source_now i x t = pending-closed (ReleaseSource i) (beat.D x) t refl
+release_source_now : {w : ℕ} (i : ℕ) (x : BeatD w) (t : History w) → pending (ReleaseSource i) (Beat.D x ∷ t)
+    ≡ cond (ends (Beat.D x) t && (is_release_ack x.opcode && (x.source == i))) false (pending (ReleaseSource i) t)
+release_source_now i x t = pending-closed (ReleaseSource i) (Beat.D x) t refl
 
 -- ---- by what the beat closes
 
@@ -53,10 +44,10 @@ pub record IsHeard {w : ℕ} (c : ℕ) (x : BeatD w) (t : History w) (p : Perm)
     (asked asked' : ℕ → Option (BeatA w)) (s s' : State (List ℕ)) : Type 0 where
   pub grants_is : (k : ℕ) → ends_grant x t k ≡ closes_block k
   pub gives : (k : ℕ) → closes_block k ≡ true → capped x.param ≡ p
-  pub releases_is : (k : ℕ) → (ends (beat.D x) t && (is_release_ack x.opcode && releases k (release_of x.source t)))
+  pub releases_is : (k : ℕ) → (ends (Beat.D x) t && (is_release_ack x.opcode && releases k (release_of x.source t)))
       ≡ closes_release k
-  pub source_is : (i : ℕ) → (ends (beat.D x) t && (not (is_release_ack x.opcode) && (x.source == i))) ≡ closes_source i
-  pub let_is : (i : ℕ) → (ends (beat.D x) t && (is_release_ack x.opcode && (x.source == i))) ≡ closes_let i
+  pub source_is : (i : ℕ) → (ends (Beat.D x) t && (not (is_release_ack x.opcode) && (x.source == i))) ≡ closes_source i
+  pub let_is : (i : ℕ) → (ends (Beat.D x) t && (is_release_ack x.opcode && (x.source == i))) ≡ closes_let i
   pub held : (k : ℕ) → ((s'.block k).pair c).held ≡ cond (closes_block k) p ((s.block k).pair c).held
   pub acquiring : (k : ℕ) → is_wanting ((s'.block k).pair c).acquiring ≡ cond (closes_block k) false
       (is_wanting ((s.block k).pair c).acquiring)
@@ -75,81 +66,86 @@ some_kept false o x e = e
 
 -- the history after the beat, and after the message that answers it, if there is one: `u` says the same as the beat's
 pub record IsEcho {w : ℕ} (x : BeatD w) (t u : History w) : Type 0 where
-  pub held_is : (k : ℕ) → held k u ≡ held k (beat.D x ∷ t)
-  pub acquires : (k : ℕ) → pending (AcquireOf k) u ≡ pending (AcquireOf k) (beat.D x ∷ t)
-  pub releases : (k : ℕ) → pending (ReleaseOf k) u ≡ pending (ReleaseOf k) (beat.D x ∷ t)
-  pub opens : (i : ℕ) → open_beat i u ≡ open_beat i (beat.D x ∷ t)
-  pub requests : (i : ℕ) → pending (RequestSource i) u ≡ pending (RequestSource i) (beat.D x ∷ t)
-  pub release_sources : (i : ℕ) → pending (ReleaseSource i) u ≡ pending (ReleaseSource i) (beat.D x ∷ t)
-  pub released : (i : ℕ) → release_of i u ≡ release_of i (beat.D x ∷ t)
+  pub held_is : (k : ℕ) → held k u ≡ held k (Beat.D x ∷ t)
+  pub acquires : (k : ℕ) → pending (AcquireOf k) u ≡ pending (AcquireOf k) (Beat.D x ∷ t)
+  pub releases : (k : ℕ) → pending (ReleaseOf k) u ≡ pending (ReleaseOf k) (Beat.D x ∷ t)
+  pub opens : (i : ℕ) → open_beat i u ≡ open_beat i (Beat.D x ∷ t)
+  pub requests : (i : ℕ) → pending (RequestSource i) u ≡ pending (RequestSource i) (Beat.D x ∷ t)
+  pub release_sources : (i : ℕ) → pending (ReleaseSource i) u ≡ pending (ReleaseSource i) (Beat.D x ∷ t)
+  pub released : (i : ℕ) → release_of i u ≡ release_of i (Beat.D x ∷ t)
 
-pub echo-none : {w : ℕ} (x : BeatD w) (t : History w) → IsEcho x t (beat.D x ∷ t)
+pub echo-none : {w : ℕ} (x : BeatD w) (t : History w) → IsEcho x t (Beat.D x ∷ t)
 echo-none x t = record {
   held_is = λ k. refl;
   acquires = λ k. refl;
   releases = λ k. refl;
   opens = λ i. refl;
-  requests =
-      λ i. refl;
+  requests = λ i. refl;
   release_sources = λ i. refl;
   released = λ i. refl;
 }
 
-pub echo-e : {w : ℕ} (x : BeatD w) (m : MessageE) (t : History w) → IsWidth w → unfinished channel.E t ≡ []
-    → IsEcho x t (sent (E m) (beat.D x ∷ t))
+pub echo-e : {w : ℕ} (x : BeatD w) (m : MessageE) (t : History w) → IsWidth w → unfinished Channel.E t ≡ []
+    → IsEcho x t (sent (E m) (Beat.D x ∷ t))
 echo-e {w} x m t width whole =
     let none = (unfinished-d x t).3 ∙ whole in
     let some = beats-positive {w = w} (E m) width in
     record {
-      held_is = λ k. held-whole k (E m) (beat.D x ∷ t) none some;
-      acquires = λ k. pending-whole (AcquireOf k) (E m) (beat.D x ∷ t) none some;
-      releases = λ k. pending-whole (ReleaseOf k) (E m) (beat.D x ∷ t) none some;
-      opens = λ i. open_beat-e i m (beat.D x ∷ t) width none;
-      requests = λ i. pending-whole (RequestSource i) (E m) (beat.D x ∷ t) none some;
-      release_sources = λ i. pending-whole (ReleaseSource i) (E m) (beat.D x ∷ t) none some;
-      released = λ i. release_of-whole i (E m) (beat.D x ∷ t) none some;
+      held_is = λ k. held-whole k (E m) (Beat.D x ∷ t) none some;
+      acquires = λ k. pending-whole (AcquireOf k) (E m) (Beat.D x ∷ t) none some;
+      releases = λ k. pending-whole (ReleaseOf k) (E m) (Beat.D x ∷ t) none some;
+      opens = λ i. open_beat-e i m (Beat.D x ∷ t) width none;
+      requests = λ i. pending-whole (RequestSource i) (E m) (Beat.D x ∷ t) none some;
+      release_sources = λ i. pending-whole (ReleaseSource i) (E m) (Beat.D x ∷ t) none some;
+      released = λ i. release_of-whole i (E m) (Beat.D x ∷ t) none some;
     }
 
 given_cond : (a b : Bool) (p q r : Perm) → a ≡ b → (b ≡ true → p ≡ q) → cond a p r ≡ cond b q r
 given_cond a true p q r e f = rw (e, f refl) refl
 given_cond a false p q r e f = rw e refl
 
-pub known-heard : {w : ℕ} (c : ℕ) (x : BeatD w) (t : History w) (p : Perm)
-    (closes_block closes_release closes_source closes_let : ℕ → Bool)
-    (asked asked' : ℕ → Option (BeatA w)) (s s' : State (List ℕ)) (f : Endpoint w)
-    → IsEcho x t f.past → IsWellKept f
+pub known-heard : {w : ℕ} {c : ℕ} {x : BeatD w} {t : History w} {p : Perm}
+    {closes_block closes_release closes_source closes_let : ℕ → Bool} {asked asked' : ℕ → Option (BeatA w)}
+    {s s' : State (List ℕ)} {f : Endpoint w} → IsEcho x t f.past → IsWellKept f
     → IsHeard c x t p closes_block closes_release closes_source closes_let asked asked' s s'
-    → ClientRelation asked (unfinished channel.D t) c s t → ClientRelation asked' (unfinished channel.D f.past) c s'
+    → ClientRelation asked (unfinished Channel.D t) c s t → ClientRelation asked' (unfinished Channel.D f.past) c s'
     f.past
-known-heard {w} c x t p closes_block closes_release closes_source closes_let asked asked' s s' f echo well event known =
-    known-kept asked' c s' f well
-    (λ k. echo.held_is k ∙ held-beat_d k x t ∙ given_cond (ends_grant x t k) (closes_block k) (capped x.param) p
-    (held k t) (event.grants_is k) (event.gives k)
-    ∙ ap (λ (q : Perm). cond (closes_block k) p q) (known.held_is k) ∙ sym (event.held k))
-    (λ k. echo.acquires k ∙ acquire_of-d k x t ∙ ap (λ (b : Bool). cond b false (pending (AcquireOf k) t))
-    (event.grants_is k)
+known-heard {w} {c} {x} {t} {p} {closes_block} {closes_release} {closes_source} {asked'} {s'} {f} echo well event
+    known = known-kept asked' c s' well (λ k. echo.held_is k ∙ held-beat_d k x t
+    ∙ given_cond (ends_grant x t k) (closes_block k) (capped x.param) p (held k t) (event.grants_is k) (event.gives k)
+    ∙ ap (λ (q : Perm). cond (closes_block k) p q) (known.held_is k) ∙ sym (event.held k)) (λ k. echo.acquires k
+    ∙ acquire_of-d k x t ∙ ap (λ (b : Bool). cond b false (pending (AcquireOf k) t)) (event.grants_is k)
     ∙ ap (λ (b : Bool). cond (closes_block k) false b) (known.acquires k) ∙ sym (event.acquiring k))
     (λ k. echo.releases k ∙ release_now k x t ∙ ap (λ (b : Bool). cond b false (pending (ReleaseOf k) t))
-    (event.releases_is k)
-    ∙ ap (λ (b : Bool). cond (closes_release k) false b) (known.releases k) ∙ sym (event.letting k))
-    (λ i. echo.opens i ∙ open_beat-d i x t ∙ ap (λ (b : Bool). cond b None (open_beat i t)) (event.source_is i)
-    ∙ ap (λ (o : Option (BeatA w)). cond (closes_source i) None o) (known.opens i) ∙ sym (event.asks i))
+    (event.releases_is k) ∙ ap (λ (b : Bool). cond (closes_release k) false b) (known.releases k)
+    ∙ sym (event.letting k)) (λ i. echo.opens i ∙ open_beat-d i x t ∙ ap (λ (b : Bool). cond b None (open_beat i t))
+    (event.source_is i) ∙ ap (λ (o : Option (BeatA w)). cond (closes_source i) None o) (known.opens i)
+    ∙ sym (event.asks i))
 
-pub opened-heard : {w : ℕ} (c : ℕ) (x : BeatD w) (t u : History w) (p : Perm)
-    (closes_block closes_release closes_source closes_let : ℕ → Bool)
-    (asked asked' : ℕ → Option (BeatA w)) (s s' : State (List ℕ)) → IsEcho x t u
-    → IsHeard c x t p closes_block closes_release closes_source closes_let asked asked' s s'
-    → OpenSourceRelation asked c s t → OpenSourceRelation asked' c s' u
-opened-heard {w} c x t u p closes_block closes_release closes_source closes_let asked asked' s s' echo event open_ =
+pub opened-heard : {w : ℕ} {c : ℕ} {x : BeatD w} {t u : History w} {p : Perm}
+    {closes_block closes_release closes_source closes_let : ℕ → Bool} {asked asked' : ℕ → Option (BeatA w)}
+    {s s' : State (List ℕ)} → IsEcho x t u → IsHeard c x t p closes_block closes_release closes_source closes_let asked
+    asked' s s' → OpenSourceRelation asked c s t → OpenSourceRelation asked' c s' u
+opened-heard {w} {c} {x} {t} {closes_source} {closes_let} {asked} {s} echo event open_ =
     record {
-      requests = λ i. echo.requests i ∙ source_now i x t ∙ ap (λ (b : Bool). cond b false (pending (RequestSource i) t))
-          (event.source_is i)
-          ∙ ap (λ (b : Bool). cond (closes_source i) false b) (open_.requests i)
-          ∙ sym (none_cond (closes_source i) (asked i)) ∙ ap is_some (sym (event.asks i));
-      releases = λ i. echo.release_sources i ∙ release_source_now i x t ∙ ap
-          (λ (b : Bool). cond b false (pending (ReleaseSource i) t)) (event.let_is i)
-          ∙ ap (λ (b : Bool). cond (closes_let i) false b) (open_.releases i)
-          ∙ sym (none_cond (closes_let i) (s.lets c i)) ∙ ap is_some (sym (event.lets i));
+      requests = λ i. cc (
+        echo.requests i,
+        source_now i x t,
+        event.source_is i,
+        open_.requests i,
+        none_cond
+            (closes_source i) (asked i),
+        event.asks i,
+      );
+      releases = λ i. cc (
+        echo.release_sources i,
+        release_source_now i x t,
+        event.let_is i,
+        open_.releases i,
+        none_cond
+            (closes_let i) (s.lets c i),
+        event.lets i,
+      );
       released = λ i n some. ap (option_map (λ y. block_at y.address)) (echo.released i ∙ release_of-d i x t)
           ∙ open_.released i n (some_kept (closes_let i) (s.lets c i) n (sym (event.lets i) ∙ some));
       sizes = λ i n some. ap (option_map (λ y. y.size)) (echo.released i ∙ release_of-d i x t) ∙ open_.sizes i n
@@ -160,7 +156,7 @@ opened-heard {w} c x t u p closes_block closes_release closes_source closes_let 
 
 -- one that isn't the last of its message closes nothing
 pub heard-part : {w : ℕ} (c : ℕ) (x : BeatD w) (t : History w) (p : Perm) (asked : ℕ → Option (BeatA w))
-    (s : State (List ℕ)) → ends (beat.D x) t ≡ false
+    (s : State (List ℕ)) → ends (Beat.D x) t ≡ false
     → IsHeard c x t p (λ k. false) (λ k. false) (λ k. false) (λ k. false) asked asked s s
 heard-part c x t p asked s more = record {
   grants_is = λ k. rw more refl;
@@ -176,12 +172,11 @@ heard-part c x t p asked s more = record {
 }
 
 -- the last of an answer closes the request with its source
-pub answer_closes : {w : ℕ} (x : BeatD w) (t : History w) → ends (beat.D x) t ≡ true → is_grant x.opcode ≡ false
-    → is_release_ack x.opcode ≡ false
-    → ((k : ℕ) → ends_grant x t k ≡ false)
-    × ((k : ℕ) → (ends (beat.D x) t && (is_release_ack x.opcode && releases k (release_of x.source t))) ≡ false)
-    × ((i : ℕ) → (ends (beat.D x) t && (not (is_release_ack x.opcode) && (x.source == i))) ≡ (x.source == i))
-    × ((i : ℕ) → (ends (beat.D x) t && (is_release_ack x.opcode && (x.source == i))) ≡ false)
+pub answer_closes : {w : ℕ} (x : BeatD w) (t : History w) → ends (Beat.D x) t ≡ true → is_grant x.opcode ≡ false
+    → is_release_ack x.opcode ≡ false → ((k : ℕ) → ends_grant x t k ≡ false)
+    × ((k : ℕ) → (ends (Beat.D x) t && (is_release_ack x.opcode && releases k (release_of x.source t))) ≡ false)
+    × ((i : ℕ) → (ends (Beat.D x) t && (not (is_release_ack x.opcode) && (x.source == i))) ≡ (x.source == i))
+    × ((i : ℕ) → (ends (Beat.D x) t && (is_release_ack x.opcode && (x.source == i))) ≡ false)
 answer_closes x t last plain other =
     (λ k. rw (last, plain) refl, λ k. rw (last, other) refl, λ i. rw (last, other) refl, λ i. rw (last, other) refl)
 
@@ -191,13 +186,12 @@ released_block k n None e = absurd cc
 released_block k n (Some x) e = ap (λ (i : ℕ). i == k) (same_Some (block_at x.address) n e)
 
 -- that of a ReleaseAck the Release with its source, of its block
-pub ack_closes : {w : ℕ} (n : ℕ) (x : BeatD w) (t : History w) → ends (beat.D x) t ≡ true → is_grant x.opcode ≡ false
-    → is_release_ack x.opcode ≡ true
-    → option_map (λ (y : BeatC w). block_at y.address) (release_of x.source t) ≡ Some n
+pub ack_closes : {w : ℕ} (n : ℕ) (x : BeatD w) (t : History w) → ends (Beat.D x) t ≡ true → is_grant x.opcode ≡ false
+    → is_release_ack x.opcode ≡ true → option_map (λ (y : BeatC w). block_at y.address) (release_of x.source t) ≡ Some n
     → ((k : ℕ) → ends_grant x t k ≡ false)
-    × ((k : ℕ) → (ends (beat.D x) t && (is_release_ack x.opcode && releases k (release_of x.source t))) ≡ (n == k))
-    × ((i : ℕ) → (ends (beat.D x) t && (not (is_release_ack x.opcode) && (x.source == i))) ≡ false)
-    × ((i : ℕ) → (ends (beat.D x) t && (is_release_ack x.opcode && (x.source == i))) ≡ (x.source == i))
+    × ((k : ℕ) → (ends (Beat.D x) t && (is_release_ack x.opcode && releases k (release_of x.source t))) ≡ (n == k))
+    × ((i : ℕ) → (ends (Beat.D x) t && (not (is_release_ack x.opcode) && (x.source == i))) ≡ false)
+    × ((i : ℕ) → (ends (Beat.D x) t && (is_release_ack x.opcode && (x.source == i))) ≡ (x.source == i))
 ack_closes n x t last plain acks block = (
   λ k. rw (last, plain) refl,
   λ k. rw (last, acks) (released_block k n (release_of x.source t) block),
@@ -207,13 +201,12 @@ ack_closes n x t last plain acks block = (
 )
 
 -- that of a Grant the Acquire with its source, of its block
-pub grant_closes : {w : ℕ} (n : ℕ) (x : BeatD w) (r : BeatA w) (t : History w) → ends (beat.D x) t ≡ true
-    → is_grant x.opcode ≡ true
-    → is_release_ack x.opcode ≡ false → request_of x.source t ≡ Some r → block_at r.address ≡ n
-    → ((k : ℕ) → ends_grant x t k ≡ (n == k))
-    × ((k : ℕ) → (ends (beat.D x) t && (is_release_ack x.opcode && releases k (release_of x.source t))) ≡ false)
-    × ((i : ℕ) → (ends (beat.D x) t && (not (is_release_ack x.opcode) && (x.source == i))) ≡ (x.source == i))
-    × ((i : ℕ) → (ends (beat.D x) t && (is_release_ack x.opcode && (x.source == i))) ≡ false)
+pub grant_closes : {w : ℕ} (n : ℕ) (x : BeatD w) (r : BeatA w) (t : History w) → ends (Beat.D x) t ≡ true
+    → is_grant x.opcode ≡ true → is_release_ack x.opcode ≡ false → request_of x.source t ≡ Some r
+    → block_at r.address ≡ n → ((k : ℕ) → ends_grant x t k ≡ (n == k))
+    × ((k : ℕ) → (ends (Beat.D x) t && (is_release_ack x.opcode && releases k (release_of x.source t))) ≡ false)
+    × ((i : ℕ) → (ends (Beat.D x) t && (not (is_release_ack x.opcode) && (x.source == i))) ≡ (x.source == i))
+    × ((i : ℕ) → (ends (Beat.D x) t && (is_release_ack x.opcode && (x.source == i))) ≡ false)
 grant_closes n x r t last gives other request block = (
   λ k. rw (last, gives, request, block) refl,
   λ k. rw (last, other) refl,

@@ -2,73 +2,51 @@
 use Rattle.tl_coherence.proofs.client.Imports.{IsWidth, Beat, BeatA, BeatD, OpD, Message, MessageA, MessageD}
 use Rattle.tl_coherence.proofs.client.Imports.{unfinished, completes, Config, Cap, Perm, ends, is_grant, is_release_ack}
 use Rattle.tl_coherence.proofs.client.Imports.{request_of, same_perm, Finish, EndConfig, Endpoint, with_past, Offered}
-use Rattle.tl_coherence.proofs.client.Imports.{offered, taken, ended, responded, silent, AbstractState, is_whole}
+use Rattle.tl_coherence.proofs.client.Imports.{offered, taken, ended, responded, AbstractState, is_whole}
 use Rattle.tl_coherence.proofs.client.Imports.{taken_by_client, kind_taken, packet_taken, Log, AcquirePhase}
 use Rattle.tl_coherence.proofs.client.Imports.{AcquireOpen, Service, GrantSent, State, packet, is_on, grant_taken}
-use Rattle.tl_coherence.proofs.client.Imports.{AccessMessages, block_message, System, terms_at, Kind, Request, Acquire}
-use Rattle.tl_coherence.proofs.client.Imports.{Probe, ProbeAck, Release, Answer, Grant, ReleaseAck, GrantAck, Packet}
-use Rattle.tl_coherence.proofs.client.Imports.{SimulationRelation, gives_asked, asked_by, is_caching}
-use Rattle.std.proofs.Common.{◌≡◌, subst, ℕ, ◌+◌, ◌*◌, Bool, true, false, ◌||◌, cond, List, ◌∷◌, Option, Some, length}
-use Rattle.std.proofs.Common.{refl, sym, ◌∙◌, ap, arith, lit<}
-use Rattle.std.specs.Prelude.{map}
-use Rattle.std.proofs.lemmas.Bool.{eqb-true}
-use Rattle.std.proofs.lemmas.List.{drop_all}
-use Rattle.std.proofs.lemmas.Nat.{pow_pos}
-use Rattle.tl_beat.specs.declared.beat.Beat.TheVariants as beat
-use Rattle.tl_beat.specs.declared.channel.Channel.TheVariants as channel
-use Rattle.tl_beat.specs.declared.opcode.OpD.TheVariants as opd
-use Rattle.tl_burst.specs.declared.message.Message.TheVariants as message
+use Rattle.tl_coherence.proofs.client.Imports.{AccessMessages, block_message, System, terms_at, Kind, Answer, Grant}
+use Rattle.tl_coherence.proofs.client.Imports.{ReleaseAck, Packet, SimulationRelation, gives_asked, asked_by}
+use Rattle.tl_coherence.proofs.client.Imports.{is_caching}
+use Rattle.std.proofs.Common.{◌≡◌, subst, ℕ, ◌+◌, ◌*◌, Bool, true, false, ◌||◌, List, ◌∷◌, Option, Some, length, refl}
+use Rattle.std.proofs.Common.{sym, ◌∙◌, ap, arith, lit<}
+use Rattle.std.{specs.Prelude.map, proofs.lemmas.Bool.eqb-true, proofs.lemmas.List.drop_all, proofs.lemmas.Nat.pow_pos}
+use Rattle.tl_beat.specs.declared.channel.Channel.{Channel}
 use Rattle.tl_burst.specs.statement.Burst.{d_beat_of, beats_of, burst_of, data_beats, IsBlankAfter, IsZeroFrom}
-use Rattle.tl_params.specs.declared.perm.Perm.TheVariants as perm
-use Rattle.tl_rules.specs.statement.Admission.{payload_of}
-use Rattle.tl_rules.proofs.Payload.{payload-d}
-use Rattle.tl_client.specs.statement.Offer.{granted}
-use Rattle.tl_client.specs.declared.verdict.Verdict.TheVariants as verdict
-use Rattle.tl_client.proofs.pending.Accounted.{accounted-offered}
-use Rattle.tl_client.proofs.pending.KeptOffered.{kept-offered}
+use Rattle.tl_rules.{specs.statement.Admission.payload_of, proofs.Payload.payload-d, proofs.Widths.whole_block}
+use Rattle.tl_client.{specs.statement.Offer.granted, proofs.pending.Accounted.accounted-offered}
+use Rattle.tl_client.{proofs.pending.KeptOffered.kept-offered}
 use Rattle.tl_coherence.specs.refinement.PacketMessages.{message_of, message_of_kind}
 use Rattle.tl_coherence.specs.refinement.SimulationRelation.{IsGivenAsked}
-use Rattle.tl_coherence.proofs.queues.Carried.{IsNext}
-use Rattle.tl_coherence.proofs.client.ClientAsked.{IsEndOf}
+use Rattle.tl_coherence.proofs.{queues.Carried.IsNext, client.ClientAsked.IsEndOf, queues.FirstToken.IsFirst}
+use Rattle.tl_coherence.proofs.{queues.FirstToken.first-token, queues.Codes.access_kind}
 use Rattle.tl_coherence.proofs.client.ClientEnd.{IsWellKept, IsEnd, end-matched}
 use Rattle.tl_coherence.proofs.client.ClientTaken.{end-part, end-answer_taken, end-release_ack_taken, end-grant_taken}
 use Rattle.tl_coherence.proofs.client.ClientTakes.{answer-first, IsFitting, fitting, grant-first, ack-first, taken-d}
 use Rattle.tl_coherence.proofs.protocol.HeadOfD.{answer-due, IsGrantDue, grant-due, grant_message, grant-rendered}
 use Rattle.tl_coherence.proofs.protocol.HeadOfD.{ack-due, ack_message}
-use Rattle.tl_coherence.proofs.queues.FirstToken.{IsFirst, first-token}
-use Rattle.tl_coherence.proofs.queues.Codes.{access_kind}
-use Rattle.tl_rules.proofs.Widths.{whole_block}
 
 -- ---- what a client does at a beat of channel D
 
-part_end : {w : ℕ} (y : BeatD w) (e : Endpoint w) → ends (beat.D y) e.past ≡ false
-    → (taken (beat.D y) e).after ≡ with_past (beat.D y ∷ e.past) e
-part_end {w} y e more = ap
-    (λ (b : Bool). (cond b (responded y (request_of y.source e.past)
-    (payload_of (beat.D y ∷ unfinished channel.D e.past)) e)
-    (silent verdict.Taken (with_past (beat.D y ∷ e.past) e))).after) more
+part_end : {w : ℕ} (y : BeatD w) (e : Endpoint w) → ends (Beat.D y) e.past ≡ false
+    → (taken (Beat.D y) e).after ≡ with_past (Beat.D y ∷ e.past) e
+part_end {w} y e more = cc more
 
-last_end : {w : ℕ} (y : BeatD w) (e : Endpoint w) → ends (beat.D y) e.past ≡ true
-    → (taken (beat.D y) e).after ≡ (responded y (request_of y.source e.past)
-    (payload_of (beat.D y ∷ unfinished channel.D e.past)) e).after
-last_end {w} y e last = ap
-    (λ (b : Bool). (cond b (responded y (request_of y.source e.past)
-    (payload_of (beat.D y ∷ unfinished channel.D e.past)) e)
-    (silent verdict.Taken (with_past (beat.D y ∷ e.past) e))).after) last
+last_end : {w : ℕ} (y : BeatD w) (e : Endpoint w) → ends (Beat.D y) e.past ≡ true
+    → (taken (Beat.D y) e).after ≡ (responded y (request_of y.source e.past)
+    (payload_of (Beat.D y ∷ unfinished Channel.D e.past)) e).after
+last_end {w} y e last = cc last
 
 ended_plain : {w : ℕ} (o : OpD) (y : BeatD w) (f : Finish) (r : Option (BeatA w)) (payload : List ℕ) (e : Endpoint w)
     → is_grant o ≡ false → (ended o y f (granted o r payload e)).after ≡ e
-ended_plain opd.AccessAck y f r payload e plain = refl
-ended_plain opd.AccessAckData y f r payload e plain = refl
-ended_plain opd.HintAck y f r payload e plain = refl
-ended_plain opd.ReleaseAck y f r payload e plain = refl
-ended_plain opd.Grant y f r payload e plain = absurd cc
-ended_plain opd.GrantData y f r payload e plain = absurd cc
+ended_plain OpD.Grant y f r payload e plain = absurd cc
+ended_plain OpD.GrantData y f r payload e plain = absurd cc
+ended_plain o y f r payload e plain = refl
 
-plain_end : {w : ℕ} (y : BeatD w) (e : Endpoint w) → ends (beat.D y) e.past ≡ true → is_grant y.opcode ≡ false
-    → (taken (beat.D y) e).after ≡ with_past (beat.D y ∷ e.past) e
+plain_end : {w : ℕ} (y : BeatD w) (e : Endpoint w) → ends (Beat.D y) e.past ≡ true → is_grant y.opcode ≡ false
+    → (taken (Beat.D y) e).after ≡ with_past (Beat.D y ∷ e.past) e
 plain_end {w} y e last plain = last_end y e last ∙ ended_plain y.opcode y _ (request_of y.source e.past)
-    (payload_of (beat.D y ∷ unfinished channel.D e.past)) (with_past (beat.D y ∷ e.past) e) plain
+    (payload_of (Beat.D y ∷ unfinished Channel.D e.past)) (with_past (Beat.D y ∷ e.past) e) plain
 
 -- ---- the end afterwards
 
@@ -76,20 +54,19 @@ plain_end {w} y e last plain = last_end y e last ∙ ended_plain y.opcode y _ (r
 -- the last of its message
 pub record IsTakenBy {w : ℕ} (config : Config) (terms : EndConfig) (tracker c : ℕ) (h : AbstractState w) (x : Beat w)
     (e : Endpoint w) : Type 0 where
-  pub takes : offered terms channel.D x e ≡ taken x e
-  pub more : completes x (unfinished channel.D e.past) ≡ false → IsEndOf c h (taken x e).after
-  pub last : completes x (unfinished channel.D e.past) ≡ true
+  pub takes : offered terms Channel.D x e ≡ taken x e
+  pub more : completes x (unfinished Channel.D e.past) ≡ false → IsEndOf c h (taken x e).after
+  pub last : completes x (unfinished Channel.D e.past) ≡ true
       → IsEndOf c (packet_taken config tracker c (h.state.link c).d h) (taken x e).after
 
-well-taken : {w : ℕ} (terms : EndConfig) (x : Beat w) (e f : Endpoint w) → IsWidth w
-    → offered terms channel.D x e ≡ taken x e → f ≡ (taken x e).after → IsWellKept e → IsWellKept f
-well-taken {w} terms x e f width takes is well =
-    let same : (offered terms channel.D x e).after ≡ f = ap (λ (o : Offered w). o.after) takes ∙ sym is in
+well-taken : {w : ℕ} (terms : EndConfig) (x : Beat w) {e : Endpoint w} (f : Endpoint w) → IsWidth w
+    → offered terms Channel.D x e ≡ taken x e → f ≡ (taken x e).after → IsWellKept e → IsWellKept f
+well-taken {w} terms x {e} f width takes is well =
+    let same : (offered terms Channel.D x e).after ≡ f = ap (λ (o : Offered w). o.after) takes ∙ sym is in
     subst (λ (g : Endpoint w). IsWellKept g) same
     (record {
-      kept = kept-offered terms channel.D x e width well.kept;
-      accounted =
-          accounted-offered terms channel.D x e width well.kept well.accounted;
+      kept = kept-offered terms Channel.D x e width well.kept;
+      accounted = accounted-offered terms Channel.D x e width well.kept well.accounted;
     })
 
 -- the end before, as the protocol has it
@@ -98,40 +75,27 @@ well-of c h e end = record { kept = end.kept; accounted = end.accounted }
 
 -- what its message tells of a beat
 taken-by : {w : ℕ} (config : Config) (terms : EndConfig) (tracker c : ℕ) (h : AbstractState w) (m : MessageD w)
-    (ms : List (Message w)) (x : Beat w)
-    (queue : List (Beat w)) (e : Endpoint w) → IsWidth w → IsEndOf c h e
-    → IsNext x (unfinished channel.D e.past) (message.D m) ms queue → offered terms channel.D x e ≡ taken x e
-    → ((y : BeatD w) → x ≡ beat.D y → y.opcode ≡ m.opcode → y.source ≡ m.source → y.param ≡ m.param
-    → ends (beat.D y) e.past ≡ true
-    → x ∷ unfinished channel.D e.past ≡ burst_of (message.D m) → IsWellKept (taken (beat.D y) e).after
-    → IsEndOf c (packet_taken config tracker c (h.state.link c).d h) (taken (beat.D y) e).after)
-    → IsTakenBy config terms tracker c h x e
-taken-by {w} config terms tracker c h m ms x queue e width end next takes lasts =
-    let well = well-taken terms x e (taken x e).after width takes refl (well-of c h e end) in
+    {ms : List (Message w)} {x : Beat w} {queue : List (Beat w)} (e : Endpoint w) → IsWidth w → IsEndOf c h e
+    → IsNext x (unfinished Channel.D e.past) (Message.D m) ms queue → offered terms Channel.D x e ≡ taken x e
+    → ((y : BeatD w) → x ≡ Beat.D y → y.opcode ≡ m.opcode → y.source ≡ m.source → y.param ≡ m.param
+    → ends (Beat.D y) e.past ≡ true → x ∷ unfinished Channel.D e.past ≡ burst_of (Message.D m)
+    → IsWellKept (taken (Beat.D y) e).after → IsEndOf c (packet_taken config tracker c (h.state.link c).d h)
+    (taken (Beat.D y) e).after) → IsTakenBy config terms tracker c h x e
+taken-by {w} config terms tracker c h m {x} e width end next takes lasts =
+    let y : BeatD w = d_beat_of m next.k in
+    let x_is : x ≡ Beat.D y = next.beat_is in
+    let ends_at : x ≡ Beat.D y → completes x (unfinished Channel.D e.past) ≡ ends (Beat.D y) e.past =
+    λ f. ap (λ (z : Beat w). completes z (unfinished Channel.D e.past)) f in
+    let well_y : IsWellKept (taken x e).after → IsWellKept (taken (Beat.D y) e).after =
+    subst (λ (z : Beat w). IsWellKept (taken z e).after) x_is in
+    let well = well-taken terms x (taken x e).after width takes refl (well-of c h e end) in
     record {
       takes = takes;
       more = λ goes. subst (λ (z : Beat w). IsEndOf c h (taken z e).after) (sym x_is)
-          (end-part (asked_by h.mail h.state c) c y h.state e (taken (beat.D y) e).after
-          (part_end y e (sym (ends_at x_is) ∙ goes)) (sym (ends_at x_is) ∙ goes)
-          (well_y well) end);
-      last = λ done. subst (λ (z : Beat w). IsEndOf c (packet_taken config tracker c (h.state.link c).d h)
-          (taken z e).after) (sym x_is)
-          (lasts y x_is refl refl refl (sym (ends_at x_is) ∙ done)
-          (next.last (eqb-true (next.k + 1) (beats_of (message.D m)) (sym next.completes_is ∙ done))).1
-          (well_y well));
+          (end-part y (part_end y e (sym (ends_at x_is) ∙ goes)) (sym (ends_at x_is) ∙ goes) (well_y well) end);
+      last = λ done. rw x_is (lasts y x_is refl refl refl (sym (ends_at x_is) ∙ done)
+          (next.last (eqb-true (next.k + 1) (beats_of (Message.D m)) (sym next.completes_is ∙ done))).1 (well_y well));
     }
-  where
-    y : BeatD w
-    y = d_beat_of m next.k
-
-    x_is : x ≡ beat.D y
-    x_is = next.beat_is
-
-    ends_at : x ≡ beat.D y → completes x (unfinished channel.D e.past) ≡ ends (beat.D y) e.past
-    ends_at f = ap (λ (z : Beat w). completes z (unfinished channel.D e.past)) f
-
-    well_y : IsWellKept (taken x e).after → IsWellKept (taken (beat.D y) e).after
-    well_y = subst (λ (z : Beat w). IsWellKept (taken z e).after) x_is
 
 -- ---- an answer, a Grant, a ReleaseAck
 
@@ -141,66 +105,59 @@ shadow_of mail request s = record { state = s; mail = mail; request = request }
 
 -- with the first token of channel D
 taken_token : {w : ℕ} (config : Config) (tracker c : ℕ) (k : Kind) (n : ℕ) (rest : List Packet) (h : AbstractState w)
-    (e : Endpoint w)
-    → (h.state.link c).d ≡ packet k n ∷ rest → IsEndOf c (kind_taken config tracker c k n rest h) e
+    (e : Endpoint w) → (h.state.link c).d ≡ packet k n ∷ rest → IsEndOf c (kind_taken config tracker c k n rest h) e
     → IsEndOf c (packet_taken config tracker c (h.state.link c).d h) e
-taken_token config tracker c k n rest h e first end =
-    subst (λ (xs : List Packet). IsEndOf c (packet_taken config tracker c xs h) e) (sym first) end
+taken_token config tracker c k n rest h e first end = rw first end
 
-pub answer-delivered : {w : ℕ} (config : Config) (log : Log w) (mail : AccessMessages w) (request : ℕ → MessageA w)
-    (s : State (List ℕ)) (sys : System w) (terms : EndConfig)
-    (tracker c source : ℕ) (rest : List Packet) (ms : List (Message w)) (x : Beat w) (queue : List (Beat w))
+pub answer-delivered : {w : ℕ} {config : Config} {log : Log w} {mail : AccessMessages w} {request : ℕ → MessageA w}
+    {s : State (List ℕ)} {sys : System w} (terms : EndConfig)
+    (tracker c source : ℕ) (rest : List Packet) {ms : List (Message w)} {x : Beat w} {queue : List (Beat w)}
     → IsWidth w → SimulationRelation config log mail request s sys → terms_at config c ≡ Some terms
-    → sys.channels c channel.D ≡ x ∷ queue → (s.link c).d ≡ packet Answer source ∷ rest
-    → IsNext x (unfinished channel.D (sys.clients c).past) (mail.answer c source) ms queue
+    → sys.channels c Channel.D ≡ x ∷ queue → (s.link c).d ≡ packet Answer source ∷ rest
+    → IsNext x (unfinished Channel.D (sys.clients c).past) (mail.answer c source) ms queue
     → IsTakenBy config terms tracker c (shadow_of mail request s) x (sys.clients c)
-answer-delivered {w} config log mail request s sys terms tracker c source rest ms x queue width h at beats first next =
+answer-delivered {w} {config} {log} {mail} {request} {s} {sys} terms tracker c source rest {ms} {x} {queue} width h at
+    beats first next =
+    let e : Endpoint w = sys.clients c in
     let due = answer-due (λ i. is_caching config i) c source rest mail s h.invariant (h.answered c source) first in
-    let end = end-matched config log mail request s sys h c in
-    let here : IsNext x (unfinished channel.D e.past) (message.D due.answer) ms queue =
-    subst (λ (m : Message w). IsNext x (unfinished channel.D e.past) m ms queue) due.answer_is next in
+    let end = end-matched h c in
+    let here : IsNext x (unfinished Channel.D e.past) (Message.D due.answer) ms queue =
+    subst (λ (m : Message w). IsNext x (unfinished Channel.D e.past) m ms queue) due.answer_is next in
     let kind = access_kind due.answer.opcode due.answers_access in
-    taken-by config terms tracker c (shadow_of mail request s) due.answer ms x queue e width end here
-    (taken-d config log mail request s sys terms c due.answer ms x queue h at beats here
-    (answer-first config.profile c source mail s e end due))
+    taken-by config terms tracker c (shadow_of mail request s) due.answer e width end here
+    (taken-d terms c due.answer h at beats here
+    (answer-first config.profile end due))
     (λ y y_is opcode from param last burst well. taken_token config tracker c Answer source rest
-    (shadow_of mail request s) (taken (beat.D y) e).after first
-    (end-answer_taken c source y rest mail s e (taken (beat.D y) e).after
+    (shadow_of mail request s) (taken (Beat.D y) e).after first
+    (end-answer_taken source y rest mail
     (plain_end y e last (ap is_grant opcode ∙ kind.0)) last (ap is_grant opcode ∙ kind.0)
     (ap is_release_ack opcode ∙ kind.1) (from ∙ due.from) well end))
-  where
-    e : Endpoint w
-    e = sys.clients c
 
-pub ack-delivered : {w : ℕ} (config : Config) (log : Log w) (mail : AccessMessages w) (request : ℕ → MessageA w)
-    (s : State (List ℕ)) (sys : System w) (terms : EndConfig)
-    (tracker c n : ℕ) (rest : List Packet) (ms : List (Message w)) (x : Beat w) (queue : List (Beat w))
-    → IsWidth w → SimulationRelation config log mail request s sys → terms_at config c ≡ Some terms
-    → sys.channels c channel.D ≡ x ∷ queue → (s.link c).d ≡ packet ReleaseAck n ∷ rest
-    → IsNext x (unfinished channel.D (sys.clients c).past) (message.D (ack_message ((s.block n).release_source c))) ms
-    queue
-    → IsTakenBy config terms tracker c (shadow_of mail request s) x (sys.clients c)
-ack-delivered {w} config log mail request s sys terms tracker c n rest ms x queue width h at beats first next =
-    let let_ = ack-due (λ i. is_caching config i) c n rest s h.invariant first in
-    let end = end-matched config log mail request s sys h c in
-    taken-by config terms tracker c (shadow_of mail request s) m ms x queue e width end next
-    (taken-d config log mail request s sys terms c m ms x queue h at beats next
-    (ack-first config.profile c n mail s e end let_))
+pub ack-delivered : {w : ℕ} {config : Config} {log : Log w} {mail : AccessMessages w} {request : ℕ → MessageA w}
+    {s : State (List ℕ)} {sys : System w} (terms : EndConfig) (tracker c n : ℕ) (rest : List Packet)
+    {ms : List (Message w)} {x : Beat w} {queue : List (Beat w)} → IsWidth w
+    → SimulationRelation config log mail request s sys → terms_at config c ≡ Some terms
+    → sys.channels c Channel.D ≡ x ∷ queue → (s.link c).d ≡ packet ReleaseAck n ∷ rest
+    → IsNext x (unfinished Channel.D (sys.clients c).past) (Message.D (ack_message ((s.block n).release_source c))) ms
+    queue → IsTakenBy config terms tracker c (shadow_of mail request s) x (sys.clients c)
+ack-delivered {w} {config} {log} {mail} {request} {s} {sys} terms tracker c n rest {ms} {x} {queue} width h at beats
+    first next =
+    let e : Endpoint w = sys.clients c in
+    let m : MessageD w = ack_message ((s.block n).release_source c) in
+    let let_ = ack-due c n rest h.invariant first in
+    let end = end-matched h c in
+    taken-by config terms tracker c (shadow_of mail request s) m e width end next
+    (taken-d terms c m h at beats next
+    (ack-first config.profile n mail end let_))
     (λ y y_is opcode from param last burst well. taken_token config tracker c ReleaseAck n rest
-    (shadow_of mail request s) (taken (beat.D y) e).after first
-    (end-release_ack_taken c n y rest mail s e (taken (beat.D y) e).after (plain_end y e last (ap is_grant opcode)) last
+    (shadow_of mail request s) (taken (Beat.D y) e).after first
+    (end-release_ack_taken n y rest mail (plain_end y e last (ap is_grant opcode)) last
     (ap is_grant opcode)
     (ap is_release_ack opcode) from (ap (s.lets c) from ∙ let_) well end))
-  where
-    e : Endpoint w
-    e = sys.clients c
-
-    m : MessageD w
-    m = ack_message ((s.block n).release_source c)
 
 grant_blank : {w : ℕ} (data_too : Bool) (k : Cap) (source sink : ℕ) (payload : List ℕ) → IsWidth w → length payload ≡ 64
-    → IsBlankAfter (beats_of (message.D (grant_message {w = w} data_too k source sink payload)))
-    (message.D (grant_message {w = w} data_too k source sink payload))
+    → IsBlankAfter (beats_of (Message.D (grant_message {w = w} data_too k source sink payload)))
+    (Message.D (grant_message {w = w} data_too k source sink payload))
 grant_blank {w} true k source sink payload width long =
     let all : IsZeroFrom (w * data_beats w 6) payload =
     rw (whole_block w width) (drop_all 64 payload (omega (arith, long))) in
@@ -209,31 +166,41 @@ grant_blank {w} false k source sink payload width long = (refl, lit< tt)
 
 -- the bytes of a Grant that carries them
 grant_bytes : {w : ℕ} (data_too : Bool) (k : Cap) (source sink : ℕ) (payload : List ℕ) (beats : List (Beat w))
-    → IsWidth w → length payload ≡ 64
-    → beats ≡ burst_of (message.D (grant_message data_too k source sink payload)) → data_too ≡ true
-    → payload_of beats ≡ payload
+    → IsWidth w → length payload ≡ 64 → beats ≡ burst_of (Message.D (grant_message data_too k source sink payload))
+    → data_too ≡ true → payload_of beats ≡ payload
 grant_bytes {w} true k source sink payload beats width long burst carries =
     payload-d (grant_message true k source sink payload) beats width long
     (burst, grant_blank {w = w} true k source sink payload width long)
 grant_bytes false k source sink payload beats width long burst carries = absurd cc
 
-pub grant-delivered : {w : ℕ} (config : Config) (log : Log w) (mail : AccessMessages w) (request : ℕ → MessageA w)
-    (s : State (List ℕ)) (sys : System w) (terms : EndConfig)
-    (tracker c n : ℕ) (rest : List Packet) (ms : List (Message w)) (x : Beat w) (queue : List (Beat w))
+pub grant-delivered : {w : ℕ} {config : Config} {log : Log w} {mail : AccessMessages w} {request : ℕ → MessageA w}
+    {s : State (List ℕ)} {sys : System w} (terms : EndConfig)
+    (tracker c n : ℕ) (rest : List Packet) {ms : List (Message w)} {x : Beat w} {queue : List (Beat w)}
     → IsWidth w → SimulationRelation config log mail request s sys → terms_at config c ≡ Some terms
-    → sys.channels c channel.D ≡ x ∷ queue → (s.link c).d ≡ packet Grant n ∷ rest
-    → IsNext x (unfinished channel.D (sys.clients c).past) (block_message Grant c n (s.block n)) ms queue
+    → sys.channels c Channel.D ≡ x ∷ queue → (s.link c).d ≡ packet Grant n ∷ rest
+    → IsNext x (unfinished Channel.D (sys.clients c).past) (block_message Grant c n (s.block n)) ms queue
     → IsTakenBy config terms tracker c (shadow_of mail request s) x (sys.clients c)
-grant-delivered {w} config log mail request s sys terms tracker c n rest ms x queue width h at beats first next =
-    let here : IsNext x (unfinished channel.D e.past) (message.D m) ms queue =
-    subst (λ (i : Message w). IsNext x (unfinished channel.D e.past) i ms queue) (grant-rendered c n s due) next in
-    taken-by config terms tracker c (shadow_of mail request s) m ms x queue e width end here
-    (taken-d config log mail request s sys terms c m ms x queue h at beats here
-    (grant-first config.profile c n mail s e end due given))
+grant-delivered {w} {config} {log} {mail} {request} {s} {sys} terms tracker c n rest {ms} {x} {queue} width h at beats
+    first next =
+    let e : Endpoint w = sys.clients c in
+    let m = grant_message due.data_too due.k ((s.block n).source c) (s.block n).tracker (s.block n).truth in
+    let end : IsEnd (asked_by mail s c) c s e = end-matched h c in
+    let served : (y : BeatD w) → IsEnd (asked_by mail (grant_taken c n due.whole due.data_too due.k rest s) c) c
+    (grant_taken c n due.whole due.data_too due.k rest s) (taken (Beat.D y) e).after
+    → IsEndOf c (kind_taken config tracker c Grant n rest (shadow_of mail request s)) (taken (Beat.D y) e).after =
+    λ y is. subst (λ (i : Service). IsEndOf c (taken_by_client c n i rest (shadow_of mail request s))
+    (taken (Beat.D y) e).after) (sym due.service)
+    (subst (λ (i : AcquirePhase). IsEnd (asked_by mail (grant_taken c n (is_whole i) due.data_too due.k rest s) c) c
+    (grant_taken c n (is_whole i) due.data_too due.k rest s) (taken (Beat.D y) e).after) (sym due.wants) is) in
+    let here : IsNext x (unfinished Channel.D e.past) (Message.D m) ms queue =
+    subst (λ (i : Message w). IsNext x (unfinished Channel.D e.past) i ms queue) (grant-rendered c n s due) next in
+    taken-by config terms tracker c (shadow_of mail request s) m e width end here
+    (taken-d terms c m h at beats here
+    (grant-first config.profile mail end due given))
     (λ y y_is opcode from param last burst well. taken_token config tracker c Grant n rest (shadow_of mail request s)
-    (taken (beat.D y) e).after first
-    (served y (end-grant_taken c n due.whole due.data_too due.g due.k y
-    (payload_of (beat.D y ∷ unfinished channel.D e.past)) rest mail s e (taken (beat.D y) e).after width
+    (taken (Beat.D y) e).after first
+    (served y (end-grant_taken
+    rest mail width
     h.invariant.named (record {
       opcode = opcode;
       from = from;
@@ -243,21 +210,12 @@ grant-delivered {w} config log mail request s sys terms tracker c n rest ms x qu
       bare = fits.bare;
       has_copy = λ a b. holds_copy due.whole due.data_too ((s.block n).pair c).held a b fits.carried;
       bytes = λ carries. grant_bytes due.data_too due.k ((s.block n).source c) (s.block n).tracker (s.block n).truth
-          (beat.D y ∷ unfinished channel.D e.past) width (h.sized n).truth
-          (ap (λ (z : Beat w). z ∷ unfinished channel.D e.past) (sym y_is) ∙ burst) carries;
+          (Beat.D y ∷ unfinished Channel.D e.past) width (h.sized n).truth
+          (ap (λ (z : Beat w). z ∷ unfinished Channel.D e.past) (sym y_is) ∙ burst) carries;
     }) (last_end y e last) last well end)))
   where
-    e : Endpoint w
-    e = sys.clients c
-
     due : IsGrantDue c n s
     due = grant-due (λ i. is_caching config i) c n rest s h.invariant first
-
-    m : MessageD w
-    m = grant_message due.data_too due.k ((s.block n).source c) (s.block n).tracker (s.block n).truth
-
-    end : IsEnd (asked_by mail s c) c s e
-    end = end-matched config log mail request s sys h c
 
     fits : IsFitting ((s.block n).pair c).held due.data_too due.k due.whole due.g
     fits = fitting ((s.block n).pair c).recorded ((s.block n).pair c).held due.data_too due.k due.whole due.g due.fits
@@ -269,56 +227,35 @@ grant-delivered {w} config log mail request s sys terms tracker c n rest ms x qu
         sym (ap (λ (i : AcquirePhase). gives_asked config.profile i due.k) due.wants) ∙ all
 
     holds_copy : (whole data_too : Bool) (q : Perm) → whole ≡ false → data_too ≡ false
-        → (whole || (data_too || same_perm q perm.Branch)) ≡ true → same_perm q perm.None ≡ false
-    holds_copy false false perm.Branch a b f = refl
-    holds_copy false false perm.None a b f = absurd cc
-    holds_copy false false perm.Trunk a b f = absurd cc
-    holds_copy true data_too q a b f = absurd cc
-    holds_copy false true q a b f = absurd cc
-
-    served : (y : BeatD w) → IsEnd (asked_by mail (grant_taken c n due.whole due.data_too due.k rest s) c) c
-        (grant_taken c n due.whole due.data_too due.k rest s) (taken (beat.D y) e).after
-        → IsEndOf c (kind_taken config tracker c Grant n rest (shadow_of mail request s)) (taken (beat.D y) e).after
-    served y is =
-        subst (λ (i : Service). IsEndOf c (taken_by_client c n i rest (shadow_of mail request s))
-        (taken (beat.D y) e).after) (sym due.service)
-        (subst (λ (i : AcquirePhase). IsEnd (asked_by mail (grant_taken c n (is_whole i) due.data_too due.k rest s) c) c
-        (grant_taken c n (is_whole i) due.data_too due.k rest s) (taken (beat.D y) e).after) (sym due.wants) is)
+        → (whole || (data_too || same_perm q Perm.Branch)) ≡ true → same_perm q Perm.None ≡ false
+    holds_copy false false Perm.Branch a b f = refl
+    holds_copy whole data_too q a b f = absurd cc
 
 -- ---- all of channel D
 
-pub ack_next : {w : ℕ} (c n : ℕ) (s : State (List ℕ)) (x : Beat w) (rest : List (Beat w)) (ms : List (Message w))
-    (queue : List (Beat w)) → IsNext x rest (block_message ReleaseAck c n (s.block n)) ms queue
-    → IsNext x rest (message.D (ack_message ((s.block n).release_source c))) ms queue
+pub ack_next : {w : ℕ} (c n : ℕ) (s : State (List ℕ)) {x : Beat w} {rest : List (Beat w)} {ms : List (Message w)}
+    {queue : List (Beat w)} → IsNext x rest (block_message ReleaseAck c n (s.block n)) ms queue
+    → IsNext x rest (Message.D (ack_message ((s.block n).release_source c))) ms queue
 unfolding block_message
-ack_next c n s x rest ms queue is = is
+ack_next c n s is = is
 
-pub delivered-d : {w : ℕ} (config : Config) (log : Log w) (mail : AccessMessages w) (request : ℕ → MessageA w)
-    (s : State (List ℕ)) (sys : System w) (terms : EndConfig)
-    (tracker c : ℕ) (x : Beat w) (queue : List (Beat w)) → IsWidth w
-    → SimulationRelation config log mail request s sys → terms_at config c ≡ Some terms
-    → sys.channels c channel.D ≡ x ∷ queue
-    → IsTakenBy config terms tracker c (shadow_of mail request s) x (sys.clients c)
-delivered-d {w} config log mail request s sys terms tracker c x queue width h at beats =
+pub delivered-d : {w : ℕ} {config : Config} {log : Log w} {mail : AccessMessages w} {request : ℕ → MessageA w}
+    {s : State (List ℕ)} {sys : System w} (terms : EndConfig) (tracker c : ℕ) (x : Beat w) (queue : List (Beat w))
+    → IsWidth w → SimulationRelation config log mail request s sys → terms_at config c ≡ Some terms
+    → sys.channels c Channel.D ≡ x ∷ queue → IsTakenBy config terms tracker c (shadow_of mail request s) x
+    (sys.clients c)
+delivered-d {w} {config} {log} {mail} {request} {s} {sys} terms tracker c x queue width h at beats =
     go first.kind first.number first.tokens first.own first.next
   where
-    first : IsFirst channel.D c mail s sys x queue
-    first = first-token (λ i. is_caching config i) channel.D c mail s sys x queue width h.invariant h.carried beats
+    first : IsFirst Channel.D c mail s sys x queue
+    first = first-token (λ i. is_caching config i) Channel.D c mail s sys x queue width h.invariant h.carried beats
 
-    go : (k : Kind) (i : ℕ) → (s.link c).d ≡ packet k i ∷ first.rest → is_on channel.D k ≡ true
-        → IsNext x (unfinished channel.D (sys.clients c).past) (message_of_kind k mail s c i)
+    go : (k : Kind) (i : ℕ) → (s.link c).d ≡ packet k i ∷ first.rest → is_on Channel.D k ≡ true
+        → IsNext x (unfinished Channel.D (sys.clients c).past) (message_of_kind k mail s c i)
         (map (message_of mail s c) first.rest) queue
         → IsTakenBy config terms tracker c (shadow_of mail request s) x (sys.clients c)
-    go Answer i tokens own next = answer-delivered config log mail request s sys terms tracker c i first.rest
-        (map (message_of mail s c) first.rest) x queue width h at beats tokens next
-    go Grant i tokens own next = grant-delivered config log mail request s sys terms tracker c i first.rest
-        (map (message_of mail s c) first.rest) x queue width h at beats tokens next
-    go ReleaseAck i tokens own next = ack-delivered config log mail request s sys terms tracker c i first.rest
-        (map (message_of mail s c) first.rest) x queue width h at beats tokens
-        (ack_next c i s x (unfinished channel.D (sys.clients c).past) (map (message_of mail s c) first.rest) queue next)
-    go Request i tokens own next = absurd cc
-    go Acquire i tokens own next = absurd cc
-    go Probe i tokens own next = absurd cc
-    go ProbeAck i tokens own next = absurd cc
-    go Release i tokens own next = absurd cc
-    go GrantAck i tokens own next = absurd cc
+    go Answer i tokens own next = answer-delivered terms tracker c i first.rest width h at beats tokens next
+    go Grant i tokens own next = grant-delivered terms tracker c i first.rest width h at beats tokens next
+    go ReleaseAck i tokens own next = ack-delivered terms tracker c i first.rest width h at beats tokens
+        (ack_next c i s next)
+    go k i tokens own next = absurd cc

@@ -2,18 +2,14 @@
 use Rattle.tl_coherence.proofs.client.Imports.{Beat, BeatA, Message, MessageA, a_beat_of, History, unfinished, Config}
 use Rattle.tl_coherence.proofs.client.Imports.{Grow, RequestSource, AcquireOf, ReleaseOf, is_grant, held, pending}
 use Rattle.tl_coherence.proofs.client.Imports.{request_of, same_perm, Endpoint, open_beat, acquisition, acquire_opcode}
-use Rattle.tl_coherence.proofs.client.Imports.{ClientRelation, Log, AcquirePhase, AcquireOpen, is_unreleased, Block}
-use Rattle.tl_coherence.proofs.client.Imports.{State, SourceState, SourceFree, Asked, InService, Replied, Acquires}
-use Rattle.tl_coherence.proofs.client.Imports.{is_wanting, AccessMessages, acquire_of, block_message}
-use Rattle.tl_coherence.proofs.client.Imports.{OpenSourceRelation, System, Acquire, set, SimulationRelation, asked_by}
-use Rattle.tl_coherence.proofs.client.Imports.{is_whole}
+use Rattle.tl_coherence.proofs.client.Imports.{ClientRelation, Log, AcquireOpen, is_unreleased, Block, State}
+use Rattle.tl_coherence.proofs.client.Imports.{SourceState, SourceFree, Asked, InService, Replied, Acquires, is_wanting}
+use Rattle.tl_coherence.proofs.client.Imports.{AccessMessages, acquire_of, block_message, OpenSourceRelation, System}
+use Rattle.tl_coherence.proofs.client.Imports.{Acquire, set, SimulationRelation, asked_by, is_whole, Perm}
 use Rattle.std.proofs.Common.{◌≡◌, ℕ, Bool, true, false, not, cond, List, [], ◌∷◌, Option, Some, None, refl, sym, ◌∙◌}
 use Rattle.std.proofs.Common.{ap, ◌⊎◌, inl, inr}
 use Rattle.std.specs.Prelude.{◌&&◌, ◌==◌, if◌then◌else◌}
-use Rattle.tl_beat.specs.declared.beat.Beat.TheVariants as beat
-use Rattle.tl_beat.specs.declared.channel.Channel.TheVariants as channel
-use Rattle.tl_burst.specs.declared.message.Message.TheVariants as message
-use Rattle.tl_params.specs.declared.perm.Perm.TheVariants as perm
+use Rattle.tl_beat.specs.declared.channel.Channel.{Channel}
 use Rattle.tl_rules.specs.statement.History.{asks_for}
 use Rattle.tl_client.specs.laws.Accounted as accounted
 use Rattle.tl_client.specs.laws.Accounted.{IsAccounted}
@@ -26,25 +22,24 @@ use Rattle.tl_coherence.specs.refinement.SimulationRelation.{asked_for, first_of
 
 -- The end of client c: `asked` is the first beat of the open request of each source.
 pub record IsEnd {w : ℕ} (asked : ℕ → Option (BeatA w)) (c : ℕ) (s : State (List ℕ)) (e : Endpoint w) : Type 0 where
-  pub known : ClientRelation asked (unfinished channel.D e.past) c s e.past
+  pub known : ClientRelation asked (unfinished Channel.D e.past) c s e.past
   pub opened : OpenSourceRelation asked c s e.past
   pub kept : client.IsEndpointInvariant e
   pub accounted : IsAccounted e.past
-  pub copies : (n : ℕ) → same_perm ((s.block n).pair c).held perm.None ≡ false → e.copies n ≡ Some ((s.block n).copy c)
+  pub copies : (n : ℕ) → same_perm ((s.block n).pair c).held Perm.None ≡ false → e.copies n ≡ Some ((s.block n).copy c)
   pub waiting : (n : ℕ) → is_whole ((s.block n).pair c).acquiring ≡ true → e.waiting n ≡ Some ((s.block n).waiting c)
   pub live : e.closed ≡ false
 
-pub end-matched : {w : ℕ} (config : Config) (log : Log w) (mail : AccessMessages w) (request : ℕ → MessageA w)
-    (s : State (List ℕ)) (sys : System w) → SimulationRelation config log mail request s sys → (c : ℕ)
+pub end-matched : {w : ℕ} {config : Config} {log : Log w} {mail : AccessMessages w} {request : ℕ → MessageA w}
+    {s : State (List ℕ)} {sys : System w} → SimulationRelation config log mail request s sys → (c : ℕ)
     → IsEnd (asked_by mail s c) c s (sys.clients c)
-end-matched config log mail request s sys h c = record {
+end-matched h c = record {
   known = h.known c;
   opened = h.opened c;
   kept = h.kept c;
   accounted = h.accounted c;
   copies = h.copies c;
-  waiting =
-      h.waiting c;
+  waiting = h.waiting c;
   live = h.live c;
 }
 
@@ -56,22 +51,21 @@ pub record IsWellKept {w : ℕ} (e : Endpoint w) : Type 0 where
 -- a pending request is the open one
 pub open-is : {w : ℕ} (source : ℕ) (t : History w) → is_acquire_beat (open_beat source t) ≡ true
     → request_of source t ≡ open_beat source t
-open-is {w} source t some = go (pending (RequestSource source) t) some
-  where
-    go : (b : Bool) → is_acquire_beat (cond b (request_of source t) None) ≡ true
-        → request_of source t ≡ cond b (request_of source t) None
-    go true e = refl
-    go false e = absurd cc
+open-is {w} source t some =
+    let go : (b : Bool) → is_acquire_beat (cond b (request_of source t) None) ≡ true
+    → request_of source t ≡ cond b (request_of source t) None = elim [ true ↦ λ e. refl | false ↦ λ e. absurd cc ]
+    in
+    go (pending (RequestSource source) t) some
 
 coming_is : {w : ℕ} (asked : ℕ → Option (BeatA w)) (n : ℕ) (rest : List (Beat w)) (t : History w) → IsGranting rest t
     → ((source : ℕ) → open_beat source t ≡ asked source)
     → accounted.comes_granting n rest t ≡ comes_granting n asked rest
 coming_is asked n [] t granting opens = refl
-coming_is asked n (beat.A x ∷ rest) t granting opens = refl
-coming_is asked n (beat.B x ∷ rest) t granting opens = refl
-coming_is asked n (beat.C x ∷ rest) t granting opens = refl
-coming_is asked n (beat.E x ∷ rest) t granting opens = refl
-coming_is {w} asked n (beat.D x ∷ rest) t granting opens = go (is_grant x.opcode) refl
+coming_is asked n (Beat.A x ∷ rest) t granting opens = refl
+coming_is asked n (Beat.B x ∷ rest) t granting opens = refl
+coming_is asked n (Beat.C x ∷ rest) t granting opens = refl
+coming_is asked n (Beat.E x ∷ rest) t granting opens = refl
+coming_is {w} asked n (Beat.D x ∷ rest) t granting opens = go (is_grant x.opcode) refl
   where
     go : (b : Bool) → is_grant x.opcode ≡ b
         → (b && asks_for n (request_of x.source t)) ≡ (b && asks_for n (asked x.source))
@@ -79,13 +73,13 @@ coming_is {w} asked n (beat.D x ∷ rest) t granting opens = go (is_grant x.opco
     go false e = refl
 
 -- what is known of a well kept end, given what it holds and has open
-pub known-kept : {w : ℕ} (asked : ℕ → Option (BeatA w)) (c : ℕ) (s : State (List ℕ)) (e : Endpoint w) → IsWellKept e
+pub known-kept : {w : ℕ} (asked : ℕ → Option (BeatA w)) (c : ℕ) (s : State (List ℕ)) {e : Endpoint w} → IsWellKept e
     → ((n : ℕ) → held n e.past ≡ ((s.block n).pair c).held)
     → ((n : ℕ) → pending (AcquireOf n) e.past ≡ is_wanting ((s.block n).pair c).acquiring)
     → ((n : ℕ) → pending (ReleaseOf n) e.past ≡ not (is_unreleased ((s.block n).pair c).letting))
-    → ((source : ℕ) → open_beat source e.past ≡ asked source) → ClientRelation asked (unfinished channel.D e.past) c s
+    → ((source : ℕ) → open_beat source e.past ≡ asked source) → ClientRelation asked (unfinished Channel.D e.past) c s
     e.past
-known-kept asked c s e well held_is acquires releases opens = record {
+known-kept asked c s {e} well held_is acquires releases opens = record {
   held_is = held_is;
   acquires = acquires;
   releases = releases;
@@ -93,7 +87,7 @@ known-kept asked c s e well held_is acquires releases opens = record {
   opens = opens;
   rest_is = refl;
   sinks = well.accounted.acked.sinks;
-  grants = λ n. well.accounted.acked.acks n ∙ coming_is asked n (unfinished channel.D e.past) e.past well.kept.granting
+  grants = λ n. well.accounted.acked.acks n ∙ coming_is asked n (unfinished Channel.D e.past) e.past well.kept.granting
       opens;
 }
 
@@ -108,19 +102,13 @@ pub record IsSame {w : ℕ} (c : ℕ) (asked asked' : ℕ → Option (BeatA w)) 
   pub asks : (source : ℕ) → asked' source ≡ asked source
 
 pub comes-same : {w : ℕ} (asked asked' : ℕ → Option (BeatA w)) (n : ℕ) (rest : List (Beat w))
-    → ((source : ℕ) → asked' source ≡ asked source)
-    → comes_granting n asked' rest ≡ comes_granting n asked rest
-comes-same asked asked' n [] same = refl
-comes-same asked asked' n (beat.A x ∷ rest) same = refl
-comes-same asked asked' n (beat.B x ∷ rest) same = refl
-comes-same asked asked' n (beat.C x ∷ rest) same = refl
-comes-same asked asked' n (beat.D x ∷ rest) same = rw (same x.source) refl
-comes-same asked asked' n (beat.E x ∷ rest) same = refl
+    → ((source : ℕ) → asked' source ≡ asked source) → comes_granting n asked' rest ≡ comes_granting n asked rest
+comes-same asked asked' n (Beat.D x ∷ rest) same = rw (same x.source) refl
+comes-same asked asked' n rest same = refl
 
-pub known-same : {w : ℕ} (c : ℕ) (asked asked' : ℕ → Option (BeatA w)) (rest : List (Beat w)) (s s' : State (List ℕ))
-    (t : History w)
-    → IsSame c asked asked' s s' → ClientRelation asked rest c s t → ClientRelation asked' rest c s' t
-known-same c asked asked' rest s s' t same known = record {
+pub known-same : {w : ℕ} {c : ℕ} {asked asked' : ℕ → Option (BeatA w)} {rest : List (Beat w)} {s s' : State (List ℕ)}
+    {t : History w} → IsSame c asked asked' s s' → ClientRelation asked rest c s t → ClientRelation asked' rest c s' t
+known-same {asked} {asked'} {rest} same known = record {
   held_is = λ n. known.held_is n ∙ sym (same.held n);
   acquires = λ n. known.acquires n ∙ ap is_wanting (sym (same.acquiring n));
   releases = λ n. known.releases n ∙ ap not (sym (same.letting n));
@@ -131,9 +119,9 @@ known-same c asked asked' rest s s' t same known = record {
   grants = λ n. known.grants n ∙ sym (comes-same asked asked' n rest same.asks);
 }
 
-pub opened-same : {w : ℕ} (c : ℕ) (asked asked' : ℕ → Option (BeatA w)) (s s' : State (List ℕ)) (t : History w)
+pub opened-same : {w : ℕ} {c : ℕ} {asked asked' : ℕ → Option (BeatA w)} {s s' : State (List ℕ)} {t : History w}
     → IsSame c asked asked' s s' → OpenSourceRelation asked c s t → OpenSourceRelation asked' c s' t
-opened-same c asked asked' s s' t same open_ = record {
+opened-same same open_ = record {
   requests = λ source. open_.requests source ∙ sym (rw (same.asks source) refl);
   releases = λ source. open_.releases source ∙ sym (rw (same.lets source) refl);
   released = λ source n some. open_.released source n (sym (same.lets source) ∙ some);
@@ -146,11 +134,11 @@ pub record IsSameCopy (c : ℕ) (s s' : State (List ℕ)) : Type 0 where
   pub waiting : (n : ℕ) → (s'.block n).waiting c ≡ (s.block n).waiting c
 
 -- an end of which the protocol says the same is kept
-pub end-same : {w : ℕ} (c : ℕ) (asked asked' : ℕ → Option (BeatA w)) (s s' : State (List ℕ)) (e : Endpoint w)
+pub end-same : {w : ℕ} {c : ℕ} {asked asked' : ℕ → Option (BeatA w)} {s s' : State (List ℕ)} {e : Endpoint w}
     → IsSame c asked asked' s s' → IsSameCopy c s s' → IsEnd asked c s e → IsEnd asked' c s' e
-end-same c asked asked' s s' e same bytes end = record {
-  known = known-same c asked asked' (unfinished channel.D e.past) s s' e.past same end.known;
-  opened = opened-same c asked asked' s s' e.past same end.opened;
+end-same {c} {asked} {asked'} {s} {s'} {e} same bytes end = record {
+  known = known-same same end.known;
+  opened = opened-same same end.opened;
   kept = end.kept;
   accounted = end.accounted;
   copies = λ n some. end.copies n (sym (rw (same.held n) refl) ∙ some) ∙ ap Some (sym (bytes.copy n));
@@ -173,11 +161,9 @@ IsSameUse u v = (v ≡ u) ⊎ ((is_access u ≡ true) × (is_access v ≡ true))
 
 access_asks : {w : ℕ} (u : SourceState) (request : Message w) → is_access u ≡ true → (acquire : Message w)
     → asked_for u request acquire ≡ first_of request
-access_asks Asked request e acquire = refl
-access_asks (InService n) request e acquire = refl
-access_asks Replied request e acquire = refl
 access_asks SourceFree request e acquire = absurd cc
 access_asks (Acquires n) request e acquire = absurd cc
+access_asks u request e acquire = refl
 
 -- what a use asks for
 abbrev asked_with : {w : ℕ} → SourceState → Message w → (ℕ → Block (List ℕ)) → ℕ → Option (BeatA w)
@@ -188,29 +174,26 @@ acquires_same : {w : ℕ} (u : SourceState) (request : Message w) (block block' 
     → ((n : ℕ) → u ≡ Acquires n → (block' n).source c ≡ (block n).source c)
     → asked_with u request block' c ≡ asked_with u request block c
 unfolding block_message
-acquires_same SourceFree request block block' c a b = refl
-acquires_same Asked request block block' c a b = refl
-acquires_same (InService n) request block block' c a b = refl
-acquires_same Replied request block block' c a b = refl
 acquires_same (Acquires n) request block block' c a b = rw (a n refl, b n refl) refl
+acquires_same u request block block' c a b = refl
 
 -- one source asks for the same where its use, its access and its Acquire are as before
 pub asks-same : {w : ℕ} (c source : ℕ) (mail mail' : AccessMessages w) (s s' : State (List ℕ))
-    → mail'.request c source ≡ mail.request c source
-    → IsSameUse (s.uses c source) (s'.uses c source)
+    → mail'.request c source ≡ mail.request c source → IsSameUse (s.uses c source) (s'.uses c source)
     → ((n : ℕ) → s.uses c source ≡ Acquires n → ((s'.block n).pair c).acquiring ≡ ((s.block n).pair c).acquiring)
     → ((n : ℕ) → s.uses c source ≡ Acquires n → (s'.block n).source c ≡ (s.block n).source c)
     → asked_by mail' s' c source ≡ asked_by mail s c source
 asks-same {w} c source mail mail' s s' request (inl same) a b =
-    ap (λ (u : SourceState). asked_with u (mail'.request c source) s'.block c) same
-    ∙ ap (λ (m : Message w). asked_with (s.uses c source) m s'.block c) request
-    ∙ acquires_same (s.uses c source) (mail.request c source) s.block s'.block c a b
+    cc (same, request, acquires_same (s.uses c source) (mail.request c source) s.block s'.block c a b)
 asks-same {w} c source mail mail' s s' request (inr both) a b =
-    access_asks (s'.uses c source) (mail'.request c source) both.1
-    (block_message Acquire c (block_used (s'.uses c source)) (s'.block (block_used (s'.uses c source))))
-    ∙ ap first_of request
-    ∙ sym (access_asks (s.uses c source) (mail.request c source) both.0
-    (block_message Acquire c (block_used (s.uses c source)) (s.block (block_used (s.uses c source)))))
+    cc (
+      access_asks (s'.uses c source) (mail'.request c source) both.1
+          (block_message Acquire c (block_used (s'.uses c source)) (s'.block (block_used (s'.uses c source)))),
+      request,
+      access_asks (s.uses c source) (mail.request c source) both.0
+          (block_message Acquire c (block_used (s.uses c source))
+          (s.block (block_used (s.uses c source)))),
+    )
 
 -- a source that is closed asks for nothing, and the use that is an access for it, and that of an Acquire for that
 pub asks-closed : {w : ℕ} (c source : ℕ) (mail : AccessMessages w) (s : State (List ℕ)) → s.uses c source ≡ SourceFree
@@ -219,7 +202,7 @@ asks-closed {w} c source mail s used = ap (λ (u : SourceState). asked_with u (m
 
 pub asks-access : {w : ℕ} (c source : ℕ) (m : MessageA w) (mail : AccessMessages w) (s : State (List ℕ))
     → is_access (s.uses c source) ≡ true
-    → mail.request c source ≡ message.A m → asked_by mail s c source ≡ Some (a_beat_of m 0)
+    → mail.request c source ≡ Message.A m → asked_by mail s c source ≡ Some (a_beat_of m 0)
 asks-access {w} c source m mail s used request =
     access_asks (s.uses c source) (mail.request c source) used (block_message Acquire c (block_used (s.uses c source))
     (s.block (block_used (s.uses c source)))) ∙ ap first_of request
@@ -231,14 +214,10 @@ acquire-first true g source n = refl
 acquire-first false g source n = refl
 
 pub asks-acquire : {w : ℕ} (c source n i : ℕ) (whole : Bool) (g : Grow) (mail : AccessMessages w) (s : State (List ℕ))
-    → s.uses c source ≡ Acquires n
-    → ((s.block n).pair c).acquiring ≡ AcquireOpen whole g → (s.block n).source c ≡ i
+    → s.uses c source ≡ Acquires n → ((s.block n).pair c).acquiring ≡ AcquireOpen whole g → (s.block n).source c ≡ i
     → asked_by mail s c source ≡ Some (a_beat_of (acquisition (acquire_opcode whole) g i n) 0)
 unfolding block_message
-asks-acquire {w} c source n i whole g mail s used wants from =
-    ap (λ (u : SourceState). asked_with u (mail.request c source) s.block c) used
-    ∙ ap (λ (x : AcquirePhase). first_of (acquire_of {w = w} x ((s.block n).source c) n)) wants ∙ ap
-    (λ (j : ℕ). first_of (acquire_of {w = w} (AcquireOpen whole g) j n)) from ∙ acquire-first whole g i n
+asks-acquire {w} c source n i whole g mail s used wants from = cc (used, wants, from, acquire-first whole g i n)
 
 -- ---- events that leave a client's end alone
 
@@ -254,9 +233,9 @@ pub record IsAside {w : ℕ} (c : ℕ) (mail mail' : AccessMessages w) (s s' : S
   pub uses : (source : ℕ) → IsSameUse (s.uses c source) (s'.uses c source)
   pub request : (source : ℕ) → mail'.request c source ≡ mail.request c source
 
-pub end-aside : {w : ℕ} (c : ℕ) (mail mail' : AccessMessages w) (s s' : State (List ℕ)) (e : Endpoint w)
+pub end-aside : {w : ℕ} {c : ℕ} {mail mail' : AccessMessages w} {s s' : State (List ℕ)} {e : Endpoint w}
     → IsAside c mail mail' s s' → IsEnd (asked_by mail s c) c s e → IsEnd (asked_by mail' s' c) c s' e
-end-aside c mail mail' s s' e aside end = end-same c (asked_by mail s c) (asked_by mail' s' c) s s' e (record {
+end-aside {c} {mail} {mail'} {s} {s'} {e} aside end = end-same (record {
   held = aside.held;
   acquiring = aside.acquiring;
   letting = aside.letting;
@@ -270,8 +249,7 @@ end-aside c mail mail' s s' e aside end = end-same c (asked_by mail s c) (asked_
 -- a part of each value, where that at one place is another
 pub column : {A Y : Type 0} (part : Y → A) (k : ℕ) (y : Y) (f : ℕ → Y) (n : ℕ)
     → part (set k y f n) ≡ cond (n == k) (part y) (part (f n))
-column {A} {Y} part k y f n = go (n == k)
-  where
-    go : (z : Bool) → part (if z then y else f n) ≡ cond z (part y) (part (f n))
-    go true = refl
-    go false = refl
+column {A} {Y} part k y f n =
+    let go : (z : Bool) → part (if z then y else f n) ≡ cond z (part y) (part (f n)) =
+    elim [ true ↦ refl | false ↦ refl ] in
+    go (n == k)

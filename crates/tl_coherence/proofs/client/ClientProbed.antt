@@ -5,49 +5,54 @@ use Rattle.tl_coherence.proofs.client.Imports.{after_probe, Block, State, probed
 use Rattle.tl_coherence.proofs.client.Imports.{probe_beat, Packet, asked_by, is_whole}
 use Rattle.std.proofs.Common.{◌≡◌, subst, ℕ, Bool, true, false, not, ◌&&◌, cond, List, ◌∷◌, Some, None, refl, sym, ◌∙◌}
 use Rattle.std.proofs.Common.{ap, inl}
-use Rattle.std.specs.Prelude.{◌==◌}
-use Rattle.std.proofs.lemmas.Bool.{eqb-true}
-use Rattle.tl_beat.specs.declared.beat.Beat.TheVariants as beat
-use Rattle.tl_beat.specs.declared.channel.Channel.TheVariants as channel
-use Rattle.tl_beat.specs.declared.opcode.OpB.TheVariants as opb
-use Rattle.tl_params.specs.declared.perm.Perm.TheVariants as perm
-use Rattle.tl_params.specs.statement.Param.{report_at, report_right}
-use Rattle.tl_client.specs.statement.EndpointInvariant.{holds}
-use Rattle.tl_client.specs.statement.Offer.{report_for}
-use Rattle.tl_client.specs.statement.Send.{probe_ack}
+use Rattle.std.{specs.Prelude.◌==◌, proofs.lemmas.Bool.eqb-true}
+use Rattle.tl_beat.{specs.declared.channel.Channel.Channel, specs.declared.opcode.OpB.OpB}
+use Rattle.tl_params.specs.statement.Param.{report_right}
+use Rattle.tl_client.{specs.statement.EndpointInvariant.holds, specs.statement.Offer.report_for}
+use Rattle.tl_client.{specs.statement.Send.probe_ack, proofs.pending.KeptAsked.kept_waiting}
+use Rattle.tl_client.{proofs.pending.KeptOffered.reports_held}
 use Rattle.tl_client.proofs.endpoint.AfterAsked.{kept_copies, kept_closed}
-use Rattle.tl_client.proofs.pending.KeptAsked.{kept_waiting}
-use Rattle.tl_client.proofs.pending.KeptOffered.{reports_held}
 use Rattle.tl_coherence.proofs.client.ClientEnd.{IsWellKept, IsEnd, IsSame, known-same, opened-same, asks-same, column}
 use Rattle.tl_coherence.proofs.client.KnownProbed.{report_is, known-probed, opened-probed}
-use Rattle.tl_coherence.proofs.queues.Tokens.{set-same, set-part}
-use Rattle.tl_coherence.proofs.queues.Perms.{held-some}
+use Rattle.tl_coherence.proofs.{queues.Tokens.set-same, queues.Tokens.set-part, queues.Perms.held-some}
 
-pub end-probe_taken : {w : ℕ} (c n : ℕ) (k : Cap) (rest : List Packet) (mail : AccessMessages w) (s : State (List ℕ))
-    (e : Endpoint w) → IsWidth w
-    → IsWellKept (probed (probe_beat n k) n (held_at e n) e).after → IsEnd (asked_by mail s c) c s e
-    → IsEnd (asked_by mail (probe_taken c n k rest s) c) c (probe_taken c n k rest s)
+pub end-probe_taken : {w : ℕ} {c : ℕ} (n : ℕ) (k : Cap) (rest : List Packet) (mail : AccessMessages w)
+    {s : State (List ℕ)} {e : Endpoint w} → IsWidth w → IsWellKept (probed (probe_beat n k) n (held_at e n) e).after
+    → IsEnd (asked_by mail s c) c s e → IsEnd (asked_by mail (probe_taken c n k rest s) c) c (probe_taken c n k rest s)
     (probed (probe_beat n k) n (held_at e n) e).after
-end-probe_taken {w} c n k rest mail s e width well end =
-    let known = known-probed (asked_by mail s c) (unfinished channel.D e.past) c n k rest s e width end.kept.c_whole
+end-probe_taken {w} {c} n k rest mail {s} {e} width well end =
+    let g : Endpoint w = sending (probe_ack OpB.ProbeBlock p (report_for (probe_beat {w = w} n k) p) n (copy_at e n))
+    (with_past (Beat.B (probe_beat n k) ∷ e.past) e) in
+    let f : Endpoint w = (probed (probe_beat n k) n (held_at e n) e).after in
+    let s' : State (List ℕ) = probe_taken c n k rest s in
+    let same : IsSame c (asked_by mail s c) (asked_by mail s' c) s' s' = record {
+      held = λ i. refl;
+      acquiring = λ i. refl;
+      letting = λ i. refl;
+      lets = λ i. refl;
+      asks = λ i. asks-same c i mail mail s s' refl (inl refl)
+          (λ j used. set-part (λ (b : Block (List ℕ)). (b.pair c).acquiring) n new s.block
+          (ap (λ (q : ClientBlock). q.acquiring) pair_is) j)
+          (λ j used. set-part (λ (b : Block (List ℕ)). b.source c) n new s.block refl j);
+    } in
+    let known = known-probed n k rest e width end.kept.c_whole
     end.known in
-    let here : ClientRelation (asked_by mail s c) (unfinished channel.D f.past) c s' f.past =
+    let here : ClientRelation (asked_by mail s c) (unfinished Channel.D f.past) c s' f.past =
     subst (λ (b : List (Beat w)). ClientRelation (asked_by mail s c) b c s' f.past) (sym known.rest_is) known in
     record {
-      known = known-same c (asked_by mail s c) (asked_by mail s' c) (unfinished channel.D f.past) s' s' f.past same
-          here;
-      opened = opened-same c (asked_by mail s c) (asked_by mail s' c) s' s' f.past same
-          (opened-probed (asked_by mail s c) c n k rest s e width end.kept.c_whole end.opened);
+      known = known-same same here;
+      opened = opened-same same (opened-probed n k rest e width end.kept.c_whole end.opened);
       kept = well.kept;
       accounted = well.accounted;
       copies = λ i some. kept_copies n left g i ∙ copy_of i (i == n) refl
-          (sym (column (λ (b : Block (List ℕ)). same_perm (b.pair c).held perm.None) n new s.block i) ∙ some)
+          (sym (column (λ (b : Block (List ℕ)). same_perm (b.pair c).held Perm.None) n new s.block i) ∙ some)
           ∙ ap Some (sym (set-part (λ (b : Block (List ℕ)). b.copy c) n new s.block refl i));
-      waiting = λ i storing. kept_waiting n left g i ∙ end.waiting i
-          (sym (set-part (λ (b : Block (List ℕ)). is_whole (b.pair c).acquiring) n new s.block
-          (ap (λ (q : ClientBlock). is_whole q.acquiring) pair_is) i)
-          ∙ storing)
-          ∙ ap Some (sym (set-part (λ (b : Block (List ℕ)). b.waiting c) n new s.block refl i));
+      waiting = λ i storing. cc (
+        kept_waiting n left g i,
+        end.waiting i (sym (set-part (λ (b : Block (List ℕ)). is_whole
+            (b.pair c).acquiring) n new s.block (ap (λ (q : ClientBlock). is_whole q.acquiring) pair_is) i) ∙ storing),
+        set-part (λ (b : Block (List ℕ)). b.waiting c) n new s.block refl i,
+      );
       live = kept_closed n left g ∙ end.live;
     }
   where
@@ -57,48 +62,25 @@ end-probe_taken {w} c n k rest mail s e width well end =
     left : Perm
     left = report_right (report_for (probe_beat {w = w} n k) p)
 
-    g : Endpoint w
-    g = sending (probe_ack opb.ProbeBlock p (report_for (probe_beat {w = w} n k) p) n (copy_at e n))
-        (with_past (beat.B (probe_beat n k) ∷ e.past) e)
-
-    f : Endpoint w
-    f = (probed (probe_beat n k) n (held_at e n) e).after
-
     new : Block (List ℕ)
     new = probed_block c k (s.block n)
-
-    s' : State (List ℕ)
-    s' = probe_taken c n k rest s
 
     pair_is : new.pair c ≡ after_probe k ((s.block n).pair c)
     pair_is = set-same c (after_probe k ((s.block n).pair c)) (s.block n).pair
 
-    same : IsSame c (asked_by mail s c) (asked_by mail s' c) s' s'
-    same = record {
-      held = λ i. refl;
-      acquiring = λ i. refl;
-      letting = λ i. refl;
-      lets = λ i. refl;
-      asks = λ i. asks-same c i mail mail s s' refl (inl refl)
-          (λ j used. set-part (λ (b : Block (List ℕ)). (b.pair c).acquiring) n new s.block
-          (ap (λ (q : ClientBlock). q.acquiring) pair_is) j)
-          (λ j used. set-part (λ (b : Block (List ℕ)). b.source c) n new s.block refl j);
-    }
-
     left_is : left ≡ (new.pair c).held
-    left_is = ap report_right (report_is w n k p) ∙ ap (λ (q : Perm). report_right (report_at k q))
-        (end.known.held_is n) ∙ sym (ap (λ (q : ClientBlock). q.held) pair_is)
+    left_is = cc (report_is w n k p, end.known.held_is n, pair_is)
 
-    some_held : (q : Perm) → same_perm q perm.None ≡ false → holds q ≡ true
-    some_held perm.None e = absurd cc
-    some_held perm.Branch e = refl
-    some_held perm.Trunk e = refl
+    some_held : (q : Perm) → same_perm q Perm.None ≡ false → holds q ≡ true
+    some_held Perm.None e = absurd cc
+    some_held q e = refl
 
     copy_of : (i : ℕ) (b : Bool) → (i == n) ≡ b
-        → cond b (same_perm (new.pair c).held perm.None) (same_perm ((s.block i).pair c).held perm.None) ≡ false
+        → cond b (same_perm (new.pair c).held Perm.None) (same_perm ((s.block i).pair c).held Perm.None) ≡ false
         → cond (b && not (holds left)) None (e.copies i) ≡ Some ((s.block i).copy c)
     copy_of i false is some = end.copies i some
     copy_of i true is some =
+        let keeps : (z : Bool) → z ≡ true → cond (not z) None (e.copies i) ≡ e.copies i = λ z q. rw q refl in
         let stays : holds left ≡ true = ap holds left_is ∙ some_held (new.pair c).held some in
         let before : holds p ≡ true =
         reports_held k p (ap (λ (r : Perm). holds r) (ap report_right (sym (report_is w n k p))) ∙ stays) in
@@ -106,6 +88,3 @@ end-probe_taken {w} c n k rest mail s e width well end =
         keeps (holds left) stays ∙ end.copies i
         (held-some ((s.block i).pair c).held (ap (λ (j : ℕ). holds ((s.block j).pair c).held) here ∙ ap holds
         (sym (end.known.held_is n)) ∙ before))
-      where
-        keeps : (z : Bool) → z ≡ true → cond (not z) None (e.copies i) ≡ e.copies i
-        keeps z q = rw q refl

@@ -6,7 +6,7 @@ use Rattle.tl_coherence.proofs.client.Imports.{release_of, pending-whole, releas
 use Rattle.tl_coherence.proofs.client.Imports.{ClientRelation, is_unreleased, State, is_wanting, OpenSourceRelation}
 use Rattle.std.proofs.Common.{◌≡◌, ℕ, Bool, true, false, not, cond, List, [], Option, Some, refl, sym, ◌∙◌, ap}
 use Rattle.std.specs.Prelude.{◌==◌, ◌&&◌, is_some, option_map}
-use Rattle.tl_beat.specs.declared.channel.Channel.TheVariants as channel
+use Rattle.tl_beat.specs.declared.channel.Channel.{Channel}
 use Rattle.tl_burst.specs.declared.message.Message.TheVariants.{A, C}
 use Rattle.tl_burst.specs.statement.Burst.{c_beat_of}
 use Rattle.tl_rules.proofs.Handed.{held-whole}
@@ -25,14 +25,13 @@ pub record IsRequested {w : ℕ} (c : ℕ) (m : MessageA w) (asked asked' : ℕ 
       (is_acquire m.opcode && (block_at m.address == n)) true (is_wanting ((s.block n).pair c).acquiring)
   pub asks : (source : ℕ) → asked' source ≡ cond (m.source == source) (Some (a_beat_of m 0)) (asked source)
 
-pub known-requested : {w : ℕ} (c : ℕ) (m : MessageA w) (asked asked' : ℕ → Option (BeatA w)) (s s' : State (List ℕ))
-    (t : History w) (f : Endpoint w) → IsWidth w
-    → f.past ≡ sent (A m) t → unfinished channel.A t ≡ []
-    → IsWellKept f → IsRequested c m asked asked' s s' → ClientRelation asked (unfinished channel.D t) c s t
-    → ClientRelation asked' (unfinished channel.D f.past) c s' f.past
-known-requested {w} c m asked asked' s s' t f width past none well event known =
+pub known-requested : {w : ℕ} {c : ℕ} {m : MessageA w} {asked asked' : ℕ → Option (BeatA w)} {s s' : State (List ℕ)}
+    {t : History w} {f : Endpoint w} → IsWidth w → f.past ≡ sent (A m) t → unfinished Channel.A t ≡ [] → IsWellKept f
+    → IsRequested c m asked asked' s s' → ClientRelation asked (unfinished Channel.D t) c s t
+    → ClientRelation asked' (unfinished Channel.D f.past) c s' f.past
+known-requested {w} {c} {m} {asked'} {s'} {t} {f} width past none well event known =
     let some = beats-positive (A m) width in
-    known-kept asked' c s' f well
+    known-kept asked' c s' well
     (λ n. ap (held n) past ∙ held-whole n (A m) t none some ∙ known.held_is n ∙ sym (event.held n))
     (λ n. ap (pending (AcquireOf n)) past ∙ pending-whole (AcquireOf n) (A m) t none some
     ∙ ap (λ (b : Bool). cond (is_acquire m.opcode && (block_at m.address == n)) true b) (known.acquires n) ∙ sym
@@ -47,15 +46,19 @@ some_cond : {X : Type 0} (b : Bool) (x : X) (o : Option X) → is_some (cond b (
 some_cond true x o = refl
 some_cond false x o = refl
 
-pub opened-requested : {w : ℕ} (c : ℕ) (m : MessageA w) (asked asked' : ℕ → Option (BeatA w)) (s s' : State (List ℕ))
-    (t : History w) → IsWidth w → unfinished channel.A t ≡ []
+pub opened-requested : {w : ℕ} {c : ℕ} {m : MessageA w} {asked asked' : ℕ → Option (BeatA w)} {s s' : State (List ℕ)}
+    {t : History w} → IsWidth w → unfinished Channel.A t ≡ []
     → IsRequested c m asked asked' s s' → OpenSourceRelation asked c s t → OpenSourceRelation asked' c s' (sent (A m) t)
-opened-requested {w} c m asked asked' s s' t width none event open_ =
+opened-requested {w} {m} {asked} {t} width none event open_ =
     let some = beats-positive (A m) width in
     record {
-      requests = λ source. pending-whole (RequestSource source) (A m) t none some ∙ ap
-          (λ (b : Bool). cond (m.source == source) true b) (open_.requests source)
-          ∙ sym (some_cond (m.source == source) (a_beat_of m 0) (asked source)) ∙ sym (ap is_some (event.asks source));
+      requests = λ source. cc (
+        pending-whole (RequestSource source) (A m) t none some,
+        open_.requests source,
+        some_cond
+            (m.source == source) (a_beat_of m 0) (asked source),
+        event.asks source,
+      );
       releases = λ source. pending-whole (ReleaseSource source) (A m) t none some ∙ open_.releases source ∙ sym
           (ap is_some (event.lets source));
       released = λ source n is. ap (option_map (λ x. block_at x.address)) (release_of-whole source (A m) t none some)
@@ -79,14 +82,16 @@ pub record IsReleased {w : ℕ} (c i : ℕ) (m : MessageC w) (p : Perm) (asked a
   pub acquiring : (n : ℕ) → is_wanting ((s'.block n).pair c).acquiring ≡ is_wanting ((s.block n).pair c).acquiring
   pub asks : (source : ℕ) → asked' source ≡ asked source
 
-pub known-released : {w : ℕ} (c i : ℕ) (m : MessageC w) (p : Perm) (asked asked' : ℕ → Option (BeatA w))
-    (s s' : State (List ℕ)) (t : History w) (f : Endpoint w) → IsWidth w → f.past ≡ sent (C m) t
-    → unfinished channel.C t ≡ [] → ((n : ℕ) → held n (sent (C m) t) ≡ cond (n == i) p (held n t))
-    → IsWellKept f → IsReleased c i m p asked asked' s s' → ClientRelation asked (unfinished channel.D t) c s t
-    → ClientRelation asked' (unfinished channel.D f.past) c s' f.past
-known-released {w} c i m p asked asked' s s' t f width past none left well event known =
+pub known-released : {w : ℕ} {c i : ℕ} {m : MessageC w} {p : Perm} {asked asked' : ℕ → Option (BeatA w)}
+    {s s' : State (List ℕ)} {t : History w} {f : Endpoint w} → IsWidth w → f.past ≡ sent (C m) t
+    → unfinished Channel.C t ≡ [] → ((n : ℕ) → held n (sent (C m) t) ≡ cond (n == i) p (held n t))
+    → IsWellKept f → IsReleased c i m p asked asked' s s' → ClientRelation asked (unfinished Channel.D t) c s t
+    → ClientRelation asked' (unfinished Channel.D f.past) c s' f.past
+known-released {w} {c} {i} {m} {p} {asked'} {s'} {t} {f} width past none left well event known =
+    let opens : (n : ℕ) → cond (is_release m.opcode && (block_at m.address == n)) true (pending (ReleaseOf n) t)
+    ≡ cond (i == n) true (pending (ReleaseOf n) t) = λ n. rw (event.releases, event.of_block) refl in
     let some = beats-positive (C m) width in
-    known-kept asked' c s' f well
+    known-kept asked' c s' well
     (λ n. ap (held n) past ∙ left n ∙ ap (λ (q : Perm). cond (n == i) p q) (known.held_is n) ∙ sym (event.held n))
     (λ n. ap (pending (AcquireOf n)) past ∙ pending-whole (AcquireOf n) (C m) t none some ∙ known.acquires n ∙ sym
     (event.acquiring n))
@@ -94,48 +99,48 @@ known-released {w} c i m p asked asked' s s' t f width past none left well event
     (λ (b : Bool). cond (i == n) true b) (known.releases n) ∙ sym (event.letting n))
     (λ source. ap (open_beat source) past ∙ open_beat-c source m t width none ∙ known.opens source ∙ sym
     (event.asks source))
-  where
-    opens : (n : ℕ) → cond (is_release m.opcode && (block_at m.address == n)) true (pending (ReleaseOf n) t) ≡ cond
-        (i == n) true (pending (ReleaseOf n) t)
-    opens n = rw (event.releases, event.of_block) refl
 
-pub opened-released : {w : ℕ} (c i : ℕ) (m : MessageC w) (p : Perm) (asked asked' : ℕ → Option (BeatA w))
-    (s s' : State (List ℕ)) (t : History w) → IsWidth w → unfinished channel.C t ≡ []
+pub opened-released : {w : ℕ} {c i : ℕ} {m : MessageC w} {p : Perm} {asked asked' : ℕ → Option (BeatA w)}
+    {s s' : State (List ℕ)} {t : History w} → IsWidth w → unfinished Channel.C t ≡ []
     → IsReleased c i m p asked asked' s s' → OpenSourceRelation asked c s t
     → OpenSourceRelation asked' c s' (sent (C m) t)
-opened-released {w} c i m p asked asked' s s' t width none event open_ =
+opened-released {w} {c} {i} {m} {s} {t} width none event open_ =
+    let size : (b : Bool) (n source : ℕ) → cond b (Some i) (s.lets c source) ≡ Some n
+    → (s.lets c source ≡ Some n → option_map (λ (x : BeatC w). x.size) (release_of source t) ≡ Some 6)
+    → option_map (λ (x : BeatC w). x.size) (cond b (Some (c_beat_of m 0)) (release_of source t)) ≡ Some 6 =
+    elim [ true ↦ λ n source is before. ap Some event.whole | false ↦ λ n source is before. before is ] in
+    let opens : (source : ℕ) → cond (is_release m.opcode && (m.source == source)) true
+    (pending (ReleaseSource source) t) ≡ cond (m.source == source) true (pending (ReleaseSource source) t) =
+    λ source. rw event.releases refl in
+    let names : (source : ℕ) → cond (is_release m.opcode && (m.source == source)) (Some (c_beat_of m 0))
+    (release_of source t) ≡ cond (m.source == source) (Some (c_beat_of m 0)) (release_of source t) =
+    λ source. rw event.releases refl in
     let some = beats-positive (C m) width in
     record {
       requests = λ source. pending-whole (RequestSource source) (C m) t none some ∙ open_.requests source ∙ sym
           (ap is_some (event.asks source));
-      releases = λ source. pending-whole (ReleaseSource source) (C m) t none some ∙ opens source ∙ ap
-          (λ (b : Bool). cond (m.source == source) true b) (open_.releases source)
-          ∙ sym (some_cond (m.source == source) i (s.lets c source)) ∙ sym (ap is_some (event.lets source));
-      released = λ source n is. ap (option_map (λ x. block_at x.address))
-          (release_of-whole source (C m) t none some ∙ names source)
-          ∙ last (m.source == source) n (λ x. block_at x.address) source (sym (event.lets source) ∙ is)
-          (λ e. event.of_block ∙ e) (open_.released source n);
+      releases = λ source. cc (
+        pending-whole (ReleaseSource source) (C m) t none some,
+        opens source,
+        open_.releases
+            source,
+        some_cond (m.source == source) i (s.lets c source),
+        event.lets source,
+      );
+      released = λ source n is. cc (
+        release_of-whole source (C m) t none some,
+        names source,
+        last (m.source == source) n
+            (λ x. block_at x.address) source (sym (event.lets source) ∙ is) (λ e. event.of_block ∙ e)
+            (open_.released source n),
+      );
       sizes = λ source n is. ap (option_map (λ x. x.size)) (release_of-whole source (C m) t none some ∙ names source)
           ∙ size (m.source == source) n source (sym (event.lets source) ∙ is) (open_.sizes source n);
     }
   where
-    opens : (source : ℕ) → cond (is_release m.opcode && (m.source == source)) true (pending (ReleaseSource source) t)
-        ≡ cond (m.source == source) true (pending (ReleaseSource source) t)
-    opens source = rw event.releases refl
-
-    names : (source : ℕ) → cond (is_release m.opcode && (m.source == source)) (Some (c_beat_of m 0))
-        (release_of source t) ≡ cond (m.source == source) (Some (c_beat_of m 0)) (release_of source t)
-    names source = rw event.releases refl
-
     last : (b : Bool) (n : ℕ) (value : BeatC w → ℕ) (source : ℕ) → cond b (Some i) (s.lets c source) ≡ Some n
         → (i ≡ n → value (c_beat_of m 0) ≡ n)
         → (s.lets c source ≡ Some n → option_map value (release_of source t) ≡ Some n)
         → option_map value (cond b (Some (c_beat_of m 0)) (release_of source t)) ≡ Some n
     last true n value source is here before = ap Some (here cc)
     last false n value source is here before = before is
-
-    size : (b : Bool) (n source : ℕ) → cond b (Some i) (s.lets c source) ≡ Some n
-        → (s.lets c source ≡ Some n → option_map (λ (x : BeatC w). x.size) (release_of source t) ≡ Some 6)
-        → option_map (λ (x : BeatC w). x.size) (cond b (Some (c_beat_of m 0)) (release_of source t)) ≡ Some 6
-    size true n source is before = ap Some event.whole
-    size false n source is before = before is

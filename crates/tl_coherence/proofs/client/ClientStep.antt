@@ -1,44 +1,30 @@
 -- Clients' ends after every event: each is that of the protocol as it follows.
 use Rattle.tl_coherence.proofs.client.Imports.{IsWidth, Beat, BeatD, OpD, Message, MessageA, unfinished, completes}
 use Rattle.tl_coherence.proofs.client.Imports.{Config, Rule, Finish, EndConfig, Endpoint, Offered, offered, taken}
-use Rattle.tl_coherence.proofs.client.Imports.{ended, AbstractState, packet_taken, Log}
-use Rattle.tl_coherence.proofs.client.Imports.{is_unreleased, State, AccessMessages, System}
-use Rattle.tl_coherence.proofs.client.Imports.{terms_at}
-use Rattle.tl_coherence.proofs.client.Imports.{Packet, SimulationRelation, is_caching}
-use Rattle.std.proofs.Common.{◌≡◌, subst, ℕ, Bool, true, false, ◌&&◌, List, [], ◌∷◌, Option, Some, None, refl}
-use Rattle.std.proofs.Common.{sym, ◌∙◌, ap, ◌⊎◌, inl, inr}
-use Rattle.std.specs.Prelude.{if◌then◌else◌, Result, Ok, Err}
-use Rattle.std.proofs.lemmas.Bool.{cases_eq}
-use Rattle.tl_beat.specs.declared.beat.Link.{Link}
-use Rattle.tl_beat.specs.declared.channel.Channel.{Channel}
-use Rattle.tl_beat.specs.declared.channel.Channel.TheVariants as channel
-use Rattle.tl_beat.specs.declared.opcode.OpD.TheVariants as opd
-use Rattle.tl_client.specs.declared.verdict.Verdict.{Verdict}
-use Rattle.tl_client.specs.declared.verdict.Verdict.TheVariants as verdict
-use Rattle.tl_client.specs.laws.After.{is_refused}
-use Rattle.tl_client.specs.statement.Offer.{is_stalled}
-use Rattle.tl_client.proofs.endpoint.Stalls.{taken_now}
+use Rattle.tl_coherence.proofs.client.Imports.{ended, AbstractState, packet_taken, Log, is_unreleased, State}
+use Rattle.tl_coherence.proofs.client.Imports.{AccessMessages, System, terms_at, Packet, SimulationRelation, is_caching}
+use Rattle.std.proofs.Common.{◌≡◌, subst, ℕ, Bool, true, false, ◌&&◌, List, [], ◌∷◌, Option, Some, None, refl, sym, ◌∙◌}
+use Rattle.std.proofs.Common.{ap, ◌⊎◌, inl, inr}
+use Rattle.std.{specs.Prelude.if◌then◌else◌, specs.Prelude.Result, specs.Prelude.Ok, proofs.lemmas.Bool.cases_eq}
+use Rattle.tl_beat.{specs.declared.beat.Link.Link, specs.declared.channel.Channel.Channel}
+use Rattle.tl_client.{specs.declared.verdict.Verdict.Verdict, specs.laws.After.is_refused}
+use Rattle.tl_client.{specs.statement.Offer.is_stalled, proofs.endpoint.Stalls.taken_now, proofs.messages.Calls.kept_up}
 use Rattle.tl_manager.specs.statement.Service.{services, least_untaken, trackers_of}
 use Rattle.tl_manager.specs.statement.Offer as manager
-use Rattle.tl_coherence.specs.declared.event.Event.{Event}
+use Rattle.tl_coherence.specs.{declared.event.Event.Event, statement.Draining.is_moving}
+use Rattle.tl_coherence.specs.{refinement.AbstractStep.abstract_step, refinement.AbstractStep.is_last}
+use Rattle.tl_coherence.specs.{statement.Delivery.receiver, protocol.Protocol.packets_on, statement.System.with_client}
+use Rattle.tl_coherence.specs.{statement.System.with_channel}
 use Rattle.tl_coherence.specs.declared.event.Event.TheVariants.{Ask, Deliver}
-use Rattle.tl_coherence.specs.statement.Draining.{is_moving}
-use Rattle.tl_coherence.specs.refinement.AbstractStep.{abstract_step, is_last}
-use Rattle.tl_coherence.specs.statement.Delivery.{receiver}
-use Rattle.tl_coherence.specs.protocol.Protocol.{packets_on}
 use Rattle.tl_coherence.specs.statement.Step as step
-use Rattle.tl_coherence.specs.statement.Step.{stepped, stepped_at, handed_by, judged, client_took}
-use Rattle.tl_coherence.specs.statement.Step.{is_to_client, client_of}
-use Rattle.tl_coherence.specs.statement.System.{with_client, with_channel}
-use Rattle.tl_coherence.proofs.client.AsideAll.{Leaves, leaves-none}
-use Rattle.tl_coherence.proofs.client.AsideAll.{leaves-at_client}
-use Rattle.tl_coherence.proofs.client.ClientAsked.{IsEndOf}
-use Rattle.tl_coherence.proofs.client.ClientDelivered.{shadow_of, delivered-d}
-use Rattle.tl_coherence.proofs.client.ClientEnd.{end-matched}
-use Rattle.tl_coherence.proofs.queues.FirstToken.{IsFirst, first-token}
-use Rattle.tl_coherence.proofs.client.ProbeDelivered.{IsProbed, delivered-b}
-use Rattle.tl_coherence.proofs.queues.Steps.{clients-with_messages}
-use Rattle.tl_client.proofs.messages.Calls.{kept_up}
+use Rattle.tl_coherence.specs.statement.Step.{stepped, stepped_at, handed_by, judged, client_took, is_to_client}
+use Rattle.tl_coherence.specs.statement.Step.{client_of}
+use Rattle.tl_coherence.proofs.client.AsideAll.{Leaves, leaves-none, leaves-at_client}
+use Rattle.tl_coherence.proofs.{client.ClientAsked.IsEndOf, client.ClientDelivered.shadow_of}
+use Rattle.tl_coherence.proofs.{client.ClientDelivered.delivered-d, client.ClientEnd.end-matched}
+use Rattle.tl_coherence.proofs.{queues.FirstToken.IsFirst, queues.FirstToken.first-token}
+use Rattle.tl_coherence.proofs.{client.ProbeDelivered.IsProbed, client.ProbeDelivered.delivered-b}
+use Rattle.tl_coherence.proofs.{queues.Steps.clients-with_messages}
 use Rattle.tl_coherence.proofs.client.ManagerStep.{AreEnds, left_alone, own_client, other_client, asked_ends}
 use Rattle.tl_coherence.proofs.client.ManagerStep.{client_kind, manager_ends}
 
@@ -46,49 +32,44 @@ use Rattle.tl_coherence.proofs.client.ManagerStep.{client_kind, manager_ends}
 
 ended_unrefused : {w : ℕ} (opcode : OpD) (x : BeatD w) (f : Finish) (e : Endpoint w)
     → is_refused (ended opcode x f e).answer ≡ false
-ended_unrefused opd.AccessAck x f e = refl
-ended_unrefused opd.AccessAckData x f e = refl
-ended_unrefused opd.HintAck x f e = refl
-ended_unrefused opd.Grant x f e = refl
-ended_unrefused opd.GrantData x f e = refl
-ended_unrefused opd.ReleaseAck x f e = refl
+ended_unrefused OpD.AccessAck x f e = refl
+ended_unrefused opcode x f e = refl
 
 -- a beat that is taken is moved, and the client's end is that of the answer
 moved : {w : ℕ} (a : Result (Verdict × Option (Message w)) Rule) (c : ℕ) (ch : Channel) (x : Beat w)
     (queue : List (Beat w)) (e : Endpoint w) (s : System w) → is_refused a ≡ false → is_stalled a ≡ false
     → (is_moving (judged a c ch x queue e s).outcome ≡ true)
     × ((judged a c ch x queue e s).after.clients ≡ (with_client c e (with_channel c ch queue s)).clients)
-moved (Err rule) c ch x queue e s unrefused moves = absurd cc
-moved (Ok (verdict.Stalled, m)) c ch x queue e s unrefused moves = absurd cc
-moved (Ok (verdict.Taken, m)) c ch x queue e s unrefused moves =
+moved (Ok (Verdict.Taken, m)) c ch x queue e s unrefused moves =
     (refl, clients-with_messages (handed_by c m) (with_client c e (with_channel c ch queue s)))
-moved (Ok (verdict.Done source f, m)) c ch x queue e s unrefused moves =
+moved (Ok (Verdict.Done source f, m)) c ch x queue e s unrefused moves =
     (refl, clients-with_messages (handed_by c m) (with_client c e (with_channel c ch queue s)))
+moved a c ch x queue e s unrefused moves = absurd cc
 
 -- a message that one client takes leaves the others' ends alone
-client_leaves : {w : ℕ} (config : Config) (tracker c : ℕ) (ch : Channel) (h : AbstractState w) (d : ℕ) (sys : System w)
-    (x : Beat w) (queue : List (Beat w))
+client_leaves : {w : ℕ} (config : Config) (tracker : ℕ) {c : ℕ} {ch : Channel} (h : AbstractState w) (d : ℕ)
+    {sys : System w}
+    {x : Beat w} {queue : List (Beat w)}
     → is_to_client ch ≡ true → (d ≡ c → ⊥) → IsFirst ch c h.mail h.state sys x queue
     → Leaves d h (packet_taken config tracker c (packets_on ch (h.state.link c)) h)
-client_leaves {w} config tracker c ch h d sys x queue up other first =
-    subst (λ (xs : List Packet). Leaves d h (packet_taken config tracker c xs h)) (sym first.tokens)
-    (leaves-at_client config tracker c first.kind first.number first.rest h d (client_kind ch first.kind up first.own)
-    other)
+client_leaves {w} config tracker {c} {ch} h d up other first =
+    rw first.tokens (leaves-at_client config tracker c first.kind first.number first.rest h d
+    (client_kind ch first.kind up first.own) other)
 
 -- the beat was taken: the ends after its step, given the client's own
-taken_ends : {w : ℕ} (config : Config) (log : Log w) (mail : AccessMessages w) (request : ℕ → MessageA w)
-    (s : State (List ℕ)) (sys : System w) (link : Link)
-    (ch : Channel) (k : ℕ) (x : Beat w) (queue : List (Beat w)) (o : Offered w) → IsWidth w
-    → SimulationRelation config log mail request s sys → sys.channels link.0 ch ≡ x ∷ queue → is_to_client ch ≡ true
-    → o ≡ taken x (sys.clients link.0)
+taken_ends : {w : ℕ} {config : Config} {log : Log w} {mail : AccessMessages w} {request : ℕ → MessageA w}
+    {s : State (List ℕ)} {sys : System w} (link : Link) (ch : Channel) (k : ℕ) (x : Beat w) (queue : List (Beat w))
+    (o : Offered w) → IsWidth w → SimulationRelation config log mail request s sys → sys.channels link.0 ch ≡ x ∷ queue
+    → is_to_client ch ≡ true → o ≡ taken x (sys.clients link.0)
     → (completes x (unfinished ch (receiver ch link.0 sys)) ≡ false
     → IsEndOf link.0 (shadow_of mail request s) (taken x (sys.clients link.0)).after)
     → (completes x (unfinished ch (receiver ch link.0 sys)) ≡ true
     → IsEndOf link.0 (packet_taken config (least_untaken (trackers_of (services sys.manager.trace))) link.0
-    (packets_on ch (s.link link.0))
-    (shadow_of mail request s)) (taken x (sys.clients link.0)).after)
+    (packets_on ch (s.link link.0)) (shadow_of mail request s)) (taken x (sys.clients link.0)).after)
     → AreEnds config (Deliver link ch) sys (shadow_of mail request s) k (client_took link.0 ch x queue o sys)
-taken_ends {w} config log mail request s sys link ch k x queue o width h beats up takes more last =
+taken_ends {w} {config} {log} {mail} {request} {s} {sys} link ch k x queue o width h beats up takes more last =
+    let moves = moved t.answer link.0 ch x queue t.after sys (kept_up x (sys.clients link.0))
+    (taken_now x (sys.clients link.0)) in
     subst (λ (y : Offered w). AreEnds config (Deliver link ch) sys before k (client_took link.0 ch x queue y sys))
     (sym takes)
     (subst (λ (b : Bool). IsEndOf k (if b && is_last (sys.channels link.0 ch) rest_now then event else before)
@@ -113,12 +94,6 @@ taken_ends {w} config log mail request s sys link ch k x queue o width h beats u
     t : Offered w
     t = taken x (sys.clients link.0)
 
-    moves : (is_moving (client_took link.0 ch x queue t sys).outcome ≡ true)
-        × ((client_took link.0 ch x queue t sys).after.clients
-        ≡ (with_client link.0 t.after (with_channel link.0 ch queue sys)).clients)
-    moves = moved t.answer link.0 ch x queue t.after sys (kept_up x (sys.clients link.0))
-        (taken_now x (sys.clients link.0))
-
     after : System w
     after = with_client link.0 t.after (with_channel link.0 ch queue sys)
 
@@ -130,102 +105,85 @@ taken_ends {w} config log mail request s sys link ch k x queue o width h beats u
 
     go : (b : Bool) → completes x rest_now ≡ b → (k ≡ link.0) ⊎ (k ≡ link.0 → ⊥)
         → IsEndOf k (if b then event else before) (after.clients k)
-    go true done (inl same) = subst (λ (e : Endpoint w). IsEndOf k event e) (sym (own same))
-        (subst (λ (i : ℕ). IsEndOf i event t.after) (sym same) (last done))
-    go false goes (inl same) = subst (λ (e : Endpoint w). IsEndOf k before e) (sym (own same))
-        (subst (λ (i : ℕ). IsEndOf i before t.after) (sym same) (more goes))
-    go true done (inr ne) =
-        left_alone k before event (sys.clients k) (after.clients k)
-        (client_leaves config (least_untaken (trackers_of (services sys.manager.trace))) link.0 ch before k sys x queue
-        up ne
+    go true done (inl same) = rw (own same) (subst (λ (i : ℕ). IsEndOf i event t.after) (sym same) (last done))
+    go false goes (inl same) = rw (own same) (subst (λ (i : ℕ). IsEndOf i before t.after) (sym same) (more goes))
+    go true done (inr ne) = left_alone k before event (sys.clients k) (after.clients k)
+        (client_leaves config (least_untaken (trackers_of (services sys.manager.trace))) before k up ne
         (first-token (is_caching config) ch link.0 mail s sys x queue width h.invariant h.carried beats)) (others ne)
-        (end-matched config log mail request s sys h k)
+        (end-matched h k)
     go false goes (inr ne) = left_alone k before before (sys.clients k) (after.clients k) (leaves-none k before)
-        (others ne) (end-matched config log mail request s sys h k)
+        (others ne) (end-matched h k)
 
-d_ends : {w : ℕ} (config : Config) (log : Log w) (mail : AccessMessages w) (request : ℕ → MessageA w)
-    (s : State (List ℕ)) (sys : System w) (terms : EndConfig) (link : Link)
-    (k : ℕ) (x : Beat w) (queue : List (Beat w)) → IsWidth w
-    → SimulationRelation config log mail request s sys → terms_at config link.0 ≡ Some terms
-    → sys.channels link.0 channel.D ≡ x ∷ queue
-    → AreEnds config (Deliver link channel.D) sys (shadow_of mail request s) k
-    (client_took link.0 channel.D x queue (offered terms channel.D x (sys.clients link.0)) sys)
-d_ends {w} config log mail request s sys terms link k x queue width h at beats =
-    let is = delivered-d config log mail request s sys terms (least_untaken (trackers_of (services sys.manager.trace)))
+d_ends : {w : ℕ} {config : Config} {log : Log w} {mail : AccessMessages w} {request : ℕ → MessageA w}
+    {s : State (List ℕ)} {sys : System w} (terms : EndConfig) (link : Link) (k : ℕ) (x : Beat w) (queue : List (Beat w))
+    → IsWidth w → SimulationRelation config log mail request s sys → terms_at config link.0 ≡ Some terms
+    → sys.channels link.0 Channel.D ≡ x ∷ queue → AreEnds config (Deliver link Channel.D) sys (shadow_of mail request s)
+    k (client_took link.0 Channel.D x queue (offered terms Channel.D x (sys.clients link.0)) sys)
+d_ends {w} {config} {log} {mail} {request} {s} {sys} terms link k x queue width h at beats =
+    let is = delivered-d terms (least_untaken (trackers_of (services sys.manager.trace)))
     link.0 x queue width h at beats in
-    taken_ends config log mail request s sys link channel.D k x queue (offered terms channel.D x (sys.clients link.0))
+    taken_ends link Channel.D k x queue (offered terms Channel.D x (sys.clients link.0))
     width h beats refl is.takes is.more is.last
 
-b_ends : {w : ℕ} (config : Config) (log : Log w) (mail : AccessMessages w) (request : ℕ → MessageA w)
-    (s : State (List ℕ)) (sys : System w) (terms : EndConfig) (link : Link)
-    (k : ℕ) (x : Beat w) (queue : List (Beat w)) → IsWidth w
-    → SimulationRelation config log mail request s sys → terms_at config link.0 ≡ Some terms
-    → sys.channels link.0 channel.B ≡ x ∷ queue
-    → AreEnds config (Deliver link channel.B) sys (shadow_of mail request s) k
-    (client_took link.0 channel.B x queue (offered terms channel.B x (sys.clients link.0)) sys)
-b_ends {w} config log mail request s sys terms link k x queue width h at beats =
+b_ends : {w : ℕ} {config : Config} {log : Log w} {mail : AccessMessages w} {request : ℕ → MessageA w}
+    {s : State (List ℕ)} {sys : System w} (terms : EndConfig) (link : Link) (k : ℕ) (x : Beat w) (queue : List (Beat w))
+    → IsWidth w → SimulationRelation config log mail request s sys → terms_at config link.0 ≡ Some terms
+    → sys.channels link.0 Channel.B ≡ x ∷ queue → AreEnds config (Deliver link Channel.B) sys (shadow_of mail request s)
+    k (client_took link.0 Channel.B x queue (offered terms Channel.B x (sys.clients link.0)) sys)
+b_ends {w} {config} {log} {mail} {request} {s} {sys} terms link k x queue width h at beats =
     go (is_unreleased ((s.block comes.0).pair link.0).letting) refl
   where
     comes : (n : ℕ) × IsProbed config terms (least_untaken (trackers_of (services sys.manager.trace))) link.0 n
         (shadow_of mail request s) x (sys.clients link.0)
-    comes = delivered-b config log mail request s sys terms (least_untaken (trackers_of (services sys.manager.trace)))
-        link.0 x queue width h at beats
+    comes = delivered-b terms (least_untaken (trackers_of (services sys.manager.trace))) link.0 x queue width h at beats
 
     go : (b : Bool) → is_unreleased ((s.block comes.0).pair link.0).letting ≡ b
-        → AreEnds config (Deliver link channel.B) sys (shadow_of mail request s) k
-        (client_took link.0 channel.B x queue (offered terms channel.B x (sys.clients link.0)) sys)
-    go true kept =
-        taken_ends config log mail request s sys link channel.B k x queue
-        (offered terms channel.B x (sys.clients link.0)) width h beats refl (comes.1.takes kept)
-        (λ goes. absurd (let no : true ≡ false = sym comes.1.whole ∙ goes in cc)) (λ done. comes.1.last kept)
-    go false open_ =
-        subst (λ (o : Offered w). AreEnds config (Deliver link channel.B) sys (shadow_of mail request s) k
-        (client_took link.0 channel.B x queue o sys))
-        (sym (comes.1.waits_for open_)) (end-matched config log mail request s sys h k)
+        → AreEnds config (Deliver link Channel.B) sys (shadow_of mail request s) k
+        (client_took link.0 Channel.B x queue (offered terms Channel.B x (sys.clients link.0)) sys)
+    go true kept = taken_ends link Channel.B k x queue (offered terms Channel.B x (sys.clients link.0)) width h beats
+        refl (comes.1.takes kept) (λ goes. absurd (let no : true ≡ false = sym comes.1.whole ∙ goes in cc))
+        (λ done. comes.1.last kept)
+    go false open_ = rw (comes.1.waits_for open_) (end-matched h k)
 
 -- ---- every event
 
-delivered_ends : {w : ℕ} (config : Config) (log : Log w) (mail : AccessMessages w) (request : ℕ → MessageA w)
-    (s : State (List ℕ)) (sys : System w) (terms : EndConfig)
-    (link : Link) (ch : Channel) (k : ℕ) (beats : List (Beat w)) → IsWidth w
-    → SimulationRelation config log mail request s sys → terms_at config link.0 ≡ Some terms
-    → sys.channels link.0 ch ≡ beats
+delivered_ends : {w : ℕ} {config : Config} {log : Log w} {mail : AccessMessages w} {request : ℕ → MessageA w}
+    {s : State (List ℕ)} {sys : System w} (terms : EndConfig) (link : Link) (ch : Channel) (k : ℕ)
+    (beats : List (Beat w)) → IsWidth w → SimulationRelation config log mail request s sys
+    → terms_at config link.0 ≡ Some terms → sys.channels link.0 ch ≡ beats
     → AreEnds config (Deliver link ch) sys (shadow_of mail request s) k
     (step.delivered config terms link.0 ch beats sys)
-delivered_ends config log mail request s sys terms link ch k [] width h at beats =
-    end-matched config log mail request s sys h k
-delivered_ends config log mail request s sys terms link channel.B k (x ∷ queue) width h at beats =
-    b_ends config log mail request s sys terms link k x queue width h at beats
-delivered_ends config log mail request s sys terms link channel.D k (x ∷ queue) width h at beats =
-    d_ends config log mail request s sys terms link k x queue width h at beats
-delivered_ends config log mail request s sys terms link channel.A k (x ∷ queue) width h at beats =
-    manager_ends config log mail request s sys link channel.A k x queue
-    (manager.offered config (record { 0 = link.0 }) channel.A x sys.manager) width h beats refl
-delivered_ends config log mail request s sys terms link channel.C k (x ∷ queue) width h at beats =
-    manager_ends config log mail request s sys link channel.C k x queue
-    (manager.offered config (record { 0 = link.0 }) channel.C x sys.manager) width h beats refl
-delivered_ends config log mail request s sys terms link channel.E k (x ∷ queue) width h at beats =
-    manager_ends config log mail request s sys link channel.E k x queue
-    (manager.offered config (record { 0 = link.0 }) channel.E x sys.manager) width h beats refl
+delivered_ends {config} {log} {mail} {request} {s} {sys} terms link ch k [] width h at beats = end-matched h k
+delivered_ends {config} {log} {mail} {request} {s} {sys} terms link Channel.B k (x ∷ queue) width h at beats =
+    b_ends terms link k x queue width h at beats
+delivered_ends {config} {log} {mail} {request} {s} {sys} terms link Channel.D k (x ∷ queue) width h at beats =
+    d_ends terms link k x queue width h at beats
+delivered_ends {config} {log} {mail} {request} {s} {sys} terms link Channel.A k (x ∷ queue) width h at beats =
+    manager_ends link Channel.A k x queue
+    (manager.offered config (record { 0 = link.0 }) Channel.A x sys.manager) width h beats refl
+delivered_ends {config} {log} {mail} {request} {s} {sys} terms link Channel.C k (x ∷ queue) width h at beats =
+    manager_ends link Channel.C k x queue
+    (manager.offered config (record { 0 = link.0 }) Channel.C x sys.manager) width h beats refl
+delivered_ends {config} {log} {mail} {request} {s} {sys} terms link Channel.E k (x ∷ queue) width h at beats =
+    manager_ends link Channel.E k x queue
+    (manager.offered config (record { 0 = link.0 }) Channel.E x sys.manager) width h beats refl
 
-event_ends : {w : ℕ} (config : Config) (log : Log w) (mail : AccessMessages w) (request : ℕ → MessageA w)
-    (s : State (List ℕ)) (sys : System w) (event : Event w)
-    (o : Option EndConfig) (k : ℕ) → IsWidth w → SimulationRelation config log mail request s sys
-    → terms_at config (client_of event) ≡ o → AreEnds config event sys (shadow_of mail request s) k
-    (stepped_at config o event sys)
-event_ends config log mail request s sys (Ask c o) None k width h at = end-matched config log mail request s sys h k
-event_ends config log mail request s sys (Deliver link ch) None k width h at =
-    end-matched config log mail request s sys h k
-event_ends config log mail request s sys (Ask c o) (Some terms) k width h at =
-    asked_ends config log mail request s sys terms c k o width h
-event_ends config log mail request s sys (Deliver link ch) (Some terms) k width h at =
-    delivered_ends config log mail request s sys terms link ch k (sys.channels link.0 ch) width h at refl
+event_ends : {w : ℕ} {config : Config} {log : Log w} {mail : AccessMessages w} {request : ℕ → MessageA w}
+    {s : State (List ℕ)} {sys : System w} (event : Event w) (o : Option EndConfig) (k : ℕ) → IsWidth w
+    → SimulationRelation config log mail request s sys → terms_at config (client_of event) ≡ o
+    → AreEnds config event sys (shadow_of mail request s) k (stepped_at config o event sys)
+event_ends {config} {log} {mail} {request} {s} {sys} (Ask c o) None k width h at = end-matched h k
+event_ends {config} {log} {mail} {request} {s} {sys} (Deliver link ch) None k width h at = end-matched h k
+event_ends {config} {log} {mail} {request} {s} {sys} (Ask c o) (Some terms) k width h at =
+    asked_ends terms c k o width h
+event_ends {config} {log} {mail} {request} {s} {sys} (Deliver link ch) (Some terms) k width h at =
+    delivered_ends terms link ch k (sys.channels link.0 ch) width h at refl
 
 -- Every client's end is that of the protocol after an event of the world.
-pub clients-kept : {w : ℕ} (config : Config) (log : Log w) (mail : AccessMessages w) (request : ℕ → MessageA w)
-    (s : State (List ℕ)) (sys : System w) (event : Event w)
+pub clients-kept : {w : ℕ} {config : Config} {log : Log w} {mail : AccessMessages w} {request : ℕ → MessageA w}
+    {s : State (List ℕ)} {sys : System w} (event : Event w)
     → IsWidth w → SimulationRelation config log mail request s sys → (k : ℕ)
     → IsEndOf k (abstract_step config event sys (shadow_of mail request s)) ((stepped config event sys).after.clients k)
 unfolding stepped
-clients-kept config log mail request s sys event width h k =
-    event_ends config log mail request s sys event (terms_at config (client_of event)) k width h refl
+clients-kept {config} {log} {mail} {request} {s} {sys} event width h k =
+    event_ends event (terms_at config (client_of event)) k width h refl

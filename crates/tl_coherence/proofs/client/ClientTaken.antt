@@ -5,52 +5,42 @@ use Rattle.tl_coherence.proofs.client.Imports.{Endpoint, with_past, sending, end
 use Rattle.tl_coherence.proofs.client.Imports.{same_block, grant_opcode, acquire_opcode, ClientBlock, AcquireOpen}
 use Rattle.tl_coherence.proofs.client.Imports.{is_unreleased, after_release_ack, Block, State, SourceFree, Acquires}
 use Rattle.tl_coherence.proofs.client.Imports.{is_wanting, taken_block, grant_taken, let_go_block, AccessMessages}
-use Rattle.tl_coherence.proofs.client.Imports.{Packet, asked_by, is_whole}
+use Rattle.tl_coherence.proofs.client.Imports.{Packet, asked_by, is_whole, Beat}
 use Rattle.std.proofs.Common.{◌≡◌, subst, ℕ, Bool, true, false, not, ◌&&◌, cond, List, ◌∷◌, Option, Some, None, refl}
 use Rattle.std.proofs.Common.{sym, ◌∙◌, ap, ◌⊎◌, inl, inr}
-use Rattle.std.specs.Prelude.{◌==◌, ◌*◌}
+use Rattle.std.{specs.Prelude.◌==◌, specs.Prelude.◌*◌, proofs.Math.Bool.and-false}
 use Rattle.std.proofs.lemmas.Bool.{cases_eq, eqb-true, ne_eqb}
-use Rattle.std.proofs.Math.Bool.{and-false}
-use Rattle.tl_beat.specs.declared.beat.Beat.TheVariants as beat
 use Rattle.tl_burst.specs.declared.message.Message.TheVariants.{E}
-use Rattle.tl_params.specs.declared.perm.Perm.TheVariants as perm
 use Rattle.tl_params.specs.statement.Param.{cap_code, cap_right}
 use Rattle.tl_rules.specs.statement.History.{capped}
-use Rattle.tl_client.specs.laws.After.{copy_granted, waiting_granted}
+use Rattle.tl_client.{specs.laws.After.copy_granted, specs.laws.After.waiting_granted, specs.statement.Send.grant_ack}
+use Rattle.tl_client.{proofs.endpoint.AfterOffered.granted_is, proofs.endpoint.HeldAfter.swapped}
 use Rattle.tl_client.specs.statement.EndpointInvariant.{is_acquire_beat, is_acquire_perm}
 use Rattle.tl_client.specs.statement.Offer.{address_asked, finish_of, granted}
-use Rattle.tl_client.specs.statement.Send.{grant_ack}
-use Rattle.tl_client.proofs.endpoint.AfterOffered.{granted_is}
-use Rattle.tl_client.proofs.endpoint.HeldAfter.{swapped}
-use Rattle.tl_manager.proofs.blocks.Recording.{cap-gives}
+use Rattle.tl_manager.{proofs.blocks.Recording.cap-gives, proofs.pending.Performed.grants_by_opcode}
 use Rattle.tl_coherence.specs.protocol.PhaseSteps.{after_grant}
 use Rattle.tl_coherence.specs.protocol.Protocol.{answer_taken, granted_copy, release_ack_taken}
 use Rattle.tl_coherence.specs.protocol.Invariant.{acquires_of, AreNamed}
-use Rattle.tl_coherence.proofs.client.Aside.{set_at-else}
-use Rattle.tl_coherence.proofs.client.ClientRequests.{chosen, passed}
+use Rattle.tl_coherence.proofs.{client.Aside.set_at-else, client.ClientRequests.chosen, client.ClientRequests.passed}
+use Rattle.tl_coherence.proofs.{queues.Phases.and_right, queues.Codes.acquires-so}
 use Rattle.tl_coherence.proofs.client.ClientEnd.{IsWellKept, IsEnd, asks-same, asks-closed, asks-acquire, open-is}
 use Rattle.tl_coherence.proofs.client.ClientEnd.{column}
 use Rattle.tl_coherence.proofs.client.ClientDeliverD.{IsHeard, IsEcho, echo-none, echo-e, known-heard, opened-heard}
 use Rattle.tl_coherence.proofs.client.ClientDeliverD.{heard-part, answer_closes, ack_closes, grant_closes}
-use Rattle.tl_coherence.proofs.queues.Phases.{and_right}
 use Rattle.tl_coherence.proofs.queues.Tokens.{same_number, set-same, set-other, set-part, set_at-same}
-use Rattle.tl_coherence.proofs.queues.Codes.{acquires-so}
-use Rattle.tl_manager.proofs.pending.Performed.{grants_by_opcode}
 
 -- ---- a beat that isn't the last of its message
 
-pub end-part : {w : ℕ} (asked : ℕ → Option (BeatA w)) (c : ℕ) (x : BeatD w) (s : State (List ℕ)) (e f : Endpoint w)
-    → f ≡ with_past (beat.D x ∷ e.past) e → ends (beat.D x) e.past ≡ false → IsWellKept f
+pub end-part : {w : ℕ} {asked : ℕ → Option (BeatA w)} {c : ℕ} (x : BeatD w) {s : State (List ℕ)} {e f : Endpoint w}
+    → f ≡ with_past (Beat.D x ∷ e.past) e → ends (Beat.D x) e.past ≡ false → IsWellKept f
     → IsEnd asked c s e → IsEnd asked c s f
-end-part {w} asked c x s e f is more well end =
-    let event = heard-part c x e.past perm.None asked s more in
+end-part {w} {asked} {c} x {s} {e} {f} is more well end =
+    let event = heard-part c x e.past Perm.None asked s more in
     let echo : IsEcho x e.past f.past = subst (IsEcho x e.past) (sym (ap (λ (g : Endpoint w). g.past) is))
     (echo-none x e.past) in
     record {
-      known = known-heard c x e.past perm.None (λ k. false) (λ k. false) (λ k. false) (λ k. false) asked asked s s f
-          echo well event end.known;
-      opened = opened-heard c x e.past f.past perm.None (λ k. false) (λ k. false) (λ k. false) (λ k. false) asked asked
-          s s echo event end.opened;
+      known = known-heard echo well event end.known;
+      opened = opened-heard echo event end.opened;
       kept = well.kept;
       accounted = well.accounted;
       copies = λ n some. ap (λ (g : Endpoint w). g.copies n) is ∙ end.copies n some;
@@ -60,14 +50,14 @@ end-part {w} asked c x s e f is more well end =
 
 -- ---- the answer to an access
 
-pub end-answer_taken : {w : ℕ} (c source : ℕ) (x : BeatD w) (rest : List Packet) (mail : AccessMessages w)
-    (s : State (List ℕ)) (e f : Endpoint w) → f ≡ with_past (beat.D x ∷ e.past) e → ends (beat.D x) e.past ≡ true
+pub end-answer_taken : {w : ℕ} {c : ℕ} (source : ℕ) (x : BeatD w) (rest : List Packet) (mail : AccessMessages w)
+    {s : State (List ℕ)} {e f : Endpoint w} → f ≡ with_past (Beat.D x ∷ e.past) e → ends (Beat.D x) e.past ≡ true
     → is_grant x.opcode ≡ false → is_release_ack x.opcode ≡ false → x.source ≡ source → IsWellKept f
     → IsEnd (asked_by mail s c) c s e
     → IsEnd (asked_by mail (answer_taken c source rest s) c) c (answer_taken c source rest s) f
-end-answer_taken {w} c source x rest mail s e f is last plain other from well end =
+end-answer_taken {w} {c} source x rest mail {s} {e} {f} is last plain other from well end =
     let closes = answer_closes x e.past last plain other in
-    let event : IsHeard c x e.past perm.None (λ k. false) (λ k. false) (λ i. x.source == i) (λ k. false)
+    let event : IsHeard c x e.past Perm.None (λ k. false) (λ k. false) (λ i. x.source == i) (λ k. false)
     (asked_by mail s c) (asked_by mail s' c) s s' = record {
       grants_is = closes.0;
       gives = λ k g. absurd cc;
@@ -83,10 +73,8 @@ end-answer_taken {w} c source x rest mail s e f is last plain other from well en
     let echo : IsEcho x e.past f.past = subst (IsEcho x e.past) (sym (ap (λ (g : Endpoint w). g.past) is))
     (echo-none x e.past) in
     record {
-      known = known-heard c x e.past perm.None (λ k. false) (λ k. false) (λ i. x.source == i) (λ k. false)
-          (asked_by mail s c) (asked_by mail s' c) s s' f echo well event end.known;
-      opened = opened-heard c x e.past f.past perm.None (λ k. false) (λ k. false) (λ i. x.source == i) (λ k. false)
-          (asked_by mail s c) (asked_by mail s' c) s s' echo event end.opened;
+      known = known-heard echo well event end.known;
+      opened = opened-heard echo event end.opened;
       kept = well.kept;
       accounted = well.accounted;
       copies = λ n some. ap (λ (g : Endpoint w). g.copies n) is ∙ end.copies n some;
@@ -107,14 +95,16 @@ end-answer_taken {w} c source x rest mail s e f is last plain other from well en
 
 -- ---- a ReleaseAck
 
-pub end-release_ack_taken : {w : ℕ} (c n : ℕ) (x : BeatD w) (rest : List Packet) (mail : AccessMessages w)
-    (s : State (List ℕ)) (e f : Endpoint w) → f ≡ with_past (beat.D x ∷ e.past) e → ends (beat.D x) e.past ≡ true
+pub end-release_ack_taken : {w : ℕ} {c : ℕ} (n : ℕ) (x : BeatD w) (rest : List Packet) (mail : AccessMessages w)
+    {s : State (List ℕ)} {e f : Endpoint w} → f ≡ with_past (Beat.D x ∷ e.past) e → ends (Beat.D x) e.past ≡ true
     → is_grant x.opcode ≡ false → is_release_ack x.opcode ≡ true → x.source ≡ (s.block n).release_source c
     → s.lets c x.source ≡ Some n → IsWellKept f → IsEnd (asked_by mail s c) c s e
     → IsEnd (asked_by mail (release_ack_taken c n rest s) c) c (release_ack_taken c n rest s) f
-end-release_ack_taken {w} c n x rest mail s e f is last plain acks from let_ well end =
+end-release_ack_taken {w} {c} n x rest mail {s} {e} {f} is last plain acks from let_ well end =
+    let new : Block (List ℕ) = let_go_block c (s.block n) in
+    let pair_is = set-same c (after_release_ack ((s.block n).pair c)) (s.block n).pair in
     let closes = ack_closes n x e.past last plain acks (end.opened.released x.source n let_) in
-    let event : IsHeard c x e.past perm.None (λ k. false) (λ k. n == k) (λ i. false) (λ i. x.source == i)
+    let event : IsHeard c x e.past Perm.None (λ k. false) (λ k. n == k) (λ i. false) (λ i. x.source == i)
     (asked_by mail s c) (asked_by mail s' c) s s' = record {
       grants_is = closes.0;
       gives = λ k g. absurd cc;
@@ -125,10 +115,11 @@ end-release_ack_taken {w} c n x rest mail s e f is last plain acks from let_ wel
           (ap (λ (q : ClientBlock). q.held) pair_is) k;
       acquiring = λ k. set-part (λ (b : Block (List ℕ)). is_wanting (b.pair c).acquiring) n new s.block
           (ap (λ (q : ClientBlock). is_wanting q.acquiring) pair_is) k;
-      letting = λ k. column (λ (b : Block (List ℕ)). not (is_unreleased (b.pair c).letting)) n new s.block k
-          ∙ ap (λ (z : Bool). cond (k == n) z (not (is_unreleased ((s.block k).pair c).letting)))
-          (ap (λ (q : ClientBlock). not (is_unreleased q.letting)) pair_is)
-          ∙ ap (λ (z : Bool). cond z false (not (is_unreleased ((s.block k).pair c).letting))) (swapped k n);
+      letting = λ k. cc (
+        column (λ (b : Block (List ℕ)). not (is_unreleased (b.pair c).letting)) n new s.block k,
+        pair_is,
+        swapped k n,
+      );
       lets = λ i. lets_now i (cases_eq i ((s.block n).release_source c));
       asks = λ i. asks-same c i mail mail s s' refl (inl refl)
           (λ j used. set-part (λ (b : Block (List ℕ)). (b.pair c).acquiring) n new s.block
@@ -138,17 +129,18 @@ end-release_ack_taken {w} c n x rest mail s e f is last plain acks from let_ wel
     let echo : IsEcho x e.past f.past = subst (IsEcho x e.past) (sym (ap (λ (g : Endpoint w). g.past) is))
     (echo-none x e.past) in
     record {
-      known = known-heard c x e.past perm.None (λ k. false) (λ k. n == k) (λ i. false) (λ i. x.source == i)
-          (asked_by mail s c) (asked_by mail s' c) s s' f echo well event end.known;
-      opened = opened-heard c x e.past f.past perm.None (λ k. false) (λ k. n == k) (λ i. false) (λ i. x.source == i)
-          (asked_by mail s c) (asked_by mail s' c) s s' echo event end.opened;
+      known = known-heard echo well event end.known;
+      opened = opened-heard echo event end.opened;
       kept = well.kept;
       accounted = well.accounted;
-      copies = λ k some. ap (λ (g : Endpoint w). g.copies k) is
-          ∙ end.copies k (sym (ap (λ (q : Perm). same_perm q perm.None)
-          (set-part (λ (b : Block (List ℕ)). (b.pair c).held) n new s.block
-          (ap (λ (q : ClientBlock). q.held) pair_is) k)) ∙ some)
-          ∙ ap Some (sym (set-part (λ (b : Block (List ℕ)). b.copy c) n new s.block refl k));
+      copies = λ k some. cc (
+        is,
+        end.copies k
+            (sym (ap (λ (q : Perm). same_perm q Perm.None) (set-part (λ (b : Block (List ℕ)). (b.pair c).held) n new
+            s.block (ap (λ (q : ClientBlock). q.held) pair_is) k)) ∙ some),
+        set-part (λ (b : Block (List ℕ)). b.copy c) n
+            new s.block refl k,
+      );
       waiting = λ k storing. ap (λ (g : Endpoint w). g.waiting k) is
           ∙ end.waiting k (sym (set-part (λ (b : Block (List ℕ)). is_whole (b.pair c).acquiring) n new s.block
           (ap (λ (q : ClientBlock). is_whole q.acquiring) pair_is) k) ∙ storing)
@@ -156,14 +148,8 @@ end-release_ack_taken {w} c n x rest mail s e f is last plain acks from let_ wel
       live = ap (λ (g : Endpoint w). g.closed) is ∙ end.live;
     }
   where
-    new : Block (List ℕ)
-    new = let_go_block c (s.block n)
-
     s' : State (List ℕ)
     s' = release_ack_taken c n rest s
-
-    pair_is : new.pair c ≡ after_release_ack ((s.block n).pair c)
-    pair_is = set-same c (after_release_ack ((s.block n).pair c)) (s.block n).pair
 
     lets_now : (i : ℕ) → (i ≡ (s.block n).release_source c) ⊎ (i ≡ (s.block n).release_source c → ⊥)
         → s'.lets c i ≡ cond (x.source == i) None (s.lets c i)
@@ -184,13 +170,13 @@ pub record IsGrantOf {w : ℕ} (c n : ℕ) (whole data_too : Bool) (g : Grow) (k
   pub wants : ((s.block n).pair c).acquiring ≡ AcquireOpen whole g
   pub used : s.uses c ((s.block n).source c) ≡ Acquires n
   pub bare : (whole && data_too) ≡ false
-  pub has_copy : whole ≡ false → data_too ≡ false → same_perm ((s.block n).pair c).held perm.None ≡ false
+  pub has_copy : whole ≡ false → data_too ≡ false → same_perm ((s.block n).pair c).held Perm.None ≡ false
   pub bytes : data_too ≡ true → payload ≡ (s.block n).truth
 
 -- what the client does at the last beat of a Grant
 record IsGrantTaken {w : ℕ} (data_too : Bool) (x : BeatD w) (r : BeatA w) (payload : List ℕ) (e f : Endpoint w) : Type 0
   where
-    past_is : f.past ≡ sent (E (record { sink = x.sink })) (beat.D x ∷ e.past)
+    past_is : f.past ≡ sent (E (record { sink = x.sink })) (Beat.D x ∷ e.past)
     same_closed : f.closed ≡ e.closed
     new_copies : (k : ℕ) → f.copies k ≡ copy_granted (grant_opcode data_too) (Some r) payload k e
     new_waiting : (k : ℕ) → f.waiting k ≡ waiting_granted (grant_opcode data_too) (Some r) k (e.waiting k)
@@ -210,30 +196,26 @@ grant_end : {w : ℕ} (data_too : Bool) (x : BeatD w) (r : BeatA w) (payload : L
     → x.opcode ≡ grant_opcode data_too
     → f ≡ (responded x (Some r) payload e).after → IsGrantTaken data_too x r payload e f
 grant_end {w} data_too x r payload e f opcode is =
-    let before : Endpoint w = with_past (beat.D x ∷ e.past) e in
+    let before : Endpoint w = with_past (Beat.D x ∷ e.past) e in
     let g : Endpoint w = granted x.opcode (Some r) payload before in
     let does = granted_is x.opcode (Some r) payload before in
     let sends : f ≡ sending (grant_ack x.sink) g =
     is ∙ ended_end x.opcode data_too x (finish_of w x.opcode x.param x.size (address_asked (Some r)) payload) g
     opcode in
     record {
-      past_is = ap (λ (h : Endpoint w). h.past) sends ∙ ap (λ (t : History w). sent (E (record { sink = x.sink })) t)
-          does.same_past;
+      past_is = cc (sends, does.same_past);
       same_closed = ap (λ (h : Endpoint w). h.closed) sends ∙ does.same_closed;
-      new_copies = λ k. ap (λ (h : Endpoint w). h.copies k) sends ∙ does.new_copies k ∙ ap
-          (λ (o : OpD). copy_granted o (Some r) payload k before) opcode
-          ∙ same_copy data_too r payload k (beat.D x ∷ e.past) e;
-      new_waiting = λ k. ap (λ (h : Endpoint w). h.waiting k) sends ∙ does.new_waiting k ∙ ap
-          (λ (o : OpD). waiting_granted o (Some r) k (e.waiting k)) opcode;
+      new_copies = λ k. cc (sends, does.new_copies k, opcode, same_copy data_too r payload k (Beat.D x ∷ e.past) e);
+      new_waiting = λ k. cc (sends, does.new_waiting k, opcode);
     }
 
-pub end-grant_taken : {w : ℕ} (c n : ℕ) (whole data_too : Bool) (g : Grow) (k : Cap) (x : BeatD w) (payload : List ℕ)
-    (rest : List Packet) (mail : AccessMessages w)
-    (s : State (List ℕ)) (e f : Endpoint w) → IsWidth w → AreNamed s
+pub end-grant_taken : {w : ℕ} {c n : ℕ} {whole data_too : Bool} {g : Grow} {k : Cap} {x : BeatD w} {payload : List ℕ}
+    (rest : List Packet) (mail : AccessMessages w) {s : State (List ℕ)} {e f : Endpoint w} → IsWidth w → AreNamed s
     → IsGrantOf c n whole data_too g k x payload s → f ≡ (responded x (request_of x.source e.past) payload e).after
-    → ends (beat.D x) e.past ≡ true → IsWellKept f → IsEnd (asked_by mail s c) c s e
+    → ends (Beat.D x) e.past ≡ true → IsWellKept f → IsEnd (asked_by mail s c) c s e
     → IsEnd (asked_by mail (grant_taken c n whole data_too k rest s) c) c (grant_taken c n whole data_too k rest s) f
-end-grant_taken {w} c n whole data_too g k x payload rest mail s e f width named is taken last well end =
+end-grant_taken {w} {c} {n} {whole} {data_too} {g} {k} {x} {payload} rest mail {s} {e} {f} width named is taken last
+    well end =
     let asks : asked_by mail s c x.source ≡ Some r = ap (asked_by mail s c) is.from ∙ asks-acquire c source n source
     whole g mail s is.used is.wants refl in
     let open_ : open_beat x.source e.past ≡ Some r = end.known.opens x.source ∙ asks in
@@ -251,13 +233,12 @@ end-grant_taken {w} c n whole data_too g k x payload rest mail s e f width named
       releases_is = closes.1;
       source_is = closes.2;
       let_is = closes.3;
-      held = λ i. column (λ (b : Block (List ℕ)). (b.pair c).held) n new s.block i ∙ ap
-          (λ (q : Perm). cond (i == n) q ((s.block i).pair c).held) (ap (λ (q : ClientBlock). q.held) pair_is)
-          ∙ ap (λ (z : Bool). cond z (cap_right k) ((s.block i).pair c).held) (swapped i n);
-      acquiring = λ i. column (λ (b : Block (List ℕ)). is_wanting (b.pair c).acquiring) n new s.block i
-          ∙ ap (λ (z : Bool). cond (i == n) z (is_wanting ((s.block i).pair c).acquiring))
-          (ap (λ (q : ClientBlock). is_wanting q.acquiring) pair_is)
-          ∙ ap (λ (z : Bool). cond z false (is_wanting ((s.block i).pair c).acquiring)) (swapped i n);
+      held = λ i. cc (column (λ (b : Block (List ℕ)). (b.pair c).held) n new s.block i, pair_is, swapped i n);
+      acquiring = λ i. cc (
+        column (λ (b : Block (List ℕ)). is_wanting (b.pair c).acquiring) n new s.block i,
+        pair_is,
+        swapped i n,
+      );
       letting = λ i. ap not (set-part (λ (b : Block (List ℕ)). is_unreleased (b.pair c).letting) n new s.block
           (ap (λ (q : ClientBlock). is_unreleased q.letting) pair_is) i);
       lets = λ i. refl;
@@ -267,10 +248,8 @@ end-grant_taken {w} c n whole data_too g k x payload rest mail s e f width named
     subst (IsEcho x e.past) (sym does.past_is) (echo-e x (record { sink = x.sink }) e.past width end.kept.e_whole)
     in
     record {
-      known = known-heard c x e.past (cap_right k) (λ i. n == i) (λ i. false) (λ i. x.source == i) (λ i. false)
-          (asked_by mail s c) (asked_by mail s' c) s s' f echo well event end.known;
-      opened = opened-heard c x e.past f.past (cap_right k) (λ i. n == i) (λ i. false) (λ i. x.source == i) (λ i. false)
-          (asked_by mail s c) (asked_by mail s' c) s s' echo event end.opened;
+      known = known-heard echo well event end.known;
+      opened = opened-heard echo event end.opened;
       kept = well.kept;
       accounted = well.accounted;
       copies = λ i some. does.new_copies i ∙ copy_now i (cases_eq i n) some;
@@ -322,19 +301,19 @@ end-grant_taken {w} c n whole data_too g k x payload rest mail s e f width named
 
     copy_here : (i : ℕ) (y z : Bool) → whole ≡ y → data_too ≡ z → i ≡ n
         → copy_granted (grant_opcode z) (Some (a_beat_of {w = w} (acquisition (acquire_opcode y) g source n) 0)) payload
-        i e ≡ Some
-        (granted_copy y z ((s.block n).waiting c) (s.block n).truth ((s.block n).copy c))
+        i e ≡ Some (granted_copy y z ((s.block n).waiting c) (s.block n).truth ((s.block n).copy c))
     copy_here i true true a b same = absurd (let no : true ≡ false = sym (ap₂_and a b) ∙ is.bare in cc)
       where
         ap₂_and : {u v : Bool} → whole ≡ u → data_too ≡ v → (whole && data_too) ≡ (u && v)
         ap₂_and p q = rw (p, q) refl
     copy_here i true false a b same =
-        chosen ((i == block_at (64 * n)) && true) (e.waiting i) (e.copies i)
-        (and_true (i == block_at (64 * n)) (here i same)) ∙ ap e.waiting same ∙ end.waiting n
-        (ap is_whole is.wants ∙ a)
-      where
-        and_true : (u : Bool) → u ≡ true → (u && true) ≡ true
-        and_true u p = rw p refl
+        let and_true : (u : Bool) → u ≡ true → (u && true) ≡ true = λ u p. rw p refl in
+        cc (
+          chosen ((i == block_at (64 * n)) && true) (e.waiting i) (e.copies i)
+              (and_true (i == block_at (64 * n)) (here i same)),
+          same,
+          end.waiting n (ap is_whole is.wants ∙ a),
+        )
     copy_here i false true a b same = chosen (i == block_at (64 * n)) (Some payload) (e.copies i) (here i same) ∙ ap
         Some (is.bytes b)
     copy_here i false false a b same = passed ((i == block_at (64 * n)) && false) (e.waiting i) (e.copies i)
@@ -345,7 +324,7 @@ end-grant_taken {w} c n whole data_too g k x payload rest mail s e f width named
     copy_else i false ne = passed ((i == block_at r.address) && is_acquire_perm r.opcode) (e.waiting i) (e.copies i)
         (ap (λ (u : Bool). u && is_acquire_perm r.opcode) (elsewhere i ne))
 
-    copy_now : (i : ℕ) → (i ≡ n) ⊎ (i ≡ n → ⊥) → same_perm ((s'.block i).pair c).held perm.None ≡ false
+    copy_now : (i : ℕ) → (i ≡ n) ⊎ (i ≡ n → ⊥) → same_perm ((s'.block i).pair c).held Perm.None ≡ false
         → copy_granted (grant_opcode data_too) (Some r) payload i e ≡ Some ((s'.block i).copy c)
     copy_now i (inl same) some = copy_here i whole data_too refl refl same
         ∙ ap Some (sym (ap (λ (b : Block (List ℕ)). b.copy c) (block_now i same)
@@ -354,7 +333,7 @@ end-grant_taken {w} c n whole data_too g k x payload rest mail s e f width named
     copy_now i (inr ne) some =
         let old : s'.block i ≡ s.block i = set-other n i new s.block ne in
         copy_else i data_too ne ∙ end.copies i
-        (sym (ap (λ (b : Block (List ℕ)). same_perm (b.pair c).held perm.None) old) ∙ some) ∙ ap Some
+        (sym (ap (λ (b : Block (List ℕ)). same_perm (b.pair c).held Perm.None) old) ∙ some) ∙ ap Some
         (sym (ap (λ (b : Block (List ℕ)). b.copy c) old))
 
     waiting_else : (i : ℕ) (z : Bool) → (i ≡ n → ⊥)

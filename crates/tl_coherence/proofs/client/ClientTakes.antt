@@ -1,6 +1,6 @@
 -- A beat of channel D that is delivered to a client is taken.
 use Rattle.tl_coherence.proofs.client.Imports.{Beat, BeatA, Message, MessageA, MessageD, a_beat_of, beat_of, History}
-use Rattle.tl_coherence.proofs.client.Imports.{unfinished, Config, RequestSource, Level, Cap, Grow, Perm, Profile}
+use Rattle.tl_coherence.proofs.client.Imports.{unfinished, Config, RequestSource, Cap, Grow, Perm, Profile}
 use Rattle.tl_coherence.proofs.client.Imports.{is_outside, answers, broken_in_order, same_perm, held, pending}
 use Rattle.tl_coherence.proofs.client.Imports.{request_of, illegal, EndConfig, Endpoint, offered, taken, waits}
 use Rattle.tl_coherence.proofs.client.Imports.{open_beat, acquisition, same_block, grant_opcode, level_of}
@@ -11,29 +11,20 @@ use Rattle.std.proofs.Common.{Some, None, refl, sym, ◌∙◌, ap, arith}
 use Rattle.std.proofs.lemmas.Bool.{not-true}
 use Rattle.std.specs.Prelude.{All, is_some, slice_get, option_map}
 use Rattle.tl_beat.specs.declared.channel.Channel.{Channel}
-use Rattle.tl_beat.specs.declared.channel.Channel.TheVariants as channel
-use Rattle.tl_burst.specs.declared.message.Message.TheVariants as message
 use Rattle.tl_burst.specs.statement.Burst.{d_beat_of, begun}
 use Rattle.tl_params.specs.declared.config.ClientConfig.{ClientConfig}
-use Rattle.tl_params.specs.declared.param.Cap.TheVariants as cap
-use Rattle.tl_params.specs.declared.param.Grow.TheVariants as grow
-use Rattle.tl_params.specs.declared.perm.Perm.TheVariants as perm
-use Rattle.tl_params.specs.declared.profile.Profile.TheVariants as profile
 use Rattle.tl_params.specs.statement.Param.{cap_code, grow_code}
 use Rattle.tl_rules.specs.statement.Conformance as rules
 use Rattle.tl_rules.specs.statement.Conformance.{fits_grow, is_acquire_block, is_grant_without_data}
 use Rattle.tl_rules.proofs.Later.{later-legal}
-use Rattle.tl_manager.specs.statement.Handing.{release_ack}
+use Rattle.tl_manager.{specs.statement.Handing.release_ack, proofs.pending.Answered.no_ack_grant}
 use Rattle.tl_manager.specs.code.Kept as manager
 use Rattle.tl_coherence.specs.protocol.Phase.{cap_fits, grant_fits}
-use Rattle.tl_coherence.proofs.queues.Carried.{IsNext}
+use Rattle.tl_coherence.proofs.{queues.Carried.IsNext, queues.Passes.client-takes, queues.Phases.and_left}
+use Rattle.tl_coherence.proofs.{queues.Phases.and_right, queues.Codes.access_kind}
 use Rattle.tl_coherence.proofs.client.ClientEnd.{is_access, IsEnd, asks-access, asks-acquire}
 use Rattle.tl_coherence.proofs.protocol.HeadOfD.{IsAnswerDue, IsGrantDue, grant_message, ack_message}
-use Rattle.tl_coherence.proofs.queues.Passes.{client-takes}
-use Rattle.tl_coherence.proofs.queues.Phases.{and_left, and_right}
 use Rattle.tl_coherence.proofs.client.ResponseOrder.{answer-legal, grant-legal, ack-legal}
-use Rattle.tl_coherence.proofs.queues.Codes.{access_kind}
-use Rattle.tl_manager.proofs.pending.Answered.{no_ack_grant}
 
 -- ---- what a client was made for
 
@@ -56,8 +47,7 @@ terms-are config c terms e = go (slice_get config.clients.items c) refl
           level = x.level;
           profile = config.profile;
           sources = x.sources;
-          blocks =
-              config.blocks;
+          blocks = config.blocks;
         })) f) ∙ e in cc)
     go (Some x) f =
         let is : record { level = x.level; profile = config.profile; sources = x.sources; blocks = config.blocks }
@@ -67,8 +57,7 @@ terms-are config c terms e = go (slice_get config.clients.items c) refl
         (sym (ap (option_map (λ (y : ClientConfig). record {
           level = y.level;
           profile = config.profile;
-          sources =
-              y.sources;
+          sources = y.sources;
           blocks = config.blocks;
         })) f)
         ∙ e) in
@@ -84,72 +73,64 @@ first_of_all : {X : Type 0} (P : X → Type 0) (xs rest : List X) (x : X) → xs
 first_of_all P xs rest x e h = let all : All P (x ∷ rest) = subst (All P) e h in all 0 x (omega arith)
 
 -- what each beat of a channel is
-pub sound-beat : {w : ℕ} (config : Config) (log : Log w) (mail : AccessMessages w) (request : ℕ → MessageA w)
-    (s : State (List ℕ)) (sys : System w) (c : ℕ) (ch : Channel)
+pub sound-beat : {w : ℕ} {config : Config} {log : Log w} {mail : AccessMessages w} {request : ℕ → MessageA w}
+    {s : State (List ℕ)} {sys : System w} (c : ℕ) (ch : Channel)
     (x : Beat w) (queue : List (Beat w)) → SimulationRelation config log mail request s sys
     → sys.channels c ch ≡ x ∷ queue → manager.IsSound config (record { 0 = c }, x)
-sound-beat config log mail request s sys c ch x queue h beats =
+sound-beat {config} {sys} c ch x queue h beats =
     first_of_all (λ y. manager.IsSound config (record { 0 = c }, y)) (sys.channels c ch) queue x beats (h.sound c ch)
 
 -- a beat that goes on with its message breaks no rule of order, and so all do where the first doesn't
 pub next-legal : {w : ℕ} (p : Profile) (m : MessageD w) (k : ℕ) (t : History w)
-    → unfinished channel.D t ≡ begun (message.D m) k
-    → (unfinished channel.D t ≡ [] → broken_in_order p (beat_of (message.D m) 0) t ≡ None)
-    → broken_in_order p (beat_of (message.D m) k) t ≡ None
+    → unfinished Channel.D t ≡ begun (Message.D m) k
+    → (unfinished Channel.D t ≡ [] → broken_in_order p (beat_of (Message.D m) 0) t ≡ None)
+    → broken_in_order p (beat_of (Message.D m) k) t ≡ None
 next-legal p m zero t rest first = first rest
-next-legal p m (suc i) t rest first = later-legal p (message.D m) i t rest
+next-legal p m (suc i) t rest first = later-legal p (Message.D m) i t rest
 
-pub taken-d : {w : ℕ} (config : Config) (log : Log w) (mail : AccessMessages w) (request : ℕ → MessageA w)
-    (s : State (List ℕ)) (sys : System w) (terms : EndConfig) (c : ℕ)
-    (m : MessageD w) (ms : List (Message w)) (x : Beat w) (queue : List (Beat w))
-    → SimulationRelation config log mail request s sys → terms_at config c ≡ Some terms
-    → sys.channels c channel.D ≡ x ∷ queue → IsNext x (unfinished channel.D (sys.clients c).past) (message.D m) ms queue
-    → (unfinished channel.D (sys.clients c).past ≡ [] → broken_in_order config.profile (beat_of (message.D m) 0)
-    (sys.clients c).past ≡ None)
-    → offered terms channel.D x (sys.clients c) ≡ taken x (sys.clients c)
-taken-d {w} config log mail request s sys terms c m ms x queue h at beats next first =
+pub taken-d : {w : ℕ} {config : Config} {log : Log w} {mail : AccessMessages w} {request : ℕ → MessageA w}
+    {s : State (List ℕ)} {sys : System w} (terms : EndConfig) (c : ℕ) (m : MessageD w) {ms : List (Message w)}
+    {x : Beat w} {queue : List (Beat w)} → SimulationRelation config log mail request s sys
+    → terms_at config c ≡ Some terms → sys.channels c Channel.D ≡ x ∷ queue
+    → IsNext x (unfinished Channel.D (sys.clients c).past) (Message.D m) ms queue
+    → (unfinished Channel.D (sys.clients c).past ≡ [] → broken_in_order config.profile (beat_of (Message.D m) 0)
+    (sys.clients c).past ≡ None) → offered terms Channel.D x (sys.clients c) ≡ taken x (sys.clients c)
+taken-d {w} {config} {log} {mail} {request} {s} {sys} terms c m {x} {queue} h at beats next first =
+    let moves : x ≡ beat_of (Message.D m) next.k → waits x (sys.clients c).past ≡ false =
+    λ f. ap (λ (y : Beat w). waits y (sys.clients c).past) f in
     let is = terms-are config c terms at in
-    let sound = sound-beat config log mail request s sys c channel.D x queue h beats in
-    client-takes terms channel.D x (sys.clients c) (h.live c) refl (lawful is.level next.beat_is sound.lawful)
+    let sound = sound-beat c Channel.D x queue h beats in
+    client-takes terms Channel.D x (sys.clients c) (h.live c) refl (lawful is.level next.beat_is sound.lawful)
     (moves next.beat_is)
     (ap (λ (p : Profile). broken_in_order p x (sys.clients c).past) is.profile
     ∙ ap (λ (y : Beat w). broken_in_order config.profile y (sys.clients c).past) next.beat_is
     ∙ next-legal config.profile m next.k (sys.clients c).past next.rest_is first)
     (ap (λ (b : ℕ). is_outside b x) is.blocks ∙ sound.inside) sound.clean
   where
-    lawful : level_of config c ≡ Some terms.level → x ≡ beat_of (message.D m) next.k
-        → manager.illegal_at (level_of config c) x ≡ None → illegal terms.level channel.D x ≡ None
+    lawful : level_of config c ≡ Some terms.level → x ≡ beat_of (Message.D m) next.k
+        → manager.illegal_at (level_of config c) x ≡ None → illegal terms.level Channel.D x ≡ None
     lawful e f g =
-        let one : manager.illegal_at (Some terms.level) (beat_of (message.D m) next.k) ≡ None =
-        sym (ap (λ (l : Option Level). manager.illegal_at l (beat_of (message.D m) next.k)) e)
-        ∙ sym (ap (λ (y : Beat w). manager.illegal_at (level_of config c) y) f) ∙ g in
-        ap (λ (y : Beat w). illegal terms.level channel.D y) f ∙ one
-
-    moves : x ≡ beat_of (message.D m) next.k → waits x (sys.clients c).past ≡ false
-    moves f = ap (λ (y : Beat w). waits y (sys.clients c).past) f
+        let one : manager.illegal_at (Some terms.level) (beat_of (Message.D m) next.k) ≡ None = cc (e, f, g) in
+        ap (λ (y : Beat w). illegal terms.level Channel.D y) f ∙ one
 
 -- ---- an answer
 
 -- the open request is pending, and is the one that the history names
 live_request : {w : ℕ} (source : ℕ) (r : BeatA w) (t : History w) → open_beat source t ≡ Some r
     → (pending (RequestSource source) t ≡ true) × (request_of source t ≡ Some r)
-live_request {w} source r t e = go (pending (RequestSource source) t) refl e
-  where
-    go : (b : Bool) → pending (RequestSource source) t ≡ b → cond b (request_of source t) None ≡ Some r
-        → (b ≡ true) × (request_of source t ≡ Some r)
-    go true f g = (refl, g)
-    go false f g = absurd cc
+live_request {w} source r t e =
+    let go : (b : Bool) → pending (RequestSource source) t ≡ b → cond b (request_of source t) None ≡ Some r
+    → (b ≡ true) × (request_of source t ≡ Some r) = elim [ true ↦ λ f g. (refl, g) | false ↦ λ f g. absurd cc ] in
+    go (pending (RequestSource source) t) refl e
 
-pub answer-first : {w : ℕ} (p : Profile) (c source : ℕ) (mail : AccessMessages w) (s : State (List ℕ)) (e : Endpoint w)
-    → IsEnd (asked_by mail s c) c s e
-    → (due : IsAnswerDue c source mail s) → unfinished channel.D e.past ≡ []
-    → broken_in_order p (beat_of (message.D due.answer) 0) e.past ≡ None
-answer-first {w} p c source mail s e end due whole =
+pub answer-first : {w : ℕ} (p : Profile) {c source : ℕ} {mail : AccessMessages w} {s : State (List ℕ)} {e : Endpoint w}
+    → IsEnd (asked_by mail s c) c s e → (due : IsAnswerDue c source mail s) → unfinished Channel.D e.past ≡ []
+    → broken_in_order p (beat_of (Message.D due.answer) 0) e.past ≡ None
+answer-first {w} p {c} {source} {mail} {s} {e} end due whole =
     let kind = access_kind due.answer.opcode due.answers_access in
-    let asks : asked_by mail s c source ≡ Some (a_beat_of due.request 0) =
-    asks-access c source due.request mail s (ap is_access due.used) due.request_is in
+    let asks = asks-access c source due.request mail s (ap is_access due.used) due.request_is in
     let live = live_request source (a_beat_of due.request 0) e.past (end.known.opens source ∙ asks) in
-    answer-legal p (d_beat_of due.answer 0) (a_beat_of due.request 0) e.past (record {
+    answer-legal p (record {
       whole = whole;
       complete = ap (rules.comes_in_request due.answer.source) end.kept.a_whole;
       other = kind.1;
@@ -171,36 +152,24 @@ answers_acquire false false e = refl
 pub fits_asked : (p : Profile) (whole : Bool) (g : Grow) (k : Cap) → cap_fits whole g k ≡ true
     → gives_asked p (AcquireOpen whole g) k ≡ true
     → fits_grow p (acquire_opcode whole) (grow_code g) (cap_code k) ≡ true
-fits_asked profile.One false grow.NtoB cap.ToB e f = refl
-fits_asked profile.Two false grow.NtoB cap.ToB e f = refl
-fits_asked profile.Two false grow.NtoB cap.ToT e f = refl
-fits_asked profile.One false grow.NtoT cap.ToT e f = refl
-fits_asked profile.Two false grow.NtoT cap.ToT e f = refl
-fits_asked profile.One false grow.BtoT cap.ToT e f = refl
-fits_asked profile.Two false grow.BtoT cap.ToT e f = refl
-fits_asked profile.One true grow.NtoT cap.ToT e f = refl
-fits_asked profile.Two true grow.NtoT cap.ToT e f = refl
-fits_asked profile.One true grow.BtoT cap.ToT e f = refl
-fits_asked profile.Two true grow.BtoT cap.ToT e f = refl
-fits_asked profile.One false grow.NtoB cap.ToT e f = absurd cc
-fits_asked p false grow.NtoB cap.ToN e f = absurd cc
-fits_asked p false grow.NtoT cap.ToB e f = absurd cc
-fits_asked p false grow.NtoT cap.ToN e f = absurd cc
-fits_asked p false grow.BtoT cap.ToB e f = absurd cc
-fits_asked p false grow.BtoT cap.ToN e f = absurd cc
-fits_asked p true grow.NtoB cap.ToT e f = absurd cc
-fits_asked p true grow.NtoB cap.ToB e f = absurd cc
-fits_asked p true grow.NtoB cap.ToN e f = absurd cc
-fits_asked p true grow.NtoT cap.ToB e f = absurd cc
-fits_asked p true grow.NtoT cap.ToN e f = absurd cc
-fits_asked p true grow.BtoT cap.ToB e f = absurd cc
-fits_asked p true grow.BtoT cap.ToN e f = absurd cc
+fits_asked Profile.One false Grow.NtoB Cap.ToB e f = refl
+fits_asked Profile.Two false Grow.NtoB Cap.ToB e f = refl
+fits_asked Profile.Two false Grow.NtoB Cap.ToT e f = refl
+fits_asked Profile.One false Grow.NtoT Cap.ToT e f = refl
+fits_asked Profile.Two false Grow.NtoT Cap.ToT e f = refl
+fits_asked Profile.One false Grow.BtoT Cap.ToT e f = refl
+fits_asked Profile.Two false Grow.BtoT Cap.ToT e f = refl
+fits_asked Profile.One true Grow.NtoT Cap.ToT e f = refl
+fits_asked Profile.Two true Grow.NtoT Cap.ToT e f = refl
+fits_asked Profile.One true Grow.BtoT Cap.ToT e f = refl
+fits_asked Profile.Two true Grow.BtoT Cap.ToT e f = refl
+fits_asked p whole g k e f = absurd cc
 
 -- the parts of a Grant that fits
 pub record IsFitting (held : Perm) (data_too : Bool) (k : Cap) (whole : Bool) (g : Grow) : Type 0 where
   pub cap_is : cap_fits whole g k ≡ true
   pub bare : (whole && data_too) ≡ false
-  pub carried : (whole || (data_too || same_perm held perm.Branch)) ≡ true
+  pub carried : (whole || (data_too || same_perm held Perm.Branch)) ≡ true
 
 pub fitting : (recorded held : Perm) (data_too : Bool) (k : Cap) (whole : Bool) (g : Grow)
     → grant_fits recorded held data_too k (AcquireOpen whole g) ≡ true → IsFitting held data_too k whole g
@@ -210,37 +179,34 @@ fitting recorded held data_too k whole g fits =
     record {
       cap_is = and_left _ _ more;
       bare = not-true (whole && data_too) (and_left _ _ rest);
-      carried =
-          and_right _ _ rest;
+      carried = and_right _ _ rest;
     }
 
-pub has_data : (whole data_too : Bool) (q : Perm) → (whole || (data_too || same_perm q perm.Branch)) ≡ true
+pub has_data : (whole data_too : Bool) (q : Perm) → (whole || (data_too || same_perm q Perm.Branch)) ≡ true
     → (is_grant_without_data (grant_opcode data_too) && (is_acquire_block (acquire_opcode whole) && not
-    (same_perm q perm.Branch))) ≡ false
+    (same_perm q Perm.Branch))) ≡ false
 has_data true true q e = refl
 has_data true false q e = refl
 has_data false true q e = refl
-has_data false false perm.Branch e = refl
-has_data false false perm.None e = absurd cc
-has_data false false perm.Trunk e = absurd cc
+has_data false false Perm.Branch e = refl
+has_data false false Perm.None e = absurd cc
+has_data false false Perm.Trunk e = absurd cc
 
-pub grant-first : {w : ℕ} (p : Profile) (c n : ℕ) (mail : AccessMessages w) (s : State (List ℕ)) (e : Endpoint w)
-    → IsEnd (asked_by mail s c) c s e → (due : IsGrantDue c n s)
-    → gives_asked p (AcquireOpen due.whole due.g) due.k ≡ true
-    → unfinished channel.D e.past ≡ []
+pub grant-first : {w : ℕ} (p : Profile) {c n : ℕ} (mail : AccessMessages w) {s : State (List ℕ)} {e : Endpoint w}
+    → IsEnd (asked_by mail s c) c s e → (due : IsGrantDue c n s) → gives_asked p (AcquireOpen due.whole due.g) due.k
+    ≡ true → unfinished Channel.D e.past ≡ []
     → broken_in_order p (beat_of
-    (message.D (grant_message due.data_too due.k ((s.block n).source c) (s.block n).tracker (s.block n).truth)) 0)
+    (Message.D (grant_message due.data_too due.k ((s.block n).source c) (s.block n).tracker (s.block n).truth)) 0)
     e.past ≡ None
-grant-first {w} p c n mail s e end due given whole =
+grant-first {w} p {c} {n} mail {s} {e} end due given whole =
     let source = (s.block n).source c in
     let r : BeatA w = a_beat_of (acquisition (acquire_opcode due.whole) due.g source n) 0 in
     let fits = fitting ((s.block n).pair c).recorded ((s.block n).pair c).held due.data_too due.k due.whole due.g
     due.fits in
-    let asks : asked_by mail s c source ≡ Some r = asks-acquire c source n source due.whole due.g mail s due.used
-    due.wants refl in
+    let asks = asks-acquire c source n source due.whole due.g mail s due.used due.wants refl in
     let live = live_request source r e.past (end.known.opens source ∙ asks) in
-    grant-legal p n (d_beat_of (grant_message due.data_too due.k source (s.block n).tracker (s.block n).truth) 0) r
-    e.past (record {
+    grant-legal p n
+    (record {
       whole = whole;
       complete = ap (rules.comes_in_request source) end.kept.a_whole;
       other = no_ack_grant due.data_too;
@@ -250,18 +216,18 @@ grant-first {w} p c n mail s e end due given whole =
       size = refl;
     }) (same_block n) (fits_asked p due.whole due.g due.k fits.cap_is given)
     (ap (λ (q : Perm). is_grant_without_data (grant_opcode due.data_too)
-    && (is_acquire_block (acquire_opcode due.whole) && not (same_perm q perm.Branch)))
+    && (is_acquire_block (acquire_opcode due.whole) && not (same_perm q Perm.Branch)))
     (end.known.held_is n) ∙ has_data due.whole due.data_too ((s.block n).pair c).held fits.carried)
     (end.known.probes n) (end.known.sinks (s.block n).tracker ∙ ap
     (λ (b : List (Beat w)). rules.comes_in_grant (s.block n).tracker b) whole)
 
 -- ---- a ReleaseAck
 
-pub ack-first : {w : ℕ} (p : Profile) (c n : ℕ) (mail : AccessMessages w) (s : State (List ℕ)) (e : Endpoint w)
+pub ack-first : {w : ℕ} (p : Profile) {c : ℕ} (n : ℕ) (mail : AccessMessages w) {s : State (List ℕ)} {e : Endpoint w}
     → IsEnd (asked_by mail s c) c s e
-    → s.lets c ((s.block n).release_source c) ≡ Some n → unfinished channel.D e.past ≡ []
+    → s.lets c ((s.block n).release_source c) ≡ Some n → unfinished Channel.D e.past ≡ []
     → broken_in_order p (beat_of (release_ack ((s.block n).release_source c)) 0) e.past ≡ None
-ack-first {w} p c n mail s e end let_ whole =
+ack-first {w} p {c} n mail {s} {e} end let_ whole =
     let source = (s.block n).release_source c in
     ack-legal p (d_beat_of (ack_message source) 0) e.past whole (ap (rules.comes_in_release source) end.kept.c_whole)
     refl

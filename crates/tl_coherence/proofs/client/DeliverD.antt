@@ -1,49 +1,34 @@
 -- What a client answers to the last beat of a response.
 use Rattle.tl_coherence.proofs.client.Imports.{BeatD, OpD, Message, unfinished, Rule, ends, is_grant, is_release_ack}
-use Rattle.tl_coherence.proofs.client.Imports.{request_of, Finish, Endpoint, with_past, taken, ended, responded, silent}
-use Rattle.std.proofs.Common.{◌≡◌, ℕ, Bool, true, false, cond, List, ◌∷◌, Option, Some, None, refl, sym, ◌∙◌, ap}
+use Rattle.tl_coherence.proofs.client.Imports.{request_of, Finish, Endpoint, taken, ended, Beat}
+use Rattle.std.proofs.Common.{◌≡◌, ℕ, true, false, List, ◌∷◌, Option, Some, None, refl, sym, ◌∙◌, ap}
 use Rattle.std.specs.Prelude.{if◌then◌else◌, Result, Ok}
-use Rattle.tl_beat.specs.declared.beat.Beat.TheVariants as beat
-use Rattle.tl_beat.specs.declared.channel.Channel.TheVariants as channel
-use Rattle.tl_beat.specs.declared.opcode.OpD.TheVariants as d
+use Rattle.tl_beat.specs.declared.channel.Channel.{Channel}
 use Rattle.tl_rules.specs.statement.Admission.{payload_of}
-use Rattle.tl_client.specs.declared.verdict.Verdict.{Verdict}
-use Rattle.tl_client.specs.declared.verdict.Verdict.TheVariants as verdict
-use Rattle.tl_client.specs.statement.Offer.{finish_of, address_asked}
-use Rattle.tl_client.specs.statement.Send.{grant_ack}
+use Rattle.tl_client.{specs.declared.verdict.Verdict.Verdict, specs.statement.Offer.finish_of}
+use Rattle.tl_client.{specs.statement.Offer.address_asked, specs.statement.Send.grant_ack}
 use Rattle.tl_coherence.specs.statement.Machine.{Requests, Releases, pool_of}
 
 -- how the operation ends, and the message that is handed out
 abbrev pub finish_at : {w : ℕ} → BeatD w → Endpoint w → Finish
 finish_at {w} y e = finish_of w y.opcode y.param y.size (address_asked (request_of y.source e.past))
-    (payload_of (beat.D y ∷ unfinished channel.D e.past))
+    (payload_of (Beat.D y ∷ unfinished Channel.D e.past))
 
 abbrev pub acked : {w : ℕ} → OpD → ℕ → Option (Message w)
 acked opcode sink = if is_grant opcode then Some (grant_ack sink) else None
 
 ended_answer : {w : ℕ} (o : OpD) (y : BeatD w) (f : Finish) (e : Endpoint w)
-    → (ended o y f e).answer ≡ Ok (verdict.Done y.source f, acked o y.sink)
-ended_answer d.AccessAck y f e = refl
-ended_answer d.AccessAckData y f e = refl
-ended_answer d.HintAck y f e = refl
-ended_answer d.Grant y f e = refl
-ended_answer d.GrantData y f e = refl
-ended_answer d.ReleaseAck y f e = refl
+    → (ended o y f e).answer ≡ Ok (Verdict.Done y.source f, acked o y.sink)
+ended_answer OpD.AccessAck y f e = refl
+ended_answer o y f e = refl
 
-pub answer-last : {w : ℕ} (y : BeatD w) (e : Endpoint w) → ends (beat.D y) e.past ≡ true
-    → (taken (beat.D y) e).answer ≡ Ok (verdict.Done y.source (finish_at y e), acked y.opcode y.sink)
-answer-last {w} y e last =
-    ap (λ (b : Bool). (cond b
-    (responded y (request_of y.source e.past) (payload_of (beat.D y ∷ unfinished channel.D e.past)) e)
-    (silent verdict.Taken (with_past (beat.D y ∷ e.past) e))).answer) last
-    ∙ ended_answer y.opcode y (finish_at y e) _
+pub answer-last : {w : ℕ} (y : BeatD w) (e : Endpoint w) → ends (Beat.D y) e.past ≡ true
+    → (taken (Beat.D y) e).answer ≡ Ok (Verdict.Done y.source (finish_at y e), acked y.opcode y.sink)
+answer-last {w} y e last = cc (last, ended_answer y.opcode y (finish_at y e) _)
 
-pub answer-part : {w : ℕ} (y : BeatD w) (e : Endpoint w) → ends (beat.D y) e.past ≡ false
-    → (taken (beat.D y) e).answer ≡ Ok (verdict.Taken, None)
-answer-part {w} y e part =
-    ap (λ (b : Bool). (cond b
-    (responded y (request_of y.source e.past) (payload_of (beat.D y ∷ unfinished channel.D e.past)) e)
-    (silent verdict.Taken (with_past (beat.D y ∷ e.past) e))).answer) part
+pub answer-part : {w : ℕ} (y : BeatD w) (e : Endpoint w) → ends (Beat.D y) e.past ≡ false
+    → (taken (Beat.D y) e).answer ≡ Ok (Verdict.Taken, None)
+answer-part {w} y e part = cc part
 
 abbrev made : {w : ℕ} → Verdict × Option (Message w) → Result (Verdict × Option (Message w)) Rule
 made p = Ok p
@@ -59,9 +44,5 @@ same_answers {w} v u m n a e f = let same = made_same (v, m) (u, n) (sym e ∙ f
 -- a response to an access or an Acquire ends a request, and a ReleaseAck a Release
 pub finish-pool : (w : ℕ) (o : OpD) (param size address : ℕ) (payload : List ℕ)
     → pool_of (finish_of w o param size address payload) ≡ (if is_release_ack o then Releases else Requests)
-finish-pool w d.AccessAck param size address payload = refl
-finish-pool w d.AccessAckData param size address payload = refl
-finish-pool w d.HintAck param size address payload = refl
-finish-pool w d.Grant param size address payload = refl
-finish-pool w d.GrantData param size address payload = refl
-finish-pool w d.ReleaseAck param size address payload = refl
+finish-pool w OpD.AccessAck param size address payload = refl
+finish-pool w o param size address payload = refl

@@ -6,33 +6,25 @@ use Rattle.tl_coherence.proofs.client.Imports.{illegal, EndConfig, Endpoint, cop
 use Rattle.tl_coherence.proofs.client.Imports.{silent, offered, waits, taken, probed, same_block, ClientBlock}
 use Rattle.tl_coherence.proofs.client.Imports.{is_unreleased, after_probe, Packet, State, Block, probed_block}
 use Rattle.tl_coherence.proofs.client.Imports.{probe_taken, is_wanting, probe_beat, ClientRelation, OpenSourceRelation}
-use Rattle.tl_coherence.proofs.client.Imports.{pending-whole, release_of-whole}
+use Rattle.tl_coherence.proofs.client.Imports.{pending-whole, release_of-whole, Message}
 use Rattle.std.proofs.Common.{◌≡◌, ℕ, Bool, true, false, not, cond, List, [], ◌∷◌, Option, None, refl, sym, ◌∙◌, ap}
 use Rattle.std.proofs.Common.{◌⊎◌, inl, inr}
 use Rattle.std.specs.Prelude.{◌==◌, if◌then◌else◌, nat_le, option_map}
 use Rattle.std.proofs.lemmas.Bool.{cases_eq, ne_eqb}
-use Rattle.tl_beat.specs.declared.beat.Beat.TheVariants as beat
-use Rattle.tl_beat.specs.declared.beat.BeatB.{BeatB}
-use Rattle.tl_beat.specs.declared.channel.Channel.TheVariants as channel
-use Rattle.tl_beat.specs.declared.opcode.OpB.TheVariants as b
-use Rattle.tl_beat.specs.declared.opcode.OpC.TheVariants as c
-use Rattle.tl_burst.specs.declared.message.Message.TheVariants as message
+use Rattle.tl_beat.{specs.declared.beat.BeatB.BeatB, specs.declared.channel.Channel.Channel}
+use Rattle.tl_beat.{specs.declared.opcode.OpB.OpB, specs.declared.opcode.OpC.OpC}
 use Rattle.tl_params.specs.declared.key.Key.{Key}
-use Rattle.tl_params.specs.declared.key.Key.TheVariants as key
-use Rattle.tl_params.specs.declared.perm.Perm.TheVariants as perm
 use Rattle.tl_params.specs.statement.Param.{report_at, report_code, report_right}
 use Rattle.tl_rules.specs.statement.Conformance.{broken_order}
 use Rattle.tl_rules.specs.statement.History.{opens, closes, is_probe_ack}
 use Rattle.tl_rules.proofs.Sent.{unfinished-sent_other, pending-quiet, held_unsaid}
-use Rattle.tl_client.specs.statement.Endpoint.{zeros}
+use Rattle.tl_client.{specs.statement.Endpoint.zeros, specs.declared.verdict.Verdict.Verdict}
+use Rattle.tl_client.{specs.statement.Send.about, specs.statement.Send.probe_ack, proofs.pending.Opens.open_beat-b}
+use Rattle.tl_client.{proofs.pending.Opens.open_beat-c, proofs.messages.Bytes.burst_b}
 use Rattle.tl_client.specs.statement.Offer.{broken_before, broken_later, judged, judged_later, report_for}
-use Rattle.tl_client.specs.declared.verdict.Verdict.TheVariants as verdict
-use Rattle.tl_client.specs.statement.Send.{about, probe_ack}
 use Rattle.tl_client.proofs.endpoint.HeldAfter.{held-probe_ack, kept_past, still_whole}
-use Rattle.tl_client.proofs.pending.Opens.{open_beat-b, open_beat-c}
 use Rattle.tl_coherence.proofs.queues.Tokens.{same_number, set-same, set-other}
 use Rattle.tl_coherence.proofs.queues.Codes.{cap-again}
-use Rattle.tl_client.proofs.messages.Bytes.{burst_b}
 
 -- ---- the Probe
 
@@ -41,55 +33,49 @@ report_is w n k p = rw (cap-again k) refl
 
 -- ---- the answer isn't a refusal or a stall
 
-pub in_order : {w : ℕ} (profile : Profile) (n : ℕ) (k : Cap) (t : History w) → unfinished channel.B t ≡ []
-    → pending (key.ProbeOf n) t ≡ false → pending (key.GrantAckOf n) t ≡ false
-    → broken_in_order profile (beat.B (probe_beat n k)) t ≡ None
+pub in_order : {w : ℕ} (profile : Profile) (n : ℕ) (k : Cap) (t : History w) → unfinished Channel.B t ≡ []
+    → pending (Key.ProbeOf n) t ≡ false → pending (Key.GrantAckOf n) t ≡ false
+    → broken_in_order profile (Beat.B (probe_beat n k)) t ≡ None
 unfolding broken_order
 in_order profile n k t none unprobed ungranted = rw (none, same_block n, unprobed, ungranted) refl
 
 before-none : {w : ℕ} (terms : EndConfig) (x : BeatB w) (e : Endpoint w) → e.closed ≡ false
-    → illegal terms.level channel.B (beat.B x) ≡ None → broken_before terms channel.B (beat.B x) e ≡ None
+    → illegal terms.level Channel.B (Beat.B x) ≡ None → broken_before terms Channel.B (Beat.B x) e ≡ None
 before-none terms x e live lawful = rw (live, lawful) refl
 
 later-none : {w : ℕ} (terms : EndConfig) (n : ℕ) (k : Cap) (e : Endpoint w)
-    → broken_in_order terms.profile (beat.B (probe_beat n k)) e.past ≡ None → nat_le terms.blocks n ≡ false
-    → broken_later terms (beat.B (probe_beat n k)) e ≡ None
+    → broken_in_order terms.profile (Beat.B (probe_beat n k)) e.past ≡ None → nat_le terms.blocks n ≡ false
+    → broken_later terms (Beat.B (probe_beat n k)) e ≡ None
 later-none {w} terms n k e order inside =
-    let outside : is_outside terms.blocks (beat.B (probe_beat {w = w} n k)) ≡ false = rw (same_block n) inside in
+    let outside : is_outside terms.blocks (Beat.B (probe_beat {w = w} n k)) ≡ false = rw (same_block n) inside in
     rw (order, outside) refl
 
-waits-not : {w : ℕ} (n : ℕ) (k : Cap) (t : History w) → pending (key.ReleaseOf n) t ≡ false
-    → waits (beat.B (probe_beat n k)) t ≡ false
+waits-not : {w : ℕ} (n : ℕ) (k : Cap) (t : History w) → pending (Key.ReleaseOf n) t ≡ false
+    → waits (Beat.B (probe_beat n k)) t ≡ false
 waits-not n k t released = rw (same_block n, released) refl
 
 -- a Probe of a block of the map that breaks no L rule is taken, where the client holds no more of its block on its way
 pub probe-taken : {w : ℕ} (terms : EndConfig) (n : ℕ) (k : Cap) (e : Endpoint w) → e.closed ≡ false
-    → illegal {w = w} terms.level channel.B (beat.B (probe_beat n k)) ≡ None
-    → nat_le terms.blocks n ≡ false → unfinished channel.B e.past ≡ []
-    → pending (key.ReleaseOf n) e.past ≡ false → pending (key.ProbeOf n) e.past ≡ false
-    → pending (key.GrantAckOf n) e.past ≡ false
-    → offered terms channel.B (beat.B (probe_beat n k)) e ≡ probed (probe_beat n k) n (held_at e n) e
+    → illegal {w = w} terms.level Channel.B (Beat.B (probe_beat n k)) ≡ None → nat_le terms.blocks n ≡ false
+    → unfinished Channel.B e.past ≡ [] → pending (Key.ReleaseOf n) e.past ≡ false → pending (Key.ProbeOf n) e.past
+    ≡ false → pending (Key.GrantAckOf n) e.past ≡ false → offered terms Channel.B (Beat.B (probe_beat n k)) e
+    ≡ probed (probe_beat n k) n (held_at e n) e
 unfolding offered
 probe-taken {w} terms n k e live lawful inside none released unprobed ungranted =
-    let x : Beat w = beat.B (probe_beat n k) in
-    judged_none (broken_before terms channel.B x e) terms x e (before-none terms (probe_beat n k) e live lawful)
+    let judged_none : (o : Option Rule) (terms : EndConfig) (x : Beat w) (e : Endpoint w) → o ≡ None
+    → judged o terms x e ≡ (if waits x e.past then silent Verdict.Stalled e else judged_later
+    (broken_later terms x e) x e) = λ o terms x e f. rw f refl in
+    let unstalled : (stalled : Bool) (terms : EndConfig) (x : Beat w) (e : Endpoint w) → stalled ≡ false
+    → (if stalled then silent Verdict.Stalled e else judged_later (broken_later terms x e) x e)
+    ≡ judged_later (broken_later terms x e) x e = λ stalled terms x e f. rw f refl in
+    let later : (o : Option Rule) (x : Beat w) (e : Endpoint w) → o ≡ None → judged_later o x e ≡ taken x e =
+    λ o x e f. rw f refl in
+    let x : Beat w = Beat.B (probe_beat n k) in
+    judged_none (broken_before terms Channel.B x e) terms x e (before-none terms (probe_beat n k) e live lawful)
     ∙ unstalled (waits x e.past) terms x e (waits-not n k e.past released)
     ∙ later (broken_later terms x e) x e
     (later-none terms n k e (in_order terms.profile n k e.past none unprobed ungranted) inside)
     ∙ ap (λ (i : ℕ). probed (probe_beat n k) i (held_at e i) e) (same_block n)
-  where
-    judged_none : (o : Option Rule) (terms : EndConfig) (x : Beat w) (e : Endpoint w) → o ≡ None
-        → judged o terms x e ≡ (if waits x e.past then silent verdict.Stalled e else judged_later
-        (broken_later terms x e) x e)
-    judged_none o terms x e f = rw f refl
-
-    unstalled : (stalled : Bool) (terms : EndConfig) (x : Beat w) (e : Endpoint w) → stalled ≡ false
-        → (if stalled then silent verdict.Stalled e else judged_later (broken_later terms x e) x e) ≡ judged_later
-        (broken_later terms x e) x e
-    unstalled stalled terms x e f = rw f refl
-
-    later : (o : Option Rule) (x : Beat w) (e : Endpoint w) → o ≡ None → judged_later o x e ≡ taken x e
-    later o x e f = rw f refl
 
 -- ---- the ProbeAck
 
@@ -99,95 +85,71 @@ pub record IsProbeAck {w : ℕ} (n : ℕ) (m : MessageC w) : Type 0 where
   pub of_block : block_at m.address ≡ n
 
 ack_of : {w : ℕ} (p : Perm) (r : Report) (n : ℕ) (copy : List ℕ)
-    → (m : MessageC w) × (probe_ack b.ProbeBlock p r n copy ≡ message.C m) × IsProbeAck n m
-ack_of perm.Trunk r n copy = (
-  about c.ProbeAckData (report_code r) 0 n copy,
+    → (m : MessageC w) × (probe_ack OpB.ProbeBlock p r n copy ≡ Message.C m) × IsProbeAck n m
+ack_of Perm.Trunk r n copy = (
+  about OpC.ProbeAckData (report_code r) 0 n copy,
   refl,
   record {
     acks = refl;
     releases_none = refl;
-    of_block =
-        same_block n;
+    of_block = same_block n;
   },
 )
-ack_of perm.Branch r n copy = (
-  about c.ProbeAck (report_code r) 0 n zeros,
+ack_of p r n copy = (
+  about OpC.ProbeAck (report_code r) 0 n zeros,
   refl,
   record {
     acks = refl;
     releases_none = refl;
-    of_block =
-        same_block n;
-  },
-)
-ack_of perm.None r n copy = (
-  about c.ProbeAck (report_code r) 0 n zeros,
-  refl,
-  record {
-    acks = refl;
-    releases_none = refl;
-    of_block =
-        same_block n;
+    of_block = same_block n;
   },
 )
 
 -- what is pending after it, but for the Probe
 abbrev IsProbeKey : Key → Bool
-IsProbeKey (key.ProbeOf n) = true
+IsProbeKey (Key.ProbeOf n) = true
 IsProbeKey _ = false
 
-probe_opens : {w : ℕ} (j : Key) (x : BeatB w) (t : History w) → IsProbeKey j ≡ false → (opens j (beat.B x) t ≡ false)
-    × (closes j (beat.B x) t ≡ false)
-probe_opens (key.RequestSource s) x t e = (refl, refl)
-probe_opens (key.ReleaseSource s) x t e = (refl, refl)
-probe_opens (key.AcquireOf n) x t e = (refl, refl)
-probe_opens (key.ReleaseOf n) x t e = (refl, refl)
-probe_opens (key.GrantSink s) x t e = (refl, refl)
-probe_opens (key.GrantAckOf n) x t e = (refl, refl)
-probe_opens (key.ProbeOf n) x t e = absurd cc
+probe_opens : {w : ℕ} (j : Key) (x : BeatB w) (t : History w) → IsProbeKey j ≡ false → (opens j (Beat.B x) t ≡ false)
+    × (closes j (Beat.B x) t ≡ false)
+probe_opens (Key.ProbeOf n) x t e = absurd cc
+probe_opens j x t e = (refl, refl)
 
-ack_opens : {w : ℕ} (j : Key) (n : ℕ) (m : MessageC w) (t : History w) → IsProbeAck n m → IsProbeKey j ≡ false
-    → (opens j (beat_of (message.C m) 0) t ≡ false) × (closes j (beat_of (message.C m) 0) t ≡ false)
-ack_opens (key.RequestSource s) n m t is e = (refl, refl)
-ack_opens (key.ReleaseSource s) n m t is e = (rw is.releases_none refl, refl)
-ack_opens (key.AcquireOf i) n m t is e = (refl, refl)
-ack_opens (key.ReleaseOf i) n m t is e = (rw is.releases_none refl, refl)
-ack_opens (key.GrantSink s) n m t is e = (refl, refl)
-ack_opens (key.GrantAckOf i) n m t is e = (refl, refl)
-ack_opens (key.ProbeOf i) n m t is e = absurd cc
+ack_opens : {w : ℕ} (j : Key) {n : ℕ} {m : MessageC w} (t : History w) → IsProbeAck n m → IsProbeKey j ≡ false
+    → (opens j (beat_of (Message.C m) 0) t ≡ false) × (closes j (beat_of (Message.C m) 0) t ≡ false)
+ack_opens (Key.ReleaseSource s) t is e = (rw is.releases_none refl, refl)
+ack_opens (Key.ReleaseOf i) t is e = (rw is.releases_none refl, refl)
+ack_opens (Key.ProbeOf i) t is e = absurd cc
+ack_opens j t is e = (refl, refl)
 
 -- the history after a Probe and its answer
 abbrev after : {w : ℕ} → BeatB w → MessageC w → History w → History w
-after x m t = sent (message.C m) (beat.B x ∷ t)
+after x m t = sent (Message.C m) (Beat.B x ∷ t)
 
-same_pending : {w : ℕ} (j : Key) (n : ℕ) (x : BeatB w) (m : MessageC w) (t : History w) → IsWidth w → IsProbeAck n m
-    → unfinished channel.C t ≡ [] → IsProbeKey j ≡ false
-    → pending j (after x m t) ≡ pending j t
-same_pending j n x m t width is none e =
-    let o = ack_opens j n m (beat.B x ∷ t) is e in
+same_pending : {w : ℕ} (j : Key) {n : ℕ} (x : BeatB w) {m : MessageC w} (t : History w) → IsWidth w → IsProbeAck n m
+    → unfinished Channel.C t ≡ [] → IsProbeKey j ≡ false → pending j (after x m t) ≡ pending j t
+same_pending j {n} x {m} t width is none e =
+    let o = ack_opens j (Beat.B x ∷ t) is e in
     let p = probe_opens j x t e in
-    pending-whole j (message.C m) (beat.B x ∷ t) (still_whole x t ∙ none) (beats-positive (message.C m) width) ∙ rw
-    (o.0, o.1) (pending-quiet j (beat.B x) t p.0 p.1)
+    pending-whole j (Message.C m) (Beat.B x ∷ t) (still_whole x t ∙ none) (beats-positive (Message.C m) width) ∙ rw
+    (o.0, o.1) (pending-quiet j (Beat.B x) t p.0 p.1)
 
 -- no Probe is pending, as this one is answered
 other_probe : {w : ℕ} (i n : ℕ) (k : Cap) (t : History w) → (n == i) ≡ false
-    → pending (key.ProbeOf i) (beat.B (probe_beat n k) ∷ t) ≡ pending (key.ProbeOf i) t
+    → pending (Key.ProbeOf i) (Beat.B (probe_beat n k) ∷ t) ≡ pending (Key.ProbeOf i) t
 other_probe {w} i n k t e =
-    let none : opens (key.ProbeOf i) (beat.B (probe_beat {w = w} n k)) t ≡ false = rw (same_block n, e) refl in
-    pending-quiet (key.ProbeOf i) (beat.B (probe_beat n k)) t none refl
+    let none : opens (Key.ProbeOf i) (Beat.B (probe_beat {w = w} n k)) t ≡ false = rw (same_block n, e) refl in
+    pending-quiet (Key.ProbeOf i) (Beat.B (probe_beat n k)) t none refl
 
-no_probe : {w : ℕ} (i n : ℕ) (k : Cap) (m : MessageC w) (t : History w) → IsWidth w → IsProbeAck n m
-    → unfinished channel.C t ≡ [] → pending (key.ProbeOf i) t ≡ false
-    → pending (key.ProbeOf i) (after (probe_beat n k) m t) ≡ false
-no_probe {w} i n k m t width is none before =
-    pending-whole (key.ProbeOf i) (message.C m) (beat.B (probe_beat n k) ∷ t) (still_whole (probe_beat n k) t ∙ none)
-    (beats-positive (message.C m) width)
-    ∙ rw (is.acks, is.of_block) (go (n == i) refl)
-  where
-    go : (same : Bool) → (n == i) ≡ same
-        → (if same then false else pending (key.ProbeOf i) (beat.B (probe_beat n k) ∷ t)) ≡ false
-    go true e = refl
-    go false e = other_probe i n k t e ∙ before
+no_probe : {w : ℕ} (i : ℕ) {n : ℕ} (k : Cap) {m : MessageC w} (t : History w) → IsWidth w → IsProbeAck n m
+    → unfinished Channel.C t ≡ [] → pending (Key.ProbeOf i) t ≡ false
+    → pending (Key.ProbeOf i) (after (probe_beat n k) m t) ≡ false
+no_probe {w} i {n} k {m} t width is none before =
+    let go : (same : Bool) → (n == i) ≡ same
+    → (if same then false else pending (Key.ProbeOf i) (Beat.B (probe_beat n k) ∷ t)) ≡ false =
+    elim [ true ↦ λ e. refl | false ↦ λ e. other_probe i n k t e ∙ before ] in
+    pending-whole (Key.ProbeOf i) (Message.C m) (Beat.B (probe_beat n k) ∷ t) (still_whole (probe_beat n k) t ∙ none)
+    (beats-positive (Message.C m) width) ∙ rw (is.acks, is.of_block) (go (n == i) refl)
 
 -- ---- what is known
 
@@ -205,34 +167,33 @@ same_part part c n k rest s e i = elim (cases_eq i n) [
   | inr other ↦ rw (set-other n i (probed_block c k (s.block n)) s.block other) refl
 ]
 
-pub known-probed : {w : ℕ} {X : Type 0} (asked : ℕ → Option (BeatA w)) (burst : List (Beat w)) (c n : ℕ) (k : Cap)
-    (rest : List Packet) (s : State X) (e : Endpoint w) → IsWidth w
-    → unfinished channel.C e.past ≡ []
+pub known-probed : {w : ℕ} {X : Type 0} {asked : ℕ → Option (BeatA w)} {burst : List (Beat w)} {c : ℕ} (n : ℕ) (k : Cap)
+    (rest : List Packet) {s : State X} (e : Endpoint w) → IsWidth w → unfinished Channel.C e.past ≡ []
     → ClientRelation asked burst c s e.past → ClientRelation asked burst c (probe_taken c n k rest s)
     (probed (probe_beat n k) n (held_at e n) e).after.past
-known-probed {w} {X} asked burst c n k rest s e width none known =
+known-probed {w} {X} {c} n k rest {s} e width none known =
     let p : Perm = held_at e n in
     let x : BeatB w = probe_beat n k in
     let r : Report = report_for x p in
     let a = ack_of {w = w} p r n (copy_at e n) in
     let t : History w = e.past in
     let past : (probed x n p e).after.past ≡ after x a.0 t =
-    kept_past n (report_right r) (sending (probe_ack b.ProbeBlock p r n (copy_at e n)) (with_past (beat.B x ∷ t) e))
-    ∙ ap (λ m. sent m (beat.B x ∷ t)) a.1 in
-    let same = λ (j : Key) (f : IsProbeKey j ≡ false). same_pending j n x a.0 t width a.2 none f in
+    kept_past n (report_right r) (sending (probe_ack OpB.ProbeBlock p r n (copy_at e n)) (with_past (Beat.B x ∷ t) e))
+    ∙ ap (λ m. sent m (Beat.B x ∷ t)) a.1 in
+    let same = λ (j : Key) (f : IsProbeKey j ≡ false). same_pending j x t width a.2 none f in
     rw past (record {
-      held_is = λ i. ap (λ m. held i (sent m (beat.B x ∷ t))) (sym a.1) ∙ held-probe_ack i b.ProbeBlock p r n
-          (copy_at e n) (beat.B x ∷ t) width (still_whole x t ∙ none) ∙ held_now i (cases_eq i n);
-      acquires = λ i. same (key.AcquireOf i) refl ∙ known.acquires i ∙ sym
+      held_is = λ i. ap (λ m. held i (sent m (Beat.B x ∷ t))) (sym a.1) ∙ held-probe_ack i OpB.ProbeBlock p r n
+          (copy_at e n) (Beat.B x ∷ t) width (still_whole x t ∙ none) ∙ held_now i (cases_eq i n);
+      acquires = λ i. same (Key.AcquireOf i) refl ∙ known.acquires i ∙ sym
           (same_part (λ q. is_wanting q.acquiring) c n k rest s refl i);
-      releases = λ i. same (key.ReleaseOf i) refl ∙ known.releases i ∙ sym
+      releases = λ i. same (Key.ReleaseOf i) refl ∙ known.releases i ∙ sym
           (same_part (λ q. not (is_unreleased q.letting)) c n k rest s refl i);
-      probes = λ i. no_probe i n k a.0 t width a.2 none (known.probes i);
-      opens = λ source. open_beat-c source a.0 (beat.B x ∷ t) width (still_whole x t ∙ none) ∙ open_beat-b source x
+      probes = λ i. no_probe i k t width a.2 none (known.probes i);
+      opens = λ source. open_beat-c source a.0 (Beat.B x ∷ t) width (still_whole x t ∙ none) ∙ open_beat-b source x
           t ∙ known.opens source;
-      rest_is = unfinished-sent_other channel.D (message.C a.0) (beat.B x ∷ t) refl ∙ burst_b x t ∙ known.rest_is;
-      sinks = λ sink. same (key.GrantSink sink) refl ∙ known.sinks sink;
-      grants = λ i. same (key.GrantAckOf i) refl ∙ known.grants i;
+      rest_is = unfinished-sent_other Channel.D (Message.C a.0) (Beat.B x ∷ t) refl ∙ burst_b x t ∙ known.rest_is;
+      sinks = λ sink. same (Key.GrantSink sink) refl ∙ known.sinks sink;
+      grants = λ i. same (Key.GrantAckOf i) refl ∙ known.grants i;
     })
   where
     now_here : (((probe_taken c n k rest s).block n).pair c).held ≡ report_right (report_at k ((s.block n).pair c).held)
@@ -241,48 +202,42 @@ known-probed {w} {X} asked burst c n k rest s e width none known =
 
     told : report_right (report_for (probe_beat {w = w} n k) (held_at e n)) ≡ report_right
         (report_at k ((s.block n).pair c).held)
-    told = ap report_right (report_is w n k (held_at e n)) ∙ ap (λ (q : Perm). report_right (report_at k q))
-        (known.held_is n)
+    told = cc (report_is w n k (held_at e n), known.held_is n)
 
     held_now : (i : ℕ) → (i ≡ n) ⊎ (i ≡ n → ⊥)
         → cond (i == n) (report_right (report_for (probe_beat {w = w} n k) (held_at e n)))
-        (held i (beat.B (probe_beat n k) ∷ e.past)) ≡ (((probe_taken c n k rest s).block i).pair c).held
+        (held i (Beat.B (probe_beat n k) ∷ e.past)) ≡ (((probe_taken c n k rest s).block i).pair c).held
     held_now i (inl same) =
         rw same (ap (λ (z : Bool). cond z (report_right (report_for (probe_beat {w = w} n k) (held_at e n)))
-        (held n (beat.B (probe_beat n k) ∷ e.past))) (same_number n) ∙ told ∙ sym now_here)
+        (held n (Beat.B (probe_beat n k) ∷ e.past))) (same_number n) ∙ told ∙ sym now_here)
     held_now i (inr other) =
-        rw (ne_eqb i n other) (held_unsaid i (beat.B (probe_beat n k)) e.past refl ∙ known.held_is i)
+        rw (ne_eqb i n other) (held_unsaid i (Beat.B (probe_beat n k)) e.past refl ∙ known.held_is i)
 
 -- ---- sources
 
 same_release : {w : ℕ} (source : ℕ) (x : BeatB w) (m : MessageC w) (t : History w) → IsWidth w
-    → is_release m.opcode ≡ false → unfinished channel.C t ≡ []
-    → release_of source (after x m t) ≡ release_of source t
+    → is_release m.opcode ≡ false → unfinished Channel.C t ≡ [] → release_of source (after x m t) ≡ release_of source t
 unfolding release_of
-same_release source x m t width off none = release_of-whole source (message.C m) (beat.B x ∷ t) (still_whole x t ∙ none)
-    (beats-positive (message.C m) width) ∙ rw off refl
+same_release source x m t width off none = release_of-whole source (Message.C m) (Beat.B x ∷ t) (still_whole x t ∙ none)
+    (beats-positive (Message.C m) width) ∙ rw off refl
 
 -- no source is opened or closed
-pub opened-probed : {w : ℕ} {X : Type 0} (asked : ℕ → Option (BeatA w)) (c n : ℕ) (k : Cap) (rest : List Packet)
-    (s : State X) (e : Endpoint w) → IsWidth w → unfinished channel.C e.past ≡ []
-    → OpenSourceRelation asked c s e.past → OpenSourceRelation asked c (probe_taken c n k rest s)
-    (probed (probe_beat n k) n (held_at e n) e).after.past
-opened-probed {w} asked c n k rest s e width none open_ =
+pub opened-probed : {w : ℕ} {X : Type 0} {asked : ℕ → Option (BeatA w)} {c : ℕ} (n : ℕ) (k : Cap) (rest : List Packet)
+    {s : State X} (e : Endpoint w) → IsWidth w → unfinished Channel.C e.past ≡ [] → OpenSourceRelation asked c s e.past
+    → OpenSourceRelation asked c (probe_taken c n k rest s) (probed (probe_beat n k) n (held_at e n) e).after.past
+opened-probed {w} n k rest e width none open_ =
     let p : Perm = held_at e n in
     let x : BeatB w = probe_beat n k in
     let r : Report = report_for x p in
     let a = ack_of {w = w} p r n (copy_at e n) in
     let t : History w = e.past in
     let past : (probed x n p e).after.past ≡ after x a.0 t =
-    kept_past n (report_right r) (sending (probe_ack b.ProbeBlock p r n (copy_at e n)) (with_past (beat.B x ∷ t) e))
-    ∙ ap (λ m. sent m (beat.B x ∷ t)) a.1 in
+    kept_past n (report_right r) (sending (probe_ack OpB.ProbeBlock p r n (copy_at e n)) (with_past (Beat.B x ∷ t) e))
+    ∙ ap (λ m. sent m (Beat.B x ∷ t)) a.1 in
     rw past (record {
-      requests = λ source. same_pending (key.RequestSource source) n x a.0 t width a.2 none refl ∙ open_.requests
-          source;
-      releases = λ source. same_pending (key.ReleaseSource source) n x a.0 t width a.2 none refl ∙ open_.releases
-          source;
+      requests = λ source. same_pending (Key.RequestSource source) x t width a.2 none refl ∙ open_.requests source;
+      releases = λ source. same_pending (Key.ReleaseSource source) x t width a.2 none refl ∙ open_.releases source;
       released = λ source i some. ap (option_map (λ y. block_at y.address))
           (same_release source x a.0 t width a.2.releases_none none) ∙ open_.released source i some;
-      sizes = λ source i some. ap (option_map (λ y. y.size)) (same_release source x a.0 t width a.2.releases_none none)
-          ∙ open_.sizes source i some;
+      sizes = λ source i some. cc (same_release source x a.0 t width a.2.releases_none none, open_.sizes source i some);
     })

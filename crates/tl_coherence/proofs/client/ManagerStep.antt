@@ -1,37 +1,27 @@
 -- The clients' ends after one of them is asked, and after the manager takes a beat.
-use Rattle.tl_coherence.proofs.client.Imports.{IsWidth, Beat, MessageA, unfinished}
-use Rattle.tl_coherence.proofs.client.Imports.{Config, Op, EndConfig, Endpoint}
-use Rattle.tl_coherence.proofs.client.Imports.{AbstractState, asked, packet_taken, IsInvariant, Log}
-use Rattle.tl_coherence.proofs.client.Imports.{State, on, is_on, AccessMessages, System}
-use Rattle.tl_coherence.proofs.client.Imports.{Kind, Request, Acquire, Probe, ProbeAck, Release, Answer}
-use Rattle.tl_coherence.proofs.client.Imports.{Grant, ReleaseAck, GrantAck, Packet, SimulationRelation, is_caching}
-use Rattle.std.proofs.Common.{◌≡◌, subst, ℕ, Bool, true, false, cond, List, ◌∷◌, refl}
-use Rattle.std.proofs.Common.{sym, ◌∙◌, ap, inl, inr}
-use Rattle.std.specs.Prelude.{◌==◌, if◌then◌else◌}
-use Rattle.std.proofs.lemmas.Bool.{cases_eq, ne_eqb}
-use Rattle.tl_beat.specs.declared.beat.Link.{Link}
-use Rattle.tl_beat.specs.declared.channel.Channel.{Channel}
-use Rattle.tl_beat.specs.declared.channel.Channel.TheVariants as channel
+use Rattle.tl_coherence.proofs.client.Imports.{IsWidth, Beat, MessageA, unfinished, Config, Op, EndConfig, Endpoint}
+use Rattle.tl_coherence.proofs.client.Imports.{AbstractState, asked, packet_taken, IsInvariant, Log, State, on, is_on}
+use Rattle.tl_coherence.proofs.client.Imports.{AccessMessages, System, Kind, Request, Acquire, Probe, ProbeAck, Release}
+use Rattle.tl_coherence.proofs.client.Imports.{Answer, Grant, ReleaseAck, GrantAck, Packet, SimulationRelation}
+use Rattle.tl_coherence.proofs.client.Imports.{is_caching}
+use Rattle.std.proofs.Common.{◌≡◌, subst, ℕ, Bool, true, false, cond, List, ◌∷◌, refl, sym, ◌∙◌, ap, inl, inr}
+use Rattle.std.{specs.Prelude.◌==◌, specs.Prelude.if◌then◌else◌, proofs.lemmas.Bool.cases_eq, proofs.lemmas.Bool.ne_eqb}
+use Rattle.tl_beat.{specs.declared.beat.Link.Link, specs.declared.channel.Channel.Channel}
 use Rattle.tl_client.specs.statement.Ask as ask
 use Rattle.tl_manager.specs.statement.Service.{services, least_untaken, trackers_of}
 use Rattle.tl_manager.specs.statement.End as manager_end
 use Rattle.tl_manager.specs.statement.Offer as manager
-use Rattle.tl_coherence.specs.declared.event.Event.{Event}
+use Rattle.tl_coherence.specs.{declared.event.Event.Event, statement.Delivery.receiver, protocol.Protocol.packets_on}
 use Rattle.tl_coherence.specs.declared.event.Event.TheVariants.{Ask, Deliver}
 use Rattle.tl_coherence.specs.refinement.AbstractStep.{abstract_step_by, is_last}
-use Rattle.tl_coherence.specs.statement.Delivery.{receiver}
 use Rattle.tl_coherence.specs.protocol.Protocol as world
-use Rattle.tl_coherence.specs.protocol.Protocol.{packets_on}
-use Rattle.tl_coherence.specs.statement.Step.{Step, replied, handed_by}
-use Rattle.tl_coherence.specs.statement.Step.{manager_took, is_to_client}
+use Rattle.tl_coherence.specs.statement.Step.{Step, replied, handed_by, manager_took, is_to_client}
 use Rattle.tl_coherence.specs.statement.System.{with_client, with_channel, with_manager, with_messages}
 use Rattle.tl_coherence.proofs.client.AsideAll.{Leaves, leaves-none, leaves-asked, is_for_manager, leaves-at_manager}
-use Rattle.tl_coherence.proofs.client.ClientAsked.{IsEndOf, end-asked}
-use Rattle.tl_coherence.proofs.client.ClientDelivered.{shadow_of}
-use Rattle.tl_coherence.proofs.client.ClientEnd.{end-matched, end-aside}
-use Rattle.tl_coherence.proofs.queues.FirstToken.{IsFirst, first-token}
-use Rattle.tl_coherence.proofs.queues.Steps.{clients-with_messages}
-use Rattle.tl_coherence.proofs.queues.Tokens.{same_number}
+use Rattle.tl_coherence.proofs.{client.ClientAsked.IsEndOf, client.ClientAsked.end-asked}
+use Rattle.tl_coherence.proofs.{client.ClientDelivered.shadow_of, client.ClientEnd.end-matched}
+use Rattle.tl_coherence.proofs.{client.ClientEnd.end-aside, queues.FirstToken.IsFirst, queues.FirstToken.first-token}
+use Rattle.tl_coherence.proofs.{queues.Steps.clients-with_messages, queues.Tokens.same_number}
 
 -- all ends are those of the protocol after this step
 abbrev pub AreEnds : {w : ℕ} → Config → Event w → System w → AbstractState w → ℕ → Step w → Type 0
@@ -40,174 +30,95 @@ AreEnds config event sys h c step = IsEndOf c (abstract_step_by config event ste
 -- an end that is left alone
 pub left_alone : {w : ℕ} (c : ℕ) (h h' : AbstractState w) (e f : Endpoint w) → Leaves c h h' → f ≡ e → IsEndOf c h e
     → IsEndOf c h' f
-left_alone {w} c h h' e f leaves same end = subst (λ (x : Endpoint w). IsEndOf c h' x) (sym same)
-    (end-aside c h.mail h'.mail h.state h'.state e leaves end)
+left_alone {w} c h h' e f leaves same end = subst (λ (x : Endpoint w). IsEndOf c h' x) (sym same) (end-aside leaves end)
 
 -- ---- a client is asked
 
 pub own_client : {w : ℕ} (c : ℕ) (e : Endpoint w) (s : System w) → (with_client c e s).clients c ≡ e
-own_client {w} c e s = here (c == c) (same_number c)
-  where
-    here : (b : Bool) → b ≡ true → cond b e (s.clients c) ≡ e
-    here b f = rw f refl
+own_client {w} c e s =
+    let here : (b : Bool) → b ≡ true → cond b e (s.clients c) ≡ e = λ b f. rw f refl in
+    here (c == c) (same_number c)
 
 pub other_client : {w : ℕ} (k c : ℕ) (e : Endpoint w) (s : System w) → (k ≡ c → ⊥)
     → (with_client c e s).clients k ≡ s.clients k
-other_client {w} k c e s ne = there (k == c) (ne_eqb k c ne)
-  where
-    there : (b : Bool) → b ≡ false → cond b e (s.clients k) ≡ s.clients k
-    there b f = rw f refl
+other_client {w} k c e s ne =
+    let there : (b : Bool) → b ≡ false → cond b e (s.clients k) ≡ s.clients k = λ b f. rw f refl in
+    there (k == c) (ne_eqb k c ne)
 
-pub asked_ends : {w : ℕ} (config : Config) (log : Log w) (mail : AccessMessages w) (request : ℕ → MessageA w)
-    (s : State (List ℕ)) (sys : System w) (terms : EndConfig) (c k : ℕ)
+pub asked_ends : {w : ℕ} {config : Config} {log : Log w} {mail : AccessMessages w} {request : ℕ → MessageA w}
+    {s : State (List ℕ)} {sys : System w} (terms : EndConfig) (c k : ℕ)
     (o : Op w) → IsWidth w → SimulationRelation config log mail request s sys
     → AreEnds config (Ask c o) sys (shadow_of mail request s) k (replied c (ask.asked terms o (sys.clients c)) sys)
-asked_ends {w} config log mail request s sys terms c k o width h = elim (cases_eq k c) [
-  | inl same ↦ subst (λ (i : ℕ). AreEnds config (Ask c o) sys (shadow_of mail request s) i (replied c a sys)) (sym same)
-      (subst (λ (x : Endpoint w). IsEndOf c (asked c o a.reply (shadow_of mail request s)) x)
-      (sym (now c ∙ own_client c a.after sys))
-      (end-asked terms c o (shadow_of mail request s) (sys.clients c) width h.invariant.named
-      (end-matched config log mail request s sys h c)))
-  | inr other ↦ left_alone k (shadow_of mail request s) (asked c o a.reply (shadow_of mail request s)) (sys.clients k)
-      ((replied c a sys).after.clients k)
-      (leaves-asked c o a.reply (shadow_of mail request s) k other) (now k ∙ other_client k c a.after sys other)
-      (end-matched config log mail request s sys h k)
-]
-  where
-    a : ask.Asked w
-    a = ask.asked terms o (sys.clients c)
-
-    now : (i : ℕ) → (replied c a sys).after.clients i ≡ (with_client c a.after sys).clients i
-    now i = ap (λ (f : ℕ → Endpoint w). f i) (clients-with_messages (handed_by c a.message) (with_client c a.after sys))
+asked_ends {w} {config} {log} {mail} {request} {s} {sys} terms c k o width h =
+    let a : ask.Asked w = ask.asked terms o (sys.clients c) in
+    let now : (i : ℕ) → (replied c a sys).after.clients i ≡ (with_client c a.after sys).clients i =
+    λ i. ap (λ (f : ℕ → Endpoint w). f i)
+    (clients-with_messages (handed_by c a.message) (with_client c a.after sys)) in
+    elim (cases_eq k c) [
+      | inl same ↦ subst (λ (i : ℕ). AreEnds config (Ask c o) sys (shadow_of mail request s) i (replied c a sys))
+          (sym same)
+          (subst (λ (x : Endpoint w). IsEndOf c (asked c o a.reply (shadow_of mail request s)) x)
+          (sym (now c ∙ own_client c a.after sys))
+          (end-asked terms c o (shadow_of mail request s) (sys.clients c) width h.invariant.named
+          (end-matched h c)))
+      | inr other ↦ left_alone k (shadow_of mail request s) (asked c o a.reply (shadow_of mail request s))
+          (sys.clients k)
+          ((replied c a sys).after.clients k)
+          (leaves-asked c o a.reply (shadow_of mail request s) k other) (now k ∙ other_client k c a.after sys other)
+          (end-matched h k)
+    ]
 
 -- ---- the manager takes a beat
 
 -- the kinds of the channels to the manager, and to a client
 manager_kind : (ch : Channel) (k : Kind) → is_to_client ch ≡ false → is_on ch k ≡ true → is_for_manager k ≡ true
-manager_kind channel.A Request down on_ = refl
-manager_kind channel.A Acquire down on_ = refl
-manager_kind channel.C ProbeAck down on_ = refl
-manager_kind channel.C Release down on_ = refl
-manager_kind channel.E GrantAck down on_ = refl
-manager_kind channel.A Probe down on_ = absurd cc
-manager_kind channel.A ProbeAck down on_ = absurd cc
-manager_kind channel.A Release down on_ = absurd cc
-manager_kind channel.A Answer down on_ = absurd cc
-manager_kind channel.A Grant down on_ = absurd cc
-manager_kind channel.A ReleaseAck down on_ = absurd cc
-manager_kind channel.A GrantAck down on_ = absurd cc
-manager_kind channel.C Request down on_ = absurd cc
-manager_kind channel.C Acquire down on_ = absurd cc
-manager_kind channel.C Probe down on_ = absurd cc
-manager_kind channel.C Answer down on_ = absurd cc
-manager_kind channel.C Grant down on_ = absurd cc
-manager_kind channel.C ReleaseAck down on_ = absurd cc
-manager_kind channel.C GrantAck down on_ = absurd cc
-manager_kind channel.E Request down on_ = absurd cc
-manager_kind channel.E Acquire down on_ = absurd cc
-manager_kind channel.E Probe down on_ = absurd cc
-manager_kind channel.E ProbeAck down on_ = absurd cc
-manager_kind channel.E Release down on_ = absurd cc
-manager_kind channel.E Answer down on_ = absurd cc
-manager_kind channel.E Grant down on_ = absurd cc
-manager_kind channel.E ReleaseAck down on_ = absurd cc
-manager_kind channel.B k down on_ = absurd cc
-manager_kind channel.D k down on_ = absurd cc
+manager_kind Channel.A Request down on_ = refl
+manager_kind Channel.A Acquire down on_ = refl
+manager_kind Channel.C ProbeAck down on_ = refl
+manager_kind Channel.C Release down on_ = refl
+manager_kind Channel.E GrantAck down on_ = refl
+manager_kind ch k down on_ = absurd cc
 
 pub client_kind : (ch : Channel) (k : Kind) → is_to_client ch ≡ true → is_on ch k ≡ true → is_for_manager k ≡ false
-client_kind channel.B Probe up on_ = refl
-client_kind channel.D Answer up on_ = refl
-client_kind channel.D Grant up on_ = refl
-client_kind channel.D ReleaseAck up on_ = refl
-client_kind channel.B Request up on_ = absurd cc
-client_kind channel.B Acquire up on_ = absurd cc
-client_kind channel.B ProbeAck up on_ = absurd cc
-client_kind channel.B Release up on_ = absurd cc
-client_kind channel.B Answer up on_ = absurd cc
-client_kind channel.B Grant up on_ = absurd cc
-client_kind channel.B ReleaseAck up on_ = absurd cc
-client_kind channel.B GrantAck up on_ = absurd cc
-client_kind channel.D Request up on_ = absurd cc
-client_kind channel.D Acquire up on_ = absurd cc
-client_kind channel.D Probe up on_ = absurd cc
-client_kind channel.D ProbeAck up on_ = absurd cc
-client_kind channel.D Release up on_ = absurd cc
-client_kind channel.D GrantAck up on_ = absurd cc
-client_kind channel.A k up on_ = absurd cc
-client_kind channel.C k up on_ = absurd cc
-client_kind channel.E k up on_ = absurd cc
+client_kind Channel.B Probe up on_ = refl
+client_kind Channel.D Answer up on_ = refl
+client_kind Channel.D Grant up on_ = refl
+client_kind Channel.D ReleaseAck up on_ = refl
+client_kind ch k up on_ = absurd cc
 
 -- a kind's channel is the one it is on
 pub on_same : (ch : Channel) (k : Kind) (l : world.Link) → is_on ch k ≡ true → on k l ≡ packets_on ch l
-on_same channel.A Request l is = refl
-on_same channel.A Acquire l is = refl
-on_same channel.B Probe l is = refl
-on_same channel.C ProbeAck l is = refl
-on_same channel.C Release l is = refl
-on_same channel.D Answer l is = refl
-on_same channel.D Grant l is = refl
-on_same channel.D ReleaseAck l is = refl
-on_same channel.E GrantAck l is = refl
-on_same channel.A Probe l is = absurd cc
-on_same channel.A ProbeAck l is = absurd cc
-on_same channel.A Release l is = absurd cc
-on_same channel.A Answer l is = absurd cc
-on_same channel.A Grant l is = absurd cc
-on_same channel.A ReleaseAck l is = absurd cc
-on_same channel.A GrantAck l is = absurd cc
-on_same channel.B Request l is = absurd cc
-on_same channel.B Acquire l is = absurd cc
-on_same channel.B ProbeAck l is = absurd cc
-on_same channel.B Release l is = absurd cc
-on_same channel.B Answer l is = absurd cc
-on_same channel.B Grant l is = absurd cc
-on_same channel.B ReleaseAck l is = absurd cc
-on_same channel.B GrantAck l is = absurd cc
-on_same channel.C Request l is = absurd cc
-on_same channel.C Acquire l is = absurd cc
-on_same channel.C Probe l is = absurd cc
-on_same channel.C Answer l is = absurd cc
-on_same channel.C Grant l is = absurd cc
-on_same channel.C ReleaseAck l is = absurd cc
-on_same channel.C GrantAck l is = absurd cc
-on_same channel.D Request l is = absurd cc
-on_same channel.D Acquire l is = absurd cc
-on_same channel.D Probe l is = absurd cc
-on_same channel.D ProbeAck l is = absurd cc
-on_same channel.D Release l is = absurd cc
-on_same channel.D GrantAck l is = absurd cc
-on_same channel.E Request l is = absurd cc
-on_same channel.E Acquire l is = absurd cc
-on_same channel.E Probe l is = absurd cc
-on_same channel.E ProbeAck l is = absurd cc
-on_same channel.E Release l is = absurd cc
-on_same channel.E Answer l is = absurd cc
-on_same channel.E Grant l is = absurd cc
-on_same channel.E ReleaseAck l is = absurd cc
+on_same Channel.A Request l is = refl
+on_same Channel.A Acquire l is = refl
+on_same Channel.B Probe l is = refl
+on_same Channel.C ProbeAck l is = refl
+on_same Channel.C Release l is = refl
+on_same Channel.D Answer l is = refl
+on_same Channel.D Grant l is = refl
+on_same Channel.D ReleaseAck l is = refl
+on_same Channel.E GrantAck l is = refl
+on_same ch k l is = absurd cc
 
 -- a message that the manager takes leaves all ends alone
-manager_leaves : {w : ℕ} (caching : ℕ → Bool) (config : Config) (tracker c : ℕ) (ch : Channel) (h : AbstractState w)
-    (d : ℕ) (sys : System w) (x : Beat w)
-    (queue : List (Beat w)) → is_to_client ch ≡ false → IsInvariant caching h.state
-    → IsFirst ch c h.mail h.state sys x queue
+manager_leaves : {w : ℕ} {caching : ℕ → Bool} (config : Config) (tracker : ℕ) {c : ℕ} {ch : Channel}
+    (h : AbstractState w) (d : ℕ) {sys : System w} {x : Beat w} {queue : List (Beat w)} → is_to_client ch ≡ false
+    → IsInvariant caching h.state → IsFirst ch c h.mail h.state sys x queue
     → Leaves d h (packet_taken config tracker c (packets_on ch (h.state.link c)) h)
-manager_leaves {w} caching config tracker c ch h d sys x queue down inv first =
-    subst (λ (xs : List Packet). Leaves d h (packet_taken config tracker c xs h)) (sym first.tokens)
-    (leaves-at_manager caching config tracker c first.kind first.number first.rest h d
-    (manager_kind ch first.kind down first.own) inv
-    (on_same ch first.kind (h.state.link c) first.own ∙ first.tokens))
+manager_leaves {w} {caching} config tracker {c} {ch} h d down inv first =
+    rw first.tokens (leaves-at_manager config tracker c first.kind first.number first.rest h d
+    (manager_kind ch first.kind down first.own) inv (on_same ch first.kind (h.state.link c) first.own ∙ first.tokens))
 
-pub manager_ends : {w : ℕ} (config : Config) (log : Log w) (mail : AccessMessages w) (request : ℕ → MessageA w)
-    (s : State (List ℕ)) (sys : System w) (link : Link)
-    (ch : Channel) (k : ℕ) (x : Beat w) (queue : List (Beat w)) (a : manager.Reception w × manager_end.End w)
-    → IsWidth w
-    → SimulationRelation config log mail request s sys → sys.channels link.0 ch ≡ x ∷ queue → is_to_client ch ≡ false
+pub manager_ends : {w : ℕ} {config : Config} {log : Log w} {mail : AccessMessages w} {request : ℕ → MessageA w}
+    {s : State (List ℕ)} {sys : System w} (link : Link) (ch : Channel) (k : ℕ) (x : Beat w) (queue : List (Beat w))
+    (a : manager.Reception w × manager_end.End w) → IsWidth w → SimulationRelation config log mail request s sys
+    → sys.channels link.0 ch ≡ x ∷ queue → is_to_client ch ≡ false
     → AreEnds config (Deliver link ch) sys (shadow_of mail request s) k (manager_took link.0 ch x queue a sys)
-manager_ends config log mail request s sys link ch k x queue (manager.Refused rule, e) width h beats down =
-    end-matched config log mail request s sys h k
-manager_ends config log mail request s sys link ch k x queue (manager.Stalled, e) width h beats down =
-    end-matched config log mail request s sys h k
-manager_ends {w} config log mail request s sys link ch k x queue (manager.Sent handed, e) width h beats down =
+manager_ends {config} {log} {mail} {request} {s} {sys} link ch k x queue (manager.Refused rule, e) width h beats down =
+    end-matched h k
+manager_ends {config} {log} {mail} {request} {s} {sys} link ch k x queue (manager.Stalled, e) width h beats down =
+    end-matched h k
+manager_ends {w} {config} {log} {mail} {request} {s} {sys} link ch k x queue (manager.Sent handed, e) width h beats
+    down =
     go (is_last (sys.channels link.0 ch) (unfinished ch (receiver ch link.0 sys)))
   where
     before : AbstractState w
@@ -217,18 +128,14 @@ manager_ends {w} config log mail request s sys link ch k x queue (manager.Sent h
     tracker = least_untaken (trackers_of (services sys.manager.trace))
 
     same : (with_messages handed (with_manager e (with_channel link.0 ch queue sys))).clients k ≡ sys.clients k
-    same = ap (λ (f : ℕ → Endpoint w). f k)
-        (clients-with_messages handed (with_manager e (with_channel link.0 ch queue sys)))
+    same = cc (clients-with_messages handed (with_manager e (with_channel link.0 ch queue sys)))
 
     go : (b : Bool) → IsEndOf k (if b then packet_taken config tracker link.0 (packets_on ch (s.link link.0)) before
-        else before)
-        ((with_messages handed (with_manager e (with_channel link.0 ch queue sys))).clients k)
-    go true =
-        left_alone k before (packet_taken config tracker link.0 (packets_on ch (s.link link.0)) before) (sys.clients k)
-        ((with_messages handed (with_manager e (with_channel link.0 ch queue sys))).clients k)
-        (manager_leaves (is_caching config) config tracker link.0 ch before k sys x queue down h.invariant
-        (first-token (is_caching config) ch link.0 mail s sys x queue width h.invariant h.carried beats)) same
-        (end-matched config log mail request s sys h k)
+        else before) ((with_messages handed (with_manager e (with_channel link.0 ch queue sys))).clients k)
+    go true = left_alone k before (packet_taken config tracker link.0 (packets_on ch (s.link link.0)) before)
+        (sys.clients k) ((with_messages handed (with_manager e (with_channel link.0 ch queue sys))).clients k)
+        (manager_leaves config tracker before k down h.invariant (first-token (is_caching config) ch link.0 mail s sys x
+        queue width h.invariant h.carried beats)) same (end-matched h k)
     go false = left_alone k before before (sys.clients k)
         ((with_messages handed (with_manager e (with_channel link.0 ch queue sys))).clients k)
-        (leaves-none k before) same (end-matched config log mail request s sys h k)
+        (leaves-none k before) same (end-matched h k)

@@ -1,72 +1,57 @@
 -- A Probe that is delivered to a client waits for its Release, or is taken, and the client's end is
 -- then that of the protocol.
 use Rattle.tl_coherence.proofs.client.Imports.{IsWidth, Beat, BeatA, OpD, Message, MessageA, MessageD, beat_of}
-use Rattle.tl_coherence.proofs.client.Imports.{unfinished, completes, Config, ReleaseOf, Level, Cap, Rule, is_outside}
-use Rattle.tl_coherence.proofs.client.Imports.{is_grant, pending, illegal, EndConfig, Endpoint, held_at, Offered}
-use Rattle.tl_coherence.proofs.client.Imports.{offered, taken, probed, silent, waits, same_block, grant_opcode}
-use Rattle.tl_coherence.proofs.client.Imports.{level_of, AbstractState, packet_taken, kind_taken, IsInvariant, Log}
-use Rattle.tl_coherence.proofs.client.Imports.{is_unprobed, is_unreleased, State, packet, is_on, view, AccessMessages}
-use Rattle.tl_coherence.proofs.client.Imports.{cap_sent, block_message, probe_beat, System, terms_at, Kind, Request}
-use Rattle.tl_coherence.proofs.client.Imports.{Acquire, Probe, ProbeAck, Release, Answer, Grant, ReleaseAck, GrantAck}
+use Rattle.tl_coherence.proofs.client.Imports.{unfinished, completes, Config, ReleaseOf, Cap, Rule, is_grant, pending}
+use Rattle.tl_coherence.proofs.client.Imports.{illegal, EndConfig, Endpoint, held_at, Offered, offered, taken, probed}
+use Rattle.tl_coherence.proofs.client.Imports.{silent, waits, same_block, grant_opcode, level_of, AbstractState}
+use Rattle.tl_coherence.proofs.client.Imports.{packet_taken, kind_taken, IsInvariant, Log, is_unprobed, is_unreleased}
+use Rattle.tl_coherence.proofs.client.Imports.{State, packet, is_on, view, AccessMessages, cap_sent, block_message}
+use Rattle.tl_coherence.proofs.client.Imports.{probe_beat, System, terms_at, Kind, Probe, Answer, Grant, ReleaseAck}
 use Rattle.tl_coherence.proofs.client.Imports.{Packet, SimulationRelation, asked_by, is_caching}
 use Rattle.std.proofs.Common.{◌≡◌, subst, ℕ, zero, suc, ◌<◌, Bool, true, false, not, ◌&&◌, cond, List, [], ◌∷◌, Option}
 use Rattle.std.proofs.Common.{Some, None, refl, sym, ◌∙◌, ap, arith}
 use Rattle.std.specs.Prelude.{◌==◌, map, nat_le}
 use Rattle.std.proofs.lemmas.Bool.{eqb-true, and_right}
-use Rattle.tl_beat.specs.declared.beat.Beat.TheVariants as beat
-use Rattle.tl_beat.specs.declared.channel.Channel.TheVariants as channel
-use Rattle.tl_burst.specs.declared.message.Message.TheVariants as message
+use Rattle.tl_beat.specs.declared.channel.Channel.{Channel}
 use Rattle.tl_burst.specs.statement.Burst.{beats_of, begun}
 use Rattle.tl_rules.specs.statement.History.{asks_for}
-use Rattle.tl_client.specs.declared.verdict.Verdict.TheVariants as verdict
+use Rattle.tl_client.{specs.declared.verdict.Verdict.Verdict, proofs.pending.Accounted.accounted-offered}
+use Rattle.tl_client.{proofs.endpoint.Cases.passes_before, proofs.pending.KeptOffered.kept-offered}
 use Rattle.tl_client.specs.statement.Offer.{judged, judged_later, broken_before, broken_later}
-use Rattle.tl_client.proofs.pending.Accounted.{accounted-offered}
-use Rattle.tl_client.proofs.endpoint.Cases.{passes_before}
-use Rattle.tl_client.proofs.pending.KeptOffered.{kept-offered}
 use Rattle.tl_manager.specs.statement.Handing.{probe_of_block}
 use Rattle.tl_manager.specs.code.Kept as manager
-use Rattle.tl_coherence.specs.refinement.Carried.{IsCarried}
-use Rattle.tl_coherence.specs.refinement.ClientRelation.{comes_granting}
-use Rattle.tl_coherence.specs.protocol.Tokens.{shown, is_sent}
+use Rattle.tl_coherence.specs.{refinement.Carried.IsCarried, refinement.ClientRelation.comes_granting}
+use Rattle.tl_coherence.specs.{protocol.Tokens.shown, protocol.Tokens.is_sent}
 use Rattle.tl_coherence.specs.refinement.PacketMessages.{message_of, message_of_kind}
-use Rattle.tl_coherence.proofs.queues.Carried.{IsNext}
-use Rattle.tl_coherence.proofs.client.ClientAsked.{IsEndOf}
-use Rattle.tl_coherence.proofs.client.ClientDelivered.{shadow_of}
+use Rattle.tl_coherence.proofs.{queues.Carried.IsNext, client.ClientAsked.IsEndOf, client.ClientDelivered.shadow_of}
+use Rattle.tl_coherence.proofs.{client.ClientProbed.end-probe_taken, queues.Facts.granting_alone}
+use Rattle.tl_coherence.proofs.{client.KnownProbed.probe-taken, queues.Phases.and_left, queues.Tokens.holds-first}
+use Rattle.tl_coherence.proofs.{protocol.BothParts.not-sent, queues.Codes.access_kind}
 use Rattle.tl_coherence.proofs.client.ClientEnd.{IsWellKept, IsEnd, end-matched, asks-acquire}
-use Rattle.tl_coherence.proofs.client.ClientProbed.{end-probe_taken}
 use Rattle.tl_coherence.proofs.client.ClientTakes.{AreTermsOf, terms-are, sound-beat}
 use Rattle.tl_coherence.proofs.protocol.HeadOfD.{answer-due, grant-due, grant_message, grant-rendered, ack_message}
 use Rattle.tl_coherence.proofs.protocol.HeadOfD.{own_view}
-use Rattle.tl_coherence.proofs.queues.Facts.{granting_alone}
 use Rattle.tl_coherence.proofs.queues.FirstToken.{IsFirst, first-token, own_kind}
-use Rattle.tl_coherence.proofs.client.KnownProbed.{probe-taken}
-use Rattle.tl_coherence.proofs.queues.Phases.{and_left}
-use Rattle.tl_coherence.proofs.queues.Tokens.{holds-first}
-use Rattle.tl_coherence.proofs.protocol.BothParts.{not-sent}
-use Rattle.tl_coherence.proofs.queues.Codes.{access_kind}
 
 -- ---- no Grant of a block that is probed has begun to come
 
 -- the message is no Grant of the block
 IsElse : {w : ℕ} → ℕ → (ℕ → Option (BeatA w)) → Message w → Type 0
-IsElse {w} n asked m = (x : MessageD w) × (m ≡ message.D x)
+IsElse {w} n asked m = (x : MessageD w) × (m ≡ Message.D x)
     × ((is_grant x.opcode && asks_for n (asked x.source)) ≡ false)
 
 comes_else : {w : ℕ} (n : ℕ) (asked : ℕ → Option (BeatA w)) (m : Message w) (k : ℕ) (rest : List (Beat w))
     → rest ≡ begun m k → IsElse n asked m → comes_granting n asked rest ≡ false
 unfolding IsElse
-comes_else n asked m k rest e is = ap (comes_granting n asked) e ∙ ap (λ y. comes_granting n asked (begun y k))
-    is.1 ∙ go k
-  where
-    go : (i : ℕ) → comes_granting n asked (begun (message.D is.0) i) ≡ false
-    go zero = refl
-    go (suc i) = is.2
+comes_else n asked m k rest e is =
+    let go : (i : ℕ) → comes_granting n asked (begun (Message.D is.0) i) ≡ false =
+    elim [ zero ↦ refl | suc i ↦ is.2 ] in
+    cc (e, is.1, go k)
 
 -- a client that is probed has no Grant of the block coming
-not_granted : (caching : ℕ → Bool) (c n i : ℕ) (rest : List Packet) (s : State (List ℕ)) → IsInvariant caching s
-    → (s.link c).d ≡ packet Grant i ∷ rest
-    → is_sent ((s.block n).pair c).probing ≡ true → (i == n) ≡ false
-not_granted caching c n i rest s inv first sent = go (i == n) refl
+not_granted : {caching : ℕ → Bool} (c n i : ℕ) (rest : List Packet) {s : State (List ℕ)} → IsInvariant caching s
+    → (s.link c).d ≡ packet Grant i ∷ rest → is_sent ((s.block n).pair c).probing ≡ true → (i == n) ≡ false
+not_granted {caching} c n i rest {s} inv first sent = go (i == n) refl
   where
     go : (z : Bool) → (i == n) ≡ z → z ≡ false
     go false e = refl
@@ -83,12 +68,12 @@ plain : {w : ℕ} (n : ℕ) (asked : ℕ → Option (BeatA w)) (o : OpD) (source
     → (is_grant o && asks_for n (asked source)) ≡ false
 plain n asked o source e = rw e refl
 
-else_answer : {w : ℕ} (config : Config) (log : Log w) (mail : AccessMessages w) (request : ℕ → MessageA w)
-    (s : State (List ℕ)) (sys : System w) (c n i : ℕ)
+else_answer : {w : ℕ} {config : Config} {log : Log w} {mail : AccessMessages w} {request : ℕ → MessageA w}
+    {s : State (List ℕ)} {sys : System w} (c n i : ℕ)
     (rest : List Packet) → SimulationRelation config log mail request s sys → (s.link c).d ≡ packet Answer i ∷ rest
     → IsElse n (asked_by mail s c) (mail.answer c i)
 unfolding IsElse
-else_answer config log mail request s sys c n i rest h first =
+else_answer {config} {mail} {s} c n i rest h first =
     let due = answer-due (is_caching config) c i rest mail s h.invariant (h.answered c i) first in (
       due.answer,
       due.answer_is,
@@ -96,18 +81,18 @@ else_answer config log mail request s sys c n i rest h first =
           (access_kind due.answer.opcode due.answers_access).0,
     )
 
-else_grant : {w : ℕ} (config : Config) (log : Log w) (mail : AccessMessages w) (request : ℕ → MessageA w)
-    (s : State (List ℕ)) (sys : System w) (c n i : ℕ)
+else_grant : {w : ℕ} {config : Config} {log : Log w} {mail : AccessMessages w} {request : ℕ → MessageA w}
+    {s : State (List ℕ)} {sys : System w} (c n i : ℕ)
     (rest : List Packet) → SimulationRelation config log mail request s sys → (s.link c).d ≡ packet Grant i ∷ rest
     → is_sent ((s.block n).pair c).probing ≡ true → IsElse n (asked_by mail s c) (block_message Grant c i (s.block i))
 unfolding IsElse
-else_grant {w} config log mail request s sys c n i rest h first sent =
+else_grant {w} {config} {mail} {s} c n i rest h first sent =
     let due = grant-due (is_caching config) c i rest s h.invariant first in
     let asks = asks-acquire c ((s.block i).source c) i ((s.block i).source c) due.whole due.g mail s due.used due.wants
     refl in
     let elsewhere : asks_for n (asked_by mail s c ((s.block i).source c)) ≡ false =
     ap (asks_for n) asks ∙ ap (λ (j : ℕ). j == n) (same_block i)
-    ∙ not_granted (is_caching config) c n i rest s h.invariant first sent in (
+    ∙ not_granted c n i rest h.invariant first sent in (
       grant_message due.data_too due.k ((s.block i).source c) (s.block i).tracker (s.block i).truth,
       grant-rendered c i s due,
       and_right (is_grant (grant_opcode due.data_too)) (asks_for n (asked_by mail s c ((s.block i).source c)))
@@ -119,41 +104,36 @@ else_ack : {w : ℕ} (mail : AccessMessages w) (s : State (List ℕ)) (c n i : �
 unfolding IsElse block_message
 else_ack mail s c n i = (ack_message ((s.block i).release_source c), refl, refl)
 
-pub not_coming : {w : ℕ} (config : Config) (log : Log w) (mail : AccessMessages w) (request : ℕ → MessageA w)
-    (s : State (List ℕ)) (sys : System w) (c n : ℕ)
+pub not_coming : {w : ℕ} {config : Config} {log : Log w} {mail : AccessMessages w} {request : ℕ → MessageA w}
+    {s : State (List ℕ)} {sys : System w} (c n : ℕ)
     → SimulationRelation config log mail request s sys → is_sent ((s.block n).pair c).probing ≡ true
-    → comes_granting n (asked_by mail s c) (unfinished channel.D (sys.clients c).past) ≡ false
-not_coming {w} config log mail request s sys c n h sent = go (s.link c).d refl (h.carried c channel.D)
+    → comes_granting n (asked_by mail s c) (unfinished Channel.D (sys.clients c).past) ≡ false
+not_coming {w} {config} {log} {mail} {request} {s} {sys} c n h sent = go (s.link c).d refl (h.carried c Channel.D)
   where
     rest_now : List (Beat w)
-    rest_now = unfinished channel.D (sys.clients c).past
+    rest_now = unfinished Channel.D (sys.clients c).past
 
-    elses : (k : Kind) (i : ℕ) (rest : List Packet) → (s.link c).d ≡ packet k i ∷ rest → is_on channel.D k ≡ true
+    elses : (k : Kind) (i : ℕ) (rest : List Packet) → (s.link c).d ≡ packet k i ∷ rest → is_on Channel.D k ≡ true
         → IsElse n (asked_by mail s c) (message_of_kind k mail s c i)
-    elses Answer i rest first own = else_answer config log mail request s sys c n i rest h first
-    elses Grant i rest first own = else_grant config log mail request s sys c n i rest h first sent
+    elses Answer i rest first own = else_answer c n i rest h first
+    elses Grant i rest first own = else_grant c n i rest h first sent
     elses ReleaseAck i rest first own = else_ack mail s c n i
-    elses Request i rest first own = absurd cc
-    elses Acquire i rest first own = absurd cc
-    elses Probe i rest first own = absurd cc
-    elses ProbeAck i rest first own = absurd cc
-    elses Release i rest first own = absurd cc
-    elses GrantAck i rest first own = absurd cc
+    elses k i rest first own = absurd cc
 
     go : (xs : List Packet) → (s.link c).d ≡ xs → IsCarried rest_now (map (message_of mail s c) (s.link c).d)
-        (sys.channels c channel.D) → comes_granting n (asked_by mail s c) rest_now ≡ false
+        (sys.channels c Channel.D) → comes_granting n (asked_by mail s c) rest_now ≡ false
     go [] first carried =
-        let none : IsCarried rest_now [] (sys.channels c channel.D) =
-        subst (λ (ms : List (Message w)). IsCarried rest_now ms (sys.channels c channel.D))
+        let none : IsCarried rest_now [] (sys.channels c Channel.D) =
+        subst (λ (ms : List (Message w)). IsCarried rest_now ms (sys.channels c Channel.D))
         (ap (map (message_of mail s c)) first) carried in
         ap (comes_granting n (asked_by mail s c)) none.0
     go (x ∷ xs) first carried =
         let some : IsCarried rest_now (message_of mail s c x ∷ map (message_of mail s c) xs)
-        (sys.channels c channel.D) =
-        subst (λ (ms : List (Message w)). IsCarried rest_now ms (sys.channels c channel.D))
+        (sys.channels c Channel.D) =
+        subst (λ (ms : List (Message w)). IsCarried rest_now ms (sys.channels c Channel.D))
         (ap (map (message_of mail s c)) first) carried in
         comes_else n (asked_by mail s c) (message_of mail s c x) some.0 rest_now some.2
-        (elses x.kind x.number xs first (own_kind (is_caching config) s c channel.D x.kind x.number xs h.invariant
+        (elses x.kind x.number xs first (own_kind (is_caching config) s c Channel.D x.kind x.number xs h.invariant
         first))
 
 -- ---- the Probe
@@ -161,27 +141,24 @@ not_coming {w} config log mail request s sys c n h sent = go (s.link c).d refl (
 -- A Probe that comes waits where a Release of its block is open, and is taken otherwise.
 pub record IsProbed {w : ℕ} (config : Config) (terms : EndConfig) (tracker c n : ℕ) (h : AbstractState w) (x : Beat w)
     (e : Endpoint w) : Type 0 where
-  pub beat_is : x ≡ beat.B (probe_beat n (cap_sent ((h.state.block n).pair c).probing))
-  pub whole : completes x (unfinished channel.B e.past) ≡ true
+  pub beat_is : x ≡ Beat.B (probe_beat n (cap_sent ((h.state.block n).pair c).probing))
+  pub whole : completes x (unfinished Channel.B e.past) ≡ true
   pub waits_for : is_unreleased ((h.state.block n).pair c).letting ≡ false
-      → offered terms channel.B x e ≡ silent verdict.Stalled e
-  pub takes : is_unreleased ((h.state.block n).pair c).letting ≡ true → offered terms channel.B x e ≡ taken x e
+      → offered terms Channel.B x e ≡ silent Verdict.Stalled e
+  pub takes : is_unreleased ((h.state.block n).pair c).letting ≡ true → offered terms Channel.B x e ≡ taken x e
   pub last : is_unreleased ((h.state.block n).pair c).letting ≡ true
       → IsEndOf c (packet_taken config tracker c (h.state.link c).b h) (taken x e).after
 
-stalls : {w : ℕ} (terms : EndConfig) (x : Beat w) (e : Endpoint w) → broken_before terms channel.B x e ≡ None
-    → waits x e.past ≡ true → offered terms channel.B x e ≡ silent verdict.Stalled e
+stalls : {w : ℕ} (terms : EndConfig) (x : Beat w) (e : Endpoint w) → broken_before terms Channel.B x e ≡ None
+    → waits x e.past ≡ true → offered terms Channel.B x e ≡ silent Verdict.Stalled e
 unfolding offered
-stalls {w} terms x e lawful held = judged_none (broken_before terms channel.B x e) lawful ∙ stalled (waits x e.past)
-    held
-  where
-    judged_none : (o : Option Rule) → o ≡ None → judged o terms x e ≡ cond (waits x e.past) (silent verdict.Stalled e)
-        (judged_later (broken_later terms x e) x e)
-    judged_none o f = rw f refl
-
-    stalled : (b : Bool) → b ≡ true → cond b (silent verdict.Stalled e) (judged_later (broken_later terms x e) x e)
-        ≡ silent verdict.Stalled e
-    stalled b f = rw f refl
+stalls {w} terms x e lawful held =
+    let judged_none : (o : Option Rule) → o ≡ None
+    → judged o terms x e ≡ cond (waits x e.past) (silent Verdict.Stalled e)
+    (judged_later (broken_later terms x e) x e) = λ o f. rw f refl in
+    let stalled : (b : Bool) → b ≡ true → cond b (silent Verdict.Stalled e) (judged_later (broken_later terms x e) x e)
+    ≡ silent Verdict.Stalled e = λ b f. rw f refl in
+    judged_none (broken_before terms Channel.B x e) lawful ∙ stalled (waits x e.past) held
 
 pub first_beat : (k n : ℕ) → k < n → n ≡ 1 → k ≡ 0
 first_beat k n lt one = omega (arith, lt, one)
@@ -195,31 +172,56 @@ one_beat : (w n : ℕ) (k : Cap) → beats_of (probe_of_block {w = w} n k) ≡ 1
 one_beat w n k = refl
 
 -- the beat of a Probe that comes
-pub probe-beat : {w : ℕ} (c n : ℕ) (s : State (List ℕ)) (x : Beat w) (rest : List (Beat w)) (ms : List (Message w))
-    (queue : List (Beat w)) → IsNext x rest (block_message Probe c n (s.block n)) ms queue
-    → x ≡ beat.B (probe_beat n (cap_sent ((s.block n).pair c).probing))
-probe-beat {w} c n s x rest ms queue next =
+pub probe-beat : {w : ℕ} (c n : ℕ) (s : State (List ℕ)) {x : Beat w} {rest : List (Beat w)} {ms : List (Message w)}
+    {queue : List (Beat w)} → IsNext x rest (block_message Probe c n (s.block n)) ms queue
+    → x ≡ Beat.B (probe_beat n (cap_sent ((s.block n).pair c).probing))
+probe-beat {w} c n s {x} {rest} {ms} {queue} next =
     let k = cap_sent ((s.block n).pair c).probing in
     let here : IsNext x rest (probe_of_block n k) ms queue = subst (λ (m : Message w). IsNext x rest m ms queue)
     (probe_rendered c n s) next in
     here.beat_is ∙ ap (beat_of (probe_of_block n k)) (first_beat here.k (beats_of (probe_of_block {w = w} n k))
     here.within (one_beat w n k))
 
-pub probe-delivered : {w : ℕ} (config : Config) (log : Log w) (mail : AccessMessages w) (request : ℕ → MessageA w)
-    (s : State (List ℕ)) (sys : System w) (terms : EndConfig)
-    (tracker c n : ℕ) (rest : List Packet) (ms : List (Message w)) (x : Beat w) (queue : List (Beat w))
+pub probe-delivered : {w : ℕ} {config : Config} {log : Log w} {mail : AccessMessages w} {request : ℕ → MessageA w}
+    {s : State (List ℕ)} {sys : System w} (terms : EndConfig)
+    (tracker c n : ℕ) (rest : List Packet) {ms : List (Message w)} {x : Beat w} {queue : List (Beat w)}
     → IsWidth w → SimulationRelation config log mail request s sys → terms_at config c ≡ Some terms
-    → sys.channels c channel.B ≡ x ∷ queue → (s.link c).b ≡ packet Probe n ∷ rest
-    → IsNext x (unfinished channel.B (sys.clients c).past) (block_message Probe c n (s.block n)) ms queue
+    → sys.channels c Channel.B ≡ x ∷ queue → (s.link c).b ≡ packet Probe n ∷ rest
+    → IsNext x (unfinished Channel.B (sys.clients c).past) (block_message Probe c n (s.block n)) ms queue
     → IsProbed config terms tracker c n (shadow_of mail request s) x (sys.clients c)
-probe-delivered {w} config log mail request s sys terms tracker c n rest ms x queue width h at beats first next =
+probe-delivered {w} {config} {log} {mail} {request} {s} {sys} terms tracker c n rest {ms} {x} {queue} width h at beats
+    first next =
+    let sent : is_sent ((s.block n).pair c).probing ≡ true = holds-first Probe (s.link c).b rest (packet Probe n)
+    (λ i. shown Probe c (s.block i)) first refl (h.invariant.transfers c Probe refl) in
+    let before : x ≡ Beat.B (probe_beat n k) → broken_before terms Channel.B x e ≡ None =
+    λ f. cc (f, passes_before terms Channel.B (Beat.B (probe_beat n k)) e (h.live c) refl lawful) in
+    let pends : is_unreleased ((s.block n).pair c).letting ≡ false → waits (Beat.B (probe_beat n k)) e.past ≡ true =
+    λ open_. ap (λ (i : ℕ). pending (ReleaseOf i) e.past) (same_block n) ∙ end.known.releases n ∙ ap not open_ in
+    let taken_is : is_unreleased ((s.block n).pair c).letting ≡ true → offered terms Channel.B (Beat.B (probe_beat n k))
+    e ≡ probed (probe_beat n k) n (held_at e n) e =
+    λ kept. cc (probe-taken terms n k e (h.live c) lawful inside end.kept.b_whole (end.known.releases n
+    ∙ ap not kept) (end.known.probes n) (end.known.grants n ∙ not_coming c n h sent)) in
+    let same_taken = ap (λ (i : ℕ). probed (probe_beat n k) i (held_at e i) e) (same_block n) in
+    let takes : is_unreleased ((s.block n).pair c).letting ≡ true → offered terms Channel.B x e ≡ taken x e =
+    λ kept. cc (beat_is, taken_is kept, same_taken) in
+    let well : is_unreleased ((s.block n).pair c).letting ≡ true
+    → IsWellKept (probed (probe_beat n k) n (held_at e n) e).after =
+    λ kept. subst (λ (o : Offered w). IsWellKept o.after) (taken_is kept)
+    (record {
+      kept = kept-offered terms Channel.B (Beat.B (probe_beat n k)) e width end.kept;
+      accounted = accounted-offered terms Channel.B (Beat.B (probe_beat n k)) e width end.kept end.accounted;
+    }) in
+    let last : is_unreleased ((s.block n).pair c).letting ≡ true → IsEndOf c (packet_taken config tracker c (s.link c).b
+    (shadow_of mail request s)) (taken x e).after = λ kept. subst (λ (xs : List Packet). IsEndOf c (packet_taken
+    config tracker c xs (shadow_of mail request s)) (taken x e).after) (sym first) (subst (λ (o : Offered w).
+    IsEndOf c (kind_taken config tracker c Probe n rest (shadow_of mail request s)) o.after) (sym (ap (λ (y : Beat
+    w). taken y e) beat_is ∙ same_taken)) (end-probe_taken n k rest mail width (well kept) end)) in
     record {
       beat_is = beat_is;
       whole = whole;
       waits_for =
           λ open_. stalls terms x e (before beat_is) (ap (λ (y : Beat w). waits y e.past) beat_is ∙ pends open_);
-      takes =
-          takes;
+      takes = takes;
       last = last;
     }
   where
@@ -230,106 +232,45 @@ probe-delivered {w} config log mail request s sys terms tracker c n rest ms x qu
     k = cap_sent ((s.block n).pair c).probing
 
     end : IsEnd (asked_by mail s c) c s e
-    end = end-matched config log mail request s sys h c
+    end = end-matched h c
 
-    sent : is_sent ((s.block n).pair c).probing ≡ true
-    sent = holds-first Probe (s.link c).b rest (packet Probe n) (λ i. shown Probe c (s.block i)) first refl
-        (h.invariant.transfers c Probe refl)
+    beat_is : x ≡ Beat.B (probe_beat n k)
+    beat_is = probe-beat c n s next
 
-    beat_is : x ≡ beat.B (probe_beat n k)
-    beat_is = probe-beat c n s x (unfinished channel.B e.past) ms queue next
-
-    whole : completes x (unfinished channel.B e.past) ≡ true
-    whole = ap (completes x) h_whole ∙ ap (λ (y : Beat w). completes y []) beat_is
-      where
-        h_whole : unfinished channel.B e.past ≡ []
-        h_whole = end.kept.b_whole
+    whole : completes x (unfinished Channel.B e.past) ≡ true
+    whole =
+        let h_whole : unfinished Channel.B e.past ≡ [] = end.kept.b_whole in
+        ap (completes x) h_whole ∙ ap (λ (y : Beat w). completes y []) beat_is
 
     is : AreTermsOf config c terms
     is = terms-are config c terms at
 
     lawful_at : level_of config c ≡ Some terms.level → manager.illegal_at (level_of config c) x ≡ None
-        → x ≡ beat.B (probe_beat n k)
-        → illegal terms.level channel.B (beat.B (probe_beat {w = w} n k)) ≡ None
-    lawful_at f g i = sym (ap (λ (l : Option Level). manager.illegal_at l (beat.B (probe_beat {w = w} n k))) f) ∙ sym
-        (ap (λ (y : Beat w). manager.illegal_at (level_of config c) y) i) ∙ g
+        → x ≡ Beat.B (probe_beat n k) → illegal terms.level Channel.B (Beat.B (probe_beat {w = w} n k)) ≡ None
+    lawful_at f g i = cc (f, i, g)
 
-    lawful : illegal terms.level channel.B (beat.B (probe_beat {w = w} n k)) ≡ None
-    lawful = lawful_at is.level (sound-beat config log mail request s sys c channel.B x queue h beats).lawful beat_is
-
-    before : x ≡ beat.B (probe_beat n k) → broken_before terms channel.B x e ≡ None
-    before f = ap (λ (y : Beat w). broken_before terms channel.B y e) f ∙ passes_before terms channel.B
-        (beat.B (probe_beat n k)) e (h.live c) refl lawful
-
-    pends : is_unreleased ((s.block n).pair c).letting ≡ false → waits (beat.B (probe_beat n k)) e.past ≡ true
-    pends open_ = ap (λ (i : ℕ). pending (ReleaseOf i) e.past) (same_block n) ∙ end.known.releases n ∙ ap not open_
+    lawful : illegal terms.level Channel.B (Beat.B (probe_beat {w = w} n k)) ≡ None
+    lawful = lawful_at is.level (sound-beat c Channel.B x queue h beats).lawful beat_is
 
     inside : nat_le terms.blocks n ≡ false
-    inside =
-        ap (λ (b : ℕ). nat_le b n) is.blocks ∙ sym (ap (nat_le config.blocks) (same_block n)) ∙ sym
-        (ap (λ (y : Beat w). is_outside config.blocks y) beat_is)
-        ∙ (sound-beat config log mail request s sys c channel.B x queue h beats).inside
-
-    taken_is : is_unreleased ((s.block n).pair c).letting ≡ true → offered terms channel.B (beat.B (probe_beat n k))
-        e ≡ probed (probe_beat n k) n (held_at e n) e
-    taken_is kept = probe-taken terms n k e (h.live c) lawful inside end.kept.b_whole
-        (end.known.releases n ∙ ap not kept) (end.known.probes n)
-        (end.known.grants n ∙ not_coming config log mail request s sys c n h sent)
-
-    same_taken : taken (beat.B (probe_beat n k)) e ≡ probed (probe_beat n k) n (held_at e n) e
-    same_taken = ap (λ (i : ℕ). probed (probe_beat n k) i (held_at e i) e) (same_block n)
-
-    takes : is_unreleased ((s.block n).pair c).letting ≡ true → offered terms channel.B x e ≡ taken x e
-    takes kept = ap (λ (y : Beat w). offered terms channel.B y e) beat_is ∙ taken_is kept ∙ sym same_taken ∙ sym
-        (ap (λ (y : Beat w). taken y e) beat_is)
-
-    well : is_unreleased ((s.block n).pair c).letting ≡ true
-        → IsWellKept (probed (probe_beat n k) n (held_at e n) e).after
-    well kept = subst (λ (o : Offered w). IsWellKept o.after) (taken_is kept)
-        (record {
-          kept = kept-offered terms channel.B (beat.B (probe_beat n k)) e width end.kept;
-          accounted =
-              accounted-offered terms channel.B (beat.B (probe_beat n k)) e width end.kept end.accounted;
-        })
-
-    last : is_unreleased ((s.block n).pair c).letting ≡ true
-        → IsEndOf c (packet_taken config tracker c (s.link c).b (shadow_of mail request s)) (taken x e).after
-    last kept =
-        subst (λ (xs : List Packet). IsEndOf c (packet_taken config tracker c xs (shadow_of mail request s))
-        (taken x e).after) (sym first)
-        (subst (λ (o : Offered w). IsEndOf c (kind_taken config tracker c Probe n rest (shadow_of mail request s))
-        o.after)
-        (sym (ap (λ (y : Beat w). taken y e) beat_is ∙ same_taken))
-        (end-probe_taken c n k rest mail s e width (well kept) end))
+    inside = cc (is.blocks, same_block n, beat_is, (sound-beat c Channel.B x queue h beats).inside)
 
 -- ---- all of channel B
 
-pub delivered-b : {w : ℕ} (config : Config) (log : Log w) (mail : AccessMessages w) (request : ℕ → MessageA w)
-    (s : State (List ℕ)) (sys : System w) (terms : EndConfig)
-    (tracker c : ℕ) (x : Beat w) (queue : List (Beat w)) → IsWidth w
-    → SimulationRelation config log mail request s sys → terms_at config c ≡ Some terms
-    → sys.channels c channel.B ≡ x ∷ queue
-    → (n : ℕ) × IsProbed config terms tracker c n (shadow_of mail request s) x (sys.clients c)
-delivered-b {w} config log mail request s sys terms tracker c x queue width h at beats =
+pub delivered-b : {w : ℕ} {config : Config} {log : Log w} {mail : AccessMessages w} {request : ℕ → MessageA w}
+    {s : State (List ℕ)} {sys : System w} (terms : EndConfig) (tracker c : ℕ) (x : Beat w) (queue : List (Beat w))
+    → IsWidth w → SimulationRelation config log mail request s sys → terms_at config c ≡ Some terms
+    → sys.channels c Channel.B ≡ x ∷ queue → (n : ℕ) × IsProbed config terms tracker c n (shadow_of mail request s) x
+    (sys.clients c)
+delivered-b {w} {config} {log} {mail} {request} {s} {sys} terms tracker c x queue width h at beats =
     go first.kind first.number first.tokens first.own first.next
   where
-    first : IsFirst channel.B c mail s sys x queue
-    first = first-token (is_caching config) channel.B c mail s sys x queue width h.invariant h.carried beats
+    first : IsFirst Channel.B c mail s sys x queue
+    first = first-token (is_caching config) Channel.B c mail s sys x queue width h.invariant h.carried beats
 
-    go : (k : Kind) (i : ℕ) → (s.link c).b ≡ packet k i ∷ first.rest → is_on channel.B k ≡ true
-        → IsNext x (unfinished channel.B (sys.clients c).past) (message_of_kind k mail s c i)
+    go : (k : Kind) (i : ℕ) → (s.link c).b ≡ packet k i ∷ first.rest → is_on Channel.B k ≡ true
+        → IsNext x (unfinished Channel.B (sys.clients c).past) (message_of_kind k mail s c i)
         (map (message_of mail s c) first.rest) queue
         → (n : ℕ) × IsProbed config terms tracker c n (shadow_of mail request s) x (sys.clients c)
-    go Probe i tokens own next = (
-      i,
-      probe-delivered config log mail request s sys terms tracker c i first.rest
-          (map (message_of mail s c) first.rest) x queue width h at beats tokens next,
-    )
-    go Request i tokens own next = absurd cc
-    go Acquire i tokens own next = absurd cc
-    go ProbeAck i tokens own next = absurd cc
-    go Release i tokens own next = absurd cc
-    go Answer i tokens own next = absurd cc
-    go Grant i tokens own next = absurd cc
-    go ReleaseAck i tokens own next = absurd cc
-    go GrantAck i tokens own next = absurd cc
+    go Probe i tokens own next = (i, probe-delivered terms tracker c i first.rest width h at beats tokens next)
+    go k i tokens own next = absurd cc

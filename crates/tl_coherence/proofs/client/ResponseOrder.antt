@@ -2,16 +2,12 @@
 -- delivered alike.
 use Rattle.tl_coherence.proofs.client.Imports.{BeatA, BeatC, BeatD, OpD, History, unfinished, RequestSource}
 use Rattle.tl_coherence.proofs.client.Imports.{ReleaseSource, Profile, answers, same_perm, broken_in_order, block_at}
-use Rattle.tl_coherence.proofs.client.Imports.{held, is_grant, is_release_ack, pending, request_of, release_of}
+use Rattle.tl_coherence.proofs.client.Imports.{held, is_grant, is_release_ack, pending, request_of, release_of, Beat}
+use Rattle.tl_coherence.proofs.client.Imports.{Perm}
 use Rattle.std.proofs.Common.{◌≡◌, ℕ, Bool, true, false, not, ◌&&◌, [], Option, Some, None, refl, ap}
-use Rattle.std.proofs.lemmas.Option.{same_Some}
-use Rattle.std.specs.Prelude.{◌==◌, option_map}
-use Rattle.tl_beat.specs.declared.beat.Beat.TheVariants as beat
-use Rattle.tl_beat.specs.declared.channel.Channel.TheVariants as channel
-use Rattle.tl_beat.specs.declared.opcode.OpD.TheVariants as opd
-use Rattle.tl_beat.specs.statement.First.{first_if}
+use Rattle.std.{proofs.lemmas.Option.same_Some, specs.Prelude.◌==◌, specs.Prelude.option_map}
+use Rattle.tl_beat.{specs.declared.channel.Channel.Channel, specs.statement.First.first_if}
 use Rattle.tl_params.specs.declared.key.Key.TheVariants.{GrantSink, ProbeOf}
-use Rattle.tl_params.specs.declared.perm.Perm.TheVariants as perm
 use Rattle.tl_params.specs.declared.rule.Rule.TheVariants.{H2, H3, H6, H7}
 use Rattle.tl_rules.specs.statement.Conformance.{comes_in_request, comes_in_release, fits_grow, has_request, misgrants}
 use Rattle.tl_rules.specs.statement.Conformance.{is_acquire_block, is_grant_without_data, size_asked, size_of_release}
@@ -22,11 +18,9 @@ rules : (asked sized amiss twice : Bool) → asked ≡ true → sized ≡ true �
     → first_if (not asked) H2 (first_if (not sized) H3 (first_if amiss H6 (first_if twice H7 None))) ≡ None
 rules asked sized amiss twice e f g h = rw (e, f, g, h) refl
 
-begun : {w : ℕ} (p : Profile) (x : BeatD w) (t : History w) → unfinished channel.D t ≡ [] → has_request x t ≡ true
-    → (x.size == size_asked x t) ≡ true
-    → (is_grant x.opcode && misgrants p x (request_of x.source t) t) ≡ false
-    → (is_grant x.opcode && pending (GrantSink x.sink) t) ≡ false
-    → broken_in_order p (beat.D x) t ≡ None
+begun : {w : ℕ} (p : Profile) (x : BeatD w) (t : History w) → unfinished Channel.D t ≡ [] → has_request x t ≡ true
+    → (x.size == size_asked x t) ≡ true → (is_grant x.opcode && misgrants p x (request_of x.source t) t) ≡ false
+    → (is_grant x.opcode && pending (GrantSink x.sink) t) ≡ false → broken_in_order p (Beat.D x) t ≡ None
 unfolding broken_order
 begun p x t none asked sized fits once = rw none (rules (has_request x t) (x.size == size_asked x t)
     (is_grant x.opcode && misgrants p x (request_of x.source t) t) (is_grant x.opcode && pending (GrantSink x.sink) t)
@@ -36,42 +30,39 @@ begun p x t none asked sized fits once = rw none (rules (has_request x t) (x.siz
 
 -- the request that a response answers
 pub record IsResponse {w : ℕ} (x : BeatD w) (r : BeatA w) (t : History w) : Type 0 where
-  pub whole : unfinished channel.D t ≡ []
-  pub complete : comes_in_request x.source (unfinished channel.A t) ≡ false
+  pub whole : unfinished Channel.D t ≡ []
+  pub complete : comes_in_request x.source (unfinished Channel.A t) ≡ false
   pub other : is_release_ack x.opcode ≡ false
   pub live : pending (RequestSource x.source) t ≡ true
   pub request : request_of x.source t ≡ Some r
   pub admits : answers x.opcode r.opcode ≡ true
   pub size : x.size ≡ r.size
 
-asked_for : {w : ℕ} (x : BeatD w) (r : BeatA w) (t : History w) → IsResponse x r t → has_request x t ≡ true
-asked_for x r t is = rw (is.other, is.live, is.complete, is.request) is.admits
+asked_for : {w : ℕ} {x : BeatD w} {r : BeatA w} {t : History w} → IsResponse x r t → has_request x t ≡ true
+asked_for is = rw (is.other, is.live, is.complete, is.request) is.admits
 
-size_for : {w : ℕ} (x : BeatD w) (r : BeatA w) (t : History w) → IsResponse x r t → (x.size == size_asked x t) ≡ true
-size_for x r t is = rw (is.other, is.request, is.size) (same_number r.size)
+size_for : {w : ℕ} {x : BeatD w} {r : BeatA w} {t : History w} → IsResponse x r t → (x.size == size_asked x t) ≡ true
+size_for {r} is = rw (is.other, is.request, is.size) (same_number r.size)
 
-pub answer-legal : {w : ℕ} (p : Profile) (x : BeatD w) (r : BeatA w) (t : History w) → IsResponse x r t
-    → is_grant x.opcode ≡ false → broken_in_order p (beat.D x) t ≡ None
-answer-legal p x r t is plain = begun p x t is.whole (asked_for x r t is) (size_for x r t is) (rw plain refl)
-    (rw plain refl)
+pub answer-legal : {w : ℕ} (p : Profile) {x : BeatD w} {r : BeatA w} {t : History w} → IsResponse x r t
+    → is_grant x.opcode ≡ false → broken_in_order p (Beat.D x) t ≡ None
+answer-legal p {x} {r} {t} is plain = begun p x t is.whole (asked_for is) (size_for is) (rw plain refl) (rw plain refl)
 
 -- a Grant of block n gives what was asked for, to a client that gets data or has a copy, and nothing
 -- of the block is probed
-pub grant-legal : {w : ℕ} (p : Profile) (n : ℕ) (x : BeatD w) (r : BeatA w) (t : History w) → IsResponse x r t
+pub grant-legal : {w : ℕ} (p : Profile) (n : ℕ) {x : BeatD w} {r : BeatA w} {t : History w} → IsResponse x r t
     → block_at r.address ≡ n → fits_grow p r.opcode r.param x.param ≡ true
-    → (is_grant_without_data x.opcode && (is_acquire_block r.opcode && not (same_perm (held n t) perm.Branch))) ≡ false
-    → pending (ProbeOf n) t ≡ false → pending (GrantSink x.sink) t ≡ false
-    → broken_in_order p (beat.D x) t ≡ None
-grant-legal {w} p n x r t is block fits carried unprobed once =
-    begun p x t is.whole (asked_for x r t is) (size_for x r t is) (never (is_grant x.opcode) grants)
+    → (is_grant_without_data x.opcode && (is_acquire_block r.opcode && not (same_perm (held n t) Perm.Branch))) ≡ false
+    → pending (ProbeOf n) t ≡ false → pending (GrantSink x.sink) t ≡ false → broken_in_order p (Beat.D x) t ≡ None
+grant-legal {w} p n {x} {r} {t} is block fits carried unprobed once =
+    let grants : misgrants p x (request_of x.source t) t ≡ false = rw (is.request, block, fits, carried, unprobed) refl
+    in
+    begun p x t is.whole (asked_for is) (size_for is) (never (is_grant x.opcode) grants)
     (never (is_grant x.opcode) once)
   where
     never : (a : Bool) {b : Bool} → b ≡ false → (a && b) ≡ false
     never true e = e
     never false e = refl
-
-    grants : misgrants p x (request_of x.source t) t ≡ false
-    grants = rw (is.request, block, fits, carried, unprobed) refl
 
 -- ---- Releases
 
@@ -80,21 +71,14 @@ release_size : {w : ℕ} (n : ℕ) (o : Option (BeatC w)) → option_map (λ (y 
 release_size n None e = absurd cc
 release_size n (Some y) e = same_Some y.size n e
 
-pub ack-legal : {w : ℕ} (p : Profile) (x : BeatD w) (t : History w) → unfinished channel.D t ≡ []
-    → comes_in_release x.source (unfinished channel.C t) ≡ false
-    → x.opcode ≡ opd.ReleaseAck → pending (ReleaseSource x.source) t ≡ true
-    → option_map (λ (y : BeatC w). y.size) (release_of x.source t) ≡ Some x.size
-    → broken_in_order p (beat.D x) t ≡ None
-ack-legal {w} p x t none complete opcode live size = begun p x t none asked sized (rw plain refl) (rw plain refl)
-  where
-    acks : is_release_ack x.opcode ≡ true
-    acks = ap (λ (o : OpD). is_release_ack o) opcode
-
-    plain : is_grant x.opcode ≡ false
-    plain = ap (λ (o : OpD). is_grant o) opcode
-
-    asked : has_request x t ≡ true
-    asked = rw (acks, live, complete) refl
-
-    sized : (x.size == size_asked x t) ≡ true
-    sized = rw (acks, release_size x.size (release_of x.source t) size) (same_number x.size)
+pub ack-legal : {w : ℕ} (p : Profile) (x : BeatD w) (t : History w) → unfinished Channel.D t ≡ []
+    → comes_in_release x.source (unfinished Channel.C t) ≡ false → x.opcode ≡ OpD.ReleaseAck
+    → pending (ReleaseSource x.source) t ≡ true → option_map (λ (y : BeatC w). y.size) (release_of x.source t)
+    ≡ Some x.size → broken_in_order p (Beat.D x) t ≡ None
+ack-legal {w} p x t none complete opcode live size =
+    let acks : is_release_ack x.opcode ≡ true = ap (λ (o : OpD). is_release_ack o) opcode in
+    let plain : is_grant x.opcode ≡ false = ap (λ (o : OpD). is_grant o) opcode in
+    let asked : has_request x t ≡ true = rw (acks, live, complete) refl in
+    let sized : (x.size == size_asked x t) ≡ true = rw (acks, release_size x.size (release_of x.source t) size)
+    (same_number x.size) in
+    begun p x t none asked sized (rw plain refl) (rw plain refl)

@@ -7,26 +7,19 @@ use Rattle.tl_coherence.proofs.client.Imports.{probes_some, request_taken, some_
 use Rattle.tl_coherence.proofs.client.Imports.{IsInvariant, cap_asked, ClientBlock, AcquirePhase, NoAcquire}
 use Rattle.tl_coherence.proofs.client.Imports.{AcquireOpen, is_unprobed, after_acquire, after_probe, after_release}
 use Rattle.tl_coherence.proofs.client.Imports.{after_release_ack, after_release_taken, after_report, is_granted_data}
-use Rattle.tl_coherence.proofs.client.Imports.{Service, Free, Waits, GrantSent, GrantTaken, Block, acquiring_block}
-use Rattle.tl_coherence.proofs.client.Imports.{freed_block, granted_at_once, granted_block, ended_block}
-use Rattle.tl_coherence.proofs.client.Imports.{acquire_granted, acquire_served, is_probed, let_block, report_taken}
-use Rattle.tl_coherence.proofs.client.Imports.{let_go_block, performed_block, probed_block, releasing_block}
-use Rattle.tl_coherence.proofs.client.Imports.{reported_block, served_block, stored_block, taken_block, view}
-use Rattle.tl_coherence.proofs.client.Imports.{acquire_of, cap_sent, prune_told, block_message, report_told, Kind}
-use Rattle.tl_coherence.proofs.client.Imports.{Request, Acquire, Probe, ProbeAck, Release, Answer, Grant, ReleaseAck}
-use Rattle.tl_coherence.proofs.client.Imports.{GrantAck, Packet, set}
-use Rattle.std.proofs.Common.{◌≡◌, ℕ, Bool, true, false, not, ◌&&◌, List, Option, Some, None, length, refl, sym, ◌∙◌}
-use Rattle.std.proofs.Common.{ap, subst, inl, inr}
-use Rattle.std.specs.Prelude.{◌==◌, if◌then◌else◌}
-use Rattle.std.proofs.lemmas.Bool.{cases_eq}
-use Rattle.tl_burst.specs.declared.message.Message.TheVariants as message
-use Rattle.tl_client.specs.declared.operation.Op.TheVariants as op
-use Rattle.tl_client.specs.declared.reply.Reply.TheVariants as reply
-use Rattle.tl_coherence.specs.protocol.Phase.{is_unacquired}
-use Rattle.tl_coherence.specs.protocol.PhaseSteps.{after_served}
-use Rattle.tl_coherence.specs.refinement.SimulationRelation.{IsAcquireOf}
-use Rattle.tl_coherence.proofs.queues.Facts.{own_wants}
-use Rattle.tl_coherence.proofs.protocol.FollowKept.{IsAskable}
+use Rattle.tl_coherence.proofs.client.Imports.{Service, Waits, GrantSent, Block, acquiring_block, freed_block}
+use Rattle.tl_coherence.proofs.client.Imports.{granted_at_once, granted_block, ended_block, acquire_granted}
+use Rattle.tl_coherence.proofs.client.Imports.{acquire_served, is_probed, let_block, report_taken, let_go_block}
+use Rattle.tl_coherence.proofs.client.Imports.{performed_block, probed_block, releasing_block, reported_block}
+use Rattle.tl_coherence.proofs.client.Imports.{served_block, stored_block, taken_block, view, acquire_of, cap_sent}
+use Rattle.tl_coherence.proofs.client.Imports.{prune_told, block_message, report_told, Kind, Request, Acquire, Probe}
+use Rattle.tl_coherence.proofs.client.Imports.{ProbeAck, Release, Answer, Grant, ReleaseAck, GrantAck, Packet, set}
+use Rattle.std.proofs.Common.{◌≡◌, ℕ, Bool, true, false, not, ◌&&◌, List, Option, Some, length, refl, sym, ◌∙◌, ap}
+use Rattle.std.proofs.Common.{subst, inl, inr}
+use Rattle.std.{specs.Prelude.◌==◌, specs.Prelude.if◌then◌else◌, proofs.lemmas.Bool.cases_eq}
+use Rattle.tl_coherence.specs.{protocol.Phase.is_unacquired, protocol.PhaseSteps.after_served}
+use Rattle.tl_coherence.specs.{refinement.SimulationRelation.IsAcquireOf}
+use Rattle.tl_coherence.proofs.{queues.Facts.own_wants, protocol.FollowKept.IsAskable}
 use Rattle.tl_coherence.proofs.queues.Tokens.{same_number, set-same, set-other, set-part}
 
 -- of all blocks
@@ -46,11 +39,8 @@ unfolding block_message
 still {w} n b new m same keeps is = subst (λ (v : Service). IsAcquireOf n new v m) (sym same) (go b.service refl is)
   where
     go : (v : Service) → b.service ≡ v → IsAcquireOf n b v m → IsAcquireOf n new v m
-    go Free e f = tt
-    go (Waits r false source k) e f = tt
     go (Waits r true source k) e f = let p = keeps r source k e in rw (p.0, p.1) f
-    go (GrantSent q d k) e f = tt
-    go (GrantTaken q) e f = tt
+    go v e f = tt
 
 -- in the place of one block
 replaced : {w : ℕ} (n : ℕ) (new : Block (List ℕ)) (block : ℕ → Block (List ℕ)) (m : MessageA w) (request : ℕ
@@ -63,8 +53,7 @@ replaced {w} n new block m request here others i = elim (cases_eq i n) [
 ]
 
 kept : {w : ℕ} (n : ℕ) (new : Block (List ℕ)) (block : ℕ → Block (List ℕ)) (request : ℕ → MessageA w)
-    → IsAcquireOf n new new.service (request n)
-    → AreAcquired request block → AreAcquired request (set n new block)
+    → IsAcquireOf n new new.service (request n) → AreAcquired request block → AreAcquired request (set n new block)
 kept {w} n new block request here others i = elim (cases_eq i n) [
   | inl same ↦ subst (λ (j : ℕ). IsAcquireOf j (set n new block j) (set n new block j).service (request j)) (sym same)
       (rw (set-same n new block) here)
@@ -90,19 +79,15 @@ unwanting c p b new pairs same sources r source k e = (
 
 waiting_for : {w : ℕ} (c n tracker : ℕ) (k : Cap) (whole : Bool) (g : Grow) (b : Block (List ℕ))
     → (b.pair c).acquiring ≡ AcquireOpen whole g
-    → block_message {w = w} Acquire c n (served_block c true (b.source c) tracker k b) ≡ message.A
+    → block_message {w = w} Acquire c n (served_block c true (b.source c) tracker k b) ≡ Message.A
     (acquisition (acquire_opcode whole) g (b.source c) n)
 unfolding block_message
-waiting_for {w} c n tracker k whole g b wants = rw (spared (c == c), wants) (go whole)
-  where
-    spared : (x : Bool) → (if true && x then b.pair c else after_served k (b.pair c)).acquiring ≡ (b.pair c).acquiring
-    spared true = refl
-    spared false = refl
-
-    go : (x : Bool) → acquire_of {w = w} (AcquireOpen x g) (b.source c) n ≡ message.A
-        (acquisition (acquire_opcode x) g (b.source c) n)
-    go true = refl
-    go false = refl
+waiting_for {w} c n tracker k whole g b wants =
+    let spared : (x : Bool) → (if true && x then b.pair c else after_served k (b.pair c)).acquiring
+    ≡ (b.pair c).acquiring = elim [ true ↦ refl | false ↦ refl ] in
+    let go : (x : Bool) → acquire_of {w = w} (AcquireOpen x g) (b.source c) n
+    ≡ Message.A (acquisition (acquire_opcode x) g (b.source c) n) = elim [ true ↦ refl | false ↦ refl ] in
+    rw (spared (c == c), wants) (go whole)
 
 access_taken-acquired : {w : ℕ} (c source tracker : ℕ) (m : MessageA w) (p : Bool) (o : Option Cap) (rest : List Packet)
     (h : AbstractState w) → AreAcquired h.request h.state.block
@@ -111,30 +96,21 @@ access_taken-acquired : {w : ℕ} (c source tracker : ℕ) (m : MessageA w) (p :
 access_taken-acquired c source tracker m true (Some k) rest h is =
     replaced (block_at m.address) (served_block c false source tracker k (h.state.block (block_at m.address)))
     h.state.block m h.request tt is
-access_taken-acquired c source tracker m true None rest h is =
+access_taken-acquired c source tracker m p o rest h is =
     unmoved (block_at m.address) (performed_block (performs m) (h.state.block (block_at m.address))) h.state.block
-    h.request refl
-    (λ r from k e. (refl, refl)) is
-access_taken-acquired c source tracker m false o rest h is =
-    unmoved (block_at m.address) (performed_block (performs m) (h.state.block (block_at m.address))) h.state.block
-    h.request refl
-    (λ r from k e. (refl, refl)) is
+    h.request refl (λ r from k e. (refl, refl)) is
 
 request_taken-acquired : {w : ℕ} (clients c source tracker : ℕ) (v : Message w) (rest : List Packet)
     (h : AbstractState w) → AreAcquired h.request h.state.block
     → AreAcquired (request_taken clients c source v tracker rest h).request
     (request_taken clients c source v tracker rest h).state.block
-request_taken-acquired clients c source tracker (message.A m) rest h is =
+request_taken-acquired clients c source tracker (Message.A m) rest h is =
     access_taken-acquired c source tracker m (probes_some clients c false (cap_probed m.opcode m.param)
     (h.state.block (block_at m.address)).pair) (cap_probed m.opcode m.param) rest h is
-request_taken-acquired clients c source tracker (message.B m) rest h is = is
-request_taken-acquired clients c source tracker (message.C m) rest h is = is
-request_taken-acquired clients c source tracker (message.D m) rest h is = is
-request_taken-acquired clients c source tracker (message.E m) rest h is = is
+request_taken-acquired clients c source tracker v rest h is = is
 
 acquire_taken-acquired : {w : ℕ} (clients : ℕ) (p : Profile) (c n tracker : ℕ) (x : AcquirePhase) (rest : List Packet)
-    (h : AbstractState w)
-    → ((h.state.block n).pair c).acquiring ≡ x → AreAcquired h.request h.state.block
+    (h : AbstractState w) → ((h.state.block n).pair c).acquiring ≡ x → AreAcquired h.request h.state.block
     → AreAcquired (acquire_taken clients p c n x tracker rest h).request
     (acquire_taken clients p c n x tracker rest h).state.block
 acquire_taken-acquired clients p c n tracker NoAcquire rest h wants is = is
@@ -150,8 +126,7 @@ acquire_taken-acquired {w} clients p c n tracker (AcquireOpen whole g) rest h wa
     given : Cap
     given = gift p whole g (is_unheld clients b.pair)
 
-    go : (x : Bool)
-        → AreAcquired (set n m h.request) (if x then acquire_served c n (b.source c) tracker
+    go : (x : Bool) → AreAcquired (set n m h.request) (if x then acquire_served c n (b.source c) tracker
         (cap_asked (AcquireOpen whole g)) rest h.state else acquire_granted c n tracker
         (is_granted_data whole g (b.pair c).recorded) given rest h.state).block
     go true = replaced n (served_block c true (b.source c) tracker (cap_asked (AcquireOpen whole g)) b) h.state.block m
@@ -169,19 +144,16 @@ granted_after-acquired clients p c q n r NoAcquire rest h is = is
 granted_after-acquired clients p c q n r (AcquireOpen whole g) rest h is =
     kept n (granted_block c q r (is_granted_data whole g ((h.state.block n).pair q).recorded)
     (gift p whole g (is_unheld clients (set c (after_report r ((h.state.block n).pair c)) (h.state.block n).pair)))
-    (h.state.block n)) h.state.block
-    h.request tt is
+    (h.state.block n)) h.state.block h.request tt is
 
 last_taken-acquired : {w : ℕ} (clients : ℕ) (p : Profile) (c n : ℕ) (r : Report) (v : Service) (rest : List Packet)
     (h : AbstractState w) → AreAcquired h.request h.state.block
     → AreAcquired (last_taken clients p c n r v rest h).request (last_taken clients p c n r v rest h).state.block
-last_taken-acquired clients p c n r Free rest h is = is
 last_taken-acquired clients p c n r (Waits q true source k) rest h is =
     granted_after-acquired clients p c q n r ((h.state.block n).pair q).acquiring rest h is
 last_taken-acquired clients p c n r (Waits q false source k) rest h is =
     kept n (ended_block c r (performs (h.request n)) (h.state.block n)) h.state.block h.request tt is
-last_taken-acquired clients p c n r (GrantSent q d k) rest h is = is
-last_taken-acquired clients p c n r (GrantTaken q) rest h is = is
+last_taken-acquired clients p c n r v rest h is = is
 
 ack_taken-acquired : {w : ℕ} (clients : ℕ) (p : Profile) (c n : ℕ) (r : Report) (rest : List Packet)
     (h : AbstractState w) → AreAcquired h.request h.state.block
@@ -189,11 +161,9 @@ ack_taken-acquired : {w : ℕ} (clients : ℕ) (p : Profile) (c n : ℕ) (r : Re
 ack_taken-acquired {w} clients p c n r rest h is =
     go (some_below clients (λ d. not (d == c) && not (is_unprobed ((h.state.block n).pair d).probing)))
   where
-    go : (x : Bool)
-        → AreAcquired (if x then with_state (report_taken c n r rest h.state) h else last_taken clients p c n r
-        (h.state.block n).service rest h).request
-        (if x then with_state (report_taken c n r rest h.state) h else last_taken clients p c n r
-        (h.state.block n).service rest h).state.block
+    go : (x : Bool) → AreAcquired (if x then with_state (report_taken c n r rest h.state) h else last_taken clients p c
+        n r (h.state.block n).service rest h).request (if x then with_state (report_taken c n r rest h.state) h else
+        last_taken clients p c n r (h.state.block n).service rest h).state.block
     go true = unmoved n (reported_block c r (h.state.block n)) h.state.block h.request refl
         (unwanting c (after_report r ((h.state.block n).pair c)) (h.state.block n)
         (reported_block c r (h.state.block n)) (λ d. refl) refl (λ d. refl)) is
@@ -204,12 +174,10 @@ ack_taken-acquired {w} clients p c n r rest h is =
 taken_by_client-acquired : {w : ℕ} (c n : ℕ) (v : Service) (rest : List Packet) (h : AbstractState w)
     → AreAcquired h.request h.state.block
     → AreAcquired (taken_by_client c n v rest h).request (taken_by_client c n v rest h).state.block
-taken_by_client-acquired c n Free rest h is = is
-taken_by_client-acquired c n (Waits q own source k) rest h is = is
 taken_by_client-acquired c n (GrantSent q d k) rest h is =
     kept n (taken_block c (is_whole ((h.state.block n).pair c).acquiring) d k (h.state.block n)) h.state.block h.request
     tt is
-taken_by_client-acquired c n (GrantTaken q) rest h is = is
+taken_by_client-acquired c n v rest h is = is
 
 -- ---- all messages that are taken
 
@@ -222,37 +190,40 @@ kind_taken-acquired config tracker c Acquire n rest h is = acquire_taken-acquire
     config.profile c n tracker ((h.state.block n).pair c).acquiring rest h refl is
 kind_taken-acquired config tracker c Probe n rest h is =
     unmoved n (probed_block c (cap_sent ((h.state.block n).pair c).probing) (h.state.block n)) h.state.block h.request
-    refl
-    (unwanting c (after_probe (cap_sent ((h.state.block n).pair c).probing) ((h.state.block n).pair c))
-    (h.state.block n)
-    (probed_block c (cap_sent ((h.state.block n).pair c).probing) (h.state.block n)) (λ d. refl) refl (λ d. refl)) is
+    refl (unwanting c (after_probe (cap_sent ((h.state.block n).pair c).probing) ((h.state.block n).pair c))
+    (h.state.block n) (probed_block c (cap_sent ((h.state.block n).pair c).probing) (h.state.block n)) (λ d. refl) refl
+    (λ d. refl)) is
 kind_taken-acquired config tracker c ProbeAck n rest h is =
     ack_taken-acquired (length config.clients.items) config.profile c n (report_told ((h.state.block n).pair c).probing)
     rest h is
 kind_taken-acquired config tracker c Release n rest h is =
     unmoved n (let_block c (prune_told ((h.state.block n).pair c).letting) (h.state.block n)) h.state.block h.request
-    refl
-    (unwanting c (after_release_taken (prune_told ((h.state.block n).pair c).letting) ((h.state.block n).pair c))
-    (h.state.block n)
-    (let_block c (prune_told ((h.state.block n).pair c).letting) (h.state.block n)) (λ d. refl) refl (λ d. refl)) is
+    refl (unwanting c (after_release_taken (prune_told ((h.state.block n).pair c).letting) ((h.state.block n).pair c))
+    (h.state.block n) (let_block c (prune_told ((h.state.block n).pair c).letting) (h.state.block n)) (λ d. refl) refl
+    (λ d. refl)) is
 kind_taken-acquired config tracker c Answer source rest h is = is
 kind_taken-acquired config tracker c Grant n rest h is = taken_by_client-acquired c n (h.state.block n).service rest h
     is
-kind_taken-acquired config tracker c ReleaseAck n rest h is =
-    unmoved n (let_go_block c (h.state.block n)) h.state.block h.request refl
-    (unwanting c (after_release_ack ((h.state.block n).pair c)) (h.state.block n) (let_go_block c (h.state.block n))
-    (λ d. refl) refl (λ d. refl)) is
+kind_taken-acquired config tracker c ReleaseAck n rest h is = unmoved n (let_go_block c (h.state.block n)) h.state.block
+    h.request refl (unwanting c (after_release_ack ((h.state.block n).pair c)) (h.state.block n)
+    (let_go_block c (h.state.block n)) (λ d. refl) refl (λ d. refl)) is
 kind_taken-acquired config tracker c GrantAck n rest h is = kept n (freed_block (h.state.block n)) h.state.block
     h.request tt is
 
 -- ---- operations that are asked
 
 -- a client that has none open asks for another Acquire
-acquiring-acquired : {w : ℕ} (caching : ℕ → Bool) (c n source : ℕ) (whole : Bool) (g : Grow) (bytes : List ℕ)
+acquiring-acquired : {w : ℕ} {caching : ℕ → Bool} (c n source : ℕ) (whole : Bool) (g : Grow) (bytes : List ℕ)
     (h : AbstractState w) → IsInvariant caching h.state
     → ((h.state.block n).pair c).acquiring ≡ NoAcquire → AreAcquired h.request h.state.block
     → AreAcquired h.request (set n (acquiring_block c source whole g bytes (h.state.block n)) h.state.block)
-acquiring-acquired {w} caching c n source whole g bytes h inv calm is =
+acquiring-acquired {w} c n source whole g bytes h inv calm is =
+    let keeps : KeepsOpen b (acquiring_block c source whole g bytes b) =
+    λ r from k e. (
+      ap (λ (p : ClientBlock). p.acquiring) (set-other c r (after_acquire whole g (b.pair c)) b.pair
+          (apart r from k e)),
+      set-other c r source b.source (apart r from k e),
+    ) in
     unmoved n (acquiring_block c source whole g bytes b) h.state.block h.request refl keeps is
   where
     b : Block (List ℕ)
@@ -265,53 +236,44 @@ acquiring-acquired {w} caching c n source whole g bytes h inv calm is =
         let no : false ≡ true = rw calm at here in
         cc
 
-    keeps : KeepsOpen b (acquiring_block c source whole g bytes b)
-    keeps r from k e = (
-      ap (λ (p : ClientBlock). p.acquiring) (set-other c r (after_acquire whole g (b.pair c)) b.pair
-          (apart r from k e)),
-      set-other c r source b.source (apart r from k e),
-    )
-
-pub asked-acquired : {w : ℕ} (caching : ℕ → Bool) (c : ℕ) (o : Op w) (r : Reply) (h : AbstractState w)
+pub asked-acquired : {w : ℕ} {caching : ℕ → Bool} (c : ℕ) (o : Op w) (r : Reply) (h : AbstractState w)
     → IsInvariant caching h.state → IsAskable caching c o r h
     → AreAcquired h.request h.state.block → AreAcquired (asked c o r h).request (asked c o r h).state.block
-asked-acquired caching c (op.Store address size value) reply.Stored h inv may is =
+asked-acquired c (Op.Store address size value) Reply.Stored h inv may is =
     unmoved (block_at address)
     (stored_block c (copy_stored address size value ((h.state.block (block_at address)).copy c))
-    (h.state.block (block_at address)))
-    h.state.block h.request refl (λ r from k e. (refl, refl)) is
-asked-acquired caching c (op.Acquire n g) (reply.Started source) h inv may is =
-    acquiring-acquired caching c n source false g ((h.state.block n).waiting c) h inv may.2 is
-asked-acquired caching c (op.AcquireWhole n bytes) (reply.Started source) h inv may is =
-    acquiring-acquired caching c n source true (whole_grow ((h.state.block n).pair c).held) bytes h inv may.2 is
-asked-acquired caching c (op.Release n p) (reply.Started source) h inv may is =
+    (h.state.block (block_at address))) h.state.block h.request refl (λ r from k e. (refl, refl)) is
+asked-acquired {caching} c (Op.Acquire n g) (Reply.Started source) h inv may is =
+    acquiring-acquired c n source false g ((h.state.block n).waiting c) h inv may.2 is
+asked-acquired {caching} c (Op.AcquireWhole n bytes) (Reply.Started source) h inv may is =
+    acquiring-acquired c n source true (whole_grow ((h.state.block n).pair c).held) bytes h inv may.2 is
+asked-acquired c (Op.Release n p) (Reply.Started source) h inv may is =
     unmoved n (releasing_block c source p (h.state.block n)) h.state.block h.request refl
     (unwanting c (after_release p ((h.state.block n).pair c)) (h.state.block n)
-    (releasing_block c source p (h.state.block n)) (λ d. refl) refl (λ d. refl))
-    is
-asked-acquired caching c (op.Access (message.A m)) (reply.Started source) h inv may is = is
-asked-acquired caching c (op.Access (message.A m)) (reply.Value v) h inv may is = is
-asked-acquired caching c (op.Access (message.A m)) reply.Stored h inv may is = is
-asked-acquired caching c (op.Access (message.A m)) reply.Miss h inv may is = is
-asked-acquired caching c (op.Access (message.A m)) (reply.Busy why) h inv may is = is
-asked-acquired caching c (op.Access (message.B m)) r h inv may is = is
-asked-acquired caching c (op.Access (message.C m)) r h inv may is = is
-asked-acquired caching c (op.Access (message.D m)) r h inv may is = is
-asked-acquired caching c (op.Access (message.E m)) r h inv may is = is
-asked-acquired caching c (op.Load address size) r h inv may is = is
-asked-acquired caching c (op.Store address size value) (reply.Value v) h inv may is = is
-asked-acquired caching c (op.Store address size value) reply.Miss h inv may is = is
-asked-acquired caching c (op.Store address size value) (reply.Started source) h inv may is = is
-asked-acquired caching c (op.Store address size value) (reply.Busy why) h inv may is = is
-asked-acquired caching c (op.Acquire n g) (reply.Value v) h inv may is = is
-asked-acquired caching c (op.Acquire n g) reply.Stored h inv may is = is
-asked-acquired caching c (op.Acquire n g) reply.Miss h inv may is = is
-asked-acquired caching c (op.Acquire n g) (reply.Busy why) h inv may is = is
-asked-acquired caching c (op.AcquireWhole n bytes) (reply.Value v) h inv may is = is
-asked-acquired caching c (op.AcquireWhole n bytes) reply.Stored h inv may is = is
-asked-acquired caching c (op.AcquireWhole n bytes) reply.Miss h inv may is = is
-asked-acquired caching c (op.AcquireWhole n bytes) (reply.Busy why) h inv may is = is
-asked-acquired caching c (op.Release n p) (reply.Value v) h inv may is = is
-asked-acquired caching c (op.Release n p) reply.Stored h inv may is = is
-asked-acquired caching c (op.Release n p) reply.Miss h inv may is = is
-asked-acquired caching c (op.Release n p) (reply.Busy why) h inv may is = is
+    (releasing_block c source p (h.state.block n)) (λ d. refl) refl (λ d. refl)) is
+asked-acquired c (Op.Access (Message.A m)) (Reply.Started source) h inv may is = is
+asked-acquired c (Op.Access (Message.A m)) (Reply.Value v) h inv may is = is
+asked-acquired c (Op.Access (Message.A m)) Reply.Stored h inv may is = is
+asked-acquired c (Op.Access (Message.A m)) Reply.Miss h inv may is = is
+asked-acquired c (Op.Access (Message.A m)) (Reply.Busy why) h inv may is = is
+asked-acquired c (Op.Access (Message.B m)) r h inv may is = is
+asked-acquired c (Op.Access (Message.C m)) r h inv may is = is
+asked-acquired c (Op.Access (Message.D m)) r h inv may is = is
+asked-acquired c (Op.Access (Message.E m)) r h inv may is = is
+asked-acquired c (Op.Load address size) r h inv may is = is
+asked-acquired c (Op.Store address size value) (Reply.Value v) h inv may is = is
+asked-acquired c (Op.Store address size value) Reply.Miss h inv may is = is
+asked-acquired c (Op.Store address size value) (Reply.Started source) h inv may is = is
+asked-acquired c (Op.Store address size value) (Reply.Busy why) h inv may is = is
+asked-acquired c (Op.Acquire n g) (Reply.Value v) h inv may is = is
+asked-acquired c (Op.Acquire n g) Reply.Stored h inv may is = is
+asked-acquired c (Op.Acquire n g) Reply.Miss h inv may is = is
+asked-acquired c (Op.Acquire n g) (Reply.Busy why) h inv may is = is
+asked-acquired c (Op.AcquireWhole n bytes) (Reply.Value v) h inv may is = is
+asked-acquired c (Op.AcquireWhole n bytes) Reply.Stored h inv may is = is
+asked-acquired c (Op.AcquireWhole n bytes) Reply.Miss h inv may is = is
+asked-acquired c (Op.AcquireWhole n bytes) (Reply.Busy why) h inv may is = is
+asked-acquired c (Op.Release n p) (Reply.Value v) h inv may is = is
+asked-acquired c (Op.Release n p) Reply.Stored h inv may is = is
+asked-acquired c (Op.Release n p) Reply.Miss h inv may is = is
+asked-acquired c (Op.Release n p) (Reply.Busy why) h inv may is = is

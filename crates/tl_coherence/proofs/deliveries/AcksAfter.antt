@@ -3,52 +3,40 @@ use Rattle.tl_coherence.proofs.deliveries.Imports.{IsWidth, Beat, Link, Channel,
 use Rattle.tl_coherence.proofs.deliveries.Imports.{on_link, reaction, Deliver, is_moving, AbstractState, kind_taken}
 use Rattle.tl_coherence.proofs.deliveries.Imports.{Log, system_after, ChannelRelation, MemoryRelation, GrantTaken}
 use Rattle.tl_coherence.proofs.deliveries.Imports.{packet, is_on, shown, one_memory_after, performing}
-use Rattle.tl_coherence.proofs.deliveries.Imports.{accesses_answered, block_message, message_of_kind, stepped, System}
-use Rattle.tl_coherence.proofs.deliveries.Imports.{terms_at, with_channel, with_messages, Kind, Request, Acquire, Probe}
-use Rattle.tl_coherence.proofs.deliveries.Imports.{ProbeAck, Release, Answer, Grant, ReleaseAck, GrantAck}
-use Rattle.tl_coherence.proofs.deliveries.Imports.{SimulationRelation, is_caching}
+use Rattle.tl_coherence.proofs.deliveries.Imports.{accesses_answered, block_message, stepped, System, terms_at}
+use Rattle.tl_coherence.proofs.deliveries.Imports.{with_channel, with_messages, Kind, GrantAck, SimulationRelation}
 use Rattle.std.proofs.Common.{◌≡◌, ℕ, Bool, true, false, List, [], ◌∷◌, Some, None, refl, sym, ◌∙◌, ap, subst}
 use Rattle.tl_beat.specs.declared.beat.BeatE.{BeatE}
-use Rattle.tl_beat.specs.declared.channel.Channel.TheVariants as channel
 use Rattle.tl_client.specs.statement.Endpoint as client
 use Rattle.tl_manager.proofs.calls.Events.{reaction-ack}
 use Rattle.tl_coherence.specs.protocol.Protocol.{freed_block, grant_ack_taken}
-use Rattle.tl_coherence.proofs.memory.BesideKinds.{beside_block}
-use Rattle.tl_coherence.proofs.queues.Shown.{carried-shown}
-use Rattle.tl_coherence.proofs.simulation.CarriedResponses.{grant_ack_taken-shown}
-use Rattle.tl_coherence.proofs.deliveries.DeliverDUnmoved.{IsDelivered}
+use Rattle.tl_coherence.proofs.{memory.BesideKinds.beside_block, queues.Shown.carried-shown}
+use Rattle.tl_coherence.proofs.{simulation.CarriedResponses.grant_ack_taken-shown}
+use Rattle.tl_coherence.proofs.{deliveries.DeliverDUnmoved.IsDelivered, queues.Tokens.holds-first}
+use Rattle.tl_coherence.proofs.{protocol.BothParts.acknowledging-is}
 use Rattle.tl_coherence.proofs.deliveries.ManagersAfter.{IsAtManager, at-manager, after_taken, delivered-last}
 use Rattle.tl_coherence.proofs.deliveries.ManagersAfter.{delivered-part}
 use Rattle.tl_coherence.proofs.manager.UnwaitedRequests.{next_tracker, invariant-taken}
-use Rattle.tl_coherence.proofs.queues.Tokens.{holds-first}
-use Rattle.tl_coherence.proofs.protocol.BothParts.{acknowledging-is}
 
-ack_kind : (k : Kind) → is_on channel.E k ≡ true → k ≡ GrantAck
+ack_kind : (k : Kind) → is_on Channel.E k ≡ true → k ≡ GrantAck
 ack_kind GrantAck e = refl
-ack_kind Request e = absurd cc
-ack_kind Acquire e = absurd cc
-ack_kind Probe e = absurd cc
-ack_kind ProbeAck e = absurd cc
-ack_kind Release e = absurd cc
-ack_kind Answer e = absurd cc
-ack_kind Grant e = absurd cc
-ack_kind ReleaseAck e = absurd cc
+ack_kind k e = absurd cc
 
-pub delivered-e : {w : ℕ} (config : Config) (log : Log w) (link : Link) (h : AbstractState w) (terms : client.EndConfig)
+pub delivered-e : {w : ℕ} {config : Config} {log : Log w} (link : Link) (h : AbstractState w) (terms : client.EndConfig)
     (x : Beat w) (queue : List (Beat w)) → IsWidth w
     → SimulationRelation config log h.mail h.request h.state (system_after config log)
-    → terms_at config link.0 ≡ Some terms → (system_after config log).channels link.0 channel.E ≡ x ∷ queue
-    → is_moving (stepped config (Deliver link channel.E) (system_after config log)).outcome ≡ true
-    → IsDelivered config log link channel.E h
+    → terms_at config link.0 ≡ Some terms → (system_after config log).channels link.0 Channel.E ≡ x ∷ queue
+    → is_moving (stepped config (Deliver link Channel.E) (system_after config log)).outcome ≡ true
+    → IsDelivered config log link Channel.E h
 unfolding block_message with_messages performing accesses_answered
-delivered-e {w} config log link h terms x queue width matched known beats moving =
-    go (completes x (unfinished channel.E (on_link link.0 sys.manager.trace))) refl
+delivered-e {w} {config} {log} link h terms x queue width matched known beats moving =
+    go (completes x (unfinished Channel.E (on_link link.0 sys.manager.trace))) refl
   where
     sys : System w
     sys = system_after config log
 
-    is : IsAtManager config log link channel.E h x queue
-    is = at-manager config log link channel.E h terms x queue width matched known refl beats moving
+    is : IsAtManager config log link Channel.E h x queue
+    is = at-manager link Channel.E h terms x queue width matched known refl beats moving
 
     n : ℕ
     n = is.first.number
@@ -60,8 +48,7 @@ delivered-e {w} config log link h terms x queue width matched known beats moving
     tokens = is.first.tokens ∙ ap (λ (k : Kind). packet k n ∷ is.first.rest) kind
 
     x_is : x ≡ beat_of (block_message GrantAck link.0 n (h.state.block n)) is.first.next.k
-    x_is = is.first.next.beat_is ∙ ap (λ (k : Kind). beat_of (message_of_kind k h.mail h.state link.0 n)
-        is.first.next.k) kind
+    x_is = cc (is.first.next.beat_is, kind)
 
     y : BeatE
     y = record { sink = (h.state.block n).tracker }
@@ -71,34 +58,28 @@ delivered-e {w} config log link h terms x queue width matched known beats moving
         (reaction-ack config link y sys.manager)
 
     sent : (h.state.block n).service ≡ GrantTaken link.0
-    sent = acknowledging-is (h.state.block n).service link.0
-        (holds-first GrantAck (h.state.link link.0).e is.first.rest (packet GrantAck n)
-        (λ i. shown GrantAck link.0 (h.state.block i)) tokens refl
+    sent = acknowledging-is (h.state.block n).service link.0 (holds-first GrantAck (h.state.link link.0).e is.first.rest
+        (packet GrantAck n) (λ i. shown GrantAck link.0 (h.state.block i)) tokens refl
         (matched.invariant.transfers link.0 GrantAck refl))
 
-    go : (b : Bool) → completes x (unfinished channel.E (on_link link.0 sys.manager.trace)) ≡ b
-        → IsDelivered config log link channel.E h
-    go false part = delivered-part config log link channel.E h x queue width matched refl is part
+    go : (b : Bool) → completes x (unfinished Channel.E (on_link link.0 sys.manager.trace)) ≡ b
+        → IsDelivered config log link Channel.E h
+    go false part = delivered-part width matched refl is part
     go true last =
-        delivered-last config log link channel.E h x queue [] (λ d at. None) refl is last gives (λ d at. unpushed d at)
+        let unpushed : (d : ℕ) (at : Channel) → (after_taken config link Channel.E x queue sys []).channels d at
+        ≡ (with_channel link.0 Channel.E queue sys).channels d at = λ d at. refl in
+        let quiet = beside_block n (freed_block (h.state.block n))
+        (grant_ack_taken link.0 n is.first.rest h.state) (λ i. refl) (λ d i. refl)
+        (λ d i. refl) refl (λ d. refl) (λ d. refl) matched.beside in
+        delivered-last [] (λ d at. None) refl is last gives (λ d at. unpushed d at)
         (λ taken. subst (λ (k : Kind). ChannelRelation (kind_taken config (next_tracker sys) link.0 k n is.first.rest
         h).mail
         (kind_taken config (next_tracker sys) link.0 k n is.first.rest h).state
-        (after_taken config link channel.E x queue sys [])) (sym kind)
-        (carried-shown width (grant_ack_taken-shown (is_caching config) link.0 n is.first.rest h.mail h.state
+        (after_taken config link Channel.E x queue sys [])) (sym kind)
+        (carried-shown width (grant_ack_taken-shown link.0 n is.first.rest h.mail
         matched.invariant (invariant-taken config log h sys link.0 GrantAck n is.first.rest matched tokens tt) tokens
         sent)
         taken matched.carried))
         (subst (λ (k : Kind). MemoryRelation (kind_taken config (next_tracker sys) link.0 k n is.first.rest h).mail
         (kind_taken config (next_tracker sys) link.0 k n is.first.rest h).state
         (performing [] (one_memory_after config log))) (sym kind) quiet)
-      where
-        unpushed : (d : ℕ) (at : Channel) → (after_taken config link channel.E x queue sys []).channels d
-            at ≡ (with_channel link.0 channel.E queue sys).channels d at
-        unpushed d at = refl
-
-        quiet : MemoryRelation h.mail (grant_ack_taken link.0 n is.first.rest h.state)
-            (performing [] (one_memory_after config log))
-        quiet = beside_block n (freed_block (h.state.block n)) h.mail h.state
-            (grant_ack_taken link.0 n is.first.rest h.state) (one_memory_after config log)
-            (λ i. refl) (λ d i. refl) (λ d i. refl) refl (λ d. refl) (λ d. refl) matched.beside

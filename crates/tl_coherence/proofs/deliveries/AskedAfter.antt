@@ -5,44 +5,31 @@ use Rattle.tl_coherence.proofs.deliveries.Imports.{system_after, ChannelRelation
 use Rattle.tl_coherence.proofs.deliveries.Imports.{one_memory_after, performing, accesses_answered, AccessMessages}
 use Rattle.tl_coherence.proofs.deliveries.Imports.{block_message, Step, stepped, handed_by, System, terms_at}
 use Rattle.tl_coherence.proofs.deliveries.Imports.{with_client, with_messages, Acquire, Release, SimulationRelation}
-use Rattle.tl_coherence.proofs.deliveries.Imports.{is_caching}
+use Rattle.tl_coherence.proofs.deliveries.Imports.{is_caching, Perm}
 use Rattle.std.proofs.Common.{◌≡◌, ℕ, Bool, true, false, ◌||◌, List, [], ◌∷◌, Option, Some, None, refl, sym, ◌∙◌, ap}
 use Rattle.std.proofs.Common.{subst, inl, inr}
 use Rattle.std.proofs.lemmas.Bool.{cases_eq, or_right}
-use Rattle.tl_beat.specs.declared.opcode.OpA.TheVariants as a
-use Rattle.tl_burst.specs.declared.message.Message.TheVariants as message
-use Rattle.tl_params.specs.declared.param.Prune.TheVariants as prune
-use Rattle.tl_params.specs.declared.perm.Perm.TheVariants as perm
-use Rattle.tl_client.specs.declared.operation.Op.TheVariants as op
-use Rattle.tl_client.specs.declared.reply.Reply.{Reply}
-use Rattle.tl_client.specs.declared.reply.Reply.TheVariants as reply
+use Rattle.tl_beat.specs.declared.opcode.OpA.{OpA}
+use Rattle.tl_client.{specs.declared.reply.Reply.Reply, specs.statement.Ask.whole_grow}
+use Rattle.tl_client.{proofs.endpoint.Outstanding.unfinished-asked}
 use Rattle.tl_client.specs.statement.Ask as ask
-use Rattle.tl_client.specs.statement.Ask.{whole_grow}
 use Rattle.tl_client.specs.statement.Endpoint as client
 use Rattle.tl_client.specs.statement.Send.{access, sourced, acquisition}
-use Rattle.tl_client.proofs.endpoint.Outstanding.{unfinished-asked}
-use Rattle.tl_coherence.specs.declared.event.Outcome.TheVariants as outcome
-use Rattle.tl_coherence.specs.refinement.AbstractStep.{asked, acquire_opcode}
-use Rattle.tl_coherence.specs.statement.Headline.{Continues}
-use Rattle.tl_coherence.specs.statement.Machine.{Performs, after_reply}
-use Rattle.tl_coherence.specs.protocol.PhaseSteps.{after_acquire, after_release}
-use Rattle.tl_coherence.specs.protocol.Protocol.{acquiring_block, releasing_block}
-use Rattle.tl_coherence.proofs.deliveries.AskedWell.{asked-well}
-use Rattle.tl_coherence.proofs.deliveries.BusyWell.{IsHandedOut}
-use Rattle.tl_coherence.proofs.memory.BesideAsked.{IsReply, beside-asked}
+use Rattle.tl_coherence.specs.{declared.event.Outcome.Outcome, refinement.AbstractStep.asked}
+use Rattle.tl_coherence.specs.{refinement.AbstractStep.acquire_opcode, statement.Headline.Continues}
+use Rattle.tl_coherence.specs.{statement.Machine.Performs, statement.Machine.after_reply}
+use Rattle.tl_coherence.specs.{protocol.PhaseSteps.after_acquire, protocol.PhaseSteps.after_release}
+use Rattle.tl_coherence.specs.{protocol.Protocol.acquiring_block, protocol.Protocol.releasing_block}
+use Rattle.tl_coherence.proofs.{deliveries.AskedWell.asked-well, deliveries.BusyWell.IsHandedOut}
+use Rattle.tl_coherence.proofs.{memory.BesideAsked.IsReply, memory.BesideAsked.beside-asked, queues.Channels.IsHanded}
+use Rattle.tl_coherence.proofs.{queues.Channels.pushes_at, queues.PhaseFacts.trunk_held, protocol.FollowKept.IsAskable}
+use Rattle.tl_coherence.proofs.{protocol.FollowKept.asked-kept, queues.Phases.and_left, protocol.Heads.rendered-acquire}
+use Rattle.tl_coherence.proofs.{queues.Landed.pushes_of, queues.Landed.handed-client, queues.Showing.none-carried}
+use Rattle.tl_coherence.proofs.{queues.Steps.stepped-asked, queues.Tokens.set-same}
+use Rattle.tl_coherence.proofs.{deliveries.ManagersAfter.release_channel}
 use Rattle.tl_coherence.proofs.simulation.CarriedAsks.{access_asked-carried, acquire_asked-carried}
 use Rattle.tl_coherence.proofs.simulation.CarriedAsks.{release_asked-carried, nothing_asked-carried}
 use Rattle.tl_coherence.proofs.simulation.CarriedAsks.{block_stored-carried}
-use Rattle.tl_coherence.proofs.queues.Channels.{IsHanded, pushes_at}
-use Rattle.tl_coherence.proofs.queues.PhaseFacts.{trunk_held}
-use Rattle.tl_coherence.proofs.protocol.FollowKept.{IsAskable, asked-kept}
-use Rattle.tl_coherence.proofs.queues.Phases.{and_left}
-use Rattle.tl_coherence.proofs.protocol.Heads.{rendered-acquire}
-use Rattle.tl_coherence.proofs.queues.Landed.{pushes_of, handed-client}
-use Rattle.tl_coherence.proofs.queues.Showing.{none-carried}
-use Rattle.tl_coherence.proofs.queues.Steps.{stepped-asked}
-use Rattle.tl_coherence.proofs.queues.Tokens.{set-same}
-use Rattle.tl_coherence.proofs.deliveries.ManagersAfter.{release_channel}
 
 -- ---- the operations that do something
 
@@ -52,122 +39,110 @@ IsPlain {w} o r = (c : ℕ) (h : AbstractState w) → (asked c o r h ≡ h)
     × ((m : Option (Message w)) → IsHandedOut c o r h m → m ≡ None)
 
 pub reply-cases : {w : ℕ} (P : Op w → Reply → Type 0) (o : Op w) (r : Reply) → IsReply o r
-    → ((address size value : ℕ) → P (op.Store address size value) reply.Stored)
-    → ((n : ℕ) (g : Grow) (source : ℕ) → P (op.Acquire n g) (reply.Started source))
-    → ((n : ℕ) (bytes : List ℕ) (source : ℕ) → P (op.AcquireWhole n bytes) (reply.Started source))
-    → ((n : ℕ) (p : Prune) (source : ℕ) → P (op.Release n p) (reply.Started source))
-    → ((x : MessageA w) (source : ℕ) → P (op.Access (message.A x)) (reply.Started source))
+    → ((address size value : ℕ) → P (Op.Store address size value) Reply.Stored)
+    → ((n : ℕ) (g : Grow) (source : ℕ) → P (Op.Acquire n g) (Reply.Started source))
+    → ((n : ℕ) (bytes : List ℕ) (source : ℕ) → P (Op.AcquireWhole n bytes) (Reply.Started source))
+    → ((n : ℕ) (p : Prune) (source : ℕ) → P (Op.Release n p) (Reply.Started source))
+    → ((x : MessageA w) (source : ℕ) → P (Op.Access (Message.A x)) (Reply.Started source))
     → ((o : Op w) (r : Reply) → IsPlain o r → P o r) → P o r
-reply-cases P (op.Load address size) (reply.Value v) is stored acquires stores releases accesses others =
-    others (op.Load address size) (reply.Value v) (λ c h. (refl, λ m e. e))
-reply-cases P (op.Load address size) reply.Stored is stored acquires stores releases accesses others =
-    others (op.Load address size) reply.Stored (λ c h. (refl, λ m e. e))
-reply-cases P (op.Load address size) reply.Miss is stored acquires stores releases accesses others =
-    others (op.Load address size) reply.Miss (λ c h. (refl, λ m e. e))
-reply-cases P (op.Load address size) (reply.Started source) is stored acquires stores releases accesses others =
-    absurd is
-reply-cases P (op.Load address size) (reply.Busy why) is stored acquires stores releases accesses others =
-    others (op.Load address size) (reply.Busy why) (λ c h. (refl, λ m e. e))
-reply-cases P (op.Store address size value) (reply.Value v) is stored acquires stores releases accesses others =
-    others (op.Store address size value) (reply.Value v) (λ c h. (refl, λ m e. e))
-reply-cases P (op.Store address size value) reply.Stored is stored acquires stores releases accesses others =
+reply-cases P (Op.Load address size) (Reply.Value v) is stored acquires stores releases accesses others =
+    others (Op.Load address size) (Reply.Value v) (λ c h. (refl, λ m e. e))
+reply-cases P (Op.Load address size) Reply.Stored is stored acquires stores releases accesses others =
+    others (Op.Load address size) Reply.Stored (λ c h. (refl, λ m e. e))
+reply-cases P (Op.Load address size) Reply.Miss is stored acquires stores releases accesses others =
+    others (Op.Load address size) Reply.Miss (λ c h. (refl, λ m e. e))
+reply-cases P (Op.Load address size) (Reply.Busy why) is stored acquires stores releases accesses others =
+    others (Op.Load address size) (Reply.Busy why) (λ c h. (refl, λ m e. e))
+reply-cases P (Op.Store address size value) (Reply.Value v) is stored acquires stores releases accesses others =
+    others (Op.Store address size value) (Reply.Value v) (λ c h. (refl, λ m e. e))
+reply-cases P (Op.Store address size value) Reply.Stored is stored acquires stores releases accesses others =
     stored address size value
-reply-cases P (op.Store address size value) reply.Miss is stored acquires stores releases accesses others =
-    others (op.Store address size value) reply.Miss (λ c h. (refl, λ m e. e))
-reply-cases P (op.Store address size value) (reply.Started source) is stored acquires stores releases accesses others =
-    absurd is
-reply-cases P (op.Store address size value) (reply.Busy why) is stored acquires stores releases accesses others =
-    others (op.Store address size value) (reply.Busy why) (λ c h. (refl, λ m e. e))
-reply-cases P (op.Acquire n g) (reply.Value v) is stored acquires stores releases accesses others =
-    others (op.Acquire n g) (reply.Value v) (λ c h. (refl, λ m e. e))
-reply-cases P (op.Acquire n g) reply.Stored is stored acquires stores releases accesses others =
-    others (op.Acquire n g) reply.Stored (λ c h. (refl, λ m e. e))
-reply-cases P (op.Acquire n g) reply.Miss is stored acquires stores releases accesses others =
-    others (op.Acquire n g) reply.Miss (λ c h. (refl, λ m e. e))
-reply-cases P (op.Acquire n g) (reply.Started source) is stored acquires stores releases accesses others =
+reply-cases P (Op.Store address size value) Reply.Miss is stored acquires stores releases accesses others =
+    others (Op.Store address size value) Reply.Miss (λ c h. (refl, λ m e. e))
+reply-cases P (Op.Store address size value) (Reply.Busy why) is stored acquires stores releases accesses others =
+    others (Op.Store address size value) (Reply.Busy why) (λ c h. (refl, λ m e. e))
+reply-cases P (Op.Acquire n g) (Reply.Value v) is stored acquires stores releases accesses others =
+    others (Op.Acquire n g) (Reply.Value v) (λ c h. (refl, λ m e. e))
+reply-cases P (Op.Acquire n g) Reply.Stored is stored acquires stores releases accesses others =
+    others (Op.Acquire n g) Reply.Stored (λ c h. (refl, λ m e. e))
+reply-cases P (Op.Acquire n g) Reply.Miss is stored acquires stores releases accesses others =
+    others (Op.Acquire n g) Reply.Miss (λ c h. (refl, λ m e. e))
+reply-cases P (Op.Acquire n g) (Reply.Started source) is stored acquires stores releases accesses others =
     acquires n g source
-reply-cases P (op.Acquire n g) (reply.Busy why) is stored acquires stores releases accesses others =
-    others (op.Acquire n g) (reply.Busy why) (λ c h. (refl, λ m e. e))
-reply-cases P (op.AcquireWhole n bytes) (reply.Value v) is stored acquires stores releases accesses others =
-    others (op.AcquireWhole n bytes) (reply.Value v) (λ c h. (refl, λ m e. e))
-reply-cases P (op.AcquireWhole n bytes) reply.Stored is stored acquires stores releases accesses others =
-    others (op.AcquireWhole n bytes) reply.Stored (λ c h. (refl, λ m e. e))
-reply-cases P (op.AcquireWhole n bytes) reply.Miss is stored acquires stores releases accesses others =
-    others (op.AcquireWhole n bytes) reply.Miss (λ c h. (refl, λ m e. e))
-reply-cases P (op.AcquireWhole n bytes) (reply.Started source) is stored acquires stores releases accesses others =
+reply-cases P (Op.Acquire n g) (Reply.Busy why) is stored acquires stores releases accesses others =
+    others (Op.Acquire n g) (Reply.Busy why) (λ c h. (refl, λ m e. e))
+reply-cases P (Op.AcquireWhole n bytes) (Reply.Value v) is stored acquires stores releases accesses others =
+    others (Op.AcquireWhole n bytes) (Reply.Value v) (λ c h. (refl, λ m e. e))
+reply-cases P (Op.AcquireWhole n bytes) Reply.Stored is stored acquires stores releases accesses others =
+    others (Op.AcquireWhole n bytes) Reply.Stored (λ c h. (refl, λ m e. e))
+reply-cases P (Op.AcquireWhole n bytes) Reply.Miss is stored acquires stores releases accesses others =
+    others (Op.AcquireWhole n bytes) Reply.Miss (λ c h. (refl, λ m e. e))
+reply-cases P (Op.AcquireWhole n bytes) (Reply.Started source) is stored acquires stores releases accesses others =
     stores n bytes source
-reply-cases P (op.AcquireWhole n bytes) (reply.Busy why) is stored acquires stores releases accesses others =
-    others (op.AcquireWhole n bytes) (reply.Busy why) (λ c h. (refl, λ m e. e))
-reply-cases P (op.Release n p) (reply.Value v) is stored acquires stores releases accesses others =
-    others (op.Release n p) (reply.Value v) (λ c h. (refl, λ m e. e))
-reply-cases P (op.Release n p) reply.Stored is stored acquires stores releases accesses others =
-    others (op.Release n p) reply.Stored (λ c h. (refl, λ m e. e))
-reply-cases P (op.Release n p) reply.Miss is stored acquires stores releases accesses others =
-    others (op.Release n p) reply.Miss (λ c h. (refl, λ m e. e))
-reply-cases P (op.Release n p) (reply.Started source) is stored acquires stores releases accesses others =
+reply-cases P (Op.AcquireWhole n bytes) (Reply.Busy why) is stored acquires stores releases accesses others =
+    others (Op.AcquireWhole n bytes) (Reply.Busy why) (λ c h. (refl, λ m e. e))
+reply-cases P (Op.Release n p) (Reply.Value v) is stored acquires stores releases accesses others =
+    others (Op.Release n p) (Reply.Value v) (λ c h. (refl, λ m e. e))
+reply-cases P (Op.Release n p) Reply.Stored is stored acquires stores releases accesses others =
+    others (Op.Release n p) Reply.Stored (λ c h. (refl, λ m e. e))
+reply-cases P (Op.Release n p) Reply.Miss is stored acquires stores releases accesses others =
+    others (Op.Release n p) Reply.Miss (λ c h. (refl, λ m e. e))
+reply-cases P (Op.Release n p) (Reply.Started source) is stored acquires stores releases accesses others =
     releases n p source
-reply-cases P (op.Release n p) (reply.Busy why) is stored acquires stores releases accesses others =
-    others (op.Release n p) (reply.Busy why) (λ c h. (refl, λ m e. e))
-reply-cases P (op.Access (message.A x)) (reply.Value v) is stored acquires stores releases accesses others =
-    others (op.Access (message.A x)) (reply.Value v) (λ c h. (refl, λ m e. e))
-reply-cases P (op.Access (message.A x)) reply.Stored is stored acquires stores releases accesses others =
-    others (op.Access (message.A x)) reply.Stored (λ c h. (refl, λ m e. e))
-reply-cases P (op.Access (message.A x)) reply.Miss is stored acquires stores releases accesses others =
-    others (op.Access (message.A x)) reply.Miss (λ c h. (refl, λ m e. e))
-reply-cases P (op.Access (message.A x)) (reply.Started source) is stored acquires stores releases accesses others =
+reply-cases P (Op.Release n p) (Reply.Busy why) is stored acquires stores releases accesses others =
+    others (Op.Release n p) (Reply.Busy why) (λ c h. (refl, λ m e. e))
+reply-cases P (Op.Access (Message.A x)) (Reply.Value v) is stored acquires stores releases accesses others =
+    others (Op.Access (Message.A x)) (Reply.Value v) (λ c h. (refl, λ m e. e))
+reply-cases P (Op.Access (Message.A x)) Reply.Stored is stored acquires stores releases accesses others =
+    others (Op.Access (Message.A x)) Reply.Stored (λ c h. (refl, λ m e. e))
+reply-cases P (Op.Access (Message.A x)) Reply.Miss is stored acquires stores releases accesses others =
+    others (Op.Access (Message.A x)) Reply.Miss (λ c h. (refl, λ m e. e))
+reply-cases P (Op.Access (Message.A x)) (Reply.Started source) is stored acquires stores releases accesses others =
     accesses x source
-reply-cases P (op.Access (message.A x)) (reply.Busy why) is stored acquires stores releases accesses others =
-    others (op.Access (message.A x)) (reply.Busy why) (λ c h. (refl, λ m e. e))
-reply-cases P (op.Access (message.B x)) (reply.Value v) is stored acquires stores releases accesses others =
-    others (op.Access (message.B x)) (reply.Value v) (λ c h. (refl, λ m e. e))
-reply-cases P (op.Access (message.B x)) reply.Stored is stored acquires stores releases accesses others =
-    others (op.Access (message.B x)) reply.Stored (λ c h. (refl, λ m e. e))
-reply-cases P (op.Access (message.B x)) reply.Miss is stored acquires stores releases accesses others =
-    others (op.Access (message.B x)) reply.Miss (λ c h. (refl, λ m e. e))
-reply-cases P (op.Access (message.B x)) (reply.Started source) is stored acquires stores releases accesses others =
-    absurd is
-reply-cases P (op.Access (message.B x)) (reply.Busy why) is stored acquires stores releases accesses others =
-    others (op.Access (message.B x)) (reply.Busy why) (λ c h. (refl, λ m e. e))
-reply-cases P (op.Access (message.C x)) (reply.Value v) is stored acquires stores releases accesses others =
-    others (op.Access (message.C x)) (reply.Value v) (λ c h. (refl, λ m e. e))
-reply-cases P (op.Access (message.C x)) reply.Stored is stored acquires stores releases accesses others =
-    others (op.Access (message.C x)) reply.Stored (λ c h. (refl, λ m e. e))
-reply-cases P (op.Access (message.C x)) reply.Miss is stored acquires stores releases accesses others =
-    others (op.Access (message.C x)) reply.Miss (λ c h. (refl, λ m e. e))
-reply-cases P (op.Access (message.C x)) (reply.Started source) is stored acquires stores releases accesses others =
-    absurd is
-reply-cases P (op.Access (message.C x)) (reply.Busy why) is stored acquires stores releases accesses others =
-    others (op.Access (message.C x)) (reply.Busy why) (λ c h. (refl, λ m e. e))
-reply-cases P (op.Access (message.D x)) (reply.Value v) is stored acquires stores releases accesses others =
-    others (op.Access (message.D x)) (reply.Value v) (λ c h. (refl, λ m e. e))
-reply-cases P (op.Access (message.D x)) reply.Stored is stored acquires stores releases accesses others =
-    others (op.Access (message.D x)) reply.Stored (λ c h. (refl, λ m e. e))
-reply-cases P (op.Access (message.D x)) reply.Miss is stored acquires stores releases accesses others =
-    others (op.Access (message.D x)) reply.Miss (λ c h. (refl, λ m e. e))
-reply-cases P (op.Access (message.D x)) (reply.Started source) is stored acquires stores releases accesses others =
-    absurd is
-reply-cases P (op.Access (message.D x)) (reply.Busy why) is stored acquires stores releases accesses others =
-    others (op.Access (message.D x)) (reply.Busy why) (λ c h. (refl, λ m e. e))
-reply-cases P (op.Access (message.E x)) (reply.Value v) is stored acquires stores releases accesses others =
-    others (op.Access (message.E x)) (reply.Value v) (λ c h. (refl, λ m e. e))
-reply-cases P (op.Access (message.E x)) reply.Stored is stored acquires stores releases accesses others =
-    others (op.Access (message.E x)) reply.Stored (λ c h. (refl, λ m e. e))
-reply-cases P (op.Access (message.E x)) reply.Miss is stored acquires stores releases accesses others =
-    others (op.Access (message.E x)) reply.Miss (λ c h. (refl, λ m e. e))
-reply-cases P (op.Access (message.E x)) (reply.Started source) is stored acquires stores releases accesses others =
-    absurd is
-reply-cases P (op.Access (message.E x)) (reply.Busy why) is stored acquires stores releases accesses others =
-    others (op.Access (message.E x)) (reply.Busy why) (λ c h. (refl, λ m e. e))
+reply-cases P (Op.Access (Message.A x)) (Reply.Busy why) is stored acquires stores releases accesses others =
+    others (Op.Access (Message.A x)) (Reply.Busy why) (λ c h. (refl, λ m e. e))
+reply-cases P (Op.Access (Message.B x)) (Reply.Value v) is stored acquires stores releases accesses others =
+    others (Op.Access (Message.B x)) (Reply.Value v) (λ c h. (refl, λ m e. e))
+reply-cases P (Op.Access (Message.B x)) Reply.Stored is stored acquires stores releases accesses others =
+    others (Op.Access (Message.B x)) Reply.Stored (λ c h. (refl, λ m e. e))
+reply-cases P (Op.Access (Message.B x)) Reply.Miss is stored acquires stores releases accesses others =
+    others (Op.Access (Message.B x)) Reply.Miss (λ c h. (refl, λ m e. e))
+reply-cases P (Op.Access (Message.B x)) (Reply.Busy why) is stored acquires stores releases accesses others =
+    others (Op.Access (Message.B x)) (Reply.Busy why) (λ c h. (refl, λ m e. e))
+reply-cases P (Op.Access (Message.C x)) (Reply.Value v) is stored acquires stores releases accesses others =
+    others (Op.Access (Message.C x)) (Reply.Value v) (λ c h. (refl, λ m e. e))
+reply-cases P (Op.Access (Message.C x)) Reply.Stored is stored acquires stores releases accesses others =
+    others (Op.Access (Message.C x)) Reply.Stored (λ c h. (refl, λ m e. e))
+reply-cases P (Op.Access (Message.C x)) Reply.Miss is stored acquires stores releases accesses others =
+    others (Op.Access (Message.C x)) Reply.Miss (λ c h. (refl, λ m e. e))
+reply-cases P (Op.Access (Message.C x)) (Reply.Busy why) is stored acquires stores releases accesses others =
+    others (Op.Access (Message.C x)) (Reply.Busy why) (λ c h. (refl, λ m e. e))
+reply-cases P (Op.Access (Message.D x)) (Reply.Value v) is stored acquires stores releases accesses others =
+    others (Op.Access (Message.D x)) (Reply.Value v) (λ c h. (refl, λ m e. e))
+reply-cases P (Op.Access (Message.D x)) Reply.Stored is stored acquires stores releases accesses others =
+    others (Op.Access (Message.D x)) Reply.Stored (λ c h. (refl, λ m e. e))
+reply-cases P (Op.Access (Message.D x)) Reply.Miss is stored acquires stores releases accesses others =
+    others (Op.Access (Message.D x)) Reply.Miss (λ c h. (refl, λ m e. e))
+reply-cases P (Op.Access (Message.D x)) (Reply.Busy why) is stored acquires stores releases accesses others =
+    others (Op.Access (Message.D x)) (Reply.Busy why) (λ c h. (refl, λ m e. e))
+reply-cases P (Op.Access (Message.E x)) (Reply.Value v) is stored acquires stores releases accesses others =
+    others (Op.Access (Message.E x)) (Reply.Value v) (λ c h. (refl, λ m e. e))
+reply-cases P (Op.Access (Message.E x)) Reply.Stored is stored acquires stores releases accesses others =
+    others (Op.Access (Message.E x)) Reply.Stored (λ c h. (refl, λ m e. e))
+reply-cases P (Op.Access (Message.E x)) Reply.Miss is stored acquires stores releases accesses others =
+    others (Op.Access (Message.E x)) Reply.Miss (λ c h. (refl, λ m e. e))
+reply-cases P (Op.Access (Message.E x)) (Reply.Busy why) is stored acquires stores releases accesses others =
+    others (Op.Access (Message.E x)) (Reply.Busy why) (λ c h. (refl, λ m e. e))
+reply-cases P o (Reply.Started source) is stored acquires stores releases accesses others = absurd is
 
 -- ---- channels
 
 rendered_acquiring : {w : ℕ} (c n source : ℕ) (whole : Bool) (g : Grow) (bytes : List ℕ) (b : Block (List ℕ))
-    → block_message {w = w} Acquire c n (acquiring_block c source whole g bytes b) ≡ message.A
+    → block_message {w = w} Acquire c n (acquiring_block c source whole g bytes b) ≡ Message.A
     (acquisition (acquire_opcode whole) g source n)
-rendered_acquiring {w} c n source whole g bytes b =
-    rendered-acquire c n (acquiring_block c source whole g bytes b) whole g
-    (ap (λ (p : ClientBlock). p.acquiring) (set-same c (after_acquire whole g (b.pair c)) b.pair))
-    ∙ ap (λ (i : ℕ). message.A (acquisition {w = w} (acquire_opcode whole) g i n)) (set-same c source b.source)
+rendered_acquiring {w} c n source whole g bytes b = rendered-acquire c n (acquiring_block c source whole g bytes b)
+    whole g (ap (λ (p : ClientBlock). p.acquiring) (set-same c (after_acquire whole g (b.pair c)) b.pair))
+    ∙ ap (λ (i : ℕ). Message.A (acquisition {w = w} (acquire_opcode whole) g i n)) (set-same c source b.source)
 
 rendered_releasing : {w : ℕ} (c n source : ℕ) (p : Prune) (b : Block (List ℕ))
     → block_message {w = w} Release c n (releasing_block c source p b) ≡ release p source n b.truth
@@ -185,8 +160,35 @@ CarriesAsked {w} config c h sys o r = (m : Option (Message w)) (e : client.Endpo
 carried_asked : {w : ℕ} (config : Config) (log : Log w) (h : AbstractState w) (sys : System w) (c : ℕ) (o : Op w)
     (r : Reply) → IsWidth w
     → SimulationRelation config log h.mail h.request h.state sys → IsReply o r → CarriesAsked config c h sys o r
-carried_asked {w} config log h sys c o r width is may_be = reply-cases (CarriesAsked config c h sys) o r may_be stored
-    acquires stores releases accesses others
+carried_asked {w} config log h sys c o r width is may_be =
+    let stored : (address size value : ℕ) → CarriesAsked config c h sys (Op.Store address size value) Reply.Stored =
+    λ address size value m e may inv handed queued. carried_as m None _ _ e handed
+    (block_stored-carried (is_caching config) c (block_at address) _ h.mail s sys _ width is.invariant inv
+    (none-carried (is_caching config) (s.block (block_at address)) (is.invariant.blocks (block_at address))
+    (low (block_at address) may)) (handed_as m None e handed queued) is.carried) in
+    let acquires : (n : ℕ) (g : Grow) (source : ℕ)
+    → CarriesAsked config c h sys (Op.Acquire n g) (Reply.Started source) =
+    λ n g source m e may inv handed queued. carried_as m _ _ _ e handed
+    (acquire_asked-carried (is_caching config) c n source false g _
+    (Message.A (acquisition OpA.AcquireBlock g source n)) h.mail s sys _ width is.invariant inv may.2 refl
+    (rendered_acquiring c n source false g _ (s.block n)) (handed_as m _ e handed queued) is.carried) in
+    let stores : (n : ℕ) (bytes : List ℕ) (source : ℕ) → CarriesAsked config c h sys (Op.AcquireWhole n bytes)
+    (Reply.Started source) = λ n bytes source m e may inv handed queued. carried_as m _ _ _ e handed
+    (acquire_asked-carried (is_caching config) c n source true (whole_grow ((s.block n).pair c).held) bytes
+    (Message.A (acquisition OpA.AcquirePerm (whole_grow ((s.block n).pair c).held) source n)) h.mail s sys _ width
+    is.invariant inv may.2 refl (rendered_acquiring c n source true (whole_grow ((s.block n).pair c).held) bytes
+    (s.block n)) (handed_as m _ e handed queued) is.carried) in
+    let releases : (n : ℕ) (p : Prune) (source : ℕ)
+    → CarriesAsked config c h sys (Op.Release n p) (Reply.Started source) =
+    λ n p source m e may inv handed queued. carried_as m _ _ _ e handed
+    (release_asked-carried (is_caching config) c n source p (release p source n (s.block n).truth) h.mail s sys _
+    width is.invariant inv may.3 (release_channel w p source n (s.block n).truth)
+    (rendered_releasing c n source p (s.block n)) (handed_as m _ e handed queued) is.carried) in
+    let accesses : (x : MessageA w) (source : ℕ) → CarriesAsked config c h sys (Op.Access (Message.A x))
+    (Reply.Started source) = λ x source m e may inv handed queued. carried_as m _ _ _ e handed
+    (access_asked-carried (is_caching config) c source (access source x) h.mail s sys _ width is.invariant inv may
+    refl (handed_as m _ e handed queued) is.carried) in
+    reply-cases (CarriesAsked config c h sys) o r may_be stored acquires stores releases accesses others
   where
     s : State (List ℕ)
     s = h.state
@@ -194,69 +196,26 @@ carried_asked {w} config log h sys c o r width is may_be = reply-cases (CarriesA
     handed_as : (m n : Option (Message w)) (e : client.Endpoint w) → m ≡ n
         → IsHanded (pushes_at c (pushes_of m)) sys (with_messages (handed_by c m) (with_client c e sys))
         → IsHanded (pushes_at c (pushes_of n)) sys (with_messages (handed_by c n) (with_client c e sys))
-    handed_as m n e f i = subst (λ (x : Option (Message w)). IsHanded (pushes_at c (pushes_of x)) sys
-        (with_messages (handed_by c x) (with_client c e sys))) f i
+    handed_as m n e f i = rw (← f) i
 
     carried_as : (m n : Option (Message w)) (mail : AccessMessages w) (z : State (List ℕ)) (e : client.Endpoint w)
-        → m ≡ n
-        → ChannelRelation mail z (with_messages (handed_by c n) (with_client c e sys))
+        → m ≡ n → ChannelRelation mail z (with_messages (handed_by c n) (with_client c e sys))
         → ChannelRelation mail z (with_messages (handed_by c m) (with_client c e sys))
-    carried_as m n mail z e f i =
-        subst (λ (x : Option (Message w)). ChannelRelation mail z (with_messages (handed_by c x) (with_client c e sys)))
-        (sym f) i
+    carried_as m n mail z e f i = rw f i
 
-    low : (n : ℕ) → same_perm ((s.block n).pair c).held perm.Trunk ≡ true → (d : ℕ)
-        → (same_perm ((s.block n).pair d).held perm.Trunk || same_perm ((s.block n).pair d).recorded perm.None) ≡ true
+    low : (n : ℕ) → same_perm ((s.block n).pair c).held Perm.Trunk ≡ true → (d : ℕ)
+        → (same_perm ((s.block n).pair d).held Perm.Trunk || same_perm ((s.block n).pair d).recorded Perm.None) ≡ true
     low n trunk d = elim (cases_eq d c) [
       | inl same ↦ rw (same, trunk) refl
-      | inr other ↦ or_right (same_perm ((s.block n).pair d).held perm.Trunk)
-          (same_perm ((s.block n).pair d).recorded perm.None) ((is.invariant.blocks n).one_owner c d (owned n trunk)
+      | inr other ↦ or_right (same_perm ((s.block n).pair d).held Perm.Trunk)
+          (same_perm ((s.block n).pair d).recorded Perm.None) ((is.invariant.blocks n).one_owner c d (owned n trunk)
           other)
     ]
       where
-        owned : (n : ℕ) → same_perm ((s.block n).pair c).held perm.Trunk ≡ true
-            → same_perm ((s.block n).pair c).recorded perm.Trunk ≡ true
-        owned n trunk = and_left (same_perm ((s.block n).pair c).recorded perm.Trunk) _
+        owned : (n : ℕ) → same_perm ((s.block n).pair c).held Perm.Trunk ≡ true
+            → same_perm ((s.block n).pair c).recorded Perm.Trunk ≡ true
+        owned n trunk = and_left (same_perm ((s.block n).pair c).recorded Perm.Trunk) _
             (trunk_held ((s.block n).pair c) (view (s.block n).service c) ((is.invariant.blocks n).phases c) trunk)
-
-    stored : (address size value : ℕ) → CarriesAsked config c h sys (op.Store address size value) reply.Stored
-    stored address size value m e may inv handed queued =
-        carried_as m None _ _ e handed
-        (block_stored-carried (is_caching config) c (block_at address) _ h.mail s sys _ width is.invariant inv
-        (none-carried (is_caching config) (s.block (block_at address)) (is.invariant.blocks (block_at address))
-        (low (block_at address) may))
-        (handed_as m None e handed queued) is.carried)
-
-    acquires : (n : ℕ) (g : Grow) (source : ℕ) → CarriesAsked config c h sys (op.Acquire n g) (reply.Started source)
-    acquires n g source m e may inv handed queued =
-        carried_as m _ _ _ e handed
-        (acquire_asked-carried (is_caching config) c n source false g _
-        (message.A (acquisition a.AcquireBlock g source n)) h.mail s sys _ width is.invariant inv may.2 refl
-        (rendered_acquiring c n source false g _ (s.block n)) (handed_as m _ e handed queued) is.carried)
-
-    stores : (n : ℕ) (bytes : List ℕ) (source : ℕ) → CarriesAsked config c h sys (op.AcquireWhole n bytes)
-        (reply.Started source)
-    stores n bytes source m e may inv handed queued =
-        carried_as m _ _ _ e handed
-        (acquire_asked-carried (is_caching config) c n source true (whole_grow ((s.block n).pair c).held) bytes
-        (message.A (acquisition a.AcquirePerm (whole_grow ((s.block n).pair c).held) source n)) h.mail s sys _ width
-        is.invariant inv may.2 refl
-        (rendered_acquiring c n source true (whole_grow ((s.block n).pair c).held) bytes (s.block n))
-        (handed_as m _ e handed queued) is.carried)
-
-    releases : (n : ℕ) (p : Prune) (source : ℕ) → CarriesAsked config c h sys (op.Release n p) (reply.Started source)
-    releases n p source m e may inv handed queued =
-        carried_as m _ _ _ e handed
-        (release_asked-carried (is_caching config) c n source p (release p source n (s.block n).truth) h.mail s sys _
-        width is.invariant inv may.3
-        (release_channel w p source n (s.block n).truth) (rendered_releasing c n source p (s.block n))
-        (handed_as m _ e handed queued) is.carried)
-
-    accesses : (x : MessageA w) (source : ℕ) → CarriesAsked config c h sys (op.Access (message.A x))
-        (reply.Started source)
-    accesses x source m e may inv handed queued =
-        carried_as m _ _ _ e handed (access_asked-carried (is_caching config) c source (access source x) h.mail s sys _
-        width is.invariant inv may refl (handed_as m _ e handed queued) is.carried)
 
     others : (i : Op w) (j : Reply) → IsPlain i j → CarriesAsked config c h sys i j
     others i j plain m e may inv handed queued =
@@ -266,15 +225,14 @@ carried_asked {w} config log h sys c o r width is may_be = reply-cases (CarriesA
         (carried_as m None _ _ e none (nothing_asked-carried (is_caching config) c h.mail s sys _ width is.invariant
         (handed_as m None e none queued) is.carried))
 
-pub carried-ask : {w : ℕ} (config : Config) (log : Log w) (h : AbstractState w) (sys : System w) (c : ℕ)
-    (terms : client.EndConfig) (o : Op w) → IsWidth w
-    → SimulationRelation config log h.mail h.request h.state sys → terms_at config c ≡ Some terms
-    → ChannelRelation (asked c o (ask.asked terms o (sys.clients c)).reply h).mail
+pub carried-ask : {w : ℕ} {config : Config} {log : Log w} (h : AbstractState w) {sys : System w} (c : ℕ)
+    (terms : client.EndConfig) (o : Op w) → IsWidth w → SimulationRelation config log h.mail h.request h.state sys
+    → terms_at config c ≡ Some terms → ChannelRelation (asked c o (ask.asked terms o (sys.clients c)).reply h).mail
     (asked c o (ask.asked terms o (sys.clients c)).reply h).state (stepped config (Ask c o) sys).after
-carried-ask {w} config log h sys c terms o width is known =
+carried-ask {w} {config} {log} h {sys} c terms o width is known =
     let x = ask.asked terms o (sys.clients c) in
     let well = asked-well config log h sys c terms o width is known in
-    let inv = asked-kept (is_caching config) c o x.reply h is.invariant well.may in
+    let inv = asked-kept c o x.reply h is.invariant well.may in
     subst (λ (y : Step w). ChannelRelation (asked c o x.reply h).mail (asked c o x.reply h).state y.after)
     (sym (stepped-asked config c o sys terms known))
     (carried_asked config log h sys c o x.reply width is well.reply x.message x.after well.may inv well.message
@@ -285,51 +243,43 @@ carried-ask {w} config log h sys c terms o width is known =
 pub none_answered : {w : ℕ} (c : ℕ) (o : Op w) (r : Reply) (h : AbstractState w) (m : Option (Message w)) → IsReply o r
     → IsHandedOut c o r h m → accesses_answered (handed_by c m) ≡ []
 unfolding accesses_answered
-none_answered {w} c o r h m may_be = reply-cases (λ i j. IsHandedOut c i j h m → accesses_answered (handed_by c m) ≡ [])
-    o r may_be
-    (λ address size value e. none e) (λ n g source e. one_a (acquisition a.AcquireBlock g source n) e)
-    (λ n bytes source e. one_a (acquisition a.AcquirePerm (whole_grow ((h.state.block n).pair c).held) source n) e)
-    (λ n p source e. released p source n (h.state.block n).truth e) (λ x source e. one_a (sourced source x) e)
+none_answered {w} c o r h m may_be =
+    let released : (p : Prune) (source n : ℕ) (bytes : List ℕ) → m ≡ Some (release p source n bytes)
+    → accesses_answered (handed_by c m) ≡ [] =
+    elim [ Prune.TtoB ↦ λ source n bytes e. rw e refl | p ↦ λ source n bytes e. rw e refl ] in
+    let none : m ≡ None → accesses_answered (handed_by c m) ≡ [] = λ e. rw e refl in
+    let one_a : (x : MessageA w) → m ≡ Some (Message.A x) → accesses_answered (handed_by c m) ≡ [] = λ x e. rw e refl in
+    reply-cases (λ i j. IsHandedOut c i j h m → accesses_answered (handed_by c m) ≡ []) o r may_be
+    (λ address size value e. none e) (λ n g source e. one_a (acquisition OpA.AcquireBlock g source n) e)
+    (λ n bytes source e. one_a (acquisition OpA.AcquirePerm (whole_grow ((h.state.block n).pair c).held) source n)
+    e) (λ n p source e. released p source n (h.state.block n).truth e) (λ x source e. one_a (sourced source x) e)
     (λ i j plain e. none ((plain c h).1 m e))
-  where
-    none : m ≡ None → accesses_answered (handed_by c m) ≡ []
-    none e = rw e refl
 
-    one_a : (x : MessageA w) → m ≡ Some (message.A x) → accesses_answered (handed_by c m) ≡ []
-    one_a x e = rw e refl
-
-    released : (p : Prune) (source n : ℕ) (bytes : List ℕ) → m ≡ Some (release p source n bytes)
-        → accesses_answered (handed_by c m) ≡ []
-    released prune.TtoB source n bytes e = rw e refl
-    released prune.TtoN source n bytes e = rw e refl
-    released prune.BtoN source n bytes e = rw e refl
-
-pub beside-ask : {w : ℕ} (config : Config) (log : Log w) (h : AbstractState w) (c : ℕ) (terms : client.EndConfig)
+pub beside-ask : {w : ℕ} {config : Config} {log : Log w} (h : AbstractState w) (c : ℕ) (terms : client.EndConfig)
     (o : Op w) → IsWidth w
     → SimulationRelation config log h.mail h.request h.state (system_after config log) → terms_at config c ≡ Some terms
     → MemoryRelation (asked c o (ask.asked terms o ((system_after config log).clients c)).reply h).mail
     (asked c o (ask.asked terms o ((system_after config log).clients c)).reply h).state
-    (one_memory_after config ((Ask c o, outcome.Replied (ask.asked terms o ((system_after config log).clients c)).reply)
+    (one_memory_after config ((Ask c o, Outcome.Replied (ask.asked terms o ((system_after config log).clients c)).reply)
     ∷ log))
 unfolding one_memory_after performing
-beside-ask {w} config log h c terms o width is known =
+beside-ask {w} {config} {log} h c terms o width is known =
     let sys = system_after config log in
     let x = ask.asked terms o (sys.clients c) in
     let well = asked-well config log h sys c terms o width is known in
     let none : accesses_answered (stepped config (Ask c o) sys).handed ≡ [] =
-    ap (λ (y : Step w). accesses_answered y.handed) (stepped-asked config c o sys terms known)
-    ∙ none_answered c o x.reply h x.message well.reply well.message in
+    cc (stepped-asked config c o sys terms known, none_answered c o x.reply h x.message well.reply well.message) in
     subst (λ (l : List (ℕ × ℕ)). MemoryRelation (asked c o x.reply h).mail (asked c o x.reply h).state
     (performing l (after_reply c o x.reply (one_memory_after config log)))) (sym none)
     (beside-asked (is_caching config) c o x.reply h (one_memory_after config log) is.invariant is.sized well.reply
     well.may well.word is.beside)
 
-pub continues-ask : {w : ℕ} (config : Config) (log : Log w) (h : AbstractState w) (c : ℕ) (terms : client.EndConfig)
+pub continues-ask : {w : ℕ} {config : Config} {log : Log w} (h : AbstractState w) (c : ℕ) (terms : client.EndConfig)
     (o : Op w) → IsWidth w
     → SimulationRelation config log h.mail h.request h.state (system_after config log) → terms_at config c ≡ Some terms
-    → Continues config (Ask c o, outcome.Replied (ask.asked terms o ((system_after config log).clients c)).reply) log
+    → Continues config (Ask c o, Outcome.Replied (ask.asked terms o ((system_after config log).clients c)).reply) log
 unfolding one_memory_after performing Performs
-continues-ask {w} config log h c terms o width is known =
+continues-ask {w} {config} {log} h c terms o width is known =
     let sys = system_after config log in
     let x = ask.asked terms o (sys.clients c) in
     let well = asked-well config log h sys c terms o width is known in

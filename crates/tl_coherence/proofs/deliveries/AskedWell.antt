@@ -1,39 +1,26 @@
 -- What a client answers to an operation, beside the protocol and the one-memory machine: what it starts it may start,
 -- and its reply is one that the machine allows.
-use Rattle.tl_coherence.proofs.deliveries.Imports.{IsWidth, MessageA, Config, Perm, prune_left}
-use Rattle.tl_coherence.proofs.deliveries.Imports.{block_at, same_perm, Op, EndConfig, release, AbstractState, Log}
-use Rattle.tl_coherence.proofs.deliveries.Imports.{Machine, Requests, NoAcquire}
-use Rattle.tl_coherence.proofs.deliveries.Imports.{State, SourceState, one_memory_after}
-use Rattle.tl_coherence.proofs.deliveries.Imports.{System, terms_at, SimulationRelation, is_caching, IsRequest}
-use Rattle.std.proofs.Common.{◌≡◌, ℕ, ◌%◌, ◌^◌, true, false, not, ◌||◌, List, Option, Some}
-use Rattle.std.proofs.Common.{None, refl, sym, ◌∙◌, ap, subst}
-use Rattle.std.specs.Prelude.{◌==◌, is_none, unwrap_or, slice_index, nat_le}
+use Rattle.tl_coherence.proofs.deliveries.Imports.{IsWidth, MessageA, Config, Perm, prune_left, block_at, same_perm, Op}
+use Rattle.tl_coherence.proofs.deliveries.Imports.{EndConfig, AbstractState, Log, Machine, Requests, NoAcquire, State}
+use Rattle.tl_coherence.proofs.deliveries.Imports.{SourceState, one_memory_after, System, terms_at, SimulationRelation}
+use Rattle.tl_coherence.proofs.deliveries.Imports.{is_caching, IsRequest, Channel, Message}
+use Rattle.std.proofs.Common.{◌≡◌, ℕ, true, false, not, ◌||◌, List, Option, Some, None, refl, sym, ◌∙◌, ap, subst}
+use Rattle.std.specs.Prelude.{◌==◌, is_none, nat_le}
 use Rattle.std.proofs.lemmas.Bool.{eqb-true, and_parts, not-false, or_parts}
-use Rattle.tl_beat.specs.declared.channel.Channel.TheVariants as channel
-use Rattle.tl_beat.specs.declared.opcode.OpA.TheVariants as a
-use Rattle.tl_burst.specs.declared.message.Message.TheVariants as message
 use Rattle.tl_params.specs.declared.key.Key.TheVariants.{RequestSource, ReleaseSource, AcquireOf, ReleaseOf}
-use Rattle.tl_params.specs.declared.perm.Perm.TheVariants as perm
 use Rattle.tl_params.specs.statement.Param.{grow_left}
-use Rattle.tl_rules.specs.statement.Effect.{number_from}
 use Rattle.tl_rules.specs.statement.History.{pending}
 use Rattle.tl_rules.specs.statement.Legality.{has_transfers, illegal_message}
-use Rattle.tl_client.specs.declared.operation.Op.TheVariants as op
-use Rattle.tl_client.specs.declared.reply.Reply.TheVariants as reply
+use Rattle.tl_client.{specs.declared.reply.Reply.Reply, specs.statement.Send.access, proofs.endpoint.Cases.NotBusy}
+use Rattle.tl_client.{proofs.endpoint.Cases.asked-cases, proofs.messages.Clean.to_blank}
+use Rattle.tl_client.{proofs.pending.Free.least_free-some, proofs.messages.Sound.formed_access}
+use Rattle.tl_client.{proofs.caching_client.Stores.word_room}
 use Rattle.tl_client.specs.statement.Ask.{asked, done, only, load, store, loaded, is_word, is_clean, is_formed}
-use Rattle.tl_client.specs.statement.Ask.{op_block, free_request, free_release, source_or_0, whole_grow}
-use Rattle.tl_client.specs.statement.Endpoint.{Endpoint, zeros, copy_at, held_at}
-use Rattle.tl_client.specs.statement.Send.{access, acquisition}
-use Rattle.tl_client.proofs.endpoint.Cases.{NotBusy, asked-cases}
-use Rattle.tl_client.proofs.messages.Clean.{to_blank}
-use Rattle.tl_client.proofs.pending.Free.{least_free-some}
-use Rattle.tl_client.proofs.messages.Sound.{formed_access}
-use Rattle.tl_client.proofs.caching_client.Stores.{word_room}
+use Rattle.tl_client.specs.statement.Ask.{op_block, free_request, free_release, source_or_0}
+use Rattle.tl_client.specs.statement.Endpoint.{Endpoint, copy_at, held_at}
 use Rattle.tl_manager.specs.statement.Offer.{level_of}
-use Rattle.tl_coherence.specs.refinement.MemoryRelation.{IsOpened, IsLet}
-use Rattle.tl_coherence.specs.statement.Machine.{Releases}
-use Rattle.tl_coherence.specs.protocol.Phase.{NoRelease}
-use Rattle.tl_coherence.specs.protocol.Protocol.{SourceFree}
+use Rattle.tl_coherence.specs.{refinement.MemoryRelation.IsOpened, refinement.MemoryRelation.IsLet}
+use Rattle.tl_coherence.specs.{statement.Machine.Releases, protocol.Phase.NoRelease, protocol.Protocol.SourceFree}
 use Rattle.tl_coherence.proofs.client.Askable.{swap_perms, no_let, caches}
 use Rattle.tl_coherence.proofs.simulation.BeatsInFlight.{level-terms}
 use Rattle.tl_coherence.proofs.protocol.BothParts.{calm-is, kept-letting}
@@ -64,9 +51,8 @@ asked-well {w} config log h sys c terms o width is known = asked-cases terms o e
     held_is n = (is.known c).held_is n
 
     -- the copy, where something is held
-    copy_is : (n : ℕ) → same_perm ((s.block n).pair c).held perm.None ≡ false → copy_at e n ≡ (s.block n).truth
-    copy_is n some = ap (λ (x : Option (List ℕ)). unwrap_or x zeros) (is.copies c n some)
-        ∙ (is.invariant.blocks n).copies c some
+    copy_is : (n : ℕ) → same_perm ((s.block n).pair c).held Perm.None ≡ false → copy_at e n ≡ (s.block n).truth
+    copy_is n some = cc (is.copies c n some, (is.invariant.blocks n).copies c some)
 
     formed : (i : Op w) → NotBusy terms i e → is_formed terms.level i ≡ true
     formed i free = not-false (is_formed terms.level i)
@@ -74,7 +60,7 @@ asked-well {w} config log h sys c terms o width is known = asked-cases terms o e
 
     free_source : is_none (free_request terms e.past) ≡ false
         → s.uses c (source_or_0 (free_request terms e.past)) ≡ SourceFree
-    free_source one = unused config log h.mail h.request s sys c (source_or_0 (free_request terms e.past)) is
+    free_source one = unused c (source_or_0 (free_request terms e.past)) is
         (least_free-some (λ i. pending (RequestSource i) e.past) 0 terms.sources one).0
 
     unopened : (source : ℕ) → s.uses c source ≡ SourceFree → m.opened c Requests source ≡ None
@@ -97,157 +83,134 @@ asked-well {w} config log h sys c terms o width is known = asked-cases terms o e
     caching four = caches config c terms.level level_is (not-false (has_transfers terms.level) four)
 
     load_well : (address size : ℕ) (p : Perm) → ((s.block (block_at address)).pair c).held ≡ p
-        → is_word address size ≡ true → IsAskedWell config c (op.Load address size) h m (load address size p e)
-    load_well address size perm.None f word = record {
+        → is_word address size ≡ true → IsAskedWell config c (Op.Load address size) h m (load address size p e)
+    load_well address size Perm.None f word = record {
       may = tt;
       word = tt;
       source = tt;
       reply = tt;
-      replies =
-          refl;
+      replies = refl;
       message = refl;
     }
-    load_well address size perm.Branch f word = read address size word (ap (λ p. same_perm p perm.None) f)
-      where
-        read : (address size : ℕ) → is_word address size ≡ true → same_perm ((s.block (block_at address)).pair c).held
-            perm.None ≡ false
-            → IsAskedWell config c (op.Load address size) h m
-            (only (reply.Value (loaded address size (copy_at e (block_at address)))) e)
-        read address size word some = record {
+    load_well address size Perm.Branch f word =
+        let read : (address size : ℕ) → is_word address size ≡ true → same_perm ((s.block (block_at address)).pair
+        c).held Perm.None ≡ false → IsAskedWell config c (Op.Load address size) h m (only (Reply.Value (loaded
+        address size (copy_at e (block_at address)))) e) = λ address size word some. record {
           may = tt;
           word = tt;
           source = tt;
           reply = tt;
-          replies = ap (λ (bytes : List ℕ). number_from (slice_index bytes) (address % 64) (2 ^ size))
-              (copy_is (block_at address) some)
-              ∙ loaded_number m.memory address size (s.block (block_at address)).truth (word_room address size word)
-              (is.beside.memory (block_at address));
+          replies = cc (
+            copy_is (block_at address) some,
+            loaded_number m.memory address size
+                (s.block (block_at address)).truth (word_room address size word) (is.beside.memory (block_at address)),
+          );
           message = refl;
-        }
-    load_well address size perm.Trunk f word = record {
+        } in
+        read address size word (ap (λ p. same_perm p Perm.None) f)
+    load_well address size Perm.Trunk f word = record {
       may = tt;
       word = tt;
       source = tt;
       reply = tt;
-      replies = ap (λ (bytes : List ℕ). number_from (slice_index bytes) (address % 64) (2 ^ size))
-          (copy_is (block_at address) (ap (λ p. same_perm p perm.None) f))
-          ∙ loaded_number m.memory address size (s.block (block_at address)).truth (word_room address size word)
-          (is.beside.memory (block_at address));
+      replies = cc (
+        copy_is (block_at address) (ap (λ p. same_perm p Perm.None) f),
+        loaded_number m.memory address size
+            (s.block (block_at address)).truth (word_room address size word) (is.beside.memory (block_at address)),
+      );
       message = refl;
     }
 
     store_well : (address size value : ℕ) (p : Perm) → ((s.block (block_at address)).pair c).held ≡ p
         → is_word address size ≡ true
-        → IsAskedWell config c (op.Store address size value) h m (store address size value p e)
-    store_well address size value perm.None f word = record {
-      may = tt;
-      word = tt;
-      source = tt;
-      reply = tt;
-      replies =
-          refl;
-      message = refl;
-    }
-    store_well address size value perm.Branch f word = record {
-      may = tt;
-      word = tt;
-      source = tt;
-      reply = tt;
-      replies =
-          refl;
-      message = refl;
-    }
-    store_well address size value perm.Trunk f word =
-        let trunk = ap (λ p. same_perm p perm.Trunk) f in
+        → IsAskedWell config c (Op.Store address size value) h m (store address size value p e)
+    store_well address size value Perm.Trunk f word =
+        let trunk = ap (λ p. same_perm p Perm.Trunk) f in
         record { may = trunk; word = (word, trunk); source = tt; reply = tt; replies = tt; message = refl }
+    store_well address size value p f word = record {
+      may = tt;
+      word = tt;
+      source = tt;
+      reply = tt;
+      replies = refl;
+      message = refl;
+    }
 
     -- an access that starts breaks no rule
-    access_sent : (x : MessageA w) → NotBusy terms (op.Access (message.A x)) e
+    access_sent : (x : MessageA w) → NotBusy terms (Op.Access (Message.A x)) e
         → IsRequest config c (source_or_0 (free_request terms e.past))
         (access (source_or_0 (free_request terms e.past)) x)
     access_sent x free =
-        let parts = and_parts (is_none (illegal_message terms.level channel.A (message.A x))) (is_clean x)
-        (formed_access terms (message.A x) free.b5) in
+        let parts = and_parts (is_none (illegal_message terms.level Channel.A (Message.A x))) (is_clean x)
+        (formed_access terms (Message.A x) free.b5) in
         let none = eqb-true x.corrupt 0 (and_parts (x.corrupt == 0) _ parts.1).0 in (
           refl,
           rw level_is (sourced_legal terms.level x (source_or_0 (free_request terms e.past))
-              (none_rule (illegal_message terms.level channel.A (message.A x)) parts.0)),
+              (none_rule (illegal_message terms.level Channel.A (Message.A x)) parts.0)),
           to_blank x none parts.1,
         )
 
     well : (i : Op w) → NotBusy terms i e → IsAskedWell config c i h m (done terms i e)
-    well (op.Load address size) free =
-        subst (λ (p : Perm). IsAskedWell config c (op.Load address size) h m (load address size p e))
-        (sym (held_is (block_at address))) (load_well address size ((s.block (block_at address)).pair c).held refl
-        (formed (op.Load address size) free))
-    well (op.Store address size value) free =
-        subst (λ (p : Perm). IsAskedWell config c (op.Store address size value) h m (store address size value p e))
-        (sym (held_is (block_at address)))
-        (store_well address size value ((s.block (block_at address)).pair c).held refl
-        (formed (op.Store address size value) free))
-    well (op.Acquire n g) free =
+    well (Op.Load address size) free =
+        rw (held_is (block_at address)) (load_well address size ((s.block (block_at address)).pair c).held refl
+        (formed (Op.Load address size) free))
+    well (Op.Store address size value) free =
+        rw (held_is (block_at address)) (store_well address size value ((s.block (block_at address)).pair c).held refl
+        (formed (Op.Store address size value) free))
+    well (Op.Acquire n g) free =
         let closed = free_source free.b1 in
         let still = transfers n free.b2 in
         let begins : same_perm (grow_left g) ((s.block n).pair c).held ≡ true =
-        ap (same_perm (grow_left g)) (sym (held_is n)) ∙ not-false (same_perm (grow_left g) (held_at e n)) free.b3
-        in
-        record {
-          may = (caching free.b4, closed, still.0, still.1, begins);
-          word = tt;
-          source = tt;
-          reply =
-              tt;
-          replies = (refl, unopened _ closed);
-          message = refl;
-        }
-    well (op.AcquireWhole n bytes) free =
-        let closed = free_source free.b1 in
-        let still = transfers n free.b2 in
-        let begins : same_perm perm.Trunk ((s.block n).pair c).held ≡ false =
-        ap (same_perm perm.Trunk) (sym (held_is n)) ∙ free.b3 in
+        cc (held_is n, not-false (same_perm (grow_left g) (held_at e n)) free.b3) in
         record {
           may = (caching free.b4, closed, still.0, still.1, begins);
           word = tt;
           source = tt;
           reply = tt;
           replies = (refl, unopened _ closed);
-          message = ap (λ (p : Perm). Some
-              (message.A (acquisition a.AcquirePerm (whole_grow p) (source_or_0 (free_request terms e.past)) n)))
-              (held_is n);
+          message = refl;
         }
-    well (op.Release n p) free =
+    well (Op.AcquireWhole n bytes) free =
+        let closed = free_source free.b1 in
+        let still = transfers n free.b2 in
+        let begins : same_perm Perm.Trunk ((s.block n).pair c).held ≡ false = cc (held_is n, free.b3) in
+        record {
+          may = (caching free.b4, closed, still.0, still.1, begins);
+          word = tt;
+          source = tt;
+          reply = tt;
+          replies = (refl, unopened _ closed);
+          message = cc (held_is n);
+        }
+    well (Op.Release n p) free =
+        let unlet : (source : ℕ) → s.lets c source ≡ None → m.opened c Releases source ≡ None =
+        λ source none. subst (λ (l : Option ℕ). IsLet l (m.opened c Releases source)) none
+        (is.beside.releases c source) in
         let source = source_or_0 (free_release terms e.past) in
         let open_ = (least_free-some (λ i. pending (ReleaseSource i) e.past) 0 terms.sources free.b1).0 in
         let none = no_let (s.lets c source) (sym ((is.opened c).releases source) ∙ open_) in
         let still = transfers n free.b2 in
         let begins : same_perm (prune_left p) ((s.block n).pair c).held ≡ true =
-        ap (same_perm (prune_left p)) (sym (held_is n)) ∙ not-false (same_perm (prune_left p) (held_at e n)) free.b3
-        in
+        cc (held_is n, not-false (same_perm (prune_left p) (held_at e n)) free.b3) in
         record {
           may = (caching free.b4, none, still.0, still.1, swap_perms ((s.block n).pair c).held (prune_left p) ∙ begins);
           word = tt;
           source = tt;
           reply = tt;
           replies = (refl, unlet source none);
-          message = ap (λ (bytes : List ℕ). Some (release p source n bytes))
-              (copy_is n (some_held p ((s.block n).pair c).held begins));
+          message = cc (copy_is n (some_held p ((s.block n).pair c).held begins));
         }
-      where
-        unlet : (source : ℕ) → s.lets c source ≡ None → m.opened c Releases source ≡ None
-        unlet source none = subst (λ (l : Option ℕ). IsLet l (m.opened c Releases source)) none
-            (is.beside.releases c source)
-    well (op.Access (message.A x)) free =
+    well (Op.Access (Message.A x)) free =
         let closed = free_source free.b1 in
         record {
           may = closed;
           word = tt;
           source = access_sent x free;
           reply = tt;
-          replies =
-              (refl, unopened _ closed);
+          replies = (refl, unopened _ closed);
           message = refl;
         }
-    well (op.Access (message.B x)) free = busy_well config c (op.Access (message.B x)) _ h m e
-    well (op.Access (message.C x)) free = busy_well config c (op.Access (message.C x)) _ h m e
-    well (op.Access (message.D x)) free = busy_well config c (op.Access (message.D x)) _ h m e
-    well (op.Access (message.E x)) free = busy_well config c (op.Access (message.E x)) _ h m e
+    well (Op.Access (Message.B x)) free = busy_well config c (Op.Access (Message.B x)) _ h m e
+    well (Op.Access (Message.C x)) free = busy_well config c (Op.Access (Message.C x)) _ h m e
+    well (Op.Access (Message.D x)) free = busy_well config c (Op.Access (Message.D x)) _ h m e
+    well (Op.Access (Message.E x)) free = busy_well config c (Op.Access (Message.E x)) _ h m e

@@ -1,41 +1,27 @@
 -- What a client that is busy answers, and what that says of the protocol.
 use Rattle.tl_coherence.proofs.deliveries.Imports.{Message, MessageA, beat_of, Config, Perm, Prune, prune_left}
-use Rattle.tl_coherence.proofs.deliveries.Imports.{block_at, same_perm, Op, release, AbstractState, Log}
-use Rattle.tl_coherence.proofs.deliveries.Imports.{Machine, AcquirePhase, NoAcquire, AcquireOpen, Block}
-use Rattle.tl_coherence.proofs.deliveries.Imports.{State, SourceState, AccessMessages, block_message}
-use Rattle.tl_coherence.proofs.deliveries.Imports.{Acquire, System, SimulationRelation, is_caching, IsRequest}
-use Rattle.std.proofs.Common.{◌≡◌, ℕ, ◌+◌, ◌*◌, ◌/◌, ◌%◌, ◌^◌, ◌≤◌, Bool, true, false, List, Option, Some}
-use Rattle.std.proofs.Common.{None, refl, sym, ◌∙◌, ap, arith}
+use Rattle.tl_coherence.proofs.deliveries.Imports.{block_at, same_perm, Op, release, AbstractState, Log, Machine}
+use Rattle.tl_coherence.proofs.deliveries.Imports.{AcquirePhase, NoAcquire, AcquireOpen, Block, State, SourceState}
+use Rattle.tl_coherence.proofs.deliveries.Imports.{AccessMessages, block_message, Acquire, System, SimulationRelation}
+use Rattle.tl_coherence.proofs.deliveries.Imports.{is_caching, IsRequest, Channel}
+use Rattle.std.proofs.Common.{◌≡◌, ℕ, ◌+◌, ◌*◌, ◌/◌, ◌%◌, ◌^◌, ◌≤◌, Bool, true, false, List, Option, Some, None, refl}
+use Rattle.std.proofs.Common.{sym, ◌∙◌, ap, arith}
 use Rattle.std.specs.Prelude.{is_some, is_none, slice_index}
-use Rattle.tl_beat.specs.declared.channel.Channel.TheVariants as channel
-use Rattle.tl_beat.specs.declared.opcode.OpA.TheVariants as a
-use Rattle.tl_burst.specs.declared.message.Message.TheVariants as message
-use Rattle.tl_params.specs.declared.level.Level.{Level}
-use Rattle.tl_params.specs.declared.key.Key.TheVariants.{RequestSource}
-use Rattle.tl_params.specs.declared.perm.Perm.TheVariants as perm
-use Rattle.tl_params.specs.declared.param.Prune.TheVariants as prune
+use Rattle.tl_beat.specs.declared.opcode.OpA.{OpA}
+use Rattle.tl_params.{specs.declared.level.Level.Level, specs.declared.key.Key.TheVariants.RequestSource}
+use Rattle.tl_params.{specs.declared.rule.Rule.Rule}
 use Rattle.tl_rules.specs.statement.Effect.{Memory, IsBlock, number_from}
-use Rattle.tl_rules.specs.statement.History.{pending}
-use Rattle.tl_rules.specs.statement.Legality.{illegal, illegal_message}
-use Rattle.tl_rules.proofs.Legal.{legal_from_beats, legal_beat}
-use Rattle.tl_params.specs.declared.rule.Rule.{Rule}
-use Rattle.tl_rules.proofs.Places.{number_same}
-use Rattle.tl_client.specs.declared.operation.Op.TheVariants as op
-use Rattle.tl_client.specs.declared.busy.Busy.{Busy}
-use Rattle.tl_client.specs.declared.reply.Reply.{Reply}
-use Rattle.tl_client.specs.declared.reply.Reply.TheVariants as reply
-use Rattle.tl_client.specs.statement.Ask.{Asked, only}
-use Rattle.tl_client.specs.statement.Ask.{whole_grow}
-use Rattle.tl_client.specs.statement.Endpoint.{Endpoint}
-use Rattle.tl_client.specs.statement.Send.{access, acquisition}
-use Rattle.tl_coherence.specs.statement.Machine.{Replies}
-use Rattle.tl_coherence.specs.protocol.Protocol.{SourceFree, Asked as AskedUse, InService, Replied, Acquires}
-use Rattle.tl_coherence.specs.refinement.PacketMessages.{acquire_of}
+use Rattle.tl_rules.{specs.statement.History.pending, specs.statement.Legality.illegal}
+use Rattle.tl_rules.{specs.statement.Legality.illegal_message, proofs.Legal.legal_from_beats, proofs.Legal.legal_beat}
+use Rattle.tl_rules.{proofs.Places.number_same}
+use Rattle.tl_client.{specs.declared.busy.Busy.Busy, specs.declared.reply.Reply.Reply}
+use Rattle.tl_client.{specs.statement.Endpoint.Endpoint, specs.statement.Send.access, specs.statement.Send.acquisition}
+use Rattle.tl_client.specs.statement.Ask.{Asked, only, whole_grow}
+use Rattle.tl_coherence.specs.{statement.Machine.Replies, refinement.PacketMessages.acquire_of}
+use Rattle.tl_coherence.specs.protocol.Protocol.{SourceFree, Replied, Acquires}
 use Rattle.tl_coherence.specs.refinement.SimulationRelation.{first_of, asked_for, block_used, IsSourced, IsAnswered}
-use Rattle.tl_coherence.proofs.memory.BesideAsked.{IsReply}
-use Rattle.tl_coherence.proofs.protocol.FollowKept.{IsAskable}
-use Rattle.tl_coherence.proofs.simulation.SizedAfter.{IsSizedAsk}
-use Rattle.tl_coherence.proofs.simulation.SourcedAfter.{IsSourcedAsk}
+use Rattle.tl_coherence.proofs.{memory.BesideAsked.IsReply, protocol.FollowKept.IsAskable}
+use Rattle.tl_coherence.proofs.{simulation.SizedAfter.IsSizedAsk, simulation.SourcedAfter.IsSourcedAsk}
 
 -- ---- what the protocol has, by what the end has
 
@@ -43,33 +29,24 @@ use Rattle.tl_coherence.proofs.simulation.SourcedAfter.{IsSourcedAsk}
 acquire_some : (w c n : ℕ) (b : Block (List ℕ))
     → is_some (asked_for {w = w} (Acquires n) (block_message Acquire c n b) (block_message Acquire c n b)) ≡ true
 unfolding block_message
-acquire_some w c n b = go (b.pair c).acquiring
-  where
-    go : (x : AcquirePhase) → is_some (first_of {w = w} (acquire_of x (b.source c) n)) ≡ true
-    go NoAcquire = refl
-    go (AcquireOpen true g) = refl
-    go (AcquireOpen false g) = refl
+acquire_some w c n b =
+    let go : (x : AcquirePhase) → is_some (first_of {w = w} (acquire_of x (b.source c) n)) ≡ true =
+    elim [ NoAcquire ↦ refl | AcquireOpen true g ↦ refl | AcquireOpen false g ↦ refl ] in
+    go (b.pair c).acquiring
 
 request_some : {w : ℕ} (config : Config) (c source : ℕ) (m : Message w) → IsRequest config c source m
     → is_some (first_of m) ≡ true
-request_some config c source (message.A m) h = refl
-request_some config c source (message.B m) h = absurd (let e = h.0 in cc)
-request_some config c source (message.C m) h = absurd (let e = h.0 in cc)
-request_some config c source (message.D m) h = absurd (let e = h.0 in cc)
-request_some config c source (message.E m) h = absurd (let e = h.0 in cc)
+request_some config c source (Message.A m) h = refl
+request_some config c source m h = absurd (let e = h.0 in cc)
 
 answer_some : {w : ℕ} (source : ℕ) (m x : Message w) → IsAnswered source m x Replied → is_some (first_of m) ≡ true
-answer_some source (message.A m) x h = refl
-answer_some source (message.B m) x h = absurd h
-answer_some source (message.C m) x h = absurd h
-answer_some source (message.D m) x h = absurd h
-answer_some source (message.E m) x h = absurd h
+answer_some source (Message.A m) x h = refl
+answer_some source m x h = absurd h
 
-pub unused : {w : ℕ} (config : Config) (log : Log w) (mail : AccessMessages w) (request : ℕ → MessageA w)
-    (s : State (List ℕ)) (sys : System w) (c source : ℕ)
-    → SimulationRelation config log mail request s sys → pending (RequestSource source) (sys.clients c).past ≡ false
-    → s.uses c source ≡ SourceFree
-unused {w} config log mail request s sys c source h free =
+pub unused : {w : ℕ} {config : Config} {log : Log w} {mail : AccessMessages w} {request : ℕ → MessageA w}
+    {s : State (List ℕ)} {sys : System w} (c source : ℕ) → SimulationRelation config log mail request s sys
+    → pending (RequestSource source) (sys.clients c).past ≡ false → s.uses c source ≡ SourceFree
+unused {w} {config} {mail} {s} c source h free =
     go (s.uses c source) refl (h.sourced c source) (h.answered c source) (sym ((h.opened c).requests source) ∙ free)
   where
     differ : (b : Bool) → b ≡ true → b ≡ false → ⊥
@@ -80,23 +57,21 @@ unused {w} config log mail request s sys c source h free =
         → is_some (asked_for u (mail.request c source)
         (block_message Acquire c (block_used u) (s.block (block_used u)))) ≡ false → u ≡ SourceFree
     go SourceFree e sourced answered none = refl
-    go AskedUse e sourced answered none =
-        absurd (differ _ (request_some config c source (mail.request c source) sourced) none)
-    go (InService n) e sourced answered none =
-        absurd (differ _ (request_some config c source (mail.request c source) sourced) none)
     go Replied e sourced answered none =
         absurd (differ _ (answer_some source (mail.request c source) (mail.answer c source) answered) none)
     go (Acquires n) e sourced answered none = absurd (differ _ (acquire_some w c n (s.block n)) none)
+    go u e sourced answered none = absurd (differ _ (request_some config c source (mail.request c source) sourced) none)
 
 -- ---- what is answered
 
 -- the message that is handed out
 abbrev pub IsHandedOut : {w : ℕ} → ℕ → Op w → Reply → AbstractState w → Option (Message w) → Type 0
-IsHandedOut c (op.Acquire n g) (reply.Started source) h m = m ≡ Some (message.A (acquisition a.AcquireBlock g source n))
-IsHandedOut c (op.AcquireWhole n bytes) (reply.Started source) h m =
-    m ≡ Some (message.A (acquisition a.AcquirePerm (whole_grow ((h.state.block n).pair c).held) source n))
-IsHandedOut {w} c (op.Release n p) (reply.Started source) h m = m ≡ Some (release p source n (h.state.block n).truth)
-IsHandedOut c (op.Access (message.A x)) (reply.Started source) h m = m ≡ Some (access source x)
+IsHandedOut c (Op.Acquire n g) (Reply.Started source) h m =
+    m ≡ Some (Message.A (acquisition OpA.AcquireBlock g source n))
+IsHandedOut c (Op.AcquireWhole n bytes) (Reply.Started source) h m =
+    m ≡ Some (Message.A (acquisition OpA.AcquirePerm (whole_grow ((h.state.block n).pair c).held) source n))
+IsHandedOut {w} c (Op.Release n p) (Reply.Started source) h m = m ≡ Some (release p source n (h.state.block n).truth)
+IsHandedOut c (Op.Access (Message.A x)) (Reply.Started source) h m = m ≡ Some (access source x)
 IsHandedOut c o r h m = m ≡ None
 
 pub record IsAskedWell {w : ℕ} (config : Config) (c : ℕ) (o : Op w) (h : AbstractState w) (m : Machine w)
@@ -109,94 +84,52 @@ pub record IsAskedWell {w : ℕ} (config : Config) (c : ℕ) (o : Op w) (h : Abs
   pub message : IsHandedOut c o x.reply h x.message
 
 pub busy_well : {w : ℕ} (config : Config) (c : ℕ) (o : Op w) (why : Busy) (h : AbstractState w) (m : Machine w)
-    (e : Endpoint w) → IsAskedWell config c o h m (only (reply.Busy why) e)
-busy_well config c (op.Load address size) why h m e = record {
+    (e : Endpoint w) → IsAskedWell config c o h m (only (Reply.Busy why) e)
+busy_well config c (Op.Access (Message.A x)) why h m e = record {
   may = tt;
   word = tt;
   source = tt;
   reply = tt;
-  replies =
-      tt;
-  message = refl;
-}
-busy_well config c (op.Store address size value) why h m e = record {
-  may = tt;
-  word = tt;
-  source = tt;
-  reply =
-      tt;
   replies = tt;
   message = refl;
 }
-busy_well config c (op.Acquire n g) why h m e = record {
+busy_well config c (Op.Access (Message.B x)) why h m e = record {
   may = tt;
   word = tt;
   source = tt;
   reply = tt;
-  replies =
-      tt;
-  message = refl;
-}
-busy_well config c (op.AcquireWhole n bytes) why h m e = record {
-  may = tt;
-  word = tt;
-  source = tt;
-  reply =
-      tt;
   replies = tt;
   message = refl;
 }
-busy_well config c (op.Release n p) why h m e = record {
+busy_well config c (Op.Access (Message.C x)) why h m e = record {
   may = tt;
   word = tt;
   source = tt;
   reply = tt;
-  replies =
-      tt;
-  message = refl;
-}
-busy_well config c (op.Access (message.A x)) why h m e = record {
-  may = tt;
-  word = tt;
-  source = tt;
-  reply =
-      tt;
   replies = tt;
   message = refl;
 }
-busy_well config c (op.Access (message.B x)) why h m e = record {
+busy_well config c (Op.Access (Message.D x)) why h m e = record {
   may = tt;
   word = tt;
   source = tt;
-  reply =
-      tt;
+  reply = tt;
   replies = tt;
   message = refl;
 }
-busy_well config c (op.Access (message.C x)) why h m e = record {
+busy_well config c (Op.Access (Message.E x)) why h m e = record {
   may = tt;
   word = tt;
   source = tt;
-  reply =
-      tt;
+  reply = tt;
   replies = tt;
   message = refl;
 }
-busy_well config c (op.Access (message.D x)) why h m e = record {
+busy_well config c o why h m e = record {
   may = tt;
   word = tt;
   source = tt;
-  reply =
-      tt;
-  replies = tt;
-  message = refl;
-}
-busy_well config c (op.Access (message.E x)) why h m e = record {
-  may = tt;
-  word = tt;
-  source = tt;
-  reply =
-      tt;
+  reply = tt;
   replies = tt;
   message = refl;
 }
@@ -210,16 +143,11 @@ loaded_number f address size bytes room is =
     (λ i lt. let place : 64 * (address / 64) + (address % 64 + i) ≡ address + i = omega arith in
     sym (is (address % 64 + i) (omega (arith, room, lt))) ∙ ap f place)
 
-pub some_held : (p : Prune) (q : Perm) → same_perm (prune_left p) q ≡ true → same_perm q perm.None ≡ false
-some_held prune.TtoB perm.Trunk e = refl
-some_held prune.TtoN perm.Trunk e = refl
-some_held prune.BtoN perm.Branch e = refl
-some_held prune.TtoB perm.None e = absurd cc
-some_held prune.TtoB perm.Branch e = absurd cc
-some_held prune.TtoN perm.None e = absurd cc
-some_held prune.TtoN perm.Branch e = absurd cc
-some_held prune.BtoN perm.None e = absurd cc
-some_held prune.BtoN perm.Trunk e = absurd cc
+pub some_held : (p : Prune) (q : Perm) → same_perm (prune_left p) q ≡ true → same_perm q Perm.None ≡ false
+some_held Prune.TtoB Perm.Trunk e = refl
+some_held Prune.TtoN Perm.Trunk e = refl
+some_held Prune.BtoN Perm.Branch e = refl
+some_held p q e = absurd cc
 
 pub none_rule : (o : Option Rule) → is_none o ≡ true → o ≡ None
 none_rule None e = refl
@@ -227,12 +155,11 @@ none_rule (Some r) e = absurd cc
 
 -- the source of an access breaks no rule
 sourced_beat : {w : ℕ} (l : Level) (x : MessageA w) (source i : ℕ)
-    → illegal l channel.A (beat_of (access source x) i) ≡ illegal l channel.A (beat_of (message.A x) i)
+    → illegal l Channel.A (beat_of (access source x) i) ≡ illegal l Channel.A (beat_of (Message.A x) i)
 unfolding illegal
 sourced_beat l x source i = refl
 
-pub sourced_legal : {w : ℕ} (l : Level) (x : MessageA w) (source : ℕ) → illegal_message l channel.A (message.A x) ≡ None
-    → illegal_message l channel.A (access source x) ≡ None
-sourced_legal l x source e =
-    legal_from_beats l channel.A (access source x) (λ i lt. sourced_beat l x source i ∙ legal_beat l channel.A
-    (message.A x) i e lt)
+pub sourced_legal : {w : ℕ} (l : Level) (x : MessageA w) (source : ℕ) → illegal_message l Channel.A (Message.A x) ≡ None
+    → illegal_message l Channel.A (access source x) ≡ None
+sourced_legal l x source e = legal_from_beats l Channel.A (access source x) (λ i lt. sourced_beat l x source i
+    ∙ legal_beat l Channel.A (Message.A x) i e lt)

@@ -1,63 +1,48 @@
 -- The channels carry the messages of the tokens after each delivery on channel C or E.
 
-use Rattle.tl_coherence.proofs.deliveries.Imports.{IsFor, beat_of, unfinished, completes, EndConfig, Handed}
-use Rattle.tl_coherence.proofs.deliveries.Imports.{reaction, Deliver, Log, receiver}
-use Rattle.tl_coherence.proofs.deliveries.Imports.{stepped, System, terms_at}
-use Rattle.tl_coherence.proofs.deliveries.Imports.{SimulationRelation}
-use Rattle.tl_coherence.proofs.deliveries.Imports.{is_caching, IsWidth, Beat, Channel, Message, MessageA, Config}
-use Rattle.tl_coherence.proofs.deliveries.Imports.{Report, AbstractState, ack_taken, answers}
+use Rattle.tl_coherence.proofs.deliveries.Imports.{IsFor, beat_of, unfinished, completes, Handed, reaction}
+use Rattle.tl_coherence.proofs.deliveries.Imports.{Deliver, Log, receiver, stepped, System}
+use Rattle.tl_coherence.proofs.deliveries.Imports.{SimulationRelation, is_caching, IsWidth, Beat, Channel, Message}
+use Rattle.tl_coherence.proofs.deliveries.Imports.{MessageA, Config, Report, AbstractState, ack_taken, answers}
 use Rattle.tl_coherence.proofs.deliveries.Imports.{abstract_step, last_taken, some_below, packet_taken, with_state}
-use Rattle.tl_coherence.proofs.deliveries.Imports.{IsWell, IsInvariant, ProbeAnswered, AcquirePhase}
-use Rattle.tl_coherence.proofs.deliveries.Imports.{NoAcquire, AcquireOpen, is_granted_data, Service, Waits, Block}
-use Rattle.tl_coherence.proofs.deliveries.Imports.{shown, view, Free, GrantSent, GrantTaken, let_block, release_taken}
-use Rattle.tl_coherence.proofs.deliveries.Imports.{report_taken, packet, prune_told, message_of, block_message}
-use Rattle.tl_coherence.proofs.deliveries.Imports.{report_told, ProbeAck, Release}
-use Rattle.tl_coherence.proofs.deliveries.Imports.{Grant, ReleaseAck, Packet}
+use Rattle.tl_coherence.proofs.deliveries.Imports.{IsWell, IsInvariant, ProbeAnswered, AcquirePhase, NoAcquire}
+use Rattle.tl_coherence.proofs.deliveries.Imports.{AcquireOpen, is_granted_data, Service, Waits, Block, shown, view}
+use Rattle.tl_coherence.proofs.deliveries.Imports.{Free, GrantSent, GrantTaken, let_block, release_taken, report_taken}
+use Rattle.tl_coherence.proofs.deliveries.Imports.{packet, prune_told, block_message, report_told, ProbeAck}
+use Rattle.tl_coherence.proofs.deliveries.Imports.{Release, Grant, ReleaseAck, Packet}
 use Rattle.tl_coherence.specs.protocol.Protocol as protocol
-use Rattle.tl_coherence.proofs.queues.Shown.{carried-shown}
+use Rattle.tl_coherence.proofs.{queues.Shown.carried-shown, manager.Choices.plain-past, queues.FirstToken.first-token}
+use Rattle.tl_coherence.proofs.{manager.ManagerSettles.gift_after, manager.Reporting.report-about}
+use Rattle.tl_coherence.proofs.{manager.Reporting.release-about, queues.Landed.IsOn, manager.ManagerAfter.others_probed}
+use Rattle.tl_coherence.proofs.{manager.ManagerTakes.by-first_c, protocol.RequestsKept.settled_all}
+use Rattle.tl_coherence.proofs.{rank.RankParts.serving-use}
 use Rattle.tl_coherence.proofs.simulation.CarriedEvents.{release_taken-shown, report_taken-shown}
 use Rattle.tl_coherence.proofs.simulation.CarriedLastReports.{report_answers-shown, report_grants-shown}
-use Rattle.tl_coherence.proofs.manager.Choices.{plain-past}
-use Rattle.tl_coherence.proofs.queues.FirstToken.{first-token}
-use Rattle.tl_coherence.proofs.manager.ManagerSettles.{gift_after}
 use Rattle.tl_coherence.proofs.manager.UnwaitedRequests.{invariant-taken, next_tracker}
-use Rattle.tl_coherence.proofs.manager.Reporting.{report-about, release-about}
-use Rattle.tl_coherence.proofs.queues.Landed.{IsOn}
-use Rattle.tl_coherence.proofs.manager.ManagerAfter.{others_probed}
 use Rattle.tl_coherence.proofs.deliveries.ManagerDelivered.{Delivered, channel_c-delivered, pushed_by}
-use Rattle.tl_coherence.proofs.deliveries.LastReportDelivered.{pushed}
 use Rattle.tl_coherence.proofs.deliveries.ManagerDelivered.{releases-delivered, reports-delivered}
-use Rattle.tl_coherence.proofs.deliveries.LastReportDelivered.{pushed_last}
-use Rattle.tl_coherence.proofs.deliveries.LastReportDelivered.{seen_apart}
+use Rattle.tl_coherence.proofs.deliveries.LastReportDelivered.{pushed, pushed_last, seen_apart}
 use Rattle.tl_coherence.proofs.deliveries.ManagerFollowed.{client-of, followed-taken}
-use Rattle.tl_coherence.proofs.manager.ManagerTakes.{by-first_c}
-use Rattle.std.proofs.Common.{◌≡◌, ℕ, Bool, true, false, List, [], ◌∷◌, Some, length, refl, sym, ◌∙◌, ap}
-use Rattle.std.proofs.Common.{subst}
-use Rattle.std.specs.Prelude.{◌==◌, if◌then◌else◌, map}
-use Rattle.tl_beat.specs.declared.channel.Channel.TheVariants as channel
+use Rattle.std.proofs.Common.{◌≡◌, ℕ, Bool, true, false, List, [], ◌∷◌, length, refl, sym, ◌∙◌, ap, subst}
+use Rattle.std.specs.Prelude.{◌==◌, if◌then◌else◌}
 use Rattle.tl_coherence.specs.refinement.AbstractStep.{performs, granted_after}
-use Rattle.tl_coherence.specs.protocol.Protocol.{ended_block, granted_block}
-use Rattle.tl_coherence.specs.protocol.Packet.{set}
+use Rattle.tl_coherence.specs.{protocol.Protocol.ended_block, protocol.Protocol.granted_block, protocol.Packet.set}
 use Rattle.tl_coherence.proofs.queues.Facts.{answered_other, is_other, own_wants}
-use Rattle.tl_coherence.proofs.protocol.RequestsKept.{settled_all}
 use Rattle.tl_coherence.proofs.queues.Tokens.{same_number, set-same, holds-first, set_at-same}
 use Rattle.tl_coherence.proofs.protocol.BothParts.{answered-is, taken-unseen, granted-unseen}
-use Rattle.tl_coherence.proofs.rank.RankParts.{serving-use}
 use Rattle.tl_coherence.proofs.deliveries.LandedReports.{ended-bytes, on_c, IsReceived, CarriesAfter, part-carried}
 use Rattle.tl_coherence.proofs.deliveries.LandedReports.{last-quietly, last-handing, answer_on_d, grant_on_d, ack_on_d}
 
 -- ---- a ProbeAck
 
-reports-last : {w : ℕ} (config : Config) (log : Log w) (h : AbstractState w) (sys : System w) (c n : ℕ)
-    (rest : List Packet) (x : Beat w) (queue : List (Beat w))
-    → IsReceived config log h sys c channel.C x queue
-    → (h.state.link c).c ≡ packet ProbeAck n ∷ rest → completes x (unfinished channel.C (receiver channel.C c sys))
-    ≡ true
-    → (reaction config (record { 0 = c }) x sys.manager).handed ≡ pushed config c ProbeAck n h
+reports-last : {w : ℕ} {config : Config} {log : Log w} {h : AbstractState w} {sys : System w} {c : ℕ} (n : ℕ)
+    (rest : List Packet) {x : Beat w} {queue : List (Beat w)} → IsReceived config log h sys c Channel.C x queue
+    → (h.state.link c).c ≡ packet ProbeAck n ∷ rest → completes x (unfinished Channel.C (receiver Channel.C c sys))
+    ≡ true → (reaction config (record { 0 = c }) x sys.manager).handed ≡ pushed config c ProbeAck n h
     (ack_taken (length config.clients.items) config.profile c n (report_told ((h.state.block n).pair c).probing) rest h)
-    → CarriesAfter config c channel.C sys (ack_taken (length config.clients.items) config.profile c n
+    → CarriesAfter config c Channel.C sys (ack_taken (length config.clients.items) config.profile c n
     (report_told ((h.state.block n).pair c).probing) rest h)
-reports-last {w} config log h sys c n rest x queue at tokens whole handed =
+reports-last {w} {config} {log} {h} {sys} {c} n rest {x} {queue} at tokens whole handed =
     others (some_below (length config.clients.items) (others_probed c b.pair)) refl
     (invariant-taken config log h sys c ProbeAck n rest at.is tokens tt) handed
   where
@@ -71,7 +56,7 @@ reports-last {w} config log h sys c n rest x queue at tokens whole handed =
     inv = at.is.invariant
 
     after : System w
-    after = (stepped config (Deliver (record { 0 = c }) channel.C) sys).after
+    after = (stepped config (Deliver (record { 0 = c }) Channel.C) sys).after
 
     answered : (b.pair c).probing ≡ ProbeAnswered r
     answered = answered-is (b.pair c).probing (holds-first ProbeAck (h.state.link c).c rest (packet ProbeAck n)
@@ -84,45 +69,37 @@ reports-last {w} config log h sys c n rest x queue at tokens whole handed =
     Hands pushes = (reaction config (record { 0 = c }) x sys.manager).handed ≡ pushes
 
     last : some_below (length config.clients.items) (others_probed c b.pair) ≡ false → (service : Service)
-        → b.service ≡ service
-        → IsInvariant (is_caching config) (last_taken (length config.clients.items) config.profile c n r service rest
-        h).state
+        → b.service ≡ service → IsInvariant (is_caching config) (last_taken (length config.clients.items) config.profile
+        c n r service rest h).state
         → Hands (pushed_last n service (last_taken (length config.clients.items) config.profile c n r service rest h))
-        → CarriesAfter config c channel.C sys (last_taken (length config.clients.items) config.profile c n r service
+        → CarriesAfter config c Channel.C sys (last_taken (length config.clients.items) config.profile c n r service
         rest h)
     last alone Free f later one = absurd (let other : false ≡ true = rw f at seen in cc)
     last alone (GrantSent q d low) f later one = absurd (granted-unseen (c == q) d low (rw f at seen))
     last alone (GrantTaken q) f later one = absurd (taken-unseen (c == q) (rw f at seen))
     last alone (Waits q false source low) f later one =
-        carried-shown at.width (report_answers-shown (is_caching config) c q n source r low (performs v) rest said
-        h.mail h.state inv later tokens f (rw (serving-use (is_caching config) h.state n q source low inv f) refl)
+        let v : MessageA w = h.request n in
+        let said : Message w = answers v (protocol.written r b.truth b.memory) in
+        let for : IsFor (Waits q false source low) n v = rw f at (at.is.served.requests n) in
+        carried-shown at.width (report_answers-shown c q n source r low (performs v) rest said
+        h.mail inv later tokens f (rw (serving-use (is_caching config) h.state n q source low inv f) refl)
         (ended-bytes (is_caching config) c q source r low v b (inv.blocks n) (subst (IsWell (is_caching config))
         (set-same n (ended_block c r (performs v) b) h.state.block)
         (later.blocks n)) f answered
         (settled_all (length config.clients.items) (is_caching config) c b.pair (plain-past config)
-        (inv.blocks n).outside alone) for.0 for.3 (at.is.sized n).truth) (answer_on_d v _)) (last-handing config log h
-        sys c q channel.C x queue said at (one ∙ rw (set_at-same q source said h.mail.answer)
+        (inv.blocks n).outside alone) for.0 for.3 (at.is.sized n).truth) (answer_on_d v _)) (last-handing
+        q said at (one ∙ rw (set_at-same q source said h.mail.answer)
         refl) whole) at.is.carried
-      where
-        v : MessageA w
-        v = h.request n
-
-        said : Message w
-        said = answers v (protocol.written r b.truth b.memory)
-
-        for : IsFor (Waits q false source low) n v
-        for = rw f at (at.is.served.requests n)
     last alone (Waits q true source low) f later one = go (b.pair q).acquiring refl later one
       where
         go : (y : AcquirePhase) → (b.pair q).acquiring ≡ y
             → IsInvariant (is_caching config) (granted_after (length config.clients.items) config.profile c q n r y rest
-            h).state
-            → Hands ((
+            h).state → Hands ((
               record { 0 = q },
               block_message Grant q n
                   ((granted_after (length config.clients.items) config.profile c q n r y rest h).state.block n),
             ) ∷ [])
-            → CarriesAfter config c channel.C sys (granted_after (length config.clients.items) config.profile c q n r y
+            → CarriesAfter config c Channel.C sys (granted_after (length config.clients.items) config.profile c q n r y
             rest h)
         go NoAcquire g then_well one =
             absurd (let wants = own_wants (b.pair q) (view b.service q) ((inv.blocks n).phases q)
@@ -131,9 +108,9 @@ reports-last {w} config log h sys c n rest x queue at tokens whole handed =
             let d = is_granted_data whole_block grow (b.pair q).recorded in
             let gift = gift_after config c n r whole_block grow h in
             let new : Block (List ℕ) = granted_block c q r d gift b in
-            carried-shown at.width (report_grants-shown (is_caching config) c q n source r d low gift rest
-            (block_message Grant q n new) h.mail h.state inv then_well tokens f (seen_apart q source low c (rw f at
-            seen)) (grant_on_d w q n new d gift refl) refl) (last-handing config log h sys c q channel.C x queue
+            carried-shown at.width (report_grants-shown c q n source r d low gift rest
+            (block_message Grant q n new) h.mail inv then_well tokens f (seen_apart q source low c (rw f at
+            seen)) (grant_on_d w q n new d gift refl) refl) (last-handing q
             (block_message Grant q n new) at
             (one ∙ ap (λ (i : Block (List ℕ)). (record { 0 = q }, block_message Grant q n i) ∷ [])
             (set-same n new h.state.block)) whole) at.is.carried
@@ -142,112 +119,102 @@ reports-last {w} config log h sys c n rest x queue at tokens whole handed =
         → IsInvariant (is_caching config) (if y then with_state (report_taken c n r rest h.state) h else last_taken
         (length config.clients.items) config.profile c n r b.service rest h).state
         → Hands (if some_below (length config.clients.items) (others_probed c b.pair) then [] else pushed_last n
-        b.service
-        (if y then with_state (report_taken c n r rest h.state) h else last_taken (length config.clients.items)
-        config.profile c n r b.service rest h))
-        → CarriesAfter config c channel.C sys (if y then with_state (report_taken c n r rest h.state) h else last_taken
+        b.service (if y then with_state (report_taken c n r rest h.state) h else last_taken
+        (length config.clients.items) config.profile c n r b.service rest h))
+        → CarriesAfter config c Channel.C sys (if y then with_state (report_taken c n r rest h.state) h else last_taken
         (length config.clients.items) config.profile c n r b.service rest h)
-    others true f later one =
-        carried-shown at.width (report_taken-shown (is_caching config) c n r rest h.mail h.state inv later tokens)
-        (last-quietly config log h sys c channel.C x queue at (one ∙ rw f refl) whole) at.is.carried
+    others true f later one = carried-shown at.width (report_taken-shown c n r rest h.mail inv later tokens)
+        (last-quietly at (one ∙ rw f refl) whole) at.is.carried
     others false f later one = last f b.service refl later (one ∙ rw f refl)
 
 -- ---- any beat of channel C or E
 
 -- where the beat isn't the last of its message, and where it is
-by-place : {w : ℕ} (config : Config) (log : Log w) (h h' : AbstractState w) (pushes : Handed w) (sys : System w) (c : ℕ)
-    (ch : Channel) (x : Beat w)
-    (queue : List (Beat w)) → IsReceived config log h sys c ch x queue
-    → (reaction config (record { 0 = c }) x sys.manager).handed ≡ (if completes x (unfinished ch (receiver ch c sys))
-    then pushes else [])
+by-place : {w : ℕ} {config : Config} {log : Log w} {h : AbstractState w} (h' : AbstractState w) (pushes : Handed w)
+    {sys : System w} {c : ℕ} {ch : Channel} {x : Beat w} {queue : List (Beat w)}
+    → IsReceived config log h sys c ch x queue → (reaction config (record { 0 = c }) x sys.manager).handed
+    ≡ (if completes x (unfinished ch (receiver ch c sys)) then pushes else [])
     → (completes x (unfinished ch (receiver ch c sys)) ≡ true
     → (reaction config (record { 0 = c }) x sys.manager).handed ≡ pushes → CarriesAfter config c ch sys h')
     → CarriesAfter config c ch sys (if completes x (unfinished ch (receiver ch c sys)) then h' else h)
-by-place {w} config log h h' pushes sys c ch x queue at handed last =
+by-place {w} {config} {log} {h} h' pushes {sys} {c} {ch} {x} {queue} at handed last =
+    let go : (b : Bool) → completes x (unfinished ch (receiver ch c sys)) ≡ b
+    → (reaction config (record { 0 = c }) x sys.manager).handed ≡ (if b then pushes else [])
+    → CarriesAfter config c ch sys (if b then h' else h) =
+    elim [ true ↦ λ e f. last e f | false ↦ λ e f. part-carried at f e ] in
     go (completes x (unfinished ch (receiver ch c sys))) refl handed
-  where
-    go : (b : Bool) → completes x (unfinished ch (receiver ch c sys)) ≡ b
-        → (reaction config (record { 0 = c }) x sys.manager).handed ≡ (if b then pushes else [])
-        → CarriesAfter config c ch sys (if b then h' else h)
-    go true e f = last e f
-    go false e f = part-carried config log h sys c ch x queue at f e
 
 -- the beat that is first on channel C is one of it
-received_on : {w : ℕ} (config : Config) (log : Log w) (h : AbstractState w) (sys : System w) (c : ℕ) (x : Beat w)
-    (queue : List (Beat w)) → IsWidth w
-    → SimulationRelation config log h.mail h.request h.state sys → sys.channels c channel.C ≡ x ∷ queue
-    → IsOn channel.C x
+received_on : {w : ℕ} {config : Config} {log : Log w} (h : AbstractState w) {sys : System w} (c : ℕ) (x : Beat w)
+    (queue : List (Beat w)) → IsWidth w → SimulationRelation config log h.mail h.request h.state sys
+    → sys.channels c Channel.C ≡ x ∷ queue → IsOn Channel.C x
 unfolding block_message
-received_on {w} config log h sys c x queue width is beats =
-    by-first_c (λ i. IsOn channel.C x) c h.mail h.state sys x queue (first-token (is_caching config) channel.C c h.mail
+received_on {w} {config} h {sys} c x queue width is beats =
+    by-first_c (λ i. IsOn Channel.C x) c h.mail h.state sys x queue (first-token (is_caching config) Channel.C c h.mail
     h.state sys x queue width is.invariant is.carried beats)
     (λ n rest tokens next.
     let m = report-about (report_told ((h.state.block n).pair c).probing) n (h.state.block n).truth width
     (is.sized n).truth in
-    subst (IsOn channel.C) (sym (next.beat_is ∙ ap (λ (i : Message w). beat_of i next.k) m.1)) (on_c m.0 next.k))
+    subst (IsOn Channel.C) (sym (next.beat_is ∙ ap (λ (i : Message w). beat_of i next.k) m.1)) (on_c m.0 next.k))
     (λ n rest tokens next.
     let m = release-about (prune_told ((h.state.block n).pair c).letting) ((h.state.block n).release_source c) n
     (h.state.block n).truth width (is.sized n).truth in
-    subst (IsOn channel.C) (sym (next.beat_is ∙ ap (λ (i : Message w). beat_of i next.k) m.1)) (on_c m.0 next.k))
+    subst (IsOn Channel.C) (sym (next.beat_is ∙ ap (λ (i : Message w). beat_of i next.k) m.1)) (on_c m.0 next.k))
 
 -- the channels after a delivery on C, as the protocol follows it
-pub carried-followed_c : {w : ℕ} (config : Config) (log : Log w) (h : AbstractState w) (sys : System w) (c : ℕ)
+pub carried-followed_c : {w : ℕ} {config : Config} {log : Log w} (h : AbstractState w) {sys : System w} (c : ℕ)
     (x : Beat w) (queue : List (Beat w)) → IsWidth w
-    → SimulationRelation config log h.mail h.request h.state sys → sys.channels c channel.C ≡ x ∷ queue
-    → CarriesAfter config c channel.C sys (abstract_step config (Deliver (record { 0 = c }) channel.C) sys h)
-carried-followed_c {w} config log h sys c x queue width is beats =
-    subst (CarriesAfter config c channel.C sys)
-    (sym (followed-taken config c channel.C x queue sys h t.0 t.1 beats refl any.up))
-    (by-first_c (λ i. CarriesAfter config c channel.C sys
+    → SimulationRelation config log h.mail h.request h.state sys → sys.channels c Channel.C ≡ x ∷ queue
+    → CarriesAfter config c Channel.C sys (abstract_step config (Deliver (record { 0 = c }) Channel.C) sys h)
+carried-followed_c {w} {config} {log} h {sys} c x queue width is beats =
+    let t = client-of config c Channel.C x queue sys beats (is.sound c Channel.C) in
+    subst (CarriesAfter config c Channel.C sys)
+    (sym (followed-taken queue sys h t.0 t.1 beats refl any.up))
+    (by-first_c (λ i. CarriesAfter config c Channel.C sys
     (if completes x before then packet_taken config (next_tracker sys) c i h else h)) c h.mail h.state sys x queue
-    (first-token (is_caching config) channel.C c h.mail h.state sys x queue width is.invariant is.carried beats)
+    (first-token (is_caching config) Channel.C c h.mail h.state sys x queue width is.invariant is.carried beats)
     (λ n rest tokens next.
-    let d = reports-delivered config log h sys c n rest x queue (map (message_of h.mail h.state c) rest) width is beats
+    let d = reports-delivered h c n rest width is beats
     tokens next in
-    by-place config log h _ _ sys c channel.C x queue at d.handed (λ whole one. reports-last config log h sys c n rest x
-    queue at tokens whole one))
+    by-place _ _ at d.handed (λ whole one. reports-last n rest
+    at tokens whole one))
     (λ n rest tokens next.
-    let d = releases-delivered config log h sys c n rest x queue (map (message_of h.mail h.state c) rest) width is beats
+    let d = releases-delivered h c n rest width is beats
     tokens next in
-    by-place config log h _ _ sys c channel.C x queue at d.handed (λ whole one. releases-last n rest tokens whole one)))
+    by-place _ _ at d.handed (λ whole one. releases-last n rest tokens whole one)))
   where
     before : List (Beat w)
-    before = unfinished channel.C (receiver channel.C c sys)
+    before = unfinished Channel.C (receiver Channel.C c sys)
 
-    t : (t : EndConfig) × (terms_at config c ≡ Some t)
-    t = client-of config c channel.C x queue sys beats (is.sound c channel.C)
-
-    any : Delivered config c channel.C before h (packet_taken config (next_tracker sys) c (h.state.link c).c h)
+    any : Delivered config c Channel.C before h (packet_taken config (next_tracker sys) c (h.state.link c).c h)
         (pushed_by config c (h.state.link c).c h (packet_taken config (next_tracker sys) c (h.state.link c).c h))
         sys.manager x
-    any = channel_c-delivered config log (next_tracker sys) h sys c x queue width is beats
+    any = channel_c-delivered (next_tracker sys) h c x queue width is beats
 
-    at : IsReceived config log h sys c channel.C x queue
+    at : IsReceived config log h sys c Channel.C x queue
     at = record {
       width = width;
       is = is;
       beats = beats;
       down = refl;
-      on_ch =
-          received_on config log h sys c x queue width is beats;
+      on_ch = received_on h c x queue width is beats;
       up = any.up;
     }
 
     releases-last : (n : ℕ) (rest : List Packet) → (h.state.link c).c ≡ packet Release n ∷ rest
-        → completes x before ≡ true
-        → (reaction config (record { 0 = c }) x sys.manager).handed
+        → completes x before ≡ true → (reaction config (record { 0 = c }) x sys.manager).handed
         ≡ (
           record { 0 = c },
-          block_message ReleaseAck c n (set n
-              (let_block c (prune_told ((h.state.block n).pair c).letting) (h.state.block n)) h.state.block n),
+          block_message ReleaseAck c n
+              (set n (let_block c (prune_told ((h.state.block n).pair c).letting) (h.state.block n)) h.state.block n),
         ) ∷ []
-        → CarriesAfter config c channel.C sys
+        → CarriesAfter config c Channel.C sys
         (with_state (release_taken c n (prune_told ((h.state.block n).pair c).letting) rest h.state) h)
     releases-last n rest tokens whole one =
         let new : Block (List ℕ) = let_block c (prune_told ((h.state.block n).pair c).letting) (h.state.block n) in
-        carried-shown width (release_taken-shown (is_caching config) c n (prune_told ((h.state.block n).pair c).letting)
-        rest (block_message ReleaseAck c n new) h.mail h.state is.invariant (invariant-taken config log h sys c Release
-        n rest is tokens tt) tokens (ack_on_d w c n new) refl) (last-handing config log h sys c c channel.C x queue
+        carried-shown width (release_taken-shown c n (prune_told ((h.state.block n).pair c).letting)
+        rest (block_message ReleaseAck c n new) h.mail is.invariant (invariant-taken config log h sys c Release
+        n rest is tokens tt) tokens (ack_on_d w c n new) refl) (last-handing c
         (block_message ReleaseAck c n new) at
         (one ∙ ap (λ (i : Block (List ℕ)). (record { 0 = c }, block_message ReleaseAck c n i) ∷ [])
         (set-same n new h.state.block)) whole) is.carried

@@ -7,102 +7,78 @@ use Rattle.tl_coherence.proofs.deliveries.Imports.{IsInvariant, IsWell, AcquireP
 use Rattle.tl_coherence.proofs.deliveries.Imports.{Free, Block, State, packet, AccessMessages, block_message, Step}
 use Rattle.tl_coherence.proofs.deliveries.Imports.{handing, System, channel_of_message, with_manager, with_channel}
 use Rattle.tl_coherence.proofs.deliveries.Imports.{with_messages, Kind, Request, Acquire, Grant, Packet}
-use Rattle.tl_coherence.proofs.deliveries.Imports.{SimulationRelation, is_caching}
+use Rattle.tl_coherence.proofs.deliveries.Imports.{SimulationRelation, is_caching, Perm}
 use Rattle.std.proofs.Common.{◌≡◌, ℕ, suc, ◌≤◌, ◌==◌, Bool, true, false, not, ◌&&◌, ◌||◌, List, [], ◌∷◌, Option, Some}
 use Rattle.std.proofs.Common.{None, length, refl, sym, subst, ◌∙◌, ap, ◌⊎◌, inl, inr, arith}
-use Rattle.std.specs.Prelude.{if◌then◌else◌}
-use Rattle.std.proofs.lemmas.Bool.{cases_lt}
-use Rattle.std.proofs.Math.Bool.{and_comm}
-use Rattle.tl_beat.specs.declared.beat.Beat.TheVariants as beat
+use Rattle.std.{specs.Prelude.if◌then◌else◌, proofs.lemmas.Bool.cases_lt, proofs.Math.Bool.and_comm}
 use Rattle.tl_beat.specs.declared.beat.BeatA.{BeatA}
-use Rattle.tl_beat.specs.declared.channel.Channel.TheVariants as channel
-use Rattle.tl_burst.specs.declared.message.Message.TheVariants as message
-use Rattle.tl_params.specs.declared.param.Cap.TheVariants as cap
-use Rattle.tl_params.specs.declared.perm.Perm.TheVariants as perm
-use Rattle.tl_rules.specs.declared.answer.Answer.{Answer}
-use Rattle.tl_rules.specs.declared.answer.Answer.TheVariants as answer
-use Rattle.tl_rules.specs.statement.Effect.{effect, answer_of}
+use Rattle.tl_rules.{specs.declared.answer.Answer.Answer, specs.statement.Effect.effect}
+use Rattle.tl_rules.{specs.statement.Effect.answer_of, specs.statement.History.is_acquire, proofs.Sent.is_last}
 use Rattle.tl_manager.specs.statement.Handing.{access_answer, probes}
 use Rattle.tl_manager.specs.statement.Holders as holders
 use Rattle.tl_manager.specs.statement.Holders.{recorded, probed, cap_probed, is_spared}
-use Rattle.tl_rules.specs.statement.History.{is_acquire}
-use Rattle.tl_rules.proofs.Sent.{is_last}
 use Rattle.tl_client.proofs.endpoint.HeldAfter.{swapped}
-use Rattle.tl_coherence.specs.declared.event.Outcome.TheVariants as outcome
+use Rattle.tl_coherence.specs.{declared.event.Outcome.Outcome, protocol.Invariant.cap_asked}
+use Rattle.tl_coherence.specs.{protocol.PhaseSteps.is_above}
 use Rattle.tl_coherence.specs.refinement.AbstractStep.{bytes_at, probes_some, access_taken, request_taken, performs}
 use Rattle.tl_coherence.specs.refinement.AbstractStep.{gift, is_unheld, acquire_taken}
-use Rattle.tl_coherence.specs.protocol.Invariant.{cap_asked}
-use Rattle.tl_coherence.specs.protocol.PhaseSteps.{is_above}
 use Rattle.tl_coherence.specs.protocol.Protocol.{is_probed, granted_at_once, acquire_served, acquire_granted}
-use Rattle.tl_coherence.proofs.manager.Admitted.{offered-taken}
+use Rattle.tl_coherence.proofs.{manager.Admitted.offered-taken, manager.AtRequests.end_after}
+use Rattle.tl_coherence.proofs.{manager.AtRequests.reaction-probing, queues.Shown.carried-shown}
+use Rattle.tl_coherence.proofs.{protocol.FollowKept.IsReady, protocol.RequestsKept.some-none}
+use Rattle.tl_coherence.proofs.{protocol.RequestsKept.leaves-bytes, queues.Showing.carries, queues.Showing.none-carried}
+use Rattle.tl_coherence.proofs.{protocol.Heads.IsAsked, protocol.Heads.IsWanted, manager.ManagedServed.same_above}
+use Rattle.tl_coherence.proofs.{manager.Requests.recorded-beat, queues.Tokens.set-same, simulation.Moved.manager-heard}
+use Rattle.tl_coherence.proofs.{simulation.Moved.carried-part, queues.Codes.acquires-so, queues.Perms.none-above}
+use Rattle.tl_coherence.proofs.{bound.RankAfter.once_on_d}
 use Rattle.tl_coherence.proofs.manager.Arrivals.{link_of, with_beat, IsComing, ends-coming, service_for}
-use Rattle.tl_coherence.proofs.manager.AtRequests.{end_after, reaction-probing}
-use Rattle.tl_coherence.proofs.queues.Shown.{carried-shown}
 use Rattle.tl_coherence.proofs.simulation.CarriedEvents.{access_answered-shown, acquire_granted-shown}
 use Rattle.tl_coherence.proofs.simulation.CarriedProbes.{probe_pushes, channels-probes, access_served-shown}
 use Rattle.tl_coherence.proofs.simulation.CarriedProbes.{acquire_served-shown}
-use Rattle.tl_coherence.proofs.protocol.FollowKept.{IsReady}
-use Rattle.tl_coherence.proofs.protocol.RequestsKept.{some-none, leaves-bytes}
-use Rattle.tl_coherence.proofs.queues.Showing.{carries, none-carried}
-use Rattle.tl_coherence.proofs.protocol.Heads.{IsAsked, IsWanted}
-use Rattle.tl_coherence.proofs.manager.ManagedServed.{same_above}
-use Rattle.tl_coherence.proofs.manager.Requests.{recorded-beat}
 use Rattle.tl_coherence.proofs.manager.RequestsHanded.{handed-answered, handed-granted}
 use Rattle.tl_coherence.proofs.manager.UnwaitedRequests.{next_tracker, free-last, invariant-taken, probed-some}
-use Rattle.tl_coherence.proofs.manager.RequestsTaken.{caps_asked, acquire_wanted}
 use Rattle.tl_coherence.proofs.manager.UnwaitedRequests.{somebody-probed, beyond-none}
-use Rattle.tl_coherence.proofs.manager.RequestsTaken.{ready-request, ready-acquire}
-use Rattle.tl_coherence.proofs.queues.Tokens.{set-same}
+use Rattle.tl_coherence.proofs.manager.RequestsTaken.{caps_asked, acquire_wanted, ready-request, ready-acquire}
 use Rattle.tl_coherence.proofs.queues.Channels.{behind, IsTaken, pushes_at}
 use Rattle.tl_coherence.proofs.queues.Landed.{pushes_of, IsLanded, taken-landed, IsOn, HasTaken, landed-manager}
 use Rattle.tl_coherence.proofs.queues.Landed.{channels-handed}
-use Rattle.tl_coherence.proofs.simulation.Moved.{manager-heard, carried-part}
-use Rattle.tl_coherence.proofs.queues.Codes.{acquires-so}
-use Rattle.tl_coherence.proofs.queues.Perms.{none-above}
-use Rattle.tl_coherence.proofs.bound.RankAfter.{once_on_d}
 
 -- ---- the whole after a beat of a request
 
 -- it, where the manager takes the beat
 abbrev pub system_after : {w : ℕ} → Config → ℕ → ℕ → MessageA w → List (Beat w) → System w → System w
 system_after config c k m queue sys =
-    with_messages (reaction config (link_of c) (beat.A (a_beat_of m k)) sys.manager).handed
-    (with_manager (end_after config c k m sys.manager) (with_channel c channel.A queue sys))
+    with_messages (reaction config (link_of c) (Beat.A (a_beat_of m k)) sys.manager).handed
+    (with_manager (end_after config c k m sys.manager) (with_channel c Channel.A queue sys))
 
-on_a : {w : ℕ} (x : BeatA w) → IsOn channel.A (beat.A x)
-on_a x channel.A = refl
-on_a x channel.B = refl
-on_a x channel.C = refl
-on_a x channel.D = refl
-on_a x channel.E = refl
+on_a : {w : ℕ} (x : BeatA w) → IsOn Channel.A (Beat.A x)
+on_a x Channel.A = refl
+on_a x _ = refl
 
 heard-coming : {w : ℕ} (config : Config) (c k : ℕ) (m : MessageA w) (queue : List (Beat w)) (sys : System w)
     → IsComing config c k m sys.manager
-    → HasTaken c (beat.A (a_beat_of m k)) sys.manager (end_after config c k m sys.manager)
+    → HasTaken c (Beat.A (a_beat_of m k)) sys.manager (end_after config c k m sys.manager)
 heard-coming {w} config c k m queue sys is =
-    let x : Beat w = beat.A (a_beat_of m k) in
-    let step : Step w = handing (outcome.Moved x) (reaction config (link_of c) x sys.manager).handed
-    (with_manager (end_after config c k m sys.manager) (with_channel c channel.A queue sys)) in
-    manager-heard config (link_of c) channel.A x queue sys step is.width is.typed is.kept
-    (record { takes = offered-taken config (link_of c) channel.A x sys.manager is.passes; step_is = refl })
+    let x : Beat w = Beat.A (a_beat_of m k) in
+    let step : Step w = handing (Outcome.Moved x) (reaction config (link_of c) x sys.manager).handed
+    (with_manager (end_after config c k m sys.manager) (with_channel c Channel.A queue sys)) in
+    manager-heard config (link_of c) Channel.A x queue sys step is.width is.typed is.kept
+    (record { takes = offered-taken config (link_of c) Channel.A x sys.manager is.passes; step_is = refl })
 
 -- what is handed out stands behind what was on the channels
-pub landed-coming : {w : ℕ} (config : Config) (c k : ℕ) (m : MessageA w) (queue : List (Beat w)) (sys : System w)
-    (handed : Handed w)
-    (pushes : ℕ → Channel → Option (Message w)) → IsComing config c k m sys.manager
-    → sys.channels c channel.A ≡ beat.A (a_beat_of m k) ∷ queue
-    → (reaction config (link_of c) (beat.A (a_beat_of m k)) sys.manager).handed ≡ handed
+pub landed-coming : {w : ℕ} {config : Config} {c k : ℕ} {m : MessageA w} (queue : List (Beat w)) (sys : System w)
+    (handed : Handed w) (pushes : ℕ → Channel → Option (Message w)) → IsComing config c k m sys.manager
+    → sys.channels c Channel.A ≡ Beat.A (a_beat_of m k) ∷ queue
+    → (reaction config (link_of c) (Beat.A (a_beat_of m k)) sys.manager).handed ≡ handed
     → ((s : System w) (d : ℕ) (at : Channel) → (with_messages handed s).channels d at ≡ behind (pushes d at)
-    (s.channels d at))
-    → IsLanded c channel.A (beat.A (a_beat_of m k)) queue pushes sys (system_after config c k m queue sys)
-landed-coming {w} config c k m queue sys handed pushes is beats done pushed =
-    landed-manager c channel.A (beat.A (a_beat_of m k)) queue pushes
-    (reaction config (link_of c) (beat.A (a_beat_of m k)) sys.manager).handed
+    (s.channels d at)) → IsLanded c Channel.A (Beat.A (a_beat_of m k)) queue pushes sys
+    (system_after config c k m queue sys)
+landed-coming {w} {config} {c} {k} {m} queue sys handed pushes is beats done pushed =
+    let base : System w = with_manager (end_after config c k m sys.manager) (with_channel c Channel.A queue sys) in
+    landed-manager c Channel.A (Beat.A (a_beat_of m k)) queue pushes
+    (reaction config (link_of c) (Beat.A (a_beat_of m k)) sys.manager).handed
     (end_after config c k m sys.manager) sys refl beats (on_a (a_beat_of m k)) (heard-coming config c k m queue sys is)
     (λ d at. ap (λ (i : Handed w). (with_messages i base).channels d at) done ∙ pushed base d at)
-  where
-    base : System w
-    base = with_manager (end_after config c k m sys.manager) (with_channel c channel.A queue sys)
 
 -- ---- a beat that isn't the last
 
@@ -111,59 +87,46 @@ nothing-handed : {w : ℕ} (s : System w) (d : ℕ) (at : Channel) → (with_mes
 unfolding with_messages
 nothing-handed s d at = refl
 
-pub carried-more : {w : ℕ} (config : Config) (log : Log w) (mail : AccessMessages w) (request : ℕ → MessageA w)
-    (s : State (List ℕ)) (sys : System w) (c k : ℕ)
-    (m : MessageA w) (queue : List (Beat w)) → SimulationRelation config log mail request s sys
-    → IsComing config c k m sys.manager → sys.channels c channel.A ≡ beat.A (a_beat_of m k) ∷ queue
-    → completes (beat.A (a_beat_of m k)) (unfinished channel.A (on_link c sys.manager.trace)) ≡ false
+pub carried-more : {w : ℕ} {config : Config} {log : Log w} {mail : AccessMessages w} {request : ℕ → MessageA w}
+    {s : State (List ℕ)} {sys : System w} {c k : ℕ}
+    {m : MessageA w} (queue : List (Beat w)) → SimulationRelation config log mail request s sys
+    → IsComing config c k m sys.manager → sys.channels c Channel.A ≡ Beat.A (a_beat_of m k) ∷ queue
+    → completes (Beat.A (a_beat_of m k)) (unfinished Channel.A (on_link c sys.manager.trace)) ≡ false
     → ChannelRelation mail s (system_after config c k m queue sys)
-carried-more {w} config log mail request s sys c k m queue is comes beats part =
-    let x : Beat w = beat.A (a_beat_of m k) in
-    let done : (reaction config (link_of c) x sys.manager).handed ≡ [] =
-    ap (λ (d : Reaction w). d.handed) (reaction-part config (link_of c) x sys.manager part) in
-    carried-part mail s c channel.A x queue (λ d at. None) sys (system_after config c k m queue sys) comes.width
-    (landed-coming config c k m queue sys [] (λ d at. None) comes beats done nothing-handed) (λ d at. refl) part
+carried-more {w} {config} {mail} {s} {sys} {c} {k} {m} queue is comes beats part =
+    let x : Beat w = Beat.A (a_beat_of m k) in
+    let done = ap (λ (d : Reaction w). d.handed) (reaction-part config (link_of c) x sys.manager part) in
+    carried-part mail s comes.width
+    (landed-coming queue sys [] (λ d at. None) comes beats done nothing-handed) (λ d at. refl) part
     is.carried
 
 -- ---- its last beat: others are probed
 
-nothing_above : (j : Cap) (own : Bool) → (not own && is_above j perm.None) ≡ false
-nothing_above cap.ToT true = refl
-nothing_above cap.ToT false = refl
-nothing_above cap.ToB true = refl
-nothing_above cap.ToB false = refl
-nothing_above cap.ToN true = refl
-nothing_above cap.ToN false = refl
+nothing_above : (j : Cap) (own : Bool) → (not own && is_above j Perm.None) ≡ false
+nothing_above Cap.ToT true = refl
+nothing_above Cap.ToT false = refl
+nothing_above Cap.ToB true = refl
+nothing_above Cap.ToB false = refl
+nothing_above Cap.ToN true = refl
+nothing_above Cap.ToN false = refl
 
-pub taken-probing : {w : ℕ} (config : Config) (log : Log w) (mail : AccessMessages w) (request : ℕ → MessageA w)
-    (s : State (List ℕ)) (sys : System w) (c k n : ℕ)
-    (own : Bool) (j : Cap) (m : MessageA w) (queue : List (Beat w)) → SimulationRelation config log mail request s sys
-    → IsComing config c k m sys.manager → sys.channels c channel.A ≡ beat.A (a_beat_of m k) ∷ queue
-    → beats_of (message.A m) ≡ suc k → is_acquire m.opcode ≡ own → block_at m.address ≡ n
-    → (reaction config (link_of c) (beat.A (a_beat_of m k)) sys.manager).handed ≡ probes n j
+pub taken-probing : {w : ℕ} {config : Config} {log : Log w} {mail : AccessMessages w} {request : ℕ → MessageA w}
+    {s : State (List ℕ)} {sys : System w} {c k : ℕ} (n : ℕ)
+    (own : Bool) (j : Cap) {m : MessageA w} (queue : List (Beat w)) → SimulationRelation config log mail request s sys
+    → IsComing config c k m sys.manager → sys.channels c Channel.A ≡ Beat.A (a_beat_of m k) ∷ queue
+    → beats_of (Message.A m) ≡ suc k → is_acquire m.opcode ≡ own → block_at m.address ≡ n
+    → (reaction config (link_of c) (Beat.A (a_beat_of m k)) sys.manager).handed ≡ probes n j
     (probed config (service_for c m sys.manager.trace) j (with_beat c m k sys.manager.trace))
-    → IsTaken c channel.A (beat.A (a_beat_of m k)) queue
+    → IsTaken c Channel.A (Beat.A (a_beat_of m k)) queue
     (probe_pushes n j (λ d. is_probed c own j ((s.block n).pair d).recorded d)) sys
     (system_after config c k m queue sys)
-taken-probing {w} config log mail request s sys c k n own j m queue is comes beats last kind block done =
-    taken-landed c channel.A (beat.A (a_beat_of m k)) queue pushes sys (system_after config c k m queue sys)
-    (landed-coming config c k m queue sys
-    (probes n j (probed config (service_for c m sys.manager.trace) j (with_beat c m k sys.manager.trace))) pushes
-    comes beats done
-    (λ v d at. channels-probes n j (length config.clients.items)
-    (λ i. holders.is_above j (recorded i (block_at m.address) (with_beat c m k sys.manager.trace))
-    && not (is_spared (service_for c m sys.manager.trace) i)) test v (λ i lt. same i) none d at))
-    (ends-coming config c k m sys.manager comes ∙ rw last (is_last k (suc k) (omega arith)))
-  where
-    test : ℕ → Bool
-    test d = is_probed c own j ((s.block n).pair d).recorded d
-
-    pushes : ℕ → Channel → Option (Message w)
-    pushes = probe_pushes n j test
-
-    same : (i : ℕ) → (holders.is_above j (recorded i (block_at m.address) (with_beat c m k sys.manager.trace)) && not
-        (is_spared (service_for c m sys.manager.trace) i)) ≡ test i
-    same i = rw (
+taken-probing {w} {config} {log} {mail} {request} {s} {sys} {c} {k} n own j {m} queue is comes beats last kind block
+    done =
+    let test : ℕ → Bool = λ d. is_probed c own j ((s.block n).pair d).recorded d in
+    let pushes : ℕ → Channel → Option (Message w) = probe_pushes n j test in
+    let same : (i : ℕ) → (holders.is_above j (recorded i (block_at m.address) (with_beat c m k sys.manager.trace))
+    && not (is_spared (service_for c m sys.manager.trace) i)) ≡ test i =
+    λ i. rw (
       block,
       recorded-beat c k m sys.manager.trace i n,
       is.managed.recorded_is i n,
@@ -171,43 +134,45 @@ taken-probing {w} config log mail request s sys c k n own j m queue is comes bea
       same_above j
           ((s.block n).pair i).recorded,
       swapped c i,
-    )
-        (and_comm (is_above j ((s.block n).pair i).recorded) (not (own && (i == c))))
-
-    none : (d : ℕ) → length config.clients.items ≤ d → test d ≡ false
-    none d past = rw (beyond-none config log mail request s sys n is d past) (nothing_above j (own && (d == c)))
+    ) (and_comm (is_above j ((s.block n).pair i).recorded)
+    (not (own && (i == c)))) in
+    let none : (d : ℕ) → length config.clients.items ≤ d → test d ≡ false =
+    λ d past. rw (beyond-none n is d past) (nothing_above j (own && (d == c))) in
+    taken-landed
+    (landed-coming queue sys
+    (probes n j (probed config (service_for c m sys.manager.trace) j (with_beat c m k sys.manager.trace))) pushes
+    comes beats done
+    (λ v d at. channels-probes n j (length config.clients.items)
+    (λ i. holders.is_above j (recorded i (block_at m.address) (with_beat c m k sys.manager.trace))
+    && not (is_spared (service_for c m sys.manager.trace) i)) test v (λ i lt. same i) none d at))
+    (ends-coming comes ∙ rw last (is_last k (suc k) (omega arith)))
 
 -- ---- one message is handed out
 
-pub taken-answering : {w : ℕ} (config : Config) (c k : ℕ) (m : MessageA w) (i : Message w) (queue : List (Beat w))
-    (sys : System w)
-    → IsComing config c k m sys.manager → sys.channels c channel.A ≡ beat.A (a_beat_of m k) ∷ queue
-    → beats_of (message.A m) ≡ suc k
-    → (reaction config (link_of c) (beat.A (a_beat_of m k)) sys.manager).handed ≡ (link_of c, i) ∷ []
-    → IsTaken c channel.A (beat.A (a_beat_of m k)) queue (pushes_at c (pushes_of (Some i))) sys
+pub taken-answering : {w : ℕ} {config : Config} {c k : ℕ} {m : MessageA w} (i : Message w) (queue : List (Beat w))
+    (sys : System w) → IsComing config c k m sys.manager → sys.channels c Channel.A ≡ Beat.A (a_beat_of m k) ∷ queue
+    → beats_of (Message.A m) ≡ suc k → (reaction config (link_of c) (Beat.A (a_beat_of m k)) sys.manager).handed
+    ≡ (link_of c, i) ∷ [] → IsTaken c Channel.A (Beat.A (a_beat_of m k)) queue (pushes_at c (pushes_of (Some i))) sys
     (system_after config c k m queue sys)
-taken-answering {w} config c k m i queue sys comes beats last done =
-    taken-landed c channel.A (beat.A (a_beat_of m k)) queue (pushes_at c (pushes_of (Some i))) sys
-    (system_after config c k m queue sys)
-    (landed-coming config c k m queue sys ((link_of c, i) ∷ []) (pushes_at c (pushes_of (Some i))) comes beats done
-    (λ v d at. channels-handed c (Some i) v d at))
-    (ends-coming config c k m sys.manager comes ∙ rw last (is_last k (suc k) (omega arith)))
+taken-answering {w} {config} {c} {k} {m} i queue sys comes beats last done =
+    taken-landed (landed-coming queue sys ((link_of c, i) ∷ []) (pushes_at c (pushes_of (Some i))) comes beats done
+    (λ v d at. channels-handed c (Some i) v d at)) (ends-coming comes ∙ rw last (is_last k (suc k) (omega arith)))
 
 -- ---- an Acquire
 
 -- after an Acquire that was taken
-pub carried-acquire_taken : {w : ℕ} (config : Config) (log : Log w) (h : AbstractState w) (sys : System w) (c n k : ℕ)
-    (rest : List Packet) (queue : List (Beat w))
-    → SimulationRelation config log h.mail h.request h.state sys
+pub carried-acquire_taken : {w : ℕ} {config : Config} {log : Log w} (h : AbstractState w) {sys : System w} {c n k : ℕ}
+    (rest : List Packet) (queue : List (Beat w)) → SimulationRelation config log h.mail h.request h.state sys
     → (h.state.link c).a ≡ packet Acquire n ∷ rest → (asked : IsWanted w c n h.state)
     → IsComing config c k (acquire_wanted c n h.state asked) sys.manager
-    → sys.channels c channel.A ≡ beat.A (a_beat_of (acquire_wanted c n h.state asked) k) ∷ queue
-    → beats_of (message.A (acquire_wanted c n h.state asked)) ≡ suc k
-    → must_wait config (link_of c) (beat.A (a_beat_of (acquire_wanted c n h.state asked) k)) sys.manager.trace ≡ false
+    → sys.channels c Channel.A ≡ Beat.A (a_beat_of (acquire_wanted c n h.state asked) k) ∷ queue
+    → beats_of (Message.A (acquire_wanted c n h.state asked)) ≡ suc k
+    → must_wait config (link_of c) (Beat.A (a_beat_of (acquire_wanted c n h.state asked) k)) sys.manager.trace ≡ false
     → ChannelRelation (kind_taken config (next_tracker sys) c Acquire n rest h).mail
     (kind_taken config (next_tracker sys) c Acquire n rest h).state
     (system_after config c k (acquire_wanted c n h.state asked) queue sys)
-carried-acquire_taken {w} config log h sys c n k rest queue is first asked comes beats last moves =
+carried-acquire_taken {w} {config} {log} h {sys} {c} {n} {k} rest queue is first asked comes beats last moves =
+    let inv = invariant-taken config log h sys c Acquire n rest is first ready in
     subst (λ (i : AcquirePhase). ChannelRelation (acquire_taken clients config.profile c n i tracker rest h).mail
     (acquire_taken clients config.profile c n i tracker rest h).state after) (sym asked.wants)
     (go (some_below clients (λ d. is_probed c true j (b.pair d).recorded d)) refl
@@ -233,10 +198,7 @@ carried-acquire_taken {w} config log h sys c n k rest queue is first asked comes
     j = cap_asked (AcquireOpen asked.whole asked.grow)
 
     ready : IsReady tracker c Acquire n h
-    ready = ready-acquire config log h sys c n k is asked comes last moves
-
-    inv : IsInvariant (is_caching config) (kind_taken config tracker c Acquire n rest h).state
-    inv = invariant-taken config log h sys c Acquire n rest is first ready
+    ready = ready-acquire h is asked comes last moves
 
     caps : cap_probed m.opcode m.param ≡ Some j
     caps = caps_asked w asked.whole asked.grow (b.source c) n
@@ -255,10 +217,10 @@ carried-acquire_taken {w} config log h sys c n k rest queue is first asked comes
     go : (x : Bool) → some_below clients (λ d. is_probed c true j (b.pair d).recorded d) ≡ x
         → IsInvariant (is_caching config) (state_of x) → ChannelRelation h.mail (state_of x) after
     go true f kept =
-        let some = somebody-probed config log h.mail h.request h.state sys c k n true m is (acquires-so asked.whole)
+        let some = somebody-probed c k n true m is (acquires-so asked.whole)
         (same_block n) (rw caps f) in
-        carried-shown comes.width (acquire_served-shown (is_caching config) c n (b.source c) tracker j rest h.mail
-        h.state is.invariant kept first ready.0) (taken-probing config log h.mail h.request h.state sys c k n true j m
+        carried-shown comes.width (acquire_served-shown c n (b.source c) tracker j rest h.mail
+        is.invariant kept first ready.0) (taken-probing n true j
         queue is comes beats last
         (acquires-so asked.whole) (same_block n)
         (ap (λ (d : Reaction w). d.handed) (reaction-probing config c k n j m sys.manager comes last (same_block n) caps
@@ -268,18 +230,17 @@ carried-acquire_taken {w} config log h sys c n k rest queue is first asked comes
         let new = granted_at_once c tracker data_too given b in
         let well : IsWell (is_caching config) new = subst (IsWell (is_caching config)) (set-same n new h.state.block)
         (kept.blocks n) in
-        carried-shown comes.width (acquire_granted-shown (is_caching config) c n tracker data_too given rest
-        (block_message Grant c n new) h.mail h.state is.invariant kept first ready.0 (once_on_d w c n tracker data_too
-        given b) refl) (taken-answering config c k m (block_message Grant c n new) queue sys comes beats last
-        (handed-granted config log h.mail h.request h.state sys (is_caching config) c n k is asked comes last
+        carried-shown comes.width (acquire_granted-shown c n tracker data_too given rest
+        (block_message Grant c n new) h.mail is.invariant kept first ready.0 (once_on_d w c n tracker data_too
+        given b) refl) (taken-answering (block_message Grant c n new) queue sys comes beats last
+        (handed-granted is asked comes last
         (rw caps f) well)) is.carried
 
 -- ---- an access
 
-pub answer_on_d : {w : ℕ} (m : MessageA w) (r : Answer) → channel_of_message (access_answer m r) ≡ channel.D
-answer_on_d m answer.Ack = refl
-answer_on_d m answer.Hint = refl
-answer_on_d m (answer.Data payload) = refl
+pub answer_on_d : {w : ℕ} (m : MessageA w) (r : Answer) → channel_of_message (access_answer m r) ≡ Channel.D
+answer_on_d m Answer.Ack = refl
+answer_on_d m r = refl
 
 -- an access that is answered at once changes the bytes only where no message carries them
 pub unread-bytes : {w : ℕ} (config : Config) (log : Log w) (mail : AccessMessages w) (request : ℕ → MessageA w)
@@ -288,37 +249,37 @@ pub unread-bytes : {w : ℕ} (config : Config) (log : Log w) (mail : AccessMessa
     → probes_some (length config.clients.items) c false (cap_probed m.opcode m.param) (s.block n).pair ≡ false
     → (k : Kind) (d : ℕ) → (carries k d (s.block n) ≡ false) ⊎ (performs m (s.block n).truth ≡ (s.block n).truth)
 unread-bytes {w} config log mail request s sys c n m is access none k d =
+    let unheld : (i : ℕ) → cap_probed m.opcode m.param ≡ Some Cap.ToN
+    → same_perm ((s.block n).pair i).recorded Perm.None ≡ true =
+    λ i all. elim (cases_lt i (length config.clients.items)) [
+      | inl lt ↦ none-above ((s.block n).pair i).recorded
+          (some-none (length config.clients.items) (λ j. is_probed c false Cap.ToN ((s.block n).pair j).recorded j)
+          (rw all at none) i lt)
+      | inr past ↦ rw (beyond-none n is i past) refl
+    ] in
     elim (leaves-bytes m (s.block n).truth access (is.sized n).truth) [
       | inl same ↦ inr same
       | inr all ↦ inl (none-carried (is_caching config) (s.block n) (is.invariant.blocks n)
-          (λ i. either (same_perm ((s.block n).pair i).held perm.Trunk) (unheld i all)) k d)
+          (λ i. either (same_perm ((s.block n).pair i).held Perm.Trunk) (unheld i all)) k d)
     ]
   where
     either : (b : Bool) {x : Bool} → x ≡ true → (b || x) ≡ true
     either true e = refl
     either false e = e
 
-    unheld : (i : ℕ) → cap_probed m.opcode m.param ≡ Some cap.ToN
-        → same_perm ((s.block n).pair i).recorded perm.None ≡ true
-    unheld i all = elim (cases_lt i (length config.clients.items)) [
-      | inl lt ↦ none-above ((s.block n).pair i).recorded
-          (some-none (length config.clients.items) (λ j. is_probed c false cap.ToN ((s.block n).pair j).recorded j)
-          (rw all at none) i lt)
-      | inr past ↦ rw (beyond-none config log mail request s sys n is i past) refl
-    ]
-
 -- after the last beat of an access that was taken
-pub carried-request_taken : {w : ℕ} (config : Config) (log : Log w) (h : AbstractState w) (sys : System w)
-    (c source k : ℕ) (rest : List Packet) (queue : List (Beat w))
-    → SimulationRelation config log h.mail h.request h.state sys
-    → (h.state.link c).a ≡ packet Request source ∷ rest → (asked : IsAsked config c source h.mail h.state)
-    → IsComing config c k asked.request sys.manager
-    → sys.channels c channel.A ≡ beat.A (a_beat_of asked.request k) ∷ queue → beats_of (message.A asked.request) ≡ suc k
-    → must_wait config (link_of c) (beat.A (a_beat_of asked.request k)) sys.manager.trace ≡ false
+pub carried-request_taken : {w : ℕ} {config : Config} {log : Log w} (h : AbstractState w) {sys : System w}
+    {c source k : ℕ} (rest : List Packet) (queue : List (Beat w))
+    → SimulationRelation config log h.mail h.request h.state sys → (h.state.link c).a ≡ packet Request source ∷ rest
+    → (asked : IsAsked config c source h.mail h.state) → IsComing config c k asked.request sys.manager
+    → sys.channels c Channel.A ≡ Beat.A (a_beat_of asked.request k) ∷ queue → beats_of (Message.A asked.request) ≡ suc k
+    → must_wait config (link_of c) (Beat.A (a_beat_of asked.request k)) sys.manager.trace ≡ false
     → ChannelRelation (kind_taken config (next_tracker sys) c Request source rest h).mail
     (kind_taken config (next_tracker sys) c Request source rest h).state
     (system_after config c k asked.request queue sys)
-carried-request_taken {w} config log h sys c source k rest queue is first asked comes beats last moves =
+carried-request_taken {w} {config} {log} h {sys} {c} {source} {k} rest queue is first asked comes beats last moves =
+    let inv = invariant-taken config log h sys c Request source rest is first
+    (ready-request h is asked comes last moves) in
     subst (λ (i : Message w). Carries (request_taken clients c source i tracker rest h)) (sym asked.is_it)
     (go (probes_some clients c false (cap_probed m.opcode m.param) b.pair) (cap_probed m.opcode m.param) refl refl
     (subst (λ (i : Message w). IsInvariant (is_caching config) (request_taken clients c source i tracker rest h).state)
@@ -346,35 +307,30 @@ carried-request_taken {w} config log h sys c source k rest queue is first asked 
     tracker = next_tracker sys
 
     free : b.service ≡ Free
-    free = free-last config log h.mail h.request h.state sys c k m is comes last moves
-
-    inv : IsInvariant (is_caching config) (kind_taken config tracker c Request source rest h).state
-    inv = invariant-taken config log h sys c Request source rest is first
-        (ready-request config log h sys c source k is asked comes last moves)
+    free = free-last is comes last moves
 
     answered : probes_some clients c false (cap_probed m.opcode m.param) b.pair ≡ false
         → IsInvariant (is_caching config) (access_taken c source m tracker false None rest h).state
         → Carries (access_taken c source m tracker false None rest h)
     answered none kept =
-        carried-shown comes.width (access_answered-shown (is_caching config) c n source (performs m) rest (answers m
-        b.memory) h.mail h.state is.invariant kept first asked.used (unread-bytes config log h.mail h.request h.state
-        sys c n m is asked.access none) (answer_on_d m (answer_of (message.A m) (effect (message.A m) (bytes_at n
-        b.memory)).1))) (taken-answering config c k m (answers m b.memory) queue sys comes beats last
-        (handed-answered config log h.mail h.request h.state sys c source k is asked comes last none)) is.carried
+        carried-shown comes.width (access_answered-shown c n source (performs m) rest (answers m
+        b.memory) h.mail is.invariant kept first asked.used (unread-bytes config log h.mail h.request h.state
+        sys c n m is asked.access none) (answer_on_d m (answer_of (Message.A m) (effect (Message.A m) (bytes_at n
+        b.memory)).1))) (taken-answering (answers m b.memory) queue sys comes beats last
+        (handed-answered is asked comes last none)) is.carried
 
     go : (p : Bool) (o : Option Cap) → probes_some clients c false (cap_probed m.opcode m.param) b.pair ≡ p
         → cap_probed m.opcode m.param ≡ o
         → IsInvariant (is_caching config) (access_taken c source m tracker p o rest h).state
         → Carries (access_taken c source m tracker p o rest h)
     go true None f g kept = absurd (let no : false ≡ true = rw g at f in cc)
-    go false None f g kept = answered f kept
-    go false (Some j) f g kept = answered f kept
     go true (Some j) f g kept =
         let some : some_below clients (λ d. is_probed c false j (b.pair d).recorded d) ≡ true = rw g at f in
-        carried-shown comes.width (access_served-shown (is_caching config) c n source tracker j rest h.mail h.state
-        is.invariant kept first free) (taken-probing config log h.mail h.request h.state sys c k n false j m queue is
+        carried-shown comes.width (access_served-shown c n source tracker j rest h.mail
+        is.invariant kept first free) (taken-probing n false j queue is
         comes beats last asked.access
         refl
         (ap (λ (d : Reaction w). d.handed) (reaction-probing config c k n j m sys.manager comes last refl g
         (probed-some config log h.mail h.request h.state sys c k n false j m is asked.access refl ∙ ap not some))))
         is.carried
+    go false o f g kept = answered f kept

@@ -7,67 +7,47 @@ use Rattle.tl_coherence.proofs.deliveries.Imports.{packet, packets_on, shown, on
 use Rattle.tl_coherence.proofs.deliveries.Imports.{block_message, stepped, handed_by, System, with_client, with_channel}
 use Rattle.tl_coherence.proofs.deliveries.Imports.{with_messages, Kind, Answer, Grant, ReleaseAck, GrantAck, Packet}
 use Rattle.tl_coherence.proofs.deliveries.Imports.{SimulationRelation, is_caching}
-use Rattle.std.proofs.Common.{◌≡◌, ℕ, Bool, true, false, ◌&&◌, List, [], ◌∷◌, Option, Some, None, refl, sym, ◌∙◌, ap}
-use Rattle.std.proofs.Common.{subst, ◌⊎◌}
+use Rattle.std.proofs.Common.{◌≡◌, ℕ, Bool, true, false, List, [], ◌∷◌, Option, Some, None, refl, sym, ◌∙◌, ap, subst}
+use Rattle.std.proofs.Common.{◌⊎◌}
 use Rattle.std.specs.Prelude.{if◌then◌else◌}
-use Rattle.tl_beat.specs.declared.beat.Beat.TheVariants as beat
-use Rattle.tl_beat.specs.declared.beat.BeatD.{BeatD}
-use Rattle.tl_beat.specs.declared.channel.Channel.TheVariants as channel
-use Rattle.tl_beat.specs.declared.opcode.OpD.{OpD}
+use Rattle.tl_beat.{specs.declared.beat.BeatD.BeatD, specs.declared.opcode.OpD.OpD}
 use Rattle.tl_burst.specs.declared.message.MessageD.{MessageD}
 use Rattle.tl_rules.specs.statement.History.{is_grant, is_release_ack}
-use Rattle.tl_client.specs.declared.verdict.Finish.{Finish}
+use Rattle.tl_client.{specs.declared.verdict.Finish.Finish, specs.statement.Send.grant_ack}
 use Rattle.tl_client.specs.statement.Offer as offer
-use Rattle.tl_client.specs.statement.Send.{grant_ack}
-use Rattle.tl_manager.specs.statement.Handing.{grant_opcode}
-use Rattle.tl_coherence.specs.refinement.AbstractStep.{is_last, taken_by_client}
+use Rattle.tl_coherence.specs.{refinement.AbstractStep.taken_by_client, protocol.Phase.is_unreleased}
+use Rattle.tl_coherence.specs.{protocol.Phase.is_whole, protocol.Tokens.is_wanting}
 use Rattle.tl_coherence.specs.statement.Machine.{Pool, Releases, pool_of, after_end}
-use Rattle.tl_coherence.specs.protocol.Phase.{is_unreleased, is_whole}
 use Rattle.tl_coherence.specs.protocol.Protocol.{answer_taken, grant_taken, release_ack_taken, taken_block}
-use Rattle.tl_coherence.specs.protocol.Tokens.{is_wanting}
 use Rattle.tl_coherence.proofs.memory.BesideResponses.{beside-answer, beside-grant, beside-release_ack}
-use Rattle.tl_coherence.proofs.queues.Shown.{carried-shown}
+use Rattle.tl_coherence.proofs.{queues.Shown.carried-shown, queues.Channels.IsTaken, queues.Channels.pushes_at}
+use Rattle.tl_coherence.proofs.{queues.Showing.carries, queues.Codes.grants-so, queues.Codes.access_kind}
 use Rattle.tl_coherence.proofs.simulation.CarriedResponses.{answer_taken-shown, grant_taken-shown}
 use Rattle.tl_coherence.proofs.simulation.CarriedResponses.{release_ack_taken-shown}
-use Rattle.tl_coherence.proofs.queues.Channels.{IsTaken, pushes_at}
 use Rattle.tl_coherence.proofs.protocol.HeadOfD.{IsAnswerDue, IsGrantDue, grant_message, ack_message}
 use Rattle.tl_coherence.proofs.client.DeliverD.{finish_at, acked, finish-pool}
 use Rattle.tl_coherence.proofs.queues.Landed.{pushes_of, IsOn, HasHeard, landed-client, taken-landed}
 use Rattle.tl_coherence.proofs.manager.UnwaitedRequests.{next_tracker, invariant-taken}
-use Rattle.tl_coherence.proofs.queues.Showing.{carries}
-use Rattle.tl_coherence.proofs.queues.Codes.{grants-so, access_kind}
 use Rattle.tl_manager.proofs.pending.Answered.{no_ack_grant}
 
 -- ---- a delivery that moves a beat, as the protocol follows it
 
 pub followed-moving : {w : ℕ} (config : Config) (link : Link) (ch : Channel) (sys : System w) (h : AbstractState w)
-    (x : Beat w) (queue : List (Beat w))
-    → is_moving (stepped config (Deliver link ch) sys).outcome ≡ true → sys.channels link.0 ch ≡ x ∷ queue
-    → abstract_step config (Deliver link ch) sys h ≡ (if completes x (unfinished ch (receiver ch link.0 sys)) then
-    packet_taken config (next_tracker sys) link.0
+    (x : Beat w) (queue : List (Beat w)) → is_moving (stepped config (Deliver link ch) sys).outcome ≡ true
+    → sys.channels link.0 ch ≡ x ∷ queue → abstract_step config (Deliver link ch) sys h
+    ≡ (if completes x (unfinished ch (receiver ch link.0 sys)) then packet_taken config (next_tracker sys) link.0
     (packets_on ch (h.state.link link.0)) h else h)
-followed-moving {w} config link ch sys h x queue moving first =
-    ap (λ (b : Bool). if b && is_last (sys.channels link.0 ch) (unfinished ch (receiver ch link.0 sys)) then
-    packet_taken config (next_tracker sys) link.0
-    (packets_on ch (h.state.link link.0)) h else h) moving
-    ∙ ap (λ (l : List (Beat w)). if is_last l (unfinished ch (receiver ch link.0 sys)) then packet_taken config
-    (next_tracker sys) link.0 (packets_on ch (h.state.link link.0)) h else h) first
+followed-moving {w} config link ch sys h x queue moving first = cc (moving, first)
 
 -- and one that moves none leaves it
 pub followed-still : {w : ℕ} (config : Config) (link : Link) (ch : Channel) (sys : System w) (h : AbstractState w)
     → is_moving (stepped config (Deliver link ch) sys).outcome ≡ false
     → abstract_step config (Deliver link ch) sys h ≡ h
-followed-still {w} config link ch sys h still = ap
-    (λ (b : Bool). if b && is_last (sys.channels link.0 ch) (unfinished ch (receiver ch link.0 sys)) then packet_taken
-    config (next_tracker sys) link.0
-    (packets_on ch (h.state.link link.0)) h else h) still
+followed-still {w} config link ch sys h still = cc still
 
-pub on_d : {w : ℕ} (y : BeatD w) → IsOn channel.D (beat.D y)
-on_d y channel.A = refl
-on_d y channel.B = refl
-on_d y channel.C = refl
-on_d y channel.D = refl
-on_d y channel.E = refl
+pub on_d : {w : ℕ} (y : BeatD w) → IsOn Channel.D (Beat.D y)
+on_d y Channel.A = refl
+on_d y _ = refl
 
 -- ---- the last beat of a response
 
@@ -79,7 +59,7 @@ after_heard c ch x queue sys m =
 -- what comes of it for the protocol: h' is what it is then, source that of the response, and f how its operation ends
 pub record IsResponded {w : ℕ} (c : ℕ) (x : Beat w) (queue : List (Beat w)) (sys : System w) (machine : Machine w)
     (source : ℕ) (f : Finish) (m : Option (Message w)) (h' : AbstractState w) : Type 0 where
-  pub carried : ChannelRelation h'.mail h'.state (after_heard c channel.D x queue sys m)
+  pub carried : ChannelRelation h'.mail h'.state (after_heard c Channel.D x queue sys m)
   pub beside : MemoryRelation h'.mail h'.state (after_end c (pool_of f) source (machine.opened c (pool_of f) source)
       machine)
   pub quiet : accesses_answered (handed_by c m) ≡ []
@@ -88,90 +68,70 @@ pub record IsResponded {w : ℕ} (c : ℕ) (x : Beat w) (queue : List (Beat w)) 
 pub record IsLastBeat {w : ℕ} (c : ℕ) (x : Beat w) (queue : List (Beat w)) (sys : System w) (mm : MessageD w) : Type 0
   where
     pub y : BeatD w
-    pub x_is : x ≡ beat.D y
+    pub x_is : x ≡ Beat.D y
     pub opcode : y.opcode ≡ mm.opcode
     pub source : y.source ≡ mm.source
     pub sink : y.sink ≡ mm.sink
-    pub first : sys.channels c channel.D ≡ x ∷ queue
-    pub last : completes x (unfinished channel.D (sys.clients c).past) ≡ true
+    pub first : sys.channels c Channel.D ≡ x ∷ queue
+    pub last : completes x (unfinished Channel.D (sys.clients c).past) ≡ true
     pub heard : HasHeard x (sys.clients c) (offer.taken x (sys.clients c)).after
 
-taken_d : {w : ℕ} (c : ℕ) (x : Beat w) (queue : List (Beat w)) (sys : System w) (mm : MessageD w)
+taken_d : {w : ℕ} {c : ℕ} {x : Beat w} {queue : List (Beat w)} {sys : System w} {mm : MessageD w}
     (m : Option (Message w)) → IsLastBeat c x queue sys mm
-    → IsTaken c channel.D x queue (pushes_at c (pushes_of m)) sys (after_heard c channel.D x queue sys m)
-taken_d {w} c x queue sys mm m is =
-    taken-landed c channel.D x queue (pushes_at c (pushes_of m)) sys (after_heard c channel.D x queue sys m)
-    (landed-client c channel.D x queue m (offer.taken x (sys.clients c)).after sys refl is.first
-    (subst (λ (z : Beat w). IsOn channel.D z) (sym is.x_is) (on_d is.y)) is.heard) is.last
+    → IsTaken c Channel.D x queue (pushes_at c (pushes_of m)) sys (after_heard c Channel.D x queue sys m)
+taken_d {w} {c} {x} {queue} {sys} m is =
+    taken-landed (landed-client c Channel.D x queue m (offer.taken x (sys.clients c)).after sys refl is.first
+    (subst (λ (z : Beat w). IsOn Channel.D z) (sym is.x_is) (on_d is.y)) is.heard) is.last
 
-finish_pool_is : {w : ℕ} (c : ℕ) (x : Beat w) (queue : List (Beat w)) (sys : System w) (mm : MessageD w)
+finish_pool_is : {w : ℕ} {c : ℕ} {x : Beat w} {queue : List (Beat w)} {sys : System w} {mm : MessageD w}
     (is : IsLastBeat c x queue sys mm)
     → pool_of (finish_at is.y (sys.clients c)) ≡ (if is_release_ack mm.opcode then Releases else Requests)
-finish_pool_is {w} c x queue sys mm is = finish-pool w is.y.opcode is.y.param is.y.size _ _ ∙ ap
-    (λ (o : OpD). if is_release_ack o then Releases else Requests) is.opcode
+finish_pool_is {w} is = cc (finish-pool w is.y.opcode is.y.param is.y.size _ _, is.opcode)
 
 acked_none : {w : ℕ} (o : OpD) (sink : ℕ) → is_grant o ≡ false → acked {w = w} o sink ≡ None
 acked_none o sink e = rw e refl
 
-pub responded-answer : {w : ℕ} (config : Config) (log : Log w) (h : AbstractState w) (sys : System w) (c source : ℕ)
-    (rest : List Packet) (x : Beat w)
-    (queue : List (Beat w)) (due : IsAnswerDue c source h.mail h.state) → IsWidth w
+pub responded-answer : {w : ℕ} {config : Config} {log : Log w} (h : AbstractState w) {sys : System w} {c source : ℕ}
+    (rest : List Packet) {x : Beat w} {queue : List (Beat w)} (due : IsAnswerDue c source h.mail h.state) → IsWidth w
     → SimulationRelation config log h.mail h.request h.state sys → (h.state.link c).d ≡ packet Answer source ∷ rest
-    → (is : IsLastBeat c x queue sys due.answer)
-    → IsResponded c x queue sys (one_memory_after config log) is.y.source (finish_at is.y (sys.clients c))
-    (acked is.y.opcode is.y.sink) (kind_taken config (next_tracker sys) c Answer source rest h)
+    → (is : IsLastBeat c x queue sys due.answer) → IsResponded c x queue sys (one_memory_after config log) is.y.source
+    (finish_at is.y (sys.clients c)) (acked is.y.opcode is.y.sink) (kind_taken config (next_tracker sys) c Answer source
+    rest h)
 unfolding accesses_answered
-responded-answer {w} config log h sys c source rest x queue due width matched first is =
+responded-answer {w} {config} {log} h {sys} {c} {source} rest {x} {queue} due width matched first is =
     let plain = access_kind due.answer.opcode due.answers_access in
-    let none : acked {w = w} is.y.opcode is.y.sink ≡ None =
-    acked_none is.y.opcode is.y.sink (ap is_grant is.opcode ∙ plain.0) in
-    let pool : pool_of (finish_at is.y (sys.clients c)) ≡ Requests =
-    finish_pool_is c x queue sys due.answer is ∙ rw plain.1 refl in
+    let none = acked_none is.y.opcode is.y.sink (ap is_grant is.opcode ∙ plain.0) in
+    let pool : pool_of (finish_at is.y (sys.clients c)) ≡ Requests = finish_pool_is is ∙ rw plain.1 refl in
     let from : is.y.source ≡ source = is.source ∙ due.from in
     let inv = invariant-taken config log h sys c Answer source rest matched first tt in
     record {
-      carried = subst (λ (m : Option (Message w)). ChannelRelation h.mail (answer_taken c source rest h.state)
-          (after_heard c channel.D x queue sys m)) (sym none)
-          (carried-shown width (answer_taken-shown (is_caching config) c source rest h.mail h.state matched.invariant
-          inv first)
-          (taken_d c x queue sys due.answer None is) matched.carried);
-      beside = subst (λ (p : Pool). MemoryRelation h.mail (answer_taken c source rest h.state)
-          (after_end c p is.y.source ((one_memory_after config log).opened c p is.y.source)
-          (one_memory_after config log))) (sym pool)
-          (subst (λ (i : ℕ). MemoryRelation h.mail (answer_taken c source rest h.state)
-          (after_end c Requests i ((one_memory_after config log).opened c Requests i)
-          (one_memory_after config log))) (sym from)
-          (beside-answer c source rest h.mail h.state (one_memory_after config log) due.used matched.beside));
+      carried = rw none (carried-shown width (answer_taken-shown c source rest h.mail matched.invariant inv first)
+          (taken_d None is) matched.carried);
+      beside = rw pool (subst (λ (i : ℕ). MemoryRelation h.mail (answer_taken c source rest h.state)
+          (after_end c Requests i ((one_memory_after config log).opened c Requests i) (one_memory_after config log)))
+          (sym from) (beside-answer c source rest due.used matched.beside));
       quiet = ap (λ (m : Option (Message w)). accesses_answered (handed_by c m)) none;
     }
 
-pub responded-release_ack : {w : ℕ} (config : Config) (log : Log w) (h : AbstractState w) (sys : System w) (c n : ℕ)
-    (rest : List Packet) (x : Beat w) (queue : List (Beat w)) → IsWidth w
+pub responded-release_ack : {w : ℕ} {config : Config} {log : Log w} (h : AbstractState w) {sys : System w} {c : ℕ}
+    (n : ℕ)
+    (rest : List Packet) {x : Beat w} {queue : List (Beat w)} → IsWidth w
     → SimulationRelation config log h.mail h.request h.state sys → (h.state.link c).d ≡ packet ReleaseAck n ∷ rest
     → is_unreleased ((h.state.block n).pair c).letting ≡ false
     → (is : IsLastBeat c x queue sys (ack_message ((h.state.block n).release_source c)))
     → IsResponded c x queue sys (one_memory_after config log) is.y.source (finish_at is.y (sys.clients c))
     (acked is.y.opcode is.y.sink) (kind_taken config (next_tracker sys) c ReleaseAck n rest h)
 unfolding accesses_answered
-responded-release_ack {w} config log h sys c n rest x queue width matched first open_ is =
+responded-release_ack {w} {config} {log} h {sys} {c} n rest {x} {queue} width matched first open_ is =
     let none : acked {w = w} is.y.opcode is.y.sink ≡ None = acked_none is.y.opcode is.y.sink (ap is_grant is.opcode) in
-    let pool : pool_of (finish_at is.y (sys.clients c)) ≡ Releases =
-    finish_pool_is c x queue sys (ack_message ((h.state.block n).release_source c)) is in
+    let pool = finish_pool_is is in
     let inv = invariant-taken config log h sys c ReleaseAck n rest matched first tt in
     record {
-      carried = subst (λ (m : Option (Message w)). ChannelRelation h.mail (release_ack_taken c n rest h.state)
-          (after_heard c channel.D x queue sys m)) (sym none)
-          (carried-shown width (release_ack_taken-shown (is_caching config) c n rest h.mail h.state matched.invariant
-          inv first)
-          (taken_d c x queue sys (ack_message ((h.state.block n).release_source c)) None is) matched.carried);
-      beside = subst (λ (p : Pool). MemoryRelation h.mail (release_ack_taken c n rest h.state)
-          (after_end c p is.y.source ((one_memory_after config log).opened c p is.y.source)
-          (one_memory_after config log))) (sym pool)
-          (subst (λ (i : ℕ). MemoryRelation h.mail (release_ack_taken c n rest h.state)
-          (after_end c Releases i ((one_memory_after config log).opened c Releases i)
-          (one_memory_after config log))) (sym is.source)
-          (beside-release_ack (is_caching config) c n rest h.mail h.state (one_memory_after config log)
-          matched.invariant open_ matched.beside));
+      carried = rw none (carried-shown width (release_ack_taken-shown c n rest h.mail matched.invariant inv first)
+          (taken_d None is) matched.carried);
+      beside = rw pool (subst (λ (i : ℕ). MemoryRelation h.mail (release_ack_taken c n rest h.state)
+          (after_end c Releases i ((one_memory_after config log).opened c Releases i) (one_memory_after config log)))
+          (sym is.source) (beside-release_ack c n rest matched.invariant open_ matched.beside));
       quiet = ap (λ (m : Option (Message w)). accesses_answered (handed_by c m)) none;
     }
 
@@ -185,63 +145,48 @@ abbrev pub IsBare : ℕ → Bool → Bool → Cap → Block (List ℕ) → Type 
 IsBare c whole d k b = (j : Kind) (i : ℕ) → shown j i b ≡ true → shown j i (taken_block c whole d k b) ≡ true
     → (carries j i b ≡ false) ⊎ ((taken_block c whole d k b).truth ≡ b.truth)
 
-pub responded-grant : {w : ℕ} (config : Config) (log : Log w) (h : AbstractState w) (sys : System w) (c n : ℕ)
-    (rest : List Packet) (x : Beat w) (queue : List (Beat w))
-    (due : IsGrantDue c n h.state) → IsWidth w
+pub responded-grant : {w : ℕ} {config : Config} {log : Log w} (h : AbstractState w) {sys : System w} {c n : ℕ}
+    (rest : List Packet) {x : Beat w} {queue : List (Beat w)} (due : IsGrantDue c n h.state) → IsWidth w
     → SimulationRelation config log h.mail h.request h.state sys → (h.state.link c).d ≡ packet Grant n ∷ rest
     → IsBare c due.whole due.data_too due.k (h.state.block n)
     → (is : IsLastBeat c x queue sys (grant_message due.data_too due.k ((h.state.block n).source c)
-    (h.state.block n).tracker (h.state.block n).truth))
-    → IsResponded c x queue sys (one_memory_after config log) is.y.source (finish_at is.y (sys.clients c))
-    (acked is.y.opcode is.y.sink) (kind_taken config (next_tracker sys) c Grant n rest h)
+    (h.state.block n).tracker (h.state.block n).truth)) → IsResponded c x queue sys (one_memory_after config log)
+    is.y.source (finish_at is.y (sys.clients c)) (acked is.y.opcode is.y.sink)
+    (kind_taken config (next_tracker sys) c Grant n rest h)
 unfolding accesses_answered
-responded-grant {w} config log h sys c n rest x queue due width matched first bare is =
-    subst (λ (z : AbstractState w). IsResponded c x queue sys (one_memory_after config log) is.y.source
-    (finish_at is.y (sys.clients c)) (acked is.y.opcode is.y.sink) z) (sym same)
-    (record {
-      carried = subst (λ (m : Option (Message w)). ChannelRelation h.mail
-          (grant_taken c n due.whole due.data_too due.k rest h.state) (after_heard c channel.D x queue sys m))
-          (sym some)
-          (carried-shown width (grant_taken-shown (is_caching config) c n due.whole due.data_too due.k rest (grant_ack
-          (h.state.block n).tracker) h.mail h.state matched.invariant inv first due.service bare refl (rendered_ack c n
-          due.whole due.data_too due.k (h.state.block n)))
-          (taken_d c x queue sys mm (Some (grant_ack (h.state.block n).tracker)) is) matched.carried);
-      beside = subst (λ (p : Pool). MemoryRelation h.mail (grant_taken c n due.whole due.data_too due.k rest h.state)
-          (after_end c p is.y.source ((one_memory_after config log).opened c p is.y.source)
-          (one_memory_after config log))) (sym pool)
-          (subst (λ (i : ℕ). MemoryRelation h.mail (grant_taken c n due.whole due.data_too due.k rest h.state)
-          (after_end c Requests i ((one_memory_after config log).opened c Requests i) (one_memory_after config log)))
-          (sym is.source)
-          (subst (λ (b : Bool). MemoryRelation h.mail (grant_taken c n b due.data_too due.k rest h.state)
-          (after_end c Requests ((h.state.block n).source c)
-          ((one_memory_after config log).opened c Requests ((h.state.block n).source c))
-          (one_memory_after config log))) (ap is_whole due.wants)
-          (beside-grant (is_caching config) c n due.data_too due.k rest h.mail h.state (one_memory_after config log)
-          matched.invariant (ap is_wanting due.wants) matched.beside)));
-      quiet = ap (λ (m : Option (Message w)). accesses_answered (handed_by c m)) some;
-    })
+responded-grant {w} {config} {log} h {sys} {c} {n} rest {x} {queue} due width matched first bare is = rw same (record {
+  carried = subst (λ (m : Option (Message w)). ChannelRelation h.mail (grant_taken c n due.whole due.data_too due.k
+      rest h.state) (after_heard c Channel.D x queue sys m)) (sym some) (carried-shown width (grant_taken-shown c n
+      due.whole due.data_too due.k rest (grant_ack (h.state.block n).tracker) h.mail matched.invariant inv first
+      due.service bare refl (rendered_ack c n due.whole due.data_too due.k (h.state.block n))) (taken_d (Some (grant_ack
+      (h.state.block n).tracker)) is) matched.carried);
+  beside = subst (λ (p : Pool). MemoryRelation h.mail (grant_taken c
+      n due.whole due.data_too due.k rest h.state) (after_end c p is.y.source ((one_memory_after config log).opened c p
+      is.y.source) (one_memory_after config log))) (sym pool) (subst (λ (i : ℕ). MemoryRelation h.mail (grant_taken c n
+      due.whole due.data_too due.k rest h.state) (after_end c Requests i ((one_memory_after config log).opened c Requests
+      i) (one_memory_after config log))) (sym is.source) (subst (λ (b : Bool). MemoryRelation h.mail (grant_taken c n b
+      due.data_too due.k rest h.state) (after_end c Requests ((h.state.block n).source c) ((one_memory_after config
+      log).opened c Requests ((h.state.block n).source c)) (one_memory_after config log))) (ap is_whole due.wants)
+      (beside-grant c n due.data_too due.k rest matched.invariant (ap is_wanting due.wants) matched.beside)));
+  quiet = ap
+      (λ (m : Option (Message w)). accesses_answered (handed_by c m)) some;
+})
   where
     mm : MessageD w
     mm = grant_message due.data_too due.k ((h.state.block n).source c) (h.state.block n).tracker (h.state.block n).truth
 
     some : acked {w = w} is.y.opcode is.y.sink ≡ Some (grant_ack (h.state.block n).tracker)
-    some = ap (λ (o : OpD). acked {w = w} o is.y.sink) is.opcode ∙ ap
-        (λ (i : ℕ). acked {w = w} (grant_opcode due.data_too) i) is.sink
-        ∙ ap (λ (b : Bool). if b then Some (grant_ack {w = w} (h.state.block n).tracker) else None)
-        (grants-so due.data_too)
+    some = cc (is.opcode, is.sink, grants-so due.data_too)
 
     pool : pool_of (finish_at is.y (sys.clients c)) ≡ Requests
-    pool = finish_pool_is c x queue sys mm is ∙ ap (λ (b : Bool). if b then Releases else Requests)
-        (no_ack_grant due.data_too)
+    pool = cc (finish_pool_is is, no_ack_grant due.data_too)
 
     same : kind_taken config (next_tracker sys) c Grant n rest h ≡ record h {
-      state =
-          grant_taken c n due.whole due.data_too due.k rest h.state;
+      state = grant_taken c n due.whole due.data_too due.k rest h.state;
     }
     same = ap (λ (v : Service). taken_by_client c n v rest h) due.service ∙ ap
         (λ (a : AcquirePhase). record h { state = grant_taken c n (is_whole a) due.data_too due.k rest h.state })
         due.wants
 
     inv : IsInvariant (is_caching config) (grant_taken c n due.whole due.data_too due.k rest h.state)
-    inv = subst (λ (z : AbstractState w). IsInvariant (is_caching config) z.state) same
-        (invariant-taken config log h sys c Grant n rest matched first tt)
+    inv = rw same at (invariant-taken config log h sys c Grant n rest matched first tt)

@@ -1,72 +1,56 @@
 -- A delivery that moves no beat, and the channels and the one memory after a delivery.
-use Rattle.tl_coherence.proofs.deliveries.Imports.{Beat, Link, Channel, Message, unfinished}
-use Rattle.tl_coherence.proofs.deliveries.Imports.{Config, Cap, Grow, Perm, on_link, same_perm, Deliver}
-use Rattle.tl_coherence.proofs.deliveries.Imports.{MemoryRelation, is_moving, AbstractState, abstract_step}
-use Rattle.tl_coherence.proofs.deliveries.Imports.{IsInvariant, Log, system_after, Machine}
-use Rattle.tl_coherence.proofs.deliveries.Imports.{moved, ChannelRelation, receiver, AcquireOpen, Block, State}
+use Rattle.tl_coherence.proofs.deliveries.Imports.{Beat, Link, Channel, Message, unfinished, Config, Cap, Grow, Perm}
+use Rattle.tl_coherence.proofs.deliveries.Imports.{on_link, same_perm, Deliver, MemoryRelation, is_moving}
+use Rattle.tl_coherence.proofs.deliveries.Imports.{AbstractState, abstract_step, IsInvariant, Log, system_after}
+use Rattle.tl_coherence.proofs.deliveries.Imports.{Machine, moved, ChannelRelation, receiver, AcquireOpen, Block, State}
 use Rattle.tl_coherence.proofs.deliveries.Imports.{view, one_memory_after, performing, accesses_answered}
-use Rattle.tl_coherence.proofs.deliveries.Imports.{AccessMessages, Step}
-use Rattle.tl_coherence.proofs.deliveries.Imports.{stepped, only, manager_took, is_to_client}
-use Rattle.tl_coherence.proofs.deliveries.Imports.{System, terms_at, with_client, with_manager}
-use Rattle.tl_coherence.proofs.deliveries.Imports.{SimulationRelation}
+use Rattle.tl_coherence.proofs.deliveries.Imports.{AccessMessages, Step, stepped, only, manager_took, is_to_client}
+use Rattle.tl_coherence.proofs.deliveries.Imports.{System, terms_at, with_client, with_manager, SimulationRelation}
 use Rattle.std.proofs.Common.{◌≡◌, ℕ, Bool, true, false, List, [], ◌∷◌, Option, Some, None, refl, sym, ◌∙◌, ap, subst}
 use Rattle.std.proofs.Common.{◌⊎◌, inl, inr}
 use Rattle.std.specs.Prelude.{◌==◌, if◌then◌else◌, Result, Ok, Err}
 use Rattle.std.proofs.lemmas.Bool.{cases_eq, ne_eqb, not-true, or_right}
-use Rattle.tl_beat.specs.declared.channel.Channel.TheVariants as channel
-use Rattle.tl_params.specs.declared.param.Cap.TheVariants as cap
-use Rattle.tl_params.specs.declared.param.Grow.TheVariants as grow
-use Rattle.tl_params.specs.declared.perm.Perm.TheVariants as perm
 use Rattle.tl_params.specs.declared.rule.Rule.{Rule}
-use Rattle.tl_client.specs.declared.verdict.Verdict.{Verdict}
-use Rattle.tl_client.specs.declared.verdict.Verdict.TheVariants as verdict
+use Rattle.tl_client.{specs.declared.verdict.Verdict.Verdict, proofs.messages.Calls.refusal-offered}
 use Rattle.tl_client.specs.statement.Endpoint as client
 use Rattle.tl_client.specs.statement.Offer as offer
-use Rattle.tl_client.proofs.messages.Calls.{refusal-offered}
 use Rattle.tl_manager.specs.statement.End as manager_end
 use Rattle.tl_manager.specs.statement.Offer as manager_offer
-use Rattle.tl_coherence.specs.declared.event.Outcome.{Outcome}
-use Rattle.tl_coherence.specs.declared.event.Outcome.TheVariants as outcome
-use Rattle.tl_coherence.specs.refinement.Carried.{IsCarried}
-use Rattle.tl_coherence.specs.protocol.Phase.{grant_fits}
-use Rattle.tl_coherence.specs.protocol.Protocol.{taken_block}
-use Rattle.tl_coherence.specs.protocol.Tokens.{is_granting}
-use Rattle.tl_coherence.specs.refinement.PacketMessages.{messages_on}
+use Rattle.tl_coherence.specs.{declared.event.Outcome.Outcome, refinement.Carried.IsCarried, protocol.Phase.grant_fits}
+use Rattle.tl_coherence.specs.{protocol.Protocol.taken_block, protocol.Tokens.is_granting}
+use Rattle.tl_coherence.specs.{refinement.PacketMessages.messages_on}
 use Rattle.tl_coherence.specs.statement.Step.{stepped_at, judged, client_took}
 use Rattle.tl_coherence.specs.statement.Step as step
-use Rattle.tl_coherence.proofs.protocol.HeadOfD.{IsGrantDue}
-use Rattle.tl_coherence.proofs.protocol.HeadOfD.{own_view}
-use Rattle.tl_coherence.proofs.deliveries.DeliverDAfter.{IsBare}
-use Rattle.tl_coherence.proofs.deliveries.DeliverDAfter.{followed-still}
-use Rattle.tl_coherence.proofs.queues.Phases.{and_left}
+use Rattle.tl_coherence.proofs.{protocol.HeadOfD.IsGrantDue, protocol.HeadOfD.own_view, queues.Phases.and_left}
+use Rattle.tl_coherence.proofs.{queues.Tokens.same_number}
+use Rattle.tl_coherence.proofs.deliveries.DeliverDAfter.{IsBare, followed-still}
 use Rattle.tl_coherence.proofs.queues.Showing.{is_given, is_told, carries, untold, uncarried, granted-untold}
-use Rattle.tl_coherence.proofs.queues.Tokens.{same_number}
 
 -- ---- a Grant of a whole block
 
 -- what is granted to a store of the whole block: Trunk, and no data
 whole_fits : (recorded held : Perm) (d : Bool) (k : Cap) (g : Grow)
-    → grant_fits recorded held d k (AcquireOpen true g) ≡ true → (same_perm recorded perm.Trunk ≡ true) × (d ≡ false)
-whole_fits perm.Trunk held false cap.ToT g e = (refl, refl)
-whole_fits perm.Trunk held true cap.ToT grow.NtoT e = absurd cc
-whole_fits perm.Trunk held true cap.ToT grow.BtoT e = absurd cc
-whole_fits perm.Trunk held true cap.ToT grow.NtoB e = absurd cc
-whole_fits perm.Trunk held d cap.ToB g e = absurd cc
-whole_fits perm.Trunk held d cap.ToN g e = absurd cc
-whole_fits perm.Branch held d cap.ToT g e = absurd cc
-whole_fits perm.Branch held d cap.ToB grow.NtoB e = absurd cc
-whole_fits perm.Branch held d cap.ToB grow.NtoT e = absurd cc
-whole_fits perm.Branch held d cap.ToB grow.BtoT e = absurd cc
-whole_fits perm.Branch held d cap.ToN g e = absurd cc
-whole_fits perm.None held d cap.ToT g e = absurd cc
-whole_fits perm.None held d cap.ToB g e = absurd cc
-whole_fits perm.None held d cap.ToN grow.NtoB e = absurd cc
-whole_fits perm.None held d cap.ToN grow.NtoT e = absurd cc
-whole_fits perm.None held d cap.ToN grow.BtoT e = absurd cc
+    → grant_fits recorded held d k (AcquireOpen true g) ≡ true → (same_perm recorded Perm.Trunk ≡ true) × (d ≡ false)
+whole_fits Perm.Trunk held false Cap.ToT g e = (refl, refl)
+whole_fits Perm.Trunk held true Cap.ToT Grow.NtoT e = absurd cc
+whole_fits Perm.Trunk held true Cap.ToT Grow.BtoT e = absurd cc
+whole_fits Perm.Trunk held true Cap.ToT Grow.NtoB e = absurd cc
+whole_fits Perm.Trunk held d Cap.ToB g e = absurd cc
+whole_fits Perm.Trunk held d Cap.ToN g e = absurd cc
+whole_fits Perm.Branch held d Cap.ToT g e = absurd cc
+whole_fits Perm.Branch held d Cap.ToB Grow.NtoB e = absurd cc
+whole_fits Perm.Branch held d Cap.ToB Grow.NtoT e = absurd cc
+whole_fits Perm.Branch held d Cap.ToB Grow.BtoT e = absurd cc
+whole_fits Perm.Branch held d Cap.ToN g e = absurd cc
+whole_fits Perm.None held d Cap.ToT g e = absurd cc
+whole_fits Perm.None held d Cap.ToB g e = absurd cc
+whole_fits Perm.None held d Cap.ToN Grow.NtoB e = absurd cc
+whole_fits Perm.None held d Cap.ToN Grow.NtoT e = absurd cc
+whole_fits Perm.None held d Cap.ToN Grow.BtoT e = absurd cc
 
-pub bare : {w : ℕ} (caching : ℕ → Bool) (c n : ℕ) (h : AbstractState w) (due : IsGrantDue c n h.state)
+pub bare : {w : ℕ} {caching : ℕ → Bool} {c n : ℕ} (h : AbstractState w) (due : IsGrantDue c n h.state)
     → IsInvariant caching h.state → IsBare c due.whole due.data_too due.k (h.state.block n)
-bare {w} caching c n h due inv j i before now = go due.whole refl
+bare {w} {c} {n} h due inv j i before now = go due.whole refl
   where
     b : Block (List ℕ)
     b = h.state.block n
@@ -78,13 +62,13 @@ bare {w} caching c n h due inv j i before now = go due.whole refl
         e) ∙ due.fits) in
         uncarried j i b (quiet fits.0 at) (ap is_given due.service ∙ fits.1)
       where
-        quiet : same_perm (b.pair c).recorded perm.Trunk ≡ true → (i ≡ c) ⊎ (i ≡ c → ⊥) → is_told (b.pair i) ≡ false
+        quiet : same_perm (b.pair c).recorded Perm.Trunk ≡ true → (i ≡ c) ⊎ (i ≡ c → ⊥) → is_told (b.pair i) ≡ false
         quiet top (inl same) = not-true _ (granted-untold (b.pair i) (view b.service i) ((inv.blocks n).phases i)
             (rw same (ap (λ v. is_granting v) (own_view c due.data_too due.k b.service due.service))))
         quiet top (inr other) =
             let none = (inv.blocks n).one_owner c i top other in
             not-true _ (and_left _ _ (untold (b.pair i) (view b.service i) ((inv.blocks n).phases i)
-            (or_right (same_perm (b.pair i).held perm.Trunk) (same_perm (b.pair i).recorded perm.None) none)))
+            (or_right (same_perm (b.pair i).held Perm.Trunk) (same_perm (b.pair i).recorded Perm.None) none)))
 
     go : (x : Bool) → due.whole ≡ x → (carries j i b ≡ false)
         ⊎ ((taken_block c due.whole due.data_too due.k b).truth ≡ b.truth)
@@ -108,20 +92,18 @@ only_unmoved o sys still = record {
   channels = λ d at. refl;
   rests = λ d at. refl;
   pasts = λ d. refl;
-  trace =
-      refl;
+  trace = refl;
   handed = refl;
   machine = still;
 }
 
 refused_unmoved : {w : ℕ} (c : ℕ) (e : client.Endpoint w) (sys : System w) → e.past ≡ (sys.clients c).past
-    → IsUnmoved sys (only outcome.Stalled (with_client c e sys))
+    → IsUnmoved sys (only Outcome.Stalled (with_client c e sys))
 refused_unmoved {w} c e sys same = record {
   channels = λ d at. refl;
   rests = rests;
   pasts = past_of;
-  trace =
-      refl;
+  trace = refl;
   handed = refl;
   machine = λ link ch m. refl;
 }
@@ -134,31 +116,27 @@ refused_unmoved {w} c e sys same = record {
 
     rests : (d : ℕ) (at : Channel) → unfinished at (receiver at d (with_client c e sys)) ≡ unfinished at
         (receiver at d sys)
-    rests d channel.A = refl
-    rests d channel.B = ap (unfinished channel.B) (past_of d)
-    rests d channel.C = refl
-    rests d channel.D = ap (unfinished channel.D) (past_of d)
-    rests d channel.E = refl
+    rests d Channel.B = ap (unfinished Channel.B) (past_of d)
+    rests d Channel.D = ap (unfinished Channel.D) (past_of d)
+    rests d at = refl
 
 closed_unmoved : {w : ℕ} (e : manager_end.End w) (sys : System w) → e.trace ≡ sys.manager.trace
-    → IsUnmoved sys (only outcome.Stalled (with_manager e sys))
+    → IsUnmoved sys (only Outcome.Stalled (with_manager e sys))
 closed_unmoved {w} e sys same = record {
   channels = λ d at. refl;
   rests = rests;
   pasts = λ d. refl;
-  trace =
-      same;
+  trace = same;
   handed = refl;
   machine = λ link ch m. refl;
 }
   where
     rests : (d : ℕ) (at : Channel) → unfinished at (receiver at d (with_manager e sys)) ≡ unfinished at
         (receiver at d sys)
-    rests d channel.A = ap (λ t. unfinished channel.A (on_link d t)) same
-    rests d channel.B = refl
-    rests d channel.C = ap (λ t. unfinished channel.C (on_link d t)) same
-    rests d channel.D = refl
-    rests d channel.E = ap (λ t. unfinished channel.E (on_link d t)) same
+    rests d Channel.A = ap (λ t. unfinished Channel.A (on_link d t)) same
+    rests d Channel.C = ap (λ t. unfinished Channel.C (on_link d t)) same
+    rests d Channel.E = ap (λ t. unfinished Channel.E (on_link d t)) same
+    rests d at = refl
 
 pub unmoved : {w : ℕ} (config : Config) (link : Link) (ch : Channel) (sys : System w)
     → is_moving (stepped config (Deliver link ch) sys).outcome ≡ false
@@ -175,57 +153,52 @@ unmoved {w} config link ch sys still = at (terms_at config link.0) still
         → IsUnmoved sys (judged a c ch x queue (offer.offered terms ch x (sys.clients c)).after sys)
     by_client terms x queue (Err rule) e s = refused_unmoved c (offer.offered terms ch x (sys.clients c)).after sys
         (ap (λ (i : client.Endpoint w). i.past) (refusal-offered terms ch x (sys.clients c) rule e))
-    by_client terms x queue (Ok (verdict.Stalled, m)) e s = only_unmoved outcome.Stalled sys (λ l i m. refl)
-    by_client terms x queue (Ok (verdict.Taken, m)) e s = absurd cc
-    by_client terms x queue (Ok (verdict.Done source f, m)) e s = absurd cc
+    by_client terms x queue (Ok (Verdict.Stalled, m)) e s = only_unmoved Outcome.Stalled sys (λ l i m. refl)
+    by_client terms x queue a e s = absurd cc
 
     by_manager : (x : Beat w) (queue : List (Beat w)) (j : manager_offer.Judgement)
         → is_moving (manager_took c ch x queue (manager_offer.offered_as j config (record { 0 = c }) x sys.manager)
-        sys).outcome ≡ false
-        → IsUnmoved sys (manager_took c ch x queue (manager_offer.offered_as j config (record { 0 = c }) x sys.manager)
-        sys)
+        sys).outcome ≡ false → IsUnmoved sys
+        (manager_took c ch x queue (manager_offer.offered_as j config (record { 0 = c }) x sys.manager) sys)
     by_manager x queue (manager_offer.Breaks rule) s =
         closed_unmoved (manager_offer.refused (record { 0 = c }) sys.manager) sys refl
-    by_manager x queue manager_offer.Waits s = only_unmoved outcome.Stalled sys (λ l i m. refl)
+    by_manager x queue manager_offer.Waits s = only_unmoved Outcome.Stalled sys (λ l i m. refl)
     by_manager x queue manager_offer.Passes s = absurd cc
 
     delivered_to : (terms : client.EndConfig) (beats : List (Beat w))
         → is_moving (step.delivered config terms c ch beats sys).outcome ≡ false
         → IsUnmoved sys (step.delivered config terms c ch beats sys)
-    delivered_to terms [] s = only_unmoved outcome.Empty sys (λ l i m. refl)
+    delivered_to terms [] s = only_unmoved Outcome.Empty sys (λ l i m. refl)
     delivered_to terms (x ∷ queue) s = to (is_to_client ch) s
       where
         to : (b : Bool) → is_moving (if b then client_took c ch x queue (offer.offered terms ch x (sys.clients c)) sys
-            else manager_took c ch x queue
-            (manager_offer.offered config (record { 0 = c }) ch x sys.manager) sys).outcome ≡ false
-            → IsUnmoved sys (if b then client_took c ch x queue (offer.offered terms ch x (sys.clients c)) sys else
-            manager_took c ch x queue
-            (manager_offer.offered config (record { 0 = c }) ch x sys.manager) sys)
+            else manager_took c ch x queue (manager_offer.offered config (record { 0 = c }) ch x sys.manager)
+            sys).outcome ≡ false → IsUnmoved sys
+            (if b then client_took c ch x queue (offer.offered terms ch x (sys.clients c)) sys else manager_took c ch x
+            queue (manager_offer.offered config (record { 0 = c }) ch x sys.manager) sys)
         to true s = by_client terms x queue (offer.offered terms ch x (sys.clients c)).answer refl s
         to false s = by_manager x queue (manager_offer.judged config (record { 0 = c }) ch x sys.manager) s
 
     at : (o : Option client.EndConfig) → is_moving (stepped_at config o (Deliver link ch) sys).outcome ≡ false
         → IsUnmoved sys (stepped_at config o (Deliver link ch) sys)
-    at None s = only_unmoved outcome.NoSuchClient sys (λ l i m. refl)
+    at None s = only_unmoved Outcome.NoSuchClient sys (λ l i m. refl)
     at (Some terms) s = delivered_to terms (sys.channels c ch) s
 
-pub carried-unmoved : {w : ℕ} (mail : AccessMessages w) (s : State (List ℕ)) (sys : System w) (x : Step w)
+pub carried-unmoved : {w : ℕ} (mail : AccessMessages w) (s : State (List ℕ)) {sys : System w} {x : Step w}
     → IsUnmoved sys x → ChannelRelation mail s sys → ChannelRelation mail s x.after
-carried-unmoved {w} mail s sys x is h d at = moved_to (unfinished at (receiver at d x.after)) (x.after.channels d at)
-    (is.rests d at) (is.channels d at)
-  where
-    moved_to : (r q : List (Beat w)) → r ≡ unfinished at (receiver at d sys) → q ≡ sys.channels d at
-        → IsCarried r (messages_on at mail s d) q
-    moved_to r q e f = rw (e, f) (h d at)
+carried-unmoved {w} mail s {sys} {x} is h d at =
+    let moved_to : (r q : List (Beat w)) → r ≡ unfinished at (receiver at d sys) → q ≡ sys.channels d at
+    → IsCarried r (messages_on at mail s d) q = λ r q e f. rw (e, f) (h d at) in
+    moved_to (unfinished at (receiver at d x.after)) (x.after.channels d at) (is.rests d at) (is.channels d at)
 
-pub beside-unmoved : {w : ℕ} (config : Config) (log : Log w) (mail : AccessMessages w) (s : State (List ℕ))
+pub beside-unmoved : {w : ℕ} (config : Config) (log : Log w) {mail : AccessMessages w} {s : State (List ℕ)}
     (link : Link) (ch : Channel)
     → IsUnmoved (system_after config log) (stepped config (Deliver link ch) (system_after config log))
     → MemoryRelation mail s (one_memory_after config log)
     → MemoryRelation mail s (one_memory_after config
     ((Deliver link ch, (stepped config (Deliver link ch) (system_after config log)).outcome) ∷ log))
 unfolding one_memory_after performing accesses_answered
-beside-unmoved {w} config log mail s link ch is h = rw (is.handed, is.machine link ch (one_memory_after config log)) h
+beside-unmoved {w} config log link ch is h = rw (is.handed, is.machine link ch (one_memory_after config log)) h
 
 -- ---- the channels and the one memory after a delivery
 
@@ -244,24 +217,20 @@ pub delivered_as : {w : ℕ} (config : Config) (log : Log w) (link : Link) (ch :
     → abstract_step config (Deliver link ch) (system_after config log) h ≡ h'
     → ChannelRelation h'.mail h'.state (stepped config (Deliver link ch) (system_after config log)).after
     → MemoryRelation h'.mail h'.state
-    (one_memory_after config
-    ((Deliver link ch, (stepped config (Deliver link ch) (system_after config log)).outcome) ∷ log))
-    → IsDelivered config log link ch h
+    (one_memory_after config ((Deliver link ch, (stepped config (Deliver link ch) (system_after config log)).outcome)
+    ∷ log)) → IsDelivered config log link ch h
 delivered_as {w} config log link ch h h' e carried beside = record {
-  carried = subst (λ (z : AbstractState w). ChannelRelation z.mail z.state
-      (stepped config (Deliver link ch) (system_after config log)).after) (sym e) carried;
-  beside = subst (λ (z : AbstractState w). MemoryRelation z.mail z.state
-      (one_memory_after config ((Deliver link ch, (stepped config (Deliver link ch) (system_after config log)).outcome)
-      ∷ log))) (sym e) beside;
+  carried = rw e carried;
+  beside = rw e beside;
 }
 
-pub delivered-unmoved : {w : ℕ} (config : Config) (log : Log w) (link : Link) (ch : Channel) (h : AbstractState w)
+pub delivered-unmoved : {w : ℕ} {config : Config} {log : Log w} (link : Link) (ch : Channel) (h : AbstractState w)
     → SimulationRelation config log h.mail h.request h.state (system_after config log)
     → is_moving (stepped config (Deliver link ch) (system_after config log)).outcome ≡ false
     → IsDelivered config log link ch h
-delivered-unmoved {w} config log link ch h is still =
+delivered-unmoved {w} {config} {log} link ch h is still =
     let no = unmoved config link ch (system_after config log) still in
     delivered_as config log link ch h h (followed-still config link ch (system_after config log) h still)
-    (carried-unmoved h.mail h.state (system_after config log)
-    (stepped config (Deliver link ch) (system_after config log)) no is.carried)
-    (beside-unmoved config log h.mail h.state link ch no is.beside)
+    (carried-unmoved h.mail h.state
+    no is.carried)
+    (beside-unmoved config log link ch no is.beside)

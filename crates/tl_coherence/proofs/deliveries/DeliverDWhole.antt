@@ -1,43 +1,29 @@
 -- Every delivery on channel D, and every one that moves no beat: the channels and the one memory afterwards.
 use Rattle.tl_coherence.proofs.deliveries.Imports.{IsWidth, Beat, Link, Channel, Message, beat_of, unfinished}
-use Rattle.tl_coherence.proofs.deliveries.Imports.{completes, Config, Deliver}
-use Rattle.tl_coherence.proofs.deliveries.Imports.{MemoryRelation, is_moving, AbstractState, abstract_step}
-use Rattle.tl_coherence.proofs.deliveries.Imports.{packet_taken, kind_taken, Log, system_after, Machine}
-use Rattle.tl_coherence.proofs.deliveries.Imports.{moved, ChannelRelation, Block, packet}
-use Rattle.tl_coherence.proofs.deliveries.Imports.{is_on, shown, one_memory_after, performing, accesses_answered}
-use Rattle.tl_coherence.proofs.deliveries.Imports.{block_message, message_of, message_of_kind, Step}
-use Rattle.tl_coherence.proofs.deliveries.Imports.{stepped, handing, handed_by}
-use Rattle.tl_coherence.proofs.deliveries.Imports.{System, terms_at, with_client, with_channel, Kind}
-use Rattle.tl_coherence.proofs.deliveries.Imports.{Request, Acquire, Probe, ProbeAck, Release, Answer, Grant}
-use Rattle.tl_coherence.proofs.deliveries.Imports.{ReleaseAck, GrantAck, Packet, SimulationRelation, is_caching}
-use Rattle.std.proofs.Common.{◌≡◌, ℕ, Bool, true, false, List, ◌∷◌, Option, Some, None, refl, sym, ◌∙◌, ap, subst}
+use Rattle.tl_coherence.proofs.deliveries.Imports.{completes, Config, Deliver, MemoryRelation, is_moving, AbstractState}
+use Rattle.tl_coherence.proofs.deliveries.Imports.{abstract_step, packet_taken, kind_taken, Log, system_after, Machine}
+use Rattle.tl_coherence.proofs.deliveries.Imports.{moved, ChannelRelation, Block, packet, is_on, shown}
+use Rattle.tl_coherence.proofs.deliveries.Imports.{one_memory_after, performing, accesses_answered, block_message}
+use Rattle.tl_coherence.proofs.deliveries.Imports.{message_of, message_of_kind, Step, stepped, handing, handed_by}
+use Rattle.tl_coherence.proofs.deliveries.Imports.{System, terms_at, with_client, with_channel, Kind, Answer, Grant}
+use Rattle.tl_coherence.proofs.deliveries.Imports.{ReleaseAck, Packet, SimulationRelation, is_caching}
+use Rattle.std.proofs.Common.{◌≡◌, ℕ, Bool, true, false, List, ◌∷◌, Some, None, refl, sym, ◌∙◌, ap, subst}
 use Rattle.std.specs.Prelude.{◌==◌, if◌then◌else◌, map}
-use Rattle.tl_beat.specs.declared.beat.Beat.TheVariants as beat
 use Rattle.tl_beat.specs.declared.beat.BeatD.{BeatD}
-use Rattle.tl_beat.specs.declared.channel.Channel.TheVariants as channel
-use Rattle.tl_burst.specs.declared.message.Message.TheVariants as message
-use Rattle.tl_burst.specs.declared.message.MessageD.{MessageD}
-use Rattle.tl_burst.specs.statement.Burst.{d_beat_of}
+use Rattle.tl_burst.{specs.declared.message.MessageD.MessageD, specs.statement.Burst.d_beat_of}
 use Rattle.tl_client.specs.declared.verdict.Verdict.{Verdict}
-use Rattle.tl_client.specs.declared.verdict.Verdict.TheVariants as verdict
 use Rattle.tl_client.specs.statement.Endpoint as client
 use Rattle.tl_client.specs.statement.Offer as offer
-use Rattle.tl_coherence.specs.declared.event.Outcome.TheVariants as outcome
-use Rattle.tl_coherence.specs.statement.Step as step
-use Rattle.tl_coherence.proofs.queues.Carried.{IsNext}
-use Rattle.tl_coherence.proofs.queues.Channels.{pushes_at}
-use Rattle.tl_coherence.proofs.protocol.HeadOfD.{grant_message, ack_message, answer-due, grant-due}
-use Rattle.tl_coherence.proofs.protocol.HeadOfD.{grant-rendered}
-use Rattle.tl_coherence.proofs.queues.FirstToken.{IsFirst, first-token}
+use Rattle.tl_coherence.specs.declared.event.Outcome.{Outcome}
+use Rattle.tl_coherence.proofs.{queues.Carried.IsNext, queues.FirstToken.IsFirst}
+use Rattle.tl_coherence.proofs.{queues.FirstToken.first-token, manager.UnwaitedRequests.next_tracker}
+use Rattle.tl_coherence.proofs.{queues.Tokens.holds-first, protocol.BothParts.acked-open}
+use Rattle.tl_coherence.proofs.protocol.HeadOfD.{grant_message, ack_message, answer-due, grant-due, grant-rendered}
 use Rattle.tl_coherence.proofs.client.DeliverD.{finish_at, acked, answer-last, answer-part, same_answers}
-use Rattle.tl_coherence.proofs.deliveries.DeliverDAfter.{IsLastBeat, IsResponded, followed-moving}
-use Rattle.tl_coherence.proofs.deliveries.DeliverDAfter.{on_d, responded-answer, responded-grant}
-use Rattle.tl_coherence.proofs.deliveries.DeliverDAfter.{responded-release_ack}
+use Rattle.tl_coherence.proofs.deliveries.DeliverDAfter.{IsLastBeat, IsResponded, followed-moving, on_d}
+use Rattle.tl_coherence.proofs.deliveries.DeliverDAfter.{responded-answer, responded-grant, responded-release_ack}
 use Rattle.tl_coherence.proofs.queues.Landed.{pushes_of, IsOn, HasHeard, landed-client}
 use Rattle.tl_coherence.proofs.simulation.Moved.{IsTakenByClient, client-moves, client-heard, carried-part}
-use Rattle.tl_coherence.proofs.manager.UnwaitedRequests.{next_tracker}
-use Rattle.tl_coherence.proofs.queues.Tokens.{holds-first}
-use Rattle.tl_coherence.proofs.protocol.BothParts.{acked-open}
 use Rattle.tl_coherence.proofs.deliveries.DeliverDUnmoved.{bare, IsDelivered, delivered_as}
 
 -- ---- on channel D
@@ -46,29 +32,26 @@ use Rattle.tl_coherence.proofs.deliveries.DeliverDUnmoved.{bare, IsDelivered, de
 pub remembered_after : {w : ℕ} (config : Config) (log : Log w) (link : Link) (ch : Channel) (x : Step w)
     → stepped config (Deliver link ch) (system_after config log) ≡ x
     → one_memory_after config ((Deliver link ch, (stepped config (Deliver link ch) (system_after config log)).outcome)
-    ∷ log) ≡ performing (accesses_answered x.handed)
-    (moved (Deliver link ch) x.outcome (one_memory_after config log))
+    ∷ log) ≡ performing (accesses_answered x.handed) (moved (Deliver link ch) x.outcome (one_memory_after config log))
 unfolding one_memory_after
-remembered_after {w} config log link ch x e =
-    ap (λ (y : Step w). performing (accesses_answered y.handed)
-    (moved (Deliver link ch) y.outcome (one_memory_after config log))) e
+remembered_after {w} config log link ch x e = cc e
 
-last_d : {w : ℕ} (config : Config) (log : Log w) (link : Link) (h h' : AbstractState w) (terms : client.EndConfig)
-    (x : Beat w) (queue : List (Beat w)) (mm : MessageD w)
+last_d : {w : ℕ} (config : Config) (log : Log w) (link : Link) (h : AbstractState w) {h' : AbstractState w}
+    {terms : client.EndConfig}
+    {x : Beat w} {queue : List (Beat w)} {mm : MessageD w}
     (is : IsLastBeat link.0 x queue (system_after config log) mm)
-    → IsTakenByClient terms link.0 channel.D x queue (system_after config log)
-    (stepped config (Deliver link channel.D) (system_after config log))
-    → abstract_step config (Deliver link channel.D) (system_after config log) h ≡ h'
+    → IsTakenByClient terms link.0 Channel.D x queue (system_after config log)
+    (stepped config (Deliver link Channel.D) (system_after config log))
+    → abstract_step config (Deliver link Channel.D) (system_after config log) h ≡ h'
     → IsResponded link.0 x queue (system_after config log) (one_memory_after config log) is.y.source
     (finish_at is.y ((system_after config log).clients link.0))
-    (acked is.y.opcode is.y.sink) h' → IsDelivered config log link channel.D h
+    (acked is.y.opcode is.y.sink) h' → IsDelivered config log link Channel.D h
 unfolding performing
-last_d {w} config log link h h' terms x queue mm is t same responded =
-    delivered_as config log link channel.D h h' same (subst (λ (y : Step w). ChannelRelation h'.mail h'.state y.after)
-    (sym step_is) responded.carried)
-    (subst (λ (m : Machine w). MemoryRelation h'.mail h'.state m)
-    (sym (remembered_after config log link channel.D now step_is
-    ∙ ap (λ (l : List (ℕ × ℕ)). performing l (moved (Deliver link channel.D) now.outcome (one_memory_after config log)))
+last_d {w} config log link h {h'} {x} {queue} is t same responded =
+    delivered_as config log link Channel.D h h' same (subst (λ (y : Step w). ChannelRelation h'.mail h'.state y.after)
+    (sym step_is) responded.carried) (subst (λ (m : Machine w). MemoryRelation h'.mail h'.state m)
+    (sym (remembered_after config log link Channel.D now step_is
+    ∙ ap (λ (l : List (ℕ × ℕ)). performing l (moved (Deliver link Channel.D) now.outcome (one_memory_after config log)))
     responded.quiet)) responded.beside)
   where
     sys : System w
@@ -77,53 +60,44 @@ last_d {w} config log link h h' terms x queue mm is t same responded =
     e : client.Endpoint w
     e = sys.clients link.0
 
-    last : completes (beat.D is.y) (unfinished channel.D e.past) ≡ true
-    last = sym (ap (λ (z : Beat w). completes z (unfinished channel.D e.past)) is.x_is) ∙ is.last
+    last : completes (Beat.D is.y) (unfinished Channel.D e.past) ≡ true
+    last = sym (ap (λ (z : Beat w). completes z (unfinished Channel.D e.past)) is.x_is) ∙ is.last
 
     now : Step w
-    now = handing (outcome.Done x is.y.source (finish_at is.y e)) (handed_by link.0 (acked is.y.opcode is.y.sink))
-        (with_client link.0 (offer.taken x e).after (with_channel link.0 channel.D queue sys))
+    now = handing (Outcome.Done x is.y.source (finish_at is.y e)) (handed_by link.0 (acked is.y.opcode is.y.sink))
+        (with_client link.0 (offer.taken x e).after (with_channel link.0 Channel.D queue sys))
 
-    same_parts : (t.verdict_is ≡ verdict.Done is.y.source (finish_at is.y e))
+    same_parts : (t.verdict_is ≡ Verdict.Done is.y.source (finish_at is.y e))
         × (t.message ≡ acked is.y.opcode is.y.sink)
-    same_parts = same_answers t.verdict_is (verdict.Done is.y.source (finish_at is.y e)) t.message
-        (acked is.y.opcode is.y.sink)
-        (offer.taken x e).answer t.answer (ap (λ (z : Beat w). (offer.taken z e).answer) is.x_is ∙ answer-last is.y e
-        last)
+    same_parts = same_answers t.verdict_is (Verdict.Done is.y.source (finish_at is.y e)) t.message
+        (acked is.y.opcode is.y.sink) (offer.taken x e).answer t.answer
+        (ap (λ (z : Beat w). (offer.taken z e).answer) is.x_is ∙ answer-last is.y e last)
 
-    step_is : stepped config (Deliver link channel.D) sys ≡ now
-    step_is =
-        t.step_is
-        ∙ ap (λ (v : Verdict). handing (step.outcome_of x v) (handed_by link.0 t.message)
-        (with_client link.0 (offer.taken x e).after (with_channel link.0 channel.D queue sys))) same_parts.0
-        ∙ ap (λ (m : Option (Message w)). handing (outcome.Done x is.y.source (finish_at is.y e)) (handed_by link.0 m)
-        (with_client link.0 (offer.taken x e).after (with_channel link.0 channel.D queue sys))) same_parts.1
+    step_is : stepped config (Deliver link Channel.D) sys ≡ now
+    step_is = cc (t.step_is, same_parts.0, same_parts.1)
 
 none_pushed : (w : ℕ) (at : Channel) (b : Bool) → (if b then pushes_of {w = w} None at else None) ≡ None
 none_pushed w at true = refl
 none_pushed w at false = refl
 
-part_d : {w : ℕ} (config : Config) (log : Log w) (link : Link) (h : AbstractState w) (terms : client.EndConfig)
-    (x : Beat w) (queue : List (Beat w)) (mm : MessageD w)
+part_d : {w : ℕ} {config : Config} {log : Log w} (link : Link) (h : AbstractState w) {terms : client.EndConfig}
+    {x : Beat w} {queue : List (Beat w)} (mm : MessageD w)
     (k : ℕ) → IsWidth w → SimulationRelation config log h.mail h.request h.state (system_after config log)
-    → (system_after config log).channels link.0 channel.D ≡ x ∷ queue → x ≡ beat.D (d_beat_of mm k)
-    → completes x (unfinished channel.D ((system_after config log).clients link.0).past) ≡ false
-    → IsTakenByClient terms link.0 channel.D x queue (system_after config log)
-    (stepped config (Deliver link channel.D) (system_after config log))
-    → abstract_step config (Deliver link channel.D) (system_after config log) h ≡ h
-    → IsDelivered config log link channel.D h
+    → (system_after config log).channels link.0 Channel.D ≡ x ∷ queue → x ≡ Beat.D (d_beat_of mm k)
+    → completes x (unfinished Channel.D ((system_after config log).clients link.0).past) ≡ false
+    → IsTakenByClient terms link.0 Channel.D x queue (system_after config log)
+    (stepped config (Deliver link Channel.D) (system_after config log))
+    → abstract_step config (Deliver link Channel.D) (system_after config log) h ≡ h
+    → IsDelivered config log link Channel.D h
 unfolding performing accesses_answered
-part_d {w} config log link h terms x queue mm k width is first x_is part t same =
-    delivered_as config log link channel.D h h same
-    (subst (λ (y : Step w). ChannelRelation h.mail h.state y.after) (sym step_is)
-    (carried-part h.mail h.state link.0 channel.D x queue (pushes_at link.0 (pushes_of None)) sys now.after width
-    (landed-client link.0 channel.D x queue None (offer.taken x e).after sys refl first
-    (subst (λ (z : Beat w). IsOn channel.D z) (sym x_is) (on_d y))
-    (client-heard terms link.0 channel.D x queue sys (stepped config (Deliver link channel.D) sys) width
-    (is.kept link.0) t))
+part_d {w} {config} {log} link h {terms} {x} {queue} mm k width is first x_is part t same =
+    delivered_as config log link Channel.D h h same (subst (λ (y : Step w). ChannelRelation h.mail h.state y.after)
+    (sym step_is) (carried-part h.mail h.state width
+    (landed-client link.0 Channel.D x queue None (offer.taken x e).after sys refl first
+    (subst (λ (z : Beat w). IsOn Channel.D z) (sym x_is) (on_d y)) (client-heard width (is.kept link.0) t))
     (λ d at. none_pushed w at (d == link.0)) part is.carried))
     (subst (λ (m : Machine w). MemoryRelation h.mail h.state m)
-    (sym (remembered_after config log link channel.D now step_is)) is.beside)
+    (sym (remembered_after config log link Channel.D now step_is)) is.beside)
   where
     sys : System w
     sys = system_after config log
@@ -135,36 +109,31 @@ part_d {w} config log link h terms x queue mm k width is first x_is part t same 
     y = d_beat_of mm k
 
     now : Step w
-    now = handing (outcome.Moved x) (handed_by link.0 None)
-        (with_client link.0 (offer.taken x e).after (with_channel link.0 channel.D queue sys))
+    now = handing (Outcome.Moved x) (handed_by link.0 None)
+        (with_client link.0 (offer.taken x e).after (with_channel link.0 Channel.D queue sys))
 
-    unended : completes (beat.D y) (unfinished channel.D e.past) ≡ false
-    unended = sym (ap (λ (z : Beat w). completes z (unfinished channel.D e.past)) x_is) ∙ part
+    unended : completes (Beat.D y) (unfinished Channel.D e.past) ≡ false
+    unended = sym (ap (λ (z : Beat w). completes z (unfinished Channel.D e.past)) x_is) ∙ part
 
-    same_parts : (t.verdict_is ≡ verdict.Taken) × (t.message ≡ None)
-    same_parts = same_answers t.verdict_is verdict.Taken t.message None (offer.taken x e).answer t.answer
+    same_parts : (t.verdict_is ≡ Verdict.Taken) × (t.message ≡ None)
+    same_parts = same_answers t.verdict_is Verdict.Taken t.message None (offer.taken x e).answer t.answer
         (ap (λ (z : Beat w). (offer.taken z e).answer) x_is ∙ answer-part y e unended)
 
-    step_is : stepped config (Deliver link channel.D) sys ≡ now
-    step_is =
-        t.step_is
-        ∙ ap (λ (v : Verdict). handing (step.outcome_of x v) (handed_by link.0 t.message)
-        (with_client link.0 (offer.taken x e).after (with_channel link.0 channel.D queue sys))) same_parts.0
-        ∙ ap (λ (m : Option (Message w)). handing (outcome.Moved x) (handed_by link.0 m)
-        (with_client link.0 (offer.taken x e).after (with_channel link.0 channel.D queue sys))) same_parts.1
+    step_is : stepped config (Deliver link Channel.D) sys ≡ now
+    step_is = cc (t.step_is, same_parts.0, same_parts.1)
 
-pub rendered_release_ack : {w : ℕ} (c n : ℕ) (b : Block (List ℕ)) → block_message {w = w} ReleaseAck c n b ≡ message.D
+pub rendered_release_ack : {w : ℕ} (c n : ℕ) (b : Block (List ℕ)) → block_message {w = w} ReleaseAck c n b ≡ Message.D
     (ack_message (b.release_source c))
 unfolding block_message
 rendered_release_ack c n b = refl
 
-pub delivered-d : {w : ℕ} (config : Config) (log : Log w) (link : Link) (h : AbstractState w) (terms : client.EndConfig)
+pub delivered-d : {w : ℕ} {config : Config} {log : Log w} (link : Link) (h : AbstractState w) (terms : client.EndConfig)
     (x : Beat w) (queue : List (Beat w)) → IsWidth w
     → SimulationRelation config log h.mail h.request h.state (system_after config log)
-    → terms_at config link.0 ≡ Some terms → (system_after config log).channels link.0 channel.D ≡ x ∷ queue
-    → is_moving (stepped config (Deliver link channel.D) (system_after config log)).outcome ≡ true
-    → IsDelivered config log link channel.D h
-delivered-d {w} config log link h terms x queue width is known beats moving =
+    → terms_at config link.0 ≡ Some terms → (system_after config log).channels link.0 Channel.D ≡ x ∷ queue
+    → is_moving (stepped config (Deliver link Channel.D) (system_after config log)).outcome ≡ true
+    → IsDelivered config log link Channel.D h
+delivered-d {w} {config} {log} link h terms x queue width is known beats moving =
     kinds first.kind first.number first.tokens first.own first.next
   where
     sys : System w
@@ -176,78 +145,71 @@ delivered-d {w} config log link h terms x queue width is known beats moving =
     e : client.Endpoint w
     e = sys.clients c
 
-    first : IsFirst channel.D c h.mail h.state sys x queue
-    first = first-token (is_caching config) channel.D c h.mail h.state sys x queue width is.invariant is.carried beats
+    first : IsFirst Channel.D c h.mail h.state sys x queue
+    first = first-token (is_caching config) Channel.D c h.mail h.state sys x queue width is.invariant is.carried beats
 
-    t : IsTakenByClient terms c channel.D x queue sys (stepped config (Deliver link channel.D) sys)
-    t = client-moves config link channel.D sys terms x queue known beats refl moving
+    t : IsTakenByClient terms c Channel.D x queue sys (stepped config (Deliver link Channel.D) sys)
+    t = client-moves config link Channel.D sys terms x queue known beats refl moving
 
     heard : HasHeard x e (offer.taken x e).after
-    heard = client-heard terms c channel.D x queue sys (stepped config (Deliver link channel.D) sys) width (is.kept c) t
+    heard = client-heard width (is.kept c) t
 
-    follows : abstract_step config (Deliver link channel.D) sys h ≡ (if completes x (unfinished channel.D e.past) then
+    follows : abstract_step config (Deliver link Channel.D) sys h ≡ (if completes x (unfinished Channel.D e.past) then
         packet_taken config (next_tracker sys) c (h.state.link c).d h else h)
-    follows = followed-moving config link channel.D sys h x queue moving beats
+    follows = followed-moving config link Channel.D sys h x queue moving beats
 
     -- a message of channel D, what its last beat makes, and its token
     by_message : (k : Kind) (i : ℕ) (mm : MessageD w) → (h.state.link c).d ≡ packet k i ∷ first.rest
-        → message_of_kind k h.mail h.state c i ≡ message.D mm
-        → IsNext x (unfinished channel.D e.past) (message_of_kind k h.mail h.state c i)
+        → message_of_kind k h.mail h.state c i ≡ Message.D mm
+        → IsNext x (unfinished Channel.D e.past) (message_of_kind k h.mail h.state c i)
         (map (message_of h.mail h.state c) first.rest) queue
         → ((last : IsLastBeat c x queue sys mm) → IsResponded c x queue sys (one_memory_after config log) last.y.source
-        (finish_at last.y e)
-        (acked last.y.opcode last.y.sink) (kind_taken config (next_tracker sys) c k i first.rest h))
-        → IsDelivered config log link channel.D h
-    by_message k i mm tokens message next responds = go (completes x (unfinished channel.D e.past)) refl
+        (finish_at last.y e) (acked last.y.opcode last.y.sink) (kind_taken config (next_tracker sys) c k i first.rest
+        h)) → IsDelivered config log link Channel.D h
+    by_message k i mm tokens message next responds = go (completes x (unfinished Channel.D e.past)) refl
       where
-        x_is : x ≡ beat.D (d_beat_of mm next.k)
+        x_is : x ≡ Beat.D (d_beat_of mm next.k)
         x_is = next.beat_is ∙ ap (λ (m : Message w). beat_of m next.k) message
 
-        go : (b : Bool) → completes x (unfinished channel.D e.past) ≡ b → IsDelivered config log link channel.D h
+        go : (b : Bool) → completes x (unfinished Channel.D e.past) ≡ b → IsDelivered config log link Channel.D h
         go true done =
             let last : IsLastBeat c x queue sys mm = record {
               y = d_beat_of mm next.k;
               x_is = x_is;
-              opcode =
-                  refl;
+              opcode = refl;
               source = refl;
               sink = refl;
               first = beats;
               last = done;
               heard = heard;
             } in
-            last_d config log link h (kind_taken config (next_tracker sys) c k i first.rest h) terms x queue mm last t
+            last_d config log link h last t
             (follows ∙ ap (λ (b : Bool). if b then packet_taken config (next_tracker sys) c (h.state.link c).d h else h)
             done
             ∙ ap (λ (l : List Packet). packet_taken config (next_tracker sys) c l h) tokens) (responds last)
-        go false part = part_d config log link h terms x queue mm next.k width is beats x_is part t
+        go false part = part_d link h mm next.k width is beats x_is part t
             (follows ∙ ap (λ (b : Bool). if b then packet_taken config (next_tracker sys) c (h.state.link c).d h else h)
             part)
 
-    kinds : (k : Kind) (i : ℕ) → (h.state.link c).d ≡ packet k i ∷ first.rest → is_on channel.D k ≡ true
-        → IsNext x (unfinished channel.D e.past) (message_of_kind k h.mail h.state c i)
-        (map (message_of h.mail h.state c) first.rest) queue → IsDelivered config log link channel.D h
+    kinds : (k : Kind) (i : ℕ) → (h.state.link c).d ≡ packet k i ∷ first.rest → is_on Channel.D k ≡ true
+        → IsNext x (unfinished Channel.D e.past) (message_of_kind k h.mail h.state c i)
+        (map (message_of h.mail h.state c) first.rest) queue → IsDelivered config log link Channel.D h
     kinds Answer i tokens own next =
         let due = answer-due (is_caching config) c i first.rest h.mail h.state is.invariant (is.answered c i) tokens in
         by_message Answer i due.answer tokens due.answer_is next
-        (λ last. responded-answer config log h sys c i first.rest x queue due width is tokens last)
+        (λ last. responded-answer h first.rest due width is tokens last)
     kinds Grant n tokens own next =
         let due = grant-due (is_caching config) c n first.rest h.state is.invariant tokens in
         by_message Grant n (grant_message due.data_too due.k ((h.state.block n).source c) (h.state.block n).tracker
         (h.state.block n).truth) tokens (grant-rendered c n h.state due) next
-        (λ last. responded-grant config log h sys c n first.rest x queue due width is tokens
-        (bare (is_caching config) c n h due is.invariant) last)
+        (λ last. responded-grant h first.rest due width is tokens
+        (bare h due is.invariant) last)
     kinds ReleaseAck n tokens own next =
         let acked_there = holds-first ReleaseAck (h.state.link c).d first.rest (packet ReleaseAck n)
         (λ i. shown ReleaseAck c (h.state.block i)) tokens refl
         (is.invariant.transfers c ReleaseAck refl) in
         by_message ReleaseAck n (ack_message ((h.state.block n).release_source c)) tokens
         (rendered_release_ack c n (h.state.block n)) next
-        (λ last. responded-release_ack config log h sys c n first.rest x queue width is tokens
+        (λ last. responded-release_ack h n first.rest width is tokens
         (acked-open ((h.state.block n).pair c).letting acked_there) last)
-    kinds Request i tokens own next = absurd cc
-    kinds Acquire i tokens own next = absurd cc
-    kinds Probe i tokens own next = absurd cc
-    kinds ProbeAck i tokens own next = absurd cc
-    kinds Release i tokens own next = absurd cc
-    kinds GrantAck i tokens own next = absurd cc
+    kinds k i tokens own next = absurd cc

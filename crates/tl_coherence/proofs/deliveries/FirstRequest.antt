@@ -1,48 +1,33 @@
 -- The request that is first on channel A: it is taken, or has to wait.
-use Rattle.tl_coherence.proofs.deliveries.Imports.{IsWidth, Beat, MessageA, a_beat_of, beats_of, unfinished}
-use Rattle.tl_coherence.proofs.deliveries.Imports.{Config, on_link, block_at, same_block, reaction, End}
-use Rattle.tl_coherence.proofs.deliveries.Imports.{must_wait, AbstractState, kind_taken}
-use Rattle.tl_coherence.proofs.deliveries.Imports.{Free, packet, is_on, Log, message_of, System}
-use Rattle.tl_coherence.proofs.deliveries.Imports.{Kind, Request, Acquire, Probe, ProbeAck, Release}
-use Rattle.tl_coherence.proofs.deliveries.Imports.{Answer, Grant, ReleaseAck, GrantAck, Packet, SimulationRelation}
-use Rattle.tl_coherence.proofs.deliveries.Imports.{MemoryRelation, Machine, ChannelRelation}
-use Rattle.tl_coherence.proofs.deliveries.Imports.{accesses_answered, performing}
-use Rattle.std.proofs.Common.{◌≡◌, ℕ, suc, ◌+◌, ◌<◌, ◌==◌, true, false, List, [], ◌∷◌, None, length}
-use Rattle.std.proofs.Common.{refl, sym, ◌∙◌, ap, inl, arith}
-use Rattle.std.specs.Prelude.{map, nat_le}
-use Rattle.std.proofs.lemmas.Bool.{or_parts}
-use Rattle.tl_beat.specs.declared.beat.Beat.TheVariants as beat
-use Rattle.tl_beat.specs.declared.channel.Channel.TheVariants as channel
-use Rattle.tl_burst.specs.declared.message.Message.TheVariants as message
-use Rattle.tl_burst.specs.statement.Burst.{begun, IsBlankAfter}
-use Rattle.tl_burst.proofs.Begun.{length-begun}
-use Rattle.tl_rules.specs.statement.Conformance.{broken_in_order}
-use Rattle.tl_rules.specs.statement.History.{ends}
-use Rattle.tl_rules.proofs.Sent.{is_last}
+use Rattle.tl_coherence.proofs.deliveries.Imports.{IsWidth, Beat, MessageA, a_beat_of, beats_of, unfinished, Config}
+use Rattle.tl_coherence.proofs.deliveries.Imports.{on_link, block_at, same_block, reaction, End, must_wait}
+use Rattle.tl_coherence.proofs.deliveries.Imports.{AbstractState, kind_taken, Free, packet, is_on, Log, message_of}
+use Rattle.tl_coherence.proofs.deliveries.Imports.{System, Kind, Request, Acquire, Probe, ProbeAck, Release, Answer}
+use Rattle.tl_coherence.proofs.deliveries.Imports.{Grant, ReleaseAck, GrantAck, Packet, SimulationRelation}
+use Rattle.tl_coherence.proofs.deliveries.Imports.{MemoryRelation, Machine, ChannelRelation, accesses_answered}
+use Rattle.tl_coherence.proofs.deliveries.Imports.{performing, Channel, Message}
+use Rattle.std.proofs.Common.{◌≡◌, ℕ, suc, ◌+◌, ◌<◌, ◌==◌, true, false, List, [], ◌∷◌, None, length, refl, sym, ◌∙◌, ap}
+use Rattle.std.proofs.Common.{inl, arith}
+use Rattle.std.{specs.Prelude.map, specs.Prelude.nat_le, proofs.lemmas.Bool.or_parts}
+use Rattle.tl_burst.{specs.statement.Burst.begun, specs.statement.Burst.IsBlankAfter, proofs.Begun.length-begun}
+use Rattle.tl_rules.{specs.statement.Conformance.broken_in_order, specs.statement.History.ends, proofs.Sent.is_last}
 use Rattle.tl_manager.specs.statement.Service.{services, is_in_service}
 use Rattle.tl_manager.specs.statement.Offer as manager
 use Rattle.tl_manager.specs.statement.Offer.{before_stall, offered}
-use Rattle.tl_coherence.specs.refinement.Carried.{IsCarried}
-use Rattle.tl_coherence.specs.protocol.Protocol.{on}
+use Rattle.tl_coherence.specs.{refinement.Carried.IsCarried, protocol.Protocol.on}
 use Rattle.tl_coherence.proofs.manager.Admitted.{order-access, order-acquire, early-acquire, unserved-free, first-beat}
 use Rattle.tl_coherence.proofs.manager.Admitted.{passes-first, waits-first, offered-taken, offered-stalled}
 use Rattle.tl_coherence.proofs.manager.Admitted.{first_counts}
 use Rattle.tl_coherence.proofs.memory.BesideRequests.{IsOnce, acquire-accesses, beside-request_taken}
 use Rattle.tl_coherence.proofs.memory.BesideRequests.{beside-acquire_taken, request-once}
-use Rattle.tl_coherence.proofs.manager.Arrivals.{link_of, IsComing}
-use Rattle.tl_coherence.proofs.deliveries.CarriedRequests.{system_after, carried-request_taken}
-use Rattle.tl_coherence.proofs.deliveries.CarriedRequests.{carried-acquire_taken}
-use Rattle.tl_coherence.proofs.manager.AtRequests.{end_after}
-use Rattle.tl_coherence.proofs.queues.Carried.{IsNext}
-use Rattle.tl_coherence.proofs.protocol.FollowKept.{IsReady}
+use Rattle.tl_coherence.proofs.{manager.Arrivals.link_of, manager.Arrivals.IsComing, manager.AtRequests.end_after}
+use Rattle.tl_coherence.proofs.{queues.Carried.IsNext, protocol.FollowKept.IsReady, manager.Requests.IsUnwaited}
+use Rattle.tl_coherence.proofs.{manager.UnwaitedRequests.next_tracker, manager.ManagerAfter.IsManagerOf}
+use Rattle.tl_coherence.proofs.deliveries.CarriedRequests.{system_after, carried-request_taken, carried-acquire_taken}
 use Rattle.tl_coherence.proofs.protocol.Heads.{IsAsked, asked-first, IsWanted, wanted-first, acquisition-blank}
 use Rattle.tl_coherence.proofs.protocol.Heads.{acquisition_beats, front-of}
-use Rattle.tl_coherence.proofs.manager.Requests.{IsUnwaited}
-use Rattle.tl_coherence.proofs.manager.RequestsTaken.{unwaited-asked, ready-request}
-use Rattle.tl_coherence.proofs.manager.UnwaitedRequests.{next_tracker}
-use Rattle.tl_coherence.proofs.manager.RequestsTaken.{at_manager-request_taken, acquire_wanted, ready-acquire}
-use Rattle.tl_coherence.proofs.manager.RequestsTaken.{at_manager-acquire_taken}
-use Rattle.tl_coherence.proofs.manager.ManagerAfter.{IsManagerOf}
+use Rattle.tl_coherence.proofs.manager.RequestsTaken.{unwaited-asked, ready-request, at_manager-request_taken}
+use Rattle.tl_coherence.proofs.manager.RequestsTaken.{acquire_wanted, ready-acquire, at_manager-acquire_taken}
 
 -- ---- the request that is first
 
@@ -51,100 +36,90 @@ pub record IsOnLink {w : ℕ} (config : Config) (h : AbstractState w) (sys : Sys
     (rest : List Packet) (m : MessageA w) : Type 0 where
   pub tokens : (h.state.link c).a ≡ packet kind i ∷ rest
   pub on_it : on kind (h.state.link c) ≡ packet kind i ∷ rest
-  pub renders : message_of h.mail h.state c (packet kind i) ≡ message.A m
-  pub blank : IsBlankAfter (beats_of (message.A m)) (message.A m)
-  pub order : (k : ℕ) → k < beats_of (message.A m) → unfinished channel.A (on_link c sys.manager.trace) ≡ begun
-      (message.A m) k
-      → must_wait config (link_of c) (beat.A (a_beat_of m k)) sys.manager.trace ≡ false
-      → broken_in_order config.profile (beat.A (a_beat_of m k)) (on_link c sys.manager.trace) ≡ None
-  pub early : (k : ℕ) → unfinished channel.A (on_link c sys.manager.trace) ≡ begun (message.A m) k
-      → before_stall (broken_in_order config.profile (beat.A (a_beat_of m k)) (on_link c sys.manager.trace)) ≡ None
-  pub unwaited : (k : ℕ) → k + 1 < beats_of (message.A m) → IsUnwaited c m.source h.state
-  pub ready : (k : ℕ) → IsComing config c k m sys.manager → beats_of (message.A m) ≡ suc k
-      → must_wait config (link_of c) (beat.A (a_beat_of m k)) sys.manager.trace ≡ false
+  pub renders : message_of h.mail h.state c (packet kind i) ≡ Message.A m
+  pub blank : IsBlankAfter (beats_of (Message.A m)) (Message.A m)
+  pub order : (k : ℕ) → k < beats_of (Message.A m) → unfinished Channel.A (on_link c sys.manager.trace)
+      ≡ begun (Message.A m) k → must_wait config (link_of c) (Beat.A (a_beat_of m k)) sys.manager.trace ≡ false
+      → broken_in_order config.profile (Beat.A (a_beat_of m k)) (on_link c sys.manager.trace) ≡ None
+  pub early : (k : ℕ) → unfinished Channel.A (on_link c sys.manager.trace) ≡ begun (Message.A m) k
+      → before_stall (broken_in_order config.profile (Beat.A (a_beat_of m k)) (on_link c sys.manager.trace)) ≡ None
+  pub unwaited : (k : ℕ) → k + 1 < beats_of (Message.A m) → IsUnwaited c m.source h.state
+  pub ready : (k : ℕ) → IsComing config c k m sys.manager → beats_of (Message.A m) ≡ suc k
+      → must_wait config (link_of c) (Beat.A (a_beat_of m k)) sys.manager.trace ≡ false
       → IsReady (next_tracker sys) c kind i h
-  pub after : (k : ℕ) → IsComing config c k m sys.manager → beats_of (message.A m) ≡ suc k
-      → must_wait config (link_of c) (beat.A (a_beat_of m k)) sys.manager.trace ≡ false
+  pub after : (k : ℕ) → IsComing config c k m sys.manager → beats_of (Message.A m) ≡ suc k
+      → must_wait config (link_of c) (Beat.A (a_beat_of m k)) sys.manager.trace ≡ false
       → IsManagerOf config (kind_taken config (next_tracker sys) c kind i rest h) (end_after config c k m sys.manager)
   pub carried : (k : ℕ) (queue : List (Beat w)) → IsComing config c k m sys.manager
-      → sys.channels c channel.A ≡ beat.A (a_beat_of m k) ∷ queue → beats_of (message.A m) ≡ suc k
-      → must_wait config (link_of c) (beat.A (a_beat_of m k)) sys.manager.trace ≡ false
+      → sys.channels c Channel.A ≡ Beat.A (a_beat_of m k) ∷ queue → beats_of (Message.A m) ≡ suc k
+      → must_wait config (link_of c) (Beat.A (a_beat_of m k)) sys.manager.trace ≡ false
       → ChannelRelation (kind_taken config (next_tracker sys) c kind i rest h).mail
       (kind_taken config (next_tracker sys) c kind i rest h).state (system_after config c k m queue sys)
-  pub beside : (k : ℕ) (machine : Machine w) → IsComing config c k m sys.manager → beats_of (message.A m) ≡ suc k
+  pub beside : (k : ℕ) (machine : Machine w) → IsComing config c k m sys.manager → beats_of (Message.A m) ≡ suc k
       → MemoryRelation h.mail h.state machine
       → MemoryRelation (kind_taken config (next_tracker sys) c kind i rest h).mail
       (kind_taken config (next_tracker sys) c kind i rest h).state
-      (performing (accesses_answered (reaction config (link_of c) (beat.A (a_beat_of m k)) sys.manager).handed) machine)
-  pub once : (k : ℕ) (machine : Machine w) → IsComing config c k m sys.manager → beats_of (message.A m) ≡ suc k
+      (performing (accesses_answered (reaction config (link_of c) (Beat.A (a_beat_of m k)) sys.manager).handed) machine)
+  pub once : (k : ℕ) (machine : Machine w) → IsComing config c k m sys.manager → beats_of (Message.A m) ≡ suc k
       → MemoryRelation h.mail h.state machine
-      → IsOnce (accesses_answered (reaction config (link_of c) (beat.A (a_beat_of m k)) sys.manager).handed) h machine
+      → IsOnce (accesses_answered (reaction config (link_of c) (Beat.A (a_beat_of m k)) sys.manager).handed) h machine
 
-pub ends-burst : {w : ℕ} (c k : ℕ) (m : MessageA w) (e : End w) → unfinished channel.A (on_link c e.trace) ≡ begun
-    (message.A m) k
-    → ends (beat.A (a_beat_of m k)) (on_link c e.trace) ≡ (k + 1 == beats_of (message.A m))
-ends-burst c k m e burst = rw (burst, length-begun (message.A m) k) refl
+pub ends-burst : {w : ℕ} (c k : ℕ) (m : MessageA w) (e : End w) → unfinished Channel.A (on_link c e.trace)
+    ≡ begun (Message.A m) k → ends (Beat.A (a_beat_of m k)) (on_link c e.trace) ≡ (k + 1 == beats_of (Message.A m))
+ends-burst c k m e burst = rw (burst, length-begun (Message.A m) k) refl
 
-on_link-access : {w : ℕ} (config : Config) (log : Log w) (h : AbstractState w) (sys : System w) (c source : ℕ)
+on_link-access : {w : ℕ} {config : Config} {log : Log w} (h : AbstractState w) {sys : System w} {c source : ℕ}
     (rest : List Packet)
     → SimulationRelation config log h.mail h.request h.state sys → (h.state.link c).a ≡ packet Request source ∷ rest
     → (asked : IsAsked config c source h.mail h.state) → IsOnLink config h sys c Request source rest asked.request
-on_link-access {w} config log h sys c source rest is first asked = record {
+on_link-access {w} {config} {log} h {sys} {c} {source} rest is first asked = record {
   tokens = first;
   on_it = first;
   renders = asked.is_it;
   blank = asked.blank;
-  order = λ k lt burst moves. order-access config log h.mail h.request h.state sys c source asked.request k is
-      asked.used asked.source_is asked.access burst;
-  early = λ k burst. ap before_stall (order-access config log h.mail h.request h.state sys c source asked.request k is
+  order = λ k lt burst moves. order-access c source asked.request k is asked.used asked.source_is asked.access burst;
+  early = λ k burst. ap before_stall (order-access c source asked.request k is
       asked.used asked.source_is asked.access burst);
-  unwaited = λ k more i src own j f same. unwaited-asked config log h.mail h.request h.state sys c source is asked.used
+  unwaited = λ k more i src own j f same. unwaited-asked c source is asked.used
       i src own j f (sym asked.source_is ∙ same);
-  ready = λ k comes last moves. ready-request config log h sys c source k is asked comes last moves;
-  after = λ k comes last moves. at_manager-request_taken config log h sys c source k rest is first asked comes last
-      moves;
-  carried = λ k queue comes beats last moves. carried-request_taken config log h sys c source k rest queue is first
-      asked comes beats last moves;
-  beside = λ k machine comes last beside. beside-request_taken config log h sys c source k rest machine is asked comes
-      last beside;
-  once = λ k machine comes last beside. request-once config log h sys c source k machine is asked comes last beside;
+  ready = λ k comes last moves. ready-request h is asked comes last moves;
+  after = λ k comes last moves. at_manager-request_taken h rest is first asked comes last moves;
+  carried = λ k queue comes beats last moves. carried-request_taken h rest queue is first asked comes beats last moves;
+  beside = λ k machine comes last beside. beside-request_taken h rest is asked comes last beside;
+  once = λ k machine comes last beside. request-once h is asked comes last beside;
 }
 
-on_link-acquire : {w : ℕ} (config : Config) (log : Log w) (h : AbstractState w) (sys : System w) (c n : ℕ)
+on_link-acquire : {w : ℕ} {config : Config} {log : Log w} (h : AbstractState w) {sys : System w} {c n : ℕ}
     (rest : List Packet) → IsWidth w
     → SimulationRelation config log h.mail h.request h.state sys → (h.state.link c).a ≡ packet Acquire n ∷ rest
     → (asked : IsWanted w c n h.state) → IsOnLink config h sys c Acquire n rest (acquire_wanted c n h.state asked)
-on_link-acquire {w} config log h sys c n rest width is first asked = record {
+on_link-acquire {w} {config} {log} h {sys} {c} {n} rest width is first asked = record {
   tokens = first;
   on_it = first;
   renders = asked.renders;
   blank = acquisition-blank w asked.whole asked.grow ((h.state.block n).source c) n width;
-  order = λ k lt burst moves. order-acquire config log h.mail h.request h.state sys c n k is asked
-      (free k lt burst moves) burst;
-  early = λ k burst. early-acquire config log h.mail h.request h.state sys c n k is asked burst;
+  order = λ k lt burst moves. order-acquire k is asked (free k lt burst moves) burst;
+  early = λ k burst. early-acquire k is asked burst;
   unwaited = λ k more. let one = acquisition_beats w asked.whole asked.grow ((h.state.block n).source c) n in
       absurd (omega (arith, more, one));
-  ready = λ k comes last moves. ready-acquire config log h sys c n k is asked comes last moves;
-  after = λ k comes last moves. at_manager-acquire_taken config log h sys c n k rest is first asked comes last moves;
-  carried = λ k queue comes beats last moves. carried-acquire_taken config log h sys c n k rest queue is first asked
-      comes beats last moves;
-  beside = λ k machine comes last beside. beside-acquire_taken config log h sys c n k rest machine is asked comes last
-      beside;
+  ready = λ k comes last moves. ready-acquire h is asked comes last moves;
+  after = λ k comes last moves. at_manager-acquire_taken h rest is first asked comes last moves;
+  carried = λ k queue comes beats last moves. carried-acquire_taken h rest queue is first asked comes beats last moves;
+  beside = λ k machine comes last beside. beside-acquire_taken h rest is asked comes last beside;
   once = λ k machine comes last beside. inl (acquire-accesses config log h sys c n k is asked comes last);
 }
   where
     m : MessageA w
     m = acquire_wanted c n h.state asked
 
-    free : (k : ℕ) → k < beats_of (message.A m) → unfinished channel.A (on_link c sys.manager.trace) ≡ begun
-        (message.A m) k
-        → must_wait config (link_of c) (beat.A (a_beat_of m k)) sys.manager.trace ≡ false
+    free : (k : ℕ) → k < beats_of (Message.A m) → unfinished Channel.A (on_link c sys.manager.trace)
+        ≡ begun (Message.A m) k → must_wait config (link_of c) (Beat.A (a_beat_of m k)) sys.manager.trace ≡ false
         → (h.state.block n).service ≡ Free
     free k lt burst moves =
         let one = acquisition_beats w asked.whole asked.grow ((h.state.block n).source c) n in
-        let ended : ends (beat.A (a_beat_of m k)) (on_link c sys.manager.trace) ≡ true =
-        ends-burst c k m sys.manager burst ∙ is_last k (beats_of (message.A m)) (omega (arith, lt, one)) in
-        let free_at = unserved-free h.request h.state sys.manager.trace (block_at m.address) is.managed
+        let ended : ends (Beat.A (a_beat_of m k)) (on_link c sys.manager.trace) ≡ true =
+        ends-burst c k m sys.manager burst ∙ is_last k (beats_of (Message.A m)) (omega (arith, lt, one)) in
+        let free_at = unserved-free (block_at m.address) is.managed
         (or_parts (is_in_service (block_at m.address) (services sys.manager.trace))
         (nat_le config.trackers (length (services sys.manager.trace)))
         (rw ended at moves)).0 in
@@ -160,24 +135,24 @@ pub record IsArrival {w : ℕ} (config : Config) (h : AbstractState w) (sys : Sy
   pub rest : List Packet
   pub request : MessageA w
   pub is_it : IsOnLink config h sys c kind number rest request
-  pub next : IsNext x (unfinished channel.A (on_link c sys.manager.trace)) (message.A request)
+  pub next : IsNext x (unfinished Channel.A (on_link c sys.manager.trace)) (Message.A request)
       (map (message_of h.mail h.state c) rest) queue
 
-pub arrival-first : {w : ℕ} (config : Config) (log : Log w) (h : AbstractState w) (sys : System w) (c : ℕ) (x : Beat w)
+pub arrival-first : {w : ℕ} {config : Config} {log : Log w} (h : AbstractState w) {sys : System w} (c : ℕ) (x : Beat w)
     (queue : List (Beat w)) → IsWidth w → SimulationRelation config log h.mail h.request h.state sys
-    → sys.channels c channel.A ≡ x ∷ queue → IsArrival config h sys c x queue
-arrival-first {w} config log h sys c x queue width is beats = go (h.state.link c).a refl
+    → sys.channels c Channel.A ≡ x ∷ queue → IsArrival config h sys c x queue
+arrival-first {w} {config} {log} h {sys} c x queue width is beats = go (h.state.link c).a refl
   where
     Here : List Packet → Type 0
-    Here xs = IsCarried (unfinished channel.A (on_link c sys.manager.trace)) (map (message_of h.mail h.state c) xs)
-        (sys.channels c channel.A)
+    Here xs = IsCarried (unfinished Channel.A (on_link c sys.manager.trace)) (map (message_of h.mail h.state c) xs)
+        (sys.channels c Channel.A)
 
     nothing : (y : Beat w) (ys : List (Beat w)) → [] ≡ y ∷ ys → ⊥
     nothing y ys e = cc
 
-    apart : (k : Kind) (i : ℕ) (rest : List Packet) → (h.state.link c).a ≡ packet k i ∷ rest → is_on channel.A k ≡ false
+    apart : (k : Kind) (i : ℕ) (rest : List Packet) → (h.state.link c).a ≡ packet k i ∷ rest → is_on Channel.A k ≡ false
         → ⊥
-    apart k i rest e off = first_counts (packet k i) rest (rw e at (is.invariant.own_kinds c channel.A k i off))
+    apart k i rest e off = first_counts (packet k i) rest (rw e at (is.invariant.own_kinds c Channel.A k i off))
 
     arrived : (k : Kind) (i : ℕ) (rest : List Packet) (m : MessageA w) → IsOnLink config h sys c k i rest m
         → IsArrival config h sys c x queue
@@ -187,18 +162,17 @@ arrival-first {w} config log h sys c x queue width is beats = go (h.state.link c
       rest = rest;
       request = m;
       is_it = on;
-      next = front-of config log h.mail h.request h.state sys c (packet k i) rest m x queue width is on.tokens
-          on.renders beats;
+      next = front-of c (packet k i) rest m x queue width is on.tokens on.renders beats;
     }
 
     of_kind : (k : Kind) (i : ℕ) (rest : List Packet) → (h.state.link c).a ≡ packet k i ∷ rest
         → IsArrival config h sys c x queue
     of_kind Request i rest e =
-        let asked = asked-first config log h.mail h.request h.state sys c i rest is e in
-        arrived Request i rest asked.request (on_link-access config log h sys c i rest is e asked)
+        let asked = asked-first c i rest is e in
+        arrived Request i rest asked.request (on_link-access h rest is e asked)
     of_kind Acquire i rest e =
-        let wanted = wanted-first config log h.mail h.request h.state sys c i rest is e in
-        arrived Acquire i rest (acquire_wanted c i h.state wanted) (on_link-acquire config log h sys c i rest width is e
+        let wanted = wanted-first c i rest is e in
+        arrived Acquire i rest (acquire_wanted c i h.state wanted) (on_link-acquire h rest width is e
         wanted)
     of_kind Probe i rest e = absurd (apart Probe i rest e refl)
     of_kind ProbeAck i rest e = absurd (apart ProbeAck i rest e refl)
@@ -209,22 +183,21 @@ arrival-first {w} config log h sys c x queue width is beats = go (h.state.link c
     of_kind GrantAck i rest e = absurd (apart GrantAck i rest e refl)
 
     go : (xs : List Packet) → (h.state.link c).a ≡ xs → IsArrival config h sys c x queue
-    go [] e = let none : Here [] = rw e at (is.carried c channel.A) in absurd (nothing x queue (sym none.1 ∙ beats))
+    go [] e = let none : Here [] = rw e at (is.carried c Channel.A) in absurd (nothing x queue (sym none.1 ∙ beats))
     go (y ∷ ys) e = of_kind y.kind y.number ys e
 
 -- ---- it is taken, or has to wait
 
-pub coming-arrival : {w : ℕ} (config : Config) (log : Log w) (h : AbstractState w) (sys : System w) (c : ℕ) (x : Beat w)
-    (queue : List (Beat w)) → IsWidth w
-    → SimulationRelation config log h.mail h.request h.state sys
-    → sys.channels c channel.A ≡ x ∷ queue → (arrives : IsArrival config h sys c x queue)
-    → must_wait config (link_of c) x sys.manager.trace ≡ false
-    → IsComing config c arrives.next.k arrives.request sys.manager
-coming-arrival {w} config log h sys c x queue width is beats arrives moves =
+pub coming-arrival : {w : ℕ} {config : Config} {log : Log w} {h : AbstractState w} {sys : System w} {c : ℕ} {x : Beat w}
+    {queue : List (Beat w)} → IsWidth w → SimulationRelation config log h.mail h.request h.state sys
+    → sys.channels c Channel.A ≡ x ∷ queue → (arrives : IsArrival config h sys c x queue)
+    → must_wait config (link_of c) x sys.manager.trace ≡ false → IsComing config c arrives.next.k arrives.request
+    sys.manager
+coming-arrival {w} {config} {log} {h} {sys} {c} {queue} width is beats arrives moves =
     let y = a_beat_of arrives.request arrives.next.k in
-    let first = first-beat config log h.mail h.request h.state sys c y queue is
+    let first = first-beat c y queue is
     (beats ∙ ap (λ (z : Beat w). z ∷ queue) arrives.next.beat_is) in
-    let moves_so : must_wait config (link_of c) (beat.A y) sys.manager.trace ≡ false =
+    let moves_so : must_wait config (link_of c) (Beat.A y) sys.manager.trace ≡ false =
     rw arrives.next.beat_is at moves in
     record {
       width = width;
@@ -233,37 +206,36 @@ coming-arrival {w} config log h sys c x queue width is beats arrives moves =
       burst = arrives.next.rest_is;
       typed = first.typed;
       blank = arrives.is_it.blank;
-      passes = passes-first config c y sys is.all_live first (arrives.is_it.order arrives.next.k arrives.next.within
+      passes = passes-first is.all_live first (arrives.is_it.order arrives.next.k arrives.next.within
           arrives.next.rest_is moves_so) moves_so;
     }
 
 -- a beat that is delivered on channel A and needn't wait is taken
-pub request-taken : {w : ℕ} (config : Config) (log : Log w) (h : AbstractState w) (sys : System w) (c : ℕ) (x : Beat w)
-    (queue : List (Beat w)) → IsWidth w → SimulationRelation config log h.mail h.request h.state sys
-    → sys.channels c channel.A ≡ x ∷ queue → (arrives : IsArrival config h sys c x queue)
-    → must_wait config (link_of c) x sys.manager.trace ≡ false
-    → offered config (link_of c) channel.A x sys.manager
+pub request-taken : {w : ℕ} {config : Config} {log : Log w} {h : AbstractState w} {sys : System w} {c : ℕ} {x : Beat w}
+    {queue : List (Beat w)} → IsWidth w → SimulationRelation config log h.mail h.request h.state sys
+    → sys.channels c Channel.A ≡ x ∷ queue → (arrives : IsArrival config h sys c x queue)
+    → must_wait config (link_of c) x sys.manager.trace ≡ false → offered config (link_of c) Channel.A x sys.manager
     ≡ (
       manager.Sent (reaction config (link_of c) x sys.manager).handed,
       end_after config c arrives.next.k
           arrives.request sys.manager,
     )
-request-taken {w} config log h sys c x queue width is beats arrives moves =
-    let comes = coming-arrival config log h sys c x queue width is beats arrives moves in
-    rw arrives.next.beat_is (offered-taken config (link_of c) channel.A
-    (beat.A (a_beat_of arrives.request arrives.next.k)) sys.manager comes.passes)
+request-taken {w} {config} {log} {h} {sys} {c} {x} {queue} width is beats arrives moves =
+    let comes = coming-arrival width is beats arrives moves in
+    rw arrives.next.beat_is (offered-taken config (link_of c) Channel.A
+    (Beat.A (a_beat_of arrives.request arrives.next.k)) sys.manager comes.passes)
 
 -- and one that has to wait is stalled, and not refused
-pub request-stalled : {w : ℕ} (config : Config) (log : Log w) (h : AbstractState w) (sys : System w) (c : ℕ)
-    (x : Beat w) (queue : List (Beat w)) → SimulationRelation config log h.mail h.request h.state sys
-    → sys.channels c channel.A ≡ x ∷ queue → (arrives : IsArrival config h sys c x queue)
+pub request-stalled : {w : ℕ} {config : Config} {log : Log w} {h : AbstractState w} {sys : System w} {c : ℕ}
+    {x : Beat w} {queue : List (Beat w)} → SimulationRelation config log h.mail h.request h.state sys
+    → sys.channels c Channel.A ≡ x ∷ queue → (arrives : IsArrival config h sys c x queue)
     → must_wait config (link_of c) x sys.manager.trace ≡ true
-    → offered config (link_of c) channel.A x sys.manager ≡ (manager.Stalled, sys.manager)
-request-stalled {w} config log h sys c x queue is beats arrives waits =
+    → offered config (link_of c) Channel.A x sys.manager ≡ (manager.Stalled, sys.manager)
+request-stalled {w} {config} {log} {h} {sys} {c} {queue} is beats arrives waits =
     let y = a_beat_of arrives.request arrives.next.k in
-    let first = first-beat config log h.mail h.request h.state sys c y queue is
+    let first = first-beat c y queue is
     (beats ∙ ap (λ (z : Beat w). z ∷ queue) arrives.next.beat_is) in
-    let waits_so : must_wait config (link_of c) (beat.A y) sys.manager.trace ≡ true =
+    let waits_so : must_wait config (link_of c) (Beat.A y) sys.manager.trace ≡ true =
     rw arrives.next.beat_is at waits in
-    rw arrives.next.beat_is (offered-stalled config (link_of c) channel.A (beat.A y) sys.manager
-    (waits-first config c y sys is.all_live first (arrives.is_it.early arrives.next.k arrives.next.rest_is) waits_so))
+    rw arrives.next.beat_is (offered-stalled config (link_of c) Channel.A (Beat.A y) sys.manager
+    (waits-first is.all_live first (arrives.is_it.early arrives.next.k arrives.next.rest_is) waits_so))

@@ -3,50 +3,42 @@ use Rattle.tl_coherence.proofs.deliveries.Imports.{IsWidth, Beat, Link, Channel,
 use Rattle.tl_coherence.proofs.deliveries.Imports.{EndConfig, must_wait, Event, Deliver, is_moving, AbstractState}
 use Rattle.tl_coherence.proofs.deliveries.Imports.{abstract_step, IsInvariant, Log, State, packet, is_on}
 use Rattle.tl_coherence.proofs.deliveries.Imports.{AccessMessages, Step, stepped, manager_took, System, terms_at, Kind}
-use Rattle.tl_coherence.proofs.deliveries.Imports.{Request, Acquire, Probe, ProbeAck, Release, Answer, Grant}
-use Rattle.tl_coherence.proofs.deliveries.Imports.{ReleaseAck, GrantAck, Packet, SimulationRelation, is_caching}
+use Rattle.tl_coherence.proofs.deliveries.Imports.{ProbeAck, Release, GrantAck, Packet, SimulationRelation, is_caching}
+use Rattle.tl_coherence.proofs.deliveries.Imports.{Message}
 use Rattle.std.proofs.Common.{◌≡◌, subst, ℕ, suc, ◌+◌, Bool, true, false, List, ◌∷◌, Option, Some, None, refl, sym, ◌∙◌}
 use Rattle.std.proofs.Common.{ap, arith}
 use Rattle.std.proofs.lemmas.Bool.{eqb-true}
-use Rattle.tl_beat.specs.declared.beat.Beat.TheVariants as beat
-use Rattle.tl_beat.specs.declared.channel.Channel.TheVariants as channel
-use Rattle.tl_burst.specs.declared.message.Message.TheVariants as message
 use Rattle.tl_manager.specs.statement.End as manager_end
 use Rattle.tl_manager.specs.statement.Offer as manager
-use Rattle.tl_coherence.proofs.client.ClientDelivered.{shadow_of}
+use Rattle.tl_coherence.proofs.{client.ClientDelivered.shadow_of, protocol.FollowKept.IsReady}
+use Rattle.tl_coherence.proofs.{queues.Steps.stepped-to-manager}
 use Rattle.tl_coherence.proofs.simulation.FollowCases.{IsDelivery, taken_of, followed-cases, on-first}
-use Rattle.tl_coherence.proofs.protocol.FollowKept.{IsReady}
 use Rattle.tl_coherence.proofs.simulation.InvariantAtClients.{invariant-asked, ready-client, nobody_moves}
 use Rattle.tl_coherence.proofs.deliveries.FirstRequest.{IsArrival, arrival-first, coming-arrival, request-stalled}
 use Rattle.tl_coherence.proofs.manager.UnwaitedRequests.{next_tracker, invariant-taken}
-use Rattle.tl_coherence.proofs.queues.Steps.{stepped-to-manager}
 
 -- ---- channel A
 
 -- a request that is moved needn't wait
-pub request-moves : {w : ℕ} (config : Config) (log : Log w) (mail : AccessMessages w) (request : ℕ → MessageA w)
-    (s : State (List ℕ)) (sys : System w) (link : Link) (x : Beat w) (queue : List (Beat w))
-    → SimulationRelation config log mail request s sys → is_moving (stepped config (Deliver link channel.A) sys).outcome
-    ≡ true
-    → sys.channels link.0 channel.A ≡ x ∷ queue → IsArrival config (shadow_of mail request s) sys link.0 x queue
+pub request-moves : {w : ℕ} {config : Config} {log : Log w} {mail : AccessMessages w} {request : ℕ → MessageA w}
+    {s : State (List ℕ)} {sys : System w} (link : Link) {x : Beat w} {queue : List (Beat w)}
+    → SimulationRelation config log mail request s sys → is_moving (stepped config (Deliver link Channel.A) sys).outcome
+    ≡ true → sys.channels link.0 Channel.A ≡ x ∷ queue → IsArrival config (shadow_of mail request s) sys link.0 x queue
     → must_wait config (record { 0 = link.0 }) x sys.manager.trace ≡ false
-request-moves {w} config log mail request s sys link x queue h moving beats arrives =
+request-moves {w} {config} {log} {mail} {request} {s} {sys} link {x} {queue} h moving beats arrives =
     go (must_wait config (record { 0 = link.0 }) x sys.manager.trace) refl
   where
     stands : (terms : EndConfig) → terms_at config link.0 ≡ Some terms
         → must_wait config (record { 0 = link.0 }) x sys.manager.trace ≡ true
-        → is_moving (stepped config (Deliver link channel.A) sys).outcome ≡ false
-    stands terms at waits =
-        ap (λ (i : Step w). is_moving i.outcome) (stepped-to-manager config link channel.A sys terms x queue at beats
-        refl)
-        ∙ ap (λ (a : manager.Reception w × manager_end.End w). is_moving
-        (manager_took link.0 channel.A x queue a sys).outcome)
-        (request-stalled config log (shadow_of mail request s) sys link.0 x queue h beats arrives waits)
+        → is_moving (stepped config (Deliver link Channel.A) sys).outcome ≡ false
+    stands terms at waits = ap (λ (i : Step w). is_moving i.outcome) (stepped-to-manager config link Channel.A sys terms
+        x queue at beats refl) ∙ ap (λ (a : manager.Reception w × manager_end.End w). is_moving
+        (manager_took link.0 Channel.A x queue a sys).outcome) (request-stalled h beats arrives waits)
 
     at_terms : (o : Option EndConfig) → terms_at config link.0 ≡ o
         → must_wait config (record { 0 = link.0 }) x sys.manager.trace ≡ true
-        → is_moving (stepped config (Deliver link channel.A) sys).outcome ≡ false
-    at_terms None at waits = nobody_moves config sys link channel.A at
+        → is_moving (stepped config (Deliver link Channel.A) sys).outcome ≡ false
+    at_terms None at waits = nobody_moves config sys link Channel.A at
     at_terms (Some terms) at waits = stands terms at waits
 
     go : (b : Bool) → must_wait config (record { 0 = link.0 }) x sys.manager.trace ≡ b → b ≡ false
@@ -56,102 +48,72 @@ request-moves {w} config log mail request s sys link x queue h moving beats arri
 head_is : (x y : Packet) (xs ys : List Packet) → x ∷ xs ≡ y ∷ ys → x ≡ y
 head_is x y xs ys e = cc
 
-ready-a : {w : ℕ} (config : Config) (log : Log w) (mail : AccessMessages w) (request : ℕ → MessageA w)
-    (s : State (List ℕ)) (sys : System w) (link : Link) (x : Beat w) (queue : List (Beat w)) → IsWidth w
-    → SimulationRelation config log mail request s sys → (d : IsDelivery config mail s sys link channel.A x queue)
+ready-a : {w : ℕ} {config : Config} {log : Log w} {mail : AccessMessages w} {request : ℕ → MessageA w}
+    {s : State (List ℕ)} {sys : System w} {link : Link} {x : Beat w} {queue : List (Beat w)} → IsWidth w
+    → SimulationRelation config log mail request s sys → (d : IsDelivery config mail s sys link Channel.A x queue)
     → IsReady (next_tracker sys) link.0 d.first.kind d.first.number (shadow_of mail request s)
-ready-a {w} config log mail request s sys link x queue width h d =
-    let arrives = arrival-first config log (shadow_of mail request s) sys link.0 x queue width h d.beats in
-    let moves = request-moves config log mail request s sys link x queue h d.moves d.beats arrives in
-    let comes = coming-arrival config log (shadow_of mail request s) sys link.0 x queue width h d.beats arrives moves in
-    let last : arrives.next.k + 1 ≡ beats_of (message.A arrives.request) =
-    eqb-true (arrives.next.k + 1) (beats_of (message.A arrives.request)) (sym arrives.next.completes_is ∙ d.whole)
-    in
-    let moves_so : must_wait config (record { 0 = link.0 }) (beat.A (a_beat_of arrives.request arrives.next.k))
-    sys.manager.trace ≡ false =
-    sym (ap (λ (y : Beat w). must_wait config (record { 0 = link.0 }) y sys.manager.trace) arrives.next.beat_is) ∙ moves
-    in
+ready-a {w} {config} {log} {mail} {request} {s} {sys} {link} {x} {queue} width h d =
+    let next_number : (k n : ℕ) → k + 1 ≡ n → n ≡ suc k = λ k n e. omega (arith, e) in
+    let arrives = arrival-first (shadow_of mail request s) link.0 x queue width h d.beats in
+    let moves = request-moves link h d.moves d.beats arrives in
+    let comes = coming-arrival width h d.beats arrives moves in
+    let last = eqb-true (arrives.next.k + 1) (beats_of (Message.A arrives.request)) (sym arrives.next.completes_is
+    ∙ d.whole) in
+    let moves_so : must_wait config (record { 0 = link.0 }) (Beat.A (a_beat_of arrives.request arrives.next.k))
+    sys.manager.trace ≡ false = cc (arrives.next.beat_is, moves) in
     subst (λ (y : Packet). IsReady (next_tracker sys) link.0 y.kind y.number (shadow_of mail request s))
     (head_is (packet arrives.kind arrives.number) (packet d.first.kind d.first.number) arrives.rest d.first.rest
     (sym arrives.is_it.tokens ∙ d.first.tokens))
-    (arrives.is_it.ready arrives.next.k comes (next_number arrives.next.k (beats_of (message.A arrives.request)) last)
+    (arrives.is_it.ready arrives.next.k comes (next_number arrives.next.k (beats_of (Message.A arrives.request)) last)
     moves_so)
-  where
-    next_number : (k n : ℕ) → k + 1 ≡ n → n ≡ suc k
-    next_number k n e = omega (arith, e)
 
 -- ---- channels C and E
 
 -- what comes on them needs nothing more to be taken
 abbrev is_up : Channel → Bool
-is_up channel.C = true
-is_up channel.E = true
+is_up Channel.C = true
+is_up Channel.E = true
 is_up _ = false
 
 ready_up : {w : ℕ} (tracker c : ℕ) (ch : Channel) (k : Kind) (i : ℕ) (h : AbstractState w) → is_up ch ≡ true
     → is_on ch k ≡ true → IsReady tracker c k i h
-ready_up tracker c channel.C ProbeAck i h up own = tt
-ready_up tracker c channel.C Release i h up own = tt
-ready_up tracker c channel.E GrantAck i h up own = tt
-ready_up tracker c channel.C Request i h up own = absurd cc
-ready_up tracker c channel.C Acquire i h up own = absurd cc
-ready_up tracker c channel.C Probe i h up own = absurd cc
-ready_up tracker c channel.C Answer i h up own = absurd cc
-ready_up tracker c channel.C Grant i h up own = absurd cc
-ready_up tracker c channel.C ReleaseAck i h up own = absurd cc
-ready_up tracker c channel.C GrantAck i h up own = absurd cc
-ready_up tracker c channel.E Request i h up own = absurd cc
-ready_up tracker c channel.E Acquire i h up own = absurd cc
-ready_up tracker c channel.E Probe i h up own = absurd cc
-ready_up tracker c channel.E ProbeAck i h up own = absurd cc
-ready_up tracker c channel.E Release i h up own = absurd cc
-ready_up tracker c channel.E Answer i h up own = absurd cc
-ready_up tracker c channel.E Grant i h up own = absurd cc
-ready_up tracker c channel.E ReleaseAck i h up own = absurd cc
-ready_up tracker c channel.A k i h up own = absurd cc
-ready_up tracker c channel.B k i h up own = absurd cc
-ready_up tracker c channel.D k i h up own = absurd cc
+ready_up tracker c Channel.C ProbeAck i h up own = tt
+ready_up tracker c Channel.C Release i h up own = tt
+ready_up tracker c Channel.E GrantAck i h up own = tt
+ready_up tracker c ch k i h up own = absurd cc
 
 -- ---- every event
 
 -- what is taken with the last beat of a message may be taken
 pub ready-delivered : {w : ℕ} (config : Config) (log : Log w) (mail : AccessMessages w) (request : ℕ → MessageA w)
-    (s : State (List ℕ)) (sys : System w) (link : Link)
-    (ch : Channel) (x : Beat w) (queue : List (Beat w)) → IsWidth w
+    (s : State (List ℕ)) (sys : System w) (link : Link) (ch : Channel) (x : Beat w) (queue : List (Beat w)) → IsWidth w
     → SimulationRelation config log mail request s sys → (d : IsDelivery config mail s sys link ch x queue)
     → IsReady (next_tracker sys) link.0 d.first.kind d.first.number (shadow_of mail request s)
-ready-delivered config log mail request s sys link channel.A x queue width h d =
-    ready-a config log mail request s sys link x queue width h d
-ready-delivered config log mail request s sys link channel.B x queue width h d =
-    ready-client config log mail request s sys link channel.B d.first.kind d.first.number d.first.rest x queue width h
-    refl d.first.own d.moves d.beats
+ready-delivered config log mail request s sys link Channel.A x queue width h d = ready-a width h d
+ready-delivered config log mail request s sys link Channel.B x queue width h d =
+    ready-client link Channel.B d.first.kind d.first.number d.first.rest width h refl d.first.own d.moves d.beats
     d.first.tokens d.first.next
-ready-delivered config log mail request s sys link channel.C x queue width h d =
-    ready_up (next_tracker sys) link.0 channel.C d.first.kind d.first.number (shadow_of mail request s) refl d.first.own
-ready-delivered config log mail request s sys link channel.D x queue width h d =
-    ready-client config log mail request s sys link channel.D d.first.kind d.first.number d.first.rest x queue width h
-    refl d.first.own d.moves d.beats
+ready-delivered config log mail request s sys link Channel.C x queue width h d =
+    ready_up (next_tracker sys) link.0 Channel.C d.first.kind d.first.number (shadow_of mail request s) refl d.first.own
+ready-delivered config log mail request s sys link Channel.D x queue width h d =
+    ready-client link Channel.D d.first.kind d.first.number d.first.rest width h refl d.first.own d.moves d.beats
     d.first.tokens d.first.next
-ready-delivered config log mail request s sys link channel.E x queue width h d =
-    ready_up (next_tracker sys) link.0 channel.E d.first.kind d.first.number (shadow_of mail request s) refl d.first.own
+ready-delivered config log mail request s sys link Channel.E x queue width h d =
+    ready_up (next_tracker sys) link.0 Channel.E d.first.kind d.first.number (shadow_of mail request s) refl d.first.own
 
-invariant-delivered : {w : ℕ} (config : Config) (log : Log w) (mail : AccessMessages w) (request : ℕ → MessageA w)
-    (s : State (List ℕ)) (sys : System w) (link : Link)
-    (ch : Channel) (x : Beat w) (queue : List (Beat w)) → IsWidth w
+invariant-delivered : {w : ℕ} {config : Config} {log : Log w} {mail : AccessMessages w} {request : ℕ → MessageA w}
+    {s : State (List ℕ)} {sys : System w} {link : Link} {ch : Channel} {x : Beat w} {queue : List (Beat w)} → IsWidth w
     → SimulationRelation config log mail request s sys → (d : IsDelivery config mail s sys link ch x queue)
     → IsInvariant (is_caching config) (taken_of config mail request s sys link.0 d.first.kind d.first.number
     d.first.rest).state
-invariant-delivered config log mail request s sys link ch x queue width h d =
+invariant-delivered {config} {log} {mail} {request} {s} {sys} {link} {ch} {x} {queue} width h d =
     invariant-taken config log (shadow_of mail request s) sys link.0 d.first.kind d.first.number d.first.rest h
-    (on-first config mail s sys link ch x queue d)
-    (ready-delivered config log mail request s sys link ch x queue width h d)
+    (on-first d) (ready-delivered config log mail request s sys link ch x queue width h d)
 
-pub invariant-followed : {w : ℕ} (config : Config) (log : Log w) (mail : AccessMessages w) (request : ℕ → MessageA w)
-    (s : State (List ℕ)) (sys : System w)
+pub invariant-followed : {w : ℕ} {config : Config} {log : Log w} {mail : AccessMessages w} {request : ℕ → MessageA w}
+    {s : State (List ℕ)} {sys : System w}
     (event : Event w) → IsWidth w → SimulationRelation config log mail request s sys
     → IsInvariant (is_caching config) (abstract_step config event sys (shadow_of mail request s)).state
-invariant-followed {w} config log mail request s sys event width h =
-    followed-cases config log mail request s sys event (λ (i : AbstractState w). IsInvariant (is_caching config)
-    i.state) width h h.invariant
-    (λ terms c o at. invariant-asked config log mail request s sys terms c o h at)
-    (λ link ch x queue d. invariant-delivered config log mail request s sys link ch x queue width h d)
+invariant-followed {w} {config} {log} {mail} {request} {s} {sys} event width h =
+    followed-cases event (λ (i : AbstractState w). IsInvariant (is_caching config) i.state) width h h.invariant
+    (λ terms c o at. invariant-asked terms c o h at) (λ link ch x queue d. invariant-delivered width h d)

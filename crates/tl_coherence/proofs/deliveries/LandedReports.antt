@@ -5,88 +5,67 @@ use Rattle.tl_coherence.proofs.deliveries.Imports.{same_perm, beat_of, unfinishe
 use Rattle.tl_coherence.proofs.deliveries.Imports.{reaction, End, Deliver, Log, ChannelRelation, receiver, Step}
 use Rattle.tl_coherence.proofs.deliveries.Imports.{handing, is_to_client, stepped, System, terms_at, with_channel}
 use Rattle.tl_coherence.proofs.deliveries.Imports.{with_manager, with_messages, channel_of_message, SimulationRelation}
-use Rattle.tl_coherence.proofs.deliveries.Imports.{IsWidth, Beat, Channel, Message, MessageA, Config, Cap}
-use Rattle.tl_coherence.proofs.deliveries.Imports.{Report, Perm, prune_left, AbstractState}
-use Rattle.tl_coherence.proofs.deliveries.Imports.{IsWell, ClientBlock, ProbeAnswered}
-use Rattle.tl_coherence.proofs.deliveries.Imports.{Waits, Block}
-use Rattle.tl_coherence.proofs.deliveries.Imports.{shown, view, GrantSent}
-use Rattle.tl_coherence.proofs.deliveries.Imports.{prune_told, block_message}
-use Rattle.tl_coherence.proofs.deliveries.Imports.{Kind, Request, Acquire, Probe, ProbeAck, Release}
-use Rattle.tl_coherence.proofs.deliveries.Imports.{Answer, Grant, ReleaseAck, GrantAck}
-use Rattle.tl_burst.specs.declared.message.Message.TheVariants as message
+use Rattle.tl_coherence.proofs.deliveries.Imports.{IsWidth, Beat, Channel, Message, MessageA, Config, Cap, Report, Perm}
+use Rattle.tl_coherence.proofs.deliveries.Imports.{prune_left, AbstractState, IsWell, ClientBlock, ProbeAnswered, Waits}
+use Rattle.tl_coherence.proofs.deliveries.Imports.{Block, shown, view, GrantSent, prune_told, block_message, Kind}
+use Rattle.tl_coherence.proofs.deliveries.Imports.{ProbeAck, Release, Answer, Grant, ReleaseAck}
 use Rattle.tl_burst.specs.declared.message.MessageC.{MessageC}
-use Rattle.tl_manager.specs.statement.Handing.{access_answer}
+use Rattle.tl_manager.{specs.statement.Handing.access_answer, specs.statement.Holders.cap_probed}
 use Rattle.tl_manager.specs.code.Kept as manager
-use Rattle.tl_coherence.specs.declared.event.Outcome.TheVariants as outcome
+use Rattle.tl_coherence.specs.{declared.event.Outcome.Outcome, refinement.AbstractStep.performs}
+use Rattle.tl_coherence.specs.{protocol.Phase.is_unprobed, statement.Permissions.perm_le}
+use Rattle.tl_coherence.specs.{protocol.PhaseSteps.after_report, protocol.Protocol.ended_block}
 use Rattle.tl_coherence.proofs.queues.Channels.{behind, IsTaken, pushes_at}
 use Rattle.tl_coherence.proofs.queues.Landed.{HasTaken, IsLanded, IsOn, landed-manager, channels-handed, pushes_of}
 use Rattle.tl_coherence.proofs.queues.Landed.{taken-landed}
-use Rattle.tl_coherence.proofs.manager.ManagerAfter.{left}
-use Rattle.tl_coherence.proofs.deliveries.LastReportDelivered.{pushed}
+use Rattle.tl_coherence.proofs.{manager.ManagerAfter.left, deliveries.LastReportDelivered.pushed}
+use Rattle.tl_coherence.proofs.{manager.ManagerTakes.IsTakenUp, simulation.Moved.carried-part}
+use Rattle.tl_coherence.proofs.{simulation.Moved.manager-heard, queues.Facts.reported_within}
+use Rattle.tl_coherence.proofs.{queues.Facts.spared_within, protocol.RequestsKept.leaves-bytes, queues.Showing.carries}
+use Rattle.tl_coherence.proofs.{queues.Showing.none-carried, protocol.BothParts.quiet-is, manager.Admitted.head_all}
 use Rattle.tl_coherence.proofs.deliveries.ManagerFollowed.{client-of, step-taken}
-use Rattle.tl_coherence.proofs.manager.ManagerTakes.{IsTakenUp}
-use Rattle.tl_coherence.proofs.simulation.Moved.{carried-part, manager-heard}
 use Rattle.std.proofs.Common.{◌≡◌, ℕ, Bool, true, false, List, [], ◌∷◌, Option, Some, None, length, refl, sym, ◌∙◌, ap}
 use Rattle.std.proofs.Common.{subst, ◌⊎◌, inl, inr}
-use Rattle.std.proofs.lemmas.Bool.{cases_eq}
-use Rattle.std.proofs.Math.Bool.{or-true}
-use Rattle.std.proofs.lemmas.Option.{same_Some}
-use Rattle.tl_beat.specs.declared.channel.Channel.TheVariants as channel
-use Rattle.tl_params.specs.declared.param.Cap.TheVariants as cap
-use Rattle.tl_params.specs.declared.perm.Perm.TheVariants as perm
+use Rattle.std.{proofs.lemmas.Bool.cases_eq, proofs.Math.Bool.or-true, proofs.lemmas.Option.same_Some}
 use Rattle.tl_params.specs.statement.Param.{report_right}
 use Rattle.tl_rules.specs.statement.History.{is_acquire}
-use Rattle.tl_manager.specs.statement.Holders.{cap_probed}
-use Rattle.tl_coherence.specs.refinement.AbstractStep.{performs}
-use Rattle.tl_coherence.specs.protocol.Phase.{is_unprobed}
-use Rattle.tl_coherence.specs.statement.Permissions.{perm_le}
-use Rattle.tl_coherence.specs.protocol.PhaseSteps.{after_report}
-use Rattle.tl_coherence.specs.protocol.Protocol.{ended_block}
-use Rattle.tl_coherence.proofs.queues.Facts.{reported_within, spared_within}
-use Rattle.tl_coherence.proofs.protocol.RequestsKept.{leaves-bytes}
-use Rattle.tl_coherence.proofs.queues.Showing.{carries, none-carried}
 use Rattle.tl_coherence.proofs.queues.Tokens.{set-same, set-other, set-part}
-use Rattle.tl_coherence.proofs.protocol.BothParts.{quiet-is}
-use Rattle.tl_coherence.proofs.manager.Admitted.{head_all}
 
 -- ---- an access that ends leaves the bytes on their way, or there are none
 
-least : (p : Perm) → perm_le p perm.None ≡ true → same_perm p perm.None ≡ true
-least perm.None e = refl
-least perm.Branch e = absurd cc
-least perm.Trunk e = absurd cc
+least : (p : Perm) → perm_le p Perm.None ≡ true → same_perm p Perm.None ≡ true
+least Perm.None e = refl
+least p e = absurd cc
 
 -- a service that probes toN, with its last ProbeAck: nobody is recorded then
-unrecorded : (caching : ℕ → Bool) (c q source : ℕ) (r : Report) (f : List ℕ → List ℕ) (b : Block (List ℕ))
-    → IsWell caching b
-    → b.service ≡ Waits q false source cap.ToN → (b.pair c).probing ≡ ProbeAnswered r
+unrecorded : {caching : ℕ → Bool} (c q source : ℕ) (r : Report) (f : List ℕ → List ℕ) {b : Block (List ℕ)}
+    → IsWell caching b → b.service ≡ Waits q false source Cap.ToN → (b.pair c).probing ≡ ProbeAnswered r
     → ((d : ℕ) → (d ≡ c → ⊥) → is_unprobed (b.pair d).probing ≡ true) → (d : ℕ)
-    → same_perm ((ended_block c r f b).pair d).recorded perm.None ≡ true
-unrecorded caching c q source r f b well waits answered settled d = elim (cases_eq d c) [
+    → same_perm ((ended_block c r f b).pair d).recorded Perm.None ≡ true
+unrecorded c q source r f {b} well waits answered settled d = elim (cases_eq d c) [
   | inl same ↦
       rw (same, set-same c (after_report r (b.pair c)) b.pair)
-      (least (report_right r) (reported_within cap.ToN r (b.pair c) (view b.service c) (well.phases c)
+      (least (report_right r) (reported_within Cap.ToN r (b.pair c) (view b.service c) (well.phases c)
       (rw waits refl) answered))
   | inr other ↦
       rw (set-other c d (after_report r (b.pair c)) b.pair other)
-      (least (b.pair d).recorded (spared_within cap.ToN (b.pair d) (view b.service d) (well.phases d) (rw waits refl)
+      (least (b.pair d).recorded (spared_within Cap.ToN (b.pair d) (view b.service d) (well.phases d) (rw waits refl)
       (quiet-is (b.pair d).probing (settled d other))))
 ]
 
 pub ended-bytes : {w : ℕ} (caching : ℕ → Bool) (c q source : ℕ) (r : Report) (k : Cap) (m : MessageA w)
-    (b : Block (List ℕ)) → IsWell caching b
-    → IsWell caching (ended_block c r (performs m) b) → b.service ≡ Waits q false source k
-    → (b.pair c).probing ≡ ProbeAnswered r → ((d : ℕ) → (d ≡ c → ⊥) → is_unprobed (b.pair d).probing ≡ true)
-    → is_acquire m.opcode ≡ false → cap_probed m.opcode m.param ≡ Some k → length b.truth ≡ 64
-    → (j : Kind) (i : ℕ) → shown j i b ≡ true → shown j i (ended_block c r (performs m) b) ≡ true
-    → (carries j i b ≡ false) ⊎ (performs m b.truth ≡ b.truth)
+    (b : Block (List ℕ)) → IsWell caching b → IsWell caching (ended_block c r (performs m) b)
+    → b.service ≡ Waits q false source k → (b.pair c).probing ≡ ProbeAnswered r
+    → ((d : ℕ) → (d ≡ c → ⊥) → is_unprobed (b.pair d).probing ≡ true) → is_acquire m.opcode ≡ false
+    → cap_probed m.opcode m.param ≡ Some k → length b.truth ≡ 64 → (j : Kind) (i : ℕ) → shown j i b ≡ true
+    → shown j i (ended_block c r (performs m) b) ≡ true → (carries j i b ≡ false) ⊎ (performs m b.truth ≡ b.truth)
 ended-bytes {w} caching c q source r k m b before after waits answered settled access low long j i shown_now
     shown_after = elim (leaves-bytes m b.truth access long) [
       | inl same ↦ inr same
       | inr all ↦ inl (kept j shown_after ∙ none-carried caching new after
-          (λ d. rw (unrecorded caching c q source r (performs m) b before
-          (rw (same_Some k cap.ToN (sym low ∙ all)) at waits) answered settled d)
-          (or-true (same_perm (new.pair d).held perm.Trunk))) j i)
+          (λ d. rw (unrecorded c q source r (performs m) before
+          (rw (same_Some k Cap.ToN (sym low ∙ all)) at waits) answered settled d)
+          (or-true (same_perm (new.pair d).held Perm.Trunk))) j i)
     ]
   where
     new : Block (List ℕ)
@@ -99,15 +78,10 @@ ended-bytes {w} caching c q source r k m b before after waits answered settled a
           cc)
       | inr other ↦ rw (set-other c i (after_report r (b.pair c)) b.pair other) refl
     ]
-    kept Release e = sym (set-part (λ (p : ClientBlock). same_perm (prune_left (prune_told p.letting)) perm.Trunk) c
+    kept Release e = sym (set-part (λ (p : ClientBlock). same_perm (prune_left (prune_told p.letting)) Perm.Trunk) c
         (after_report r (b.pair c)) b.pair refl i)
     kept Grant e = rw waits refl
-    kept Request e = refl
-    kept Acquire e = refl
-    kept Probe e = refl
-    kept Answer e = refl
-    kept ReleaseAck e = refl
-    kept GrantAck e = refl
+    kept x e = refl
 
 -- ---- the whole after a beat was taken
 
@@ -120,44 +94,32 @@ no-messages : {w : ℕ} (s : System w) (d : ℕ) (at : Channel)
 unfolding with_messages
 no-messages s d at = refl
 
-pub landed-taken : {w : ℕ} (config : Config) (c : ℕ) (ch : Channel) (x : Beat w) (queue : List (Beat w))
-    (sys : System w) (t : EndConfig) (handed : Handed w)
-    (pushes : ℕ → Channel → Option (Message w)) → IsWidth w → manager.IsKept config sys.manager
-    → manager.IsTyped x → is_to_client ch ≡ false → IsOn ch x → terms_at config c ≡ Some t
-    → sys.channels c ch ≡ x ∷ queue → IsTakenUp config c ch x sys.manager
+pub landed-taken : {w : ℕ} {config : Config} {c : ℕ} {ch : Channel} {x : Beat w} (queue : List (Beat w))
+    (sys : System w) (t : EndConfig) (handed : Handed w) (pushes : ℕ → Channel → Option (Message w)) → IsWidth w
+    → manager.IsKept config sys.manager → manager.IsTyped x → is_to_client ch ≡ false → IsOn ch x
+    → terms_at config c ≡ Some t → sys.channels c ch ≡ x ∷ queue → IsTakenUp config c ch x sys.manager
     → (reaction config (record { 0 = c }) x sys.manager).handed ≡ handed
     → ((s : System w) (d : ℕ) (at : Channel) → (with_messages handed s).channels d at ≡ behind (pushes d at)
-    (s.channels d at))
-    → IsLanded c ch x queue pushes sys (stepped config (Deliver (record { 0 = c }) ch) sys).after
-landed-taken {w} config c ch x queue sys t handed pushes width kept typed down on_ch terms beats up is pushed =
+    (s.channels d at)) → IsLanded c ch x queue pushes sys (stepped config (Deliver (record { 0 = c }) ch) sys).after
+landed-taken {w} {config} {c} {ch} {x} queue sys t handed pushes width kept typed down on_ch terms beats up is pushed =
+    let e : End w = left c x (reaction config (record { 0 = c }) x sys.manager) sys.manager in
+    let base : System w = with_manager e (with_channel c ch queue sys) in
+    let step = step-taken config c ch x queue sys t terms beats down up in
+    let heard : HasTaken c x sys.manager e = manager-heard config (record { 0 = c }) ch x queue sys
+    (stepped config (Deliver (record { 0 = c }) ch) sys) width typed kept
+    (record { takes = up.answer; step_is = step }) in
     subst (λ (i : Step w). IsLanded c ch x queue pushes sys i.after)
-    (sym (step ∙ ap (λ (i : Handed w). handing (outcome.Moved x) i base) is))
+    (sym (step ∙ ap (λ (i : Handed w). handing (Outcome.Moved x) i base) is))
     (landed-manager c ch x queue pushes handed e sys down beats on_ch heard (pushed base))
-  where
-    e : End w
-    e = left c x (reaction config (record { 0 = c }) x sys.manager) sys.manager
-
-    base : System w
-    base = with_manager e (with_channel c ch queue sys)
-
-    step : stepped config (Deliver (record { 0 = c }) ch) sys ≡ handing (outcome.Moved x)
-        (reaction config (record { 0 = c }) x sys.manager).handed base
-    step = step-taken config c ch x queue sys t terms beats down up
-
-    heard : HasTaken c x sys.manager e
-    heard = manager-heard config (record { 0 = c }) ch x queue sys (stepped config (Deliver (record { 0 = c }) ch) sys)
-        width typed kept (record { takes = up.answer; step_is = step })
 
 -- a beat of channel C, or of channel E, is of that channel
-pub on_c : {w : ℕ} (m : MessageC w) (k : ℕ) → IsOn channel.C (beat_of (message.C m) k)
-on_c m k channel.A = refl
-on_c m k channel.B = refl
-on_c m k channel.C = refl
-on_c m k channel.D = refl
-on_c m k channel.E = refl
+pub on_c : {w : ℕ} (m : MessageC w) (k : ℕ) → IsOn Channel.C (beat_of (Message.C m) k)
+on_c m k Channel.A = refl
+on_c m k _ = refl
 
 -- what holds before a delivery to the manager
-pub record IsReceived {w : ℕ} (config : Config) (log : Log w) (h : AbstractState w) (sys : System w) (c : ℕ) (ch : Channel)
+pub record IsReceived {w : ℕ} (config : Config) (log : Log w) (h : AbstractState w) (sys : System w) (c : ℕ)
+    (ch : Channel)
     (x : Beat w) (queue : List (Beat w)) : Type 0 where
   pub width : IsWidth w
   pub is : SimulationRelation config log h.mail h.request h.state sys
@@ -166,16 +128,14 @@ pub record IsReceived {w : ℕ} (config : Config) (log : Log w) (h : AbstractSta
   pub on_ch : IsOn ch x
   pub up : IsTakenUp config c ch x sys.manager
 
-landed-received : {w : ℕ} (config : Config) (log : Log w) (h : AbstractState w) (sys : System w) (c : ℕ) (ch : Channel)
-    (x : Beat w) (queue : List (Beat w))
-    (handed : Handed w) (pushes : ℕ → Channel → Option (Message w)) → IsReceived config log h sys c ch x queue
-    → (reaction config (record { 0 = c }) x sys.manager).handed ≡ handed
+landed-received : {w : ℕ} {config : Config} {log : Log w} {h : AbstractState w} {sys : System w} {c : ℕ} {ch : Channel}
+    {x : Beat w} {queue : List (Beat w)} (handed : Handed w) (pushes : ℕ → Channel → Option (Message w))
+    → IsReceived config log h sys c ch x queue → (reaction config (record { 0 = c }) x sys.manager).handed ≡ handed
     → ((s : System w) (d : ℕ) (at : Channel) → (with_messages handed s).channels d at ≡ behind (pushes d at)
-    (s.channels d at))
-    → IsLanded c ch x queue pushes sys (stepped config (Deliver (record { 0 = c }) ch) sys).after
-landed-received {w} config log h sys c ch x queue handed pushes at is pushed =
+    (s.channels d at)) → IsLanded c ch x queue pushes sys (stepped config (Deliver (record { 0 = c }) ch) sys).after
+landed-received {w} {config} {sys} {c} {ch} {x} {queue} handed pushes at is pushed =
     let t = client-of config c ch x queue sys at.beats (at.is.sound c ch) in
-    landed-taken config c ch x queue sys t.0 handed pushes at.width at.is.manager_kept
+    landed-taken queue sys t.0 handed pushes at.width at.is.manager_kept
     (head_all (λ y. manager.IsSound config (record { 0 = c }, y)) x queue (sys.channels c ch) at.beats
     (at.is.sound c ch)).typed at.down at.on_ch t.1
     at.beats at.up is pushed
@@ -186,52 +146,44 @@ CarriesAfter config c ch sys h =
     ChannelRelation h.mail h.state (stepped config (Deliver (record { 0 = c }) ch) sys).after
 
 -- a beat that isn't the last of its message
-pub part-carried : {w : ℕ} (config : Config) (log : Log w) (h : AbstractState w) (sys : System w) (c : ℕ) (ch : Channel)
-    (x : Beat w) (queue : List (Beat w))
+pub part-carried : {w : ℕ} {config : Config} {log : Log w} {h : AbstractState w} {sys : System w} {c : ℕ} {ch : Channel}
+    {x : Beat w} {queue : List (Beat w)}
     → IsReceived config log h sys c ch x queue → (reaction config (record { 0 = c }) x sys.manager).handed ≡ []
     → completes x (unfinished ch (receiver ch c sys)) ≡ false → CarriesAfter config c ch sys h
-part-carried config log h sys c ch x queue at none part =
-    carried-part h.mail h.state c ch x queue no_pushes sys (stepped config (Deliver (record { 0 = c }) ch) sys).after
-    at.width
-    (landed-received config log h sys c ch x queue [] no_pushes at none no-messages) (λ d i. refl) part at.is.carried
+part-carried {config} {log} {h} {sys} {c} {ch} {x} {queue} at none part =
+    carried-part h.mail h.state at.width (landed-received [] no_pushes at none no-messages) (λ d i. refl) part
+    at.is.carried
 
 -- its last beat, for which one message is handed out, or none
-pub last-quietly : {w : ℕ} (config : Config) (log : Log w) (h : AbstractState w) (sys : System w) (c : ℕ) (ch : Channel)
-    (x : Beat w) (queue : List (Beat w))
-    → IsReceived config log h sys c ch x queue → (reaction config (record { 0 = c }) x sys.manager).handed ≡ []
-    → completes x (unfinished ch (receiver ch c sys)) ≡ true
-    → IsTaken c ch x queue no_pushes sys (stepped config (Deliver (record { 0 = c }) ch) sys).after
-last-quietly config log h sys c ch x queue at none last =
-    taken-landed c ch x queue no_pushes sys (stepped config (Deliver (record { 0 = c }) ch) sys).after
-    (landed-received config log h sys c ch x queue [] no_pushes at none no-messages) last
+pub last-quietly : {w : ℕ} {config : Config} {log : Log w} {h : AbstractState w} {sys : System w} {c : ℕ} {ch : Channel}
+    {x : Beat w} {queue : List (Beat w)} → IsReceived config log h sys c ch x queue
+    → (reaction config (record { 0 = c }) x sys.manager).handed ≡ [] → completes x (unfinished ch (receiver ch c sys))
+    ≡ true → IsTaken c ch x queue no_pushes sys (stepped config (Deliver (record { 0 = c }) ch) sys).after
+last-quietly {config} {log} {h} {sys} {c} {ch} {x} {queue} at none last =
+    taken-landed (landed-received [] no_pushes at none no-messages) last
 
-pub last-handing : {w : ℕ} (config : Config) (log : Log w) (h : AbstractState w) (sys : System w) (c q : ℕ) (ch : Channel)
-    (x : Beat w) (queue : List (Beat w))
-    (m : Message w) → IsReceived config log h sys c ch x queue
+pub last-handing : {w : ℕ} {config : Config} {log : Log w} {h : AbstractState w} {sys : System w} {c : ℕ} (q : ℕ)
+    {ch : Channel} {x : Beat w} {queue : List (Beat w)} (m : Message w) → IsReceived config log h sys c ch x queue
     → (reaction config (record { 0 = c }) x sys.manager).handed ≡ (record { 0 = q }, m) ∷ []
-    → completes x (unfinished ch (receiver ch c sys)) ≡ true
-    → IsTaken c ch x queue (pushes_at q (pushes_of (Some m))) sys
-    (stepped config (Deliver (record { 0 = c }) ch) sys).after
-last-handing config log h sys c q ch x queue m at one last =
-    taken-landed c ch x queue (pushes_at q (pushes_of (Some m))) sys
-    (stepped config (Deliver (record { 0 = c }) ch) sys).after
-    (landed-received config log h sys c ch x queue ((record { 0 = q }, m) ∷ []) (pushes_at q (pushes_of (Some m))) at
-    one (λ s d i. channels-handed q (Some m) s d i)) last
+    → completes x (unfinished ch (receiver ch c sys)) ≡ true → IsTaken c ch x queue (pushes_at q (pushes_of (Some m)))
+    sys (stepped config (Deliver (record { 0 = c }) ch) sys).after
+last-handing {config} {log} {h} {sys} {c} q {ch} {x} {queue} m at one last =
+    taken-landed (landed-received ((record { 0 = q }, m) ∷ []) (pushes_at q (pushes_of (Some m))) at one
+    (λ s d i. channels-handed q (Some m) s d i)) last
 
 -- ---- which messages are of channel D
 
 pub answer_on_d : {w : ℕ} (v : MessageA w) (kind : answers_of.Answer)
-    → channel_of_message (access_answer v kind) ≡ channel.D
+    → channel_of_message (access_answer v kind) ≡ Channel.D
 answer_on_d v answer.Ack = refl
-answer_on_d v answer.Hint = refl
-answer_on_d v (answer.Data payload) = refl
+answer_on_d v kind = refl
 
 pub grant_on_d : (w : ℕ) (q n : ℕ) (b : Block (List ℕ)) (d : Bool) (k : Cap) → b.service ≡ GrantSent q d k
-    → channel_of_message {w = w} (block_message Grant q n b) ≡ channel.D
+    → channel_of_message {w = w} (block_message Grant q n b) ≡ Channel.D
 unfolding block_message
 grant_on_d w q n b d k e = rw e refl
 
 pub ack_on_d : (w : ℕ) (c n : ℕ) (b : Block (List ℕ)) → channel_of_message {w = w} (block_message ReleaseAck c n b)
-    ≡ channel.D
+    ≡ Channel.D
 unfolding block_message
 ack_on_d w c n b = refl

@@ -1,53 +1,38 @@
 -- The manager takes the last beat of a ProbeAck.
-use Rattle.tl_coherence.proofs.deliveries.Imports.{is_granted_data, Reaction, Handed, Beat}
-use Rattle.tl_coherence.proofs.deliveries.Imports.{Message, MessageA, Config}
-use Rattle.tl_coherence.proofs.deliveries.Imports.{Cap, Grow, Report, report_left}
-use Rattle.tl_coherence.proofs.deliveries.Imports.{same_perm, reaction, End, AbstractState, ack_taken}
-use Rattle.tl_coherence.proofs.deliveries.Imports.{last_taken, some_below, with_state, answers}
-use Rattle.tl_coherence.proofs.deliveries.Imports.{IsInvariant, IsWell, Log, ProbeAnswered, AcquirePhase, NoAcquire}
-use Rattle.tl_coherence.proofs.deliveries.Imports.{AcquireOpen, Service, Free, Waits, GrantSent, GrantTaken, Block}
-use Rattle.tl_coherence.proofs.deliveries.Imports.{report_taken, packet, view}
-use Rattle.tl_coherence.proofs.deliveries.Imports.{block_message, report_told}
-use Rattle.tl_coherence.proofs.deliveries.Imports.{System, Kind, ProbeAck, Release, Acquire, Packet, Grant}
-use Rattle.tl_coherence.proofs.deliveries.Imports.{ReleaseAck, SimulationRelation, is_caching}
+use Rattle.tl_coherence.proofs.deliveries.Imports.{is_granted_data, Reaction, Handed, Beat, Message, MessageA, Config}
+use Rattle.tl_coherence.proofs.deliveries.Imports.{Cap, Grow, Report, report_left, same_perm, reaction, End}
+use Rattle.tl_coherence.proofs.deliveries.Imports.{AbstractState, ack_taken, last_taken, some_below, with_state}
+use Rattle.tl_coherence.proofs.deliveries.Imports.{answers, IsInvariant, IsWell, Log, ProbeAnswered, AcquirePhase}
+use Rattle.tl_coherence.proofs.deliveries.Imports.{NoAcquire, AcquireOpen, Service, Free, Waits, GrantSent, GrantTaken}
+use Rattle.tl_coherence.proofs.deliveries.Imports.{Block, report_taken, packet, view, block_message, report_told}
+use Rattle.tl_coherence.proofs.deliveries.Imports.{System, Kind, ProbeAck, Release, Acquire, Packet, Grant, ReleaseAck}
+use Rattle.tl_coherence.proofs.deliveries.Imports.{SimulationRelation, is_caching, Channel, Perm}
 use Rattle.tl_coherence.specs.protocol.Protocol as protocol
-use Rattle.tl_coherence.proofs.manager.UnwaitedRequests.{invariant-taken}
-use Rattle.tl_coherence.proofs.manager.ManagersEnd.{at_manager-matched}
-use Rattle.tl_coherence.proofs.manager.ManagerHanded.{grant-rendered}
-use Rattle.std.proofs.Common.{[], ◌≡◌, ℕ, Bool, true, false, ◌&&◌, List, ◌∷◌, length, refl, sym, ◌∙◌, ap}
-use Rattle.std.proofs.Common.{subst}
+use Rattle.tl_coherence.proofs.{manager.UnwaitedRequests.invariant-taken, manager.ManagersEnd.at_manager-matched}
+use Rattle.tl_coherence.proofs.{manager.ManagerHanded.grant-rendered, manager.SettlingService.IsSettling}
+use Rattle.tl_coherence.proofs.{manager.ManagerTakes.IsTakenUp, protocol.BothParts.acquires_of-is}
+use Rattle.tl_coherence.proofs.{protocol.BothParts.not-calm, memory.BesideTaken.same_message}
+use Rattle.std.proofs.Common.{[], ◌≡◌, ℕ, Bool, true, false, ◌&&◌, List, ◌∷◌, length, refl, sym, ◌∙◌, ap, subst}
 use Rattle.std.specs.Prelude.{◌==◌, if◌then◌else◌}
-use Rattle.tl_beat.specs.declared.beat.Beat.TheVariants as beat
-use Rattle.tl_beat.specs.declared.channel.Channel.TheVariants as channel
-use Rattle.tl_burst.specs.declared.message.Message.TheVariants as message
-use Rattle.tl_burst.specs.declared.message.MessageC.{MessageC}
-use Rattle.tl_burst.specs.statement.Burst.{c_beat_of}
-use Rattle.tl_params.specs.declared.perm.Perm.TheVariants as perm
+use Rattle.tl_burst.{specs.declared.message.MessageC.MessageC, specs.statement.Burst.c_beat_of}
 use Rattle.tl_params.specs.statement.Param.{grow_code, report_code}
 use Rattle.tl_coherence.specs.refinement.AbstractStep.{acquire_opcode, granted_after}
-use Rattle.tl_coherence.specs.protocol.Invariant.{IsOwnSource}
+use Rattle.tl_coherence.specs.{protocol.Invariant.IsOwnSource, protocol.Protocol.Acquires}
+use Rattle.tl_coherence.specs.{protocol.Protocol.granted_block, protocol.Tokens.is_wanting, protocol.Packet.set}
+use Rattle.tl_coherence.specs.{refinement.SimulationRelation.IsAcquireOf}
 use Rattle.tl_coherence.specs.protocol.Phase.{View, Own, Other, Granting, Acknowledging, GrantedOther}
-use Rattle.tl_coherence.specs.protocol.Protocol.{Acquires, granted_block}
-use Rattle.tl_coherence.specs.protocol.Tokens.{is_wanting}
-use Rattle.tl_coherence.specs.protocol.Packet.{set}
-use Rattle.tl_coherence.specs.refinement.SimulationRelation.{IsAcquireOf}
 use Rattle.tl_coherence.proofs.queues.Facts.{answered_other, is_other, own_wants}
-use Rattle.tl_coherence.proofs.manager.ManagerAfter.{IsManagerOf, left, IsEnd, others_probed}
-use Rattle.tl_coherence.proofs.manager.ManagerAfter.{reported-left, reaction-reported}
+use Rattle.tl_coherence.proofs.manager.ManagerAfter.{IsManagerOf, left, IsEnd, others_probed, reported-left}
+use Rattle.tl_coherence.proofs.manager.ManagerAfter.{reaction-reported}
 use Rattle.tl_coherence.proofs.manager.ManagerSettles.{IsWanted, ended-left, conceded-left, reaction-ended}
-use Rattle.tl_coherence.proofs.manager.SettlingService.{IsSettling}
 use Rattle.tl_coherence.proofs.manager.ManagerSettles.{reaction-conceded, gift_after}
-use Rattle.tl_coherence.proofs.manager.ManagerTakes.{IsTakenUp}
 use Rattle.tl_coherence.proofs.queues.Tokens.{same_number, set-same, set_at-same}
-use Rattle.tl_coherence.proofs.protocol.BothParts.{acquires_of-is}
-use Rattle.tl_coherence.proofs.protocol.BothParts.{not-calm}
-use Rattle.tl_coherence.proofs.memory.BesideTaken.{same_message}
 
 -- ---- the Acquire that is granted
 
 wanted_fields : {w : ℕ} (q n : ℕ) (whole : Bool) (g : Grow) (b : Block (List ℕ)) (v : MessageA w)
     → (b.pair q).acquiring ≡ AcquireOpen whole g
-    → block_message Acquire q n b ≡ message.A v → (v.opcode ≡ acquire_opcode whole) × (v.param ≡ grow_code g)
+    → block_message Acquire q n b ≡ Message.A v → (v.opcode ≡ acquire_opcode whole) × (v.param ≡ grow_code g)
 unfolding block_message
 wanted_fields {w} q n true g b v wants e =
     let same = same_message _ v (rw wants at e) in
@@ -58,11 +43,10 @@ wanted_fields {w} q n false g b v wants e =
 
 -- what a client sees that has answered a Probe
 pub seen_apart : (q source : ℕ) (k : Cap) (c : ℕ) → is_other (view (Waits q true source k) c) ≡ true → c ≡ q → ⊥
-seen_apart q source k c e same = go (c == q) (rw (same, same_number q) refl) e
-  where
-    go : (b : Bool) → b ≡ true → is_other (if true && b then Own else Other k) ≡ true → ⊥
-    go true f g = cc
-    go false f g = cc
+seen_apart q source k c e same =
+    let go : (b : Bool) → b ≡ true → is_other (if true && b then Own else Other k) ≡ true → ⊥ =
+    elim [ true ↦ λ f g. cc | false ↦ λ f g. cc ] in
+    go (c == q) (rw (same, same_number q) refl) e
 
 -- ---- what is handed out
 
@@ -81,24 +65,22 @@ pushed config c _ n h h' = []
 
 -- what is kept of the manager's end after this beat, and what it hands out
 abbrev pub Does : {w : ℕ} → Config → ℕ → AbstractState w → AbstractState w → Kind → ℕ → End w → Beat w → Type 0
-Does config c h h' kind n e x =
-    IsManagerOf config h' (left c x (reaction config (record { 0 = c }) x e) e)
+Does config c h h' kind n e x = IsManagerOf config h' (left c x (reaction config (record { 0 = c }) x e) e)
     × ((reaction config (record { 0 = c }) x e).handed ≡ pushed config c kind n h h')
 
 -- ---- a ProbeAck
 
 -- where its last beat is taken
-pub reported-last : {w : ℕ} (config : Config) (log : Log w) (h : AbstractState w) (sys : System w) (c n k : ℕ)
-    (rest : List Packet) (m : MessageC w) → SimulationRelation config log h.mail h.request h.state sys
-    → (h.state.link c).c ≡ packet ProbeAck n ∷ rest → ((h.state.block n).pair c).probing ≡ ProbeAnswered
-    (report_told ((h.state.block n).pair c).probing)
-    → IsTakenUp config c channel.C (beat.C (c_beat_of m k)) sys.manager
+pub reported-last : {w : ℕ} {config : Config} {log : Log w} (h : AbstractState w) {sys : System w} {c n k : ℕ}
+    (rest : List Packet) {m : MessageC w} → SimulationRelation config log h.mail h.request h.state sys
+    → (h.state.link c).c ≡ packet ProbeAck n ∷ rest → ((h.state.block n).pair c).probing
+    ≡ ProbeAnswered (report_told ((h.state.block n).pair c).probing)
+    → IsTakenUp config c Channel.C (Beat.C (c_beat_of m k)) sys.manager
     → IsEnd true c n (report_code (report_told ((h.state.block n).pair c).probing))
-    (same_perm (report_left (report_told ((h.state.block n).pair c).probing)) perm.Trunk) (h.state.block n).truth k m
-    sys.manager
-    → Does config c h (ack_taken (length config.clients.items) config.profile c n
-    (report_told ((h.state.block n).pair c).probing) rest h) ProbeAck n sys.manager (beat.C (c_beat_of m k))
-reported-last {w} config log h sys c n k rest m is tokens answered up end =
+    (same_perm (report_left (report_told ((h.state.block n).pair c).probing)) Perm.Trunk) (h.state.block n).truth k m
+    sys.manager → Does config c h (ack_taken (length config.clients.items) config.profile c n
+    (report_told ((h.state.block n).pair c).probing) rest h) ProbeAck n sys.manager (Beat.C (c_beat_of m k))
+reported-last {w} {config} {log} h {sys} {c} {n} {k} rest {m} is tokens answered up end =
     others (some_below (length config.clients.items) (others_probed c b.pair)) refl
     (invariant-taken config log h sys c ProbeAck n rest is tokens tt)
   where
@@ -112,7 +94,7 @@ reported-last {w} config log h sys c n k rest m is tokens answered up end =
     e = sys.manager
 
     x : Beat w
-    x = beat.C (c_beat_of m k)
+    x = Beat.C (c_beat_of m k)
 
     -- what is kept, and what is handed out
     Result : AbstractState w → Handed w → Type 0
@@ -128,9 +110,8 @@ reported-last {w} config log h sys c n k rest m is tokens answered up end =
     unseen false u v f g i = cc
 
     last : some_below (length config.clients.items) (others_probed c b.pair) ≡ false → (service : Service)
-        → b.service ≡ service
-        → IsInvariant (is_caching config) (last_taken (length config.clients.items) config.profile c n r service rest
-        h).state
+        → b.service ≡ service → IsInvariant (is_caching config) (last_taken (length config.clients.items) config.profile
+        c n r service rest h).state
         → Result (last_taken (length config.clients.items) config.profile c n r service rest h)
         (pushed_last n service (last_taken (length config.clients.items) config.profile c n r service rest h))
     last alone Free f inv = absurd (let other : false ≡ true = rw f at seen in cc)
@@ -145,11 +126,10 @@ reported-last {w} config log h sys c n k rest m is tokens answered up end =
           alone = alone;
           waits = f;
           named = is.invariant.named;
-          is =
-              at_manager-matched config log h.mail h.request h.state sys is;
+          is = at_manager-matched is;
         } in (
-          ended-left config c q n source k low r rest m h e at,
-          ap (λ (d : Reaction w). d.handed) (reaction-ended config c q n source k low r m h e at)
+          ended-left rest at,
+          ap (λ (d : Reaction w). d.handed) (reaction-ended at)
               ∙ rw (set_at-same q source (answers (h.request n) (protocol.written r b.truth b.memory)) h.mail.answer)
               refl,
         )
@@ -167,13 +147,12 @@ reported-last {w} config log h sys c n k rest m is tokens answered up end =
         used = acquires_of-is n (h.state.uses q source)
             (is.invariant.named.acquires q source n ∙ rw (wants, ← own_source, same_number source) refl)
 
-        acquired : block_message Acquire q n b ≡ message.A (h.request n)
+        acquired : block_message Acquire q n b ≡ Message.A (h.request n)
         acquired = subst (λ (v : Service). IsAcquireOf n b v (h.request n)) f (is.acquired n)
 
         go : (y : AcquirePhase) → (b.pair q).acquiring ≡ y
             → IsInvariant (is_caching config) (granted_after (length config.clients.items) config.profile c q n r y rest
-            h).state
-            → Result (granted_after (length config.clients.items) config.profile c q n r y rest h)
+            h).state → Result (granted_after (length config.clients.items) config.profile c q n r y rest h)
             ((
               record { 0 = q },
               block_message Grant q n
@@ -189,22 +168,20 @@ reported-last {w} config log h sys c n k rest m is tokens answered up end =
               alone = alone;
               waits = f;
               named = is.invariant.named;
-              is =
-                  at_manager-matched config log h.mail h.request h.state sys is;
+              is = at_manager-matched is;
             } in
             let wanted : IsWanted c q n source whole grow h =
             record {
               apart = seen_apart q source low c (rw f at seen);
               used = used;
               opcode_is = fields.0;
-              param_is =
-                  fields.1;
+              param_is = fields.1;
             } in
             let new : Block (List ℕ) = granted_block c q r (is_granted_data whole grow (b.pair q).recorded)
             (gift_after config c n r whole grow h) b in
             let here : set n new h.state.block n ≡ new = set-same n new h.state.block in (
-              conceded-left config c q n source k low r whole grow rest m h e at wanted,
-              ap (λ (d : Reaction w). d.handed) (reaction-conceded config c q n source k low r whole grow m h e at
+              conceded-left rest at wanted,
+              ap (λ (d : Reaction w). d.handed) (reaction-conceded at
                   wanted)
                   ∙ ap (λ (i : Message w). (record { 0 = q }, i) ∷ [])
                   (grant-rendered config (is_caching config) c q n source r whole grow h own_source
@@ -215,13 +192,13 @@ reported-last {w} config log h sys c n k rest m is tokens answered up end =
         → IsInvariant (is_caching config) (if y then with_state (report_taken c n r rest h.state) h else last_taken
         (length config.clients.items) config.profile c n r b.service rest h).state
         → Result (if y then with_state (report_taken c n r rest h.state) h else last_taken (length config.clients.items)
-        config.profile c n r b.service rest h)
-        (if some_below (length config.clients.items) (others_probed c b.pair) then [] else pushed_last n b.service
-        (if y then with_state (report_taken c n r rest h.state) h else last_taken (length config.clients.items)
-        config.profile c n r b.service rest h))
+        config.profile c n r b.service rest h) (if some_below (length config.clients.items) (others_probed c b.pair)
+        then [] else pushed_last n b.service (if y then with_state (report_taken c n r rest h.state) h else last_taken
+        (length config.clients.items) config.profile c n r b.service rest h))
     others true f inv = (
-      reported-left config c n k r rest m h e up end f (at_manager-matched config log h.mail h.request h.state sys is),
-      ap (λ (d : Reaction w). d.handed) (reaction-reported config c n k r m h e end f is.managed) ∙ rw f refl,
+      reported-left r rest h up end f (at_manager-matched is),
+      ap (λ (d : Reaction w). d.handed)
+          (reaction-reported config r h end f is.managed) ∙ rw f refl,
     )
     others false f inv =
         let done = last f b.service refl inv in

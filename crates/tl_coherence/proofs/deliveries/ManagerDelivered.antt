@@ -1,50 +1,34 @@
 -- The manager's end after any beat that is delivered on channel C or E: it takes the beat, and all that is kept of it
 -- is kept as the protocol follows.
-use Rattle.tl_coherence.proofs.deliveries.Imports.{reaction-part, Reaction, Handed, IsWidth, Beat}
-use Rattle.tl_coherence.proofs.deliveries.Imports.{Channel, Message, beats_of, unfinished, completes, Config}
-use Rattle.tl_coherence.proofs.deliveries.Imports.{Prune, Report, prune_left, report_left, on_link}
-use Rattle.tl_coherence.proofs.deliveries.Imports.{same_perm, IsFor, reaction, End, AbstractState, ack_taken}
-use Rattle.tl_coherence.proofs.deliveries.Imports.{packet_taken, with_state}
-use Rattle.tl_coherence.proofs.deliveries.Imports.{Log, ProbeAnswered}
-use Rattle.tl_coherence.proofs.deliveries.Imports.{GrantTaken, Block}
-use Rattle.tl_coherence.proofs.deliveries.Imports.{release_taken, shown, packet}
-use Rattle.tl_coherence.proofs.deliveries.Imports.{let_block, message_of, prune_told, block_message, report_told}
-use Rattle.tl_coherence.proofs.deliveries.Imports.{System, Kind, ProbeAck, Release, GrantAck, Packet}
-use Rattle.tl_coherence.proofs.deliveries.Imports.{ReleaseAck, SimulationRelation, is_caching}
-use Rattle.tl_coherence.proofs.queues.FirstToken.{first-token}
-use Rattle.tl_coherence.proofs.manager.ManagersEnd.{at_manager-matched}
-use Rattle.tl_manager.proofs.calls.Events.{reaction-ack}
-use Rattle.tl_manager.specs.statement.Handing.{release_ack}
-use Rattle.std.proofs.Common.{[], ◌≡◌, ℕ, ◌+◌, Bool, true, false, List, ◌∷◌, None, length, refl, sym, ◌∙◌, ap}
-use Rattle.std.proofs.Common.{subst}
-use Rattle.std.specs.Prelude.{◌==◌, if◌then◌else◌, map}
-use Rattle.std.proofs.lemmas.Bool.{eqb-true}
-use Rattle.tl_beat.specs.declared.beat.Beat.TheVariants as beat
+use Rattle.tl_coherence.proofs.deliveries.Imports.{reaction-part, Reaction, Handed, IsWidth, Beat, Channel, Message}
+use Rattle.tl_coherence.proofs.deliveries.Imports.{beats_of, unfinished, completes, Config, Prune, Report, prune_left}
+use Rattle.tl_coherence.proofs.deliveries.Imports.{on_link, same_perm, IsFor, reaction, End, AbstractState}
+use Rattle.tl_coherence.proofs.deliveries.Imports.{ack_taken, packet_taken, with_state, Log, ProbeAnswered, GrantTaken}
+use Rattle.tl_coherence.proofs.deliveries.Imports.{Block, release_taken, shown, packet, let_block}
+use Rattle.tl_coherence.proofs.deliveries.Imports.{prune_told, block_message, report_told, System, Kind, ProbeAck}
+use Rattle.tl_coherence.proofs.deliveries.Imports.{Release, GrantAck, Packet, ReleaseAck, SimulationRelation}
+use Rattle.tl_coherence.proofs.deliveries.Imports.{is_caching, Perm}
+use Rattle.tl_coherence.proofs.{queues.FirstToken.first-token, manager.ManagersEnd.at_manager-matched}
+use Rattle.tl_coherence.proofs.{queues.Carried.IsNext, manager.ManagedAcks.IsAcked, queues.Tokens.holds-first}
+use Rattle.tl_coherence.proofs.{queues.Tokens.set-same, manager.Admitted.head_all}
+use Rattle.tl_manager.{proofs.calls.Events.reaction-ack, specs.statement.Handing.release_ack}
+use Rattle.tl_manager.{proofs.pending.LinkHistories.whole-e}
+use Rattle.std.proofs.Common.{[], ◌≡◌, ℕ, ◌+◌, Bool, true, false, List, ◌∷◌, None, length, refl, sym, ◌∙◌, ap, subst}
+use Rattle.std.{specs.Prelude.◌==◌, specs.Prelude.if◌then◌else◌, proofs.lemmas.Bool.eqb-true}
 use Rattle.tl_beat.specs.declared.beat.BeatE.{BeatE}
-use Rattle.tl_beat.specs.declared.channel.Channel.TheVariants as channel
-use Rattle.tl_burst.specs.declared.message.Message.TheVariants as message
 use Rattle.tl_burst.specs.declared.message.MessageC.{MessageC}
 use Rattle.tl_burst.specs.statement.Burst.{begun, c_beat_of}
-use Rattle.tl_params.specs.declared.perm.Perm.TheVariants as perm
-use Rattle.tl_params.specs.statement.Param.{prune_code, report_code}
-use Rattle.tl_rules.specs.statement.Conformance.{broken_in_order}
-use Rattle.tl_rules.specs.statement.History.{pending}
+use Rattle.tl_params.specs.statement.Param.{prune_code}
+use Rattle.tl_rules.{specs.statement.Conformance.broken_in_order, specs.statement.History.pending}
 use Rattle.tl_params.specs.declared.key.Key.TheVariants.{GrantSink}
-use Rattle.tl_manager.proofs.pending.LinkHistories.{whole-e}
 use Rattle.tl_manager.specs.code.Kept as manager
-use Rattle.tl_coherence.specs.protocol.Phase.{ReleaseSent}
-use Rattle.tl_coherence.specs.protocol.Protocol.{grant_ack_taken}
-use Rattle.tl_coherence.proofs.queues.Carried.{IsNext}
-use Rattle.tl_coherence.proofs.manager.ManagedAcks.{IsAcked}
-use Rattle.tl_coherence.proofs.manager.ManagerAfter.{IsManagerOf, left, IsEnd, report_part-left}
-use Rattle.tl_coherence.proofs.manager.ManagerAfter.{released-left, acked-left}
-use Rattle.tl_coherence.proofs.manager.ManagerAfter.{reaction-released}
+use Rattle.tl_coherence.specs.{protocol.Phase.ReleaseSent, protocol.Protocol.grant_ack_taken}
+use Rattle.tl_coherence.proofs.manager.ManagerAfter.{IsManagerOf, left, IsEnd, report_part-left, released-left}
+use Rattle.tl_coherence.proofs.manager.ManagerAfter.{acked-left, reaction-released}
 use Rattle.tl_coherence.proofs.manager.ManagerTakes.{IsTakenUp, ack-order, by-first_c, by-first_e, release-order}
 use Rattle.tl_coherence.proofs.manager.ManagerTakes.{report-order, takes}
-use Rattle.tl_coherence.proofs.manager.Reporting.{IsAbout, report-about, release-about}
-use Rattle.tl_coherence.proofs.queues.Tokens.{holds-first, set-same}
+use Rattle.tl_coherence.proofs.manager.Reporting.{report-about, release-about}
 use Rattle.tl_coherence.proofs.protocol.BothParts.{answered-is, releasing-is, acknowledging-is}
-use Rattle.tl_coherence.proofs.manager.Admitted.{head_all}
 use Rattle.tl_coherence.proofs.deliveries.LastReportDelivered.{pushed, Does, reported-last}
 
 -- ---- any beat of a message of channel C
@@ -63,167 +47,139 @@ pub record Delivered {w : ℕ} (config : Config) (c : ℕ) (ch : Channel) (rest 
       (left c x (reaction config (record { 0 = c }) x e) e)
   pub handed : (reaction config (record { 0 = c }) x e).handed ≡ (if completes x rest then pushes else [])
 
-delivered-c : {w : ℕ} (config : Config) (h h' : AbstractState w) (kind : Kind) (c n : ℕ) (x : Beat w) (m : MessageC w)
-    (ms : List (Message w)) (queue : List (Beat w))
-    (e : End w) → IsWidth w → IsManagerOf config h e → manager.IsSound config (record { 0 = c }, x)
-    → IsNext x (unfinished channel.C (on_link c e.trace)) (message.C m) ms queue
-    → ((k : ℕ) → unfinished channel.C (on_link c e.trace) ≡ begun (message.C m) k
-    → broken_in_order config.profile (beat.C (c_beat_of m k)) (on_link c e.trace) ≡ None)
-    → ((k : ℕ) → k + 1 ≡ beats_of (message.C m) → unfinished channel.C (on_link c e.trace) ≡ begun (message.C m) k
-    → IsTakenUp config c channel.C (beat.C (c_beat_of m k)) e → Does config c h h' kind n e (beat.C (c_beat_of m k)))
-    → Delivered config c channel.C (unfinished channel.C (on_link c e.trace)) h h' (pushed config c kind n h h') e x
-delivered-c {w} config h h' kind c n x m ms queue e width is sound next order last =
-    subst (Delivered config c channel.C rest h h' pushes e) (sym next.beat_is)
-    (go (next.k + 1 == beats_of (message.C m)) refl)
+delivered-c : {w : ℕ} (config : Config) (h h' : AbstractState w) (kind : Kind) (c n : ℕ) {x : Beat w} (m : MessageC w)
+    {ms : List (Message w)} {queue : List (Beat w)} (e : End w) → IsWidth w → IsManagerOf config h e
+    → manager.IsSound config (record { 0 = c }, x) → IsNext x (unfinished Channel.C (on_link c e.trace)) (Message.C m)
+    ms queue → ((k : ℕ) → unfinished Channel.C (on_link c e.trace) ≡ begun (Message.C m) k
+    → broken_in_order config.profile (Beat.C (c_beat_of m k)) (on_link c e.trace) ≡ None)
+    → ((k : ℕ) → k + 1 ≡ beats_of (Message.C m) → unfinished Channel.C (on_link c e.trace) ≡ begun (Message.C m) k
+    → IsTakenUp config c Channel.C (Beat.C (c_beat_of m k)) e → Does config c h h' kind n e (Beat.C (c_beat_of m k)))
+    → Delivered config c Channel.C (unfinished Channel.C (on_link c e.trace)) h h' (pushed config c kind n h h') e x
+delivered-c {w} config h h' kind c n m e width is sound next order last =
+    subst (Delivered config c Channel.C rest h h' pushes e) (sym next.beat_is)
+    (go (next.k + 1 == beats_of (Message.C m)) refl)
   where
     rest : List (Beat w)
-    rest = unfinished channel.C (on_link c e.trace)
+    rest = unfinished Channel.C (on_link c e.trace)
 
     pushes : Handed w
     pushes = pushed config c kind n h h'
 
     y : Beat w
-    y = beat.C (c_beat_of m next.k)
+    y = Beat.C (c_beat_of m next.k)
 
-    up : IsTakenUp config c channel.C y e
-    up = takes config c channel.C y e (subst (λ (i : Beat w). manager.IsSound config (record { 0 = c }, i)) next.beat_is
+    up : IsTakenUp config c Channel.C y e
+    up = takes c Channel.C y e (subst (λ (i : Beat w). manager.IsSound config (record { 0 = c }, i)) next.beat_is
         sound) refl refl is.all_live (order next.k next.rest_is) refl
 
-    completes_it : completes y rest ≡ (next.k + 1 == beats_of (message.C m))
+    completes_it : completes y rest ≡ (next.k + 1 == beats_of (Message.C m))
     completes_it = ap (λ (i : Beat w). completes i rest) (sym next.beat_is) ∙ next.completes_is
 
-    go : (b : Bool) → (next.k + 1 == beats_of (message.C m)) ≡ b → Delivered config c channel.C rest h h' pushes e y
+    go : (b : Bool) → (next.k + 1 == beats_of (Message.C m)) ≡ b → Delivered config c Channel.C rest h h' pushes e y
     go true f =
         let ended : completes y rest ≡ true = completes_it ∙ f in
-        let done = last next.k (eqb-true (next.k + 1) (beats_of (message.C m)) f) next.rest_is up in
+        let done = last next.k (eqb-true (next.k + 1) (beats_of (Message.C m)) f) next.rest_is up in
         record {
           up = up;
-          manager = subst (λ (b : Bool). IsManagerOf config (if b then h' else h)
-              (left c y (reaction config (record { 0 = c }) y e) e)) (sym ended) done.0;
+          manager = rw ended done.0;
           handed = done.1 ∙ sym (ap (λ (b : Bool). if b then pushes else []) ended);
         }
     go false f =
         let part : completes y rest ≡ false = completes_it ∙ f in
         record {
           up = up;
-          manager = subst (λ (b : Bool). IsManagerOf config (if b then h' else h)
-              (left c y (reaction config (record { 0 = c }) y e) e)) (sym part)
-              (report_part-left config c (c_beat_of m next.k) h e width up part is);
-          handed = ap (λ (d : Reaction w). d.handed) (reaction-part config (record { 0 = c }) y e part) ∙ sym
-              (ap (λ (b : Bool). if b then pushes else []) part);
+          manager = rw part (report_part-left (c_beat_of m next.k) h width up part is);
+          handed = cc (reaction-part config (record { 0 = c }) y e part, part);
         }
 
-pub reports-delivered : {w : ℕ} (config : Config) (log : Log w) (h : AbstractState w) (sys : System w) (c n : ℕ)
-    (rest : List Packet) (x : Beat w)
-    (queue : List (Beat w)) (ms : List (Message w)) → IsWidth w → SimulationRelation config log h.mail h.request h.state
-    sys
-    → sys.channels c channel.C ≡ x ∷ queue → (h.state.link c).c ≡ packet ProbeAck n ∷ rest
-    → IsNext x (unfinished channel.C (on_link c sys.manager.trace)) (block_message ProbeAck c n (h.state.block n)) ms
-    queue
-    → Delivered config c channel.C (unfinished channel.C (on_link c sys.manager.trace)) h
+pub reports-delivered : {w : ℕ} {config : Config} {log : Log w} (h : AbstractState w) {sys : System w} (c n : ℕ)
+    (rest : List Packet) {x : Beat w} {queue : List (Beat w)} {ms : List (Message w)} → IsWidth w
+    → SimulationRelation config log h.mail h.request h.state sys → sys.channels c Channel.C ≡ x ∷ queue
+    → (h.state.link c).c ≡ packet ProbeAck n ∷ rest → IsNext x (unfinished Channel.C (on_link c sys.manager.trace))
+    (block_message ProbeAck c n (h.state.block n)) ms queue
+    → Delivered config c Channel.C (unfinished Channel.C (on_link c sys.manager.trace)) h
     (ack_taken (length config.clients.items) config.profile c n (report_told ((h.state.block n).pair c).probing) rest h)
     (pushed config c ProbeAck n h (ack_taken (length config.clients.items) config.profile c n
     (report_told ((h.state.block n).pair c).probing) rest h)) sys.manager x
 unfolding block_message
-reports-delivered {w} config log h sys c n rest x queue ms width is beats tokens next =
-    delivered-c config h _ ProbeAck c n x m ms queue sys.manager width
-    (at_manager-matched config log h.mail h.request h.state sys is)
-    (head_all (λ y. manager.IsSound config (record { 0 = c }, y)) x queue (sys.channels c channel.C) beats
-    (is.sound c channel.C))
-    (subst (λ (i : Message w). IsNext x (unfinished channel.C (on_link c sys.manager.trace)) i ms queue) about.1 next)
-    (λ k before. report-order config (is_caching config) h.request c n k r (h.state.block n).truth
-    (same_perm (report_left r) perm.Trunk) m h.state sys.manager is.invariant is.managed is.served is.manager_kept
+reports-delivered {w} {config} {log} h {sys} c n rest {x} {queue} {ms} width is beats tokens next =
+    let r : Report = report_told ((h.state.block n).pair c).probing in
+    let about = report-about r n (h.state.block n).truth width (is.sized n).truth in
+    let m : MessageC w = about.0 in
+    let answered : ((h.state.block n).pair c).probing ≡ ProbeAnswered r =
+    answered-is ((h.state.block n).pair c).probing (holds-first ProbeAck (h.state.link c).c rest (packet ProbeAck n)
+    (λ i. shown ProbeAck c (h.state.block i)) tokens refl (is.invariant.transfers c ProbeAck refl)) in
+    delivered-c config h _ ProbeAck c n m sys.manager width
+    (at_manager-matched is)
+    (head_all (λ y. manager.IsSound config (record { 0 = c }, y)) x queue (sys.channels c Channel.C) beats
+    (is.sound c Channel.C))
+    (subst (λ (i : Message w). IsNext x (unfinished Channel.C (on_link c sys.manager.trace)) i ms queue) about.1 next)
+    (λ k before. report-order c k r
+    is.invariant is.managed is.served is.manager_kept
     answered about.2 before)
-    (λ k all before up. reported-last config log h sys c n k rest m is tokens answered up
+    (λ k all before up. reported-last h rest is tokens answered up
     (record { width = width; about = about.2; rest = before; last = all; long = (is.sized n).truth }))
-  where
-    r : Report
-    r = report_told ((h.state.block n).pair c).probing
-
-    about : (i : MessageC w) × (block_message ProbeAck c n (h.state.block n) ≡ message.C i)
-        × IsAbout true n (report_code r) (same_perm (report_left r) perm.Trunk) (h.state.block n).truth i
-    about = report-about r n (h.state.block n).truth width (is.sized n).truth
-
-    m : MessageC w
-    m = about.0
-
-    answered : ((h.state.block n).pair c).probing ≡ ProbeAnswered r
-    answered = answered-is ((h.state.block n).pair c).probing
-        (holds-first ProbeAck (h.state.link c).c rest (packet ProbeAck n) (λ i. shown ProbeAck c (h.state.block i))
-        tokens refl
-        (is.invariant.transfers c ProbeAck refl))
 
 -- ---- a Release
 
-pub releases-delivered : {w : ℕ} (config : Config) (log : Log w) (h : AbstractState w) (sys : System w) (c n : ℕ)
-    (rest : List Packet) (x : Beat w)
-    (queue : List (Beat w)) (ms : List (Message w)) → IsWidth w → SimulationRelation config log h.mail h.request h.state
-    sys
-    → sys.channels c channel.C ≡ x ∷ queue → (h.state.link c).c ≡ packet Release n ∷ rest
-    → IsNext x (unfinished channel.C (on_link c sys.manager.trace)) (block_message Release c n (h.state.block n)) ms
-    queue
-    → Delivered config c channel.C (unfinished channel.C (on_link c sys.manager.trace)) h
+pub releases-delivered : {w : ℕ} {config : Config} {log : Log w} (h : AbstractState w) {sys : System w} (c n : ℕ)
+    (rest : List Packet) {x : Beat w} {queue : List (Beat w)} {ms : List (Message w)} → IsWidth w
+    → SimulationRelation config log h.mail h.request h.state sys → sys.channels c Channel.C ≡ x ∷ queue
+    → (h.state.link c).c ≡ packet Release n ∷ rest → IsNext x (unfinished Channel.C (on_link c sys.manager.trace))
+    (block_message Release c n (h.state.block n)) ms queue
+    → Delivered config c Channel.C (unfinished Channel.C (on_link c sys.manager.trace)) h
     (with_state (release_taken c n (prune_told ((h.state.block n).pair c).letting) rest h.state) h)
     (pushed config c Release n h
     (with_state (release_taken c n (prune_told ((h.state.block n).pair c).letting) rest h.state) h)) sys.manager x
 unfolding block_message
-releases-delivered {w} config log h sys c n rest x queue ms width is beats tokens next =
-    delivered-c config h _ Release c n x m ms queue sys.manager width
-    (at_manager-matched config log h.mail h.request h.state sys is)
-    (head_all (λ y. manager.IsSound config (record { 0 = c }, y)) x queue (sys.channels c channel.C) beats
-    (is.sound c channel.C))
-    (subst (λ (i : Message w). IsNext x (unfinished channel.C (on_link c sys.manager.trace)) i ms queue) about.1 next)
-    (λ k before. release-order config (is_caching config) h.request c n k r rest (h.state.block n).truth
-    (same_perm (prune_left r) perm.Trunk) m h.state sys.manager is.invariant is.managed is.manager_kept tokens releasing
+releases-delivered {w} {config} {log} h {sys} c n rest {x} {queue} {ms} width is beats tokens next =
+    let r : Prune = prune_told ((h.state.block n).pair c).letting in
+    let about = release-about r ((h.state.block n).release_source c) n (h.state.block n).truth width (is.sized n).truth
+    in
+    let m : MessageC w = about.0 in
+    let releasing : ((h.state.block n).pair c).letting ≡ ReleaseSent r =
+    releasing-is ((h.state.block n).pair c).letting (holds-first Release (h.state.link c).c rest (packet Release n)
+    (λ i. shown Release c (h.state.block i)) tokens refl (is.invariant.transfers c Release refl)) in
+    delivered-c config h _ Release c n m sys.manager width
+    (at_manager-matched is)
+    (head_all (λ y. manager.IsSound config (record { 0 = c }, y)) x queue (sys.channels c Channel.C) beats
+    (is.sound c Channel.C))
+    (subst (λ (i : Message w). IsNext x (unfinished Channel.C (on_link c sys.manager.trace)) i ms queue) about.1 next)
+    (λ k before. release-order c k r rest
+    is.invariant is.managed is.manager_kept tokens releasing
     about.2 before)
     (λ k all before up.
-    let end : IsEnd false c n (prune_code r) (same_perm (prune_left r) perm.Trunk) (h.state.block n).truth k m
+    let end : IsEnd false c n (prune_code r) (same_perm (prune_left r) Perm.Trunk) (h.state.block n).truth k m
     sys.manager =
     record { width = width; about = about.2; rest = before; last = all; long = (is.sized n).truth } in (
-      released-left config c n k r rest m h sys.manager up end (at_manager-matched config log h.mail h.request h.state
-          sys is),
-      ap (λ (d : Reaction w). d.handed) (reaction-released config c n k r m h sys.manager end)
+      released-left r rest h up end (at_manager-matched
+          is),
+      ap (λ (d : Reaction w). d.handed) (reaction-released config r h end)
           ∙ ap (λ (i : ℕ). (record { 0 = c }, release_ack {w = w} i) ∷ []) about.3
           ∙ sym (ap (λ (b : Block (List ℕ)). (record { 0 = c }, block_message {w = w} ReleaseAck c n b) ∷ [])
           (set-same n (let_block c r (h.state.block n)) h.state.block)),
     ))
-  where
-    r : Prune
-    r = prune_told ((h.state.block n).pair c).letting
-
-    about : (i : MessageC w) × (block_message Release c n (h.state.block n) ≡ message.C i)
-        × IsAbout false n (prune_code r) (same_perm (prune_left r) perm.Trunk) (h.state.block n).truth i
-        × (i.source ≡ (h.state.block n).release_source c)
-    about = release-about r ((h.state.block n).release_source c) n (h.state.block n).truth width (is.sized n).truth
-
-    m : MessageC w
-    m = about.0
-
-    releasing : ((h.state.block n).pair c).letting ≡ ReleaseSent r
-    releasing = releasing-is ((h.state.block n).pair c).letting
-        (holds-first Release (h.state.link c).c rest (packet Release n) (λ i. shown Release c (h.state.block i)) tokens
-        refl
-        (is.invariant.transfers c Release refl))
 
 -- ---- a GrantAck
 
-pub acks-delivered : {w : ℕ} (config : Config) (log : Log w) (h : AbstractState w) (sys : System w) (c n : ℕ)
-    (rest : List Packet) (x : Beat w) (queue : List (Beat w))
-    (ms : List (Message w)) → IsWidth w → SimulationRelation config log h.mail h.request h.state sys
-    → sys.channels c channel.E ≡ x ∷ queue → (h.state.link c).e ≡ packet GrantAck n ∷ rest
-    → IsNext x (unfinished channel.E (on_link c sys.manager.trace)) (block_message GrantAck c n (h.state.block n)) ms
-    queue
-    → Delivered config c channel.E (unfinished channel.E (on_link c sys.manager.trace)) h
+pub acks-delivered : {w : ℕ} {config : Config} {log : Log w} (h : AbstractState w) {sys : System w} (c n : ℕ)
+    (rest : List Packet) {x : Beat w} {queue : List (Beat w)} {ms : List (Message w)} → IsWidth w
+    → SimulationRelation config log h.mail h.request h.state sys → sys.channels c Channel.E ≡ x ∷ queue
+    → (h.state.link c).e ≡ packet GrantAck n ∷ rest → IsNext x (unfinished Channel.E (on_link c sys.manager.trace))
+    (block_message GrantAck c n (h.state.block n)) ms queue
+    → Delivered config c Channel.E (unfinished Channel.E (on_link c sys.manager.trace)) h
     (with_state (grant_ack_taken c n rest h.state) h) [] sys.manager x
 unfolding block_message
-acks-delivered {w} config log h sys c n rest x queue ms width is beats tokens next =
-    subst (Delivered config c channel.E before h after [] e) (sym next.beat_is) (record {
+acks-delivered {w} {config} {log} h {sys} c n rest {x} {queue} width is beats tokens next =
+    let before : List (Beat w) = unfinished Channel.E (on_link c e.trace) in
+    let after : AbstractState w = with_state (grant_ack_taken c n rest h.state) h in
+    let up = takes c Channel.E (Beat.E y) e (subst (λ (i : Beat w). manager.IsSound config (record { 0 = c }, i))
+    next.beat_is (head_all (λ i. manager.IsSound config (record { 0 = c }, i)) x queue (sys.channels c Channel.E)
+    beats (is.sound c Channel.E))) refl refl is.all_live order.1 refl in
+    let whole : completes {w = w} (Beat.E y) before ≡ true = (whole-e {w = w} y (on_link c e.trace)).1 in
+    subst (Delivered config c Channel.E before h after [] e) (sym next.beat_is) (record {
       up = up;
-      manager =
-          subst (λ (b : Bool). IsManagerOf config (if b then after else h)
-          (left c (beat.E y) (reaction config (record { 0 = c }) (beat.E y) e) e)) (sym whole)
-          (acked-left config c n rest y h e width up acks (at_manager-matched config log h.mail h.request h.state sys
-          is));
+      manager = rw whole (acked-left rest h width up acks (at_manager-matched is));
       handed = ap (λ (d : Reaction w). d.handed) (reaction-ack config (record { 0 = c }) y e) ∙ sym
           (ap (λ (b : Bool). if b then [] else []) whole);
     })
@@ -231,35 +187,17 @@ acks-delivered {w} config log h sys c n rest x queue ms width is beats tokens ne
     e : End w
     e = sys.manager
 
-    before : List (Beat w)
-    before = unfinished channel.E (on_link c e.trace)
-
-    after : AbstractState w
-    after = with_state (grant_ack_taken c n rest h.state) h
-
     y : BeatE
     y = record { sink = (h.state.block n).tracker }
 
     taken_is : (h.state.block n).service ≡ GrantTaken c
     taken_is = acknowledging-is (h.state.block n).service c
         (holds-first GrantAck (h.state.link c).e rest (packet GrantAck n) (λ i. shown GrantAck c (h.state.block i))
-        tokens refl
-        (is.invariant.transfers c GrantAck refl))
+        tokens refl (is.invariant.transfers c GrantAck refl))
 
     order : (pending (GrantSink y.sink) (on_link c e.trace) ≡ true)
-        × (broken_in_order {w = w} config.profile (beat.E y) (on_link c e.trace) ≡ None)
-    order = ack-order config h.request c n y h.state e is.invariant.named is.served is.manager_kept taken_is refl
-
-    up : IsTakenUp config c channel.E (beat.E y) e
-    up =
-        takes config c channel.E (beat.E y) e
-        (subst (λ (i : Beat w). manager.IsSound config (record { 0 = c }, i)) next.beat_is
-        (head_all (λ i. manager.IsSound config (record { 0 = c }, i)) x queue (sys.channels c channel.E) beats
-        (is.sound c channel.E)))
-        refl refl is.all_live order.1 refl
-
-    whole : completes {w = w} (beat.E y) before ≡ true
-    whole = (whole-e {w = w} y (on_link c e.trace)).1
+        × (broken_in_order {w = w} config.profile (Beat.E y) (on_link c e.trace) ≡ None)
+    order = ack-order c n y is.invariant.named is.served is.manager_kept taken_is refl
 
     acks : IsAcked c n y h.request h.state e.trace
     acks = record {
@@ -275,32 +213,27 @@ acks-delivered {w} config log h sys c n rest x queue ms width is beats tokens ne
 -- ---- channels C and E
 
 -- the protocol where the last beat of the first message of a channel is taken
-pub channel_c-delivered : {w : ℕ} (config : Config) (log : Log w) (tracker : ℕ) (h : AbstractState w) (sys : System w)
+pub channel_c-delivered : {w : ℕ} {config : Config} {log : Log w} (tracker : ℕ) (h : AbstractState w) {sys : System w}
     (c : ℕ) (x : Beat w) (queue : List (Beat w))
-    → IsWidth w → SimulationRelation config log h.mail h.request h.state sys → sys.channels c channel.C ≡ x ∷ queue
-    → Delivered config c channel.C (unfinished channel.C (on_link c sys.manager.trace)) h
+    → IsWidth w → SimulationRelation config log h.mail h.request h.state sys → sys.channels c Channel.C ≡ x ∷ queue
+    → Delivered config c Channel.C (unfinished Channel.C (on_link c sys.manager.trace)) h
     (packet_taken config tracker c (h.state.link c).c h)
     (pushed_by config c (h.state.link c).c h (packet_taken config tracker c (h.state.link c).c h)) sys.manager x
-channel_c-delivered {w} config log tracker h sys c x queue width is beats =
-    by-first_c (λ i. Delivered config c channel.C (unfinished channel.C (on_link c sys.manager.trace)) h
-    (packet_taken config tracker c i h)
-    (pushed_by config c i h (packet_taken config tracker c i h)) sys.manager x) c h.mail h.state sys x queue
-    (first-token (is_caching config) channel.C c h.mail h.state sys x queue width is.invariant is.carried beats)
-    (λ n rest tokens next. reports-delivered config log h sys c n rest x queue (map (message_of h.mail h.state c) rest)
-    width is beats tokens next)
-    (λ n rest tokens next. releases-delivered config log h sys c n rest x queue (map (message_of h.mail h.state c) rest)
-    width is beats tokens next)
+channel_c-delivered {w} {config} {log} tracker h {sys} c x queue width is beats =
+    by-first_c (λ i. Delivered config c Channel.C (unfinished Channel.C (on_link c sys.manager.trace)) h
+    (packet_taken config tracker c i h) (pushed_by config c i h (packet_taken config tracker c i h)) sys.manager x) c
+    h.mail h.state sys x queue (first-token (is_caching config) Channel.C c h.mail h.state sys x queue width
+    is.invariant is.carried beats) (λ n rest tokens next. reports-delivered h c n rest width is beats tokens next)
+    (λ n rest tokens next. releases-delivered h c n rest width is beats tokens next)
 
-pub channel_e-delivered : {w : ℕ} (config : Config) (log : Log w) (tracker : ℕ) (h : AbstractState w) (sys : System w)
+pub channel_e-delivered : {w : ℕ} {config : Config} {log : Log w} (tracker : ℕ) (h : AbstractState w) {sys : System w}
     (c : ℕ) (x : Beat w) (queue : List (Beat w))
-    → IsWidth w → SimulationRelation config log h.mail h.request h.state sys → sys.channels c channel.E ≡ x ∷ queue
-    → Delivered config c channel.E (unfinished channel.E (on_link c sys.manager.trace)) h
+    → IsWidth w → SimulationRelation config log h.mail h.request h.state sys → sys.channels c Channel.E ≡ x ∷ queue
+    → Delivered config c Channel.E (unfinished Channel.E (on_link c sys.manager.trace)) h
     (packet_taken config tracker c (h.state.link c).e h)
     (pushed_by config c (h.state.link c).e h (packet_taken config tracker c (h.state.link c).e h)) sys.manager x
-channel_e-delivered {w} config log tracker h sys c x queue width is beats =
-    by-first_e (λ i. Delivered config c channel.E (unfinished channel.E (on_link c sys.manager.trace)) h
-    (packet_taken config tracker c i h)
-    (pushed_by config c i h (packet_taken config tracker c i h)) sys.manager x) c h.mail h.state sys x queue
-    (first-token (is_caching config) channel.E c h.mail h.state sys x queue width is.invariant is.carried beats)
-    (λ n rest tokens next. acks-delivered config log h sys c n rest x queue (map (message_of h.mail h.state c) rest)
-    width is beats tokens next)
+channel_e-delivered {w} {config} {log} tracker h {sys} c x queue width is beats =
+    by-first_e (λ i. Delivered config c Channel.E (unfinished Channel.E (on_link c sys.manager.trace)) h
+    (packet_taken config tracker c i h) (pushed_by config c i h (packet_taken config tracker c i h)) sys.manager x)
+    (first-token (is_caching config) Channel.E c h.mail h.state sys x queue width is.invariant is.carried beats)
+    (λ n rest tokens next. acks-delivered h c n rest width is beats tokens next)

@@ -1,21 +1,16 @@
 -- The manager's end after a delivery on channel C or E, as a step of the whole and as the protocol follows it.
 use Rattle.tl_coherence.proofs.deliveries.Imports.{IsWidth, Beat, Channel, unfinished, completes, Config, EndConfig}
-use Rattle.tl_coherence.proofs.deliveries.Imports.{reaction, End, Deliver, AbstractState}
-use Rattle.tl_coherence.proofs.deliveries.Imports.{abstract_delivery, abstract_step}
-use Rattle.tl_coherence.proofs.deliveries.Imports.{packet_taken, Log, receiver, packets_on, Step, handing, is_to_client}
-use Rattle.tl_coherence.proofs.deliveries.Imports.{manager_took, stepped, System, terms_at, with_channel, with_manager}
-use Rattle.tl_coherence.proofs.deliveries.Imports.{SimulationRelation}
+use Rattle.tl_coherence.proofs.deliveries.Imports.{reaction, End, Deliver, AbstractState, abstract_delivery}
+use Rattle.tl_coherence.proofs.deliveries.Imports.{abstract_step, packet_taken, Log, receiver, packets_on, Step}
+use Rattle.tl_coherence.proofs.deliveries.Imports.{handing, is_to_client, stepped, System, terms_at, with_channel}
+use Rattle.tl_coherence.proofs.deliveries.Imports.{with_manager, SimulationRelation}
 use Rattle.std.proofs.Common.{false, ◌≡◌, ℕ, List, ◌∷◌, Option, Some, None, refl, sym, ◌∙◌, ap, subst, arith}
 use Rattle.std.specs.Prelude.{if◌then◌else◌, option_map, slice_get, All}
-use Rattle.tl_beat.specs.declared.channel.Channel.TheVariants as channel
 use Rattle.tl_params.specs.declared.config.ClientConfig.{ClientConfig}
 use Rattle.tl_manager.specs.code.Kept as manager
 use Rattle.tl_manager.specs.code.Kept.{illegal_at}
 use Rattle.tl_manager.specs.statement.Service.{services, least_untaken, trackers_of}
-use Rattle.tl_manager.specs.statement.Offer as manager_offer
-use Rattle.tl_manager.specs.statement.Offer.{level_of}
-use Rattle.tl_coherence.specs.declared.event.Outcome.TheVariants as outcome
-use Rattle.tl_coherence.specs.refinement.AbstractStep.{is_last}
+use Rattle.tl_coherence.specs.{declared.event.Outcome.Outcome, refinement.AbstractStep.is_last}
 use Rattle.tl_coherence.proofs.manager.ManagerAfter.{IsManagerOf, left}
 use Rattle.tl_coherence.proofs.deliveries.ManagerDelivered.{channel_c-delivered, channel_e-delivered}
 use Rattle.tl_coherence.proofs.manager.ManagerTakes.{IsTakenUp}
@@ -23,90 +18,84 @@ use Rattle.tl_coherence.proofs.queues.Steps.{manager-with_messages, stepped-to-m
 
 -- a link that has a beat is a client's
 pub client-of : {w : ℕ} (config : Config) (c : ℕ) (ch : Channel) (x : Beat w) (queue : List (Beat w)) (sys : System w)
-    → sys.channels c ch ≡ x ∷ queue
-    → All (λ y. manager.IsSound config (record { 0 = c }, y)) (sys.channels c ch)
+    → sys.channels c ch ≡ x ∷ queue → All (λ y. manager.IsSound config (record { 0 = c }, y)) (sys.channels c ch)
     → (t : EndConfig) × (terms_at config c ≡ Some t)
 client-of {w} config c ch x queue sys beats sound =
+    let go : (o : Option ClientConfig) → illegal_at (option_map (λ (i : ClientConfig). i.level) o) x ≡ None
+    → (t : EndConfig) × (option_map (λ (i : ClientConfig). record {
+      level = i.level;
+      profile = config.profile;
+      sources = i.sources;
+      blocks = config.blocks;
+    }) o ≡ Some t) =
+    elim [ None ↦ λ e. absurd cc | Some i ↦ λ e. (_, refl) ] in
     let all : All (λ y. manager.IsSound config (record { 0 = c }, y)) (x ∷ queue) = rw beats at sound in
     let first : manager.IsSound config (record { 0 = c }, x) = all 0 x (omega arith) in
     go (slice_get config.clients.items c) first.lawful
-  where
-    go : (o : Option ClientConfig) → illegal_at (option_map (λ (i : ClientConfig). i.level) o) x ≡ None
-        → (t : EndConfig) × (option_map (λ (i : ClientConfig). record {
-          level = i.level;
-          profile =
-              config.profile;
-          sources = i.sources;
-          blocks = config.blocks;
-        }) o ≡ Some t)
-    go None e = absurd cc
-    go (Some i) e = (_, refl)
 
 -- what the step is
 pub step-taken : {w : ℕ} (config : Config) (c : ℕ) (ch : Channel) (x : Beat w) (queue : List (Beat w)) (sys : System w)
-    (t : EndConfig) → terms_at config c ≡ Some t
-    → sys.channels c ch ≡ x ∷ queue → is_to_client ch ≡ false → IsTakenUp config c ch x sys.manager
-    → stepped config (Deliver (record { 0 = c }) ch) sys
-    ≡ handing (outcome.Moved x) (reaction config (record { 0 = c }) x sys.manager).handed
+    (t : EndConfig) → terms_at config c ≡ Some t → sys.channels c ch ≡ x ∷ queue → is_to_client ch ≡ false
+    → IsTakenUp config c ch x sys.manager → stepped config (Deliver (record { 0 = c }) ch) sys
+    ≡ handing (Outcome.Moved x) (reaction config (record { 0 = c }) x sys.manager).handed
     (with_manager (left c x (reaction config (record { 0 = c }) x sys.manager) sys.manager)
     (with_channel c ch queue sys))
 step-taken {w} config c ch x queue sys t terms beats down up =
-    stepped-to-manager config (record { 0 = c }) ch sys t x queue terms beats down ∙ ap
-    (λ (p : manager_offer.Reception w × End w). manager_took c ch x queue p sys) up.answer
+    cc (stepped-to-manager config (record { 0 = c }) ch sys t x queue terms beats down, up.answer)
 
 pub manager-taken : {w : ℕ} (config : Config) (c : ℕ) (ch : Channel) (x : Beat w) (queue : List (Beat w))
-    (sys : System w) (t : EndConfig)
-    → terms_at config c ≡ Some t → sys.channels c ch ≡ x ∷ queue → is_to_client ch ≡ false
-    → IsTakenUp config c ch x sys.manager
-    → (stepped config (Deliver (record { 0 = c }) ch) sys).after.manager ≡ left c x
-    (reaction config (record { 0 = c }) x sys.manager) sys.manager
+    (sys : System w) (t : EndConfig) → terms_at config c ≡ Some t → sys.channels c ch ≡ x ∷ queue
+    → is_to_client ch ≡ false → IsTakenUp config c ch x sys.manager
+    → (stepped config (Deliver (record { 0 = c }) ch) sys).after.manager
+    ≡ left c x (reaction config (record { 0 = c }) x sys.manager) sys.manager
 manager-taken {w} config c ch x queue sys t terms beats down up =
-    ap (λ (s : Step w). s.after.manager) (step-taken config c ch x queue sys t terms beats down up)
-    ∙ manager-with_messages (reaction config (record { 0 = c }) x sys.manager).handed
-    (with_manager (left c x (reaction config (record { 0 = c }) x sys.manager) sys.manager)
-    (with_channel c ch queue sys))
+    cc (
+      step-taken config c ch x queue sys t terms beats down up,
+      manager-with_messages
+          (reaction config (record { 0 = c }) x sys.manager).handed
+          (with_manager (left c x (reaction config (record { 0 = c }) x sys.manager) sys.manager)
+          (with_channel c ch queue sys)),
+    )
 
 -- and what the protocol does then
-pub followed-taken : {w : ℕ} (config : Config) (c : ℕ) (ch : Channel) (x : Beat w) (queue : List (Beat w))
-    (sys : System w) (h : AbstractState w) (t : EndConfig)
-    → terms_at config c ≡ Some t → sys.channels c ch ≡ x ∷ queue → is_to_client ch ≡ false
-    → IsTakenUp config c ch x sys.manager
+pub followed-taken : {w : ℕ} {config : Config} {c : ℕ} {ch : Channel} {x : Beat w} (queue : List (Beat w))
+    (sys : System w) (h : AbstractState w) (t : EndConfig) → terms_at config c ≡ Some t → sys.channels c ch ≡ x ∷ queue
+    → is_to_client ch ≡ false → IsTakenUp config c ch x sys.manager
     → abstract_step config (Deliver (record { 0 = c }) ch) sys h
     ≡ (if completes x (unfinished ch (receiver ch c sys)) then packet_taken config
     (least_untaken (trackers_of (services sys.manager.trace))) c (packets_on ch (h.state.link c)) h else h)
-followed-taken {w} config c ch x queue sys h t terms beats down up =
+followed-taken {w} {config} {c} {ch} {x} queue sys h t terms beats down up =
     ap (λ (s : Step w). abstract_delivery config c ch s.outcome sys h)
-    (step-taken config c ch x queue sys t terms beats down
-    up)
+    (step-taken config c ch x queue sys t terms beats down up)
     ∙ ap (λ (b : List (Beat w)). if is_last b (unfinished ch (receiver ch c sys)) then packet_taken config
     (least_untaken (trackers_of (services sys.manager.trace))) c (packets_on ch (h.state.link c)) h else h) beats
 
-pub manager-followed_c : {w : ℕ} (config : Config) (log : Log w) (h : AbstractState w) (sys : System w) (c : ℕ)
+pub manager-followed_c : {w : ℕ} {config : Config} {log : Log w} (h : AbstractState w) {sys : System w} (c : ℕ)
     (x : Beat w) (queue : List (Beat w)) → IsWidth w
-    → SimulationRelation config log h.mail h.request h.state sys → sys.channels c channel.C ≡ x ∷ queue
-    → IsManagerOf config (abstract_step config (Deliver (record { 0 = c }) channel.C) sys h)
-    (stepped config (Deliver (record { 0 = c }) channel.C) sys).after.manager
-manager-followed_c {w} config log h sys c x queue width is beats =
-    let t = client-of config c channel.C x queue sys beats (is.sound c channel.C) in
-    let d = channel_c-delivered config log (least_untaken (trackers_of (services sys.manager.trace))) h sys c x queue
+    → SimulationRelation config log h.mail h.request h.state sys → sys.channels c Channel.C ≡ x ∷ queue
+    → IsManagerOf config (abstract_step config (Deliver (record { 0 = c }) Channel.C) sys h)
+    (stepped config (Deliver (record { 0 = c }) Channel.C) sys).after.manager
+manager-followed_c {w} {config} {log} h {sys} c x queue width is beats =
+    let t = client-of config c Channel.C x queue sys beats (is.sound c Channel.C) in
+    let d = channel_c-delivered (least_untaken (trackers_of (services sys.manager.trace))) h c x queue
     width is beats in
-    subst (λ (i : End w). IsManagerOf config (abstract_step config (Deliver (record { 0 = c }) channel.C) sys h) i)
-    (sym (manager-taken config c channel.C x queue sys t.0 t.1 beats refl d.up))
+    subst (λ (i : End w). IsManagerOf config (abstract_step config (Deliver (record { 0 = c }) Channel.C) sys h) i)
+    (sym (manager-taken config c Channel.C x queue sys t.0 t.1 beats refl d.up))
     (subst (λ (i : AbstractState w). IsManagerOf config i (left c x (reaction config (record { 0 = c }) x sys.manager)
     sys.manager))
-    (sym (followed-taken config c channel.C x queue sys h t.0 t.1 beats refl d.up)) d.manager)
+    (sym (followed-taken queue sys h t.0 t.1 beats refl d.up)) d.manager)
 
-pub manager-followed_e : {w : ℕ} (config : Config) (log : Log w) (h : AbstractState w) (sys : System w) (c : ℕ)
+pub manager-followed_e : {w : ℕ} {config : Config} {log : Log w} (h : AbstractState w) {sys : System w} (c : ℕ)
     (x : Beat w) (queue : List (Beat w)) → IsWidth w
-    → SimulationRelation config log h.mail h.request h.state sys → sys.channels c channel.E ≡ x ∷ queue
-    → IsManagerOf config (abstract_step config (Deliver (record { 0 = c }) channel.E) sys h)
-    (stepped config (Deliver (record { 0 = c }) channel.E) sys).after.manager
-manager-followed_e {w} config log h sys c x queue width is beats =
-    let t = client-of config c channel.E x queue sys beats (is.sound c channel.E) in
-    let d = channel_e-delivered config log (least_untaken (trackers_of (services sys.manager.trace))) h sys c x queue
+    → SimulationRelation config log h.mail h.request h.state sys → sys.channels c Channel.E ≡ x ∷ queue
+    → IsManagerOf config (abstract_step config (Deliver (record { 0 = c }) Channel.E) sys h)
+    (stepped config (Deliver (record { 0 = c }) Channel.E) sys).after.manager
+manager-followed_e {w} {config} {log} h {sys} c x queue width is beats =
+    let t = client-of config c Channel.E x queue sys beats (is.sound c Channel.E) in
+    let d = channel_e-delivered (least_untaken (trackers_of (services sys.manager.trace))) h c x queue
     width is beats in
-    subst (λ (i : End w). IsManagerOf config (abstract_step config (Deliver (record { 0 = c }) channel.E) sys h) i)
-    (sym (manager-taken config c channel.E x queue sys t.0 t.1 beats refl d.up))
+    subst (λ (i : End w). IsManagerOf config (abstract_step config (Deliver (record { 0 = c }) Channel.E) sys h) i)
+    (sym (manager-taken config c Channel.E x queue sys t.0 t.1 beats refl d.up))
     (subst (λ (i : AbstractState w). IsManagerOf config i (left c x (reaction config (record { 0 = c }) x sys.manager)
     sys.manager))
-    (sym (followed-taken config c channel.E x queue sys h t.0 t.1 beats refl d.up)) d.manager)
+    (sym (followed-taken queue sys h t.0 t.1 beats refl d.up)) d.manager)

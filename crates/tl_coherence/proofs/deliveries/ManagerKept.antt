@@ -1,19 +1,15 @@
 -- What is kept of the manager's end is kept by every event, where the invariant is.
 use Rattle.tl_coherence.proofs.deliveries.Imports.{IsWidth, Beat, Channel, Config, EndConfig, Event, Ask, Deliver}
-use Rattle.tl_coherence.proofs.deliveries.Imports.{AbstractState, abstract_delivery}
-use Rattle.tl_coherence.proofs.deliveries.Imports.{abstract_step, IsInvariant, Log, Step}
-use Rattle.tl_coherence.proofs.deliveries.Imports.{stepped, System, terms_at, SimulationRelation, is_caching}
+use Rattle.tl_coherence.proofs.deliveries.Imports.{AbstractState, abstract_delivery, abstract_step, IsInvariant, Log}
+use Rattle.tl_coherence.proofs.deliveries.Imports.{Step, stepped, System, terms_at, SimulationRelation, is_caching}
 use Rattle.std.proofs.Common.{◌≡◌, subst, ℕ, List, [], ◌∷◌, Option, Some, None, refl, sym}
 use Rattle.std.specs.Prelude.{⊤}
-use Rattle.tl_beat.specs.declared.channel.Channel.TheVariants as channel
 use Rattle.tl_client.specs.statement.Ask as client_ask
 use Rattle.tl_coherence.specs.statement.Step.{client_of}
-use Rattle.tl_coherence.proofs.protocol.FollowKept.{IsAskable}
-use Rattle.tl_coherence.proofs.manager.ManagerAfter.{IsManagerOf}
-use Rattle.tl_coherence.proofs.manager.ManagersEnd.{at_manager-matched}
+use Rattle.tl_coherence.proofs.{protocol.FollowKept.IsAskable, manager.ManagerAfter.IsManagerOf}
+use Rattle.tl_coherence.proofs.{manager.ManagersEnd.at_manager-matched}
+use Rattle.tl_coherence.proofs.{deliveries.RequestsDelivered.at_manager-delivered_a, queues.Steps.stepped-empty}
 use Rattle.tl_coherence.proofs.deliveries.ManagerFollowed.{manager-followed_c, manager-followed_e}
-use Rattle.tl_coherence.proofs.deliveries.RequestsDelivered.{at_manager-delivered_a}
-use Rattle.tl_coherence.proofs.queues.Steps.{stepped-empty}
 use Rattle.tl_coherence.proofs.manager.UnseenSteps.{at_manager-nobody, at_manager-ask, at_manager-to_client}
 
 -- what the invariant asks for at an event of a client with these terms: that a client may do what it is asked; that
@@ -21,60 +17,55 @@ use Rattle.tl_coherence.proofs.manager.UnseenSteps.{at_manager-nobody, at_manage
 abbrev pub IsAllowed : {w : ℕ} → Config → Event w → EndConfig → System w → AbstractState w → Type 0
 IsAllowed config (Ask c o) terms sys h =
     IsAskable (is_caching config) c o (client_ask.asked terms o (sys.clients c)).reply h
-IsAllowed config (Deliver link channel.B) terms sys h =
-    IsInvariant (is_caching config) (abstract_step config (Deliver link channel.B) sys h).state
-IsAllowed config (Deliver link channel.D) terms sys h =
-    IsInvariant (is_caching config) (abstract_step config (Deliver link channel.D) sys h).state
+IsAllowed config (Deliver link Channel.B) terms sys h =
+    IsInvariant (is_caching config) (abstract_step config (Deliver link Channel.B) sys h).state
+IsAllowed config (Deliver link Channel.D) terms sys h =
+    IsInvariant (is_caching config) (abstract_step config (Deliver link Channel.D) sys h).state
 IsAllowed config event terms sys h = ⊤
 
 -- where a channel is empty
-empty-delivered : {w : ℕ} (config : Config) (log : Log w) (h : AbstractState w) (sys : System w) (c : ℕ) (ch : Channel)
-    (terms : EndConfig)
-    → SimulationRelation config log h.mail h.request h.state sys → terms_at config c ≡ Some terms
-    → sys.channels c ch ≡ []
-    → IsManagerOf config (abstract_step config (Deliver (record { 0 = c }) ch) sys h)
+empty-delivered : {w : ℕ} {config : Config} {log : Log w} (h : AbstractState w) {sys : System w} (c : ℕ) (ch : Channel)
+    (terms : EndConfig) → SimulationRelation config log h.mail h.request h.state sys → terms_at config c ≡ Some terms
+    → sys.channels c ch ≡ [] → IsManagerOf config (abstract_step config (Deliver (record { 0 = c }) ch) sys h)
     (stepped config (Deliver (record { 0 = c }) ch) sys).after.manager
-empty-delivered {w} config log h sys c ch terms is client none =
-    subst (λ (s : Step w). IsManagerOf config (abstract_delivery config c ch s.outcome sys h) s.after.manager)
-    (sym (stepped-empty config (record { 0 = c }) ch sys terms client none))
-    (at_manager-matched config log h.mail h.request h.state sys is)
+empty-delivered {w} {config} {log} h {sys} c ch terms is client none =
+    rw (stepped-empty config (record { 0 = c }) ch sys terms client none) (at_manager-matched is)
 
-pub manager-kept : {w : ℕ} (config : Config) (log : Log w) (h : AbstractState w) (sys : System w) (event : Event w)
+pub manager-kept : {w : ℕ} {config : Config} {log : Log w} (h : AbstractState w) {sys : System w} (event : Event w)
     → IsWidth w → SimulationRelation config log h.mail h.request h.state sys
     → ((terms : EndConfig) → terms_at config (client_of event) ≡ Some terms → IsAllowed config event terms sys h)
     → IsManagerOf config (abstract_step config event sys h) (stepped config event sys).after.manager
-manager-kept {w} config log h sys event width is may = go (terms_at config (client_of event)) refl
+manager-kept {w} {config} {log} h {sys} event width is may = go (terms_at config (client_of event)) refl
   where
     reports : (c : ℕ) (terms : EndConfig) → terms_at config c ≡ Some terms → (xs : List (Beat w))
-        → sys.channels c channel.C ≡ xs
-        → IsManagerOf config (abstract_step config (Deliver (record { 0 = c }) channel.C) sys h)
-        (stepped config (Deliver (record { 0 = c }) channel.C) sys).after.manager
-    reports c terms client [] e = empty-delivered config log h sys c channel.C terms is client e
-    reports c terms client (x ∷ queue) e = manager-followed_c config log h sys c x queue width is e
+        → sys.channels c Channel.C ≡ xs
+        → IsManagerOf config (abstract_step config (Deliver (record { 0 = c }) Channel.C) sys h)
+        (stepped config (Deliver (record { 0 = c }) Channel.C) sys).after.manager
+    reports c terms client [] e = empty-delivered h c Channel.C terms is client e
+    reports c terms client (x ∷ queue) e = manager-followed_c h c x queue width is e
 
     acks : (c : ℕ) (terms : EndConfig) → terms_at config c ≡ Some terms → (xs : List (Beat w))
-        → sys.channels c channel.E ≡ xs
-        → IsManagerOf config (abstract_step config (Deliver (record { 0 = c }) channel.E) sys h)
-        (stepped config (Deliver (record { 0 = c }) channel.E) sys).after.manager
-    acks c terms client [] e = empty-delivered config log h sys c channel.E terms is client e
-    acks c terms client (x ∷ queue) e = manager-followed_e config log h sys c x queue width is e
+        → sys.channels c Channel.E ≡ xs
+        → IsManagerOf config (abstract_step config (Deliver (record { 0 = c }) Channel.E) sys h)
+        (stepped config (Deliver (record { 0 = c }) Channel.E) sys).after.manager
+    acks c terms client [] e = empty-delivered h c Channel.E terms is client e
+    acks c terms client (x ∷ queue) e = manager-followed_e h c x queue width is e
 
     with_terms : (terms : EndConfig) (event : Event w) → terms_at config (client_of event) ≡ Some terms
         → IsAllowed config event terms sys h
         → IsManagerOf config (abstract_step config event sys h) (stepped config event sys).after.manager
-    with_terms terms (Ask c o) client allowed = at_manager-ask config log h sys c o terms is client allowed
-    with_terms terms (Deliver link channel.A) client allowed = at_manager-delivered_a config log h sys link.0 terms
-        width is client
-    with_terms terms (Deliver link channel.B) client allowed = at_manager-to_client config log h sys link channel.B
+    with_terms terms (Ask c o) client allowed = at_manager-ask h c o terms is client allowed
+    with_terms terms (Deliver link Channel.A) client allowed = at_manager-delivered_a h link.0 terms width is client
+    with_terms terms (Deliver link Channel.B) client allowed = at_manager-to_client h link Channel.B
         terms is client refl allowed
-    with_terms terms (Deliver link channel.C) client allowed =
-        reports link.0 terms client (sys.channels link.0 channel.C) refl
-    with_terms terms (Deliver link channel.D) client allowed = at_manager-to_client config log h sys link channel.D
+    with_terms terms (Deliver link Channel.C) client allowed =
+        reports link.0 terms client (sys.channels link.0 Channel.C) refl
+    with_terms terms (Deliver link Channel.D) client allowed = at_manager-to_client h link Channel.D
         terms is client refl allowed
-    with_terms terms (Deliver link channel.E) client allowed = acks link.0 terms client (sys.channels link.0 channel.E)
+    with_terms terms (Deliver link Channel.E) client allowed = acks link.0 terms client (sys.channels link.0 Channel.E)
         refl
 
     go : (o : Option EndConfig) → terms_at config (client_of event) ≡ o
         → IsManagerOf config (abstract_step config event sys h) (stepped config event sys).after.manager
-    go None e = at_manager-nobody config log h sys event is e
+    go None e = at_manager-nobody h event is e
     go (Some terms) e = with_terms terms event e (may terms e)

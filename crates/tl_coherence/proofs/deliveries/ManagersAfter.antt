@@ -2,8 +2,8 @@
 use Rattle.tl_coherence.proofs.deliveries.Imports.{IsWidth, Beat, Link, Channel, Message, beat_of, unfinished}
 use Rattle.tl_coherence.proofs.deliveries.Imports.{completes, Config, Prune, Report, Perm, report_left, on_link}
 use Rattle.tl_coherence.proofs.deliveries.Imports.{release, Handed, reaction, reaction-part, Deliver, MemoryRelation}
-use Rattle.tl_coherence.proofs.deliveries.Imports.{is_moving, AbstractState, abstract_step, packet_taken, kind_taken}
-use Rattle.tl_coherence.proofs.deliveries.Imports.{Log, system_after, Machine, ChannelRelation, receiver, AcquirePhase}
+use Rattle.tl_coherence.proofs.deliveries.Imports.{is_moving, AbstractState, abstract_step, kind_taken, Log}
+use Rattle.tl_coherence.proofs.deliveries.Imports.{system_after, Machine, ChannelRelation, receiver, AcquirePhase}
 use Rattle.tl_coherence.proofs.deliveries.Imports.{NoAcquire, AcquireOpen, Block, SourceState, packet, packets_on}
 use Rattle.tl_coherence.proofs.deliveries.Imports.{is_on, one_memory_after, performing, accesses_answered, report_told}
 use Rattle.tl_coherence.proofs.deliveries.Imports.{prune_told, block_message, message_of_kind, Step, stepped, handing}
@@ -12,130 +12,90 @@ use Rattle.tl_coherence.proofs.deliveries.Imports.{with_channel, with_messages, 
 use Rattle.tl_coherence.proofs.deliveries.Imports.{Release, Answer, Grant, ReleaseAck, GrantAck, Packet}
 use Rattle.tl_coherence.proofs.deliveries.Imports.{SimulationRelation, is_caching, IsRequest}
 use Rattle.std.proofs.Common.{◌≡◌, ℕ, Bool, true, false, List, [], ◌∷◌, Option, Some, None, refl, sym, ◌∙◌, ap, subst}
-use Rattle.std.specs.Prelude.{if◌then◌else◌, All}
-use Rattle.std.proofs.lemmas.List.Elements.{All-head}
-use Rattle.tl_beat.specs.declared.channel.Channel.TheVariants as channel
-use Rattle.tl_beat.specs.declared.opcode.OpB.TheVariants as opb
-use Rattle.tl_burst.specs.declared.message.Message.TheVariants as message
+use Rattle.std.{specs.Prelude.if◌then◌else◌, specs.Prelude.All, proofs.lemmas.List.Elements.All-head}
+use Rattle.tl_beat.specs.declared.opcode.OpB.{OpB}
 use Rattle.tl_burst.specs.statement.Messages.{channel_of}
-use Rattle.tl_params.specs.declared.param.Prune.TheVariants as prune
-use Rattle.tl_params.specs.declared.perm.Perm.TheVariants as perm
 use Rattle.tl_rules.specs.statement.History.{ends}
 use Rattle.tl_client.specs.statement.Endpoint as client
 use Rattle.tl_client.specs.statement.Send.{probe_ack}
 use Rattle.tl_manager.specs.code.Kept as manager
 use Rattle.tl_manager.specs.statement.End as manager_end
 use Rattle.tl_manager.specs.statement.Offer as manager_offer
-use Rattle.tl_coherence.specs.declared.event.Outcome.TheVariants as outcome
-use Rattle.tl_coherence.specs.refinement.PacketMessages.{acquire_of}
-use Rattle.tl_coherence.specs.refinement.SimulationRelation.{IsSourced}
-use Rattle.tl_coherence.proofs.queues.Channels.{behind, IsTaken}
-use Rattle.tl_coherence.proofs.queues.FirstToken.{IsFirst, first-token}
-use Rattle.tl_coherence.proofs.deliveries.DeliverDAfter.{followed-moving}
-use Rattle.tl_coherence.proofs.deliveries.DeliverDWhole.{remembered_after}
+use Rattle.tl_coherence.specs.{declared.event.Outcome.Outcome, refinement.PacketMessages.acquire_of}
+use Rattle.tl_coherence.specs.{refinement.SimulationRelation.IsSourced}
+use Rattle.tl_coherence.proofs.{queues.Channels.behind, queues.Channels.IsTaken, queues.FirstToken.IsFirst}
+use Rattle.tl_coherence.proofs.{queues.FirstToken.first-token, deliveries.DeliverDAfter.followed-moving}
+use Rattle.tl_coherence.proofs.{deliveries.DeliverDWhole.remembered_after, manager.UnwaitedRequests.next_tracker}
+use Rattle.tl_coherence.proofs.{simulation.SourcedAfter.first-asked}
 use Rattle.tl_coherence.proofs.deliveries.DeliverDUnmoved.{IsDelivered, delivered_as}
 use Rattle.tl_coherence.proofs.queues.Landed.{IsOn, HasTaken, landed-manager, taken-landed}
 use Rattle.tl_coherence.proofs.simulation.Moved.{manager-moves, manager-heard, carried-part}
-use Rattle.tl_coherence.proofs.manager.UnwaitedRequests.{next_tracker}
-use Rattle.tl_coherence.proofs.simulation.SourcedAfter.{first-asked}
 
 -- ---- the channel of a message, and of its beats
 
 pub on_message : {w : ℕ} (m : Message w) (i : ℕ) → IsOn (channel_of_message m) (beat_of m i)
-on_message (message.A m) i channel.A = refl
-on_message (message.A m) i channel.B = refl
-on_message (message.A m) i channel.C = refl
-on_message (message.A m) i channel.D = refl
-on_message (message.A m) i channel.E = refl
-on_message (message.B m) i channel.A = refl
-on_message (message.B m) i channel.B = refl
-on_message (message.B m) i channel.C = refl
-on_message (message.B m) i channel.D = refl
-on_message (message.B m) i channel.E = refl
-on_message (message.C m) i channel.A = refl
-on_message (message.C m) i channel.B = refl
-on_message (message.C m) i channel.C = refl
-on_message (message.C m) i channel.D = refl
-on_message (message.C m) i channel.E = refl
-on_message (message.D m) i channel.A = refl
-on_message (message.D m) i channel.B = refl
-on_message (message.D m) i channel.C = refl
-on_message (message.D m) i channel.D = refl
-on_message (message.D m) i channel.E = refl
-on_message (message.E m) i channel.A = refl
-on_message (message.E m) i channel.B = refl
-on_message (message.E m) i channel.C = refl
-on_message (message.E m) i channel.D = refl
-on_message (message.E m) i channel.E = refl
+on_message (Message.A m) i Channel.A = refl
+on_message (Message.A m) i Channel.B = refl
+on_message (Message.A m) i Channel.C = refl
+on_message (Message.A m) i Channel.D = refl
+on_message (Message.A m) i Channel.E = refl
+on_message (Message.B m) i Channel.A = refl
+on_message (Message.B m) i Channel.B = refl
+on_message (Message.B m) i Channel.C = refl
+on_message (Message.B m) i Channel.D = refl
+on_message (Message.B m) i Channel.E = refl
+on_message (Message.C m) i Channel.A = refl
+on_message (Message.C m) i Channel.B = refl
+on_message (Message.C m) i Channel.C = refl
+on_message (Message.C m) i Channel.D = refl
+on_message (Message.C m) i Channel.E = refl
+on_message (Message.D m) i Channel.A = refl
+on_message (Message.D m) i Channel.B = refl
+on_message (Message.D m) i Channel.C = refl
+on_message (Message.D m) i Channel.D = refl
+on_message (Message.D m) i Channel.E = refl
+on_message (Message.E m) i Channel.A = refl
+on_message (Message.E m) i Channel.B = refl
+on_message (Message.E m) i Channel.C = refl
+on_message (Message.E m) i Channel.D = refl
+on_message (Message.E m) i Channel.E = refl
 
 channel_of_beat : {w : ℕ} (m : Message w) (i : ℕ) → channel_of (beat_of m i) ≡ channel_of_message m
-channel_of_beat (message.A m) i = refl
-channel_of_beat (message.B m) i = refl
-channel_of_beat (message.C m) i = refl
-channel_of_beat (message.D m) i = refl
-channel_of_beat (message.E m) i = refl
+channel_of_beat (Message.A m) i = refl
+channel_of_beat m i = refl
 
 acquire_channel : (w : ℕ) (x : AcquirePhase) (source n : ℕ)
-    → channel_of_message {w = w} (acquire_of x source n) ≡ channel.A
+    → channel_of_message {w = w} (acquire_of x source n) ≡ Channel.A
 acquire_channel w NoAcquire source n = refl
 acquire_channel w (AcquireOpen true g) source n = refl
 acquire_channel w (AcquireOpen false g) source n = refl
 
 pub ack_channel : (w : ℕ) (p : Perm) (r : Report) (n : ℕ) (x : List ℕ)
-    → channel_of_message {w = w} (probe_ack opb.ProbeBlock p r n x) ≡ channel.C
-ack_channel w perm.None r n x = refl
-ack_channel w perm.Branch r n x = refl
-ack_channel w perm.Trunk r n x = refl
+    → channel_of_message {w = w} (probe_ack OpB.ProbeBlock p r n x) ≡ Channel.C
+ack_channel w Perm.None r n x = refl
+ack_channel w p r n x = refl
 
 pub release_channel : (w : ℕ) (p : Prune) (source n : ℕ) (x : List ℕ)
-    → channel_of_message {w = w} (release p source n x) ≡ channel.C
-release_channel w prune.TtoB source n x = refl
-release_channel w prune.TtoN source n x = refl
-release_channel w prune.BtoN source n x = refl
+    → channel_of_message {w = w} (release p source n x) ≡ Channel.C
+release_channel w Prune.TtoB source n x = refl
+release_channel w p source n x = refl
 
 request_channel : {w : ℕ} (config : Config) (c source : ℕ) (m : Message w) → IsRequest config c source m
-    → channel_of_message m ≡ channel.A
-request_channel config c source (message.A m) h = refl
-request_channel config c source (message.B m) h = absurd (let e = h.0 in cc)
-request_channel config c source (message.C m) h = absurd (let e = h.0 in cc)
-request_channel config c source (message.D m) h = absurd (let e = h.0 in cc)
-request_channel config c source (message.E m) h = absurd (let e = h.0 in cc)
+    → channel_of_message m ≡ Channel.A
+request_channel config c source (Message.A m) h = refl
+request_channel config c source m h = absurd (let e = h.0 in cc)
 
 rendered_channel : (w : ℕ) (ch : Channel) (k : Kind) (c n : ℕ) (b : Block (List ℕ)) → is_to_client ch ≡ false
-    → is_on ch k ≡ true → (k ≡ Request → ⊥)
-    → channel_of_message (block_message {w = w} k c n b) ≡ ch
+    → is_on ch k ≡ true → (k ≡ Request → ⊥) → channel_of_message (block_message {w = w} k c n b) ≡ ch
 unfolding block_message
-rendered_channel w channel.A Acquire c n b down own other = acquire_channel w (b.pair c).acquiring (b.source c) n
-rendered_channel w channel.A Request c n b down own other = absurd (other refl)
-rendered_channel w channel.C ProbeAck c n b down own other =
+rendered_channel w Channel.A Acquire c n b down own other = acquire_channel w (b.pair c).acquiring (b.source c) n
+rendered_channel w Channel.A Request c n b down own other = absurd (other refl)
+rendered_channel w Channel.C ProbeAck c n b down own other =
     ack_channel w (report_left (report_told (b.pair c).probing)) (report_told (b.pair c).probing) n b.truth
-rendered_channel w channel.C Release c n b down own other =
+rendered_channel w Channel.C Release c n b down own other =
     release_channel w (prune_told (b.pair c).letting) (b.release_source c) n b.truth
-rendered_channel w channel.E GrantAck c n b down own other = refl
-rendered_channel w channel.B k c n b down own other = absurd cc
-rendered_channel w channel.D k c n b down own other = absurd cc
-rendered_channel w channel.A Probe c n b down own other = absurd cc
-rendered_channel w channel.A ProbeAck c n b down own other = absurd cc
-rendered_channel w channel.A Release c n b down own other = absurd cc
-rendered_channel w channel.A Answer c n b down own other = absurd cc
-rendered_channel w channel.A Grant c n b down own other = absurd cc
-rendered_channel w channel.A ReleaseAck c n b down own other = absurd cc
-rendered_channel w channel.A GrantAck c n b down own other = absurd cc
-rendered_channel w channel.C Request c n b down own other = absurd cc
-rendered_channel w channel.C Acquire c n b down own other = absurd cc
-rendered_channel w channel.C Probe c n b down own other = absurd cc
-rendered_channel w channel.C Answer c n b down own other = absurd cc
-rendered_channel w channel.C Grant c n b down own other = absurd cc
-rendered_channel w channel.C ReleaseAck c n b down own other = absurd cc
-rendered_channel w channel.C GrantAck c n b down own other = absurd cc
-rendered_channel w channel.E Request c n b down own other = absurd cc
-rendered_channel w channel.E Acquire c n b down own other = absurd cc
-rendered_channel w channel.E Probe c n b down own other = absurd cc
-rendered_channel w channel.E ProbeAck c n b down own other = absurd cc
-rendered_channel w channel.E Release c n b down own other = absurd cc
-rendered_channel w channel.E Answer c n b down own other = absurd cc
-rendered_channel w channel.E Grant c n b down own other = absurd cc
-rendered_channel w channel.E ReleaseAck c n b down own other = absurd cc
+rendered_channel w Channel.E GrantAck c n b down own other = refl
+rendered_channel w ch k c n b down own other = absurd cc
 
 -- ---- the beat, and the step
 
@@ -149,23 +109,21 @@ pub record IsAtManager {w : ℕ} (config : Config) (log : Log w) (link : Link) (
   pub heard : HasTaken link.0 x (system_after config log).manager
       (manager_offer.taken link x (reaction config link x (system_after config log).manager)
       (system_after config log).manager)
-  pub step_is : stepped config (Deliver link ch) (system_after config log)
-      ≡ handing (outcome.Moved x) (reaction config link x (system_after config log).manager).handed
+  pub step_is : stepped config (Deliver link ch) (system_after config log) ≡ handing (Outcome.Moved x)
+      (reaction config link x (system_after config log).manager).handed
       (with_manager (manager_offer.taken link x (reaction config link x (system_after config log).manager)
-      (system_after config log).manager)
-      (with_channel link.0 ch queue (system_after config log)))
+      (system_after config log).manager) (with_channel link.0 ch queue (system_after config log)))
   pub follows : abstract_step config (Deliver link ch) (system_after config log) h
       ≡ (if completes x (unfinished ch (receiver ch link.0 (system_after config log))) then kind_taken config
       (next_tracker (system_after config log)) link.0 first.kind first.number first.rest h else h)
 
-pub at-manager : {w : ℕ} (config : Config) (log : Log w) (link : Link) (ch : Channel) (h : AbstractState w)
-    (terms : client.EndConfig) (x : Beat w) (queue : List (Beat w))
-    → IsWidth w → SimulationRelation config log h.mail h.request h.state (system_after config log)
-    → terms_at config link.0 ≡ Some terms → is_to_client ch ≡ false
-    → (system_after config log).channels link.0 ch ≡ x ∷ queue
-    → is_moving (stepped config (Deliver link ch) (system_after config log)).outcome ≡ true
+pub at-manager : {w : ℕ} {config : Config} {log : Log w} (link : Link) (ch : Channel) (h : AbstractState w)
+    (terms : client.EndConfig) (x : Beat w) (queue : List (Beat w)) → IsWidth w
+    → SimulationRelation config log h.mail h.request h.state (system_after config log)
+    → terms_at config link.0 ≡ Some terms → is_to_client ch ≡ false → (system_after config log).channels link.0 ch
+    ≡ x ∷ queue → is_moving (stepped config (Deliver link ch) (system_after config log)).outcome ≡ true
     → IsAtManager config log link ch h x queue
-at-manager {w} config log link ch h terms x queue width is known down beats moving =
+at-manager {w} {config} {log} link ch h terms x queue width is known down beats moving =
     let first = first-token (is_caching config) ch link.0 h.mail h.state (system_after config log) x queue width
     is.invariant is.carried beats in
     let t = manager-moves config link ch (system_after config log) terms x queue known beats down moving in
@@ -182,45 +140,34 @@ at-manager {w} config log link ch h terms x queue width is known down beats movi
       heard = manager-heard config link ch x queue (system_after config log)
           (stepped config (Deliver link ch) (system_after config log)) width head.typed is.manager_kept t;
       step_is = t.step_is;
-      follows = followed-moving config link ch (system_after config log) h x queue moving beats
-          ∙ ap (λ (l : List Packet). if completes x (unfinished ch (receiver ch link.0 (system_after config log))) then
-          packet_taken config (next_tracker (system_after config log)) link.0 l h else h) first.tokens;
+      follows = cc (followed-moving config link ch (system_after config log) h x queue moving beats, first.tokens);
     }
   where
     head : manager.IsSound config (record { 0 = link.0 }, x)
-    head = All-head (λ y. manager.IsSound config (record { 0 = link.0 }, y)) x queue (same beats (is.sound link.0 ch))
-      where
-        same : (system_after config log).channels link.0 ch ≡ x ∷ queue
-            → All (λ y. manager.IsSound config (record { 0 = link.0 }, y))
-            ((system_after config log).channels link.0 ch)
-            → All (λ y. manager.IsSound config (record { 0 = link.0 }, y)) (x ∷ queue)
-        same e f = rw e at f
+    head =
+        let same : (system_after config log).channels link.0 ch ≡ x ∷ queue
+        → All (λ y. manager.IsSound config (record { 0 = link.0 }, y))
+        ((system_after config log).channels link.0 ch)
+        → All (λ y. manager.IsSound config (record { 0 = link.0 }, y)) (x ∷ queue) = λ e f. rw e at f in
+        All-head (λ y. manager.IsSound config (record { 0 = link.0 }, y)) x queue (same beats (is.sound link.0 ch))
 
     message_channel : (k : Kind) (i : ℕ) {rest : List Packet} → packets_on ch (h.state.link link.0) ≡ packet k i ∷ rest
-        → is_on ch k ≡ true
-        → channel_of_message (message_of_kind k h.mail h.state link.0 i) ≡ ch
+        → is_on ch k ≡ true → channel_of_message (message_of_kind k h.mail h.state link.0 i) ≡ ch
     message_channel Request i {rest} tokens own = asked ch tokens own
       where
         asked : (at : Channel) → packets_on at (h.state.link link.0) ≡ packet Request i ∷ rest → is_on at Request ≡ true
             → channel_of_message (h.mail.request link.0 i) ≡ at
-        asked channel.A e f =
-            let used = first-asked (is_caching config) link.0 i rest h is.invariant e in
+        asked Channel.A e f =
+            let used = first-asked link.0 i rest h is.invariant e in
             request_channel config link.0 i (h.mail.request link.0 i)
             (subst (λ (u : SourceState). IsSourced config link.0 i (h.mail.request link.0 i) u) used
             (is.sourced link.0 i))
-        asked channel.B e f = absurd cc
-        asked channel.C e f = absurd cc
-        asked channel.D e f = absurd cc
-        asked channel.E e f = absurd cc
-    message_channel Answer i tokens own = never ch down own
-      where
-        never : (at : Channel) → is_to_client at ≡ false → is_on at Answer ≡ true
-            → channel_of_message (h.mail.answer link.0 i) ≡ at
-        never channel.D e f = absurd cc
-        never channel.A e f = absurd cc
-        never channel.B e f = absurd cc
-        never channel.C e f = absurd cc
-        never channel.E e f = absurd cc
+        asked at e f = absurd cc
+    message_channel Answer i tokens own =
+        let never : (at : Channel) → is_to_client at ≡ false → is_on at Answer ≡ true
+        → channel_of_message (h.mail.answer link.0 i) ≡ at =
+        elim [ Channel.D ↦ λ e f. absurd cc | at ↦ λ e f. absurd cc ] in
+        never ch down own
     message_channel Acquire i tokens own = rendered_channel w ch Acquire link.0 i (h.state.block i) down own
         (λ e. absurd cc)
     message_channel Probe i tokens own = rendered_channel w ch Probe link.0 i (h.state.block i) down own
@@ -244,31 +191,27 @@ after_taken config link ch x queue sys handed =
 
 -- What is left to show of the last beat of a message: what the manager hands out, and that the channels and the one
 -- memory are those of the protocol then.
-pub delivered-last : {w : ℕ} (config : Config) (log : Log w) (link : Link) (ch : Channel) (h : AbstractState w)
-    (x : Beat w) (queue : List (Beat w))
-    (handed : Handed w) (pushes : ℕ → Channel → Option (Message w)) → is_to_client ch ≡ false
-    → (is : IsAtManager config log link ch h x queue)
+pub delivered-last : {w : ℕ} {config : Config} {log : Log w} {link : Link} {ch : Channel} {h : AbstractState w}
+    {x : Beat w} {queue : List (Beat w)} (handed : Handed w) (pushes : ℕ → Channel → Option (Message w))
+    → is_to_client ch ≡ false → (is : IsAtManager config log link ch h x queue)
     → completes x (unfinished ch (receiver ch link.0 (system_after config log))) ≡ true
     → (reaction config link x (system_after config log).manager).handed ≡ handed
-    → ((d : ℕ) (at : Channel) → (after_taken config link ch x queue (system_after config log) handed).channels d
-    at ≡ behind (pushes d at) ((with_channel link.0 ch queue (system_after config log)).channels d at))
+    → ((d : ℕ) (at : Channel) → (after_taken config link ch x queue (system_after config log) handed).channels d at
+    ≡ behind (pushes d at) ((with_channel link.0 ch queue (system_after config log)).channels d at))
     → (IsTaken link.0 ch x queue pushes (system_after config log)
     (after_taken config link ch x queue (system_after config log) handed)
     → ChannelRelation (kind_taken config (next_tracker (system_after config log)) link.0 is.first.kind is.first.number
-    is.first.rest h).mail
-    (kind_taken config (next_tracker (system_after config log)) link.0 is.first.kind is.first.number is.first.rest
-    h).state
-    (after_taken config link ch x queue (system_after config log) handed))
+    is.first.rest h).mail (kind_taken config (next_tracker (system_after config log)) link.0 is.first.kind
+    is.first.number is.first.rest h).state (after_taken config link ch x queue (system_after config log) handed))
     → MemoryRelation (kind_taken config (next_tracker (system_after config log)) link.0 is.first.kind is.first.number
-    is.first.rest h).mail
-    (kind_taken config (next_tracker (system_after config log)) link.0 is.first.kind is.first.number is.first.rest
-    h).state
-    (performing (accesses_answered handed) (one_memory_after config log))
+    is.first.rest h).mail (kind_taken config (next_tracker (system_after config log)) link.0 is.first.kind
+    is.first.number is.first.rest h).state (performing (accesses_answered handed) (one_memory_after config log))
     → IsDelivered config log link ch h
-delivered-last {w} config log link ch h x queue handed pushes down is last gives pushed carried beside =
+delivered-last {w} {config} {log} {link} {ch} {h} {x} {queue} handed pushes down is last gives pushed carried beside =
+    let h' = kind_taken config (next_tracker sys) link.0 is.first.kind is.first.number is.first.rest h in
     delivered_as config log link ch h h' (is.follows ∙ ap (λ (b : Bool). if b then h' else h) last)
     (subst (λ (y : Step w). ChannelRelation h'.mail h'.state y.after) (sym step_is)
-    (carried (taken-landed link.0 ch x queue pushes sys now.after
+    (carried (taken-landed
     (landed-manager link.0 ch x queue pushes handed e sys down is.beats is.on_it is.heard pushed) last)))
     (subst (λ (m : Machine w). MemoryRelation h'.mail h'.state m)
     (sym (remembered_after config log link ch now step_is)) beside)
@@ -276,44 +219,35 @@ delivered-last {w} config log link ch h x queue handed pushes down is last gives
     sys : System w
     sys = system_after config log
 
-    h' : AbstractState w
-    h' = kind_taken config (next_tracker sys) link.0 is.first.kind is.first.number is.first.rest h
-
     e : manager_end.End w
     e = manager_offer.taken link x (reaction config link x sys.manager) sys.manager
 
     now : Step w
-    now = handing (outcome.Moved x) handed (with_manager e (with_channel link.0 ch queue sys))
+    now = handing (Outcome.Moved x) handed (with_manager e (with_channel link.0 ch queue sys))
 
     step_is : stepped config (Deliver link ch) sys ≡ now
-    step_is = is.step_is ∙ ap
-        (λ (l : Handed w). handing (outcome.Moved x) l (with_manager e (with_channel link.0 ch queue sys))) gives
+    step_is = cc (is.step_is, gives)
 
 -- ---- a beat that isn't the last of its message
 
 receiver_down : {w : ℕ} (ch : Channel) (c : ℕ) (sys : System w) → is_to_client ch ≡ false
     → receiver ch c sys ≡ on_link c sys.manager.trace
-receiver_down channel.A c sys e = refl
-receiver_down channel.C c sys e = refl
-receiver_down channel.E c sys e = refl
-receiver_down channel.B c sys e = absurd cc
-receiver_down channel.D c sys e = absurd cc
+receiver_down Channel.B c sys e = absurd cc
+receiver_down Channel.D c sys e = absurd cc
+receiver_down ch c sys e = refl
 
-pub delivered-part : {w : ℕ} (config : Config) (log : Log w) (link : Link) (ch : Channel) (h : AbstractState w)
-    (x : Beat w) (queue : List (Beat w)) → IsWidth w
-    → SimulationRelation config log h.mail h.request h.state (system_after config log) → is_to_client ch ≡ false
-    → IsAtManager config log link ch h x queue
+pub delivered-part : {w : ℕ} {config : Config} {log : Log w} {link : Link} {ch : Channel} {h : AbstractState w}
+    {x : Beat w} {queue : List (Beat w)} → IsWidth w → SimulationRelation config log h.mail h.request h.state
+    (system_after config log) → is_to_client ch ≡ false → IsAtManager config log link ch h x queue
     → completes x (unfinished ch (receiver ch link.0 (system_after config log))) ≡ false
     → IsDelivered config log link ch h
 unfolding with_messages performing accesses_answered
-delivered-part {w} config log link ch h x queue width matched down is part =
-    delivered_as config log link ch h h
-    (is.follows ∙ ap (λ (b : Bool). if b then kind_taken config (next_tracker sys) link.0 is.first.kind
-    is.first.number is.first.rest h else h) part)
-    (subst (λ (y : Step w). ChannelRelation h.mail h.state y.after) (sym step_is)
-    (carried-part h.mail h.state link.0 ch x queue (λ d at. None) sys now.after width
-    (landed-manager link.0 ch x queue (λ d at. None) [] e sys down is.beats is.on_it is.heard (λ d at. refl))
-    (λ d at. refl) part matched.carried))
+delivered-part {w} {config} {log} {link} {ch} {h} {x} {queue} width matched down is part =
+    delivered_as config log link ch h h (is.follows
+    ∙ ap (λ (b : Bool). if b then kind_taken config (next_tracker sys) link.0 is.first.kind is.first.number
+    is.first.rest h else h) part) (subst (λ (y : Step w). ChannelRelation h.mail h.state y.after) (sym step_is)
+    (carried-part h.mail h.state width (landed-manager link.0 ch x queue (λ d at. None) [] e sys down is.beats is.on_it
+    is.heard (λ d at. refl)) (λ d at. refl) part matched.carried))
     (subst (λ (m : Machine w). MemoryRelation h.mail h.state m) (sym (remembered_after config log link ch now step_is))
     matched.beside)
   where
@@ -324,13 +258,12 @@ delivered-part {w} config log link ch h x queue width matched down is part =
     e = manager_offer.taken link x (reaction config link x sys.manager) sys.manager
 
     now : Step w
-    now = handing (outcome.Moved x) [] (with_manager e (with_channel link.0 ch queue sys))
+    now = handing (Outcome.Moved x) [] (with_manager e (with_channel link.0 ch queue sys))
 
     unended : ends x (on_link link.0 sys.manager.trace) ≡ false
-    unended = ap (λ (i : Channel). completes x (unfinished i (on_link link.0 sys.manager.trace))) is.of_it ∙ ap
-        (λ t. completes x (unfinished ch t)) (sym (receiver_down ch link.0 sys down)) ∙ part
+    unended = cc (is.of_it, receiver_down ch link.0 sys down, part)
 
     step_is : stepped config (Deliver link ch) sys ≡ now
     step_is = is.step_is ∙ ap
-        (λ (l : Handed w). handing (outcome.Moved x) l (with_manager e (with_channel link.0 ch queue sys)))
+        (λ (l : Handed w). handing (Outcome.Moved x) l (with_manager e (with_channel link.0 ch queue sys)))
         (ap (λ d. d.handed) (reaction-part config link x sys.manager unended))

@@ -3,47 +3,36 @@ use Rattle.tl_coherence.proofs.deliveries.Imports.{IsWidth, Beat, Link, Channel,
 use Rattle.tl_coherence.proofs.deliveries.Imports.{Deliver, MemoryRelation, is_moving, AbstractState, abstract_step}
 use Rattle.tl_coherence.proofs.deliveries.Imports.{Log, system_after, Machine, moved, ChannelRelation, one_memory_after}
 use Rattle.tl_coherence.proofs.deliveries.Imports.{performing, accesses_answered, Step, stepped, only, System, terms_at}
-use Rattle.tl_coherence.proofs.deliveries.Imports.{SimulationRelation, is_caching}
+use Rattle.tl_coherence.proofs.deliveries.Imports.{SimulationRelation}
 use Rattle.std.proofs.Common.{◌≡◌, ℕ, Bool, true, false, List, [], ◌∷◌, Option, Some, None, refl, sym, ◌∙◌, ap, subst}
-use Rattle.tl_beat.specs.declared.channel.Channel.TheVariants as channel
 use Rattle.tl_client.specs.statement.Ask as ask
-use Rattle.tl_coherence.specs.declared.event.Outcome.{Outcome}
-use Rattle.tl_coherence.specs.declared.event.Outcome.TheVariants as outcome
+use Rattle.tl_coherence.specs.{declared.event.Outcome.Outcome, statement.Headline.IsTyped, statement.Headline.AreTyped}
+use Rattle.tl_coherence.specs.{statement.Log.IsLog, statement.Step.client_of}
 use Rattle.tl_coherence.specs.refinement.AbstractStep.{first_abstract_state, abstract_step_by}
-use Rattle.tl_coherence.specs.statement.Headline.{IsTyped, AreTyped}
-use Rattle.tl_coherence.specs.statement.Log.{IsLog}
-use Rattle.tl_coherence.specs.statement.Step.{client_of}
-use Rattle.tl_coherence.proofs.deliveries.AcksAfter.{delivered-e}
-use Rattle.tl_coherence.proofs.client.Askable.{askable}
-use Rattle.tl_coherence.proofs.deliveries.AskedAfter.{carried-ask, beside-ask}
-use Rattle.tl_coherence.proofs.deliveries.AskedWell.{asked-well}
-use Rattle.tl_coherence.proofs.client.ClientAsked.{IsEndOf}
-use Rattle.tl_coherence.proofs.client.ClientStep.{clients-kept}
+use Rattle.tl_coherence.proofs.{deliveries.AcksAfter.delivered-e, client.Askable.askable}
+use Rattle.tl_coherence.proofs.{deliveries.AskedAfter.carried-ask, deliveries.AskedAfter.beside-ask}
+use Rattle.tl_coherence.proofs.{deliveries.AskedWell.asked-well, client.ClientAsked.IsEndOf}
+use Rattle.tl_coherence.proofs.{client.ClientStep.clients-kept, simulation.Fresh.fresh-matched}
+use Rattle.tl_coherence.proofs.{deliveries.DeliverDWhole.delivered-d, deliveries.InvariantKept.invariant-followed}
+use Rattle.tl_coherence.proofs.{deliveries.ManagerFollowed.client-of}
+use Rattle.tl_coherence.proofs.{deliveries.ManagerKept.IsAllowed, deliveries.ManagerKept.manager-kept}
+use Rattle.tl_coherence.proofs.{deliveries.ProbesAfter.delivered-b, deliveries.ReportsAfter.delivered-c}
+use Rattle.tl_coherence.proofs.{manager.UnwaitedRequests.next_tracker, simulation.SoundAfter.sound-after}
+use Rattle.tl_coherence.proofs.{simulation.SoundAfter.typed-after, queues.Steps.stepped-asked}
+use Rattle.tl_coherence.proofs.{queues.Steps.stepped-empty}
 use Rattle.tl_coherence.proofs.simulation.FollowCases.{followed-cases, asked-cases, delivered-cases, answered-followed}
 use Rattle.tl_coherence.proofs.simulation.FollowCases.{given-followed, on-first}
-use Rattle.tl_coherence.proofs.simulation.Fresh.{fresh-matched}
-use Rattle.tl_coherence.proofs.deliveries.DeliverDWhole.{delivered-d}
 use Rattle.tl_coherence.proofs.deliveries.DeliverDUnmoved.{IsDelivered, delivered-unmoved}
-use Rattle.tl_coherence.proofs.deliveries.InvariantKept.{invariant-followed}
-use Rattle.tl_coherence.proofs.manager.ManagerAfter.{IsManagerOf}
-use Rattle.tl_coherence.proofs.deliveries.ManagerFollowed.{client-of}
-use Rattle.tl_coherence.proofs.deliveries.ManagerKept.{IsAllowed, manager-kept}
-use Rattle.tl_coherence.proofs.deliveries.ProbesAfter.{delivered-b}
-use Rattle.tl_coherence.proofs.deliveries.ReportsAfter.{delivered-c}
 use Rattle.tl_coherence.proofs.deliveries.RequestsDelivered.{delivery-a, carried-delivered_a, beside-delivered_a}
-use Rattle.tl_coherence.proofs.manager.UnwaitedRequests.{next_tracker}
 use Rattle.tl_coherence.proofs.simulation.Sized.{AreStrange, strangers-asked, strangers-kind_taken}
 use Rattle.tl_coherence.proofs.simulation.SizedAfter.{AllSized, sized-asked, sized-kind_taken}
-use Rattle.tl_coherence.proofs.simulation.SourcedAfter.{AreSourced}
-use Rattle.tl_coherence.proofs.simulation.SourcedAfter.{sourced-asked, sourced-kind_taken}
-use Rattle.tl_coherence.proofs.simulation.SoundAfter.{sound-after, typed-after}
-use Rattle.tl_coherence.proofs.queues.Steps.{stepped-asked, stepped-empty}
+use Rattle.tl_coherence.proofs.simulation.SourcedAfter.{AreSourced, sourced-asked, sourced-kind_taken}
 use Rattle.tl_coherence.proofs.client.Waiting.{AreAcquired, asked-acquired, kind_taken-acquired}
 
 -- ---- steps
 
 pub stepped-nobody : {w : ℕ} (config : Config) (event : Event w) (sys : System w)
-    → terms_at config (client_of event) ≡ None → stepped config event sys ≡ only outcome.NoSuchClient sys
+    → terms_at config (client_of event) ≡ None → stepped config event sys ≡ only Outcome.NoSuchClient sys
 unfolding stepped
 stepped-nobody config (Ask c o) sys e = rw e refl
 stepped-nobody config (Deliver link ch) sys e = rw e refl
@@ -54,27 +43,25 @@ not_moving {w} x y e moving still = let no : true ≡ false = sym moving ∙ ap 
 
 -- ---- the channels and the one memory after any delivery
 
-delivered-a : {w : ℕ} (config : Config) (log : Log w) (c : ℕ) (h : AbstractState w) (terms : EndConfig) → IsWidth w
+delivered-a : {w : ℕ} {config : Config} {log : Log w} (c : ℕ) (h : AbstractState w) (terms : EndConfig) → IsWidth w
     → SimulationRelation config log h.mail h.request h.state (system_after config log) → terms_at config c ≡ Some terms
-    → IsDelivered config log (record { 0 = c }) channel.A h
+    → IsDelivered config log (record { 0 = c }) Channel.A h
 unfolding one_memory_after
-delivered-a {w} config log c h terms width is at =
+delivered-a {w} {config} {log} c h terms width is at =
     let sys : System w = system_after config log in
     let m : Machine w = one_memory_after config log in
-    let event : Event w = Deliver (record { 0 = c }) channel.A in
-    let still : moved event (stepped config event sys).outcome m ≡ m =
-    delivery-a config log h sys c terms (λ (step : Step w). moved event step.outcome m ≡ m) width is at (λ e. refl)
-    (λ x queue e waits. refl) (λ x queue e arrives moves. refl) in
+    let event : Event w = Deliver (record { 0 = c }) Channel.A in
+    let still = delivery-a h c terms (λ (step : Step w). moved event step.outcome m ≡ m) width is at
+    (λ e. refl) (λ x queue e waits. refl) (λ x queue e arrives moves. refl) in
     record {
-      carried = carried-delivered_a config log h sys c terms width is at;
-      beside = beside-delivered_a config log h sys c terms (moved event (stepped config event sys).outcome m) width is
-          at (subst (MemoryRelation h.mail h.state) (sym still) is.beside);
+      carried = carried-delivered_a h c terms width is at;
+      beside = beside-delivered_a h c terms width is at (subst (MemoryRelation h.mail h.state) (sym still) is.beside);
     }
 
-delivered-all : {w : ℕ} (config : Config) (log : Log w) (link : Link) (ch : Channel) (h : AbstractState w) → IsWidth w
+delivered-all : {w : ℕ} {config : Config} {log : Log w} (link : Link) (ch : Channel) (h : AbstractState w) → IsWidth w
     → SimulationRelation config log h.mail h.request h.state (system_after config log)
     → IsDelivered config log link ch h
-delivered-all {w} config log link ch h width is = go (is_moving (stepped config (Deliver link ch) sys).outcome) refl
+delivered-all {w} {config} {log} link ch h width is = go (is_moving (stepped config (Deliver link ch) sys).outcome) refl
   where
     sys : System w
     sys = system_after config log
@@ -84,14 +71,11 @@ delivered-all {w} config log link ch h width is = go (is_moving (stepped config 
         → is_moving (stepped config (Deliver link at) sys).outcome ≡ true → IsDelivered config log link at h
     moves at terms [] known none moving =
         absurd (not_moving _ _ (stepped-empty config link at sys terms known none) moving refl)
-    moves channel.A terms (x ∷ queue) known beats moving = delivered-a config log link.0 h terms width is known
-    moves channel.B terms (x ∷ queue) known beats moving = delivered-b config log link h terms x queue width is known
-        beats moving
-    moves channel.C terms (x ∷ queue) known beats moving = delivered-c config log link.0 h x queue width is beats
-    moves channel.D terms (x ∷ queue) known beats moving = delivered-d config log link h terms x queue width is known
-        beats moving
-    moves channel.E terms (x ∷ queue) known beats moving = delivered-e config log link h terms x queue width is known
-        beats moving
+    moves Channel.A terms (x ∷ queue) known beats moving = delivered-a link.0 h terms width is known
+    moves Channel.B terms (x ∷ queue) known beats moving = delivered-b link h terms x queue width is known beats moving
+    moves Channel.C terms (x ∷ queue) known beats moving = delivered-c link.0 h x queue width is beats
+    moves Channel.D terms (x ∷ queue) known beats moving = delivered-d link h terms x queue width is known beats moving
+    moves Channel.E terms (x ∷ queue) known beats moving = delivered-e link h terms x queue width is known beats moving
 
     found : (o : Option EndConfig) → terms_at config link.0 ≡ o
         → is_moving (stepped config (Deliver link ch) sys).outcome ≡ true → IsDelivered config log link ch h
@@ -100,7 +84,7 @@ delivered-all {w} config log link ch h width is = go (is_moving (stepped config 
 
     go : (b : Bool) → is_moving (stepped config (Deliver link ch) sys).outcome ≡ b → IsDelivered config log link ch h
     go true moving = found (terms_at config link.0) refl moving
-    go false still = delivered-unmoved config log link ch h is still
+    go false still = delivered-unmoved link ch h is still
 
 -- ---- and after any event
 
@@ -121,11 +105,11 @@ FollowedBy config log event h x =
     (abstract_step_by config event x.outcome (system_after config log) h).state
     (performing (accesses_answered x.handed) (moved event x.outcome (one_memory_after config log)))
 
-asked-all : {w : ℕ} (config : Config) (log : Log w) (c : ℕ) (o : Op w) (h : AbstractState w) → IsWidth w
+asked-all : {w : ℕ} {config : Config} {log : Log w} (c : ℕ) (o : Op w) (h : AbstractState w) → IsWidth w
     → SimulationRelation config log h.mail h.request h.state (system_after config log)
     → FollowedBy config log (Ask c o) h (stepped config (Ask c o) (system_after config log))
 unfolding one_memory_after performing accesses_answered
-asked-all {w} config log c o h width is = go (terms_at config c) refl
+asked-all {w} {config} {log} c o h width is = go (terms_at config c) refl
   where
     sys : System w
     sys = system_after config log
@@ -136,140 +120,122 @@ asked-all {w} config log c o h width is = go (terms_at config c) refl
         (is.carried, is.beside)
     go (Some terms) known =
         let r = (ask.asked terms o (sys.clients c)).reply in
-        let replied : (stepped config (Ask c o) sys).outcome ≡ outcome.Replied r =
+        let replied : (stepped config (Ask c o) sys).outcome ≡ Outcome.Replied r =
         ap (λ (x : Step w). x.outcome) (stepped-asked config c o sys terms known) in (
           subst (λ (x : Outcome w). ChannelRelation (abstract_step_by config (Ask c o) x sys h).mail
               (abstract_step_by config (Ask c o) x sys h).state
               (stepped config (Ask c o) sys).after) (sym replied)
-              (carried-ask config log h sys c terms o width is known),
+              (carried-ask h c terms o width is known),
           subst
               (λ (x : Outcome w). MemoryRelation (abstract_step_by config (Ask c o) x sys h).mail
               (abstract_step_by config (Ask c o) x sys h).state
               (performing (accesses_answered (stepped config (Ask c o) sys).handed)
               (moved (Ask c o) x (one_memory_after config log)))) (sym replied)
-              (beside-ask config log h c terms o width is known),
+              (beside-ask h c terms o width is known),
         )
 
-followed-all : {w : ℕ} (config : Config) (log : Log w) (event : Event w) (h : AbstractState w) → IsWidth w
+followed-all : {w : ℕ} {config : Config} {log : Log w} (event : Event w) (h : AbstractState w) → IsWidth w
     → SimulationRelation config log h.mail h.request h.state (system_after config log) → IsFollowed config log event h
 unfolding one_memory_after
-followed-all config log (Ask c o) h width is = let all = asked-all config log c o h width is in
+followed-all {config} {log} (Ask c o) h width is = let all = asked-all c o h width is in
     record { carried = all.0; beside = all.1 }
-followed-all config log (Deliver link ch) h width is = let all = delivered-all config log link ch h width is in
+followed-all {config} {log} (Deliver link ch) h width is = let all = delivered-all link ch h width is in
     record { carried = all.carried; beside = all.beside }
 
 -- ---- all that is kept, after an event
 
-sized-followed : {w : ℕ} (config : Config) (log : Log w) (h : AbstractState w) (sys : System w) (event : Event w)
-    → IsWidth w
-    → SimulationRelation config log h.mail h.request h.state sys → IsTyped event
+sized-followed : {w : ℕ} {config : Config} {log : Log w} (h : AbstractState w) {sys : System w} (event : Event w)
+    → IsWidth w → SimulationRelation config log h.mail h.request h.state sys → IsTyped event
     → AllSized (abstract_step config event sys h).state
 unfolding stepped
-sized-followed {w} config log h sys (Ask c o) width is typed =
-    asked-cases config log h.mail h.request h.state sys c o (terms_at config c)
-    (λ (i : AbstractState w). AllSized i.state) refl is.sized
-    (λ terms at. sized-asked (is_caching config) c o (ask.asked terms o (sys.clients c)).reply h is.invariant typed
+sized-followed {w} {config} {log} h {sys} (Ask c o) width is typed = asked-cases config log h.mail h.request h.state sys
+    c o (terms_at config c) (λ (i : AbstractState w). AllSized i.state) refl is.sized
+    (λ terms at. sized-asked c o (ask.asked terms o (sys.clients c)).reply h is.invariant typed
     (asked-well config log h sys c terms o width is at).word is.sized)
-sized-followed {w} config log h sys (Deliver link ch) width is typed =
-    delivered-cases config log h.mail h.request h.state sys link ch (λ (i : AbstractState w). AllSized i.state) width is
-    is.sized
+sized-followed {w} {config} {log} h {sys} (Deliver link ch) width is typed =
+    delivered-cases link ch (λ (i : AbstractState w). AllSized i.state) width is is.sized
     (λ x queue d. sized-kind_taken config (next_tracker sys) link.0 d.first.kind d.first.number d.first.rest h is.sized)
 
-strangers-followed : {w : ℕ} (config : Config) (log : Log w) (h : AbstractState w) (sys : System w) (event : Event w)
-    → IsWidth w
-    → SimulationRelation config log h.mail h.request h.state sys
+strangers-followed : {w : ℕ} {config : Config} {log : Log w} (h : AbstractState w) {sys : System w} (event : Event w)
+    → IsWidth w → SimulationRelation config log h.mail h.request h.state sys
     → AreStrange config (abstract_step config event sys h).state.uses
-strangers-followed {w} config log h sys event width is =
-    followed-cases config log h.mail h.request h.state sys event
+strangers-followed {w} {config} {log} h {sys} event width is =
+    followed-cases event
     (λ (i : AbstractState w). AreStrange config i.state.uses) width is is.strangers
     (λ terms c o at. strangers-asked config c o (ask.asked terms o (sys.clients c)).reply h terms at is.strangers)
     (λ link ch x queue d.
     let t = client-of config link.0 ch x queue sys d.beats (is.sound link.0 ch) in
-    strangers-kind_taken (is_caching config) config (next_tracker sys) link.0 d.first.kind d.first.number d.first.rest h
+    strangers-kind_taken config (next_tracker sys) link.0 d.first.kind d.first.number d.first.rest h
     t.0 is.invariant t.1 is.strangers)
 
-sourced-followed : {w : ℕ} (config : Config) (log : Log w) (h : AbstractState w) (sys : System w) (event : Event w)
+sourced-followed : {w : ℕ} {config : Config} {log : Log w} (h : AbstractState w) {sys : System w} (event : Event w)
     → IsWidth w → SimulationRelation config log h.mail h.request h.state sys
     → AreSourced config (abstract_step config event sys h).mail.request (abstract_step config event sys h).state.uses
-sourced-followed {w} config log h sys event width is =
-    followed-cases config log h.mail h.request h.state sys event
-    (λ (i : AbstractState w). AreSourced config i.mail.request i.state.uses) width is is.sourced
+sourced-followed {w} {config} {log} h {sys} event width is =
+    followed-cases event (λ (i : AbstractState w). AreSourced config i.mail.request i.state.uses) width is is.sourced
     (λ terms c o at. sourced-asked config c o (ask.asked terms o (sys.clients c)).reply h
     (asked-well config log h sys c terms o width is at).source is.sourced)
-    (λ link ch x queue d.
-    sourced-kind_taken (is_caching config) config (next_tracker sys) link.0 d.first.kind d.first.number d.first.rest h
-    is.invariant (on-first config h.mail h.state sys link ch x queue d) is.sourced)
+    (λ link ch x queue d. sourced-kind_taken config (next_tracker sys) link.0 d.first.kind d.first.number d.first.rest h
+    is.invariant (on-first d) is.sourced)
 
-acquired-followed : {w : ℕ} (config : Config) (log : Log w) (h : AbstractState w) (sys : System w) (event : Event w)
+acquired-followed : {w : ℕ} {config : Config} {log : Log w} (h : AbstractState w) {sys : System w} (event : Event w)
     → IsWidth w → SimulationRelation config log h.mail h.request h.state sys
     → AreAcquired (abstract_step config event sys h).request (abstract_step config event sys h).state.block
-acquired-followed {w} config log h sys event width is =
-    followed-cases config log h.mail h.request h.state sys event
-    (λ (i : AbstractState w). AreAcquired i.request i.state.block) width is is.acquired
-    (λ terms c o at. asked-acquired (is_caching config) c o (ask.asked terms o (sys.clients c)).reply h is.invariant
-    (askable config log h.mail h.request h.state sys terms c o is at) is.acquired)
-    (λ link ch x queue d. kind_taken-acquired config (next_tracker sys) link.0 d.first.kind d.first.number d.first.rest
-    h is.acquired)
+acquired-followed {w} {config} {log} h {sys} event width is =
+    followed-cases event (λ (i : AbstractState w). AreAcquired i.request i.state.block) width is is.acquired
+    (λ terms c o at. asked-acquired c o (ask.asked terms o (sys.clients c)).reply h is.invariant
+    (askable terms c o is at) is.acquired) (λ link ch x queue d. kind_taken-acquired config (next_tracker sys) link.0
+    d.first.kind d.first.number d.first.rest h is.acquired)
 
-allowed : {w : ℕ} (config : Config) (log : Log w) (h : AbstractState w) (sys : System w) (event : Event w) → IsWidth w
+allowed : {w : ℕ} {config : Config} {log : Log w} (h : AbstractState w) {sys : System w} (event : Event w) → IsWidth w
     → SimulationRelation config log h.mail h.request h.state sys → (terms : EndConfig)
-    → terms_at config (client_of event) ≡ Some terms
-    → IsAllowed config event terms sys h
-allowed config log h sys (Ask c o) width is terms at = askable config log h.mail h.request h.state sys terms c o is at
-allowed config log h sys (Deliver link channel.A) width is terms at = tt
-allowed config log h sys (Deliver link channel.B) width is terms at =
-    invariant-followed config log h.mail h.request h.state sys (Deliver link channel.B) width is
-allowed config log h sys (Deliver link channel.C) width is terms at = tt
-allowed config log h sys (Deliver link channel.D) width is terms at =
-    invariant-followed config log h.mail h.request h.state sys (Deliver link channel.D) width is
-allowed config log h sys (Deliver link channel.E) width is terms at = tt
+    → terms_at config (client_of event) ≡ Some terms → IsAllowed config event terms sys h
+allowed {config} {log} h {sys} (Ask c o) width is terms at = askable terms c o is at
+allowed {config} {log} h {sys} (Deliver link Channel.B) width is terms at =
+    invariant-followed (Deliver link Channel.B) width is
+allowed {config} {log} h {sys} (Deliver link Channel.D) width is terms at =
+    invariant-followed (Deliver link Channel.D) width is
+allowed h event width is terms at = tt
 
 -- what is kept of the whole is kept by an event
-pub matched-event : {w : ℕ} (config : Config) (log : Log w) (h : AbstractState w) (event : Event w) → IsWidth w
+pub matched-event : {w : ℕ} {config : Config} {log : Log w} (h : AbstractState w) (event : Event w) → IsWidth w
     → IsTyped event → SimulationRelation config log h.mail h.request h.state (system_after config log)
     → SimulationRelation config ((event, (stepped config event (system_after config log)).outcome) ∷ log)
-    (abstract_step config event (system_after config log) h).mail
-    (abstract_step config event (system_after config log) h).request
-    (abstract_step config event (system_after config log) h).state
+    (abstract_step config event (system_after config log) h).mail (abstract_step config event (system_after config log)
+    h).request (abstract_step config event (system_after config log) h).state
     (stepped config event (system_after config log)).after
-matched-event {w} config log h event width typed is = record {
-  invariant = invariant-followed config log h.mail h.request h.state sys event width is;
-  sized = sized-followed config log h sys event width is typed;
-  strangers = strangers-followed config log h sys event width is;
-  carried = all.carried;
-  sound = sound-after config log h.mail h.request h.state sys width is event typed;
-  typed = typed-after config log h.mail h.request h.state sys width is event typed;
-  sourced = sourced-followed config log h sys event width is;
-  answered = answered-followed config log h.mail h.request h.state sys event width is;
-  given = given-followed config log h.mail h.request h.state sys event width is;
-  known = λ c. (end c).known;
-  opened = λ c. (end c).opened;
-  kept = λ c. (end c).kept;
-  accounted = λ c. (end c).accounted;
-  copies = λ c. (end c).copies;
-  waiting = λ c. (end c).waiting;
-  live = λ c. (end c).live;
-  managed = manager.managed;
-  served = manager.served;
-  served_with = manager.served_with;
-  acquired = acquired-followed config log h sys event width is;
-  manager_kept = manager.manager_kept;
-  memory = manager.memory;
-  all_live = manager.all_live;
-  beside = all.beside;
-}
-  where
-    sys : System w
-    sys = system_after config log
-
-    all : IsFollowed config log event h
-    all = followed-all config log event h width is
-
-    end : (c : ℕ) → IsEndOf c (abstract_step config event sys h) ((stepped config event sys).after.clients c)
-    end c = clients-kept config log h.mail h.request h.state sys event width is c
-
-    manager : IsManagerOf config (abstract_step config event sys h) (stepped config event sys).after.manager
-    manager = manager-kept config log h sys event width is (allowed config log h sys event width is)
+matched-event {w} {config} {log} h event width typed is =
+    let sys : System w = system_after config log in
+    let all : IsFollowed config log event h = followed-all event h width is in
+    let end : (c : ℕ) → IsEndOf c (abstract_step config event sys h) ((stepped config event sys).after.clients c) =
+    λ c. clients-kept event width is c in
+    let manager = manager-kept h event width is (allowed h event width is) in
+    record {
+      invariant = invariant-followed event width is;
+      sized = sized-followed h event width is typed;
+      strangers = strangers-followed h event width is;
+      carried = all.carried;
+      sound = sound-after width is event typed;
+      typed = typed-after width is event typed;
+      sourced = sourced-followed h event width is;
+      answered = answered-followed event width is;
+      given = given-followed event width is;
+      known = λ c. (end c).known;
+      opened = λ c. (end c).opened;
+      kept = λ c. (end c).kept;
+      accounted = λ c. (end c).accounted;
+      copies = λ c. (end c).copies;
+      waiting = λ c. (end c).waiting;
+      live = λ c. (end c).live;
+      managed = manager.managed;
+      served = manager.served;
+      served_with = manager.served_with;
+      acquired = acquired-followed h event width is;
+      manager_kept = manager.manager_kept;
+      memory = manager.memory;
+      all_live = manager.all_live;
+      beside = all.beside;
+    }
 
 -- ---- after every log
 
@@ -290,4 +256,4 @@ matched {w} config (x ∷ log) width typed is =
     let h' : AbstractState w = abstract_step config x.0 sys h in
     subst (λ (o : Outcome w). SimulationRelation config ((x.0, o) ∷ log) h'.mail h'.request h'.state
     (stepped config x.0 sys).after) (sym is.0)
-    (matched-event config log h x.0 width typed.0 (matched config log width typed.1 is.1))
+    (matched-event h x.0 width typed.0 (matched config log width typed.1 is.1))

@@ -1,86 +1,68 @@
 -- A Probe that is delivered to a client: the channels and the one memory afterwards.
 use Rattle.tl_coherence.proofs.deliveries.Imports.{IsWidth, Beat, Link, Message, unfinished, Config, Cap, Report, Perm}
 use Rattle.tl_coherence.proofs.deliveries.Imports.{report_left, block_at, same_perm, same_block, Deliver}
-use Rattle.tl_coherence.proofs.deliveries.Imports.{MemoryRelation, is_moving, AbstractState, abstract_step}
-use Rattle.tl_coherence.proofs.deliveries.Imports.{packet_taken, kind_taken, Log, system_after, Machine, moved}
-use Rattle.tl_coherence.proofs.deliveries.Imports.{ChannelRelation, ClientBlock, Block, packet, is_on, shown}
-use Rattle.tl_coherence.proofs.deliveries.Imports.{one_memory_after, performing, accesses_answered, block_message}
-use Rattle.tl_coherence.proofs.deliveries.Imports.{message_of, message_of_kind, Step, stepped, handing, handed_by}
-use Rattle.tl_coherence.proofs.deliveries.Imports.{System, terms_at, with_client, with_channel, Kind, Request, Acquire}
-use Rattle.tl_coherence.proofs.deliveries.Imports.{Probe, ProbeAck, Release, Answer, Grant, ReleaseAck, GrantAck}
-use Rattle.tl_coherence.proofs.deliveries.Imports.{Packet, SimulationRelation, is_caching}
-use Rattle.std.proofs.Common.{◌≡◌, ℕ, ◌*◌, Bool, true, false, List, [], ◌∷◌, Option, Some, None, refl, sym, ◌∙◌, ap}
-use Rattle.std.proofs.Common.{subst}
-use Rattle.std.specs.Prelude.{if◌then◌else◌, map, unwrap_or, Ok}
-use Rattle.tl_beat.specs.declared.beat.Beat.TheVariants as beat
-use Rattle.tl_beat.specs.declared.beat.BeatB.{BeatB}
-use Rattle.tl_beat.specs.declared.channel.Channel.TheVariants as channel
-use Rattle.tl_beat.specs.declared.opcode.OpB.TheVariants as opb
-use Rattle.tl_params.specs.declared.param.Cap.TheVariants as cap
-use Rattle.tl_params.specs.declared.perm.Perm.TheVariants as perm
+use Rattle.tl_coherence.proofs.deliveries.Imports.{MemoryRelation, is_moving, AbstractState, abstract_step, kind_taken}
+use Rattle.tl_coherence.proofs.deliveries.Imports.{Log, system_after, Machine, moved, ChannelRelation, ClientBlock}
+use Rattle.tl_coherence.proofs.deliveries.Imports.{Block, packet, is_on, shown, one_memory_after, performing}
+use Rattle.tl_coherence.proofs.deliveries.Imports.{accesses_answered, block_message, message_of, message_of_kind, Step}
+use Rattle.tl_coherence.proofs.deliveries.Imports.{stepped, handing, handed_by, System, terms_at, with_client}
+use Rattle.tl_coherence.proofs.deliveries.Imports.{with_channel, Kind, Probe, ProbeAck, SimulationRelation, is_caching}
+use Rattle.tl_coherence.proofs.deliveries.Imports.{Channel}
+use Rattle.std.proofs.Common.{◌≡◌, ℕ, ◌*◌, Bool, true, false, List, [], ◌∷◌, Some, None, refl, sym, ◌∙◌, ap, subst}
+use Rattle.std.specs.Prelude.{map, Ok}
+use Rattle.tl_beat.{specs.declared.beat.BeatB.BeatB, specs.declared.opcode.OpB.OpB}
 use Rattle.tl_params.specs.statement.Param.{report_at}
-use Rattle.tl_client.specs.declared.verdict.Verdict.{Verdict}
-use Rattle.tl_client.specs.declared.verdict.Verdict.TheVariants as verdict
+use Rattle.tl_client.{specs.declared.verdict.Verdict.Verdict, specs.statement.Endpoint.copy_at}
+use Rattle.tl_client.{specs.statement.Endpoint.held_at, specs.statement.Offer.report_for}
+use Rattle.tl_client.{specs.statement.Send.probe_ack}
 use Rattle.tl_client.specs.statement.Endpoint as client
-use Rattle.tl_client.specs.statement.Endpoint.{zeros, copy_at, held_at}
 use Rattle.tl_client.specs.statement.Offer as offer
-use Rattle.tl_client.specs.statement.Offer.{report_for}
-use Rattle.tl_client.specs.statement.Send.{probe_ack}
-use Rattle.tl_coherence.specs.declared.event.Outcome.TheVariants as outcome
-use Rattle.tl_coherence.specs.protocol.Phase.{ProbeSent, is_unreleased}
-use Rattle.tl_coherence.specs.protocol.PhaseSteps.{after_probe}
-use Rattle.tl_coherence.specs.protocol.Protocol.{probed_block, probe_taken}
+use Rattle.tl_coherence.specs.{declared.event.Outcome.Outcome, protocol.Phase.ProbeSent, protocol.Phase.is_unreleased}
+use Rattle.tl_coherence.specs.{protocol.PhaseSteps.after_probe, protocol.Protocol.probed_block}
+use Rattle.tl_coherence.specs.{protocol.Protocol.probe_taken}
 use Rattle.tl_coherence.specs.refinement.PacketMessages.{cap_sent, probe_beat}
-use Rattle.tl_coherence.specs.statement.Step as step
-use Rattle.tl_coherence.proofs.memory.BesideKinds.{beside_block, same_acquiring}
-use Rattle.tl_coherence.proofs.queues.Carried.{IsNext}
-use Rattle.tl_coherence.proofs.queues.Shown.{carried-shown}
-use Rattle.tl_coherence.proofs.simulation.CarriedEvents.{probe_taken-shown}
-use Rattle.tl_coherence.proofs.queues.Channels.{IsTaken, pushes_at}
-use Rattle.tl_coherence.proofs.queues.FirstToken.{IsFirst, first-token}
-use Rattle.tl_coherence.proofs.client.DeliverD.{same_answers}
-use Rattle.tl_coherence.proofs.deliveries.DeliverDAfter.{followed-moving}
-use Rattle.tl_coherence.proofs.deliveries.DeliverDWhole.{remembered_after}
+use Rattle.tl_coherence.proofs.{memory.BesideKinds.beside_block, memory.BesideKinds.same_acquiring}
+use Rattle.tl_coherence.proofs.{queues.Carried.IsNext, queues.Shown.carried-shown}
+use Rattle.tl_coherence.proofs.{simulation.CarriedEvents.probe_taken-shown, queues.Channels.IsTaken}
+use Rattle.tl_coherence.proofs.{queues.Channels.pushes_at, queues.FirstToken.IsFirst, queues.FirstToken.first-token}
+use Rattle.tl_coherence.proofs.{client.DeliverD.same_answers, deliveries.DeliverDAfter.followed-moving}
+use Rattle.tl_coherence.proofs.{deliveries.DeliverDWhole.remembered_after, client.ProbeDelivered.IsProbed}
+use Rattle.tl_coherence.proofs.{client.ProbeDelivered.probe-delivered, queues.Tokens.set-same}
+use Rattle.tl_coherence.proofs.{queues.Tokens.holds-first, protocol.BothParts.kept-is, protocol.BothParts.sent-is}
+use Rattle.tl_coherence.proofs.{client.KnownProbed.report_is, deliveries.ManagersAfter.ack_channel}
 use Rattle.tl_coherence.proofs.deliveries.DeliverDUnmoved.{IsDelivered, delivered_as}
 use Rattle.tl_coherence.proofs.queues.Landed.{pushes_of, IsOn, landed-client, taken-landed}
 use Rattle.tl_coherence.proofs.simulation.Moved.{IsTakenByClient, client-moves, client-heard}
-use Rattle.tl_coherence.proofs.client.ProbeDelivered.{IsProbed, probe-delivered}
 use Rattle.tl_coherence.proofs.manager.UnwaitedRequests.{next_tracker, invariant-taken}
-use Rattle.tl_coherence.proofs.queues.Tokens.{set-same, holds-first}
-use Rattle.tl_coherence.proofs.protocol.BothParts.{kept-is, sent-is}
-use Rattle.tl_coherence.proofs.client.KnownProbed.{report_is}
-use Rattle.tl_coherence.proofs.deliveries.ManagersAfter.{ack_channel}
 
 -- ---- the answer to a Probe
 
 -- a report begins at what is held
 left_is : (k : Cap) (p : Perm) → report_left (report_at k p) ≡ p
-left_is cap.ToT perm.None = refl
-left_is cap.ToT perm.Branch = refl
-left_is cap.ToT perm.Trunk = refl
-left_is cap.ToB perm.None = refl
-left_is cap.ToB perm.Branch = refl
-left_is cap.ToB perm.Trunk = refl
-left_is cap.ToN perm.None = refl
-left_is cap.ToN perm.Branch = refl
-left_is cap.ToN perm.Trunk = refl
+left_is Cap.ToT Perm.None = refl
+left_is Cap.ToT Perm.Branch = refl
+left_is Cap.ToT Perm.Trunk = refl
+left_is Cap.ToB Perm.None = refl
+left_is Cap.ToB Perm.Branch = refl
+left_is Cap.ToB Perm.Trunk = refl
+left_is Cap.ToN Perm.None = refl
+left_is Cap.ToN Perm.Branch = refl
+left_is Cap.ToN Perm.Trunk = refl
 
-ack_same : {w : ℕ} (p : Perm) (r : Report) (n : ℕ) (x y : List ℕ) → (same_perm p perm.None ≡ false → x ≡ y)
-    → probe_ack {w = w} opb.ProbeBlock p r n x ≡ probe_ack opb.ProbeBlock p r n y
-ack_same perm.None r n x y e = refl
-ack_same perm.Branch r n x y e = refl
-ack_same perm.Trunk r n x y e = rw (e refl) refl
+ack_same : {w : ℕ} (p : Perm) (r : Report) (n : ℕ) (x y : List ℕ) → (same_perm p Perm.None ≡ false → x ≡ y)
+    → probe_ack {w = w} OpB.ProbeBlock p r n x ≡ probe_ack OpB.ProbeBlock p r n y
+ack_same Perm.Trunk r n x y e = rw (e refl) refl
+ack_same p r n x y e = refl
 
 ack_quiet : (w c : ℕ) (p : Perm) (r : Report) (n : ℕ) (x : List ℕ)
-    → accesses_answered {w = w} (handed_by c (Some (probe_ack opb.ProbeBlock p r n x))) ≡ []
+    → accesses_answered {w = w} (handed_by c (Some (probe_ack OpB.ProbeBlock p r n x))) ≡ []
 unfolding accesses_answered
-ack_quiet w c perm.None r n x = refl
-ack_quiet w c perm.Branch r n x = refl
-ack_quiet w c perm.Trunk r n x = refl
+ack_quiet w c Perm.None r n x = refl
+ack_quiet w c p r n x = refl
 
 -- what is rendered after it
 rendered_probed : {w : ℕ} (c n : ℕ) (k : Cap) (b : Block (List ℕ))
-    → block_message {w = w} ProbeAck c n (probed_block c k b) ≡ probe_ack opb.ProbeBlock (b.pair c).held
+    → block_message {w = w} ProbeAck c n (probed_block c k b) ≡ probe_ack OpB.ProbeBlock (b.pair c).held
     (report_at k (b.pair c).held) n b.truth
 unfolding block_message
 rendered_probed {w} c n k b = rw (set-same c (after_probe k (b.pair c)) b.pair, left_is k (b.pair c).held) refl
@@ -91,27 +73,28 @@ handed_for x e = probe_ack x.opcode (held_at e (block_at x.address)) (report_for
     (block_at x.address) (copy_at e (block_at x.address))
 
 answer_b : {w : ℕ} (x : BeatB w) (e : client.Endpoint w)
-    → (offer.taken (beat.B x) e).answer ≡ Ok (verdict.Taken, Some (handed_for x e))
+    → (offer.taken (Beat.B x) e).answer ≡ Ok (Verdict.Taken, Some (handed_for x e))
 answer_b x e = refl
 
-on_b : {w : ℕ} (y : BeatB w) → IsOn channel.B (beat.B y)
-on_b y channel.A = refl
-on_b y channel.B = refl
-on_b y channel.C = refl
-on_b y channel.D = refl
-on_b y channel.E = refl
+on_b : {w : ℕ} (y : BeatB w) → IsOn Channel.B (Beat.B y)
+on_b y Channel.A = refl
+on_b y _ = refl
 
-taken_stalls : verdict.Taken ≡ verdict.Stalled → ⊥
+taken_stalls : Verdict.Taken ≡ Verdict.Stalled → ⊥
 taken_stalls f = absurd cc
 
-pub delivered-b : {w : ℕ} (config : Config) (log : Log w) (link : Link) (h : AbstractState w) (terms : client.EndConfig)
+pub delivered-b : {w : ℕ} {config : Config} {log : Log w} (link : Link) (h : AbstractState w) (terms : client.EndConfig)
     (x : Beat w) (queue : List (Beat w)) → IsWidth w
     → SimulationRelation config log h.mail h.request h.state (system_after config log)
-    → terms_at config link.0 ≡ Some terms → (system_after config log).channels link.0 channel.B ≡ x ∷ queue
-    → is_moving (stepped config (Deliver link channel.B) (system_after config log)).outcome ≡ true
-    → IsDelivered config log link channel.B h
+    → terms_at config link.0 ≡ Some terms → (system_after config log).channels link.0 Channel.B ≡ x ∷ queue
+    → is_moving (stepped config (Deliver link Channel.B) (system_after config log)).outcome ≡ true
+    → IsDelivered config log link Channel.B h
 unfolding performing
-delivered-b {w} config log link h terms x queue width is known beats moving =
+delivered-b {w} {config} {log} link h terms x queue width is known beats moving =
+    let kinds : (k : Kind) (i : ℕ) → (h.state.link c).b ≡ packet k i ∷ first.rest → is_on Channel.B k ≡ true
+    → IsNext x (unfinished Channel.B e.past) (message_of_kind k h.mail h.state c i)
+    (map (message_of h.mail h.state c) first.rest) queue → IsDelivered config log link Channel.B h =
+    elim [ Probe ↦ λ n tokens own next. probe n tokens next | k ↦ λ i tokens own next. absurd cc ] in
     kinds first.kind first.number first.tokens first.own first.next
   where
     sys : System w
@@ -123,16 +106,15 @@ delivered-b {w} config log link h terms x queue width is known beats moving =
     e : client.Endpoint w
     e = sys.clients c
 
-    first : IsFirst channel.B c h.mail h.state sys x queue
-    first = first-token (is_caching config) channel.B c h.mail h.state sys x queue width is.invariant is.carried beats
+    first : IsFirst Channel.B c h.mail h.state sys x queue
+    first = first-token (is_caching config) Channel.B c h.mail h.state sys x queue width is.invariant is.carried beats
 
-    t : IsTakenByClient terms c channel.B x queue sys (stepped config (Deliver link channel.B) sys)
-    t = client-moves config link channel.B sys terms x queue known beats refl moving
+    t : IsTakenByClient terms c Channel.B x queue sys (stepped config (Deliver link Channel.B) sys)
+    t = client-moves config link Channel.B sys terms x queue known beats refl moving
 
     probe : (n : ℕ) → (h.state.link c).b ≡ packet Probe n ∷ first.rest
-        → IsNext x (unfinished channel.B e.past) (block_message Probe c n (h.state.block n))
-        (map (message_of h.mail h.state c) first.rest) queue
-        → IsDelivered config log link channel.B h
+        → IsNext x (unfinished Channel.B e.past) (block_message Probe c n (h.state.block n))
+        (map (message_of h.mail h.state c) first.rest) queue → IsDelivered config log link Channel.B h
     probe n tokens next = by_letting (is_unreleased b_pair.letting) refl
       where
         b_pair : ClientBlock
@@ -147,107 +129,77 @@ delivered-b {w} config log link h terms x queue width is known beats moving =
         probed : IsProbed config terms (next_tracker sys) c n (record {
           state = h.state;
           mail = h.mail;
-          request =
-              h.request;
+          request = h.request;
         }) x e
-        probed = probe-delivered config log h.mail h.request h.state sys terms (next_tracker sys) c n first.rest
-            (map (message_of h.mail h.state c) first.rest) x queue width is known beats tokens next
+        probed = probe-delivered terms (next_tracker sys) c n first.rest
+            width is known beats tokens next
 
-        answers : (offer.taken x e).answer ≡ Ok (verdict.Taken, Some (handed_for y e))
+        answers : (offer.taken x e).answer ≡ Ok (Verdict.Taken, Some (handed_for y e))
         answers = ap (λ (z : Beat w). (offer.taken z e).answer) probed.beat_is ∙ answer_b y e
 
-        same_parts : (t.verdict_is ≡ verdict.Taken) × (t.message ≡ Some (handed_for y e))
-        same_parts = same_answers t.verdict_is verdict.Taken t.message (Some (handed_for y e)) (offer.taken x e).answer
+        same_parts : (t.verdict_is ≡ Verdict.Taken) × (t.message ≡ Some (handed_for y e))
+        same_parts = same_answers t.verdict_is Verdict.Taken t.message (Some (handed_for y e)) (offer.taken x e).answer
             t.answer answers
 
         ack : Message w
-        ack = probe_ack opb.ProbeBlock b_pair.held (report_at k b_pair.held) n (h.state.block n).truth
+        ack = probe_ack OpB.ProbeBlock b_pair.held (report_at k b_pair.held) n (h.state.block n).truth
 
-        copied : same_perm b_pair.held perm.None ≡ false → copy_at e n ≡ (h.state.block n).truth
-        copied some = ap (λ (o : Option (List ℕ)). unwrap_or o zeros) (is.copies c n some)
-            ∙ (is.invariant.blocks n).copies c some
+        copied : same_perm b_pair.held Perm.None ≡ false → copy_at e n ≡ (h.state.block n).truth
+        copied some = cc (is.copies c n some, (is.invariant.blocks n).copies c some)
 
-        handed_at : (m : ℕ) → m ≡ n → probe_ack {w = w} opb.ProbeBlock (held_at e m) (report_for y (held_at e m)) m
+        handed_at : (m : ℕ) → m ≡ n → probe_ack {w = w} OpB.ProbeBlock (held_at e m) (report_for y (held_at e m)) m
             (copy_at e m) ≡ ack
-        handed_at m at =
-            ap (λ (i : ℕ). probe_ack {w = w} opb.ProbeBlock (held_at e i) (report_for y (held_at e i)) i (copy_at e i))
-            at
-            ∙ ap (λ (p : Perm). probe_ack {w = w} opb.ProbeBlock p (report_for y p) n (copy_at e n))
-            ((is.known c).held_is n)
-            ∙ ap (λ (r : Report). probe_ack {w = w} opb.ProbeBlock b_pair.held r n (copy_at e n))
-            (report_is w n k b_pair.held)
-            ∙ ack_same b_pair.held (report_at k b_pair.held) n (copy_at e n) (h.state.block n).truth copied
+        handed_at m at = cc (
+          at,
+          (is.known c).held_is n,
+          report_is w n k b_pair.held,
+          ack_same b_pair.held
+              (report_at k b_pair.held) n (copy_at e n) (h.state.block n).truth copied,
+        )
 
         message_is : t.message ≡ Some ack
         message_is = same_parts.1 ∙ ap Some (handed_at (block_at (64 * n)) (same_block n))
 
         now : Step w
-        now = handing (outcome.Moved x) (handed_by c (Some ack))
-            (with_client c (offer.taken x e).after (with_channel c channel.B queue sys))
+        now = handing (Outcome.Moved x) (handed_by c (Some ack))
+            (with_client c (offer.taken x e).after (with_channel c Channel.B queue sys))
 
-        step_is : stepped config (Deliver link channel.B) sys ≡ now
-        step_is =
-            t.step_is
-            ∙ ap (λ (v : Verdict). handing (step.outcome_of x v) (handed_by c t.message)
-            (with_client c (offer.taken x e).after (with_channel c channel.B queue sys))) same_parts.0
-            ∙ ap (λ (m : Option (Message w)). handing (outcome.Moved x) (handed_by c m)
-            (with_client c (offer.taken x e).after (with_channel c channel.B queue sys))) message_is
+        step_is : stepped config (Deliver link Channel.B) sys ≡ now
+        step_is = cc (t.step_is, same_parts.0, message_is)
 
         sent : b_pair.probing ≡ ProbeSent k
         sent = sent-is b_pair.probing (holds-first Probe (h.state.link c).b first.rest (packet Probe n)
             (λ i. shown Probe c (h.state.block i)) tokens refl (is.invariant.transfers c Probe refl))
 
-        taken : IsTaken c channel.B x queue (pushes_at c (pushes_of (Some ack))) sys now.after
-        taken =
-            taken-landed c channel.B x queue (pushes_at c (pushes_of (Some ack))) sys now.after
-            (landed-client c channel.B x queue (Some ack) (offer.taken x e).after sys refl beats
-            (subst (λ (z : Beat w). IsOn channel.B z) (sym probed.beat_is) (on_b y))
-            (client-heard terms c channel.B x queue sys (stepped config (Deliver link channel.B) sys) width (is.kept c)
-            t))
+        taken : IsTaken c Channel.B x queue (pushes_at c (pushes_of (Some ack))) sys now.after
+        taken = taken-landed (landed-client c Channel.B x queue (Some ack) (offer.taken x e).after sys refl beats
+            (subst (λ (z : Beat w). IsOn Channel.B z) (sym probed.beat_is) (on_b y)) (client-heard width (is.kept c) t))
             probed.whole
 
-        follows : abstract_step config (Deliver link channel.B) sys h ≡ kind_taken config (next_tracker sys) c Probe n
+        follows : abstract_step config (Deliver link Channel.B) sys h ≡ kind_taken config (next_tracker sys) c Probe n
             first.rest h
-        follows =
-            followed-moving config link channel.B sys h x queue moving beats
-            ∙ ap (λ (b : Bool). if b then packet_taken config (next_tracker sys) c (h.state.link c).b h else h)
-            probed.whole
-            ∙ ap (λ (l : List Packet). packet_taken config (next_tracker sys) c l h) tokens
+        follows = cc (followed-moving config link Channel.B sys h x queue moving beats, probed.whole, tokens)
 
-        by_letting : (b : Bool) → is_unreleased b_pair.letting ≡ b → IsDelivered config log link channel.B h
+        by_letting : (b : Bool) → is_unreleased b_pair.letting ≡ b → IsDelivered config log link Channel.B h
         by_letting true kept =
             let inv = invariant-taken config log h sys c Probe n first.rest is tokens (kept-is b_pair.letting kept) in
-            delivered_as config log link channel.B h (kind_taken config (next_tracker sys) c Probe n first.rest h)
+            delivered_as config log link Channel.B h (kind_taken config (next_tracker sys) c Probe n first.rest h)
             follows
             (subst (λ (z : Step w). ChannelRelation h.mail (probe_taken c n k first.rest h.state) z.after) (sym step_is)
-            (carried-shown width (probe_taken-shown (is_caching config) c n k first.rest ack h.mail h.state is.invariant
+            (carried-shown width (probe_taken-shown c n k first.rest ack h.mail is.invariant
             inv tokens sent (ack_channel w b_pair.held (report_at k b_pair.held) n (h.state.block n).truth)
             (rendered_probed c n k (h.state.block n))) taken is.carried))
             (subst (λ (m : Machine w). MemoryRelation h.mail (probe_taken c n k first.rest h.state) m)
-            (sym (remembered_after config log link channel.B now step_is
+            (sym (remembered_after config log link Channel.B now step_is
             ∙ ap (λ (l : List (ℕ × ℕ)). performing l
-            (moved (Deliver link channel.B) now.outcome (one_memory_after config log)))
+            (moved (Deliver link Channel.B) now.outcome (one_memory_after config log)))
             (ack_quiet w c b_pair.held (report_at k b_pair.held) n (h.state.block n).truth)))
-            (beside_block n (probed_block c k (h.state.block n)) h.mail h.state (probe_taken c n k first.rest h.state)
-            (one_memory_after config log) (λ i. refl)
+            (beside_block n (probed_block c k (h.state.block n)) (probe_taken c n k first.rest h.state)
+            (λ i. refl)
             (λ d i. refl) (λ d i. refl) refl (λ d. same_acquiring c (after_probe k b_pair) (h.state.block n).pair refl
             d) (λ d. refl) is.beside))
         by_letting false open_ =
-            let stalled : (offer.taken x e).answer ≡ Ok (verdict.Stalled, None) =
-            ap (λ (o : offer.Offered w). o.answer) (sym t.takes ∙ probed.waits_for open_) in
-            let differ = (same_answers verdict.Taken verdict.Stalled (Some (handed_for y e)) None
+            let stalled = ap (λ (o : offer.Offered w). o.answer) (sym t.takes ∙ probed.waits_for open_) in
+            let differ = (same_answers Verdict.Taken Verdict.Stalled (Some (handed_for y e)) None
             (offer.taken x e).answer answers stalled).0 in
             absurd (taken_stalls differ)
-
-    kinds : (k : Kind) (i : ℕ) → (h.state.link c).b ≡ packet k i ∷ first.rest → is_on channel.B k ≡ true
-        → IsNext x (unfinished channel.B e.past) (message_of_kind k h.mail h.state c i)
-        (map (message_of h.mail h.state c) first.rest) queue → IsDelivered config log link channel.B h
-    kinds Probe n tokens own next = probe n tokens next
-    kinds Answer i tokens own next = absurd cc
-    kinds Grant n tokens own next = absurd cc
-    kinds ReleaseAck n tokens own next = absurd cc
-    kinds Request i tokens own next = absurd cc
-    kinds Acquire i tokens own next = absurd cc
-    kinds ProbeAck i tokens own next = absurd cc
-    kinds Release i tokens own next = absurd cc
-    kinds GrantAck i tokens own next = absurd cc

@@ -3,42 +3,32 @@ use Rattle.tl_coherence.proofs.deliveries.Imports.{IsWidth, Beat, Link, Message,
 use Rattle.tl_coherence.proofs.deliveries.Imports.{Report, on_link, Handed, reaction, Deliver, MemoryRelation}
 use Rattle.tl_coherence.proofs.deliveries.Imports.{AbstractState, ack_taken, answers, kind_taken, last_taken}
 use Rattle.tl_coherence.proofs.deliveries.Imports.{some_below, packet_taken, with_state, Log, system_after, Machine}
-use Rattle.tl_coherence.proofs.deliveries.Imports.{Requests, ProbeAnswered, Service, Free, Waits, GrantSent, GrantTaken}
-use Rattle.tl_coherence.proofs.deliveries.Imports.{Block, SourceState, packet, let_block, release_taken}
-use Rattle.tl_coherence.proofs.deliveries.Imports.{report_taken, shown, one_memory_after, performing, accesses_answered}
-use Rattle.tl_coherence.proofs.deliveries.Imports.{message_of, prune_told, block_message, report_told, stepped, IsFor}
-use Rattle.tl_coherence.proofs.deliveries.Imports.{System, ProbeAck, Release, ReleaseAck, Grant, Packet}
-use Rattle.tl_coherence.proofs.deliveries.Imports.{SimulationRelation, IsRequest, is_caching}
+use Rattle.tl_coherence.proofs.deliveries.Imports.{Requests, Service, Free, Waits, GrantSent, GrantTaken}
+use Rattle.tl_coherence.proofs.deliveries.Imports.{Block, SourceState, packet, let_block, release_taken, report_taken}
+use Rattle.tl_coherence.proofs.deliveries.Imports.{shown, one_memory_after, performing, accesses_answered}
+use Rattle.tl_coherence.proofs.deliveries.Imports.{prune_told, block_message, report_told, stepped, IsFor, System}
+use Rattle.tl_coherence.proofs.deliveries.Imports.{ProbeAck, Release, ReleaseAck, Grant, Packet, SimulationRelation}
+use Rattle.tl_coherence.proofs.deliveries.Imports.{IsRequest, is_caching, Channel}
 use Rattle.std.proofs.Common.{◌≡◌, ℕ, Bool, true, false, List, [], ◌∷◌, None, refl, sym, ◌∙◌, ap, subst, inl, inr, not}
 use Rattle.std.proofs.Common.{◌&&◌}
-use Rattle.std.specs.Prelude.{◌==◌, if◌then◌else◌, length, map}
-use Rattle.tl_beat.specs.declared.channel.Channel.TheVariants as channel
-use Rattle.tl_coherence.specs.refinement.MemoryRelation.{IsAccess, IsOpened}
-use Rattle.tl_coherence.specs.protocol.Phase.{is_unprobed}
-use Rattle.tl_coherence.specs.protocol.PhaseSteps.{after_release_taken}
-use Rattle.tl_coherence.specs.protocol.Protocol.{Asked, InService}
+use Rattle.std.specs.Prelude.{◌==◌, if◌then◌else◌, length}
+use Rattle.tl_coherence.specs.{refinement.MemoryRelation.IsAccess, refinement.MemoryRelation.IsOpened}
+use Rattle.tl_coherence.specs.{protocol.Phase.is_unprobed, protocol.PhaseSteps.after_release_taken}
+use Rattle.tl_coherence.specs.{protocol.Protocol.InService, refinement.SimulationRelation.IsServedWith}
 use Rattle.tl_coherence.specs.protocol.Protocol as protocol
-use Rattle.tl_coherence.specs.refinement.SimulationRelation.{IsServedWith}
 use Rattle.tl_coherence.proofs.memory.BesideKinds.{IsWaiting, accesses_by, beside-report, beside_block, last_accesses}
 use Rattle.tl_coherence.proofs.memory.BesideKinds.{same_acquiring}
-use Rattle.tl_coherence.proofs.memory.BesideRequests.{IsOnce, accesses-answer}
-use Rattle.tl_coherence.proofs.deliveries.CarriedReports.{carried-followed_c}
-use Rattle.tl_coherence.proofs.manager.Choices.{plain-past}
-use Rattle.tl_coherence.proofs.queues.FirstToken.{first-token}
-use Rattle.tl_coherence.proofs.protocol.RequestsKept.{settled_all}
-use Rattle.tl_coherence.proofs.deliveries.DeliverDWhole.{remembered_after}
-use Rattle.tl_coherence.proofs.deliveries.DeliverDUnmoved.{IsDelivered}
-use Rattle.tl_coherence.proofs.manager.ManagerAfter.{others_probed}
-use Rattle.tl_coherence.proofs.deliveries.ManagerDelivered.{channel_c-delivered}
+use Rattle.tl_coherence.proofs.{memory.BesideRequests.IsOnce, memory.BesideRequests.accesses-answer}
+use Rattle.tl_coherence.proofs.{deliveries.CarriedReports.carried-followed_c, manager.Choices.plain-past}
+use Rattle.tl_coherence.proofs.{queues.FirstToken.first-token, protocol.RequestsKept.settled_all}
+use Rattle.tl_coherence.proofs.{deliveries.DeliverDWhole.remembered_after, deliveries.DeliverDUnmoved.IsDelivered}
+use Rattle.tl_coherence.proofs.{manager.ManagerAfter.others_probed, manager.ManagerTakes.by-first_c}
+use Rattle.tl_coherence.proofs.{manager.UnwaitedRequests.next_tracker, simulation.SourcedAfter.served-request}
+use Rattle.tl_coherence.proofs.{queues.Tokens.holds-first, queues.Tokens.set_at-same, protocol.BothParts.answered-is}
+use Rattle.tl_coherence.proofs.{rank.RankParts.serving-use}
+use Rattle.tl_coherence.proofs.deliveries.ManagerDelivered.{channel_c-delivered, releases-delivered, reports-delivered}
 use Rattle.tl_coherence.proofs.deliveries.LastReportDelivered.{pushed, pushed_last}
-use Rattle.tl_coherence.proofs.deliveries.ManagerDelivered.{releases-delivered, reports-delivered}
 use Rattle.tl_coherence.proofs.deliveries.ManagerFollowed.{client-of, followed-taken, step-taken}
-use Rattle.tl_coherence.proofs.manager.ManagerTakes.{by-first_c}
-use Rattle.tl_coherence.proofs.manager.UnwaitedRequests.{next_tracker}
-use Rattle.tl_coherence.proofs.simulation.SourcedAfter.{served-request}
-use Rattle.tl_coherence.proofs.queues.Tokens.{holds-first, set_at-same}
-use Rattle.tl_coherence.proofs.protocol.BothParts.{answered-is}
-use Rattle.tl_coherence.proofs.rank.RankParts.{serving-use}
 
 -- ---- which accesses are answered by what is handed out
 
@@ -79,16 +69,12 @@ report-answered : {w : ℕ} (config : Config) (c n : ℕ) (r : Report) (rest : L
     h)) ≡ accesses_by config c ProbeAck n h
 unfolding accesses_answered
 report-answered {w} config c n r rest h for =
+    let go : (y : Bool) → accesses_answered (if y then [] else pushed_last n (h.state.block n).service
+    (if y then with_state (report_taken c n r rest h.state) h else last_taken (length config.clients.items)
+    config.profile c n r (h.state.block n).service rest h))
+    ≡ (if y then [] else last_accesses (h.state.block n).service) =
+    elim [ true ↦ refl | false ↦ last-answered config c n r (h.state.block n).service rest h for ] in
     go (some_below (length config.clients.items) (others_probed c (h.state.block n).pair))
-  where
-    go : (y : Bool)
-        → accesses_answered (if y then [] else pushed_last n (h.state.block n).service
-        (if y then with_state (report_taken c n r rest h.state) h else last_taken (length config.clients.items)
-        config.profile c n r
-        (h.state.block n).service rest h))
-        ≡ (if y then [] else last_accesses (h.state.block n).service)
-    go true = refl
-    go false = last-answered config c n r (h.state.block n).service rest h for
 
 -- ---- the access that waits can be performed
 
@@ -97,16 +83,15 @@ served-open : {w : ℕ} (q source n : ℕ) (h : AbstractState w) (m : Machine w)
     → IsAccess source (h.mail.request q source) None (m.opened q Requests source)
 served-open q source n h m u e is = rw e at is
 
-waiting-one : {w : ℕ} (config : Config) (log : Log w) (h : AbstractState w) (sys : System w) (n : ℕ) (m : Machine w)
-    (service : Service) → IsWidth w
-    → SimulationRelation config log h.mail h.request h.state sys → MemoryRelation h.mail h.state m
-    → (h.state.block n).service ≡ service → IsFor service n (h.request n) → IsServedWith h.mail service (h.request n)
-    → IsWaiting config n service h m
-waiting-one config log h sys n m Free width is beside e for with = tt
-waiting-one config log h sys n m (GrantSent q d k) width is beside e for with = tt
-waiting-one config log h sys n m (GrantTaken q) width is beside e for with = tt
-waiting-one config log h sys n m (Waits q true source k) width is beside e for with = tt
-waiting-one {w} config log h sys n m (Waits q false source k) width is beside e for with =
+waiting-one : {w : ℕ} {config : Config} {log : Log w} (h : AbstractState w) {sys : System w} (n : ℕ) {m : Machine w}
+    (service : Service) → IsWidth w → SimulationRelation config log h.mail h.request h.state sys
+    → MemoryRelation h.mail h.state m → (h.state.block n).service ≡ service → IsFor service n (h.request n)
+    → IsServedWith h.mail service (h.request n) → IsWaiting config n service h m
+waiting-one h n Free width is beside e for with = tt
+waiting-one h n (GrantSent q d k) width is beside e for with = tt
+waiting-one h n (GrantTaken q) width is beside e for with = tt
+waiting-one h n (Waits q true source k) width is beside e for with = tt
+waiting-one {w} {config} h n {m} (Waits q false source k) width is beside e for with =
     let used = serving-use (is_caching config) h.state n q source k is.invariant e in (
       record {
         width = width;
@@ -122,47 +107,45 @@ waiting-one {w} config log h sys n m (Waits q false source k) width is beside e 
 
 -- ---- any beat
 
-by-place : {w : ℕ} (h h' : AbstractState w) (pushes handed : Handed w) (m : Machine w) (b : Bool)
+by-place : {w : ℕ} (h h' : AbstractState w) (pushes handed : Handed w) {m : Machine w} (b : Bool)
     → handed ≡ (if b then pushes else []) → MemoryRelation h.mail h.state m
     → (MemoryRelation h'.mail h'.state (performing (accesses_answered pushes) m))
     → MemoryRelation (if b then h' else h).mail (if b then h' else h).state (performing (accesses_answered handed) m)
 unfolding performing accesses_answered
-by-place h h' pushes handed m true e before last = rw e last
-by-place h h' pushes handed m false e before last = rw e before
+by-place h h' pushes handed true e before last = rw e last
+by-place h h' pushes handed false e before last = rw e before
 
-pub beside-followed_c : {w : ℕ} (config : Config) (log : Log w) (h : AbstractState w) (sys : System w) (c : ℕ)
-    (x : Beat w) (queue : List (Beat w)) (m : Machine w)
-    → IsWidth w → SimulationRelation config log h.mail h.request h.state sys → sys.channels c channel.C ≡ x ∷ queue
+pub beside-followed_c : {w : ℕ} {config : Config} {log : Log w} (h : AbstractState w) {sys : System w} (c : ℕ)
+    (x : Beat w) (queue : List (Beat w)) {m : Machine w}
+    → IsWidth w → SimulationRelation config log h.mail h.request h.state sys → sys.channels c Channel.C ≡ x ∷ queue
     → MemoryRelation h.mail h.state m
-    → MemoryRelation (if completes x (unfinished channel.C (on_link c sys.manager.trace)) then packet_taken config
+    → MemoryRelation (if completes x (unfinished Channel.C (on_link c sys.manager.trace)) then packet_taken config
     (next_tracker sys) c (h.state.link c).c h else h).mail
-    (if completes x (unfinished channel.C (on_link c sys.manager.trace)) then packet_taken config (next_tracker sys) c
+    (if completes x (unfinished Channel.C (on_link c sys.manager.trace)) then packet_taken config (next_tracker sys) c
     (h.state.link c).c h else h).state
     (performing (accesses_answered (reaction config (record { 0 = c }) x sys.manager).handed) m)
 unfolding performing
-beside-followed_c {w} config log h sys c x queue m width is beats beside =
+beside-followed_c {w} {config} {log} h {sys} c x queue {m} width is beats beside =
+    let before : List (Beat w) = unfinished Channel.C (on_link c sys.manager.trace) in
     by-first_c
     (λ i. MemoryRelation (if completes x before then packet_taken config (next_tracker sys) c i h else h).mail
     (if completes x before then packet_taken config (next_tracker sys) c i h else h).state
     (performing (accesses_answered (reaction config (record { 0 = c }) x sys.manager).handed) m)) c h.mail h.state sys x
     queue
-    (first-token (is_caching config) channel.C c h.mail h.state sys x queue width is.invariant is.carried beats)
+    (first-token (is_caching config) Channel.C c h.mail h.state sys x queue width is.invariant is.carried beats)
     (λ n rest tokens next.
-    let d = reports-delivered config log h sys c n rest x queue (map (message_of h.mail h.state c) rest) width is beats
+    let d = reports-delivered h c n rest width is beats
     tokens next in
     by-place h (kind_taken config (next_tracker sys) c ProbeAck n rest h) _
-    (reaction config (record { 0 = c }) x sys.manager).handed m (completes x before) d.handed beside
+    (reaction config (record { 0 = c }) x sys.manager).handed (completes x before) d.handed beside
     (reported n rest tokens))
     (λ n rest tokens next.
-    let d = releases-delivered config log h sys c n rest x queue (map (message_of h.mail h.state c) rest) width is beats
+    let d = releases-delivered h c n rest width is beats
     tokens next in
     by-place h (kind_taken config (next_tracker sys) c Release n rest h) _
-    (reaction config (record { 0 = c }) x sys.manager).handed m (completes x before) d.handed beside
+    (reaction config (record { 0 = c }) x sys.manager).handed (completes x before) d.handed beside
     (released n rest))
   where
-    before : List (Beat w)
-    before = unfinished channel.C (on_link c sys.manager.trace)
-
     reported : (n : ℕ) (rest : List Packet) → (h.state.link c).c ≡ packet ProbeAck n ∷ rest
         → MemoryRelation (kind_taken config (next_tracker sys) c ProbeAck n rest h).mail
         (kind_taken config (next_tracker sys) c ProbeAck n rest h).state
@@ -171,17 +154,15 @@ beside-followed_c {w} config log h sys c x queue m width is beats beside =
     reported n rest tokens =
         let b : Block (List ℕ) = h.state.block n in
         let r : Report = report_told (b.pair c).probing in
-        let answered : (b.pair c).probing ≡ ProbeAnswered r = answered-is (b.pair c).probing
-        (holds-first ProbeAck (h.state.link c).c rest (packet ProbeAck n) (λ i. shown ProbeAck c (h.state.block i))
-        tokens refl
-        (is.invariant.transfers c ProbeAck refl)) in
+        let answered = answered-is (b.pair c).probing (holds-first ProbeAck (h.state.link c).c rest (packet ProbeAck n)
+        (λ i. shown ProbeAck c (h.state.block i)) tokens refl (is.invariant.transfers c ProbeAck refl)) in
         subst (λ (l : List (ℕ × ℕ)). MemoryRelation (kind_taken config (next_tracker sys) c ProbeAck n rest h).mail
         (kind_taken config (next_tracker sys) c ProbeAck n rest h).state (performing l m))
         (sym (report-answered config c n r rest h (is.served.requests n)))
-        (beside-report (is_caching config) config c n r rest h m is.invariant answered
+        (beside-report config c n r rest h is.invariant answered
         (settled_all (length config.clients.items) (is_caching config) c b.pair (plain-past config)
         (is.invariant.blocks n).outside)
-        (waiting-one config log h sys n m b.service width is beside refl (is.served.requests n) (is.served_with n))
+        (waiting-one h n b.service width is beside refl (is.served.requests n) (is.served_with n))
         beside)
 
     released : (n : ℕ) (rest : List Packet)
@@ -194,29 +175,25 @@ beside-followed_c {w} config log h sys c x queue m width is beats beside =
         let p : Prune = prune_told (b.pair c).letting in
         subst (λ (l : List (ℕ × ℕ)). MemoryRelation h.mail (release_taken c n p rest h.state) (performing l m))
         (sym (ack-quiet w (record { 0 = c }) c n ((release_taken c n p rest h.state).block n)))
-        (beside_block n (let_block c p b) h.mail h.state (release_taken c n p rest h.state) m (λ i. refl) (λ d i. refl)
+        (beside_block n (let_block c p b) (release_taken c n p rest h.state) (λ i. refl) (λ d i. refl)
         (λ d i. refl) refl
         (λ d. same_acquiring c (after_release_taken p (b.pair c)) b.pair refl d) (λ d. refl) beside)
 
 -- at most one access is answered then, and it can be performed
-report-once : {w : ℕ} (config : Config) (log : Log w) (h : AbstractState w) (sys : System w) (c n : ℕ) (m : Machine w)
-    → IsWidth w
-    → SimulationRelation config log h.mail h.request h.state sys → MemoryRelation h.mail h.state m
+report-once : {w : ℕ} {config : Config} {log : Log w} (h : AbstractState w) {sys : System w} (c n : ℕ) {m : Machine w}
+    → IsWidth w → SimulationRelation config log h.mail h.request h.state sys → MemoryRelation h.mail h.state m
     → IsOnce (accesses_by config c ProbeAck n h) h m
-report-once {w} config log h sys c n m width is beside =
+report-once {w} {config} {log} h {sys} c n {m} width is beside =
     go (some_below (length config.clients.items)
     (λ d. not (d == c) && not (is_unprobed ((h.state.block n).pair d).probing)))
   where
     of_service : (service : Service) → IsWaiting config n service h m → IsOnce (last_accesses service) h m
     of_service (Waits q false source k) waits = inr (q, source, refl, waits.0.opened)
-    of_service (Waits q true source k) waits = inl refl
-    of_service Free waits = inl refl
-    of_service (GrantSent q d k) waits = inl refl
-    of_service (GrantTaken q) waits = inl refl
+    of_service service waits = inl refl
 
     go : (b : Bool) → IsOnce (if b then [] else last_accesses (h.state.block n).service) h m
     go true = inl refl
-    go false = of_service (h.state.block n).service (waiting-one config log h sys n m (h.state.block n).service width is
+    go false = of_service (h.state.block n).service (waiting-one h n (h.state.block n).service width is
         beside refl (is.served.requests n) (is.served_with n))
 
 once-place : {w : ℕ} (h : AbstractState w) (pushes handed : Handed w) (m : Machine w) (b : Bool)
@@ -226,57 +203,46 @@ unfolding accesses_answered
 once-place h pushes handed m true e last = rw e last
 once-place h pushes handed m false e last = rw e (inl refl)
 
-pub once-followed_c : {w : ℕ} (config : Config) (log : Log w) (h : AbstractState w) (sys : System w) (c : ℕ)
-    (x : Beat w) (queue : List (Beat w)) (m : Machine w)
-    → IsWidth w → SimulationRelation config log h.mail h.request h.state sys → sys.channels c channel.C ≡ x ∷ queue
+pub once-followed_c : {w : ℕ} {config : Config} {log : Log w} (h : AbstractState w) {sys : System w} (c : ℕ)
+    (x : Beat w) (queue : List (Beat w)) {m : Machine w}
+    → IsWidth w → SimulationRelation config log h.mail h.request h.state sys → sys.channels c Channel.C ≡ x ∷ queue
     → MemoryRelation h.mail h.state m
     → IsOnce (accesses_answered (reaction config (record { 0 = c }) x sys.manager).handed) h m
-once-followed_c {w} config log h sys c x queue m width is beats beside =
+once-followed_c {w} {config} {log} h {sys} c x queue {m} width is beats beside =
     by-first_c (λ i. IsOnce (accesses_answered (reaction config (record { 0 = c }) x sys.manager).handed) h m) c h.mail
     h.state sys x queue
-    (first-token (is_caching config) channel.C c h.mail h.state sys x queue width is.invariant is.carried beats)
+    (first-token (is_caching config) Channel.C c h.mail h.state sys x queue width is.invariant is.carried beats)
     (λ n rest tokens next.
-    let d = reports-delivered config log h sys c n rest x queue (map (message_of h.mail h.state c) rest) width is beats
+    let d = reports-delivered h c n rest width is beats
     tokens next in
     once-place h _ (reaction config (record { 0 = c }) x sys.manager).handed m
-    (completes x (unfinished channel.C (on_link c sys.manager.trace))) d.handed
+    (completes x (unfinished Channel.C (on_link c sys.manager.trace))) d.handed
     (subst (λ (l : List (ℕ × ℕ)). IsOnce l h m)
     (sym (report-answered config c n (report_told ((h.state.block n).pair c).probing) rest h
-    (is.served.requests n))) (report-once config log h sys c n m width is beside)))
+    (is.served.requests n))) (report-once h c n width is beside)))
     (λ n rest tokens next.
-    let d = releases-delivered config log h sys c n rest x queue (map (message_of h.mail h.state c) rest) width is beats
+    let d = releases-delivered h c n rest width is beats
     tokens next in
     once-place h _ (reaction config (record { 0 = c }) x sys.manager).handed m
-    (completes x (unfinished channel.C (on_link c sys.manager.trace))) d.handed
+    (completes x (unfinished Channel.C (on_link c sys.manager.trace))) d.handed
     (inl (ack-quiet w (record { 0 = c }) c n
     ((release_taken c n (prune_told ((h.state.block n).pair c).letting) rest h.state).block n))))
 
 -- the channels and the one memory after any delivery on channel C that finds a beat
-pub delivered-c : {w : ℕ} (config : Config) (log : Log w) (c : ℕ) (h : AbstractState w) (x : Beat w)
+pub delivered-c : {w : ℕ} {config : Config} {log : Log w} (c : ℕ) (h : AbstractState w) (x : Beat w)
     (queue : List (Beat w)) → IsWidth w → SimulationRelation config log h.mail h.request h.state
     (system_after config log)
-    → (system_after config log).channels c channel.C ≡ x ∷ queue → IsDelivered config log (record { 0 = c }) channel.C h
-delivered-c {w} config log c h x queue width is beats =
+    → (system_after config log).channels c Channel.C ≡ x ∷ queue → IsDelivered config log (record { 0 = c }) Channel.C h
+delivered-c {w} {config} {log} c h x queue width is beats =
     let sys : System w = system_after config log in
-    let t = client-of config c channel.C x queue sys beats (is.sound c channel.C) in
-    let d = channel_c-delivered config log (next_tracker sys) h sys c x queue width is beats in
+    let t = client-of config c Channel.C x queue sys beats (is.sound c Channel.C) in
+    let d = channel_c-delivered (next_tracker sys) h c x queue width is beats in
     record {
-      carried = carried-followed_c config log h sys c x queue width is beats;
-      beside =
-          subst (λ (i : AbstractState w). MemoryRelation i.mail i.state
-          (one_memory_after config
-          ((
-            Deliver (record { 0 = c }) channel.C,
-            (stepped config (Deliver (record { 0 = c }) channel.C)
-                sys).outcome,
-          ) ∷ log)))
-          (sym (followed-taken config c channel.C x queue sys h t.0 t.1 beats refl d.up))
-          (subst
-          (λ (i : Machine w). MemoryRelation (if completes x (unfinished channel.C (on_link c sys.manager.trace)) then
-          packet_taken config (next_tracker sys) c (h.state.link c).c h else h).mail
-          (if completes x (unfinished channel.C (on_link c sys.manager.trace)) then packet_taken config
-          (next_tracker sys) c (h.state.link c).c h else h).state i)
-          (sym (remembered_after config log (record { 0 = c }) channel.C _
-          (step-taken config c channel.C x queue sys t.0 t.1 beats refl d.up)))
-          (beside-followed_c config log h sys c x queue (one_memory_after config log) width is beats is.beside));
+      carried = carried-followed_c h c x queue width is beats;
+      beside = rw (followed-taken queue sys h t.0 t.1 beats refl d.up) (subst (λ (i : Machine w). MemoryRelation (if
+          completes x (unfinished Channel.C (on_link c sys.manager.trace)) then packet_taken config (next_tracker sys) c
+          (h.state.link c).c h else h).mail (if completes x (unfinished Channel.C (on_link c sys.manager.trace)) then
+          packet_taken config (next_tracker sys) c (h.state.link c).c h else h).state i) (sym (remembered_after config
+          log (record { 0 = c }) Channel.C _ (step-taken config c Channel.C x queue sys t.0 t.1 beats refl d.up)))
+          (beside-followed_c h c x queue width is beats is.beside));
     }

@@ -1,34 +1,25 @@
 -- A delivery on channel A: what is first there, that it is taken unless it has to wait, and the
 -- manager's end afterwards.
 use Rattle.tl_coherence.proofs.deliveries.Imports.{IsWidth, Beat, MessageA, a_beat_of, beats_of, unfinished, completes}
-use Rattle.tl_coherence.proofs.deliveries.Imports.{Config, on_link, EndConfig, reaction, End}
-use Rattle.tl_coherence.proofs.deliveries.Imports.{must_wait, Deliver, AbstractState, kind_taken, packet_taken}
-use Rattle.tl_coherence.proofs.deliveries.Imports.{abstract_delivery, abstract_step, Step}
-use Rattle.tl_coherence.proofs.deliveries.Imports.{only, handing, manager_took, stepped}
-use Rattle.tl_coherence.proofs.deliveries.Imports.{packet, Log, System, terms_at, with_manager}
-use Rattle.tl_coherence.proofs.deliveries.Imports.{with_channel, Kind}
-use Rattle.tl_coherence.proofs.deliveries.Imports.{Packet, SimulationRelation}
-use Rattle.tl_coherence.proofs.deliveries.Imports.{is_caching, MemoryRelation, Machine, ChannelRelation}
-use Rattle.tl_coherence.proofs.deliveries.Imports.{accesses_answered, performing, Handed, Reaction, reaction-part}
-use Rattle.std.proofs.Common.{◌≡◌, subst, ℕ, suc, ◌+◌, ◌<◌, ◌==◌, Bool, true, false, List, [], ◌∷◌, Some}
-use Rattle.std.proofs.Common.{refl, sym, ◌∙◌, ap, inl, inr, arith}
-use Rattle.std.specs.Prelude.{if◌then◌else◌}
-use Rattle.std.proofs.lemmas.Bool.{cases_eq, eqb-true}
-use Rattle.tl_beat.specs.declared.beat.Beat.TheVariants as beat
-use Rattle.tl_beat.specs.declared.channel.Channel.TheVariants as channel
-use Rattle.tl_burst.specs.declared.message.Message.TheVariants as message
+use Rattle.tl_coherence.proofs.deliveries.Imports.{Config, on_link, EndConfig, reaction, End, must_wait, Deliver}
+use Rattle.tl_coherence.proofs.deliveries.Imports.{AbstractState, kind_taken, packet_taken, abstract_delivery}
+use Rattle.tl_coherence.proofs.deliveries.Imports.{abstract_step, Step, only, handing, manager_took, stepped, packet}
+use Rattle.tl_coherence.proofs.deliveries.Imports.{Log, System, terms_at, with_manager, with_channel, Kind, Packet}
+use Rattle.tl_coherence.proofs.deliveries.Imports.{SimulationRelation, MemoryRelation, Machine}
+use Rattle.tl_coherence.proofs.deliveries.Imports.{ChannelRelation, accesses_answered, performing, Handed, Reaction}
+use Rattle.tl_coherence.proofs.deliveries.Imports.{reaction-part, Channel, Message}
+use Rattle.std.proofs.Common.{◌≡◌, subst, ℕ, suc, ◌+◌, ◌<◌, ◌==◌, Bool, true, false, List, [], ◌∷◌, Some, refl, sym}
+use Rattle.std.proofs.Common.{◌∙◌, ap, inl, inr, arith}
+use Rattle.std.{specs.Prelude.if◌then◌else◌, proofs.lemmas.Bool.cases_eq, proofs.lemmas.Bool.eqb-true}
 use Rattle.tl_rules.proofs.Sent.{not_last}
-use Rattle.tl_coherence.specs.declared.event.Outcome.TheVariants as outcome
+use Rattle.tl_coherence.specs.declared.event.Outcome.{Outcome}
 use Rattle.tl_coherence.specs.refinement.AbstractStep as follow
-use Rattle.tl_coherence.proofs.memory.BesideRequests.{IsOnce}
-use Rattle.tl_coherence.proofs.manager.Arrivals.{link_of, ends-coming}
-use Rattle.tl_coherence.proofs.deliveries.CarriedRequests.{system_after, carried-more}
-use Rattle.tl_coherence.proofs.manager.AtRequests.{end_after, at_manager-more}
-use Rattle.tl_coherence.proofs.manager.ManagersEnd.{at_manager-matched}
+use Rattle.tl_coherence.proofs.{memory.BesideRequests.IsOnce, manager.Arrivals.link_of, manager.Arrivals.ends-coming}
+use Rattle.tl_coherence.proofs.{manager.AtRequests.end_after, manager.AtRequests.at_manager-more}
+use Rattle.tl_coherence.proofs.{manager.ManagersEnd.at_manager-matched, queues.Tokens.same_number}
+use Rattle.tl_coherence.proofs.{manager.UnwaitedRequests.next_tracker, manager.ManagerAfter.IsManagerOf}
+use Rattle.tl_coherence.proofs.deliveries.CarriedRequests.{carried-more}
 use Rattle.tl_coherence.proofs.queues.Steps.{manager-with_messages, stepped-empty, stepped-to-manager}
-use Rattle.tl_coherence.proofs.queues.Tokens.{same_number}
-use Rattle.tl_coherence.proofs.manager.UnwaitedRequests.{next_tracker}
-use Rattle.tl_coherence.proofs.manager.ManagerAfter.{IsManagerOf}
 use Rattle.tl_coherence.proofs.deliveries.FirstRequest.{IsArrival, arrival-first, coming-arrival, request-taken}
 use Rattle.tl_coherence.proofs.deliveries.FirstRequest.{request-stalled}
 
@@ -47,14 +38,14 @@ more_beats k n e lt = elim (cases_eq (k + 1) n) [
 ]
 
 -- The protocol after a beat that is taken: with the last one the request is, and with any other one nothing changes.
-pub moved-a : {w : ℕ} (config : Config) (h : AbstractState w) (sys : System w) (c : ℕ) (x : Beat w)
-    (queue : List (Beat w)) (P : AbstractState w → Type 0)
-    → sys.channels c channel.A ≡ x ∷ queue → (arrives : IsArrival config h sys c x queue)
-    → (beats_of (message.A arrives.request) ≡ suc arrives.next.k
+pub moved-a : {w : ℕ} {config : Config} {h : AbstractState w} {sys : System w} {c : ℕ} {x : Beat w}
+    {queue : List (Beat w)} (P : AbstractState w → Type 0) → sys.channels c Channel.A ≡ x ∷ queue
+    → (arrives : IsArrival config h sys c x queue) → (beats_of (Message.A arrives.request) ≡ suc arrives.next.k
     → P (kind_taken config (next_tracker sys) c arrives.kind arrives.number arrives.rest h))
-    → (arrives.next.k + 1 < beats_of (message.A arrives.request) → P h)
-    → P (abstract_delivery config c channel.A (outcome.Moved x) sys h)
-moved-a {w} config h sys c x queue P beats arrives last more =
+    → (arrives.next.k + 1 < beats_of (Message.A arrives.request) → P h)
+    → P (abstract_delivery config c Channel.A (Outcome.Moved x) sys h)
+moved-a {w} {config} {h} {sys} {c} {x} P beats arrives last more =
+    let last_is : follow.is_last (sys.channels c Channel.A) rest ≡ completes x rest = rw beats refl in
     subst (λ (b : Bool). P (if b then packet_taken config (next_tracker sys) c (h.state.link c).a h else h))
     (sym last_is) (go (completes x rest) refl)
   where
@@ -62,107 +53,92 @@ moved-a {w} config h sys c x queue P beats arrives last more =
     k = arrives.next.k
 
     rest : List (Beat w)
-    rest = unfinished channel.A (on_link c sys.manager.trace)
-
-    last_is : follow.is_last (sys.channels c channel.A) rest ≡ completes x rest
-    last_is = rw beats refl
+    rest = unfinished Channel.A (on_link c sys.manager.trace)
 
     go : (b : Bool) → completes x rest ≡ b
         → P (if b then packet_taken config (next_tracker sys) c (h.state.link c).a h else h)
     go true e =
-        let all = eqb-true (k + 1) (beats_of (message.A arrives.request)) (sym arrives.next.completes_is ∙ e) in
+        let all = eqb-true (k + 1) (beats_of (Message.A arrives.request)) (sym arrives.next.completes_is ∙ e) in
         subst P (sym (token_taken-first config (next_tracker sys) c arrives.kind arrives.number arrives.rest
         (h.state.link c).a h arrives.is_it.tokens)) (last (omega (arith, all)))
-    go false e = more (more_beats k (beats_of (message.A arrives.request)) (sym arrives.next.completes_is ∙ e)
+    go false e = more (more_beats k (beats_of (Message.A arrives.request)) (sym arrives.next.completes_is ∙ e)
         arrives.next.within)
 
 -- the step at a beat that is taken
 abbrev pub step_moved : {w : ℕ} → Config → ℕ → ℕ → MessageA w → Beat w → List (Beat w) → System w → Step w
-step_moved config c k m x queue sys =
-    handing (outcome.Moved x) (reaction config (link_of c) x sys.manager).handed
-    (with_manager (end_after config c k m sys.manager) (with_channel c channel.A queue sys))
+step_moved config c k m x queue sys = handing (Outcome.Moved x) (reaction config (link_of c) x sys.manager).handed
+    (with_manager (end_after config c k m sys.manager) (with_channel c Channel.A queue sys))
 
 -- A delivery finds no beat, or one that has to wait, or one that is taken.
-pub delivery-a : {w : ℕ} (config : Config) (log : Log w) (h : AbstractState w) (sys : System w) (c : ℕ)
-    (terms : EndConfig) (P : Step w → Type 0) → IsWidth w
-    → SimulationRelation config log h.mail h.request h.state sys → terms_at config c ≡ Some terms
-    → (sys.channels c channel.A ≡ [] → P (only outcome.Empty sys))
-    → ((x : Beat w) (queue : List (Beat w)) → sys.channels c channel.A ≡ x ∷ queue
-    → must_wait config (link_of c) x sys.manager.trace ≡ true
-    → P (only outcome.Stalled sys))
-    → ((x : Beat w) (queue : List (Beat w)) → sys.channels c channel.A ≡ x ∷ queue
+pub delivery-a : {w : ℕ} {config : Config} {log : Log w} (h : AbstractState w) {sys : System w} (c : ℕ)
+    (terms : EndConfig) (P : Step w → Type 0) → IsWidth w → SimulationRelation config log h.mail h.request h.state sys
+    → terms_at config c ≡ Some terms → (sys.channels c Channel.A ≡ [] → P (only Outcome.Empty sys))
+    → ((x : Beat w) (queue : List (Beat w)) → sys.channels c Channel.A ≡ x ∷ queue
+    → must_wait config (link_of c) x sys.manager.trace ≡ true → P (only Outcome.Stalled sys))
+    → ((x : Beat w) (queue : List (Beat w)) → sys.channels c Channel.A ≡ x ∷ queue
     → (arrives : IsArrival config h sys c x queue) → must_wait config (link_of c) x sys.manager.trace ≡ false
     → P (step_moved config c arrives.next.k arrives.request x queue sys))
-    → P (stepped config (Deliver (link_of c) channel.A) sys)
-delivery-a {w} config log h sys c terms P width is client empty stalled moved = go (sys.channels c channel.A) refl
+    → P (stepped config (Deliver (link_of c) Channel.A) sys)
+delivery-a {w} {config} {log} h {sys} c terms P width is client empty stalled moved = go (sys.channels c Channel.A) refl
   where
     step : Step w
-    step = stepped config (Deliver (link_of c) channel.A) sys
+    step = stepped config (Deliver (link_of c) Channel.A) sys
 
-    taken_or_not : (x : Beat w) (queue : List (Beat w)) → sys.channels c channel.A ≡ x ∷ queue
-        → IsArrival config h sys c x queue → (b : Bool)
-        → must_wait config (link_of c) x sys.manager.trace ≡ b → P step
+    taken_or_not : (x : Beat w) (queue : List (Beat w)) → sys.channels c Channel.A ≡ x ∷ queue
+        → IsArrival config h sys c x queue → (b : Bool) → must_wait config (link_of c) x sys.manager.trace ≡ b → P step
     taken_or_not x queue e arrives true waits =
-        subst P
-        (sym (stepped-to-manager config (link_of c) channel.A sys terms x queue client e refl
-        ∙ ap (λ p. manager_took c channel.A x queue p sys) (request-stalled config log h sys c x queue is e arrives
-        waits)))
+        subst P (sym (stepped-to-manager config (link_of c) Channel.A sys terms x queue client e refl
+        ∙ ap (λ p. manager_took c Channel.A x queue p sys) (request-stalled is e arrives waits)))
         (stalled x queue e waits)
     taken_or_not x queue e arrives false moves =
-        subst P
-        (sym (stepped-to-manager config (link_of c) channel.A sys terms x queue client e refl
-        ∙ ap (λ p. manager_took c channel.A x queue p sys) (request-taken config log h sys c x queue width is e arrives
-        moves)))
+        subst P (sym (stepped-to-manager config (link_of c) Channel.A sys terms x queue client e refl
+        ∙ ap (λ p. manager_took c Channel.A x queue p sys) (request-taken width is e arrives moves)))
         (moved x queue e arrives moves)
 
-    go : (xs : List (Beat w)) → sys.channels c channel.A ≡ xs → P step
-    go [] e = subst P (sym (stepped-empty config (link_of c) channel.A sys terms client e)) (empty e)
-    go (x ∷ queue) e = taken_or_not x queue e (arrival-first config log h sys c x queue width is e)
+    go : (xs : List (Beat w)) → sys.channels c Channel.A ≡ xs → P step
+    go [] e = subst P (sym (stepped-empty config (link_of c) Channel.A sys terms client e)) (empty e)
+    go (x ∷ queue) e = taken_or_not x queue e (arrival-first h c x queue width is e)
         (must_wait config (link_of c) x sys.manager.trace) refl
 
 -- and what the manager knows is what the protocol says then
-pub at_manager-delivered_a : {w : ℕ} (config : Config) (log : Log w) (h : AbstractState w) (sys : System w) (c : ℕ)
-    (terms : EndConfig) → IsWidth w
-    → SimulationRelation config log h.mail h.request h.state sys → terms_at config c ≡ Some terms
-    → IsManagerOf config (abstract_step config (Deliver (link_of c) channel.A) sys h)
-    (stepped config (Deliver (link_of c) channel.A) sys).after.manager
-at_manager-delivered_a {w} config log h sys c terms width is client =
-    let known = at_manager-matched config log h.mail h.request h.state sys is in
-    delivery-a config log h sys c terms
-    (λ (step : Step w). IsManagerOf config (abstract_delivery config c channel.A step.outcome sys h) step.after.manager)
+pub at_manager-delivered_a : {w : ℕ} {config : Config} {log : Log w} (h : AbstractState w) {sys : System w} (c : ℕ)
+    (terms : EndConfig) → IsWidth w → SimulationRelation config log h.mail h.request h.state sys
+    → terms_at config c ≡ Some terms → IsManagerOf config (abstract_step config (Deliver (link_of c) Channel.A) sys h)
+    (stepped config (Deliver (link_of c) Channel.A) sys).after.manager
+at_manager-delivered_a {w} {config} {log} h {sys} c terms width is client =
+    let known = at_manager-matched is in
+    delivery-a h c terms
+    (λ (step : Step w). IsManagerOf config (abstract_delivery config c Channel.A step.outcome sys h) step.after.manager)
     width is
     client (λ e. known) (λ x queue e waits. known) (λ x queue beats arrives moves.
-    let comes = coming-arrival config log h sys c x queue width is beats arrives moves in
+    let comes = coming-arrival width is beats arrives moves in
     let k : ℕ = arrives.next.k in
     let after : End w = end_after config c k arrives.request sys.manager in
-    subst (IsManagerOf config (abstract_delivery config c channel.A (outcome.Moved x) sys h))
+    subst (IsManagerOf config (abstract_delivery config c Channel.A (Outcome.Moved x) sys h))
     (sym (manager-with_messages (reaction config (link_of c) x sys.manager).handed
-    (with_manager after (with_channel c channel.A queue sys))))
-    (moved-a config h sys c x queue (λ (i : AbstractState w). IsManagerOf config i after) beats arrives
+    (with_manager after (with_channel c Channel.A queue sys))))
+    (moved-a (λ (i : AbstractState w). IsManagerOf config i after) beats arrives
     (λ last. arrives.is_it.after k comes last (rw arrives.next.beat_is at moves))
-    (λ more. at_manager-more (is_caching config) config h.mail h.request h.state c k arrives.request sys.manager
+    (λ more. at_manager-more
     is.invariant comes more (arrives.is_it.unwaited k more) known)))
 
 -- and the channels carry the messages of the tokens
-pub carried-delivered_a : {w : ℕ} (config : Config) (log : Log w) (h : AbstractState w) (sys : System w) (c : ℕ)
-    (terms : EndConfig) → IsWidth w
-    → SimulationRelation config log h.mail h.request h.state sys → terms_at config c ≡ Some terms
-    → ChannelRelation (abstract_step config (Deliver (link_of c) channel.A) sys h).mail
-    (abstract_step config (Deliver (link_of c) channel.A) sys h).state
-    (stepped config (Deliver (link_of c) channel.A) sys).after
-carried-delivered_a {w} config log h sys c terms width is client =
-    delivery-a config log h sys c terms (λ (step : Step w).
-    ChannelRelation (abstract_delivery config c channel.A step.outcome sys h).mail
-    (abstract_delivery config c channel.A step.outcome sys h).state step.after) width is client
+pub carried-delivered_a : {w : ℕ} {config : Config} {log : Log w} (h : AbstractState w) {sys : System w} (c : ℕ)
+    (terms : EndConfig) → IsWidth w → SimulationRelation config log h.mail h.request h.state sys
+    → terms_at config c ≡ Some terms → ChannelRelation (abstract_step config (Deliver (link_of c) Channel.A) sys h).mail
+    (abstract_step config (Deliver (link_of c) Channel.A) sys h).state
+    (stepped config (Deliver (link_of c) Channel.A) sys).after
+carried-delivered_a {w} {config} {log} h {sys} c terms width is client =
+    delivery-a h c terms (λ (step : Step w).
+    ChannelRelation (abstract_delivery config c Channel.A step.outcome sys h).mail
+    (abstract_delivery config c Channel.A step.outcome sys h).state step.after) width is client
     (λ e. is.carried) (λ x queue e waits. is.carried) (λ x queue beats arrives moves.
-    let comes = coming-arrival config log h sys c x queue width is beats arrives moves in
+    let comes = coming-arrival width is beats arrives moves in
     let k : ℕ = arrives.next.k in
     let m : MessageA w = arrives.request in
-    let first : sys.channels c channel.A ≡ beat.A (a_beat_of m k) ∷ queue =
-    beats ∙ ap (λ (y : Beat w). y ∷ queue) arrives.next.beat_is in
-    let same : system_after config c k m queue sys ≡ (step_moved config c k m x queue sys).after =
-    ap (λ (y : Beat w). (step_moved config c k m y queue sys).after) (sym arrives.next.beat_is) in
-    moved-a config h sys c x queue (λ (i : AbstractState w). ChannelRelation i.mail i.state
+    let first : sys.channels c Channel.A ≡ Beat.A (a_beat_of m k) ∷ queue = cc (beats, arrives.next.beat_is) in
+    let same = ap (λ (y : Beat w). (step_moved config c k m y queue sys).after) (sym arrives.next.beat_is) in
+    moved-a (λ (i : AbstractState w). ChannelRelation i.mail i.state
     (step_moved config c k m x queue sys).after) beats arrives
     (λ last.
     subst (ChannelRelation (kind_taken config (next_tracker sys) c arrives.kind arrives.number arrives.rest h).mail
@@ -170,31 +146,28 @@ carried-delivered_a {w} config log h sys c terms width is client =
     (arrives.is_it.carried k queue comes first last (rw arrives.next.beat_is at moves)))
     (λ more.
     subst (ChannelRelation h.mail h.state) same
-    (carried-more config log h.mail h.request h.state sys c k m queue is comes first
-    (ends-coming config c k m sys.manager comes ∙ not_last k (beats_of (message.A m)) more))))
+    (carried-more queue is comes first
+    (ends-coming comes ∙ not_last k (beats_of (Message.A m)) more))))
 
 -- and the one-memory machine is beside the protocol, once the accesses that are answered are performed
-pub beside-delivered_a : {w : ℕ} (config : Config) (log : Log w) (h : AbstractState w) (sys : System w) (c : ℕ)
-    (terms : EndConfig) (machine : Machine w) → IsWidth w
-    → SimulationRelation config log h.mail h.request h.state sys → terms_at config c ≡ Some terms
-    → MemoryRelation h.mail h.state machine
-    → MemoryRelation (abstract_step config (Deliver (link_of c) channel.A) sys h).mail
-    (abstract_step config (Deliver (link_of c) channel.A) sys h).state
-    (performing (accesses_answered (stepped config (Deliver (link_of c) channel.A) sys).handed) machine)
+pub beside-delivered_a : {w : ℕ} {config : Config} {log : Log w} (h : AbstractState w) {sys : System w} (c : ℕ)
+    (terms : EndConfig) {machine : Machine w} → IsWidth w → SimulationRelation config log h.mail h.request h.state sys
+    → terms_at config c ≡ Some terms → MemoryRelation h.mail h.state machine
+    → MemoryRelation (abstract_step config (Deliver (link_of c) Channel.A) sys h).mail
+    (abstract_step config (Deliver (link_of c) Channel.A) sys h).state
+    (performing (accesses_answered (stepped config (Deliver (link_of c) Channel.A) sys).handed) machine)
 unfolding performing accesses_answered
-beside-delivered_a {w} config log h sys c terms machine width is client beside =
-    delivery-a config log h sys c terms
-    (λ (step : Step w). MemoryRelation (abstract_delivery config c channel.A step.outcome sys h).mail
-    (abstract_delivery config c channel.A step.outcome sys h).state
+beside-delivered_a {w} {config} {log} h {sys} c terms {machine} width is client beside =
+    delivery-a h c terms
+    (λ (step : Step w). MemoryRelation (abstract_delivery config c Channel.A step.outcome sys h).mail
+    (abstract_delivery config c Channel.A step.outcome sys h).state
     (performing (accesses_answered step.handed) machine)) width is client (λ e. beside)
     (λ x queue e waits. beside) (λ x queue beats arrives moves.
-    let comes = coming-arrival config log h sys c x queue width is beats arrives moves in
+    let comes = coming-arrival width is beats arrives moves in
     let k : ℕ = arrives.next.k in
     let m : MessageA w = arrives.request in
-    let same : (reaction config (link_of c) (beat.A (a_beat_of m k)) sys.manager).handed
-    ≡ (reaction config (link_of c) x sys.manager).handed =
-    ap (λ (y : Beat w). (reaction config (link_of c) y sys.manager).handed) (sym arrives.next.beat_is) in
-    moved-a config h sys c x queue (λ (i : AbstractState w). MemoryRelation i.mail i.state
+    let same = ap (λ (y : Beat w). (reaction config (link_of c) y sys.manager).handed) (sym arrives.next.beat_is) in
+    moved-a (λ (i : AbstractState w). MemoryRelation i.mail i.state
     (performing (accesses_answered (reaction config (link_of c) x sys.manager).handed) machine)) beats arrives
     (λ last.
     subst
@@ -204,36 +177,31 @@ beside-delivered_a {w} config log h sys c terms machine width is client beside =
     (performing (accesses_answered i) machine))
     same (arrives.is_it.beside k machine comes last beside))
     (λ more.
-    let part : (reaction config (link_of c) (beat.A (a_beat_of m k)) sys.manager).handed ≡ [] =
-    ap (λ (d : Reaction w). d.handed) (reaction-part config (link_of c) (beat.A (a_beat_of m k)) sys.manager
-    (ends-coming config c k m sys.manager comes ∙ not_last k (beats_of (message.A m)) more)) in
+    let part = ap (λ (d : Reaction w). d.handed) (reaction-part config (link_of c) (Beat.A (a_beat_of m k)) sys.manager
+    (ends-coming comes ∙ not_last k (beats_of (Message.A m)) more)) in
     subst (λ (i : Handed w). MemoryRelation h.mail h.state (performing (accesses_answered i) machine)) (sym part ∙ same)
     beside))
 
 -- at most one access is answered then, and it can be performed
-pub once-delivered_a : {w : ℕ} (config : Config) (log : Log w) (h : AbstractState w) (sys : System w) (c : ℕ)
-    (terms : EndConfig) (machine : Machine w) → IsWidth w
-    → SimulationRelation config log h.mail h.request h.state sys → terms_at config c ≡ Some terms
-    → MemoryRelation h.mail h.state machine
-    → IsOnce (accesses_answered (stepped config (Deliver (link_of c) channel.A) sys).handed) h machine
+pub once-delivered_a : {w : ℕ} {config : Config} {log : Log w} (h : AbstractState w) {sys : System w} (c : ℕ)
+    (terms : EndConfig) {machine : Machine w} → IsWidth w → SimulationRelation config log h.mail h.request h.state sys
+    → terms_at config c ≡ Some terms → MemoryRelation h.mail h.state machine
+    → IsOnce (accesses_answered (stepped config (Deliver (link_of c) Channel.A) sys).handed) h machine
 unfolding accesses_answered
-once-delivered_a {w} config log h sys c terms machine width is client beside =
-    delivery-a config log h sys c terms (λ (step : Step w). IsOnce (accesses_answered step.handed) h machine) width is
+once-delivered_a {w} {config} {log} h {sys} c terms {machine} width is client beside =
+    delivery-a h c terms (λ (step : Step w). IsOnce (accesses_answered step.handed) h machine) width is
     client (λ e. inl refl)
     (λ x queue e waits. inl refl) (λ x queue beats arrives moves.
-    let comes = coming-arrival config log h sys c x queue width is beats arrives moves in
+    let comes = coming-arrival width is beats arrives moves in
     let k : ℕ = arrives.next.k in
     let m : MessageA w = arrives.request in
-    let same : (reaction config (link_of c) (beat.A (a_beat_of m k)) sys.manager).handed
-    ≡ (reaction config (link_of c) x sys.manager).handed =
-    ap (λ (y : Beat w). (reaction config (link_of c) y sys.manager).handed) (sym arrives.next.beat_is) in
-    moved-a config h sys c x queue
+    let same = ap (λ (y : Beat w). (reaction config (link_of c) y sys.manager).handed) (sym arrives.next.beat_is) in
+    moved-a
     (λ (i : AbstractState w). IsOnce (accesses_answered (reaction config (link_of c) x sys.manager).handed) h
     machine) beats arrives
     (λ last. subst (λ (i : Handed w). IsOnce (accesses_answered i) h machine) same
     (arrives.is_it.once k machine comes last beside))
     (λ more.
-    let part : (reaction config (link_of c) (beat.A (a_beat_of m k)) sys.manager).handed ≡ [] =
-    ap (λ (d : Reaction w). d.handed) (reaction-part config (link_of c) (beat.A (a_beat_of m k)) sys.manager
-    (ends-coming config c k m sys.manager comes ∙ not_last k (beats_of (message.A m)) more)) in
+    let part = ap (λ (d : Reaction w). d.handed) (reaction-part config (link_of c) (Beat.A (a_beat_of m k)) sys.manager
+    (ends-coming comes ∙ not_last k (beats_of (Message.A m)) more)) in
     inl (ap accesses_answered (sym same ∙ part))))

@@ -2,44 +2,30 @@
 -- number, of which those that fail are listed.
 use Rattle.tl_coherence.proofs.examples.Imports.{Beat, Link, Channel, Config, bytes_from, number_from, Event, Ask}
 use Rattle.tl_coherence.proofs.examples.Imports.{Deliver, started, flow, is_movable, next_delivery, accesses_answered}
-use Rattle.tl_coherence.proofs.examples.Imports.{performing, Step, stepped, System}
-use Rattle.std.proofs.Common.{◌≡◌}
+use Rattle.tl_coherence.proofs.examples.Imports.{performing, Step, stepped, System, requests, releases}
+use Rattle.std.{proofs.Common.◌≡◌, specs.Bool.beq}
 use Rattle.std.specs.Prelude.{min, ◌-◌, ℕ, zero, suc, Bool, true, false, not, List, [], ◌∷◌, ◌++◌, ◌==◌, ◌&&◌, ◌||◌}
 use Rattle.std.specs.Prelude.{◌*◌, ◌/◌, ◌^◌, nat_le, length, reverse, Option, Some, None, is_none}
-use Rattle.std.specs.Bool.{beq}
-use Rattle.tl_beat.specs.declared.beat.Beat.TheVariants as beat
-use Rattle.tl_beat.specs.declared.channel.Channel.TheVariants as channel
 use Rattle.tl_burst.specs.statement.Messages.{same_control, carried_on}
-use Rattle.tl_params.specs.declared.level.Level.{Level}
-use Rattle.tl_params.specs.declared.perm.Perm.{Perm}
-use Rattle.tl_params.specs.declared.perm.Perm.TheVariants as perm
-use Rattle.tl_params.specs.declared.profile.Profile.{Profile}
-use Rattle.tl_rules.specs.statement.Admission.{lanes_of}
-use Rattle.tl_rules.specs.statement.Conformance.{is_legal, same_perm}
+use Rattle.tl_params.{specs.declared.level.Level.Level, specs.declared.perm.Perm.Perm}
+use Rattle.tl_params.{specs.declared.profile.Profile.Profile}
+use Rattle.tl_rules.{specs.statement.Admission.lanes_of, specs.statement.Effect.Memory}
+use Rattle.tl_rules.{specs.statement.History.block_at}
+use Rattle.tl_rules.specs.statement.Conformance.{broken_after, is_legal, same_perm}
 use Rattle.tl_rules.specs.statement.Effect as memory
-use Rattle.tl_rules.specs.statement.Effect.{Memory}
-use Rattle.tl_rules.specs.statement.History.{block_at}
-use Rattle.tl_client.specs.declared.operation.Op.{Op}
+use Rattle.tl_client.{specs.declared.operation.Op.Op, specs.declared.reply.Reply.Reply}
+use Rattle.tl_client.{specs.declared.verdict.Finish.Finish, specs.statement.Ask.same_bytes}
+use Rattle.tl_client.{specs.statement.Ask.op_block, specs.statement.Endpoint.held_at}
 use Rattle.tl_client.specs.declared.operation.Op.TheVariants.{Load, Store, Acquire, AcquireWhole, Release, Access}
-use Rattle.tl_client.specs.declared.reply.Reply.{Reply}
-use Rattle.tl_client.specs.declared.reply.Reply.TheVariants as reply
-use Rattle.tl_client.specs.declared.verdict.Finish.{Finish}
-use Rattle.tl_client.specs.declared.verdict.Finish.TheVariants as finish
-use Rattle.tl_client.specs.statement.Ask.{same_bytes, op_block}
-use Rattle.tl_client.specs.statement.Endpoint.{held_at}
 use Rattle.tl_manager.specs.statement.Offer.{level_of, must_wait}
-use Rattle.tl_coherence.specs.declared.event.Outcome.{Outcome}
-use Rattle.tl_coherence.specs.declared.event.Outcome.TheVariants as outcome
-use Rattle.tl_coherence.specs.statement.Draining.{is_delivery, is_moving}
+use Rattle.tl_coherence.specs.{declared.event.Outcome.Outcome, statement.Draining.is_delivery}
+use Rattle.tl_coherence.specs.{statement.Draining.is_moving, statement.Load.outstanding, statement.Load.load}
+use Rattle.tl_coherence.specs.{statement.Log.Log, statement.Step.client_of, statement.System.fresh}
+use Rattle.tl_coherence.specs.{statement.System.terms_at}
 use Rattle.tl_coherence.specs.statement.Delivery.{capacity, sources_of, sender, receiver}
-use Rattle.tl_coherence.specs.statement.Load.{outstanding, load}
-use Rattle.tl_coherence.specs.statement.Log.{Log}
 use Rattle.tl_coherence.specs.statement.Machine.{Machine, Open, Requests, Releases, first, is_client, is_word_op}
 use Rattle.tl_coherence.specs.statement.Machine.{pool_of_op, pool_of, finish_with, cap_named, moved, performed}
-use Rattle.tl_coherence.specs.statement.Step.{client_of}
-use Rattle.tl_coherence.specs.statement.System.{fresh, terms_at}
-use Rattle.tl_coherence.proofs.examples.Play.{Line, Does, Drains}
-use Rattle.tl_coherence.proofs.queues.Phases.{implies}
+use Rattle.tl_coherence.proofs.{examples.Play.Line, examples.Play.Does, examples.Play.Drains, queues.Phases.implies}
 
 -- ---- a whole, what has happened to it, and the one-memory machine beside it
 
@@ -73,20 +59,20 @@ failed n true rest = rest
 failed n false rest = n ∷ rest
 
 abbrev pub same_finish : Finish → Finish → Bool
-same_finish finish.Ack finish.Ack = true
-same_finish finish.Hint finish.Hint = true
-same_finish (finish.Data m xs) (finish.Data n ys) = (m == n) && same_bytes xs ys
-same_finish (finish.Granted p) (finish.Granted q) = same_perm p q
-same_finish finish.Released finish.Released = true
+same_finish Finish.Ack Finish.Ack = true
+same_finish Finish.Hint Finish.Hint = true
+same_finish (Finish.Data m xs) (Finish.Data n ys) = (m == n) && same_bytes xs ys
+same_finish (Finish.Granted p) (Finish.Granted q) = same_perm p q
+same_finish Finish.Released Finish.Released = true
 same_finish _ _ = false
 
 -- the machine allows the reply
 abbrev pub replies : {w : ℕ} → ℕ → Op w → Reply → Machine w → Bool
-replies client (Load address size) (reply.Value v) m = v == number_from m.memory address (2 ^ size)
-replies client (Store address size value) reply.Stored m = true
-replies client op reply.Miss m = is_word_op op
-replies client op (reply.Busy why) m = true
-replies client op (reply.Started source) m = not (is_word_op op) && is_none (m.opened client (pool_of_op op) source)
+replies client (Load address size) (Reply.Value v) m = v == number_from m.memory address (2 ^ size)
+replies client (Store address size value) Reply.Stored m = true
+replies client op Reply.Miss m = is_word_op op
+replies client op (Reply.Busy why) m = true
+replies client op (Reply.Started source) m = not (is_word_op op) && is_none (m.opened client (pool_of_op op) source)
 replies client _ _ m = false
 
 abbrev pub ends_access : Finish → Option Finish → Bool
@@ -99,9 +85,9 @@ finish_if_any _ _ = None
 
 abbrev pub ends_op : {w : ℕ} → Op w → Option memory.AccessResult → Beat w → Finish → Bool
 ends_op (Access m) answer x f = ends_access f (finish_if_any (Access m) answer)
-ends_op (Acquire block grow) answer x f = same_finish f (finish.Granted (cap_named x))
-ends_op (AcquireWhole block bytes) answer x f = same_finish f (finish.Granted perm.Trunk)
-ends_op (Release block prune) answer x f = same_finish f finish.Released
+ends_op (Acquire block grow) answer x f = same_finish f (Finish.Granted (cap_named x))
+ends_op (AcquireWhole block bytes) answer x f = same_finish f (Finish.Granted Perm.Trunk)
+ends_op (Release block prune) answer x f = same_finish f Finish.Released
 ends_op _ answer x f = false
 
 abbrev pub ends : {w : ℕ} → Option (Open w) → Beat w → Finish → Bool
@@ -109,15 +95,15 @@ ends None x f = false
 ends (Some o) x f = ends_op o.asked o.answer x f
 
 abbrev pub allows : {w : ℕ} → Event w → Outcome w → Machine w → Bool
-allows (Ask client op) (outcome.Replied r) m = replies client op r m
-allows (Deliver link channel.D) (outcome.Done x source f) m = ends (m.opened link.0 (pool_of f) source) x f
-allows (Deliver link ch) outcome.Empty m = true
-allows (Deliver link ch) outcome.Stalled m = true
-allows (Deliver link ch) (outcome.Moved x) m = true
+allows (Ask client op) (Outcome.Replied r) m = replies client op r m
+allows (Deliver link Channel.D) (Outcome.Done x source f) m = ends (m.opened link.0 (pool_of f) source) x f
+allows (Deliver link ch) Outcome.Empty m = true
+allows (Deliver link ch) Outcome.Stalled m = true
+allows (Deliver link ch) (Outcome.Moved x) m = true
 allows _ _ m = false
 
 abbrev pub is_step : {w : ℕ} → Config → Event w → Outcome w → Machine w → Bool
-is_step config e outcome.NoSuchClient m = not (is_client config (client_of e))
+is_step config e Outcome.NoSuchClient m = not (is_client config (client_of e))
 is_step config e o m = is_client config (client_of e) && allows e o m
 
 -- the accesses can be performed one after another
@@ -137,8 +123,8 @@ all_below (suc n) test = test n && all_below n test
 abbrev pub one_writer : {w : ℕ} → ℕ → Config → System w → Bool
 one_writer clients config s =
     all_below clients (λ c. all_below clients (λ d. all_below config.blocks (λ block.
-    (c == d) || implies (same_perm (held_at (s.clients c) block) perm.Trunk)
-    (same_perm (held_at (s.clients d) block) perm.None))))
+    (c == d) || implies (same_perm (held_at (s.clients c) block) Perm.Trunk)
+    (same_perm (held_at (s.clients d) block) Perm.None))))
 
 abbrev pub copy_agrees : Option (List ℕ) → List ℕ → Bool
 copy_agrees None bytes = true
@@ -157,9 +143,8 @@ same_presence _ _ = false
 -- the same sources are open in the machine as by what has happened
 abbrev pub opened_agree : {w : ℕ} → ℕ → Log w → Machine w → Bool
 opened_agree clients log m =
-    all_below clients (λ c. all_below 2 (λ source.
-    same_presence (m.opened c Requests source) (started c Requests source log) && same_presence
-    (m.opened c Releases source) (started c Releases source log)))
+    all_below clients (λ c. all_below 2 (λ source. same_presence (m.opened c Requests source)
+    (started c Requests source log) && same_presence (m.opened c Releases source) (started c Releases source log)))
 
 abbrev pub is_unrefused : {w : ℕ} → ℕ → System w → Bool
 is_unrefused clients s = all_below clients (λ c. not (s.clients c).closed) && (length s.manager.closed == 0)
@@ -170,9 +155,9 @@ fit {w} config link ch s =
 
 abbrev pub all_fit : {w : ℕ} → ℕ → Config → System w → Bool
 all_fit clients config s =
-    all_below clients (λ link. fit config link channel.A
-    s && (fit config link channel.B
-    s && (fit config link channel.C s && (fit config link channel.D s && fit config link channel.E s))))
+    all_below clients (λ link. fit config link Channel.A
+    s && (fit config link Channel.B
+    s && (fit config link Channel.C s && (fit config link Channel.D s && fit config link Channel.E s))))
 
 -- a Release of the block by the client is outstanding, with one of two sources
 abbrev pub is_release_of : {w : ℕ} → ℕ → Option (Op w) → Bool
@@ -181,9 +166,9 @@ is_release_of block _ = false
 
 abbrev pub moves_so : {w : ℕ} → Config → Log w → System w → ℕ → Channel → List (Beat w) → Bool
 moves_so config log s link ch [] = not (is_movable config link ch s)
-moves_so config log s link ch (beat.A x ∷ rest) =
-    beq (is_movable config link ch s) (not (must_wait config (record { 0 = link }) (beat.A x) s.manager.trace))
-moves_so config log s link ch (beat.B x ∷ rest) =
+moves_so config log s link ch (Beat.A x ∷ rest) =
+    beq (is_movable config link ch s) (not (must_wait config (record { 0 = link }) (Beat.A x) s.manager.trace))
+moves_so config log s link ch (Beat.B x ∷ rest) =
     beq (is_movable config link ch s)
     (not (is_release_of (block_at x.address) (started link Releases 0 log) || is_release_of (block_at x.address)
     (started link Releases 1 log)))
@@ -191,12 +176,10 @@ moves_so config log s link ch (x ∷ rest) = is_movable config link ch s
 
 abbrev pub all_move_so : {w : ℕ} → ℕ → Config → Log w → System w → Bool
 all_move_so clients config log s =
-    all_below clients (λ link.
-    moves_so config log s link channel.A (s.channels link channel.A) && (moves_so config log s link channel.B
-    (s.channels link channel.B)
-    && (moves_so config log s link channel.C (s.channels link channel.C) && (moves_so config log s link channel.D
-    (s.channels link channel.D)
-    && moves_so config log s link channel.E (s.channels link channel.E)))))
+    all_below clients (λ link. moves_so config log s link Channel.A (s.channels link Channel.A)
+    && (moves_so config log s link Channel.B (s.channels link Channel.B) && (moves_so config log s link Channel.C
+    (s.channels link Channel.C) && (moves_so config log s link Channel.D (s.channels link Channel.D) && moves_so config
+    log s link Channel.E (s.channels link Channel.E)))))
 
 abbrev pub same_beats : {w : ℕ} → List (Beat w) → List (Beat w) → Bool
 same_beats [] [] = true
@@ -211,8 +194,8 @@ carries log s link ch =
 abbrev pub all_carry : {w : ℕ} → ℕ → Log w → System w → Bool
 all_carry clients log s =
     all_below clients (λ link. carries log s link
-    channel.A && (carries log s link
-    channel.B && (carries log s link channel.C && (carries log s link channel.D && carries log s link channel.E))))
+    Channel.A && (carries log s link
+    Channel.B && (carries log s link Channel.C && (carries log s link Channel.D && carries log s link Channel.E))))
 
 -- at a Grant the client holds what it is granted
 abbrev pub holds_granted : {w : ℕ} → ℕ → Option (Op w) → Perm → System w → Bool
@@ -220,23 +203,20 @@ holds_granted client None p s = false
 holds_granted client (Some op) p s = same_perm (held_at (s.clients client) (op_block op)) p
 
 abbrev pub grants : {w : ℕ} → Event w → Outcome w → Log w → System w → Bool
-grants (Deliver link ch) (outcome.Done x source (finish.Granted p)) before s =
+grants (Deliver link ch) (Outcome.Done x source (Finish.Granted p)) before s =
     holds_granted link.0 (started link.0 Requests source before) p s
 grants _ _ before s = true
 
 -- what fails at an event, and after it
 abbrev pub faults_at : {w : ℕ} → ℕ → Config → Event w → Step w → Past w → Past w → List ℕ → List ℕ
-faults_at clients config event step before p rest =
-    failed 1 (is_step config event step.outcome before.machine)
+faults_at clients config event step before p rest = failed 1 (is_step config event step.outcome before.machine)
     (failed 2 (performs (accesses_answered step.handed) (moved event step.outcome before.machine))
-    (failed 3 (one_writer clients config p.system)
-    (failed 4 (copies_agree clients config p.system p.machine.memory)
+    (failed 3 (one_writer clients config p.system) (failed 4 (copies_agree clients config p.system p.machine.memory)
     (failed 5 (opened_agree clients p.log p.machine)
     (failed 6 (is_unrefused clients p.system)
     (failed 7 (all_fit clients config p.system)
     (failed 8 (beq (is_none (next_delivery config p.system)) (outstanding p.log == 0))
-    (failed 9 (all_move_so clients config p.log p.system)
-    (failed 12 (grants event step.outcome before.log p.system)
+    (failed 9 (all_move_so clients config p.log p.system) (failed 12 (grants event step.outcome before.log p.system)
     (failed 13 (all_carry clients p.log p.system)
     (failed 14 (not (is_delivery event && is_moving step.outcome) || nat_le 1 before.budget) rest)))))))))))
 
@@ -276,3 +256,9 @@ faults clients config (Drains n ∷ lines) p = faults_draining clients config (l
 -- nothing that the headline says fails at these lines
 abbrev pub Holds : {w : ℕ} → Config → List (Line w) → Type 0
 Holds {w} config lines = faults {w = w} (length config.clients.items) config lines begun ≡ []
+
+-- what unfolds besides where these tests are evaluated
+unfoldable pub evaluated_tests : ℕ
+unfolding performs all_below carried_on started flow requests releases accesses_answered performing broken_after
+    is_legal
+evaluated_tests = 0

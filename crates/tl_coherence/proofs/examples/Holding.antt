@@ -1,260 +1,113 @@
 -- What the theorem says, evaluated at every event of lists that are known from elsewhere.
-use Rattle.tl_coherence.proofs.examples.Imports.{unfinished, bytes_carried, on_link, broken_order, bytes_from}
-use Rattle.tl_coherence.proofs.examples.Imports.{number_from, effect, request_of, release_of, probe_of, grant_sink}
-use Rattle.tl_coherence.proofs.examples.Imports.{pending, held, illegal, first_illegal, beats_from, each_below}
-use Rattle.tl_coherence.proofs.examples.Imports.{with_handed, clients_from, masks_carried, corrupt_carried}
-use Rattle.tl_coherence.proofs.examples.Imports.{request_carried, is_movable, first_movable, next_delivery, stepped}
-use Rattle.tl_coherence.proofs.examples.Imports.{with_messages, started, flow, requests, releases, accesses_answered}
-use Rattle.tl_coherence.proofs.examples.Imports.{performing}
 use Rattle.std.proofs.Common.{refl, lit≤}
 use Rattle.std.specs.Prelude.{[], ◌∷◌, ◌++◌, replicate}
-use Rattle.tl_beat.specs.declared.channel.Channel.TheVariants as channel
-use Rattle.tl_beat.specs.declared.opcode.OpA.TheVariants as a
-use Rattle.tl_burst.specs.statement.Messages.{carried_on}
-use Rattle.tl_params.specs.declared.level.Level.TheVariants as level
-use Rattle.tl_params.specs.declared.param.Grow.TheVariants as grow
-use Rattle.tl_params.specs.declared.param.Prune.TheVariants as prune
-use Rattle.tl_params.specs.declared.profile.Profile.TheVariants as profile
-use Rattle.tl_rules.specs.statement.Conformance.{broken_after, is_legal}
-use Rattle.tl_client.specs.statement.Ask as ask
-use Rattle.tl_client.specs.statement.Offer as offer
-use Rattle.tl_manager.specs.statement.Service as service
-use Rattle.tl_manager.specs.statement.Reaction as manager_reaction
-use Rattle.tl_manager.specs.statement.Offer as manager_offer
-use Rattle.tl_coherence.proofs.examples.Play.{Drains, world, deliver, load, store, acquire, whole, release, access}
-use Rattle.tl_coherence.proofs.examples.Checks.{Holds, performs, all_below, faults, faults_draining}
+use Rattle.tl_coherence.proofs.examples.Imports.{Channel}
+use Rattle.tl_beat.specs.declared.opcode.OpA.{OpA}
+use Rattle.tl_params.{specs.declared.level.Level.Level, specs.declared.param.Grow.Grow}
+use Rattle.tl_params.{specs.declared.param.Prune.Prune, specs.declared.profile.Profile.Profile}
+use Rattle.tl_coherence.proofs.examples.Play.{evaluated, Drains, world, deliver, load, store, acquire, whole, release}
+use Rattle.tl_coherence.proofs.examples.Play.{access}
+use Rattle.tl_coherence.proofs.examples.Checks.{evaluated_tests, Holds, faults, faults_draining}
 
-plain_accesses_of_what_a_cache_holds : Holds {w = 8} (world profile.One 2 1 ((level.C, 1) ∷ (level.UL, 1) ∷ []))
-    ((acquire 0 0 grow.NtoT ∷ Drains 220 ∷ store 0 0 0 90 ∷ access 1 a.Get 0 0 (lit≤ tt) 0 1 (replicate 64 0) ∷ deliver
-    1 channel.A ∷ deliver 0 channel.B ∷ [])
-    ++ replicate 8 (deliver 0 channel.C)
-    ++ (deliver 1 channel.D ∷ load 0 0 0 ∷ access 1 a.PutFullData 0 0 (lit≤ tt) 0 1 ((107 ∷ []) ++ replicate 63 0)
-    ∷ deliver 1 channel.A ∷ deliver 0 channel.B
-    ∷ deliver 0 channel.C ∷ deliver 1 channel.D ∷ load 0 0 0 ∷ []))
-unfolding faults faults_draining performs all_below carried_on started flow requests releases accesses_answered
-    performing broken_after is_legal stepped
-    with_messages is_movable first_movable next_delivery ask.asked ask.busy ask.least_free ask.low_bytes offer.offered
-    offer.stalls bytes_carried number_from
-    unfinished request_of release_of probe_of grant_sink pending held illegal first_illegal beats_from each_below
-    broken_order on_link bytes_from effect
-    with_handed clients_from masks_carried corrupt_carried request_carried service.least_untaken service.services
-    manager_offer.judged_at manager_reaction.reaction
-    manager_offer.offered manager_offer.stalls
+plain_accesses_of_what_a_cache_holds : Holds {w = 8} (world Profile.One 2 1 ((Level.C, 1) ∷ (Level.UL, 1) ∷ []))
+    ((acquire 0 0 Grow.NtoT ∷ Drains 220 ∷ store 0 0 0 90 ∷ access 1 OpA.Get 0 0 (lit≤ tt) 0 1
+    (replicate 64 0) ∷ deliver 1 Channel.A ∷ deliver 0 Channel.B ∷ []) ++ replicate 8 (deliver 0 Channel.C)
+    ++ (deliver 1 Channel.D ∷ load 0 0 0 ∷ access 1 OpA.PutFullData 0 0 (lit≤ tt) 0 1 ((107 ∷ []) ++ replicate 63 0)
+    ∷ deliver 1 Channel.A ∷ deliver 0 Channel.B ∷ deliver 0 Channel.C ∷ deliver 1 Channel.D ∷ load 0 0 0 ∷ []))
+unfolding faults faults_draining evaluated_tests evaluated
 plain_accesses_of_what_a_cache_holds = refl
 
-bytes_of_a_word : Holds {w = 8} (world profile.One 1 1 ((level.UL, 1) ∷ []))
-    ((access 0 a.PutPartialData 0 2 (lit≤ tt) 4 80 (replicate 4 0 ++ (17 ∷ 34 ∷ 51 ∷ 68 ∷ []) ++ replicate 56 0)
-    ∷ Drains 220 ∷ access 0 a.Get 0 3 (lit≤ tt) 0 255 (replicate 64 0) ∷ Drains 220 ∷ []))
-unfolding faults faults_draining performs all_below carried_on started flow requests releases accesses_answered
-    performing broken_after is_legal stepped
-    with_messages is_movable first_movable next_delivery ask.asked ask.busy ask.least_free ask.low_bytes offer.offered
-    offer.stalls bytes_carried number_from
-    unfinished request_of release_of probe_of grant_sink pending held illegal first_illegal beats_from each_below
-    broken_order on_link bytes_from effect
-    with_handed clients_from masks_carried corrupt_carried request_carried service.least_untaken service.services
-    manager_offer.judged_at manager_reaction.reaction
-    manager_offer.offered manager_offer.stalls
+bytes_of_a_word : Holds {w = 8} (world Profile.One 1 1 ((Level.UL, 1) ∷ []))
+    ((access 0 OpA.PutPartialData 0 2 (lit≤ tt) 4 80 (replicate 4 0 ++ (17 ∷ 34 ∷ 51 ∷ 68 ∷ []) ++ replicate 56 0)
+    ∷ Drains 220 ∷ access 0 OpA.Get 0 3 (lit≤ tt) 0 255 (replicate 64 0) ∷ Drains 220 ∷ []))
+unfolding faults faults_draining evaluated_tests evaluated
 bytes_of_a_word = refl
 
-a_put_counts_from_its_last_beat : Holds {w = 8} (world profile.One 1 1 ((level.UH, 1) ∷ (level.UH, 1) ∷ []))
-    ((access 0 a.PutFullData 0 6 (lit≤ tt) 0 18446744073709551615 (replicate 64 255) ∷ [])
-    ++ replicate 7 (deliver 0 channel.A)
-    ++ (access 1 a.Get 0 3 (lit≤ tt) 0 255 (replicate 64 0) ∷ deliver 1 channel.A ∷ deliver 1 channel.D ∷ []))
-unfolding faults faults_draining performs all_below carried_on started flow requests releases accesses_answered
-    performing broken_after is_legal stepped
-    with_messages is_movable first_movable next_delivery ask.asked ask.busy ask.least_free ask.low_bytes offer.offered
-    offer.stalls bytes_carried number_from
-    unfinished request_of release_of probe_of grant_sink pending held illegal first_illegal beats_from each_below
-    broken_order on_link bytes_from effect
-    with_handed clients_from masks_carried corrupt_carried request_carried service.least_untaken service.services
-    manager_offer.judged_at manager_reaction.reaction
-    manager_offer.offered manager_offer.stalls
+a_put_counts_from_its_last_beat : Holds {w = 8} (world Profile.One 1 1 ((Level.UH, 1) ∷ (Level.UH, 1) ∷ []))
+    ((access 0 OpA.PutFullData 0 6 (lit≤ tt) 0 18446744073709551615 (replicate 64 255) ∷ [])
+    ++ replicate 7 (deliver 0 Channel.A)
+    ++ (access 1 OpA.Get 0 3 (lit≤ tt) 0 255 (replicate 64 0) ∷ deliver 1 Channel.A ∷ deliver 1 Channel.D ∷ []))
+unfolding faults faults_draining evaluated_tests evaluated
 a_put_counts_from_its_last_beat = refl
 
-min_by_sign_and_without : Holds {w = 8} (world profile.One 1 1 ((level.UH, 1) ∷ []))
-    ((access 0 a.PutFullData 0 2 (lit≤ tt) 0 15 (replicate 4 255 ++ replicate 60 0) ∷ Drains 220 ∷ access 0
-    a.ArithmeticData 0 2 (lit≤ tt) 0 15
-    ((1 ∷ []) ++ replicate 63 0) ∷ Drains 220 ∷ access 0 a.ArithmeticData 2 2 (lit≤ tt) 0 15
-    ((1 ∷ []) ++ replicate 63 0) ∷ Drains 220 ∷ access 0 a.Get 0 2 (lit≤ tt) 0 15 (replicate 64 0) ∷ Drains 220 ∷ []))
-unfolding faults faults_draining performs all_below carried_on started flow requests releases accesses_answered
-    performing broken_after is_legal stepped
-    with_messages is_movable first_movable next_delivery ask.asked ask.busy ask.least_free ask.low_bytes offer.offered
-    offer.stalls bytes_carried number_from
-    unfinished request_of release_of probe_of grant_sink pending held illegal first_illegal beats_from each_below
-    broken_order on_link bytes_from effect
-    with_handed clients_from masks_carried corrupt_carried request_carried service.least_untaken service.services
-    manager_offer.judged_at manager_reaction.reaction
-    manager_offer.offered manager_offer.stalls
+min_by_sign_and_without : Holds {w = 8} (world Profile.One 1 1 ((Level.UH, 1) ∷ []))
+    ((access 0 OpA.PutFullData 0 2 (lit≤ tt) 0 15 (replicate 4 255 ++ replicate 60 0) ∷ Drains 220 ∷ access 0
+    OpA.ArithmeticData 0 2 (lit≤ tt) 0 15
+    ((1 ∷ []) ++ replicate 63 0) ∷ Drains 220 ∷ access 0 OpA.ArithmeticData 2 2 (lit≤ tt) 0 15
+    ((1 ∷ []) ++ replicate 63 0) ∷ Drains 220 ∷ access 0 OpA.Get 0 2 (lit≤ tt) 0 15 (replicate 64 0) ∷ Drains 220 ∷ []))
+unfolding faults faults_draining evaluated_tests evaluated
 min_by_sign_and_without = refl
 
-add_wraps : Holds {w = 8} (world profile.One 1 1 ((level.UH, 1) ∷ []))
-    ((access 0 a.PutFullData 0 3 (lit≤ tt) 0 255 (replicate 8 255 ++ replicate 56 0) ∷ Drains 220 ∷ access 0
-    a.ArithmeticData 4 3 (lit≤ tt) 0 255
-    ((1 ∷ []) ++ replicate 63 0) ∷ Drains 220 ∷ access 0 a.Get 0 3 (lit≤ tt) 0 255 (replicate 64 0) ∷ Drains 220 ∷ []))
-unfolding faults faults_draining performs all_below carried_on started flow requests releases accesses_answered
-    performing broken_after is_legal stepped
-    with_messages is_movable first_movable next_delivery ask.asked ask.busy ask.least_free ask.low_bytes offer.offered
-    offer.stalls bytes_carried number_from
-    unfinished request_of release_of probe_of grant_sink pending held illegal first_illegal beats_from each_below
-    broken_order on_link bytes_from effect
-    with_handed clients_from masks_carried corrupt_carried request_carried service.least_untaken service.services
-    manager_offer.judged_at manager_reaction.reaction
-    manager_offer.offered manager_offer.stalls
+add_wraps : Holds {w = 8} (world Profile.One 1 1 ((Level.UH, 1) ∷ []))
+    ((access 0 OpA.PutFullData 0 3 (lit≤ tt) 0 255 (replicate 8 255 ++ replicate 56 0) ∷ Drains 220 ∷ access 0
+    OpA.ArithmeticData 4 3 (lit≤ tt) 0 255 ((1 ∷ []) ++ replicate 63 0) ∷ Drains 220 ∷ access 0 OpA.Get 0 3 (lit≤ tt) 0
+    255 (replicate 64 0) ∷ Drains 220 ∷ []))
+unfolding faults faults_draining evaluated_tests evaluated
 add_wraps = refl
 
-a_reader_gets_what_the_writer_stored : Holds {w = 8} (world profile.One 1 1 ((level.C, 1) ∷ (level.C, 1) ∷ []))
-    ((acquire 0 0 grow.NtoT ∷ Drains 220 ∷ store 0 0 0 90 ∷ acquire 1 0 grow.NtoB ∷ Drains 220 ∷ load 0 0 0 ∷ load 1 0
+a_reader_gets_what_the_writer_stored : Holds {w = 8} (world Profile.One 1 1 ((Level.C, 1) ∷ (Level.C, 1) ∷ []))
+    ((acquire 0 0 Grow.NtoT ∷ Drains 220 ∷ store 0 0 0 90 ∷ acquire 1 0 Grow.NtoB ∷ Drains 220 ∷ load 0 0 0 ∷ load 1 0
     0 ∷ []))
-unfolding faults faults_draining performs all_below carried_on started flow requests releases accesses_answered
-    performing broken_after is_legal stepped
-    with_messages is_movable first_movable next_delivery ask.asked ask.busy ask.least_free ask.low_bytes offer.offered
-    offer.stalls bytes_carried number_from
-    unfinished request_of release_of probe_of grant_sink pending held illegal first_illegal beats_from each_below
-    broken_order on_link bytes_from effect
-    with_handed clients_from masks_carried corrupt_carried request_carried service.least_untaken service.services
-    manager_offer.judged_at manager_reaction.reaction
-    manager_offer.offered manager_offer.stalls
+unfolding faults faults_draining evaluated_tests evaluated
 a_reader_gets_what_the_writer_stored = refl
 
-a_release_while_a_probe_waits : Holds {w = 8} (world profile.One 1 1 ((level.C, 1) ∷ (level.C, 1) ∷ []))
-    ((acquire 0 0 grow.NtoT ∷ Drains 220 ∷ store 0 0 0 90 ∷ acquire 1 0 grow.NtoT ∷ deliver 1 channel.A ∷ release 0 0
-    prune.TtoN ∷ deliver 0 channel.B ∷ Drains 220 ∷ load 1 0 0 ∷ []))
-unfolding faults faults_draining performs all_below carried_on started flow requests releases accesses_answered
-    performing broken_after is_legal stepped
-    with_messages is_movable first_movable next_delivery ask.asked ask.busy ask.least_free ask.low_bytes offer.offered
-    offer.stalls bytes_carried number_from
-    unfinished request_of release_of probe_of grant_sink pending held illegal first_illegal beats_from each_below
-    broken_order on_link bytes_from effect
-    with_handed clients_from masks_carried corrupt_carried request_carried service.least_untaken service.services
-    manager_offer.judged_at manager_reaction.reaction
-    manager_offer.offered manager_offer.stalls
+a_release_while_a_probe_waits : Holds {w = 8} (world Profile.One 1 1 ((Level.C, 1) ∷ (Level.C, 1) ∷ []))
+    ((acquire 0 0 Grow.NtoT ∷ Drains 220 ∷ store 0 0 0 90 ∷ acquire 1 0 Grow.NtoT ∷ deliver 1 Channel.A ∷ release 0 0
+    Prune.TtoN ∷ deliver 0 Channel.B ∷ Drains 220 ∷ load 1 0 0 ∷ []))
+unfolding faults faults_draining evaluated_tests evaluated
 a_release_while_a_probe_waits = refl
 
-the_second_writer_gets_data : Holds {w = 8} (world profile.One 1 2 ((level.C, 1) ∷ (level.C, 1) ∷ []))
-    ((acquire 0 0 grow.NtoB ∷ Drains 220 ∷ acquire 1 0 grow.NtoB ∷ Drains 220 ∷ acquire 0 0 grow.BtoT ∷ acquire 1 0
-    grow.BtoT ∷ Drains 220 ∷ []))
-unfolding faults faults_draining performs all_below carried_on started flow requests releases accesses_answered
-    performing broken_after is_legal stepped
-    with_messages is_movable first_movable next_delivery ask.asked ask.busy ask.least_free ask.low_bytes offer.offered
-    offer.stalls bytes_carried number_from
-    unfinished request_of release_of probe_of grant_sink pending held illegal first_illegal beats_from each_below
-    broken_order on_link bytes_from effect
-    with_handed clients_from masks_carried corrupt_carried request_carried service.least_untaken service.services
-    manager_offer.judged_at manager_reaction.reaction
-    manager_offer.offered manager_offer.stalls
+the_second_writer_gets_data : Holds {w = 8} (world Profile.One 1 2 ((Level.C, 1) ∷ (Level.C, 1) ∷ []))
+    ((acquire 0 0 Grow.NtoB ∷ Drains 220 ∷ acquire 1 0 Grow.NtoB ∷ Drains 220 ∷ acquire 0 0 Grow.BtoT ∷ acquire 1 0
+    Grow.BtoT ∷ Drains 220 ∷ []))
+unfolding faults faults_draining evaluated_tests evaluated
 the_second_writer_gets_data = refl
 
-a_whole_block_store_takes_no_data : Holds {w = 8} (world profile.One 1 2 ((level.C, 1) ∷ (level.C, 1) ∷ []))
-    ((acquire 0 0 grow.NtoB ∷ Drains 220 ∷ acquire 1 0 grow.NtoB ∷ Drains 220 ∷ acquire 0 0 grow.BtoT ∷ whole 1 0
+a_whole_block_store_takes_no_data : Holds {w = 8} (world Profile.One 1 2 ((Level.C, 1) ∷ (Level.C, 1) ∷ []))
+    ((acquire 0 0 Grow.NtoB ∷ Drains 220 ∷ acquire 1 0 Grow.NtoB ∷ Drains 220 ∷ acquire 0 0 Grow.BtoT ∷ whole 1 0
     (replicate 64 17) ∷ Drains 220 ∷ load 1 0 0 ∷ load 0 0 0 ∷ []))
-unfolding faults faults_draining performs all_below carried_on started flow requests releases accesses_answered
-    performing broken_after is_legal stepped
-    with_messages is_movable first_movable next_delivery ask.asked ask.busy ask.least_free ask.low_bytes offer.offered
-    offer.stalls bytes_carried number_from
-    unfinished request_of release_of probe_of grant_sink pending held illegal first_illegal beats_from each_below
-    broken_order on_link bytes_from effect
-    with_handed clients_from masks_carried corrupt_carried request_carried service.least_untaken service.services
-    manager_offer.judged_at manager_reaction.reaction
-    manager_offer.offered manager_offer.stalls
+unfolding faults faults_draining evaluated_tests evaluated
 a_whole_block_store_takes_no_data = refl
 
-a_release_before_its_grant_ack : Holds {w = 8} (world profile.One 1 1 ((level.C, 1) ∷ []))
-    ((acquire 0 0 grow.NtoB ∷ deliver 0 channel.A ∷ [])
-    ++ replicate 8 (deliver 0 channel.D)
-    ++ (release 0 0 prune.BtoN ∷ deliver 0 channel.C ∷ deliver 0 channel.D ∷ acquire 0 0 grow.NtoB ∷ deliver 0
-    channel.A ∷ deliver 0 channel.E ∷ deliver 0 channel.A ∷ []))
-unfolding faults faults_draining performs all_below carried_on started flow requests releases accesses_answered
-    performing broken_after is_legal stepped
-    with_messages is_movable first_movable next_delivery ask.asked ask.busy ask.least_free ask.low_bytes offer.offered
-    offer.stalls bytes_carried number_from
-    unfinished request_of release_of probe_of grant_sink pending held illegal first_illegal beats_from each_below
-    broken_order on_link bytes_from effect
-    with_handed clients_from masks_carried corrupt_carried request_carried service.least_untaken service.services
-    manager_offer.judged_at manager_reaction.reaction
-    manager_offer.offered manager_offer.stalls
+a_release_before_its_grant_ack : Holds {w = 8} (world Profile.One 1 1 ((Level.C, 1) ∷ []))
+    ((acquire 0 0 Grow.NtoB ∷ deliver 0 Channel.A ∷ []) ++ replicate 8 (deliver 0 Channel.D)
+    ++ (release 0 0 Prune.BtoN ∷ deliver 0 Channel.C ∷ deliver 0 Channel.D ∷ acquire 0 0 Grow.NtoB ∷ deliver 0
+    Channel.A ∷ deliver 0 Channel.E ∷ deliver 0 Channel.A ∷ []))
+unfolding faults faults_draining evaluated_tests evaluated
 a_release_before_its_grant_ack = refl
 
-busy_in_order : Holds {w = 8} (world profile.One 1 1 ((level.UL, 1) ∷ []))
-    ((load 0 0 0 ∷ access 0 a.Get 0 4 (lit≤ tt) 0 255 (replicate 64 0) ∷ access 0 a.Get 0 3 (lit≤ tt) 0 255
-    (replicate 64 0) ∷ access 0 a.Get 0 3
-    (lit≤ tt) 0 255 (replicate 64 0) ∷ access 0 a.PutPartialData 0 1 (lit≤ tt) 7 128
-    (replicate 7 0 ++ (17 ∷ []) ++ replicate 56 0) ∷ deliver 0 channel.D ∷ []))
-unfolding faults faults_draining performs all_below carried_on started flow requests releases accesses_answered
-    performing broken_after is_legal stepped
-    with_messages is_movable first_movable next_delivery ask.asked ask.busy ask.least_free ask.low_bytes offer.offered
-    offer.stalls bytes_carried number_from
-    unfinished request_of release_of probe_of grant_sink pending held illegal first_illegal beats_from each_below
-    broken_order on_link bytes_from effect
-    with_handed clients_from masks_carried corrupt_carried request_carried service.least_untaken service.services
-    manager_offer.judged_at manager_reaction.reaction
-    manager_offer.offered manager_offer.stalls
+busy_in_order : Holds {w = 8} (world Profile.One 1 1 ((Level.UL, 1) ∷ []))
+    ((load 0 0 0 ∷ access 0 OpA.Get 0 4 (lit≤ tt) 0 255 (replicate 64 0) ∷ access 0 OpA.Get 0 3 (lit≤ tt) 0 255
+    (replicate 64 0) ∷ access 0 OpA.Get 0 3 (lit≤ tt) 0 255 (replicate 64 0) ∷ access 0 OpA.PutPartialData 0 1 (lit≤ tt)
+    7 128 (replicate 7 0 ++ (17 ∷ []) ++ replicate 56 0) ∷ deliver 0 Channel.D ∷ []))
+unfolding faults faults_draining evaluated_tests evaluated
 busy_in_order = refl
 
-beats_of_4_bytes : Holds {w = 4} (world profile.One 1 1 ((level.C, 1) ∷ (level.C, 1) ∷ []))
-    ((acquire 0 0 grow.NtoT ∷ Drains 220 ∷ store 0 0 0 90 ∷ acquire 1 0 grow.NtoB ∷ Drains 220 ∷ load 0 0 0 ∷ load 1 0
+beats_of_4_bytes : Holds {w = 4} (world Profile.One 1 1 ((Level.C, 1) ∷ (Level.C, 1) ∷ []))
+    ((acquire 0 0 Grow.NtoT ∷ Drains 220 ∷ store 0 0 0 90 ∷ acquire 1 0 Grow.NtoB ∷ Drains 220 ∷ load 0 0 0 ∷ load 1 0
     0 ∷ []))
-unfolding faults faults_draining performs all_below carried_on started flow requests releases accesses_answered
-    performing broken_after is_legal stepped
-    with_messages is_movable first_movable next_delivery ask.asked ask.busy ask.least_free ask.low_bytes offer.offered
-    offer.stalls bytes_carried number_from
-    unfinished request_of release_of probe_of grant_sink pending held illegal first_illegal beats_from each_below
-    broken_order on_link bytes_from effect
-    with_handed clients_from masks_carried corrupt_carried request_carried service.least_untaken service.services
-    manager_offer.judged_at manager_reaction.reaction
-    manager_offer.offered manager_offer.stalls
+unfolding faults faults_draining evaluated_tests evaluated
 beats_of_4_bytes = refl
 
-beats_of_16_bytes : Holds {w = 16} (world profile.One 1 1 ((level.C, 1) ∷ (level.C, 1) ∷ []))
-    ((acquire 0 0 grow.NtoT ∷ Drains 220 ∷ store 0 0 0 90 ∷ acquire 1 0 grow.NtoB ∷ Drains 220 ∷ load 0 0 0 ∷ load 1 0
+beats_of_16_bytes : Holds {w = 16} (world Profile.One 1 1 ((Level.C, 1) ∷ (Level.C, 1) ∷ []))
+    ((acquire 0 0 Grow.NtoT ∷ Drains 220 ∷ store 0 0 0 90 ∷ acquire 1 0 Grow.NtoB ∷ Drains 220 ∷ load 0 0 0 ∷ load 1 0
     0 ∷ []))
-unfolding faults faults_draining performs all_below carried_on started flow requests releases accesses_answered
-    performing broken_after is_legal stepped
-    with_messages is_movable first_movable next_delivery ask.asked ask.busy ask.least_free ask.low_bytes offer.offered
-    offer.stalls bytes_carried number_from
-    unfinished request_of release_of probe_of grant_sink pending held illegal first_illegal beats_from each_below
-    broken_order on_link bytes_from effect
-    with_handed clients_from masks_carried corrupt_carried request_carried service.least_untaken service.services
-    manager_offer.judged_at manager_reaction.reaction
-    manager_offer.offered manager_offer.stalls
+unfolding faults faults_draining evaluated_tests evaluated
 beats_of_16_bytes = refl
 
-an_atomic_of_two_beats : Holds {w = 4} (world profile.One 1 1 ((level.UH, 1) ∷ []))
-    ((access 0 a.PutFullData 0 3 (lit≤ tt) 0 255 (replicate 8 255 ++ replicate 56 0) ∷ Drains 220 ∷ access 0
-    a.ArithmeticData 4 3 (lit≤ tt) 0 255 ((1 ∷ []) ++ replicate 63 0) ∷ Drains 220 ∷ []))
-unfolding faults faults_draining performs all_below carried_on started flow requests releases accesses_answered
-    performing broken_after is_legal stepped
-    with_messages is_movable first_movable next_delivery ask.asked ask.busy ask.least_free ask.low_bytes offer.offered
-    offer.stalls bytes_carried number_from
-    unfinished request_of release_of probe_of grant_sink pending held illegal first_illegal beats_from each_below
-    broken_order on_link bytes_from effect
-    with_handed clients_from masks_carried corrupt_carried request_carried service.least_untaken service.services
-    manager_offer.judged_at manager_reaction.reaction
-    manager_offer.offered manager_offer.stalls
+an_atomic_of_two_beats : Holds {w = 4} (world Profile.One 1 1 ((Level.UH, 1) ∷ []))
+    ((access 0 OpA.PutFullData 0 3 (lit≤ tt) 0 255 (replicate 8 255 ++ replicate 56 0) ∷ Drains 220 ∷ access 0
+    OpA.ArithmeticData 4 3 (lit≤ tt) 0 255 ((1 ∷ []) ++ replicate 63 0) ∷ Drains 220 ∷ []))
+unfolding faults faults_draining evaluated_tests evaluated
 an_atomic_of_two_beats = refl
 
-a_lone_reader_may_write : Holds {w = 8} (world profile.Two 1 1 ((level.C, 1) ∷ (level.C, 1) ∷ []))
-    ((acquire 0 0 grow.NtoB ∷ Drains 220 ∷ store 0 0 0 90 ∷ acquire 1 0 grow.NtoB ∷ Drains 220 ∷ []))
-unfolding faults faults_draining performs all_below carried_on started flow requests releases accesses_answered
-    performing broken_after is_legal stepped
-    with_messages is_movable first_movable next_delivery ask.asked ask.busy ask.least_free ask.low_bytes offer.offered
-    offer.stalls bytes_carried number_from
-    unfinished request_of release_of probe_of grant_sink pending held illegal first_illegal beats_from each_below
-    broken_order on_link bytes_from effect
-    with_handed clients_from masks_carried corrupt_carried request_carried service.least_untaken service.services
-    manager_offer.judged_at manager_reaction.reaction
-    manager_offer.offered manager_offer.stalls
+a_lone_reader_may_write : Holds {w = 8} (world Profile.Two 1 1 ((Level.C, 1) ∷ (Level.C, 1) ∷ []))
+    ((acquire 0 0 Grow.NtoB ∷ Drains 220 ∷ store 0 0 0 90 ∷ acquire 1 0 Grow.NtoB ∷ Drains 220 ∷ []))
+unfolding faults faults_draining evaluated_tests evaluated
 a_lone_reader_may_write = refl
 
-nobody_has_it_any_longer_at_the_grant : Holds {w = 8} (world profile.Two 1 1 ((level.C, 1) ∷ (level.C, 1) ∷ []))
-    ((acquire 0 0 grow.NtoB ∷ Drains 220 ∷ store 0 0 0 90 ∷ acquire 1 0 grow.NtoB ∷ deliver 1 channel.A ∷ release 0 0
-    prune.TtoN ∷ Drains 220 ∷ []))
-unfolding faults faults_draining performs all_below carried_on started flow requests releases accesses_answered
-    performing broken_after is_legal stepped
-    with_messages is_movable first_movable next_delivery ask.asked ask.busy ask.least_free ask.low_bytes offer.offered
-    offer.stalls bytes_carried number_from
-    unfinished request_of release_of probe_of grant_sink pending held illegal first_illegal beats_from each_below
-    broken_order on_link bytes_from effect
-    with_handed clients_from masks_carried corrupt_carried request_carried service.least_untaken service.services
-    manager_offer.judged_at manager_reaction.reaction
-    manager_offer.offered manager_offer.stalls
+nobody_has_it_any_longer_at_the_grant : Holds {w = 8} (world Profile.Two 1 1 ((Level.C, 1) ∷ (Level.C, 1) ∷ []))
+    ((acquire 0 0 Grow.NtoB ∷ Drains 220 ∷ store 0 0 0 90 ∷ acquire 1 0 Grow.NtoB ∷ deliver 1 Channel.A ∷ release 0 0
+    Prune.TtoN ∷ Drains 220 ∷ []))
+unfolding faults faults_draining evaluated_tests evaluated
 nobody_has_it_any_longer_at_the_grant = refl

@@ -1,27 +1,29 @@
 -- What comes of lists of events and drains, evaluated, with words for events and beats.
 use Rattle.tl_coherence.proofs.examples.Imports.{Beat, Link, Channel, Config, Event, Ask, Deliver, next_delivery, Step}
-use Rattle.tl_coherence.proofs.examples.Imports.{stepped, System}
+use Rattle.tl_coherence.proofs.examples.Imports.{stepped, System, with_messages, is_movable, first_movable}
+use Rattle.tl_coherence.proofs.examples.Imports.{bytes_carried, number_from, unfinished, request_of, release_of}
+use Rattle.tl_coherence.proofs.examples.Imports.{probe_of, grant_sink, pending, held, illegal, first_illegal}
+use Rattle.tl_coherence.proofs.examples.Imports.{beats_from, each_below, broken_order, on_link, bytes_from, effect}
+use Rattle.tl_coherence.proofs.examples.Imports.{with_handed, clients_from, masks_carried, corrupt_carried}
+use Rattle.tl_coherence.proofs.examples.Imports.{request_carried}
 use Rattle.std.proofs.Common.{◌≡◌, ◌≤◌}
 use Rattle.std.specs.Prelude.{ℕ, zero, suc, Bool, false, List, [], ◌∷◌, map, if◌then◌else◌, Option, Some, None, is_some}
 use Rattle.tl_beat.specs.declared.beat.Beat.TheVariants.{A, B, C, D, E}
-use Rattle.tl_beat.specs.declared.channel.Channel.TheVariants as channel
-use Rattle.tl_beat.specs.declared.opcode.OpA.{OpA}
-use Rattle.tl_beat.specs.declared.opcode.OpB.{OpB}
-use Rattle.tl_beat.specs.declared.opcode.OpC.{OpC}
-use Rattle.tl_beat.specs.declared.opcode.OpD.{OpD}
+use Rattle.tl_beat.{specs.declared.opcode.OpA.OpA, specs.declared.opcode.OpB.OpB, specs.declared.opcode.OpC.OpC}
+use Rattle.tl_beat.{specs.declared.opcode.OpD.OpD}
 use Rattle.tl_beat.specs.statement.Opcode.{a_code, b_code, c_code, d_code, a_carries_data, b_carries_data}
 use Rattle.tl_beat.specs.statement.Opcode.{c_carries_data, d_carries_data}
-use Rattle.tl_burst.specs.declared.message.Message.TheVariants as message
-use Rattle.tl_params.specs.declared.level.Level.{Level}
-use Rattle.tl_params.specs.declared.param.Grow.{Grow}
-use Rattle.tl_params.specs.declared.param.Prune.{Prune}
-use Rattle.tl_params.specs.declared.profile.Profile.{Profile}
-use Rattle.tl_client.specs.declared.operation.Op.TheVariants as op
-use Rattle.tl_client.specs.declared.reply.Reply.{Reply}
-use Rattle.tl_client.specs.declared.verdict.Finish.{Finish}
-use Rattle.tl_coherence.specs.declared.event.Outcome.{Outcome}
-use Rattle.tl_coherence.specs.declared.event.Outcome.TheVariants as outcome
-use Rattle.tl_coherence.specs.statement.System.{fresh}
+use Rattle.tl_burst.specs.declared.message.Message.{Message}
+use Rattle.tl_params.{specs.declared.level.Level.Level, specs.declared.param.Grow.Grow}
+use Rattle.tl_params.{specs.declared.param.Prune.Prune, specs.declared.profile.Profile.Profile}
+use Rattle.tl_client.{specs.declared.operation.Op.Op, specs.declared.reply.Reply.Reply}
+use Rattle.tl_client.{specs.declared.verdict.Finish.Finish}
+use Rattle.tl_coherence.specs.{declared.event.Outcome.Outcome, statement.System.fresh}
+use Rattle.tl_client.specs.statement.Ask as ask
+use Rattle.tl_client.specs.statement.Offer as offer
+use Rattle.tl_manager.specs.statement.Service as service
+use Rattle.tl_manager.specs.statement.Reaction as manager_reaction
+use Rattle.tl_manager.specs.statement.Offer as manager_offer
 
 -- ---- playing
 
@@ -54,16 +56,16 @@ abbrev pub Plain : Type 0
 Plain = Channel × List ℕ × Option (List ℕ) × Bool
 
 abbrev pub plain : {w : ℕ} → Beat w → Plain
-plain (A x) = (channel.A, a_code x.opcode ∷ x.param ∷ x.size ∷ x.source ∷ x.address ∷ x.mask ∷ [], x.lanes, x.corrupt)
-plain (B x) = (channel.B, b_code x.opcode ∷ x.param ∷ x.size ∷ x.source ∷ x.address ∷ x.mask ∷ [], x.lanes, x.corrupt)
-plain (C x) = (channel.C, c_code x.opcode ∷ x.param ∷ x.size ∷ x.source ∷ x.address ∷ [], x.lanes, x.corrupt)
+plain (A x) = (Channel.A, a_code x.opcode ∷ x.param ∷ x.size ∷ x.source ∷ x.address ∷ x.mask ∷ [], x.lanes, x.corrupt)
+plain (B x) = (Channel.B, b_code x.opcode ∷ x.param ∷ x.size ∷ x.source ∷ x.address ∷ x.mask ∷ [], x.lanes, x.corrupt)
+plain (C x) = (Channel.C, c_code x.opcode ∷ x.param ∷ x.size ∷ x.source ∷ x.address ∷ [], x.lanes, x.corrupt)
 plain (D x) = (
-  channel.D,
+  Channel.D,
   d_code x.opcode ∷ x.param ∷ x.size ∷ x.source ∷ x.sink ∷ (if x.denied then 1 else 0) ∷ [],
   x.lanes,
   x.corrupt,
 )
-plain (E x) = (channel.E, x.sink ∷ [], None, false)
+plain (E x) = (Channel.E, x.sink ∷ [], None, false)
 
 pub data Seen : Type 0 where
   Says : Reply → Seen
@@ -74,16 +76,25 @@ pub data Seen : Type 0 where
   Nobody : Seen
 
 abbrev pub seen : {w : ℕ} → Outcome w → Seen
-seen (outcome.Replied r) = Says r
-seen outcome.Empty = Nothing
-seen outcome.Stalled = Waits
-seen (outcome.Moved x) = Moves (plain x)
-seen (outcome.Done x source finish) = Ends (plain x) source finish
-seen outcome.NoSuchClient = Nobody
+seen (Outcome.Replied r) = Says r
+seen Outcome.Empty = Nothing
+seen Outcome.Stalled = Waits
+seen (Outcome.Moved x) = Moves (plain x)
+seen (Outcome.Done x source finish) = Ends (plain x) source finish
+seen Outcome.NoSuchClient = Nobody
 
 -- the lines, played from the beginning, have these outcomes
 abbrev pub Gives : {w : ℕ} → Config → List (Line w) → List (Outcome w) → Type 0
 Gives config lines expected = map seen (outcomes config lines fresh) ≡ map seen expected
+
+-- what unfolds where a world is evaluated: an example names this in place of all that it names
+unfoldable pub evaluated : ℕ
+unfolding stepped with_messages is_movable first_movable next_delivery ask.asked ask.busy ask.least_free ask.low_bytes
+    offer.offered offer.stalls bytes_carried number_from unfinished request_of release_of probe_of grant_sink pending
+    held illegal first_illegal beats_from each_below broken_order on_link bytes_from effect with_handed clients_from
+    masks_carried corrupt_carried request_carried service.least_untaken service.services manager_offer.judged_at
+    manager_reaction.reaction manager_offer.offered manager_offer.stalls
+evaluated = 0
 
 -- ---- configurations and lines
 
@@ -99,24 +110,24 @@ abbrev pub deliver : {w : ℕ} → ℕ → Channel → Line w
 deliver link ch = Does (Deliver (record { 0 = link }) ch)
 
 abbrev pub load : {w : ℕ} → ℕ → ℕ → ℕ → Line w
-load client size address = Does (Ask client (op.Load address size))
+load client size address = Does (Ask client (Op.Load address size))
 
 abbrev pub store : {w : ℕ} → ℕ → ℕ → ℕ → ℕ → Line w
-store client size address value = Does (Ask client (op.Store address size value))
+store client size address value = Does (Ask client (Op.Store address size value))
 
 abbrev pub acquire : {w : ℕ} → ℕ → ℕ → Grow → Line w
-acquire client block grow = Does (Ask client (op.Acquire block grow))
+acquire client block grow = Does (Ask client (Op.Acquire block grow))
 
 abbrev pub whole : {w : ℕ} → ℕ → ℕ → List ℕ → Line w
-whole client block bytes = Does (Ask client (op.AcquireWhole block bytes))
+whole client block bytes = Does (Ask client (Op.AcquireWhole block bytes))
 
 abbrev pub release : {w : ℕ} → ℕ → ℕ → Prune → Line w
-release client block prune = Does (Ask client (op.Release block prune))
+release client block prune = Does (Ask client (Op.Release block prune))
 
 abbrev pub access : {w : ℕ} → ℕ → OpA → ℕ → (size : ℕ) → size ≤ 6 → ℕ → ℕ → List ℕ → Line w
 access client opcode param size small address mask payload =
-    Does (Ask client (op.Access
-    (message.A (record {
+    Does (Ask client (Op.Access
+    (Message.A (record {
       opcode = opcode;
       param = param;
       size = size;

@@ -2,41 +2,28 @@
 use Rattle.tl_coherence.proofs.flow.Imports.{Beat, BeatA, Channel, Message, a_beat_of, History, is_empty, completes}
 use Rattle.tl_coherence.proofs.flow.Imports.{Config, Cap, comes_in_request, comes_in_grant, same_perm, same_block}
 use Rattle.tl_coherence.proofs.flow.Imports.{MonitorRelation, AbstractState, Log, ClientBlock, View, Own, Granting}
-use Rattle.tl_coherence.proofs.flow.Imports.{is_unprobed, is_unreleased, Service, Free, GrantSent, Block, State}
-use Rattle.tl_coherence.proofs.flow.Imports.{Replied, view, is_granting, is_acknowledging, is_answered, is_unserved}
-use Rattle.tl_coherence.proofs.flow.Imports.{is_wanting, served_block, acquire_served, granted_at_once, acquire_granted}
-use Rattle.tl_coherence.proofs.flow.Imports.{System, Packet, set, SimulationRelation, asked_by}
-use Rattle.std.proofs.Common.{◌≡◌, subst, ℕ, Bool, true, false, not, ◌&&◌, List, [], ◌∷◌, Option, Some, None, refl, sym}
-use Rattle.std.proofs.Common.{◌∙◌, ap, ◌⊎◌, inl, inr}
-use Rattle.std.specs.Prelude.{◌==◌, if◌then◌else◌}
-use Rattle.std.proofs.lemmas.Bool.{cases_eq, eqb-true}
-use Rattle.std.proofs.Math.Bool.{and-false}
-use Rattle.std.proofs.lemmas.Option.{same_Some}
-use Rattle.tl_beat.specs.declared.beat.Beat.TheVariants as beat
-use Rattle.tl_beat.specs.declared.channel.Channel.TheVariants as channel
-use Rattle.tl_burst.specs.declared.message.Message.TheVariants as message
+use Rattle.tl_coherence.proofs.flow.Imports.{is_unprobed, is_unreleased, Free, GrantSent, Block, State, Replied, view}
+use Rattle.tl_coherence.proofs.flow.Imports.{is_granting, is_acknowledging, is_answered, is_unserved, served_block}
+use Rattle.tl_coherence.proofs.flow.Imports.{acquire_served, granted_at_once, acquire_granted, System, Packet, set}
+use Rattle.tl_coherence.proofs.flow.Imports.{SimulationRelation, asked_by}
+use Rattle.std.proofs.Common.{◌≡◌, subst, ℕ, Bool, true, false, ◌&&◌, List, ◌∷◌, Option, Some, None, refl, sym, ◌∙◌}
+use Rattle.std.proofs.Common.{ap, ◌⊎◌, inl, inr}
+use Rattle.std.{specs.Prelude.◌==◌, specs.Prelude.if◌then◌else◌, proofs.lemmas.Bool.cases_eq}
+use Rattle.std.{proofs.lemmas.Bool.eqb-true, proofs.Math.Bool.and-false, proofs.lemmas.Option.same_Some}
 use Rattle.tl_coherence.specs.protocol.PhaseSteps.{after_grant_sent}
-use Rattle.tl_coherence.proofs.manager.Admitted.{first_three}
-use Rattle.tl_coherence.proofs.queues.Carried.{IsNext}
+use Rattle.tl_coherence.proofs.{manager.Admitted.first_three, queues.Carried.IsNext, protocol.HeadOfD.IsGrantDue}
+use Rattle.tl_coherence.proofs.{queues.PhaseFacts.asked_alone, flow.FlowAccess.IsAccess, flow.FlowAccess.flowed-access}
+use Rattle.tl_coherence.proofs.{flow.FlowAcquired.flowed-acquire, flow.FlowAlone.AreRests, flow.FlowApart.replied}
+use Rattle.tl_coherence.proofs.{flow.FlowComing.coming-sink, flow.FlowComing.coming-granting, flow.FlowStep.held_by}
+use Rattle.tl_coherence.proofs.{queues.Phases.and_left, queues.Phases.and_right, manager.RequestsTaken.acquire_wanted}
+use Rattle.tl_coherence.proofs.{protocol.BothParts.quiet_unanswered, queues.Codes.acquires-so}
+use Rattle.tl_coherence.proofs.{simulation.Popped.unfinished_at}
 use Rattle.tl_coherence.proofs.client.ClientEnd.{is_access, asks-access, asks-acquire}
-use Rattle.tl_coherence.proofs.protocol.HeadOfD.{IsGrantDue}
-use Rattle.tl_coherence.proofs.queues.PhaseFacts.{asked_alone}
-use Rattle.tl_coherence.proofs.flow.FlowAccess.{IsAccess, flowed-access}
-use Rattle.tl_coherence.proofs.flow.FlowAcquired.{flowed-acquire}
-use Rattle.tl_coherence.proofs.flow.FlowAlone.{AreRests}
-use Rattle.tl_coherence.proofs.flow.FlowApart.{replied}
 use Rattle.tl_coherence.proofs.flow.FlowBeats.{came-so, comes-so, first-zero, one-beat, set_at-if, same_perms}
 use Rattle.tl_coherence.proofs.flow.FlowBeats.{unused-else}
-use Rattle.tl_coherence.proofs.flow.FlowComing.{coming-sink, coming-granting}
-use Rattle.tl_coherence.proofs.flow.FlowStep.{held_by}
 use Rattle.tl_coherence.proofs.flow.FlowSunk.{sunk_in, sunk-elsewhere, IsWithin, tracked-new}
 use Rattle.tl_coherence.proofs.protocol.Heads.{acquisition_beats, IsAsked, IsWanted}
-use Rattle.tl_coherence.proofs.queues.Phases.{and_left, and_right}
-use Rattle.tl_coherence.proofs.manager.RequestsTaken.{acquire_wanted}
 use Rattle.tl_coherence.proofs.queues.Tokens.{same_number, set-same, set-other}
-use Rattle.tl_coherence.proofs.protocol.BothParts.{quiet_unanswered}
-use Rattle.tl_coherence.proofs.queues.Codes.{acquires-so}
-use Rattle.tl_coherence.proofs.simulation.Popped.{unfinished_at}
 
 module _ {w : ℕ} (config : Config) (log : Log w) (h : AbstractState w) (sys : System w) (c : ℕ)
     (is : SimulationRelation config log h.mail h.request h.state sys)
@@ -49,73 +36,66 @@ module _ {w : ℕ} (config : Config) (log : Log w) (h : AbstractState w) (sys : 
   replied_if source b = if b then replied c source h.state else h.state
 
   access_of : (source : ℕ) (asked : IsAsked config c source h.mail h.state) (k : ℕ) (ms : List (Message w))
-      (queue : List (Beat w))
-      → IsNext (beat.A (a_beat_of asked.request k)) (unfinished_at sys c channel.A) (message.A asked.request) ms queue
-      → AreRests (beat.A (a_beat_of asked.request k)) (unfinished_at sys c) rest' → (b : Bool)
-      → completes (beat.A (a_beat_of asked.request k)) (unfinished_at sys c channel.A) ≡ b
-      → (is_empty (unfinished_at sys c channel.A) ≡ true → k ≡ 0)
-      → IsAccess c (a_beat_of asked.request k) (is_empty (unfinished_at sys c channel.A)) b (asked_by h.mail h.state c)
+      (queue : List (Beat w)) → IsNext (Beat.A (a_beat_of asked.request k)) (unfinished_at sys c Channel.A)
+      (Message.A asked.request) ms queue → AreRests (Beat.A (a_beat_of asked.request k)) (unfinished_at sys c) rest'
+      → (b : Bool) → completes (Beat.A (a_beat_of asked.request k)) (unfinished_at sys c Channel.A) ≡ b
+      → (is_empty (unfinished_at sys c Channel.A) ≡ true → k ≡ 0)
+      → IsAccess c (a_beat_of asked.request k) (is_empty (unfinished_at sys c Channel.A)) b (asked_by h.mail h.state c)
       (unfinished_at sys c) rest' h.state (replied_if source b)
-  access_of source asked k ms queue next rests b last zeroth = record {
-    access = asked.access;
-    use_is = λ i e. ap (h.state.uses c) (sym (eqb-true asked.request.source i e) ∙ asked.source_is) ∙ asked.used;
-    asked_is = λ i e first. ap (asked_by h.mail h.state c) (sym (eqb-true asked.request.source i e) ∙ asked.source_is)
-        ∙ asks-access c source asked.request h.mail h.state (ap is_access asked.used) asked.is_it
-        ∙ ap (λ (j : ℕ). Some (a_beat_of asked.request j)) (sym (zeroth first));
-    came = λ i. came-so (comes_in_request i) (message.A asked.request) y (unfinished_at sys c channel.A) ms queue
-        (asked.request.source == i) next refl (λ j. refl);
-    comes = λ i. ap (comes_in_request i) (rests channel.A)
-        ∙ comes-so (comes_in_request i) y (unfinished_at sys c channel.A) (asked.request.source == i) refl refl
-        ∙ ap (λ (z : Bool). not z && (asked.request.source == i)) last;
-    blocks = λ m. blocks b m;
-    uses = λ i. uses b i;
-    lets = λ i. lets b i;
-    tracked = λ i. tracked b i;
-  }
+  access_of source asked k ms queue next rests b last zeroth =
+      let blocks : (z : Bool) (m : ℕ) → (replied_if source z).block m ≡ h.state.block m =
+      elim [ true ↦ λ m. refl | false ↦ λ m. refl ] in
+      let lets : (z : Bool) (i : ℕ) → (replied_if source z).lets c i ≡ h.state.lets c i =
+      elim [ true ↦ λ i. refl | false ↦ λ i. refl ] in
+      let tracked : (z : Bool) (i : ℕ) → (replied_if source z).tracked i ≡ h.state.tracked i =
+      elim [ true ↦ λ i. refl | false ↦ λ i. refl ] in
+      let y : Beat w = Beat.A (a_beat_of asked.request k) in
+      record {
+        access = asked.access;
+        use_is = λ i e. ap (h.state.uses c) (sym (eqb-true asked.request.source i e) ∙ asked.source_is) ∙ asked.used;
+        asked_is = λ i e first. cc (
+          eqb-true asked.request.source i e,
+          asked.source_is,
+          asks-access c source asked.request
+              h.mail h.state (ap is_access asked.used) asked.is_it,
+          zeroth first,
+        );
+        came = λ i. came-so (comes_in_request i) (asked.request.source == i) next refl (λ j. refl);
+        comes = λ i. cc (
+          rests Channel.A,
+          comes-so (comes_in_request i) y (unfinished_at sys c Channel.A)
+              (asked.request.source == i) refl refl,
+          last,
+        );
+        blocks = λ m. blocks b m;
+        uses = λ i. uses b i;
+        lets = λ i. lets b i;
+        tracked = λ i. tracked b i;
+      }
     where
-      y : Beat w
-      y = beat.A (a_beat_of asked.request k)
-
-      blocks : (z : Bool) (m : ℕ) → (replied_if source z).block m ≡ h.state.block m
-      blocks true m = refl
-      blocks false m = refl
-
       uses : (z : Bool) (i : ℕ)
           → (replied_if source z).uses c i ≡ (if z && (asked.request.source == i) then Replied else h.state.uses c i)
       uses true i = set_at-if c source i Replied h.state.uses asked.request.source asked.source_is
       uses false i = refl
 
-      lets : (z : Bool) (i : ℕ) → (replied_if source z).lets c i ≡ h.state.lets c i
-      lets true i = refl
-      lets false i = refl
-
-      tracked : (z : Bool) (i : ℕ) → (replied_if source z).tracked i ≡ h.state.tracked i
-      tracked true i = refl
-      tracked false i = refl
-
   pub own-access : (source : ℕ) (asked : IsAsked config c source h.mail h.state) (x : Beat w) (ms : List (Message w))
-      (queue : List (Beat w))
-      → IsNext x (unfinished_at sys c channel.A) (message.A asked.request) ms queue
-      → AreRests x (unfinished_at sys c) rest'
-      → (b : Bool) → completes x (unfinished_at sys c channel.A) ≡ b → MonitorRelation (asked_by h.mail h.state c) rest'
-      c (replied_if source b) (x ∷ t)
+      (queue : List (Beat w)) → IsNext x (unfinished_at sys c Channel.A) (Message.A asked.request) ms queue
+      → AreRests x (unfinished_at sys c) rest' → (b : Bool) → completes x (unfinished_at sys c Channel.A) ≡ b
+      → MonitorRelation (asked_by h.mail h.state c) rest' c (replied_if source b) (x ∷ t)
   own-access source asked x ms queue next rests b last =
+      let last_y : completes (Beat.A (a_beat_of asked.request next.k)) (unfinished_at sys c Channel.A) ≡ b =
+      sym (ap (λ (z : Beat w). completes z (unfinished_at sys c Channel.A)) next.beat_is) ∙ last in
+      let rests_y : AreRests (Beat.A (a_beat_of asked.request next.k)) (unfinished_at sys c) rest' =
+      subst (λ (z : Beat w). AreRests z (unfinished_at sys c) rest') next.beat_is rests in
       subst (λ (z : Beat w). MonitorRelation (asked_by h.mail h.state c) rest' c (replied_if source b) (z ∷ t))
       (sym next.beat_is)
-      (flowed-access c (a_beat_of asked.request next.k) (is_empty (unfinished_at sys c channel.A)) b
-      (asked_by h.mail h.state c) (unfinished_at sys c) rest' h.state (replied_if source b) t
-      (ap is_empty (flowed.rest_is channel.A)) (ap (completes (beat.A (a_beat_of asked.request next.k)))
-      (flowed.rest_is channel.A) ∙ last_y) rests_y
+      (flowed-access
+      (ap is_empty (flowed.rest_is Channel.A)) (ap (completes (Beat.A (a_beat_of asked.request next.k)))
+      (flowed.rest_is Channel.A) ∙ last_y) rests_y
       (access_of source asked next.k ms queue
-      (subst (λ (z : Beat w). IsNext z (unfinished_at sys c channel.A) (message.A asked.request) ms queue)
+      (subst (λ (z : Beat w). IsNext z (unfinished_at sys c Channel.A) (Message.A asked.request) ms queue)
       next.beat_is next) rests_y b last_y
-      (first-zero (message.A asked.request) x (unfinished_at sys c channel.A) ms queue next)) flowed)
-    where
-      last_y : completes (beat.A (a_beat_of asked.request next.k)) (unfinished_at sys c channel.A) ≡ b
-      last_y = sym (ap (λ (z : Beat w). completes z (unfinished_at sys c channel.A)) next.beat_is) ∙ last
-
-      rests_y : AreRests (beat.A (a_beat_of asked.request next.k)) (unfinished_at sys c) rest'
-      rests_y = subst (λ (z : Beat w). AreRests z (unfinished_at sys c) rest') next.beat_is rests
+      (first-zero next)) flowed)
 
   -- ---- an Acquire
 
@@ -154,109 +134,97 @@ module _ {w : ℕ} (config : Config) (log : Log w) (h : AbstractState w) (sys : 
       waits_so : is_acknowledging (view new.service c) ≡ false
 
     acquired : (new : Block (List ℕ)) (s' : State (List ℕ)) → ((m : ℕ) → s'.block m ≡ set n new s.block m)
-        → ((i : ℕ) → s'.uses c i ≡ s.uses c i)
-        → ((i : ℕ) → s'.lets c i ≡ s.lets c i) → ((i : ℕ) → s'.tracked i ≡ set tracker (Some n) s.tracked i)
-        → IsTakenUp new
+        → ((i : ℕ) → s'.uses c i ≡ s.uses c i) → ((i : ℕ) → s'.lets c i ≡ s.lets c i)
+        → ((i : ℕ) → s'.tracked i ≡ set tracker (Some n) s.tracked i) → IsTakenUp new
         → (x : Beat w) (ms : List (Message w)) (queue : List (Beat w))
-        → IsNext x (unfinished_at sys c channel.A) (message.A (acquire_wanted c n s wanted)) ms queue
-        → AreRests x (unfinished_at sys c) rest'
-        → MonitorRelation asked' rest' c s' (x ∷ t)
+        → IsNext x (unfinished_at sys c Channel.A) (Message.A (acquire_wanted c n s wanted)) ms queue
+        → AreRests x (unfinished_at sys c) rest' → MonitorRelation asked' rest' c s' (x ∷ t)
     acquired new s' changed uses lets tracked taken x ms queue next rests =
+        let y : BeatA w = a_beat_of (acquire_wanted c n s wanted) 0 in
+        let one = one-beat next
+        (acquisition_beats w wanted.whole wanted.grow ((s.block n).source c) n) in
+        let x_is : x ≡ Beat.A y = cc (next.beat_is, one.0) in
+        let last_y : completes (Beat.A y) (unfinished_at sys c Channel.A) ≡ true = cc (x_is, one.2) in
+        let rests_y : AreRests (Beat.A y) (unfinished_at sys c) rest' =
+        subst (λ (z : Beat w). AreRests z (unfinished_at sys c) rest') x_is rests in
+        let now : s'.block n ≡ new = changed n ∙ set-same n new s.block in
+        let unsunk : (i : ℕ) → set tracker (Some n) s.tracked i ≡ Some n
+        → sunk_in c i (unfinished_at sys c Channel.D) (s'.block n) ≡ false =
+        λ i e. rw (
+          ap (λ (b : Block (List ℕ)). is_acknowledging (view b.service c)) now
+              ∙ taken.waits_so,
+          none_comes i e,
+        ) (and-false (is_granting (view (s'.block n).service c))) in
         subst (λ (z : Beat w). MonitorRelation asked' rest' c s' (z ∷ t)) (sym x_is)
-        (flowed-acquire c n y (asked_by h.mail s c) asked' (unfinished_at sys c) rest' s s' t
-        (ap is_empty (flowed.rest_is channel.A ∙ one.1))
-        (ap (completes (beat.A y)) (flowed.rest_is channel.A) ∙ last_y) rests_y (record {
+        (flowed-acquire
+        (ap is_empty (flowed.rest_is Channel.A ∙ one.1))
+        (ap (completes (Beat.A y)) (flowed.rest_is Channel.A) ∙ last_y) rests_y (record {
           acquire = acquires-so wanted.whole;
           at = same_block n;
           use_is = λ i e. ap (s.uses c) (sym (eqb-true ((s.block n).source c) i e)) ∙ wanted.used;
-          no_use = λ i e. unused-else c n i s is.invariant.named e;
-          asks = λ i e. ap (asked_by h.mail s c) (sym (eqb-true ((s.block n).source c) i e))
-              ∙ asks-acquire c ((s.block n).source c) n ((s.block n).source c) wanted.whole wanted.grow h.mail s
-              wanted.used wanted.wants refl;
+          no_use = λ i e. unused-else c n i is.invariant.named e;
+          asks = λ i e. cc (
+            eqb-true ((s.block n).source c) i e,
+            asks-acquire c ((s.block n).source c) n
+                ((s.block n).source c) wanted.whole wanted.grow h.mail s wanted.used wanted.wants refl,
+          );
           idle = rw free refl;
           quiet = quiet;
-          coming = coming-granting config log h.mail h.request s sys c is;
+          coming = coming-granting c is;
           came = λ i. ap (comes_in_request i) one.1;
-          comes = λ i. ap (comes_in_request i) (rests_y channel.A)
-              ∙ comes-so (comes_in_request i) (beat.A y) (unfinished_at sys c channel.A) ((s.block n).source c == i)
-              refl refl
-              ∙ ap (λ (z : Bool). not z && ((s.block n).source c == i)) last_y;
+          comes = λ i. cc (
+            rests_y Channel.A,
+            comes-so (comes_in_request i) (Beat.A y) (unfinished_at sys c Channel.A)
+                ((s.block n).source c == i) refl refl,
+            last_y,
+          );
           asked_is = asks;
           elsewhere = λ m ne. changed m ∙ set-other n m new s.block ne;
           uses = uses;
           lets = lets;
-          sinks = λ i. sunk-elsewhere c i n (unfinished_at sys c channel.D) (s.tracked i) (s'.tracked i) s s'
+          sinks = λ i. sunk-elsewhere c i n (unfinished_at sys c Channel.D) (s.tracked i) (s'.tracked i) s s'
               (λ m ne. changed m ∙ set-other n m new s.block ne)
               (subst (λ (o : Option ℕ). (o ≡ s.tracked i) ⊎ (IsWithin n (s.tracked i) × IsWithin n o)) (sym (tracked i))
-              (tracked-new n tracker s.tracked unused i))
-              (λ e. rw free refl) (λ e. unsunk i (sym (tracked i) ∙ e));
+              (tracked-new n tracker s.tracked unused i)) (λ e. rw free refl) (λ e. unsunk i (sym (tracked i) ∙ e));
           held_is = ap (held_by c) now ∙ taken.keeps_held;
           served = ap (λ (b : Block (List ℕ)). is_unserved (view b.service c)) now ∙ taken.serves;
           waits = ap (λ (b : Block (List ℕ)). is_acknowledging (view b.service c)) now ∙ taken.waits_so;
-          wants = ap (λ (b : Block (List ℕ)). is_wanting (b.pair c).acquiring) now ∙ ap is_wanting
-              (taken.pair_acquiring ∙ wanted.wants);
+          wants = cc (now, taken.pair_acquiring, wanted.wants);
           letting_is = ap (λ (b : Block (List ℕ)). (b.pair c).letting) now ∙ taken.pair_letting;
           release_source = ap (λ (b : Block (List ℕ)). b.release_source c) now ∙ taken.keeps_source;
-          answered = ap (λ (b : Block (List ℕ)). is_answered (b.pair c).probing) now ∙ ap is_answered taken.pair_probing
-              ∙ quiet;
+          answered = cc (now, taken.pair_probing, quiet);
         }) flowed)
       where
-        y : BeatA w
-        y = a_beat_of (acquire_wanted c n s wanted) 0
-
-        one : (next.k ≡ 0) × (unfinished_at sys c channel.A ≡ []) × (completes x (unfinished_at sys c channel.A) ≡ true)
-        one = one-beat (message.A (acquire_wanted c n s wanted)) x (unfinished_at sys c channel.A) ms queue next
-            (acquisition_beats w wanted.whole wanted.grow ((s.block n).source c) n)
-
-        x_is : x ≡ beat.A y
-        x_is = next.beat_is ∙ ap (λ (j : ℕ). beat.A (a_beat_of (acquire_wanted c n s wanted) j)) one.0
-
-        last_y : completes (beat.A y) (unfinished_at sys c channel.A) ≡ true
-        last_y = sym (ap (λ (z : Beat w). completes z (unfinished_at sys c channel.A)) x_is) ∙ one.2
-
-        rests_y : AreRests (beat.A y) (unfinished_at sys c) rest'
-        rests_y = subst (λ (z : Beat w). AreRests z (unfinished_at sys c) rest') x_is rests
-
-        now : s'.block n ≡ new
-        now = changed n ∙ set-same n new s.block
-
         -- no Grant that was delivered in part is of the block
         none_comes : (i : ℕ) → set tracker (Some n) s.tracked i ≡ Some n
-            → comes_in_grant i (unfinished_at sys c channel.D) ≡ false
-        none_comes i e = go (comes_in_grant i (unfinished_at sys c channel.D)) refl
+            → comes_in_grant i (unfinished_at sys c Channel.D) ≡ false
+        none_comes i e = go (comes_in_grant i (unfinished_at sys c Channel.D)) refl
           where
-            go : (b : Bool) → comes_in_grant i (unfinished_at sys c channel.D) ≡ b → b ≡ false
+            go : (b : Bool) → comes_in_grant i (unfinished_at sys c Channel.D) ≡ b → b ≡ false
             go false f = refl
-            go true f = absurd (elim (cases_eq i tracker) [
-              | inl same ↦ let no : None ≡ Some of.0 = sym unused ∙ sym (ap s.tracked same) ∙ of.2 in cc
-              | inr other ↦
-                  let here : of.0 ≡ n = same_Some of.0 n (sym of.2 ∙ sym (set-other tracker i (Some n) s.tracked other)
-                  ∙ e) in
-                  let no : GrantSent c of.1.data_too of.1.k ≡ Free =
-                  sym of.1.service ∙ ap (λ (j : ℕ). (s.block j).service) here ∙ free in
-                  cc
-            ])
-              where
-                of : (m : ℕ) × IsGrantDue c m s × (s.tracked i ≡ Some m)
-                of = coming-sink config log h.mail h.request s sys c i is f
-
-        unsunk : (i : ℕ) → set tracker (Some n) s.tracked i ≡ Some n
-            → sunk_in c i (unfinished_at sys c channel.D) (s'.block n) ≡ false
-        unsunk i e = rw (
-          ap (λ (b : Block (List ℕ)). is_acknowledging (view b.service c)) now ∙ taken.waits_so,
-          none_comes i e,
-        ) (and-false (is_granting (view (s'.block n).service c)))
+            go true f =
+                let of : (m : ℕ) × IsGrantDue c m s × (s.tracked i ≡ Some m) = coming-sink c i is f in
+                absurd (elim (cases_eq i tracker) [
+                  | inl same ↦ let no : None ≡ Some of.0 = sym unused ∙ sym (ap s.tracked same) ∙ of.2 in cc
+                  | inr other ↦
+                      let here = same_Some of.0 n (sym of.2 ∙ sym (set-other tracker i (Some n) s.tracked other) ∙ e) in
+                      let no : GrantSent c of.1.data_too of.1.k ≡ Free = cc (of.1.service, here, free) in
+                      cc
+                ])
 
     held_free : held_by c (s.block n) ≡ ((s.block n).pair c).recorded
-    held_free = ap (λ (q : Service). if is_granting (view q c) then ((s.block n).pair c).held else
-        ((s.block n).pair c).recorded) free
+    held_free = cc free
 
     -- it waits for ProbeAcks
     pub own-acquire_served : (k : Cap) (toks : List Packet) (x : Beat w) (ms : List (Message w)) (queue : List (Beat w))
-        → IsNext x (unfinished_at sys c channel.A) (message.A (acquire_wanted c n s wanted)) ms queue
+        → IsNext x (unfinished_at sys c Channel.A) (Message.A (acquire_wanted c n s wanted)) ms queue
         → AreRests x (unfinished_at sys c) rest'
         → MonitorRelation asked' rest' c (acquire_served c n ((s.block n).source c) tracker k toks s) (x ∷ t)
-    own-acquire_served k toks = acquired new (acquire_served c n ((s.block n).source c) tracker k toks s) (λ m. refl)
+    own-acquire_served k toks =
+        let new : Block (List ℕ) = served_block c true ((s.block n).source c) tracker k (s.block n) in
+        let pair : new.pair c ≡ (s.block n).pair c = rw (same_number c) refl in
+        let seen : view new.service c ≡ Own = rw (same_number c) refl in
+        acquired new (acquire_served c n ((s.block n).source c) tracker k toks s) (λ m. refl)
         (λ i. refl) (λ i. refl) (λ i. refl) (record {
           pair_acquiring = ap (λ (p : ClientBlock). p.acquiring) pair;
           pair_letting = ap (λ (p : ClientBlock). p.letting) pair;
@@ -267,23 +235,15 @@ module _ {w : ℕ} (config : Config) (log : Log w) (h : AbstractState w) (sys : 
           serves = ap is_unserved seen;
           waits_so = ap is_acknowledging seen;
         })
-      where
-        new : Block (List ℕ)
-        new = served_block c true ((s.block n).source c) tracker k (s.block n)
-
-        pair : new.pair c ≡ (s.block n).pair c
-        pair = rw (same_number c) refl
-
-        seen : view new.service c ≡ Own
-        seen = rw (same_number c) refl
 
     -- it is granted at once
     pub own-acquire_granted : (d : Bool) (k : Cap) (toks : List Packet) (x : Beat w) (ms : List (Message w))
-        (queue : List (Beat w))
-        → IsNext x (unfinished_at sys c channel.A) (message.A (acquire_wanted c n s wanted)) ms queue
-        → AreRests x (unfinished_at sys c) rest'
+        (queue : List (Beat w)) → IsNext x (unfinished_at sys c Channel.A) (Message.A (acquire_wanted c n s wanted)) ms
+        queue → AreRests x (unfinished_at sys c) rest'
         → MonitorRelation asked' rest' c (acquire_granted c n tracker d k toks s) (x ∷ t)
-    own-acquire_granted d k toks = acquired new (acquire_granted c n tracker d k toks s) (λ m. refl) (λ i. refl)
+    own-acquire_granted d k toks =
+        let seen : view new.service c ≡ Granting d k = rw (same_number c) refl in
+        acquired new (acquire_granted c n tracker d k toks s) (λ m. refl) (λ i. refl)
         (λ i. refl) (λ i. refl) (record {
           pair_acquiring = ap (λ (p : ClientBlock). p.acquiring) pair;
           pair_letting = ap (λ (p : ClientBlock). p.letting) pair;
@@ -300,6 +260,3 @@ module _ {w : ℕ} (config : Config) (log : Log w) (h : AbstractState w) (sys : 
 
         pair : new.pair c ≡ after_grant_sent k ((s.block n).pair c)
         pair = set-same c (after_grant_sent k ((s.block n).pair c)) (s.block n).pair
-
-        seen : view new.service c ≡ Granting d k
-        seen = rw (same_number c) refl

@@ -7,43 +7,24 @@ use Rattle.tl_coherence.proofs.flow.Imports.{probe_taken, cap_sent, probe_beat, 
 use Rattle.tl_coherence.proofs.flow.Imports.{Probe, Packet, SimulationRelation, asked_by}
 use Rattle.std.proofs.Common.{◌≡◌, subst, ℕ, Bool, true, false, ◌&&◌, List, [], ◌∷◌, Option, refl, sym, ◌∙◌, ap}
 use Rattle.std.specs.Prelude.{◌==◌, if◌then◌else◌}
-use Rattle.tl_beat.specs.declared.beat.Beat.TheVariants as beat
-use Rattle.tl_beat.specs.declared.channel.Channel.TheVariants as channel
-use Rattle.tl_params.specs.declared.param.Cap.TheVariants as cap
 use Rattle.tl_coherence.specs.protocol.Phase.{same_cap, fits_service}
-use Rattle.tl_coherence.proofs.queues.Carried.{IsNext}
-use Rattle.tl_coherence.proofs.flow.FlowAlone.{AreRests}
-use Rattle.tl_coherence.proofs.flow.FlowAside.{comes-same}
-use Rattle.tl_coherence.proofs.flow.FlowProbe.{flowed-probe}
-use Rattle.tl_coherence.proofs.queues.Phases.{and_left}
-use Rattle.tl_coherence.proofs.client.ProbeDelivered.{probe-beat}
-use Rattle.tl_coherence.proofs.queues.Tokens.{holds-first}
-use Rattle.tl_coherence.proofs.protocol.BothParts.{sent-is}
-use Rattle.tl_coherence.proofs.simulation.Popped.{unfinished_at}
+use Rattle.tl_coherence.proofs.{queues.Carried.IsNext, flow.FlowAlone.AreRests, flow.FlowAside.comes-same}
+use Rattle.tl_coherence.proofs.{flow.FlowProbe.flowed-probe, queues.Phases.and_left, client.ProbeDelivered.probe-beat}
+use Rattle.tl_coherence.proofs.{queues.Tokens.holds-first, protocol.BothParts.sent-is, simulation.Popped.unfinished_at}
 
 -- ---- who is probed
 
 same_caps : (j k : Cap) → same_cap j k ≡ true → k ≡ j
-same_caps cap.ToT cap.ToT e = refl
-same_caps cap.ToB cap.ToB e = refl
-same_caps cap.ToN cap.ToN e = refl
-same_caps cap.ToT cap.ToB e = absurd cc
-same_caps cap.ToT cap.ToN e = absurd cc
-same_caps cap.ToB cap.ToT e = absurd cc
-same_caps cap.ToB cap.ToN e = absurd cc
-same_caps cap.ToN cap.ToT e = absurd cc
-same_caps cap.ToN cap.ToB e = absurd cc
+same_caps Cap.ToT Cap.ToT e = refl
+same_caps Cap.ToB Cap.ToB e = refl
+same_caps Cap.ToN Cap.ToN e = refl
+same_caps j k e = absurd cc
 
 -- sees the service of another, which probes with this cap
 probed_sees : (k : Cap) (v : View) → fits_service (ProbeSent k) v ≡ true → v ≡ Other k
-probed_sees k (Other cap.ToT) e = absurd cc
-probed_sees k (Other cap.ToB) e = ap Other (same_caps k cap.ToB e)
-probed_sees k (Other cap.ToN) e = ap Other (same_caps k cap.ToN e)
-probed_sees k Idle e = absurd cc
-probed_sees k Own e = absurd cc
-probed_sees k (Granting d j) e = absurd cc
-probed_sees k Acknowledging e = absurd cc
-probed_sees k GrantedOther e = absurd cc
+probed_sees k (Other Cap.ToB) e = ap Other (same_caps k Cap.ToB e)
+probed_sees k (Other Cap.ToN) e = ap Other (same_caps k Cap.ToN e)
+probed_sees k v e = absurd cc
 
 sent_sees : (k : Cap) (p : ClientBlock) (v : View) → ok p v ≡ true → p.probing ≡ ProbeSent k → v ≡ Other k
 unfolding ok
@@ -51,21 +32,18 @@ sent_sees k p v well sent = probed_sees k v (rw sent at (and_left (fits_service 
 
 waited_as : (k : Cap) (q : Service) (c : ℕ) → view q c ≡ Other k → cap_waited q ≡ k
 waited_as k Free c e = absurd (let no : Idle ≡ Other k = e in cc)
-waited_as k (Waits r own source j) c e = go (own && (c == r)) e
-  where
-    go : (b : Bool) → (if b then Own else Other j) ≡ Other k → j ≡ k
-    go true f = absurd cc
-    go false f = cc
-waited_as k (GrantSent r d j) c e = absurd (go (c == r) e)
-  where
-    go : (b : Bool) → (if b then Granting d j else GrantedOther) ≡ Other k → ⊥
-    go true f = cc
-    go false f = cc
-waited_as k (GrantTaken r) c e = absurd (go (c == r) e)
-  where
-    go : (b : Bool) → (if b then Acknowledging else GrantedOther) ≡ Other k → ⊥
-    go true f = cc
-    go false f = cc
+waited_as k (Waits r own source j) c e =
+    let go : (b : Bool) → (if b then Own else Other j) ≡ Other k → j ≡ k =
+    elim [ true ↦ λ f. absurd cc | false ↦ λ f. cc ] in
+    go (own && (c == r)) e
+waited_as k (GrantSent r d j) c e =
+    let go : (b : Bool) → (if b then Granting d j else GrantedOther) ≡ Other k → ⊥ =
+    elim [ true ↦ λ f. cc | false ↦ λ f. cc ] in
+    absurd (go (c == r) e)
+waited_as k (GrantTaken r) c e =
+    let go : (b : Bool) → (if b then Acknowledging else GrantedOther) ≡ Other k → ⊥ =
+    elim [ true ↦ λ f. cc | false ↦ λ f. cc ] in
+    absurd (go (c == r) e)
 
 module _ {w : ℕ} (config : Config) (log : Log w) (h : AbstractState w) (sys : System w) (c : ℕ)
     (is : SimulationRelation config log h.mail h.request h.state sys)
@@ -82,29 +60,20 @@ module _ {w : ℕ} (config : Config) (log : Log w) (h : AbstractState w) (sys : 
 
   pub own-probe : (n : ℕ) → (s.link c).b ≡ packet Probe n ∷ toks
       → (x : Beat w) (ms : List (Message w)) (queue : List (Beat w))
-      → IsNext x (unfinished_at sys c channel.B) (block_message Probe c n (s.block n)) ms queue
-      → AreRests x (unfinished_at sys c) rest'
-      → (asked' : ℕ → Option (BeatA w)) → ((i : ℕ) → asked' i ≡ before i)
+      → IsNext x (unfinished_at sys c Channel.B) (block_message Probe c n (s.block n)) ms queue
+      → AreRests x (unfinished_at sys c) rest' → (asked' : ℕ → Option (BeatA w)) → ((i : ℕ) → asked' i ≡ before i)
       → MonitorRelation asked' rest' c (probe_taken c n (cap_sent ((s.block n).pair c).probing) toks s) (x ∷ t)
   own-probe n tokens x ms queue next rests asked' asks =
+      let k : Cap = cap_sent ((s.block n).pair c).probing in
+      let x_is : x ≡ Beat.B (probe_beat n k) = probe-beat c n s next in
+      let whole : unfinished_at sys c Channel.B ≡ [] = (is.kept c).b_whole in
+      let seen = sent_sees k ((s.block n).pair c) (view (s.block n).service c) ((is.invariant.blocks n).phases c)
+      (sent-is ((s.block n).pair c).probing (holds-first Probe (s.link c).b toks (packet Probe n)
+      (λ i. shown Probe c (s.block i)) tokens refl (is.invariant.transfers c Probe refl))) in
       subst (λ (z : Beat w). MonitorRelation asked' rest' c (probe_taken c n k toks s) (z ∷ t)) (sym x_is)
-      (flowed-probe c n k toks before asked' (unfinished_at sys c) rest' s t
-      (ap is_empty (flowed.rest_is channel.B ∙ whole))
-      (ap (completes {w = w} (beat.B (probe_beat n k))) (flowed.rest_is channel.B ∙ whole))
+      (flowed-probe n k toks asked' rest'
+      (ap is_empty (flowed.rest_is Channel.B ∙ whole))
+      (ap (completes {w = w} (Beat.B (probe_beat n k))) (flowed.rest_is Channel.B ∙ whole))
       (subst (λ (z : Beat w). AreRests z (unfinished_at sys c) rest') x_is rests) asks
       (same_block n) seen (waited_as k (s.block n).service c seen)
-      (λ m. comes-same m before asked' (unfinished_at sys c channel.D) asks) flowed)
-    where
-      k : Cap
-      k = cap_sent ((s.block n).pair c).probing
-
-      x_is : x ≡ beat.B (probe_beat n k)
-      x_is = probe-beat c n s x (unfinished_at sys c channel.B) ms queue next
-
-      whole : unfinished_at sys c channel.B ≡ []
-      whole = (is.kept c).b_whole
-
-      seen : view (s.block n).service c ≡ Other k
-      seen = sent_sees k ((s.block n).pair c) (view (s.block n).service c) ((is.invariant.blocks n).phases c)
-          (sent-is ((s.block n).pair c).probing (holds-first Probe (s.link c).b toks (packet Probe n)
-          (λ i. shown Probe c (s.block i)) tokens refl (is.invariant.transfers c Probe refl)))
+      (λ m. comes-same m before asked' (unfinished_at sys c Channel.D) asks) flowed)

@@ -2,43 +2,30 @@
 use Rattle.tl_coherence.proofs.flow.Imports.{IsWidth, Beat, BeatA, BeatE, Channel, Message, MessageC, History, is_empty}
 use Rattle.tl_coherence.proofs.flow.Imports.{completes, Config, Prune, Report, prune_code, prune_left, report_code}
 use Rattle.tl_coherence.proofs.flow.Imports.{report_left, comes_in_release, same_perm, is_release, reported}
-use Rattle.tl_coherence.proofs.flow.Imports.{MonitorRelation, AbstractState, is_busy, Log, ClientBlock, View, Idle, Own}
-use Rattle.tl_coherence.proofs.flow.Imports.{Other, Granting, Acknowledging, GrantedOther, ReleaseSent, is_unprobed}
-use Rattle.tl_coherence.proofs.flow.Imports.{is_unreleased, ok, Service, Free, Waits, GrantSent, GrantTaken, Block}
-use Rattle.tl_coherence.proofs.flow.Imports.{State, packet, shown, view, is_granting, is_acknowledging, let_block}
-use Rattle.tl_coherence.proofs.flow.Imports.{release_taken, report_taken, grant_ack_taken, block_message, prune_told}
-use Rattle.tl_coherence.proofs.flow.Imports.{report_told, System, ProbeAck, Release, GrantAck, Packet}
-use Rattle.tl_coherence.proofs.flow.Imports.{SimulationRelation, asked_by}
-use Rattle.std.proofs.Common.{◌≡◌, subst, ℕ, Bool, true, false, not, ◌&&◌, List, [], ◌∷◌, Option, refl, sym, ◌∙◌, ap}
+use Rattle.tl_coherence.proofs.flow.Imports.{MonitorRelation, AbstractState, is_busy, Log, ClientBlock, View, Idle}
+use Rattle.tl_coherence.proofs.flow.Imports.{Granting, Acknowledging, ReleaseSent, is_unprobed, is_unreleased, ok}
+use Rattle.tl_coherence.proofs.flow.Imports.{Service, Free, Block, State, packet, shown, view, is_granting}
+use Rattle.tl_coherence.proofs.flow.Imports.{is_acknowledging, let_block, release_taken, report_taken, grant_ack_taken}
+use Rattle.tl_coherence.proofs.flow.Imports.{block_message, prune_told, report_told, System, ProbeAck, Release}
+use Rattle.tl_coherence.proofs.flow.Imports.{GrantAck, Packet, SimulationRelation, asked_by, Perm}
+use Rattle.std.proofs.Common.{◌≡◌, subst, ℕ, Bool, true, false, not, ◌&&◌, List, ◌∷◌, Option, refl, sym, ◌∙◌, ap}
 use Rattle.std.proofs.Common.{length}
-use Rattle.std.proofs.lemmas.Bool.{and_right as with_false}
-use Rattle.std.specs.Prelude.{◌==◌, if◌then◌else◌}
-use Rattle.tl_beat.specs.declared.beat.Beat.TheVariants as beat
-use Rattle.tl_beat.specs.declared.channel.Channel.TheVariants as channel
-use Rattle.tl_burst.specs.declared.message.Message.TheVariants as message
+use Rattle.std.{proofs.lemmas.Bool.and_right as with_false, specs.Prelude.◌==◌, specs.Prelude.if◌then◌else◌}
 use Rattle.tl_burst.specs.statement.Burst.{c_beat_of}
-use Rattle.tl_params.specs.declared.param.Prune.TheVariants as prune
-use Rattle.tl_params.specs.declared.perm.Perm.TheVariants as perm
 use Rattle.tl_params.specs.statement.Param.{prune_right}
-use Rattle.tl_client.specs.statement.Send.{release}
+use Rattle.tl_client.{specs.statement.Send.release, proofs.endpoint.HeldAfter.reported-report}
 use Rattle.tl_coherence.specs.protocol.PhaseSteps.{after_release_taken}
-use Rattle.tl_coherence.proofs.queues.Carried.{IsNext}
-use Rattle.tl_coherence.proofs.queues.Facts.{answered_other, granting_alone}
-use Rattle.tl_coherence.proofs.flow.FlowAlone.{AreRests, flowed-grant_ack}
-use Rattle.tl_coherence.proofs.flow.FlowAside.{comes-same}
+use Rattle.tl_coherence.proofs.{queues.Carried.IsNext, queues.Facts.answered_other, queues.Facts.granting_alone}
+use Rattle.tl_coherence.proofs.{flow.FlowAlone.AreRests, flow.FlowAlone.flowed-grant_ack, flow.FlowAside.comes-same}
+use Rattle.tl_coherence.proofs.{flow.FlowComing.coming-granting, flow.FlowLawful.other_ungranted}
+use Rattle.tl_coherence.proofs.{flow.FlowReleased.letting_after, flow.FlowReleased.flowed-release}
+use Rattle.tl_coherence.proofs.{flow.FlowReport.flowed-report_part, flow.FlowReported.flowed-report}
+use Rattle.tl_coherence.proofs.{flow.FlowStep.held_by, queues.Phases.and_left, queues.Phases.and_right}
+use Rattle.tl_coherence.proofs.{protocol.BothParts.answered-is, protocol.BothParts.releasing-is}
+use Rattle.tl_coherence.proofs.{simulation.Popped.unfinished_at}
 use Rattle.tl_coherence.proofs.flow.FlowBeats.{came-so, comes-so, one-beat, first_false}
-use Rattle.tl_coherence.proofs.flow.FlowComing.{coming-granting}
-use Rattle.tl_coherence.proofs.flow.FlowLawful.{other_ungranted}
-use Rattle.tl_coherence.proofs.flow.FlowReleased.{letting_after, flowed-release}
-use Rattle.tl_coherence.proofs.flow.FlowReport.{flowed-report_part}
-use Rattle.tl_coherence.proofs.flow.FlowReported.{flowed-report}
-use Rattle.tl_coherence.proofs.flow.FlowStep.{held_by}
-use Rattle.tl_coherence.proofs.queues.Phases.{and_left, and_right}
 use Rattle.tl_coherence.proofs.manager.Reporting.{IsAbout, report-about, release-about, reported-prune}
-use Rattle.tl_client.proofs.endpoint.HeldAfter.{reported-report}
 use Rattle.tl_coherence.proofs.queues.Tokens.{set-same, set-other, holds-first}
-use Rattle.tl_coherence.proofs.protocol.BothParts.{answered-is, releasing-is}
-use Rattle.tl_coherence.proofs.simulation.Popped.{unfinished_at}
 
 -- ---- what the messages say
 
@@ -47,27 +34,26 @@ abbrev IsLong : Block (List ℕ) → Type 0
 IsLong b = length b.truth ≡ 64
 
 size_of : {w : ℕ} → Message w → ℕ
-size_of (message.C m) = m.size
+size_of (Message.C m) = m.size
 size_of m = 0
 
 pub report_rendered : {w : ℕ} (c n : ℕ) (b : Block (List ℕ)) → IsWidth w → IsLong b
-    → (m : MessageC w) × (block_message ProbeAck c n b ≡ message.C m)
+    → (m : MessageC w) × (block_message ProbeAck c n b ≡ Message.C m)
     × IsAbout true n (report_code (report_told (b.pair c).probing))
-    (same_perm (report_left (report_told (b.pair c).probing)) perm.Trunk) b.truth m
+    (same_perm (report_left (report_told (b.pair c).probing)) Perm.Trunk) b.truth m
 unfolding block_message
 report_rendered c n b width long = report-about (report_told (b.pair c).probing) n b.truth width long
 
 release_size : {w : ℕ} (r : Prune) (source n : ℕ) (truth : List ℕ) (m : MessageC w)
-    → release r source n truth ≡ message.C m → m.size ≡ 6
+    → release r source n truth ≡ Message.C m → m.size ≡ 6
 unfolding size_of
-release_size prune.TtoB source n truth m e = sym (ap size_of e)
-release_size prune.TtoN source n truth m e = sym (ap size_of e)
-release_size prune.BtoN source n truth m e = sym (ap size_of e)
+release_size Prune.TtoB source n truth m e = sym (ap size_of e)
+release_size r source n truth m e = sym (ap size_of e)
 
 pub release_rendered : {w : ℕ} (c n : ℕ) (b : Block (List ℕ)) → IsWidth w → IsLong b
-    → (m : MessageC w) × (block_message Release c n b ≡ message.C m)
+    → (m : MessageC w) × (block_message Release c n b ≡ Message.C m)
     × IsAbout false n (prune_code (prune_told (b.pair c).letting))
-    (same_perm (prune_left (prune_told (b.pair c).letting)) perm.Trunk) b.truth m
+    (same_perm (prune_left (prune_told (b.pair c).letting)) Perm.Trunk) b.truth m
     × (m.source ≡ b.release_source c) × (m.size ≡ 6)
 unfolding block_message
 release_rendered c n b width long =
@@ -80,23 +66,16 @@ released_ungranted : (r : Prune) (p : ClientBlock) (v : View) → ok p v ≡ tru
     → is_granting v ≡ false
 released_ungranted r p (Granting d k) well open_ =
     let alone = granting_alone d k p (Granting d k) well refl in
-    let held_back : is_unreleased p.letting ≡ true =
-    and_left (is_unreleased p.letting) _ (and_right (is_unprobed p.probing) _ alone) in
+    let held_back = and_left (is_unreleased p.letting) _ (and_right (is_unprobed p.probing) _ alone) in
     absurd (let no : false ≡ true = rw open_ at held_back in cc)
-released_ungranted r p Idle well open_ = refl
-released_ungranted r p Own well open_ = refl
-released_ungranted r p (Other k) well open_ = refl
-released_ungranted r p Acknowledging well open_ = refl
-released_ungranted r p GrantedOther well open_ = refl
+released_ungranted r p v well open_ = refl
 
 -- a service that is seen so isn't none
 busy_seen : (test : View → Bool) → test Idle ≡ false → (q : Service) (c : ℕ) → test (view q c) ≡ true → is_busy q ≡ true
 busy_seen test none Free c e = absurd (let no : false ≡ true = sym none ∙ e in cc)
-busy_seen test none (Waits r own source k) c e = refl
-busy_seen test none (GrantSent r d k) c e = refl
-busy_seen test none (GrantTaken r) c e = refl
+busy_seen test none q c e = refl
 
-pub ack_rendered : {w : ℕ} (c n : ℕ) (b : Block (List ℕ)) → block_message {w = w} GrantAck c n b ≡ message.E
+pub ack_rendered : {w : ℕ} (c n : ℕ) (b : Block (List ℕ)) → block_message {w = w} GrantAck c n b ≡ Message.E
     (record { sink = b.tracker })
 unfolding block_message
 ack_rendered c n b = refl
@@ -119,29 +98,30 @@ module _ {w : ℕ} (config : Config) (log : Log w) (h : AbstractState w) (sys : 
 
   -- the beat of a message of channel C
   module _ (m : MessageC w) (x : Beat w) (ms : List (Message w)) (queue : List (Beat w))
-      (next : IsNext x (unfinished_at sys c channel.C) (message.C m) ms queue)
+      (next : IsNext x (unfinished_at sys c Channel.C) (Message.C m) ms queue)
       (rests : AreRests x (unfinished_at sys c) rest') (b : Bool)
-      (last : completes x (unfinished_at sys c channel.C) ≡ b) where
-    rests_y : AreRests (beat.C (c_beat_of m next.k)) (unfinished_at sys c) rest'
+      (last : completes x (unfinished_at sys c Channel.C) ≡ b) where
+    rests_y : AreRests (Beat.C (c_beat_of m next.k)) (unfinished_at sys c) rest'
     rests_y = subst (λ (z : Beat w). AreRests z (unfinished_at sys c) rest') next.beat_is rests
 
-    last_y : completes (beat.C (c_beat_of m next.k)) (unfinished_at sys c channel.C) ≡ b
-    last_y = sym (ap (λ (z : Beat w). completes z (unfinished_at sys c channel.C)) next.beat_is) ∙ last
+    last_y : completes (Beat.C (c_beat_of m next.k)) (unfinished_at sys c Channel.C) ≡ b
+    last_y = sym (ap (λ (z : Beat w). completes z (unfinished_at sys c Channel.C)) next.beat_is) ∙ last
 
-    next_y : IsNext (beat.C (c_beat_of m next.k)) (unfinished_at sys c channel.C) (message.C m) ms queue
-    next_y = subst (λ (z : Beat w). IsNext z (unfinished_at sys c channel.C) (message.C m) ms queue) next.beat_is next
+    next_y : IsNext (Beat.C (c_beat_of m next.k)) (unfinished_at sys c Channel.C) (Message.C m) ms queue
+    next_y = subst (λ (z : Beat w). IsNext z (unfinished_at sys c Channel.C) (Message.C m) ms queue) next.beat_is next
 
     -- what of a Release with source i was delivered, before and afterwards
-    came : (i : ℕ) → comes_in_release i (unfinished_at sys c channel.C)
-        ≡ (not (is_empty (unfinished_at sys c channel.C)) && (is_release m.opcode && (m.source == i)))
-    came i = came-so (comes_in_release i) (message.C m) (beat.C (c_beat_of m next.k)) (unfinished_at sys c channel.C) ms
-        queue (is_release m.opcode && (m.source == i)) next_y refl (λ j. refl)
+    came : (i : ℕ) → comes_in_release i (unfinished_at sys c Channel.C)
+        ≡ (not (is_empty (unfinished_at sys c Channel.C)) && (is_release m.opcode && (m.source == i)))
+    came i = came-so (comes_in_release i) (is_release m.opcode && (m.source == i)) next_y refl (λ j. refl)
 
-    comes : (i : ℕ) → comes_in_release i (rest' channel.C) ≡ (not b && (is_release m.opcode && (m.source == i)))
-    comes i =
-        ap (comes_in_release i) (rests_y channel.C) ∙ comes-so (comes_in_release i) (beat.C (c_beat_of m next.k))
-        (unfinished_at sys c channel.C) (is_release m.opcode && (m.source == i)) refl refl
-        ∙ ap (λ (z : Bool). not z && (is_release m.opcode && (m.source == i))) last_y
+    comes : (i : ℕ) → comes_in_release i (rest' Channel.C) ≡ (not b && (is_release m.opcode && (m.source == i)))
+    comes i = cc (
+      rests_y Channel.C,
+      comes-so (comes_in_release i) (Beat.C (c_beat_of m next.k))
+          (unfinished_at sys c Channel.C) (is_release m.opcode && (m.source == i)) refl refl,
+      last_y,
+    )
 
   -- ---- a ProbeAck
 
@@ -150,58 +130,50 @@ module _ {w : ℕ} (config : Config) (log : Log w) (h : AbstractState w) (sys : 
 
   pub own-report : (s.link c).c ≡ packet ProbeAck n ∷ toks
       → (x : Beat w) (ms : List (Message w)) (queue : List (Beat w))
-      → IsNext x (unfinished_at sys c channel.C) (block_message ProbeAck c n (s.block n)) ms queue
-      → AreRests x (unfinished_at sys c) rest'
-      → (b : Bool) → completes x (unfinished_at sys c channel.C) ≡ b
+      → IsNext x (unfinished_at sys c Channel.C) (block_message ProbeAck c n (s.block n)) ms queue
+      → AreRests x (unfinished_at sys c) rest' → (b : Bool) → completes x (unfinished_at sys c Channel.C) ≡ b
       → MonitorRelation before rest' c (if b then report_taken c n (report_told ((s.block n).pair c).probing) toks s
       else s) (x ∷ t)
-  own-report tokens x ms queue next rests b last =
-      subst (λ (z : Beat w). MonitorRelation before rest' c (reported_if r b) (z ∷ t)) (sym here.beat_is) (go b last)
+  own-report tokens x ms queue next rests b last = rw here.beat_is (go b last)
     where
       r : Report
       r = report_told ((s.block n).pair c).probing
 
-      about : (m : MessageC w) × (block_message ProbeAck c n (s.block n) ≡ message.C m) × IsAbout true n (report_code r)
-          (same_perm (report_left r) perm.Trunk) (s.block n).truth m
+      about : (m : MessageC w) × (block_message ProbeAck c n (s.block n) ≡ Message.C m) × IsAbout true n (report_code r)
+          (same_perm (report_left r) Perm.Trunk) (s.block n).truth m
       about = report_rendered c n (s.block n) width (is.sized n).truth
 
       m : MessageC w
       m = about.0
 
-      here : IsNext x (unfinished_at sys c channel.C) (message.C m) ms queue
-      here = subst (λ (i : Message w). IsNext x (unfinished_at sys c channel.C) i ms queue) about.1 next
+      here : IsNext x (unfinished_at sys c Channel.C) (Message.C m) ms queue
+      here = subst (λ (i : Message w). IsNext x (unfinished_at sys c Channel.C) i ms queue) about.1 next
 
       alone : is_granting (view (s.block n).service c) ≡ false
-      alone =
-          other_ungranted (view (s.block n).service c)
+      alone = other_ungranted (view (s.block n).service c)
           (answered_other r ((s.block n).pair c) (view (s.block n).service c) well
           (answered-is ((s.block n).pair c).probing (holds-first ProbeAck (s.link c).c toks (packet ProbeAck n)
           (λ i. shown ProbeAck c (s.block i)) tokens refl (is.invariant.transfers c ProbeAck refl))))
 
-      same : (z : Bool) → completes x (unfinished_at sys c channel.C) ≡ z → (i : ℕ)
-          → comes_in_release i (rest' channel.C) ≡ comes_in_release i (unfinished_at sys c channel.C)
-      same z e i =
-          comes m x ms queue here rests z e i ∙ with_false (not z) (is_release m.opcode && (m.source == i))
+      same : (z : Bool) → completes x (unfinished_at sys c Channel.C) ≡ z → (i : ℕ)
+          → comes_in_release i (rest' Channel.C) ≡ comes_in_release i (unfinished_at sys c Channel.C)
+      same z e i = comes m x ms queue here rests z e i ∙ with_false (not z) (is_release m.opcode && (m.source == i))
           (first_false (is_release m.opcode) (m.source == i) about.2.releases)
-          ∙ sym (came m x ms queue here rests z e i ∙ with_false (not (is_empty (unfinished_at sys c channel.C)))
-          (is_release m.opcode && (m.source == i))
-          (first_false (is_release m.opcode) (m.source == i) about.2.releases))
+          ∙ sym (came m x ms queue here rests z e i ∙ with_false (not (is_empty (unfinished_at sys c Channel.C)))
+          (is_release m.opcode && (m.source == i)) (first_false (is_release m.opcode) (m.source == i) about.2.releases))
 
-      go : (z : Bool) → completes x (unfinished_at sys c channel.C) ≡ z
-          → MonitorRelation before rest' c (reported_if r z) (beat.C (c_beat_of m here.k) ∷ t)
-      go false e =
-          flowed-report_part c (c_beat_of m here.k) (is_empty (unfinished_at sys c channel.C)) before
-          (unfinished_at sys c) rest' s t (ap is_empty (flowed.rest_is channel.C))
-          (ap (completes (beat.C (c_beat_of m here.k))) (flowed.rest_is channel.C) ∙ last_y m x ms queue here rests
-          false e)
-          (rests_y m x ms queue here rests false e) about.2.releases (same false e) flowed
-      go true e =
-          flowed-report c n r toks (c_beat_of m here.k) (is_empty (unfinished_at sys c channel.C)) before
-          (unfinished_at sys c) rest' s t (ap is_empty (flowed.rest_is channel.C))
-          (ap (completes (beat.C (c_beat_of m here.k))) (flowed.rest_is channel.C) ∙ last_y m x ms queue here rests true
-          e)
-          (rests_y m x ms queue here rests true e) about.2.reports about.2.releases (same true e) about.2.block
-          (ap reported about.2.param_is ∙ reported-report r) alone flowed
+      go : (z : Bool) → completes x (unfinished_at sys c Channel.C) ≡ z
+          → MonitorRelation before rest' c (reported_if r z) (Beat.C (c_beat_of m here.k) ∷ t)
+      go false e = flowed-report_part (c_beat_of m here.k) (is_empty (unfinished_at sys c Channel.C)) rest'
+          (ap is_empty (flowed.rest_is Channel.C))
+          (ap (completes (Beat.C (c_beat_of m here.k))) (flowed.rest_is Channel.C)
+          ∙ last_y m x ms queue here rests false e) (rests_y m x ms queue here rests false e) about.2.releases
+          (same false e) flowed
+      go true e = flowed-report n r toks (c_beat_of m here.k) (is_empty (unfinished_at sys c Channel.C)) rest'
+          (ap is_empty (flowed.rest_is Channel.C))
+          (ap (completes (Beat.C (c_beat_of m here.k))) (flowed.rest_is Channel.C)
+          ∙ last_y m x ms queue here rests true e) (rests_y m x ms queue here rests true e) about.2.reports
+          about.2.releases (same true e) about.2.block (ap reported about.2.param_is ∙ reported-report r) alone flowed
 
   -- ---- a Release
 
@@ -210,16 +182,43 @@ module _ {w : ℕ} (config : Config) (log : Log w) (h : AbstractState w) (sys : 
 
   pub own-release : (s.link c).c ≡ packet Release n ∷ toks
       → (x : Beat w) (ms : List (Message w)) (queue : List (Beat w))
-      → IsNext x (unfinished_at sys c channel.C) (block_message Release c n (s.block n)) ms queue
-      → AreRests x (unfinished_at sys c) rest'
-      → (b : Bool) → completes x (unfinished_at sys c channel.C) ≡ b
+      → IsNext x (unfinished_at sys c Channel.C) (block_message Release c n (s.block n)) ms queue
+      → AreRests x (unfinished_at sys c) rest' → (b : Bool) → completes x (unfinished_at sys c Channel.C) ≡ b
       → MonitorRelation before rest' c (if b then release_taken c n (prune_told ((s.block n).pair c).letting) toks s
       else s) (x ∷ t)
   own-release tokens x ms queue next rests b last =
+      let releasing : ((s.block n).pair c).letting ≡ ReleaseSent r =
+      releasing-is ((s.block n).pair c).letting (holds-first Release (s.link c).c toks (packet Release n)
+      (λ i. shown Release c (s.block i)) tokens refl (is.invariant.transfers c Release refl)) in
+      let ungranted : is_granting (view (s.block n).service c) ≡ false =
+      released_ungranted r ((s.block n).pair c) (view (s.block n).service c) well releasing in
+      let now : (z : Bool) → (released_if r z).block n ≡ block_if z =
+      elim [ true ↦ set-same n (let_block c r (s.block n)) s.block | false ↦ refl ] in
+      let elsewhere : (z : Bool) (k : ℕ) → (k ≡ n → ⊥) → (released_if r z).block k ≡ s.block k =
+      elim [ true ↦ λ k ne. set-other n k (let_block c r (s.block n)) s.block ne | false ↦ λ k ne. refl ] in
+      let uses : (z : Bool) (i : ℕ) → (released_if r z).uses c i ≡ s.uses c i =
+      elim [ true ↦ λ i. refl | false ↦ λ i. refl ] in
+      let lets : (z : Bool) (i : ℕ) → (released_if r z).lets c i ≡ s.lets c i =
+      elim [ true ↦ λ i. refl | false ↦ λ i. refl ] in
+      let tracked : (z : Bool) (i : ℕ) → (released_if r z).tracked i ≡ s.tracked i =
+      elim [ true ↦ λ i. refl | false ↦ λ i. refl ] in
+      let held_is : (z : Bool) → held_by c ((released_if r z).block n)
+      ≡ (if z then prune_right r else held_by c (s.block n)) =
+      elim [ true ↦ cc (now true, ungranted, pair) | false ↦ refl ] in
+      let service : (z : Bool) → (block_if z).service ≡ (s.block n).service = elim [ true ↦ refl | false ↦ refl ] in
+      let tracker : (z : Bool) → (block_if z).tracker ≡ (s.block n).tracker = elim [ true ↦ refl | false ↦ refl ] in
+      let release_source : (z : Bool) → (block_if z).release_source c ≡ (s.block n).release_source c =
+      elim [ true ↦ refl | false ↦ refl ] in
+      let letting_is : (z : Bool) → ((block_if z).pair c).letting ≡ letting_after z r =
+      elim [ true ↦ ap (λ (p : ClientBlock). p.letting) pair | false ↦ releasing ] in
+      let about = release_rendered c n (s.block n) width (is.sized n).truth in
+      let m : MessageC w = about.0 in
+      let here : IsNext x (unfinished_at sys c Channel.C) (Message.C m) ms queue =
+      subst (λ (i : Message w). IsNext x (unfinished_at sys c Channel.C) i ms queue) about.1 next in
       subst (λ (z : Beat w). MonitorRelation before rest' c (released_if r b) (z ∷ t)) (sym here.beat_is)
-      (flowed-release c n r (c_beat_of m here.k) (is_empty (unfinished_at sys c channel.C)) b before
-      (unfinished_at sys c) rest' s (released_if r b) t (ap is_empty (flowed.rest_is channel.C))
-      (ap (completes (beat.C (c_beat_of m here.k))) (flowed.rest_is channel.C) ∙ last_y m x ms queue here rests b last)
+      (flowed-release
+      (ap is_empty (flowed.rest_is Channel.C))
+      (ap (completes (Beat.C (c_beat_of m here.k))) (flowed.rest_is Channel.C) ∙ last_y m x ms queue here rests b last)
       (rests_y m x ms queue here rests b last)
       (λ i k. is.invariant.named.releases c i k) (record {
         release = about.2.releases;
@@ -229,10 +228,8 @@ module _ {w : ℕ} (config : Config) (log : Log w) (h : AbstractState w) (sys : 
         size = about.4;
         says = ap reported about.2.param_is ∙ reported-prune r;
         letting = releasing;
-        came = λ i. came m x ms queue here rests b last i ∙ ap
-            (λ (z : Bool). not (is_empty (unfinished_at sys c channel.C)) && (z && (m.source == i))) about.2.releases;
-        comes = λ i. comes m x ms queue here rests b last i ∙ ap (λ (z : Bool). not b && (z && (m.source == i)))
-            about.2.releases;
+        came = λ i. cc (came m x ms queue here rests b last i, about.2.releases);
+        comes = λ i. cc (comes m x ms queue here rests b last i, about.2.releases);
         elsewhere = elsewhere b;
         uses = uses b;
         lets = lets b;
@@ -249,26 +246,6 @@ module _ {w : ℕ} (config : Config) (log : Log w) (h : AbstractState w) (sys : 
       r : Prune
       r = prune_told ((s.block n).pair c).letting
 
-      about : (m : MessageC w) × (block_message Release c n (s.block n) ≡ message.C m)
-          × IsAbout false n (prune_code r) (same_perm (prune_left r) perm.Trunk) (s.block n).truth m
-          × (m.source ≡ (s.block n).release_source c)
-          × (m.size ≡ 6)
-      about = release_rendered c n (s.block n) width (is.sized n).truth
-
-      m : MessageC w
-      m = about.0
-
-      here : IsNext x (unfinished_at sys c channel.C) (message.C m) ms queue
-      here = subst (λ (i : Message w). IsNext x (unfinished_at sys c channel.C) i ms queue) about.1 next
-
-      releasing : ((s.block n).pair c).letting ≡ ReleaseSent r
-      releasing = releasing-is ((s.block n).pair c).letting
-          (holds-first Release (s.link c).c toks (packet Release n) (λ i. shown Release c (s.block i)) tokens refl
-          (is.invariant.transfers c Release refl))
-
-      ungranted : is_granting (view (s.block n).service c) ≡ false
-      ungranted = released_ungranted r ((s.block n).pair c) (view (s.block n).service c) well releasing
-
       -- the block afterwards
       block_if : Bool → Block (List ℕ)
       block_if true = let_block c r (s.block n)
@@ -276,46 +253,6 @@ module _ {w : ℕ} (config : Config) (log : Log w) (h : AbstractState w) (sys : 
 
       pair : (let_block c r (s.block n)).pair c ≡ after_release_taken r ((s.block n).pair c)
       pair = set-same c (after_release_taken r ((s.block n).pair c)) (s.block n).pair
-
-      now : (z : Bool) → (released_if r z).block n ≡ block_if z
-      now true = set-same n (let_block c r (s.block n)) s.block
-      now false = refl
-
-      elsewhere : (z : Bool) (k : ℕ) → (k ≡ n → ⊥) → (released_if r z).block k ≡ s.block k
-      elsewhere true k ne = set-other n k (let_block c r (s.block n)) s.block ne
-      elsewhere false k ne = refl
-
-      uses : (z : Bool) (i : ℕ) → (released_if r z).uses c i ≡ s.uses c i
-      uses true i = refl
-      uses false i = refl
-
-      lets : (z : Bool) (i : ℕ) → (released_if r z).lets c i ≡ s.lets c i
-      lets true i = refl
-      lets false i = refl
-
-      tracked : (z : Bool) (i : ℕ) → (released_if r z).tracked i ≡ s.tracked i
-      tracked true i = refl
-      tracked false i = refl
-
-      held_is : (z : Bool) → held_by c ((released_if r z).block n) ≡ (if z then prune_right r else held_by c
-          (s.block n))
-      held_is true =
-          ap (held_by c) (now true) ∙ ap (λ (g : Bool). if g then ((let_block c r (s.block n)).pair c).held else
-          ((let_block c r (s.block n)).pair c).recorded)
-          ungranted ∙ ap (λ (p : ClientBlock). p.recorded) pair
-      held_is false = refl
-
-      service : (z : Bool) → (block_if z).service ≡ (s.block n).service
-      service true = refl
-      service false = refl
-
-      tracker : (z : Bool) → (block_if z).tracker ≡ (s.block n).tracker
-      tracker true = refl
-      tracker false = refl
-
-      release_source : (z : Bool) → (block_if z).release_source c ≡ (s.block n).release_source c
-      release_source true = refl
-      release_source false = refl
 
       acquiring : (z : Bool) → ((block_if z).pair c).acquiring ≡ ((s.block n).pair c).acquiring
       acquiring true = ap (λ (p : ClientBlock). p.acquiring) pair
@@ -325,55 +262,38 @@ module _ {w : ℕ} (config : Config) (log : Log w) (h : AbstractState w) (sys : 
       probing true = ap (λ (p : ClientBlock). p.probing) pair
       probing false = refl
 
-      letting_is : (z : Bool) → ((block_if z).pair c).letting ≡ letting_after z r
-      letting_is true = ap (λ (p : ClientBlock). p.letting) pair
-      letting_is false = releasing
-
   -- ---- a GrantAck
 
   pub own-grant_ack : (s.link c).e ≡ packet GrantAck n ∷ toks
       → (x : Beat w) (ms : List (Message w)) (queue : List (Beat w))
-      → IsNext x (unfinished_at sys c channel.E) (block_message GrantAck c n (s.block n)) ms queue
-      → AreRests x (unfinished_at sys c) rest'
-      → (asked' : ℕ → Option (BeatA w)) → ((i : ℕ) → asked' i ≡ before i)
+      → IsNext x (unfinished_at sys c Channel.E) (block_message GrantAck c n (s.block n)) ms queue
+      → AreRests x (unfinished_at sys c) rest' → (asked' : ℕ → Option (BeatA w)) → ((i : ℕ) → asked' i ≡ before i)
       → MonitorRelation asked' rest' c (grant_ack_taken c n toks s) (x ∷ t)
   own-grant_ack tokens x ms queue next rests asked' asks =
+      let y : BeatE = record { sink = (s.block n).tracker } in
+      let here : IsNext x (unfinished_at sys c Channel.E) (Message.E (record { sink = (s.block n).tracker })) ms queue =
+      subst (λ (i : Message w). IsNext x (unfinished_at sys c Channel.E) i ms queue) (ack_rendered c n (s.block n))
+      next in
+      let one = one-beat
+      here refl in
+      let x_is : x ≡ Beat.E y = here.beat_is in
       subst (λ (z : Beat w). MonitorRelation asked' rest' c (grant_ack_taken c n toks s) (z ∷ t)) (sym x_is)
-      (flowed-grant_ack c n toks y before asked' (unfinished_at sys c) rest' s t
-      (ap is_empty (flowed.rest_is channel.E ∙ one.1))
-      (ap (completes {w = w} (beat.E y)) (flowed.rest_is channel.E ∙ one.1))
+      (flowed-grant_ack n toks y asked' rest'
+      (ap is_empty (flowed.rest_is Channel.E ∙ one.1))
+      (ap (completes {w = w} (Beat.E y)) (flowed.rest_is Channel.E ∙ one.1))
       (subst (λ (z : Beat w). AreRests z (unfinished_at sys c) rest') x_is rests) asks refl seen is.invariant.named
       (busy_seen is_acknowledging refl (s.block n).service c shows)
       (λ k e. busy_seen is_acknowledging refl (s.block k).service c e)
-      (λ k e. busy_seen is_granting refl (s.block k).service c e) (coming-granting config log h.mail h.request h.state
-      sys c is)
-      (λ k. comes-same k before asked' (unfinished_at sys c channel.D) asks) flowed)
+      (λ k e. busy_seen is_granting refl (s.block k).service c e) (coming-granting
+      c is)
+      (λ k. comes-same k before asked' (unfinished_at sys c Channel.D) asks) flowed)
     where
-      y : BeatE
-      y = record { sink = (s.block n).tracker }
-
-      here : IsNext x (unfinished_at sys c channel.E) (message.E (record { sink = (s.block n).tracker })) ms queue
-      here = subst (λ (i : Message w). IsNext x (unfinished_at sys c channel.E) i ms queue)
-          (ack_rendered c n (s.block n)) next
-
-      one : (here.k ≡ 0) × (unfinished_at sys c channel.E ≡ []) × (completes x (unfinished_at sys c channel.E) ≡ true)
-      one = one-beat (message.E (record { sink = (s.block n).tracker })) x (unfinished_at sys c channel.E) ms queue here
-          refl
-
-      x_is : x ≡ beat.E y
-      x_is = here.beat_is
-
       shows : is_acknowledging (view (s.block n).service c) ≡ true
       shows = holds-first GrantAck (s.link c).e toks (packet GrantAck n) (λ i. shown GrantAck c (s.block i)) tokens refl
           (is.invariant.transfers c GrantAck refl)
 
       seen : view (s.block n).service c ≡ Acknowledging
-      seen = is_seen (view (s.block n).service c) shows
-        where
-          is_seen : (v : View) → is_acknowledging v ≡ true → v ≡ Acknowledging
-          is_seen Acknowledging e = refl
-          is_seen Idle e = absurd cc
-          is_seen Own e = absurd cc
-          is_seen (Other k) e = absurd cc
-          is_seen (Granting d k) e = absurd cc
-          is_seen GrantedOther e = absurd cc
+      seen =
+          let is_seen : (v : View) → is_acknowledging v ≡ true → v ≡ Acknowledging =
+          elim [ Acknowledging ↦ λ e. refl | v ↦ λ e. absurd cc ] in
+          is_seen (view (s.block n).service c) shows

@@ -1,45 +1,35 @@
 -- What is delivered on a link, as a beat of channel D is: of an answer, a Grant or a ReleaseAck.
 use Rattle.tl_coherence.proofs.flow.Imports.{Beat, BeatA, Channel, Message, MessageD, History, unfinished, is_empty}
-use Rattle.tl_coherence.proofs.flow.Imports.{completes, Config, Cap, comes_in_grant, is_grant, is_release_ack, asks_for}
+use Rattle.tl_coherence.proofs.flow.Imports.{completes, Config, Cap, comes_in_grant, is_grant, asks_for}
 use Rattle.tl_coherence.proofs.flow.Imports.{same_block, MonitorRelation, AbstractState, acquires_of, is_busy}
-use Rattle.tl_coherence.proofs.flow.Imports.{comes_granting, Log, ClientBlock, View, Granting, is_unprobed}
-use Rattle.tl_coherence.proofs.flow.Imports.{is_unreleased, after_release_ack, Block, State, SourceFree, Acquires}
-use Rattle.tl_coherence.proofs.flow.Imports.{packet, shown, view, is_granting, is_answered, is_wanting, taken_block}
-use Rattle.tl_coherence.proofs.flow.Imports.{let_go_block, release_ack_taken, block_message, System, Answer, Grant}
-use Rattle.tl_coherence.proofs.flow.Imports.{ReleaseAck, Packet, SimulationRelation, is_caching, asked_by}
-use Rattle.std.proofs.Common.{◌≡◌, subst, ℕ, Bool, true, false, not, ◌&&◌, List, [], ◌∷◌, Option, None, refl, sym, ◌∙◌}
+use Rattle.tl_coherence.proofs.flow.Imports.{comes_granting, Log, ClientBlock, Granting, is_unprobed, is_unreleased}
+use Rattle.tl_coherence.proofs.flow.Imports.{after_release_ack, Block, State, SourceFree, Acquires, packet, shown, view}
+use Rattle.tl_coherence.proofs.flow.Imports.{is_granting, is_answered, is_wanting, taken_block, let_go_block}
+use Rattle.tl_coherence.proofs.flow.Imports.{release_ack_taken, block_message, System, Answer, Grant, ReleaseAck}
+use Rattle.tl_coherence.proofs.flow.Imports.{Packet, SimulationRelation, is_caching, asked_by}
+use Rattle.std.proofs.Common.{◌≡◌, subst, ℕ, Bool, true, false, not, ◌&&◌, List, ◌∷◌, Option, None, refl, sym, ◌∙◌}
 use Rattle.std.proofs.Common.{ap, inl}
 use Rattle.std.specs.Prelude.{◌==◌, if◌then◌else◌}
 use Rattle.std.proofs.lemmas.Bool.{eqb-false, eqb-true, and_right as with_false}
-use Rattle.tl_beat.specs.declared.beat.Beat.TheVariants as beat
-use Rattle.tl_beat.specs.declared.channel.Channel.TheVariants as channel
-use Rattle.tl_burst.specs.declared.message.Message.TheVariants as message
 use Rattle.tl_burst.specs.statement.Burst.{d_beat_of}
 use Rattle.tl_params.specs.statement.Param.{cap_right}
-use Rattle.tl_manager.proofs.blocks.Recording.{cap-gives}
-use Rattle.tl_manager.proofs.services.Serving.{not_swapped}
+use Rattle.tl_manager.{proofs.blocks.Recording.cap-gives, proofs.services.Serving.not_swapped}
+use Rattle.tl_manager.{proofs.pending.Answered.no_ack_grant}
 use Rattle.tl_coherence.specs.protocol.PhaseSteps.{after_grant}
 use Rattle.tl_coherence.specs.protocol.Protocol.{answer_taken, grant_taken}
-use Rattle.tl_coherence.proofs.client.Aside.{set_at-else}
-use Rattle.tl_coherence.proofs.queues.Carried.{IsNext}
-use Rattle.tl_coherence.proofs.client.ClientDelivered.{ack_next}
-use Rattle.tl_coherence.proofs.client.ClientEnd.{asks-same, asks-acquire}
-use Rattle.tl_coherence.proofs.protocol.HeadOfD.{IsAnswerDue, answer-due, IsGrantDue, grant-rendered, grant_message}
+use Rattle.tl_coherence.proofs.{client.Aside.set_at-else, queues.Carried.IsNext, client.ClientDelivered.ack_next}
+use Rattle.tl_coherence.proofs.{client.ClientEnd.asks-same, client.ClientEnd.asks-acquire, queues.Facts.granting_alone}
+use Rattle.tl_coherence.proofs.{flow.FlowAlone.AreRests, flow.FlowAnswered.flowed-answer}
+use Rattle.tl_coherence.proofs.{flow.FlowAnswered.flowed-let_go, flow.FlowGranted.seen_after}
+use Rattle.tl_coherence.proofs.{flow.FlowGranted.flowed-grant, flow.FlowResponses.grant_quiet}
+use Rattle.tl_coherence.proofs.{flow.FlowResponses.grant_tracked, flow.FlowStep.held_by, queues.Phases.and_right}
+use Rattle.tl_coherence.proofs.{protocol.BothParts.acked-is, queues.Codes.access_kind, queues.Codes.grants-so}
+use Rattle.tl_coherence.proofs.{simulation.Popped.unfinished_at}
+use Rattle.tl_coherence.proofs.protocol.HeadOfD.{answer-due, IsGrantDue, grant-rendered, grant_message}
 use Rattle.tl_coherence.proofs.protocol.HeadOfD.{ack_message, own_view}
-use Rattle.tl_coherence.proofs.queues.Facts.{granting_alone}
-use Rattle.tl_coherence.proofs.flow.FlowAlone.{AreRests}
-use Rattle.tl_coherence.proofs.flow.FlowAnswered.{flowed-answer, flowed-let_go}
 use Rattle.tl_coherence.proofs.flow.FlowBeats.{came-so, comes-so, one-beat, set_at-if, same_perms, unused-else}
 use Rattle.tl_coherence.proofs.flow.FlowBeats.{first_false}
-use Rattle.tl_coherence.proofs.flow.FlowGranted.{seen_after, flowed-grant}
-use Rattle.tl_coherence.proofs.flow.FlowResponses.{grant_quiet, grant_tracked}
-use Rattle.tl_coherence.proofs.flow.FlowStep.{held_by}
-use Rattle.tl_coherence.proofs.queues.Phases.{and_right}
 use Rattle.tl_coherence.proofs.queues.Tokens.{same_number, set-same, set-other, holds-first}
-use Rattle.tl_coherence.proofs.protocol.BothParts.{acked-is}
-use Rattle.tl_coherence.proofs.queues.Codes.{access_kind, grants-so}
-use Rattle.tl_manager.proofs.pending.Answered.{no_ack_grant}
-use Rattle.tl_coherence.proofs.simulation.Popped.{unfinished_at}
 
 module _ {w : ℕ} (config : Config) (log : Log w) (h : AbstractState w) (sys : System w) (c : ℕ)
     (is : SimulationRelation config log h.mail h.request h.state sys)
@@ -55,64 +45,65 @@ module _ {w : ℕ} (config : Config) (log : Log w) (h : AbstractState w) (sys : 
   -- ---- a beat of channel D
 
   module _ (m : MessageD w) (x : Beat w) (ms : List (Message w)) (queue : List (Beat w))
-      (next : IsNext x (unfinished_at sys c channel.D) (message.D m) ms queue)
+      (next : IsNext x (unfinished_at sys c Channel.D) (Message.D m) ms queue)
       (rests : AreRests x (unfinished_at sys c) rest') (b : Bool)
-      (last : completes x (unfinished_at sys c channel.D) ≡ b) where
-    rests_y : AreRests (beat.D (d_beat_of m next.k)) (unfinished_at sys c) rest'
+      (last : completes x (unfinished_at sys c Channel.D) ≡ b) where
+    rests_y : AreRests (Beat.D (d_beat_of m next.k)) (unfinished_at sys c) rest'
     rests_y = subst (λ (z : Beat w). AreRests z (unfinished_at sys c) rest') next.beat_is rests
 
-    last_y : completes (beat.D (d_beat_of m next.k)) (unfinished_at sys c channel.D) ≡ b
-    last_y = sym (ap (λ (z : Beat w). completes z (unfinished_at sys c channel.D)) next.beat_is) ∙ last
+    last_y : completes (Beat.D (d_beat_of m next.k)) (unfinished_at sys c Channel.D) ≡ b
+    last_y = sym (ap (λ (z : Beat w). completes z (unfinished_at sys c Channel.D)) next.beat_is) ∙ last
 
-    next_y : IsNext (beat.D (d_beat_of m next.k)) (unfinished_at sys c channel.D) (message.D m) ms queue
-    next_y = subst (λ (z : Beat w). IsNext z (unfinished_at sys c channel.D) (message.D m) ms queue) next.beat_is next
+    next_y : IsNext (Beat.D (d_beat_of m next.k)) (unfinished_at sys c Channel.D) (Message.D m) ms queue
+    next_y = subst (λ (z : Beat w). IsNext z (unfinished_at sys c Channel.D) (Message.D m) ms queue) next.beat_is next
 
     -- what of a Grant with sink i was delivered, before and afterwards
-    came : (i : ℕ) → comes_in_grant i (unfinished_at sys c channel.D)
-        ≡ (not (is_empty (unfinished_at sys c channel.D)) && (is_grant m.opcode && (m.sink == i)))
-    came i = came-so (comes_in_grant i) (message.D m) (beat.D (d_beat_of m next.k)) (unfinished_at sys c channel.D) ms
-        queue (is_grant m.opcode && (m.sink == i)) next_y refl (λ j. refl)
+    came : (i : ℕ) → comes_in_grant i (unfinished_at sys c Channel.D)
+        ≡ (not (is_empty (unfinished_at sys c Channel.D)) && (is_grant m.opcode && (m.sink == i)))
+    came i = came-so (comes_in_grant i) (is_grant m.opcode && (m.sink == i)) next_y refl (λ j. refl)
 
-    comes : (i : ℕ) → comes_in_grant i (rest' channel.D) ≡ (not b && (is_grant m.opcode && (m.sink == i)))
-    comes i =
-        ap (comes_in_grant i) (rests_y channel.D) ∙ comes-so (comes_in_grant i) (beat.D (d_beat_of m next.k))
-        (unfinished_at sys c channel.D) (is_grant m.opcode && (m.sink == i)) refl refl
-        ∙ ap (λ (z : Bool). not z && (is_grant m.opcode && (m.sink == i))) last_y
+    comes : (i : ℕ) → comes_in_grant i (rest' Channel.D) ≡ (not b && (is_grant m.opcode && (m.sink == i)))
+    comes i = cc (
+      rests_y Channel.D,
+      comes-so (comes_in_grant i) (Beat.D (d_beat_of m next.k))
+          (unfinished_at sys c Channel.D) (is_grant m.opcode && (m.sink == i)) refl refl,
+      last_y,
+    )
 
     -- and of a Grant of block j
-    granted : (j : ℕ) → comes_granting j before (unfinished_at sys c channel.D)
-        ≡ (not (is_empty (unfinished_at sys c channel.D)) && (is_grant m.opcode && asks_for j (before m.source)))
-    granted j = came-so (comes_granting j before) (message.D m) (beat.D (d_beat_of m next.k))
-        (unfinished_at sys c channel.D) ms queue
+    granted : (j : ℕ) → comes_granting j before (unfinished_at sys c Channel.D)
+        ≡ (not (is_empty (unfinished_at sys c Channel.D)) && (is_grant m.opcode && asks_for j (before m.source)))
+    granted j = came-so (comes_granting j before)
         (is_grant m.opcode && asks_for j (before m.source)) next_y refl (λ i. refl)
 
     grants : (asked' : ℕ → Option (BeatA w)) (j : ℕ)
-        → comes_granting j asked' (rest' channel.D) ≡ (not b && (is_grant m.opcode && asks_for j (asked' m.source)))
-    grants asked' j =
-        ap (comes_granting j asked') (rests_y channel.D) ∙ comes-so (comes_granting j asked')
-        (beat.D (d_beat_of m next.k)) (unfinished_at sys c channel.D)
-        (is_grant m.opcode && asks_for j (asked' m.source)) refl refl
-        ∙ ap (λ (z : Bool). not z && (is_grant m.opcode && asks_for j (asked' m.source))) last_y
+        → comes_granting j asked' (rest' Channel.D) ≡ (not b && (is_grant m.opcode && asks_for j (asked' m.source)))
+    grants asked' j = cc (
+      rests_y Channel.D,
+      comes-so (comes_granting j asked') (Beat.D (d_beat_of m next.k))
+          (unfinished_at sys c Channel.D) (is_grant m.opcode && asks_for j (asked' m.source)) refl refl,
+      last_y,
+    )
 
-    begins_y : is_empty (unfinished channel.D t) ≡ is_empty (unfinished_at sys c channel.D)
-    begins_y = ap is_empty (flowed.rest_is channel.D)
+    begins_y : is_empty (unfinished Channel.D t) ≡ is_empty (unfinished_at sys c Channel.D)
+    begins_y = ap is_empty (flowed.rest_is Channel.D)
 
-    ends_y : completes (beat.D (d_beat_of m next.k)) (unfinished channel.D t) ≡ b
-    ends_y = ap (completes (beat.D (d_beat_of m next.k))) (flowed.rest_is channel.D) ∙ last_y
+    ends_y : completes (Beat.D (d_beat_of m next.k)) (unfinished Channel.D t) ≡ b
+    ends_y = ap (completes (Beat.D (d_beat_of m next.k))) (flowed.rest_is Channel.D) ∙ last_y
 
     -- nothing comes of a message that is no Grant
-    none_came : is_grant m.opcode ≡ false → (i : ℕ) → comes_in_grant i (rest' channel.D) ≡ comes_in_grant i
-        (unfinished_at sys c channel.D)
+    none_came : is_grant m.opcode ≡ false → (i : ℕ) → comes_in_grant i (rest' Channel.D) ≡ comes_in_grant i
+        (unfinished_at sys c Channel.D)
     none_came e i = comes i ∙ with_false (not b) (is_grant m.opcode && (m.sink == i))
         (first_false (is_grant m.opcode) (m.sink == i) e)
-        ∙ sym (came i ∙ with_false (not (is_empty (unfinished_at sys c channel.D))) (is_grant m.opcode && (m.sink == i))
+        ∙ sym (came i ∙ with_false (not (is_empty (unfinished_at sys c Channel.D))) (is_grant m.opcode && (m.sink == i))
         (first_false (is_grant m.opcode) (m.sink == i) e))
 
     none_granted : is_grant m.opcode ≡ false → (asked' : ℕ → Option (BeatA w)) (j : ℕ)
-        → comes_granting j asked' (rest' channel.D) ≡ comes_granting j before (unfinished_at sys c channel.D)
+        → comes_granting j asked' (rest' Channel.D) ≡ comes_granting j before (unfinished_at sys c Channel.D)
     none_granted e asked' j = grants asked' j ∙ with_false (not b) (is_grant m.opcode && asks_for j (asked' m.source))
         (first_false (is_grant m.opcode) (asks_for j (asked' m.source)) e)
-        ∙ sym (granted j ∙ with_false (not (is_empty (unfinished_at sys c channel.D)))
+        ∙ sym (granted j ∙ with_false (not (is_empty (unfinished_at sys c Channel.D)))
         (is_grant m.opcode && asks_for j (before m.source))
         (first_false (is_grant m.opcode) (asks_for j (before m.source)) e))
 
@@ -129,22 +120,30 @@ module _ {w : ℕ} (config : Config) (log : Log w) (h : AbstractState w) (sys : 
   answer_asks : (source : ℕ) (b : Bool) (i j : ℕ) → j ≡ source → (b && (j == i)) ≡ false
       → asked_by h.mail (answered_if source b) c i ≡ before i
   answer_asks source true i j e f = asks-same c i h.mail h.mail s (answer_taken c source toks s) refl
-      (inl (set_at-else c source i SourceFree s.uses (λ same. eqb-false source i (sym (ap (λ (k : ℕ). k == i) e) ∙ f) (sym same)) c))
-      (λ n used. refl) (λ n used. refl)
+      (inl (set_at-else c source i SourceFree s.uses (λ same. eqb-false source i (sym (ap (λ (k : ℕ). k == i) e) ∙ f)
+      (sym same)) c)) (λ n used. refl) (λ n used. refl)
   answer_asks source false i j e f = refl
 
   pub own-answer : (source : ℕ) → (s.link c).d ≡ packet Answer source ∷ toks
       → (x : Beat w) (ms : List (Message w)) (queue : List (Beat w))
-      → IsNext x (unfinished_at sys c channel.D) (h.mail.answer c source) ms queue
-      → AreRests x (unfinished_at sys c) rest'
-      → (b : Bool) → completes x (unfinished_at sys c channel.D) ≡ b
+      → IsNext x (unfinished_at sys c Channel.D) (h.mail.answer c source) ms queue
+      → AreRests x (unfinished_at sys c) rest' → (b : Bool) → completes x (unfinished_at sys c Channel.D) ≡ b
       → MonitorRelation (asked_by h.mail (answered_if source b) c) rest' c (answered_if source b) (x ∷ t)
   own-answer source tokens x ms queue next rests b last =
+      let blocks : (z : Bool) (k : ℕ) → (answered_if source z).block k ≡ s.block k =
+      elim [ true ↦ λ k. refl | false ↦ λ k. refl ] in
+      let lets : (z : Bool) (i : ℕ) → (answered_if source z).lets c i ≡ s.lets c i =
+      elim [ true ↦ λ i. refl | false ↦ λ i. refl ] in
+      let tracked : (z : Bool) (i : ℕ) → (answered_if source z).tracked i ≡ s.tracked i =
+      elim [ true ↦ λ i. refl | false ↦ λ i. refl ] in
+      let due = answer-due (is_caching config) c source toks h.mail s is.invariant (is.answered c source) tokens in
+      let here : IsNext x (unfinished_at sys c Channel.D) (Message.D due.answer) ms queue =
+      subst (λ (i : Message w). IsNext x (unfinished_at sys c Channel.D) i ms queue) due.answer_is next in
+      let kind = access_kind due.answer.opcode due.answers_access in
       subst (λ (z : Beat w). MonitorRelation (asked_by h.mail (answered_if source b) c) rest' c (answered_if source b)
       (z ∷ t)) (sym here.beat_is)
-      (flowed-answer c (d_beat_of due.answer here.k) (is_empty (unfinished_at sys c channel.D)) b before
-      (asked_by h.mail (answered_if source b) c)
-      (unfinished_at sys c) rest' s (answered_if source b) t (begins_y due.answer x ms queue here rests b last)
+      (flowed-answer (is_empty (unfinished_at sys c Channel.D))
+      (begins_y due.answer x ms queue here rests b last)
       (ends_y due.answer x ms queue here rests b last)
       (rests_y due.answer x ms queue here rests b last) (record {
         grant = kind.0;
@@ -157,40 +156,21 @@ module _ {w : ℕ} (config : Config) (log : Log w) (h : AbstractState w) (sys : 
         tracked = tracked b;
         asked_is = λ i e. answer_asks source b i due.answer.source due.from e;
       }) flowed)
-    where
-      due : IsAnswerDue c source h.mail s
-      due = answer-due (is_caching config) c source toks h.mail s is.invariant (is.answered c source) tokens
-
-      here : IsNext x (unfinished_at sys c channel.D) (message.D due.answer) ms queue
-      here = subst (λ (i : Message w). IsNext x (unfinished_at sys c channel.D) i ms queue) due.answer_is next
-
-      kind : (is_grant due.answer.opcode ≡ false) × (is_release_ack due.answer.opcode ≡ false)
-      kind = access_kind due.answer.opcode due.answers_access
-
-      blocks : (z : Bool) (k : ℕ) → (answered_if source z).block k ≡ s.block k
-      blocks true k = refl
-      blocks false k = refl
-
-      lets : (z : Bool) (i : ℕ) → (answered_if source z).lets c i ≡ s.lets c i
-      lets true i = refl
-      lets false i = refl
-
-      tracked : (z : Bool) (i : ℕ) → (answered_if source z).tracked i ≡ s.tracked i
-      tracked true i = refl
-      tracked false i = refl
 
   -- ---- a ReleaseAck
 
   pub own-release_ack : (n : ℕ) → (s.link c).d ≡ packet ReleaseAck n ∷ toks
       → (x : Beat w) (ms : List (Message w)) (queue : List (Beat w))
-      → IsNext x (unfinished_at sys c channel.D) (block_message ReleaseAck c n (s.block n)) ms queue
-      → AreRests x (unfinished_at sys c) rest'
-      → (asked' : ℕ → Option (BeatA w)) → ((i : ℕ) → asked' i ≡ before i)
+      → IsNext x (unfinished_at sys c Channel.D) (block_message ReleaseAck c n (s.block n)) ms queue
+      → AreRests x (unfinished_at sys c) rest' → (asked' : ℕ → Option (BeatA w)) → ((i : ℕ) → asked' i ≡ before i)
       → MonitorRelation asked' rest' c (release_ack_taken c n toks s) (x ∷ t)
   own-release_ack n tokens x ms queue next rests asked' asks =
+      let m : MessageD w = ack_message ((s.block n).release_source c) in
+      let here = ack_next c n s next in
+      let one = one-beat here refl in
+      let now : (release_ack_taken c n toks s).block n ≡ new = set-same n new s.block in
       subst (λ (z : Beat w). MonitorRelation asked' rest' c (release_ack_taken c n toks s) (z ∷ t)) (sym here.beat_is)
-      (flowed-let_go c n (d_beat_of m here.k) before asked' (unfinished_at sys c) rest' s (release_ack_taken c n toks s)
-      t
+      (flowed-let_go
       (begins_y m x ms queue here rests true one.2 ∙ ap is_empty one.1) (ends_y m x ms queue here rests true one.2)
       (rests_y m x ms queue here rests true one.2)
       (λ i k. is.invariant.named.releases c i k) (record {
@@ -215,20 +195,8 @@ module _ {w : ℕ} (config : Config) (log : Log w) (h : AbstractState w) (sys : 
         letting_is = ap (λ (z : Block (List ℕ)). (z.pair c).letting) now ∙ ap (λ (p : ClientBlock). p.letting) pair;
       }) flowed)
     where
-      m : MessageD w
-      m = ack_message ((s.block n).release_source c)
-
-      here : IsNext x (unfinished_at sys c channel.D) (message.D m) ms queue
-      here = ack_next c n s x (unfinished_at sys c channel.D) ms queue next
-
-      one : (here.k ≡ 0) × (unfinished_at sys c channel.D ≡ []) × (completes x (unfinished_at sys c channel.D) ≡ true)
-      one = one-beat (message.D m) x (unfinished_at sys c channel.D) ms queue here refl
-
       new : Block (List ℕ)
       new = let_go_block c (s.block n)
-
-      now : (release_ack_taken c n toks s).block n ≡ new
-      now = set-same n new s.block
 
       pair : new.pair c ≡ after_release_ack ((s.block n).pair c)
       pair = set-same c (after_release_ack ((s.block n).pair c)) (s.block n).pair
@@ -241,32 +209,65 @@ module _ {w : ℕ} (config : Config) (log : Log w) (h : AbstractState w) (sys : 
   grant_asks : (n : ℕ) (whole d : Bool) (k : Cap) (b : Bool) (i : ℕ) → (b && ((s.block n).source c == i)) ≡ false
       → asked_by h.mail (granted_if n whole d k b) c i ≡ before i
   grant_asks n whole d k false i e = refl
-  grant_asks n whole d k true i e =
-      asks-same c i h.mail h.mail s (grant_taken c n whole d k toks s) refl
-      (inl (set_at-else c ((s.block n).source c) i SourceFree s.uses (λ same. eqb-false ((s.block n).source c) i e (sym same)) c))
-      (λ j used. ap (λ (z : Block (List ℕ)). (z.pair c).acquiring) (set-other n j (taken_block c whole d k (s.block n))
-      s.block (apart j used)))
-      (λ j used. ap (λ (z : Block (List ℕ)). z.source c) (set-other n j (taken_block c whole d k (s.block n)) s.block
-      (apart j used)))
+  grant_asks n whole d k true i e = cc (asks-same c i h.mail h.mail s (grant_taken c n whole d k toks s) refl (inl
+      (set_at-else c ((s.block n).source c) i SourceFree s.uses (λ same. eqb-false ((s.block n).source c) i e (sym
+      same)) c)) (λ j used. ap (λ (z : Block (List ℕ)). (z.pair c).acquiring) (set-other n j (taken_block c whole d k
+      (s.block n)) s.block (apart j used))) (λ j used. ap (λ (z : Block (List ℕ)). z.source c) (set-other n j
+      (taken_block c whole d k (s.block n)) s.block (apart j used))))
     where
       apart : (j : ℕ) → s.uses c i ≡ Acquires j → j ≡ n → ⊥
       apart j used same =
-          let no : acquires_of n (Acquires n) ≡ false = sym (ap (acquires_of n) (used ∙ ap Acquires same)) ∙ unused-else
-          c n i s is.invariant.named e in
+          let no : acquires_of n (Acquires n) ≡ false = cc (used, same, unused-else c n i is.invariant.named e) in
           let yes : true ≡ false = sym (same_number n) ∙ no in cc
 
   pub own-grant : (n : ℕ) → (s.link c).d ≡ packet Grant n ∷ toks → (due : IsGrantDue c n s) → (whole : Bool)
       → (x : Beat w) (ms : List (Message w)) (queue : List (Beat w))
-      → IsNext x (unfinished_at sys c channel.D) (block_message Grant c n (s.block n)) ms queue
-      → AreRests x (unfinished_at sys c) rest'
-      → (b : Bool) → completes x (unfinished_at sys c channel.D) ≡ b
+      → IsNext x (unfinished_at sys c Channel.D) (block_message Grant c n (s.block n)) ms queue
+      → AreRests x (unfinished_at sys c) rest' → (b : Bool) → completes x (unfinished_at sys c Channel.D) ≡ b
       → MonitorRelation (asked_by h.mail (granted_if n whole due.data_too due.k b) c) rest' c
       (granted_if n whole due.data_too due.k b) (x ∷ t)
   own-grant n tokens due whole x ms queue next rests b last =
+      let seen : view (s.block n).service c ≡ Granting due.data_too due.k =
+      own_view c due.data_too due.k (s.block n).service due.service in
+      let even : ((s.block n).pair c).recorded ≡ cap_right due.k = sym (same_perms ((s.block n).pair c).recorded
+      (cap_right due.k) (and_right (is_unreleased ((s.block n).pair c).letting) _ (and_right (is_unprobed ((s.block
+      n).pair c).probing) _ (granting_alone due.data_too due.k ((s.block n).pair c) (view (s.block n).service c)
+      ((is.invariant.blocks n).phases c) seen)))) in
+      let asks : (j : ℕ) → asks_for j (before ((s.block n).source c)) ≡ (n == j) =
+      λ j. ap (asks_for j) (asks-acquire c ((s.block n).source c) n ((s.block n).source c) due.whole due.g h.mail s
+      due.used due.wants refl) ∙ ap (λ (i : ℕ). i == j) (same_block n) in
+      let asks_now : (z : Bool) (j : ℕ)
+      → (not z && (true && asks_for j (asked_by h.mail (s_if z) c ((s.block n).source c)))) ≡ (not z && (n == j)) =
+      elim [ true ↦ λ j. refl | false ↦ λ j. asks j ] in
+      -- the block afterwards
+      let block_if : Bool → Block (List ℕ) = elim [ true ↦ new | false ↦ s.block n ] in
+      let now : (z : Bool) → (s_if z).block n ≡ block_if z = elim [ true ↦ set-same n new s.block | false ↦ refl ] in
+      let elsewhere : (z : Bool) (k : ℕ) → (k ≡ n → ⊥) → (s_if z).block k ≡ s.block k =
+      elim [ true ↦ λ k ne. set-other n k new s.block ne | false ↦ λ k ne. refl ] in
+      let lets : (z : Bool) (i : ℕ) → (s_if z).lets c i ≡ s.lets c i = elim [ true ↦ λ i. refl | false ↦ λ i. refl ] in
+      let tracked : (z : Bool) (i : ℕ) → (s_if z).tracked i ≡ s.tracked i =
+      elim [ true ↦ λ i. refl | false ↦ λ i. refl ] in
+      let seen_is : (z : Bool) → view (block_if z).service c ≡ seen_after z due.data_too due.k =
+      elim [ true ↦ rw (same_number c) refl | false ↦ seen ] in
+      let held_is : (z : Bool) → held_by c ((s_if z).block n) ≡ (if z then cap_right due.k else held_by c (s.block n)) =
+      elim [ true ↦ cc (now true, seen_is true, pair, even) | false ↦ refl ] in
+      let wants_is : (z : Bool) → is_wanting ((block_if z).pair c).acquiring ≡ not z =
+      elim [ true ↦ ap (λ (p : ClientBlock). is_wanting p.acquiring) pair | false ↦ ap is_wanting due.wants ] in
+      let letting_is : (z : Bool) → ((block_if z).pair c).letting ≡ ((s.block n).pair c).letting =
+      elim [ true ↦ ap (λ (p : ClientBlock). p.letting) pair | false ↦ refl ] in
+      let release_source : (z : Bool) → (block_if z).release_source c ≡ (s.block n).release_source c =
+      elim [ true ↦ refl | false ↦ refl ] in
+      let tracker : (z : Bool) → (block_if z).tracker ≡ (s.block n).tracker = elim [ true ↦ refl | false ↦ refl ] in
+      let answered : (z : Bool) → is_answered ((block_if z).pair c).probing ≡ is_answered ((s.block n).pair c).probing =
+      elim [ true ↦ ap (λ (p : ClientBlock). is_answered p.probing) pair | false ↦ refl ] in
+      let m : MessageD w = grant_message due.data_too due.k ((s.block n).source c) (s.block n).tracker (s.block n).truth
+      in
+      let here : IsNext x (unfinished_at sys c Channel.D) (Message.D m) ms queue =
+      subst (λ (i : Message w). IsNext x (unfinished_at sys c Channel.D) i ms queue) (grant-rendered c n s due) next
+      in
       subst (λ (z : Beat w). MonitorRelation (asked_by h.mail (s_if b) c) rest' c (s_if b) (z ∷ t)) (sym here.beat_is)
-      (flowed-grant c n due.data_too due.k (d_beat_of m here.k) (is_empty (unfinished_at sys c channel.D)) b before
-      (asked_by h.mail (s_if b) c)
-      (unfinished_at sys c) rest' s (s_if b) t (begins_y m x ms queue here rests b last)
+      (flowed-grant
+      (begins_y m x ms queue here rests b last)
       (ends_y m x ms queue here rests b last)
       (rests_y m x ms queue here rests b last) (record {
         grant = grants-so due.data_too;
@@ -275,26 +276,21 @@ module _ {w : ℕ} (config : Config) (log : Log w) (h : AbstractState w) (sys : 
         says = cap-gives due.k;
         seen = seen;
         wants = ap is_wanting due.wants;
-        quiet = grant_quiet (is_caching config) c n s is.invariant due;
+        quiet = grant_quiet is.invariant due;
         use_is = λ i e. ap (s.uses c) (sym (eqb-true ((s.block n).source c) i e)) ∙ due.used;
-        no_use = λ i e. unused-else c n i s is.invariant.named e;
-        tracks = λ i e. ap s.tracked (sym (eqb-true (s.block n).tracker i e)) ∙ grant_tracked (is_caching config) c n s
-            is.invariant due;
+        no_use = λ i e. unused-else c n i is.invariant.named e;
+        tracks = λ i e. cc (eqb-true (s.block n).tracker i e, grant_tracked is.invariant due);
         tracks_not = λ i e. is.invariant.named.trackers i n ∙ with_false (is_busy (s.block n).service)
             (i == (s.block n).tracker) (not_swapped (s.block n).tracker i e);
         asks = asks;
-        came = λ i. came m x ms queue here rests b last i ∙ ap
-            (λ (z : Bool). not (is_empty (unfinished_at sys c channel.D)) && (z && ((s.block n).tracker == i)))
-            (grants-so due.data_too);
-        comes = λ i. comes m x ms queue here rests b last i ∙ ap
-            (λ (z : Bool). not b && (z && ((s.block n).tracker == i))) (grants-so due.data_too);
-        granted = λ j. granted m x ms queue here rests b last j
-            ∙ ap (λ (z : Bool). not (is_empty (unfinished_at sys c channel.D))
-            && (z && asks_for j (before ((s.block n).source c)))) (grants-so due.data_too)
-            ∙ ap (λ (z : Bool). not (is_empty (unfinished_at sys c channel.D)) && z) (asks j);
-        grants = λ j. grants m x ms queue here rests b last (asked_by h.mail (s_if b) c) j
-            ∙ ap (λ (z : Bool). not b && (z && asks_for j (asked_by h.mail (s_if b) c ((s.block n).source c))))
-            (grants-so due.data_too) ∙ asks_now b j;
+        came = λ i. cc (came m x ms queue here rests b last i, grants-so due.data_too);
+        comes = λ i. cc (comes m x ms queue here rests b last i, grants-so due.data_too);
+        granted = λ j. cc (granted m x ms queue here rests b last j, grants-so due.data_too, asks j);
+        grants = λ j. cc (
+          grants m x ms queue here rests b last (asked_by h.mail (s_if b) c) j,
+          grants-so due.data_too,
+          asks_now b j,
+        );
         asked_is = grant_asks n whole due.data_too due.k b;
         elsewhere = elsewhere b;
         uses = uses b;
@@ -309,13 +305,6 @@ module _ {w : ℕ} (config : Config) (log : Log w) (h : AbstractState w) (sys : 
         answered = ap (λ (z : Block (List ℕ)). is_answered (z.pair c).probing) (now b) ∙ answered b;
       }) flowed)
     where
-      m : MessageD w
-      m = grant_message due.data_too due.k ((s.block n).source c) (s.block n).tracker (s.block n).truth
-
-      here : IsNext x (unfinished_at sys c channel.D) (message.D m) ms queue
-      here = subst (λ (i : Message w). IsNext x (unfinished_at sys c channel.D) i ms queue) (grant-rendered c n s due)
-          next
-
       s_if : Bool → State (List ℕ)
       s_if z = granted_if n whole due.data_too due.k z
 
@@ -325,76 +314,7 @@ module _ {w : ℕ} (config : Config) (log : Log w) (h : AbstractState w) (sys : 
       pair : new.pair c ≡ after_grant due.k ((s.block n).pair c)
       pair = set-same c (after_grant due.k ((s.block n).pair c)) (s.block n).pair
 
-      seen : view (s.block n).service c ≡ Granting due.data_too due.k
-      seen = own_view c due.data_too due.k (s.block n).service due.service
-
-      even : ((s.block n).pair c).recorded ≡ cap_right due.k
-      even = sym (same_perms ((s.block n).pair c).recorded (cap_right due.k)
-          (and_right (is_unreleased ((s.block n).pair c).letting) _
-          (and_right (is_unprobed ((s.block n).pair c).probing) _
-          (granting_alone due.data_too due.k ((s.block n).pair c) (view (s.block n).service c)
-          ((is.invariant.blocks n).phases c) seen))))
-
-      asks : (j : ℕ) → asks_for j (before ((s.block n).source c)) ≡ (n == j)
-      asks j = ap (asks_for j) (asks-acquire c ((s.block n).source c) n ((s.block n).source c) due.whole due.g h.mail s
-          due.used due.wants refl) ∙ ap (λ (i : ℕ). i == j) (same_block n)
-
-      asks_now : (z : Bool) (j : ℕ)
-          → (not z && (true && asks_for j (asked_by h.mail (s_if z) c ((s.block n).source c)))) ≡ (not z && (n == j))
-      asks_now true j = refl
-      asks_now false j = asks j
-
-      -- the block afterwards
-      block_if : Bool → Block (List ℕ)
-      block_if true = new
-      block_if false = s.block n
-
-      now : (z : Bool) → (s_if z).block n ≡ block_if z
-      now true = set-same n new s.block
-      now false = refl
-
-      elsewhere : (z : Bool) (k : ℕ) → (k ≡ n → ⊥) → (s_if z).block k ≡ s.block k
-      elsewhere true k ne = set-other n k new s.block ne
-      elsewhere false k ne = refl
-
       uses : (z : Bool) (i : ℕ)
           → (s_if z).uses c i ≡ (if z && ((s.block n).source c == i) then SourceFree else s.uses c i)
       uses true i = set_at-if c ((s.block n).source c) i SourceFree s.uses ((s.block n).source c) refl
       uses false i = refl
-
-      lets : (z : Bool) (i : ℕ) → (s_if z).lets c i ≡ s.lets c i
-      lets true i = refl
-      lets false i = refl
-
-      tracked : (z : Bool) (i : ℕ) → (s_if z).tracked i ≡ s.tracked i
-      tracked true i = refl
-      tracked false i = refl
-
-      seen_is : (z : Bool) → view (block_if z).service c ≡ seen_after z due.data_too due.k
-      seen_is true = rw (same_number c) refl
-      seen_is false = seen
-
-      held_is : (z : Bool) → held_by c ((s_if z).block n) ≡ (if z then cap_right due.k else held_by c (s.block n))
-      held_is true = ap (held_by c) (now true) ∙ ap (λ (v : View). if is_granting v then (new.pair c).held else
-          (new.pair c).recorded) (seen_is true) ∙ ap (λ (p : ClientBlock). p.recorded) pair ∙ even
-      held_is false = refl
-
-      wants_is : (z : Bool) → is_wanting ((block_if z).pair c).acquiring ≡ not z
-      wants_is true = ap (λ (p : ClientBlock). is_wanting p.acquiring) pair
-      wants_is false = ap is_wanting due.wants
-
-      letting_is : (z : Bool) → ((block_if z).pair c).letting ≡ ((s.block n).pair c).letting
-      letting_is true = ap (λ (p : ClientBlock). p.letting) pair
-      letting_is false = refl
-
-      release_source : (z : Bool) → (block_if z).release_source c ≡ (s.block n).release_source c
-      release_source true = refl
-      release_source false = refl
-
-      tracker : (z : Bool) → (block_if z).tracker ≡ (s.block n).tracker
-      tracker true = refl
-      tracker false = refl
-
-      answered : (z : Bool) → is_answered ((block_if z).pair c).probing ≡ is_answered ((s.block n).pair c).probing
-      answered true = ap (λ (p : ClientBlock). is_answered p.probing) pair
-      answered false = refl

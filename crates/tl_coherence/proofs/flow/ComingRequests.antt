@@ -1,28 +1,16 @@
 -- What is half taken on channel A while a response is on its way.
-use Rattle.tl_coherence.proofs.flow.Imports.{Beat, Message, MessageA}
-use Rattle.tl_coherence.proofs.flow.Imports.{begun, unfinished, Config}
-use Rattle.tl_coherence.proofs.flow.Imports.{on_link, comes_in_request}
-use Rattle.tl_coherence.proofs.flow.Imports.{IsCarried}
-use Rattle.tl_coherence.proofs.flow.Imports.{Log}
-use Rattle.tl_coherence.proofs.flow.Imports.{State, SourceState, Asked, Acquires, view, packet, shown}
-use Rattle.tl_coherence.proofs.flow.Imports.{is_on, is_unserved, is_wanting, AccessMessages}
+use Rattle.tl_coherence.proofs.flow.Imports.{Beat, Message, MessageA, begun, unfinished, Config, on_link}
+use Rattle.tl_coherence.proofs.flow.Imports.{comes_in_request, IsCarried, Log, State, SourceState, Asked, Acquires}
+use Rattle.tl_coherence.proofs.flow.Imports.{view, packet, shown, is_on, is_unserved, is_wanting, AccessMessages}
 use Rattle.tl_coherence.proofs.flow.Imports.{block_message, message_of, message_of_kind, System, Kind, Request, Acquire}
-use Rattle.tl_coherence.proofs.flow.Imports.{Probe, ProbeAck, Release, Answer, Grant, ReleaseAck, GrantAck, Packet}
-use Rattle.tl_coherence.proofs.flow.Imports.{SimulationRelation, is_caching}
-use Rattle.std.proofs.Common.{◌≡◌, subst, ℕ, zero, suc, Bool, true, false, ◌&&◌, List, [], ◌∷◌}
-use Rattle.std.proofs.Common.{refl, sym, ◌∙◌, ap}
-use Rattle.std.specs.Prelude.{◌==◌, map}
-use Rattle.std.proofs.lemmas.Bool.{eqb-true}
-use Rattle.tl_beat.specs.declared.channel.Channel.TheVariants as channel
-use Rattle.tl_burst.specs.declared.message.Message.TheVariants as message
+use Rattle.tl_coherence.proofs.flow.Imports.{Packet, SimulationRelation, is_caching, Channel}
+use Rattle.std.proofs.Common.{◌≡◌, subst, ℕ, zero, suc, Bool, true, false, List, [], ◌∷◌, refl, sym, ◌∙◌, ap}
+use Rattle.std.{specs.Prelude.◌==◌, specs.Prelude.map, proofs.lemmas.Bool.eqb-true}
 use Rattle.tl_client.specs.statement.Send.{acquisition}
 use Rattle.tl_coherence.specs.refinement.AbstractStep.{acquire_opcode}
-use Rattle.tl_coherence.proofs.protocol.HeadOfD.{acquire-used}
-use Rattle.tl_coherence.proofs.queues.FirstToken.{own_kind}
-use Rattle.tl_coherence.proofs.protocol.Heads.{asked-first, rendered-acquire}
-use Rattle.tl_coherence.proofs.queues.Phases.{and_left, and_right}
-use Rattle.tl_coherence.proofs.queues.Tokens.{holds-first}
-use Rattle.tl_coherence.proofs.protocol.BothParts.{wanting-is}
+use Rattle.tl_coherence.proofs.{protocol.HeadOfD.acquire-used, queues.FirstToken.own_kind, protocol.Heads.asked-first}
+use Rattle.tl_coherence.proofs.{protocol.Heads.rendered-acquire, queues.Phases.and_left, queues.Phases.and_right}
+use Rattle.tl_coherence.proofs.{queues.Tokens.holds-first, protocol.BothParts.wanting-is}
 
 -- ---- what is half taken on channel A
 
@@ -34,29 +22,28 @@ waits_on_a c _ s = false
 
 -- the message is a request whose source waits there
 IsWaiting : {w : ℕ} → ℕ → State (List ℕ) → Message w → Type 0
-IsWaiting {w} c s m = (r : MessageA w) × (m ≡ message.A r) × (waits_on_a c (s.uses c r.source) s ≡ true)
+IsWaiting {w} c s m = (r : MessageA w) × (m ≡ Message.A r) × (waits_on_a c (s.uses c r.source) s ≡ true)
 
-waiting_request : {w : ℕ} (config : Config) (log : Log w) (mail : AccessMessages w) (request : ℕ → MessageA w)
-    (s : State (List ℕ)) (sys : System w) (c i : ℕ)
+waiting_request : {w : ℕ} {config : Config} {log : Log w} {mail : AccessMessages w} {request : ℕ → MessageA w}
+    {s : State (List ℕ)} {sys : System w} (c i : ℕ)
     (rest : List Packet) → SimulationRelation config log mail request s sys
     → (s.link c).a ≡ packet Request i ∷ rest → IsWaiting c s (mail.request c i)
 unfolding IsWaiting
-waiting_request config log mail request s sys c i rest h first =
-    let asked = asked-first config log mail request s sys c i rest h first in (
+waiting_request {config} {log} {mail} {request} {s} {sys} c i rest h first =
+    let asked = asked-first c i rest h first in (
       asked.request,
       asked.is_it,
       ap (λ (j : ℕ). waits_on_a c (s.uses c j) s) asked.source_is ∙ ap
           (λ (u : SourceState). waits_on_a c u s) asked.used,
     )
 
-waiting_acquire : {w : ℕ} (config : Config) (log : Log w) (mail : AccessMessages w) (request : ℕ → MessageA w)
-    (s : State (List ℕ)) (sys : System w) (c n : ℕ)
+waiting_acquire : {w : ℕ} {config : Config} {log : Log w} {mail : AccessMessages w} {request : ℕ → MessageA w}
+    {s : State (List ℕ)} {sys : System w} (c n : ℕ)
     (rest : List Packet) → SimulationRelation config log mail request s sys
     → (s.link c).a ≡ packet Acquire n ∷ rest → IsWaiting {w = w} c s (block_message Acquire c n (s.block n))
 unfolding IsWaiting
-waiting_acquire {w} config log mail request s sys c n rest h first =
-    let shows : (is_wanting ((s.block n).pair c).acquiring && is_unserved (view (s.block n).service c)) ≡ true =
-    holds-first Acquire (s.link c).a rest (packet Acquire n) (λ i. shown Acquire c (s.block i)) first refl
+waiting_acquire {w} {config} {s} c n rest h first =
+    let shows = holds-first Acquire (s.link c).a rest (packet Acquire n) (λ i. shown Acquire c (s.block i)) first refl
     (h.invariant.transfers c Acquire refl) in
     let wants = and_left (is_wanting ((s.block n).pair c).acquiring) (is_unserved (view (s.block n).service c)) shows in
     let asks = wanting-is ((s.block n).pair c).acquiring wants in (
@@ -71,51 +58,44 @@ comes_not : {w : ℕ} (c source : ℕ) (s : State (List ℕ)) (m : Message w) (k
     → waits_on_a c (s.uses c source) s ≡ false → comes_in_request source rest ≡ false
 unfolding IsWaiting
 comes_not {w} c source s m k rest e is none =
-    ap (comes_in_request source) e ∙ ap (λ (y : Message w). comes_in_request source (begun y k)) is.1 ∙ go k
+    let go : (i : ℕ) → comes_in_request source (begun (Message.A is.0) i) ≡ false =
+    elim [ zero ↦ refl | suc i ↦ differ (is.0.source == source) refl ] in
+    cc (e, is.1, go k)
   where
     differ : (b : Bool) → (is.0.source == source) ≡ b → b ≡ false
     differ false f = refl
     differ true f = absurd (let no : true ≡ false = sym is.2 ∙ ap (λ (j : ℕ). waits_on_a c (s.uses c j) s)
         (eqb-true is.0.source source f) ∙ none in cc)
 
-    go : (i : ℕ) → comes_in_request source (begun (message.A is.0) i) ≡ false
-    go zero = refl
-    go (suc i) = differ (is.0.source == source) refl
-
 -- no request is half taken whose source waits for an answer
-pub not-coming_a : {w : ℕ} (config : Config) (log : Log w) (mail : AccessMessages w) (request : ℕ → MessageA w)
-    (s : State (List ℕ)) (sys : System w) (c source : ℕ)
+pub not-coming_a : {w : ℕ} {config : Config} {log : Log w} {mail : AccessMessages w} {request : ℕ → MessageA w}
+    {s : State (List ℕ)} {sys : System w} (c source : ℕ)
     → SimulationRelation config log mail request s sys → waits_on_a c (s.uses c source) s ≡ false
-    → comes_in_request source (unfinished channel.A (on_link c sys.manager.trace)) ≡ false
-not-coming_a {w} config log mail request s sys c source h none = go (s.link c).a refl (h.carried c channel.A)
+    → comes_in_request source (unfinished Channel.A (on_link c sys.manager.trace)) ≡ false
+not-coming_a {w} {config} {log} {mail} {request} {s} {sys} c source h none =
+    go (s.link c).a refl (h.carried c Channel.A)
   where
     rest_now : List (Beat w)
-    rest_now = unfinished channel.A (on_link c sys.manager.trace)
+    rest_now = unfinished Channel.A (on_link c sys.manager.trace)
 
-    each : (k : Kind) (i : ℕ) (rest : List Packet) → (s.link c).a ≡ packet k i ∷ rest → is_on channel.A k ≡ true
+    each : (k : Kind) (i : ℕ) (rest : List Packet) → (s.link c).a ≡ packet k i ∷ rest → is_on Channel.A k ≡ true
         → IsWaiting c s (message_of_kind k mail s c i)
-    each Request i rest first own = waiting_request config log mail request s sys c i rest h first
-    each Acquire i rest first own = waiting_acquire config log mail request s sys c i rest h first
-    each Probe i rest first own = absurd cc
-    each ProbeAck i rest first own = absurd cc
-    each Release i rest first own = absurd cc
-    each Answer i rest first own = absurd cc
-    each Grant i rest first own = absurd cc
-    each ReleaseAck i rest first own = absurd cc
-    each GrantAck i rest first own = absurd cc
+    each Request i rest first own = waiting_request c i rest h first
+    each Acquire i rest first own = waiting_acquire c i rest h first
+    each k i rest first own = absurd cc
 
     go : (xs : List Packet) → (s.link c).a ≡ xs → IsCarried rest_now (map (message_of mail s c) (s.link c).a)
-        (sys.channels c channel.A) → comes_in_request source rest_now ≡ false
+        (sys.channels c Channel.A) → comes_in_request source rest_now ≡ false
     go [] first carried =
-        let nothing : IsCarried rest_now [] (sys.channels c channel.A) =
-        subst (λ (ms : List (Message w)). IsCarried rest_now ms (sys.channels c channel.A))
+        let nothing : IsCarried rest_now [] (sys.channels c Channel.A) =
+        subst (λ (ms : List (Message w)). IsCarried rest_now ms (sys.channels c Channel.A))
         (ap (map (message_of mail s c)) first) carried in
         ap (comes_in_request source) nothing.0
     go (x ∷ xs) first carried =
         let some : IsCarried rest_now (message_of mail s c x ∷ map (message_of mail s c) xs)
-        (sys.channels c channel.A) =
-        subst (λ (ms : List (Message w)). IsCarried rest_now ms (sys.channels c channel.A))
+        (sys.channels c Channel.A) =
+        subst (λ (ms : List (Message w)). IsCarried rest_now ms (sys.channels c Channel.A))
         (ap (map (message_of mail s c)) first) carried in
         comes_not c source s (message_of mail s c x) some.0 rest_now some.2
-        (each x.kind x.number xs first (own_kind (is_caching config) s c channel.A x.kind x.number xs h.invariant
+        (each x.kind x.number xs first (own_kind (is_caching config) s c Channel.A x.kind x.number xs h.invariant
         first)) none

@@ -1,44 +1,34 @@
 -- What is delivered on a link, as a beat of an access is.
-use Rattle.tl_coherence.proofs.flow.Imports.{Beat, BeatA, Channel, History, Perm, comes_in_request, comes_in_grant}
-use Rattle.tl_coherence.proofs.flow.Imports.{begins, ends, block_at, is_acquire, request_of, release_of}
-use Rattle.tl_coherence.proofs.flow.Imports.{MonitorRelation, is_requested, is_let_by, is_sunk, Block, State}
-use Rattle.tl_coherence.proofs.flow.Imports.{SourceState, SourceFree, Asked, InService, Replied, Acquires, view}
-use Rattle.tl_coherence.proofs.flow.Imports.{is_granting, is_acknowledging, is_answered, is_unserved, probe_beat}
-use Rattle.tl_coherence.proofs.flow.Imports.{cap_waited}
-use Rattle.std.proofs.Common.{◌≡◌, ℕ, Bool, true, false, not, ◌&&◌, ◌||◌, ◌∷◌, Option, Some, None, refl, sym, ◌∙◌, ap}
-use Rattle.std.proofs.Common.{List}
-use Rattle.std.proofs.lemmas.Bool.{and_right}
-use Rattle.std.specs.Prelude.{◌==◌, if◌then◌else◌, option_map}
-use Rattle.tl_beat.specs.declared.beat.Beat.TheVariants as beat
-use Rattle.tl_beat.specs.declared.channel.Channel.TheVariants as channel
-use Rattle.tl_coherence.proofs.flow.FlowAlone.{AreRests}
-use Rattle.tl_coherence.proofs.flow.FlowAside.{let_by-same}
-use Rattle.tl_coherence.proofs.flow.FlowGranted.{begun, unbegun}
-use Rattle.tl_coherence.proofs.flow.FlowReleased.{with_true}
+use Rattle.tl_coherence.proofs.flow.Imports.{Beat, BeatA, Channel, History, Perm, comes_in_request, begins, ends}
+use Rattle.tl_coherence.proofs.flow.Imports.{block_at, is_acquire, request_of, release_of, MonitorRelation}
+use Rattle.tl_coherence.proofs.flow.Imports.{is_requested, is_let_by, is_sunk, Block, State, SourceState, SourceFree}
+use Rattle.tl_coherence.proofs.flow.Imports.{Asked, InService, Replied, Acquires, is_answered, probe_beat, cap_waited}
+use Rattle.std.proofs.Common.{◌≡◌, ℕ, Bool, true, false, not, ◌&&◌, ◌∷◌, Option, Some, None, refl, sym, ◌∙◌, ap, List}
+use Rattle.std.{proofs.lemmas.Bool.and_right, specs.Prelude.◌==◌, specs.Prelude.if◌then◌else◌, specs.Prelude.option_map}
+use Rattle.tl_coherence.proofs.{flow.FlowAlone.AreRests, flow.FlowAside.let_by-same, flow.FlowGranted.begun}
+use Rattle.tl_coherence.proofs.{flow.FlowGranted.unbegun, flow.FlowReleased.with_true, flow.FlowReport.unopened}
 use Rattle.tl_coherence.proofs.flow.FlowStep.{flowed-next, held_by, acquired_by, let_of, granted_by, step, step_quiet}
-use Rattle.tl_coherence.proofs.flow.FlowReport.{unopened}
 use Rattle.tl_manager.proofs.pending.Accepted.{probe_of-a, grant_sink-a}
 
-pub released-of : {w : ℕ} (i : ℕ) (y : BeatA w) (t : History w) → release_of i (beat.A y ∷ t) ≡ release_of i t
+pub released-of : {w : ℕ} (i : ℕ) (y : BeatA w) (t : History w) → release_of i (Beat.A y ∷ t) ≡ release_of i t
 unfolding release_of
 released-of i y t = refl
 
 -- the last request with the source of the beat, and with another one
 pub of_source : {w : ℕ} (i : ℕ) (y : BeatA w) (t : History w) (first : Bool) (o : Option (BeatA w))
-    → begins (beat.A y) t ≡ first → (y.source == i) ≡ true
-    → (first ≡ true → o ≡ Some y) → (first ≡ false → request_of i t ≡ o) → request_of i (beat.A y ∷ t) ≡ o
+    → begins (Beat.A y) t ≡ first → (y.source == i) ≡ true
+    → (first ≡ true → o ≡ Some y) → (first ≡ false → request_of i t ≡ o) → request_of i (Beat.A y ∷ t) ≡ o
 unfolding request_of
 of_source i y t true o e f g before = rw (e, f) (sym (g refl))
 of_source i y t false o e f g before = rw e (before refl)
 
 pub of_other : {w : ℕ} (i : ℕ) (y : BeatA w) (t : History w) → (y.source == i) ≡ false
-    → request_of i (beat.A y ∷ t) ≡ request_of i t
+    → request_of i (Beat.A y ∷ t) ≡ request_of i t
 unfolding request_of
-of_other {w} i y t e = go (begins (beat.A y) t) (y.source == i) e
-  where
-    go : (p q : Bool) → q ≡ false → (if p && q then Some y else request_of i t) ≡ request_of i t
-    go true q f = rw f refl
-    go false q f = refl
+of_other {w} i y t e =
+    let go : (p q : Bool) → q ≡ false → (if p && q then Some y else request_of i t) ≡ request_of i t =
+    elim [ true ↦ λ q f. rw f refl | false ↦ λ q f. refl ] in
+    go (begins (Beat.A y) t) (y.source == i) e
 
 unsaid : (last : Bool) (p : Perm) → (if last then p else p) ≡ p
 unsaid true p = refl
@@ -50,8 +40,8 @@ pub record IsAccess {w : ℕ} {X : Type 0} (c : ℕ) (y : BeatA w) (first last :
   pub access : is_acquire y.opcode ≡ false
   pub use_is : (i : ℕ) → (y.source == i) ≡ true → s.uses c i ≡ Asked
   pub asked_is : (i : ℕ) → (y.source == i) ≡ true → first ≡ true → asked i ≡ Some y
-  pub came : (i : ℕ) → comes_in_request i (rest channel.A) ≡ (not first && (y.source == i))
-  pub comes : (i : ℕ) → comes_in_request i (rest' channel.A) ≡ (not last && (y.source == i))
+  pub came : (i : ℕ) → comes_in_request i (rest Channel.A) ≡ (not first && (y.source == i))
+  pub comes : (i : ℕ) → comes_in_request i (rest' Channel.A) ≡ (not last && (y.source == i))
   pub blocks : (m : ℕ) → s'.block m ≡ s.block m
   pub uses : (i : ℕ) → s'.uses c i ≡ (if last && (y.source == i) then Replied else s.uses c i)
   pub lets : (i : ℕ) → s'.lets c i ≡ s.lets c i
@@ -64,16 +54,18 @@ requested-rest c i rest rest' SourceFree s s' same e = refl
 requested-rest c i rest rest' Asked s s' same e = e
 requested-rest c i rest rest' (InService m) s s' same e = refl
 requested-rest c i rest rest' Replied s s' same e = refl
-requested-rest {w} {X} c i rest rest' (Acquires m) s s' same e =
-    ap (λ (z : Block X). not (is_unserved (view z.service c))) (same m)
+requested-rest {w} {X} c i rest rest' (Acquires m) s s' same e = cc (same m)
 
-pub flowed-access : {w : ℕ} {X : Type 0} (c : ℕ) (y : BeatA w) (first last : Bool) (asked : ℕ → Option (BeatA w))
-    (rest rest' : Channel → List (Beat w)) (s s' : State X) (t : History w)
-    → begins (beat.A y) t ≡ first → ends (beat.A y) t ≡ last → AreRests (beat.A y) rest rest'
-    → IsAccess c y first last asked rest rest' s s'
-    → MonitorRelation asked rest c s t → MonitorRelation asked rest' c s' (beat.A y ∷ t)
-flowed-access {w} {X} c y first last asked rest rest' s s' t first_is last_is rests is before =
-    flowed-next (beat.A y) first last asked asked rest rest' c s s' t (record {
+pub flowed-access : {w : ℕ} {X : Type 0} {c : ℕ} {y : BeatA w} {first last : Bool} {asked : ℕ → Option (BeatA w)}
+    {rest rest' : Channel → List (Beat w)} {s s' : State X} {t : History w} → begins (Beat.A y) t ≡ first
+    → ends (Beat.A y) t ≡ last → AreRests (Beat.A y) rest rest' → IsAccess c y first last asked rest rest' s s'
+    → MonitorRelation asked rest c s t → MonitorRelation asked rest' c s' (Beat.A y ∷ t)
+flowed-access {w} {X} {c} {y} {first} {last} {asked} {rest} {rest'} {s} {s'} {t} first_is last_is rests is before =
+    let sinks : (i : ℕ) (o : Option ℕ) → is_sunk c i (rest Channel.D) o s' ≡ is_sunk c i (rest Channel.D) o s =
+    λ i. elim [ None ↦ refl | Some m ↦ cc (is.blocks m) ] in
+    let grants : (m : ℕ) → granted_by c m asked (rest' Channel.D) (s'.block m) ≡ granted_by c m asked (rest Channel.D)
+    (s.block m) = λ m. cc (rests Channel.D, is.blocks m) in
+    flowed-next (record {
       first_is = first_is;
       last_is = last_is;
       rests = rests;
@@ -82,18 +74,18 @@ flowed-access {w} {X} c y first last asked rest rest' s s' t first_is last_is re
       asked_is = λ i e. asked_still i e (y.source == i) refl;
       acquires = λ m. ap (acquired_by c) (is.blocks m) ∙ sym
           (unopened first last (is_acquire y.opcode) (block_at y.address == m) (acquired_by c (s.block m)) is.access);
-      release_sources = λ i. lets i ∙ sym (step_quiet first last (is_let_by c i (rest channel.C) (s.lets c i) s));
+      release_sources = λ i. lets i ∙ sym (step_quiet first last (is_let_by c i (rest Channel.C) (s.lets c i) s));
       released = λ i m e f. ap (option_map (λ z. block_at z.address)) (released-of i y t) ∙ before.released i m
           (sym (is.lets i) ∙ e) (before.release_sources i ∙ sym (lets i) ∙ f);
       sizes = λ i m e f. ap (option_map (λ z. z.size)) (released-of i y t) ∙ before.sizes i m (sym (is.lets i) ∙ e)
           (before.release_sources i ∙ sym (lets i) ∙ f);
-      releases = λ m. ap (λ (l : List (Beat w)). let_of c l (s'.block m)) (rests channel.C) ∙ ap
-          (let_of c (rest channel.C)) (is.blocks m)
-          ∙ sym (step_quiet first last (let_of c (rest channel.C) (s.block m)));
-      sinks = λ i. ap (λ (l : List (Beat w)). is_sunk c i l (s'.tracked i) s') (rests channel.D)
-          ∙ ap (λ (o : Option ℕ). is_sunk c i (rest channel.D) o s') (is.tracked i) ∙ sinks i (s.tracked i)
-          ∙ sym (step_quiet first last (is_sunk c i (rest channel.D) (s.tracked i) s));
-      grants = λ m. grants m ∙ sym (step_quiet first last (granted_by c m asked (rest channel.D) (s.block m)));
+      releases = λ m. ap (λ (l : List (Beat w)). let_of c l (s'.block m)) (rests Channel.C) ∙ ap
+          (let_of c (rest Channel.C)) (is.blocks m)
+          ∙ sym (step_quiet first last (let_of c (rest Channel.C) (s.block m)));
+      sinks = λ i. ap (λ (l : List (Beat w)). is_sunk c i l (s'.tracked i) s') (rests Channel.D)
+          ∙ ap (λ (o : Option ℕ). is_sunk c i (rest Channel.D) o s') (is.tracked i) ∙ sinks i (s.tracked i)
+          ∙ sym (step_quiet first last (is_sunk c i (rest Channel.D) (s.tracked i) s));
+      grants = λ m. grants m ∙ sym (step_quiet first last (granted_by c m asked (rest Channel.D) (s.block m)));
       probes = λ m. ap (λ (z : Block X). is_answered (z.pair c).probing) (is.blocks m) ∙ sym
           (step_quiet first last (is_answered ((s.block m).pair c).probing));
       probed = λ m e. probe_of-a m y t ∙ before.probed m
@@ -103,61 +95,49 @@ flowed-access {w} {X} c y first last asked rest rest' s s' t first_is last_is re
           (λ (z : Block X). Some z.tracker) (sym (is.blocks m));
     }) before
   where
-    was : (i : ℕ) → (y.source == i) ≡ true → is_requested c i (rest channel.A) (s.uses c i) s ≡ not first
-    was i e = ap (λ (u : SourceState). is_requested c i (rest channel.A) u s) (is.use_is i e) ∙ is.came i ∙ with_true
-        (not first) (y.source == i) e
+    was : (i : ℕ) → (y.source == i) ≡ true → is_requested c i (rest Channel.A) (s.uses c i) s ≡ not first
+    was i e = cc (is.use_is i e, is.came i, with_true (not first) (y.source == i) e)
 
     now : (i : ℕ) (z : Bool) → last ≡ z → (y.source == i) ≡ true
-        → is_requested c i (rest' channel.A) (if z && true then Replied else s.uses c i) s' ≡ true
+        → is_requested c i (rest' Channel.A) (if z && true then Replied else s.uses c i) s' ≡ true
     now i true e f = refl
-    now i false e f = ap (λ (u : SourceState). is_requested c i (rest' channel.A) u s') (is.use_is i f) ∙ is.comes
-        i ∙ with_true (not last) (y.source == i) f ∙ ap not e
+    now i false e f = cc (is.use_is i f, is.comes i, with_true (not last) (y.source == i) f, e)
 
-    use_at : (i : ℕ) (here : Bool) → (y.source == i) ≡ here → is_requested c i (rest' channel.A) (s'.uses c i)
-        s' ≡ is_requested c i (rest' channel.A) (if last && here then Replied else s.uses c i) s'
-    use_at i here e = ap (λ (u : SourceState). is_requested c i (rest' channel.A) u s')
-        (is.uses i ∙ ap (λ (z : Bool). if last && z then Replied else s.uses c i) e)
+    use_at : (i : ℕ) (here : Bool) → (y.source == i) ≡ here → is_requested c i (rest' Channel.A) (s'.uses c i)
+        s' ≡ is_requested c i (rest' Channel.A) (if last && here then Replied else s.uses c i) s'
+    use_at i here e = cc (is.uses i, e)
 
     off : (z : Bool) (u v : SourceState) → (if z && false then v else u) ≡ u
     off true u v = refl
     off false u v = refl
 
-    same : (i : ℕ) → (y.source == i) ≡ false → is_requested c i (rest' channel.A) (s'.uses c i) s' ≡ is_requested c i
-        (rest channel.A) (s.uses c i) s
-    same i e =
-        use_at i false e ∙ ap (λ (u : SourceState). is_requested c i (rest' channel.A) u s')
-        (off last (s.uses c i) Replied)
-        ∙ requested-rest c i (rest channel.A) (rest' channel.A) (s.uses c i) s s' is.blocks
-        (is.comes i ∙ and_right (not last) (y.source == i) e ∙ sym (is.came i ∙ and_right (not first) (y.source == i)
-        e))
+    same : (i : ℕ) → (y.source == i) ≡ false → is_requested c i (rest' Channel.A) (s'.uses c i) s' ≡ is_requested c i
+        (rest Channel.A) (s.uses c i) s
+    same i e = cc (
+      use_at i false e,
+      off last (s.uses c i) Replied,
+      requested-rest c i (rest Channel.A)
+          (rest' Channel.A) (s.uses c i) s s' is.blocks (is.comes i ∙ and_right (not last) (y.source == i) e
+          ∙ sym (is.came i ∙ and_right (not first) (y.source == i) e)),
+    )
 
-    requests : (i : ℕ) (here : Bool) → (y.source == i) ≡ here
-        → is_requested c i (rest' channel.A) (s'.uses c i) s' ≡ step first last (y.source == i) false
-        (is_requested c i (rest channel.A) (s.uses c i) s)
+    requests : (i : ℕ) (here : Bool) → (y.source == i) ≡ here → is_requested c i (rest' Channel.A) (s'.uses c i) s'
+        ≡ step first last (y.source == i) false (is_requested c i (rest Channel.A) (s.uses c i) s)
     requests i true e = use_at i true e ∙ now i last refl e ∙ sym
-        (begun first last (y.source == i) (is_requested c i (rest channel.A) (s.uses c i) s) e (was i e))
+        (begun first last (y.source == i) (is_requested c i (rest Channel.A) (s.uses c i) s) e (was i e))
     requests i false e = same i e ∙ sym
-        (unbegun first last (y.source == i) (is_requested c i (rest channel.A) (s.uses c i) s) e)
+        (unbegun first last (y.source == i) (is_requested c i (rest Channel.A) (s.uses c i) s) e)
 
-    asked_still : (i : ℕ) → is_requested c i (rest' channel.A) (s'.uses c i) s' ≡ true → (here : Bool)
-        → (y.source == i) ≡ here → request_of i (beat.A y ∷ t) ≡ asked i
+    asked_still : (i : ℕ) → is_requested c i (rest' Channel.A) (s'.uses c i) s' ≡ true → (here : Bool)
+        → (y.source == i) ≡ here → request_of i (Beat.A y ∷ t) ≡ asked i
     asked_still i e true f = of_source i y t first (asked i) first_is f (is.asked_is i f)
         (λ g. before.asked_is i (before.requests i ∙ was i f ∙ ap not g))
     asked_still i e false f = of_other i y t f ∙ before.asked_is i (before.requests i ∙ sym (same i f) ∙ e)
 
-    lets : (i : ℕ) → is_let_by c i (rest' channel.C) (s'.lets c i) s' ≡ is_let_by c i (rest channel.C) (s.lets c i) s
-    lets i =
-        ap (λ (l : List (Beat w)). is_let_by c i l (s'.lets c i) s') (rests channel.C) ∙ ap
-        (λ (o : Option ℕ). is_let_by c i (rest channel.C) o s') (is.lets i)
-        ∙ let_by-same c i (rest channel.C) (s.lets c i) s s'
-        (λ m. ap (λ (z : Block X). (z.pair c).letting) (is.blocks m))
-
-    sinks : (i : ℕ) (o : Option ℕ) → is_sunk c i (rest channel.D) o s' ≡ is_sunk c i (rest channel.D) o s
-    sinks i None = refl
-    sinks i (Some m) = ap (λ (z : Block X). is_acknowledging
-        (view z.service c) || (is_granting (view z.service c) && comes_in_grant i (rest channel.D))) (is.blocks m)
-
-    grants : (m : ℕ) → granted_by c m asked (rest' channel.D) (s'.block m) ≡ granted_by c m asked (rest channel.D)
-        (s.block m)
-    grants m = ap (λ (l : List (Beat w)). granted_by c m asked l (s'.block m)) (rests channel.D) ∙ ap
-        (granted_by c m asked (rest channel.D)) (is.blocks m)
+    lets : (i : ℕ) → is_let_by c i (rest' Channel.C) (s'.lets c i) s' ≡ is_let_by c i (rest Channel.C) (s.lets c i) s
+    lets i = cc (
+      rests Channel.C,
+      is.lets i,
+      let_by-same c i (rest Channel.C) (s.lets c i) s s'
+          (λ m. ap (λ (z : Block X). (z.pair c).letting) (is.blocks m)),
+    )

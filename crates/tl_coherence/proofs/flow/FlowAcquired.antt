@@ -2,22 +2,19 @@
 use Rattle.tl_coherence.proofs.flow.Imports.{Beat, BeatA, Channel, History, comes_in_request, begins, ends, block_at}
 use Rattle.tl_coherence.proofs.flow.Imports.{is_acquire, request_of, probe_of, grant_sink, MonitorRelation}
 use Rattle.tl_coherence.proofs.flow.Imports.{is_requested, is_let_by, is_sunk, acquires_of, comes_granting, Idle, Block}
-use Rattle.tl_coherence.proofs.flow.Imports.{State, SourceState, Acquires, view, is_acknowledging, is_answered}
-use Rattle.tl_coherence.proofs.flow.Imports.{is_granting, is_wanting, is_unserved, probe_beat, cap_waited}
+use Rattle.tl_coherence.proofs.flow.Imports.{State, Acquires, view, is_acknowledging, is_answered, is_granting}
+use Rattle.tl_coherence.proofs.flow.Imports.{is_wanting, is_unserved, probe_beat, cap_waited}
 use Rattle.std.proofs.Common.{◌≡◌, ℕ, Bool, true, false, not, ◌&&◌, ◌||◌, ◌∷◌, Option, Some, refl, sym, ◌∙◌, ap, List}
 use Rattle.std.specs.Prelude.{◌==◌, option_map}
 use Rattle.std.proofs.lemmas.Bool.{ne_eqb, and_right, and_from}
-use Rattle.tl_beat.specs.declared.beat.Beat.TheVariants as beat
-use Rattle.tl_beat.specs.declared.channel.Channel.TheVariants as channel
 use Rattle.tl_coherence.proofs.flow.FlowAccess.{of_source, of_other, released-of}
 use Rattle.tl_manager.proofs.pending.Accepted.{grant_sink-a, probe_of-a}
-use Rattle.tl_coherence.proofs.flow.FlowAlone.{AreRests, no_coming}
+use Rattle.tl_coherence.proofs.{flow.FlowAlone.AreRests, flow.FlowAlone.no_coming, flow.FlowGranted.requested-apart}
+use Rattle.tl_coherence.proofs.{queues.Tokens.same_number}
 use Rattle.tl_coherence.proofs.flow.FlowAside.{IsComing, comes-same, let_by-same}
-use Rattle.tl_coherence.proofs.flow.FlowGranted.{requested-apart}
 use Rattle.tl_coherence.proofs.flow.FlowReleased.{AreElsewhere, each-block, part-block}
 use Rattle.tl_coherence.proofs.flow.FlowStep.{flowed-next, held_by, acquired_by, let_of, granted_by, step, whole_opened}
 use Rattle.tl_coherence.proofs.flow.FlowStep.{whole_unopened}
-use Rattle.tl_coherence.proofs.queues.Tokens.{same_number}
 
 -- the one beat of client c's Acquire of block n, which was at rest, is granted or waits for ProbeAcks afterwards
 pub record IsAcquired {w : ℕ} {X : Type 0} (c n : ℕ) (y : BeatA w) (asked asked' : ℕ → Option (BeatA w))
@@ -29,14 +26,14 @@ pub record IsAcquired {w : ℕ} {X : Type 0} (c n : ℕ) (y : BeatA w) (asked as
   pub asks : (i : ℕ) → (y.source == i) ≡ true → asked i ≡ Some y
   pub idle : view (s.block n).service c ≡ Idle
   pub quiet : is_answered ((s.block n).pair c).probing ≡ false
-  pub coming : IsComing asked (rest channel.D) c s
-  pub came : (i : ℕ) → comes_in_request i (rest channel.A) ≡ false
-  pub comes : (i : ℕ) → comes_in_request i (rest' channel.A) ≡ false
+  pub coming : IsComing asked (rest Channel.D) c s
+  pub came : (i : ℕ) → comes_in_request i (rest Channel.A) ≡ false
+  pub comes : (i : ℕ) → comes_in_request i (rest' Channel.A) ≡ false
   pub asked_is : (i : ℕ) → asked' i ≡ asked i
   pub elsewhere : AreElsewhere n s s'
   pub uses : (i : ℕ) → s'.uses c i ≡ s.uses c i
   pub lets : (i : ℕ) → s'.lets c i ≡ s.lets c i
-  pub sinks : (i : ℕ) → is_sunk c i (rest channel.D) (s'.tracked i) s' ≡ is_sunk c i (rest channel.D) (s.tracked i) s
+  pub sinks : (i : ℕ) → is_sunk c i (rest Channel.D) (s'.tracked i) s' ≡ is_sunk c i (rest Channel.D) (s.tracked i) s
   pub held_is : held_by c (s'.block n) ≡ held_by c (s.block n)
   pub served : is_unserved (view (s'.block n).service c) ≡ false
   pub waits : is_acknowledging (view (s'.block n).service c) ≡ false
@@ -48,13 +45,31 @@ pub record IsAcquired {w : ℕ} {X : Type 0} (c n : ℕ) (y : BeatA w) (asked as
 neither : (p q : Bool) → p ≡ false → q ≡ false → (p || q) ≡ false
 neither p q e f = rw (e, f) refl
 
-pub flowed-acquire : {w : ℕ} {X : Type 0} (c n : ℕ) (y : BeatA w) (asked asked' : ℕ → Option (BeatA w))
-    (rest rest' : Channel → List (Beat w)) (s s' : State X) (t : History w)
-    → begins (beat.A y) t ≡ true → ends (beat.A y) t ≡ true → AreRests (beat.A y) rest rest'
-    → IsAcquired c n y asked asked' rest rest' s s'
-    → MonitorRelation asked rest c s t → MonitorRelation asked' rest' c s' (beat.A y ∷ t)
-flowed-acquire {w} {X} c n y asked asked' rest rest' s s' t first_is last_is rests is before =
-    flowed-next (beat.A y) true true asked asked' rest rest' c s s' t (record {
+pub flowed-acquire : {w : ℕ} {X : Type 0} {c n : ℕ} {y : BeatA w} {asked asked' : ℕ → Option (BeatA w)}
+    {rest rest' : Channel → List (Beat w)} {s s' : State X} {t : History w} → begins (Beat.A y) t ≡ true
+    → ends (Beat.A y) t ≡ true → AreRests (Beat.A y) rest rest' → IsAcquired c n y asked asked' rest rest' s s'
+    → MonitorRelation asked rest c s t → MonitorRelation asked' rest' c s' (Beat.A y ∷ t)
+flowed-acquire {w} {X} {c} {n} {y} {asked} {asked'} {rest} {rest'} {s} {s'} {t} first_is last_is rests is before =
+    let b : Block X = s.block n in
+    let new : Block X = s'.block n in
+    let none_comes = no_coming (is_granting (view b.service c)) (comes_granting n asked (rest Channel.D))
+    (ap is_granting is.idle) (is.coming n) in
+    let granted_then = neither (is_acknowledging (view b.service c)) (comes_granting n asked (rest Channel.D))
+    (ap is_acknowledging is.idle) none_comes in
+    let grants : (m : ℕ) → granted_by c m asked' (rest' Channel.D) (s'.block m) ≡ granted_by c m asked (rest Channel.D)
+    (s.block m) = λ m. cc (
+      rests Channel.D,
+      comes-same m asked asked' (rest Channel.D) is.asked_is,
+      each-block
+          (λ j z. granted_by c j asked (rest Channel.D) z ≡ granted_by c j asked (rest Channel.D) (s.block j)) n s s'
+          is.elsewhere (neither (is_acknowledging (view new.service c)) (comes_granting n asked (rest Channel.D)) is.waits
+          none_comes ∙ sym granted_then) (λ j ne. refl) m,
+    ) in
+    let tracked : (m : ℕ) → granted_by c m asked' (rest' Channel.D) (s'.block m) ≡ true → grant_sink m t ≡ Some
+    (s'.block m).tracker = λ m e. each-block (λ j z. granted_by c j asked (rest Channel.D) (s.block j) ≡ true →
+    grant_sink j t ≡ Some z.tracker) n s s' is.elsewhere (λ f. absurd (let g : false ≡ true = sym granted_then ∙ f
+    in cc)) (λ j ne f. before.sunk j (before.grants j ∙ f)) m (sym (grants m) ∙ e) in
+    flowed-next (record {
       first_is = first_is;
       last_is = last_is;
       rests = rests;
@@ -64,8 +79,7 @@ flowed-acquire {w} {X} c n y asked asked' rest rest' s s' t first_is last_is res
       acquires = each-block (λ m z. acquired_by c z ≡ step true true (is_acquire y.opcode && (block_at y.address == m))
           false (acquired_by c (s.block m))) n s s' is.elsewhere
           (and_from (is_wanting (new.pair c).acquiring) (not (is_unserved (view new.service c))) is.wants
-          (ap not is.served)
-          ∙ sym (whole_opened (is_acquire y.opcode && (block_at y.address == n)) (acquired_by c b)
+          (ap not is.served) ∙ sym (whole_opened (is_acquire y.opcode && (block_at y.address == n)) (acquired_by c b)
           (and_from (is_acquire y.opcode) (block_at y.address == n) is.acquire (rw is.at (same_number n)))))
           (λ m ne. sym (whole_unopened (is_acquire y.opcode && (block_at y.address == m)) (acquired_by c (s.block m))
           (and_right (is_acquire y.opcode) (block_at y.address == m) (rw is.at (ne_eqb n m (λ e. ne (sym e)))))));
@@ -74,72 +88,47 @@ flowed-acquire {w} {X} c n y asked asked' rest rest' s s' t first_is last_is res
           (sym (is.lets i) ∙ e) (before.release_sources i ∙ sym (lets i) ∙ f);
       sizes = λ i m e f. ap (option_map (λ z. z.size)) (released-of i y t) ∙ before.sizes i m (sym (is.lets i) ∙ e)
           (before.release_sources i ∙ sym (lets i) ∙ f);
-      releases = λ m. ap (λ (l : List (Beat w)). let_of c l (s'.block m)) (rests channel.C) ∙ part-block
-          (let_of c (rest channel.C)) n s s' is.elsewhere (rw (is.release_source, is.letting_is) refl) m;
-      sinks = λ i. ap (λ (l : List (Beat w)). is_sunk c i l (s'.tracked i) s') (rests channel.D) ∙ is.sinks i;
+      releases = λ m. ap (λ (l : List (Beat w)). let_of c l (s'.block m)) (rests Channel.C) ∙ part-block
+          (let_of c (rest Channel.C)) n s s' is.elsewhere (rw (is.release_source, is.letting_is) refl) m;
+      sinks = λ i. ap (λ (l : List (Beat w)). is_sunk c i l (s'.tracked i) s') (rests Channel.D) ∙ is.sinks i;
       grants = grants;
       probes = answered;
       probed = λ m e. probe_of-a m y t ∙ probed m e;
       sunk = λ m e. grant_sink-a m y t ∙ tracked m e;
     }) before
   where
-    b : Block X
-    b = s.block n
+    now : (i : ℕ) → (y.source == i) ≡ true → is_requested c i (rest' Channel.A) (s'.uses c i) s' ≡ true
+    now i e = cc (is.uses i, is.use_is i e, is.served)
 
-    new : Block X
-    new = s'.block n
+    same : (i : ℕ) → (y.source == i) ≡ false → is_requested c i (rest' Channel.A) (s'.uses c i) s' ≡ is_requested c i
+        (rest Channel.A) (s.uses c i) s
+    same i e = cc (
+      is.uses i,
+      requested-apart c i n (rest Channel.A) (rest' Channel.A) (s.uses c i) s s' is.elsewhere
+          (is.comes i ∙ sym (is.came i)) (is.no_use i e),
+    )
 
-    now : (i : ℕ) → (y.source == i) ≡ true → is_requested c i (rest' channel.A) (s'.uses c i) s' ≡ true
-    now i e = ap (λ (u : SourceState). is_requested c i (rest' channel.A) u s') (is.uses i ∙ is.use_is i e) ∙ ap not
-        is.served
-
-    same : (i : ℕ) → (y.source == i) ≡ false → is_requested c i (rest' channel.A) (s'.uses c i) s' ≡ is_requested c i
-        (rest channel.A) (s.uses c i) s
-    same i e =
-        ap (λ (u : SourceState). is_requested c i (rest' channel.A) u s') (is.uses i)
-        ∙ requested-apart c i n (rest channel.A) (rest' channel.A) (s.uses c i) s s' is.elsewhere
-        (is.comes i ∙ sym (is.came i)) (is.no_use i e)
-
-    requests : (i : ℕ) (here : Bool) → (y.source == i) ≡ here
-        → is_requested c i (rest' channel.A) (s'.uses c i) s' ≡ step true true (y.source == i) false
-        (is_requested c i (rest channel.A) (s.uses c i) s)
-    requests i true e = now i e ∙ sym (whole_opened (y.source == i) (is_requested c i (rest channel.A) (s.uses c i) s)
+    requests : (i : ℕ) (here : Bool) → (y.source == i) ≡ here → is_requested c i (rest' Channel.A) (s'.uses c i) s'
+        ≡ step true true (y.source == i) false (is_requested c i (rest Channel.A) (s.uses c i) s)
+    requests i true e = now i e ∙ sym (whole_opened (y.source == i) (is_requested c i (rest Channel.A) (s.uses c i) s)
         e)
     requests i false e = same i e ∙ sym
-        (whole_unopened (y.source == i) (is_requested c i (rest channel.A) (s.uses c i) s) e)
+        (whole_unopened (y.source == i) (is_requested c i (rest Channel.A) (s.uses c i) s) e)
 
-    asked_still : (i : ℕ) → is_requested c i (rest' channel.A) (s'.uses c i) s' ≡ true → (here : Bool)
-        → (y.source == i) ≡ here → request_of i (beat.A y ∷ t) ≡ asked' i
+    asked_still : (i : ℕ) → is_requested c i (rest' Channel.A) (s'.uses c i) s' ≡ true → (here : Bool)
+        → (y.source == i) ≡ here → request_of i (Beat.A y ∷ t) ≡ asked' i
     asked_still i e true f = of_source i y t true (asked' i) first_is f (λ g. is.asked_is i ∙ is.asks i f)
         (λ g. absurd cc)
     asked_still i e false f = of_other i y t f ∙ before.asked_is i (before.requests i ∙ sym (same i f) ∙ e) ∙ sym
         (is.asked_is i)
 
-    lets : (i : ℕ) → is_let_by c i (rest' channel.C) (s'.lets c i) s' ≡ is_let_by c i (rest channel.C) (s.lets c i) s
-    lets i =
-        ap (λ (l : List (Beat w)). is_let_by c i l (s'.lets c i) s') (rests channel.C) ∙ ap
-        (λ (o : Option ℕ). is_let_by c i (rest channel.C) o s') (is.lets i)
-        ∙ let_by-same c i (rest channel.C) (s.lets c i) s s' (part-block (λ (z : Block X). (z.pair c).letting) n s s'
-        is.elsewhere is.letting_is)
-
-    none_comes : comes_granting n asked (rest channel.D) ≡ false
-    none_comes = no_coming (is_granting (view b.service c)) (comes_granting n asked (rest channel.D))
-        (ap is_granting is.idle) (is.coming n)
-
-    granted_then : granted_by c n asked (rest channel.D) b ≡ false
-    granted_then = neither (is_acknowledging (view b.service c)) (comes_granting n asked (rest channel.D))
-        (ap is_acknowledging is.idle) none_comes
-
-    grants : (m : ℕ) → granted_by c m asked' (rest' channel.D) (s'.block m) ≡ granted_by c m asked (rest channel.D)
-        (s.block m)
-    grants m =
-        ap (λ (l : List (Beat w)). granted_by c m asked' l (s'.block m)) (rests channel.D)
-        ∙ ap (λ (z : Bool). is_acknowledging (view (s'.block m).service c) || z)
-        (comes-same m asked asked' (rest channel.D) is.asked_is)
-        ∙ each-block (λ j z. granted_by c j asked (rest channel.D) z ≡ granted_by c j asked (rest channel.D)
-        (s.block j)) n s s' is.elsewhere
-        (neither (is_acknowledging (view new.service c)) (comes_granting n asked (rest channel.D)) is.waits none_comes
-        ∙ sym granted_then) (λ j ne. refl) m
+    lets : (i : ℕ) → is_let_by c i (rest' Channel.C) (s'.lets c i) s' ≡ is_let_by c i (rest Channel.C) (s.lets c i) s
+    lets i = cc (
+      rests Channel.C,
+      is.lets i,
+      let_by-same c i (rest Channel.C) (s.lets c i) s s'
+          (part-block (λ (z : Block X). (z.pair c).letting) n s s' is.elsewhere is.letting_is),
+    )
 
     answered : (m : ℕ) → is_answered ((s'.block m).pair c).probing ≡ is_answered ((s.block m).pair c).probing
     answered = part-block (λ (z : Block X). is_answered (z.pair c).probing) n s s' is.elsewhere
@@ -149,12 +138,4 @@ flowed-acquire {w} {X} c n y asked asked' rest rest' s s' t first_is last_is res
         → probe_of m t ≡ Some (probe_beat m (cap_waited (s'.block m).service))
     probed = each-block (λ m z. is_answered (z.pair c).probing ≡ true
         → probe_of m t ≡ Some (probe_beat m (cap_waited z.service))) n s s' is.elsewhere
-        (λ e. absurd (let f : false ≡ true = sym is.answered ∙ e in cc))
-        (λ m ne e. before.probed m e)
-
-    tracked : (m : ℕ) → granted_by c m asked' (rest' channel.D) (s'.block m) ≡ true
-        → grant_sink m t ≡ Some (s'.block m).tracker
-    tracked m e = each-block (λ j z. granted_by c j asked (rest channel.D) (s.block j) ≡ true
-        → grant_sink j t ≡ Some z.tracker) n s s' is.elsewhere
-        (λ f. absurd (let g : false ≡ true = sym granted_then ∙ f in cc))
-        (λ j ne f. before.sunk j (before.grants j ∙ f)) m (sym (grants m) ∙ e)
+        (λ e. absurd (let f : false ≡ true = sym is.answered ∙ e in cc)) (λ m ne e. before.probed m e)

@@ -3,16 +3,13 @@
 use Rattle.tl_coherence.proofs.flow.Imports.{Beat, BeatA, BeatE, Channel, History, on, grown, Cap, comes_in_grant}
 use Rattle.tl_coherence.proofs.flow.Imports.{begins, ends, block_at, release_of, probe_of, grant_sink, MonitorRelation}
 use Rattle.tl_coherence.proofs.flow.Imports.{is_requested, is_let_by, is_sunk, is_of, is_busy, comes_granting, View}
-use Rattle.tl_coherence.proofs.flow.Imports.{Own, Acknowledging, Other, Service, Free, Waits, GrantSent, GrantTaken}
-use Rattle.tl_coherence.proofs.flow.Imports.{Block, State, view, is_granting, is_acknowledging, is_answered, is_wanting}
-use Rattle.tl_coherence.proofs.flow.Imports.{is_unserved, grant_ack_taken, freed_block, probe_beat, cap_waited, Packet}
-use Rattle.tl_coherence.proofs.flow.Imports.{set}
+use Rattle.tl_coherence.proofs.flow.Imports.{Own, Acknowledging, Other, Service, Free, Waits, Block, State, view}
+use Rattle.tl_coherence.proofs.flow.Imports.{is_granting, is_acknowledging, is_answered, is_wanting, is_unserved}
+use Rattle.tl_coherence.proofs.flow.Imports.{grant_ack_taken, freed_block, probe_beat, cap_waited, Packet}
 use Rattle.std.proofs.Common.{◌≡◌, ℕ, Bool, true, false, not, ◌&&◌, ◌||◌, ◌∷◌, Option, Some, None, refl, sym, ◌∙◌, ap}
 use Rattle.std.proofs.Common.{List, ◌⊎◌, inl, inr}
 use Rattle.std.specs.Prelude.{◌==◌, if◌then◌else◌, option_map}
 use Rattle.std.proofs.lemmas.Bool.{cases_eq, ne_eqb, eqb-true}
-use Rattle.tl_beat.specs.declared.beat.Beat.TheVariants as beat
-use Rattle.tl_beat.specs.declared.channel.Channel.TheVariants as channel
 use Rattle.tl_rules.specs.statement.History.{is_sink}
 use Rattle.tl_coherence.specs.protocol.Invariant.{AreNamed}
 use Rattle.tl_coherence.proofs.flow.FlowAside.{IsComing, requested-blocks, let_by-same}
@@ -27,7 +24,7 @@ AreRests x rest rest' = (ch : Channel) → rest' ch ≡ (if on ch x then grown x
 
 -- ---- a GrantAck
 
-released-of : {w : ℕ} (i : ℕ) (y : BeatE) (t : History w) → release_of i (beat.E y ∷ t) ≡ release_of i t
+released-of : {w : ℕ} (i : ℕ) (y : BeatE) (t : History w) → release_of i (Beat.E y ∷ t) ≡ release_of i t
 unfolding release_of
 released-of i y t = refl
 
@@ -41,20 +38,26 @@ no_coming g true e f = let h : g ≡ true = f refl in let i : false ≡ true = s
 other_sink : (i j : ℕ) (o : Option ℕ) → o ≡ Some j → (j ≡ i → ⊥) → is_sink i o ≡ false
 other_sink i j o e ne = rw e (ne_eqb j i ne)
 
-pub flowed-grant_ack : {w : ℕ} {X : Type 0} (c n : ℕ) (toks : List Packet) (y : BeatE) (asked asked' : ℕ
-    → Option (BeatA w)) (rest rest' : Channel → List (Beat w)) (s : State X) (t : History w)
-    → begins (beat.E y) t ≡ true → ends (beat.E y) t ≡ true → AreRests (beat.E y) rest rest'
-    → ((i : ℕ) → asked' i ≡ asked i) → y.sink ≡ (s.block n).tracker
-    → view (s.block n).service c ≡ Acknowledging
-    → AreNamed s → is_busy (s.block n).service ≡ true → ((m : ℕ) → is_acknowledging (view (s.block m).service c) ≡ true
-    → is_busy (s.block m).service ≡ true)
+pub flowed-grant_ack : {w : ℕ} {X : Type 0} {c : ℕ} (n : ℕ) (toks : List Packet) (y : BeatE) {asked : ℕ
+    → Option (BeatA w)} (asked' : ℕ → Option (BeatA w)) {rest : Channel → List (Beat w)} (rest' : Channel
+    → List (Beat w)) {s : State X} {t : History w} → begins (Beat.E y) t ≡ true → ends (Beat.E y) t ≡ true
+    → AreRests (Beat.E y) rest rest' → ((i : ℕ) → asked' i ≡ asked i) → y.sink ≡ (s.block n).tracker
+    → view (s.block n).service c ≡ Acknowledging → AreNamed s → is_busy (s.block n).service ≡ true
+    → ((m : ℕ) → is_acknowledging (view (s.block m).service c) ≡ true → is_busy (s.block m).service ≡ true)
     → ((m : ℕ) → is_granting (view (s.block m).service c) ≡ true → is_busy (s.block m).service ≡ true)
-    → IsComing asked (rest channel.D) c s
-    → ((m : ℕ) → comes_granting m asked' (rest channel.D) ≡ comes_granting m asked (rest channel.D))
-    → MonitorRelation asked rest c s t → MonitorRelation asked' rest' c (grant_ack_taken c n toks s) (beat.E y ∷ t)
-flowed-grant_ack {w} {X} c n toks y asked asked' rest rest' s t first last rests asks sink seen named busy busy_a busy_g
+    → IsComing asked (rest Channel.D) c s
+    → ((m : ℕ) → comes_granting m asked' (rest Channel.D) ≡ comes_granting m asked (rest Channel.D))
+    → MonitorRelation asked rest c s t → MonitorRelation asked' rest' c (grant_ack_taken c n toks s) (Beat.E y ∷ t)
+flowed-grant_ack {w} {X} {c} n toks y {asked} asked' {rest} rest' {s} {t} first last rests asks sink seen named busy
+    busy_a busy_g
     coming comes before =
-    flowed-next (beat.E y) true true asked asked' rest rest' c s s' t (record {
+    let requests : (i : ℕ) → is_requested c i (rest' Channel.A) (s'.uses c i) s' ≡ is_requested c i (rest Channel.A)
+    (s.uses c i) s = λ i. cc (
+      rests Channel.A,
+      requested-blocks c i (rest Channel.A) (s.uses c i) s s'
+          (set-part (λ (z : Block X). is_unserved (view z.service c)) n new s.block (sym (ap is_unserved seen))),
+    ) in
+    flowed-next (record {
       first_is = first;
       last_is = last;
       rests = rests;
@@ -70,8 +73,8 @@ flowed-grant_ack {w} {X} c n toks y asked asked' rest rest' s t first last rests
           (before.release_sources i ∙ sym (lets i) ∙ f);
       sizes = λ i m e f. ap (option_map (λ z. z.size)) (released-of i y t) ∙ before.sizes i m e
           (before.release_sources i ∙ sym (lets i) ∙ f);
-      releases = λ m. ap (λ (r : List (Beat w)). let_of c r (s'.block m)) (rests channel.C) ∙ set-part
-          (let_of c (rest channel.C)) n new s.block refl m;
+      releases = λ m. ap (λ (r : List (Beat w)). let_of c r (s'.block m)) (rests Channel.C) ∙ set-part
+          (let_of c (rest Channel.C)) n new s.block refl m;
       sinks = sinks;
       grants = grants;
       probes = set-part (λ (z : Block X). is_answered (z.pair c).probing) n new s.block refl;
@@ -88,18 +91,12 @@ flowed-grant_ack {w} {X} c n toks y asked asked' rest rest' s t first last rests
     s' : State X
     s' = grant_ack_taken c n toks s
 
-    requests : (i : ℕ) → is_requested c i (rest' channel.A) (s'.uses c i) s' ≡ is_requested c i (rest channel.A)
-        (s.uses c i) s
-    requests i =
-        ap (λ (r : List (Beat w)). is_requested c i r (s.uses c i) s') (rests channel.A)
-        ∙ requested-blocks c i (rest channel.A) (s.uses c i) s s'
-        (set-part (λ (z : Block X). is_unserved (view z.service c)) n new s.block (sym (ap is_unserved seen)))
-
-    lets : (i : ℕ) → is_let_by c i (rest' channel.C) (s'.lets c i) s' ≡ is_let_by c i (rest channel.C) (s.lets c i) s
-    lets i =
-        ap (λ (r : List (Beat w)). is_let_by c i r (s.lets c i) s') (rests channel.C)
-        ∙ let_by-same c i (rest channel.C) (s.lets c i) s s' (set-part (λ (z : Block X). (z.pair c).letting) n new
-        s.block refl)
+    lets : (i : ℕ) → is_let_by c i (rest' Channel.C) (s'.lets c i) s' ≡ is_let_by c i (rest Channel.C) (s.lets c i) s
+    lets i = cc (
+      rests Channel.C,
+      let_by-same c i (rest Channel.C) (s.lets c i) s s'
+          (set-part (λ (z : Block X). (z.pair c).letting) n new s.block refl),
+    )
 
     answered_other : (m : ℕ) → is_answered ((s'.block m).pair c).probing ≡ true
         → is_answered ((s.block m).pair c).probing ≡ true
@@ -107,46 +104,43 @@ flowed-grant_ack {w} {X} c n toks y asked asked' rest rest' s t first last rests
 
     probed : (m : ℕ) → is_answered ((s'.block m).pair c).probing ≡ true
         → probe_of m t ≡ Some (probe_beat m (cap_waited (s'.block m).service))
-    probed m e = before.probed m (answered_other m e) ∙ sym
-        (ap (λ k. Some (probe_beat m k)) (set-part (λ (z : Block X). cap_waited z.service) n new s.block
-        (no_cap b.service seen) m))
+    probed m e = cc (
+      before.probed m (answered_other m e),
+      set-part (λ (z : Block X). cap_waited z.service) n new
+          s.block (no_cap b.service seen) m,
+    )
       where
         no_cap : (q : Service) → view q c ≡ Acknowledging → cap_waited Free ≡ cap_waited q
-        no_cap Free f = refl
-        no_cap (GrantSent q d k) f = refl
-        no_cap (GrantTaken q) f = refl
-        no_cap (Waits q own source k) f = absurd (waits (own && (c == q)) k f)
-          where
-            waits : (z : Bool) (j : Cap) → (if z then Own else Other j) ≡ Acknowledging → ⊥
-            waits true j g = absurd cc
-            waits false j g = absurd cc
+        no_cap (Waits q own source k) f =
+            let waits : (z : Bool) (j : Cap) → (if z then Own else Other j) ≡ Acknowledging → ⊥ =
+            elim [ true ↦ λ j g. absurd cc | false ↦ λ j g. absurd cc ] in
+            absurd (waits (own && (c == q)) k f)
+        no_cap q f = refl
 
-    of_block : (m : ℕ) → granted_by c m asked (rest channel.D) (s.block m) ≡ true → is_busy (s.block m).service ≡ true
-    of_block m e = go (is_acknowledging (view (s.block m).service c)) (comes_granting m asked (rest channel.D)) refl
+    of_block : (m : ℕ) → granted_by c m asked (rest Channel.D) (s.block m) ≡ true → is_busy (s.block m).service ≡ true
+    of_block m e = go (is_acknowledging (view (s.block m).service c)) (comes_granting m asked (rest Channel.D)) refl
         refl e
       where
         go : (p q : Bool) → is_acknowledging (view (s.block m).service c) ≡ p
-            → comes_granting m asked (rest channel.D) ≡ q → (p || q) ≡ true → is_busy (s.block m).service ≡ true
+            → comes_granting m asked (rest Channel.D) ≡ q → (p || q) ≡ true → is_busy (s.block m).service ≡ true
         go true q f g h = busy_a m f
         go false true f g h = busy_g m (coming m g)
         go false false f g h = absurd cc
 
     -- blocks in service have trackers of their own
     apart : (m : ℕ) → is_busy (s.block m).service ≡ true → (m ≡ n → ⊥) → (s.block m).tracker ≡ b.tracker → ⊥
-    apart m also ne same = ne
-        (is_same (s.tracked b.tracker) (named.trackers b.tracker n ∙ rw (busy, same_number b.tracker) refl)
+    apart m also ne same =
+        let is_same : (o : Option ℕ) → is_of n o ≡ true → is_of m o ≡ true → m ≡ n =
+        elim [ None ↦ λ f g. absurd cc | Some i ↦ λ f g. eqb-true m i g ∙ sym (eqb-true n i f) ] in
+        ne (is_same (s.tracked b.tracker) (named.trackers b.tracker n ∙ rw (busy, same_number b.tracker) refl)
         (named.trackers b.tracker m ∙ rw (also, same, same_number b.tracker) refl))
-      where
-        is_same : (o : Option ℕ) → is_of n o ≡ true → is_of m o ≡ true → m ≡ n
-        is_same None f g = absurd cc
-        is_same (Some i) f g = eqb-true m i g ∙ sym (eqb-true n i f)
 
-    none_comes : comes_granting n asked (rest channel.D) ≡ false
-    none_comes = no_coming (is_granting (view b.service c)) (comes_granting n asked (rest channel.D))
+    none_comes : comes_granting n asked (rest Channel.D) ≡ false
+    none_comes = no_coming (is_granting (view b.service c)) (comes_granting n asked (rest Channel.D))
         (not_granting (view b.service c) seen) (coming n)
 
-    grants_rest : (m : ℕ) → comes_granting m asked' (rest' channel.D) ≡ comes_granting m asked (rest channel.D)
-    grants_rest m = ap (comes_granting m asked') (rests channel.D) ∙ comes m
+    grants_rest : (m : ℕ) → comes_granting m asked' (rest' Channel.D) ≡ comes_granting m asked (rest Channel.D)
+    grants_rest m = ap (comes_granting m asked') (rests Channel.D) ∙ comes m
 
     closes_it : (p q : Bool) → q ≡ true → (if true && q then false else p) ≡ false
     closes_it p q e = rw e refl
@@ -156,39 +150,37 @@ flowed-grant_ack {w} {X} c n toks y asked asked' rest rest' s t first last rests
     leaves_it p false h = refl
     leaves_it true true h = let g : true ≡ false = h refl in cc
 
-    other_closed : (m : ℕ) → (m ≡ n → ⊥) → granted_by c m asked (rest channel.D) (s.block m) ≡ true
+    other_closed : (m : ℕ) → (m ≡ n → ⊥) → granted_by c m asked (rest Channel.D) (s.block m) ≡ true
         → is_sink y.sink (grant_sink m t) ≡ false
     other_closed m ne e = rw sink (other_sink b.tracker (s.block m).tracker (grant_sink m t)
         (before.sunk m (before.grants m ∙ e)) (apart m (of_block m e) ne))
 
-    acks_here : granted_by c n asked (rest channel.D) b ≡ true
-    acks_here = ap (λ (v : View). is_acknowledging v || comes_granting n asked (rest channel.D)) seen
+    acks_here : granted_by c n asked (rest Channel.D) b ≡ true
+    acks_here = ap (λ (v : View). is_acknowledging v || comes_granting n asked (rest Channel.D)) seen
 
-    grants : (m : ℕ) → granted_by c m asked' (rest' channel.D) (s'.block m) ≡ step true true false
-        (is_sink y.sink (grant_sink m t)) (granted_by c m asked (rest channel.D) (s.block m))
-    grants = set-each (λ m z. granted_by c m asked' (rest' channel.D) z ≡ step true true false
-        (is_sink y.sink (grant_sink m t)) (granted_by c m asked (rest channel.D) (s.block m))) n new s.block
-        (grants_rest n ∙ none_comes ∙ sym (closes_it (granted_by c n asked (rest channel.D) b)
+    grants : (m : ℕ) → granted_by c m asked' (rest' Channel.D) (s'.block m) ≡ step true true false
+        (is_sink y.sink (grant_sink m t)) (granted_by c m asked (rest Channel.D) (s.block m))
+    grants = set-each (λ m z. granted_by c m asked' (rest' Channel.D) z ≡ step true true false
+        (is_sink y.sink (grant_sink m t)) (granted_by c m asked (rest Channel.D) (s.block m))) n new s.block
+        (grants_rest n ∙ none_comes ∙ sym (closes_it (granted_by c n asked (rest Channel.D) b)
         (is_sink y.sink (grant_sink n t))
         (rw sink (is_own_sink b.tracker (grant_sink n t) (before.sunk n (before.grants n ∙ acks_here))))))
         (λ m ne. ap (λ (z : Bool). is_acknowledging (view (s.block m).service c) || z) (grants_rest m)
-        ∙ sym (leaves_it (granted_by c m asked (rest channel.D) (s.block m)) (is_sink y.sink (grant_sink m t))
+        ∙ sym (leaves_it (granted_by c m asked (rest Channel.D) (s.block m)) (is_sink y.sink (grant_sink m t))
         (other_closed m ne)))
 
-    tracked : (m : ℕ) → granted_by c m asked' (rest' channel.D) (s'.block m) ≡ true
+    tracked : (m : ℕ) → granted_by c m asked' (rest' Channel.D) (s'.block m) ≡ true
         → grant_sink m t ≡ Some (s'.block m).tracker
-    tracked = set-each (λ m z. granted_by c m asked' (rest' channel.D) z ≡ true → grant_sink m t ≡ Some z.tracker) n new
-        s.block
-        (λ e. absurd (let f : false ≡ true = sym (grants_rest n ∙ none_comes) ∙ e in cc))
-        (λ m ne e. before.sunk m
-        (before.grants m ∙ sym (ap (λ (z : Bool). is_acknowledging (view (s.block m).service c) || z)
-        (grants_rest m)) ∙ e))
+    tracked = set-each (λ m z. granted_by c m asked' (rest' Channel.D) z ≡ true → grant_sink m t ≡ Some z.tracker) n new
+        s.block (λ e. absurd (let f : false ≡ true = sym (grants_rest n ∙ none_comes) ∙ e in cc))
+        (λ m ne e. before.sunk m (before.grants m
+        ∙ sym (ap (λ (z : Bool). is_acknowledging (view (s.block m).service c) || z) (grants_rest m)) ∙ e))
 
-    sinks : (i : ℕ) → is_sunk c i (rest' channel.D) (s'.tracked i) s' ≡ step true true false (y.sink == i)
-        (is_sunk c i (rest channel.D) (s.tracked i) s)
-    sinks i = ap (λ (r : List (Beat w)). is_sunk c i r (s'.tracked i) s') (rests channel.D) ∙ go (cases_eq i b.tracker)
+    sinks : (i : ℕ) → is_sunk c i (rest' Channel.D) (s'.tracked i) s' ≡ step true true false (y.sink == i)
+        (is_sunk c i (rest Channel.D) (s.tracked i) s)
+    sinks i = ap (λ (r : List (Beat w)). is_sunk c i r (s'.tracked i) s') (rests Channel.D) ∙ go (cases_eq i b.tracker)
       where
-        others : (o : Option ℕ) → is_of n o ≡ false → is_sunk c i (rest channel.D) o s' ≡ is_sunk c i (rest channel.D) o
+        others : (o : Option ℕ) → is_of n o ≡ false → is_sunk c i (rest Channel.D) o s' ≡ is_sunk c i (rest Channel.D) o
             s
         others None f = refl
         others (Some m) f = ap (λ (z : Block X). is_sunk_with z) (set-other n m new s.block (λ e. let g : true ≡ false =
@@ -196,16 +188,20 @@ flowed-grant_ack {w} {X} c n toks y asked asked' rest rest' s t first last rests
           where
             is_sunk_with : Block X → Bool
             is_sunk_with z = is_acknowledging (view z.service c) || (is_granting (view z.service c) && comes_in_grant i
-                (rest channel.D))
+                (rest Channel.D))
 
-        go : (i ≡ b.tracker) ⊎ (i ≡ b.tracker → ⊥) → is_sunk c i (rest channel.D) (s'.tracked i) s' ≡ step true true
-            false (y.sink == i) (is_sunk c i (rest channel.D) (s.tracked i) s)
-        go (inl same) = ap (λ (o : Option ℕ). is_sunk c i (rest channel.D) o s')
-            (ap (set b.tracker None s.tracked) same ∙ set-same b.tracker None s.tracked)
-            ∙ sym (closes_it (is_sunk c i (rest channel.D) (s.tracked i) s) (y.sink == i)
-            (rw (sink, same) (same_number b.tracker)))
-        go (inr other) =
-            ap (λ (o : Option ℕ). is_sunk c i (rest channel.D) o s') (set-other b.tracker i None s.tracked other)
-            ∙ others (s.tracked i) (named.trackers i n ∙ rw (busy, ne_eqb i b.tracker other) refl)
-            ∙ sym (leaves_it (is_sunk c i (rest channel.D) (s.tracked i) s) (y.sink == i)
-            (λ e. rw sink (ne_eqb b.tracker i (λ f. other (sym f)))))
+        go : (i ≡ b.tracker) ⊎ (i ≡ b.tracker → ⊥) → is_sunk c i (rest Channel.D) (s'.tracked i) s' ≡ step true true
+            false (y.sink == i) (is_sunk c i (rest Channel.D) (s.tracked i) s)
+        go (inl same) = cc (
+          same,
+          set-same b.tracker None s.tracked,
+          closes_it
+              (is_sunk c i (rest Channel.D) (s.tracked i) s) (y.sink == i) (rw (sink, same) (same_number b.tracker)),
+        )
+        go (inr other) = cc (
+          set-other b.tracker i None s.tracked other,
+          others (s.tracked i) (named.trackers i n
+              ∙ rw (busy, ne_eqb i b.tracker other) refl),
+          leaves_it (is_sunk c i (rest Channel.D) (s.tracked i) s)
+              (y.sink == i) (λ e. rw sink (ne_eqb b.tracker i (λ f. other (sym f)))),
+        )

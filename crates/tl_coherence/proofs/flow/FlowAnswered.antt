@@ -2,41 +2,33 @@
 use Rattle.tl_coherence.proofs.flow.Imports.{Beat, BeatA, BeatC, BeatD, Channel, History, ReleaseSource, Perm}
 use Rattle.tl_coherence.proofs.flow.Imports.{comes_in_grant, begins, ends, block_at, pending, is_grant, is_release_ack}
 use Rattle.tl_coherence.proofs.flow.Imports.{asks_for, request_of, release_of, probe_of, grant_sink, MonitorRelation}
-use Rattle.tl_coherence.proofs.flow.Imports.{is_requested, is_release_pending, is_let_by}
-use Rattle.tl_coherence.proofs.flow.Imports.{is_sunk, is_of, comes_granting, NoRelease}
-use Rattle.tl_coherence.proofs.flow.Imports.{ReleaseAcked, AcquirePhase, Service, Block, State, SourceState, SourceFree}
-use Rattle.tl_coherence.proofs.flow.Imports.{view, is_granting, is_acknowledging, is_answered, is_wanting, is_unserved}
-use Rattle.tl_coherence.proofs.flow.Imports.{probe_beat, cap_waited}
+use Rattle.tl_coherence.proofs.flow.Imports.{is_requested, is_release_pending, is_let_by, is_sunk, is_of}
+use Rattle.tl_coherence.proofs.flow.Imports.{comes_granting, NoRelease, ReleaseAcked, AcquirePhase, Service, Block}
+use Rattle.tl_coherence.proofs.flow.Imports.{State, SourceState, SourceFree, view, is_acknowledging, is_answered}
+use Rattle.tl_coherence.proofs.flow.Imports.{is_wanting, is_unserved, probe_beat, cap_waited}
 use Rattle.std.proofs.Common.{◌≡◌, ℕ, Bool, true, false, not, ◌&&◌, ◌||◌, ◌∷◌, Option, Some, None, refl, sym, ◌∙◌, ap}
 use Rattle.std.proofs.Common.{List}
 use Rattle.std.specs.Prelude.{◌==◌, if◌then◌else◌, option_map, unwrap_or}
 use Rattle.std.proofs.lemmas.Bool.{ne_eqb, eqb-true}
-use Rattle.tl_beat.specs.declared.beat.Beat.TheVariants as beat
-use Rattle.tl_beat.specs.declared.channel.Channel.TheVariants as channel
 use Rattle.tl_rules.specs.statement.History.{releases, capped}
-use Rattle.tl_client.proofs.pending.Opens.{request_of-d}
-use Rattle.tl_client.proofs.pending.AccountedResponse.{release_of-d}
+use Rattle.tl_client.{proofs.pending.Opens.request_of-d, proofs.pending.AccountedResponse.release_of-d}
 use Rattle.tl_coherence.specs.protocol.Invariant.{releases_with}
-use Rattle.tl_coherence.proofs.flow.FlowAlone.{AreRests}
-use Rattle.tl_coherence.proofs.flow.FlowAside.{requested-blocks, let_by-same}
+use Rattle.tl_coherence.proofs.{flow.FlowAlone.AreRests, flow.FlowAside.requested-blocks, flow.FlowAside.let_by-same}
+use Rattle.tl_coherence.proofs.{queues.Tokens.same_number, protocol.BothParts.is_of-is, flow.FlowReport.unopened}
 use Rattle.tl_coherence.proofs.flow.FlowReleased.{AreElsewhere, each-block, part-block}
 use Rattle.tl_coherence.proofs.flow.FlowStep.{flowed-next, held_by, acquired_by, let_of, granted_by, step, step_quiet}
-use Rattle.tl_coherence.proofs.queues.Tokens.{same_number}
-use Rattle.tl_coherence.proofs.protocol.BothParts.{is_of-is}
-use Rattle.tl_coherence.proofs.flow.FlowReport.{unopened}
 
-pub probed-of : {w : ℕ} (n : ℕ) (y : BeatD w) (t : History w) → probe_of n (beat.D y ∷ t) ≡ probe_of n t
+pub probed-of : {w : ℕ} (n : ℕ) (y : BeatD w) (t : History w) → probe_of n (Beat.D y ∷ t) ≡ probe_of n t
 unfolding probe_of
 probed-of n y t = refl
 
 sunk-of : {w : ℕ} (n : ℕ) (y : BeatD w) (t : History w) → is_grant y.opcode ≡ false
-    → grant_sink n (beat.D y ∷ t) ≡ grant_sink n t
+    → grant_sink n (Beat.D y ∷ t) ≡ grant_sink n t
 unfolding grant_sink
-sunk-of {w} n y t e = go (begins (beat.D y) t) (is_grant y.opcode) (asks_for n (request_of y.source t)) e
-  where
-    go : (p q r : Bool) → q ≡ false → (if p && (q && r) then Some y.sink else grant_sink n t) ≡ grant_sink n t
-    go true q r f = rw f refl
-    go false q r f = refl
+sunk-of {w} n y t e =
+    let go : (p q r : Bool) → q ≡ false → (if p && (q && r) then Some y.sink else grant_sink n t) ≡ grant_sink n t =
+    elim [ true ↦ λ q r f. rw f refl | false ↦ λ q r f. refl ] in
+    go (begins (Beat.D y) t) (is_grant y.opcode) (asks_for n (request_of y.source t)) e
 
 -- ---- what a beat opens and closes
 
@@ -61,51 +53,55 @@ pub record IsAnswering {w : ℕ} {X : Type 0} (c : ℕ) (y : BeatD w) (last : Bo
     (rest rest' : Channel → List (Beat w)) (s s' : State X) : Type 0 where
   pub grant : is_grant y.opcode ≡ false
   pub ack : is_release_ack y.opcode ≡ false
-  pub comes : (i : ℕ) → comes_in_grant i (rest' channel.D) ≡ comes_in_grant i (rest channel.D)
-  pub grants : (m : ℕ) → comes_granting m asked' (rest' channel.D) ≡ comes_granting m asked (rest channel.D)
+  pub comes : (i : ℕ) → comes_in_grant i (rest' Channel.D) ≡ comes_in_grant i (rest Channel.D)
+  pub grants : (m : ℕ) → comes_granting m asked' (rest' Channel.D) ≡ comes_granting m asked (rest Channel.D)
   pub blocks : (m : ℕ) → s'.block m ≡ s.block m
   pub uses : (i : ℕ) → s'.uses c i ≡ (if last && (y.source == i) then SourceFree else s.uses c i)
   pub lets : (i : ℕ) → s'.lets c i ≡ s.lets c i
   pub tracked : (i : ℕ) → s'.tracked i ≡ s.tracked i
   pub asked_is : (i : ℕ) → (last && (y.source == i)) ≡ false → asked' i ≡ asked i
 
-pub flowed-answer : {w : ℕ} {X : Type 0} (c : ℕ) (y : BeatD w) (first last : Bool) (asked asked' : ℕ → Option (BeatA w))
-    (rest rest' : Channel → List (Beat w)) (s s' : State X) (t : History w)
-    → begins (beat.D y) t ≡ first → ends (beat.D y) t ≡ last → AreRests (beat.D y) rest rest'
+pub flowed-answer : {w : ℕ} {X : Type 0} {c : ℕ} {y : BeatD w} (first : Bool) {last : Bool} {asked asked' : ℕ
+    → Option (BeatA w)}
+    {rest rest' : Channel → List (Beat w)} {s s' : State X} {t : History w}
+    → begins (Beat.D y) t ≡ first → ends (Beat.D y) t ≡ last → AreRests (Beat.D y) rest rest'
     → IsAnswering c y last asked asked' rest rest' s s'
-    → MonitorRelation asked rest c s t → MonitorRelation asked' rest' c s' (beat.D y ∷ t)
-flowed-answer {w} {X} c y first last asked asked' rest rest' s s' t first_is last_is rests is before =
-    flowed-next (beat.D y) first last asked asked' rest rest' c s s' t (record {
+    → MonitorRelation asked rest c s t → MonitorRelation asked' rest' c s' (Beat.D y ∷ t)
+flowed-answer {w} {X} {c} {y} first {last} {asked} {asked'} {rest} {rest'} {s} {s'} {t} first_is last_is rests is
+    before =
+    let sinks : (i : ℕ) (o : Option ℕ) → is_sunk c i (rest' Channel.D) o s' ≡ is_sunk c i (rest Channel.D) o s =
+    λ i. elim [ None ↦ refl | Some m ↦ cc (is.comes i, is.blocks m) ] in
+    flowed-next (record {
       first_is = first_is;
       last_is = last_is;
       rests = rests;
       held_is = λ m. ap (held_by c) (is.blocks m) ∙ sym
           (unsaid last (is_grant y.opcode) (asks_for m (request_of y.source t)) (capped y.param) (held_by c (s.block m))
           is.grant);
-      requests = λ i. ap (λ (l : List (Beat w)). is_requested c i l (s'.uses c i) s') (rests channel.A) ∙ ap
-          (λ (u : SourceState). is_requested c i (rest channel.A) u s') (is.uses i)
+      requests = λ i. ap (λ (l : List (Beat w)). is_requested c i l (s'.uses c i) s') (rests Channel.A) ∙ ap
+          (λ (u : SourceState). is_requested c i (rest Channel.A) u s') (is.uses i)
           ∙ requests i last (y.source == i)
           ∙ sym (ap (λ (z : Bool). step first last false (not z && (y.source == i))
-          (is_requested c i (rest channel.A) (s.uses c i) s)) is.ack);
+          (is_requested c i (rest Channel.A) (s.uses c i) s)) is.ack);
       asked_is = λ i e. asked_still i e (last && (y.source == i)) refl;
       acquires = λ m. ap (acquired_by c) (is.blocks m) ∙ sym
           (unclosed first last (is_grant y.opcode) (asks_for m (request_of y.source t)) (acquired_by c (s.block m))
           is.grant);
       release_sources = λ i. lets i ∙ sym (unclosed first last (is_release_ack y.opcode) (y.source == i)
-          (is_let_by c i (rest channel.C) (s.lets c i) s) is.ack);
+          (is_let_by c i (rest Channel.C) (s.lets c i) s) is.ack);
       released = λ i m e f. ap (option_map (λ z. block_at z.address)) (release_of-d i y t) ∙ before.released i m
           (sym (is.lets i) ∙ e) (before.release_sources i ∙ sym (lets i) ∙ f);
       sizes = λ i m e f. ap (option_map (λ z. z.size)) (release_of-d i y t) ∙ before.sizes i m (sym (is.lets i) ∙ e)
           (before.release_sources i ∙ sym (lets i) ∙ f);
-      releases = λ m. ap (λ (l : List (Beat w)). let_of c l (s'.block m)) (rests channel.C) ∙ ap
-          (let_of c (rest channel.C)) (is.blocks m)
+      releases = λ m. ap (λ (l : List (Beat w)). let_of c l (s'.block m)) (rests Channel.C) ∙ ap
+          (let_of c (rest Channel.C)) (is.blocks m)
           ∙ sym (unclosed first last (is_release_ack y.opcode) (releases m (release_of y.source t))
-          (let_of c (rest channel.C) (s.block m)) is.ack);
-      sinks = λ i. ap (λ (o : Option ℕ). is_sunk c i (rest' channel.D) o s') (is.tracked i) ∙ sinks i (s.tracked i)
-          ∙ sym (unopened first last (is_grant y.opcode) (y.sink == i) (is_sunk c i (rest channel.D) (s.tracked i) s)
+          (let_of c (rest Channel.C) (s.block m)) is.ack);
+      sinks = λ i. ap (λ (o : Option ℕ). is_sunk c i (rest' Channel.D) o s') (is.tracked i) ∙ sinks i (s.tracked i)
+          ∙ sym (unopened first last (is_grant y.opcode) (y.sink == i) (is_sunk c i (rest Channel.D) (s.tracked i) s)
           is.grant);
       grants = λ m. grants m ∙ sym (unopened first last (is_grant y.opcode) (asks_for m (request_of y.source t))
-          (granted_by c m asked (rest channel.D) (s.block m)) is.grant);
+          (granted_by c m asked (rest Channel.D) (s.block m)) is.grant);
       probes = λ m. ap (λ (z : Block X). is_answered (z.pair c).probing) (is.blocks m) ∙ sym
           (step_quiet first last (is_answered ((s.block m).pair c).probing));
       probed = λ m e. probed-of m y t ∙ before.probed m
@@ -115,58 +111,53 @@ flowed-answer {w} {X} c y first last asked asked' rest rest' s s' t first_is las
           (λ (z : Block X). Some z.tracker) (sym (is.blocks m));
     }) before
   where
-    same_requested : (i : ℕ) (u : SourceState) → is_requested c i (rest channel.A) u s' ≡ is_requested c i
-        (rest channel.A) u s
-    same_requested i u = requested-blocks c i (rest channel.A) u s s'
+    same_requested : (i : ℕ) (u : SourceState) → is_requested c i (rest Channel.A) u s' ≡ is_requested c i
+        (rest Channel.A) u s
+    same_requested i u = requested-blocks c i (rest Channel.A) u s s'
         (λ m. ap (λ (z : Block X). is_unserved (view z.service c)) (is.blocks m))
 
     requests : (i : ℕ) (z here : Bool)
-        → is_requested c i (rest channel.A) (if z && here then SourceFree else s.uses c i) s' ≡ step first z false
-        (not false && here) (is_requested c i (rest channel.A) (s.uses c i) s)
-    requests i true true = sym (closes_last first true (is_requested c i (rest channel.A) (s.uses c i) s))
+        → is_requested c i (rest Channel.A) (if z && here then SourceFree else s.uses c i) s' ≡ step first z false
+        (not false && here) (is_requested c i (rest Channel.A) (s.uses c i) s)
+    requests i true true = sym (closes_last first true (is_requested c i (rest Channel.A) (s.uses c i) s))
     requests i false true = same_requested i (s.uses c i) ∙ sym
-        (closes_last first false (is_requested c i (rest channel.A) (s.uses c i) s))
+        (closes_last first false (is_requested c i (rest Channel.A) (s.uses c i) s))
     requests i true false = same_requested i (s.uses c i) ∙ sym
-        (step_quiet first true (is_requested c i (rest channel.A) (s.uses c i) s))
+        (step_quiet first true (is_requested c i (rest Channel.A) (s.uses c i) s))
     requests i false false =
-        same_requested i (s.uses c i) ∙ sym (step_quiet first false (is_requested c i (rest channel.A) (s.uses c i) s))
+        same_requested i (s.uses c i) ∙ sym (step_quiet first false (is_requested c i (rest Channel.A) (s.uses c i) s))
 
-    use_at : (i : ℕ) → is_requested c i (rest' channel.A) (s'.uses c i) s' ≡ is_requested c i (rest channel.A)
+    use_at : (i : ℕ) → is_requested c i (rest' Channel.A) (s'.uses c i) s' ≡ is_requested c i (rest Channel.A)
         (if last && (y.source == i) then SourceFree else s.uses c i) s'
-    use_at i = ap (λ (l : List (Beat w)). is_requested c i l (s'.uses c i) s') (rests channel.A) ∙ ap
-        (λ (u : SourceState). is_requested c i (rest channel.A) u s') (is.uses i)
+    use_at i = cc (rests Channel.A, is.uses i)
 
-    asked_still : (i : ℕ) → is_requested c i (rest' channel.A) (s'.uses c i) s' ≡ true → (z : Bool)
-        → (last && (y.source == i)) ≡ z → request_of i (beat.D y ∷ t) ≡ asked' i
+    asked_still : (i : ℕ) → is_requested c i (rest' Channel.A) (s'.uses c i) s' ≡ true → (z : Bool)
+        → (last && (y.source == i)) ≡ z → request_of i (Beat.D y ∷ t) ≡ asked' i
     asked_still i e true f =
         absurd (let g : false ≡ true =
-        sym (use_at i ∙ ap (λ (z : Bool). is_requested c i (rest channel.A) (if z then SourceFree else s.uses c i) s')
+        sym (use_at i ∙ ap (λ (z : Bool). is_requested c i (rest Channel.A) (if z then SourceFree else s.uses c i) s')
         f) ∙ e in cc)
     asked_still i e false f =
-        request_of-d i y t
-        ∙ before.asked_is i (before.requests i ∙ sym (same_requested i (s.uses c i))
-        ∙ sym (use_at i ∙ ap (λ (z : Bool). is_requested c i (rest channel.A) (if z then SourceFree else s.uses c i) s')
-        f) ∙ e)
-        ∙ sym (is.asked_is i f)
+        cc (
+          request_of-d i y t,
+          before.asked_is i (before.requests i ∙ sym (same_requested i (s.uses c i))
+              ∙ sym (use_at i ∙ ap (λ (z : Bool). is_requested c i (rest Channel.A)
+              (if z then SourceFree else s.uses c i) s')
+              f) ∙ e),
+          is.asked_is i f,
+        )
 
-    lets : (i : ℕ) → is_let_by c i (rest' channel.C) (s'.lets c i) s' ≡ is_let_by c i (rest channel.C) (s.lets c i) s
-    lets i =
-        ap (λ (l : List (Beat w)). is_let_by c i l (s'.lets c i) s') (rests channel.C) ∙ ap
-        (λ (o : Option ℕ). is_let_by c i (rest channel.C) o s') (is.lets i)
-        ∙ let_by-same c i (rest channel.C) (s.lets c i) s s'
-        (λ m. ap (λ (z : Block X). (z.pair c).letting) (is.blocks m))
+    lets : (i : ℕ) → is_let_by c i (rest' Channel.C) (s'.lets c i) s' ≡ is_let_by c i (rest Channel.C) (s.lets c i) s
+    lets i = cc (
+      rests Channel.C,
+      is.lets i,
+      let_by-same c i (rest Channel.C) (s.lets c i) s s'
+          (λ m. ap (λ (z : Block X). (z.pair c).letting) (is.blocks m)),
+    )
 
-    sinks : (i : ℕ) (o : Option ℕ) → is_sunk c i (rest' channel.D) o s' ≡ is_sunk c i (rest channel.D) o s
-    sinks i None = refl
-    sinks i (Some m) = ap (λ (z : Bool). is_acknowledging (view (s'.block m).service c)
-        || (is_granting (view (s'.block m).service c) && z)) (is.comes i)
-        ∙ ap (λ (z : Block X). is_acknowledging (view z.service c) || (is_granting (view z.service c) && comes_in_grant
-        i (rest channel.D))) (is.blocks m)
-
-    grants : (m : ℕ) → granted_by c m asked' (rest' channel.D) (s'.block m) ≡ granted_by c m asked (rest channel.D)
+    grants : (m : ℕ) → granted_by c m asked' (rest' Channel.D) (s'.block m) ≡ granted_by c m asked (rest Channel.D)
         (s.block m)
-    grants m = ap (λ (z : Bool). is_acknowledging (view (s'.block m).service c) || z) (is.grants m) ∙ ap
-        (granted_by c m asked (rest channel.D)) (is.blocks m)
+    grants m = cc (is.grants m, is.blocks m)
 
 -- ---- a ReleaseAck
 
@@ -177,8 +168,8 @@ pub record IsLetGo {w : ℕ} {X : Type 0} (c n : ℕ) (y : BeatD w) (asked asked
   pub ack : is_release_ack y.opcode ≡ true
   pub source : y.source ≡ (s.block n).release_source c
   pub letting : ((s.block n).pair c).letting ≡ ReleaseAcked
-  pub comes : (i : ℕ) → comes_in_grant i (rest' channel.D) ≡ comes_in_grant i (rest channel.D)
-  pub grants : (m : ℕ) → comes_granting m asked' (rest' channel.D) ≡ comes_granting m asked (rest channel.D)
+  pub comes : (i : ℕ) → comes_in_grant i (rest' Channel.D) ≡ comes_in_grant i (rest Channel.D)
+  pub grants : (m : ℕ) → comes_granting m asked' (rest' Channel.D) ≡ comes_granting m asked (rest Channel.D)
   pub asked_is : (i : ℕ) → asked' i ≡ asked i
   pub elsewhere : AreElsewhere n s s'
   pub uses : (i : ℕ) → s'.uses c i ≡ s.uses c i
@@ -203,13 +194,43 @@ of_releases : {w : ℕ} (n m : ℕ) (o : Option (BeatC w)) → option_map (λ x.
 of_releases n m None e = absurd cc
 of_releases n m (Some x) e = let f : block_at x.address ≡ n = cc in ap (λ (z : ℕ). z == m) f
 
-pub flowed-let_go : {w : ℕ} {X : Type 0} (c n : ℕ) (y : BeatD w) (asked asked' : ℕ → Option (BeatA w))
-    (rest rest' : Channel → List (Beat w)) (s s' : State X) (t : History w)
-    → begins (beat.D y) t ≡ true → ends (beat.D y) t ≡ true → AreRests (beat.D y) rest rest'
+pub flowed-let_go : {w : ℕ} {X : Type 0} {c n : ℕ} {y : BeatD w} {asked asked' : ℕ → Option (BeatA w)}
+    {rest rest' : Channel → List (Beat w)} {s s' : State X} {t : History w}
+    → begins (Beat.D y) t ≡ true → ends (Beat.D y) t ≡ true → AreRests (Beat.D y) rest rest'
     → ((i m : ℕ) → is_of m (s.lets c i) ≡ releases_with c i (s.block m)) → IsLetGo c n y asked asked' rest rest' s s'
-    → MonitorRelation asked rest c s t → MonitorRelation asked' rest' c s' (beat.D y ∷ t)
-flowed-let_go {w} {X} c n y asked asked' rest rest' s s' t first_is last_is rests named is before =
-    flowed-next (beat.D y) true true asked asked' rest rest' c s s' t (record {
+    → MonitorRelation asked rest c s t → MonitorRelation asked' rest' c s' (Beat.D y ∷ t)
+flowed-let_go {w} {X} {c} {n} {y} {asked} {asked'} {rest} {rest'} {s} {s'} {t} first_is last_is rests named is before =
+    let of_block = is_of-is n (s.lets c y.source) (named y.source n
+    ∙ rw (is.letting, is.source) (same_number (b.release_source c))) in
+    let was_let : pending (ReleaseSource y.source) t ≡ true = cc (before.release_sources y.source, of_block, is.letting)
+    in
+    let names : (m : ℕ) → releases m (release_of y.source t) ≡ (n == m) =
+    λ m. of_releases n m (release_of y.source t) (before.released y.source n of_block was_let) in
+    let releases_at = each-block (λ m z. let_of c (rest Channel.C) z ≡ step true true false
+    (is_release_ack y.opcode && releases m (release_of y.source t)) (let_of c (rest Channel.C) (s.block m))) n s s'
+    is.elsewhere (ap (is_release_pending ((s'.block n).release_source c) (rest Channel.C)) is.letting_is
+    ∙ sym (closed (is_release_ack y.opcode) (releases n (release_of y.source t)) (let_of c (rest Channel.C) b)
+    is.ack (names n ∙ same_number n)))
+    (λ m ne. sym (unclosed_by (is_release_ack y.opcode) (releases m (release_of y.source t))
+    (let_of c (rest Channel.C) (s.block m)) (names m ∙ ne_eqb n m (λ e. ne (sym e))))) in
+    let requests : (i : ℕ) → is_requested c i (rest' Channel.A) (s'.uses c i) s' ≡ is_requested c i (rest Channel.A)
+    (s.uses c i) s = λ i. cc (
+      rests Channel.A,
+      is.uses i,
+      requested-blocks c i (rest Channel.A) (s.uses c i) s s'
+          (part-block (λ (z : Block X). is_unserved (view z.service c)) n s s' is.elsewhere
+          (ap (λ (q : Service). is_unserved (view q c)) is.service)),
+    ) in
+    let acquires = part-block (acquired_by c) n s s' is.elsewhere
+    (ap (λ (l : AcquirePhase). is_wanting l && not (is_unserved (view (s'.block n).service c))) is.acquiring
+    ∙ ap (λ (q : Service). is_wanting (b.pair c).acquiring && not (is_unserved (view q c))) is.service) in
+    let answered : (m : ℕ) → is_answered ((s'.block m).pair c).probing ≡ is_answered ((s.block m).pair c).probing =
+    part-block (λ (z : Block X). is_answered (z.pair c).probing) n s s' is.elsewhere (ap is_answered is.probing) in
+    let still_pending : (i m : ℕ) → s'.lets c i ≡ Some m → is_let_by c i (rest' Channel.C) (s'.lets c i) s' ≡ true
+    → pending (ReleaseSource i) t ≡ true = λ i m e f. before.release_sources i
+    ∙ sym (unclosed_by (is_release_ack y.opcode) (y.source == i) (is_let_by c i (rest Channel.C) (s.lets c i) s)
+    (is_another i m e (y.source == i) refl).0) ∙ sym (lets i (y.source == i) refl) ∙ f in
+    flowed-next (record {
       first_is = first_is;
       last_is = last_is;
       rests = rests;
@@ -218,7 +239,7 @@ flowed-let_go {w} {X} c n y asked asked' rest rest' s s' t first_is last_is rest
           (held_by c (s.block m)) is.grant);
       requests = λ i. requests i ∙ sym
           (ap (λ (z : Bool). step true true false (not z && (y.source == i))
-          (is_requested c i (rest channel.A) (s.uses c i) s)) is.ack);
+          (is_requested c i (rest Channel.A) (s.uses c i) s)) is.ack);
       asked_is = λ i e. request_of-d i y t ∙ before.asked_is i (before.requests i ∙ sym (requests i) ∙ e) ∙ sym
           (is.asked_is i);
       acquires = λ m. acquires m ∙ sym (unclosed true true (is_grant y.opcode) (asks_for m (request_of y.source t))
@@ -228,12 +249,12 @@ flowed-let_go {w} {X} c n y asked asked' rest rest' s s' t first_is last_is rest
           (is_another i m e (y.source == i) refl).1 (still_pending i m e f);
       sizes = λ i m e f. ap (option_map (λ z. z.size)) (release_of-d i y t) ∙ before.sizes i m
           (is_another i m e (y.source == i) refl).1 (still_pending i m e f);
-      releases = λ m. ap (λ (l : List (Beat w)). let_of c l (s'.block m)) (rests channel.C) ∙ releases_at m;
-      sinks = λ i. ap (λ (o : Option ℕ). is_sunk c i (rest' channel.D) o s') (is.tracked i) ∙ sinks i (s.tracked i)
-          ∙ sym (unopened true true (is_grant y.opcode) (y.sink == i) (is_sunk c i (rest channel.D) (s.tracked i) s)
+      releases = λ m. ap (λ (l : List (Beat w)). let_of c l (s'.block m)) (rests Channel.C) ∙ releases_at m;
+      sinks = λ i. ap (λ (o : Option ℕ). is_sunk c i (rest' Channel.D) o s') (is.tracked i) ∙ sinks i (s.tracked i)
+          ∙ sym (unopened true true (is_grant y.opcode) (y.sink == i) (is_sunk c i (rest Channel.D) (s.tracked i) s)
           is.grant);
       grants = λ m. grants m ∙ sym (unopened true true (is_grant y.opcode) (asks_for m (request_of y.source t))
-          (granted_by c m asked (rest channel.D) (s.block m)) is.grant);
+          (granted_by c m asked (rest Channel.D) (s.block m)) is.grant);
       probes = answered;
       probed = λ m e. probed-of m y t ∙ before.probed m (sym (answered m) ∙ e)
           ∙ sym (ap (λ k. Some (probe_beat m k)) (part-block (λ (z : Block X). cap_waited z.service) n s s' is.elsewhere
@@ -245,59 +266,17 @@ flowed-let_go {w} {X} c n y asked asked' rest rest' s s' t first_is last_is rest
     b : Block X
     b = s.block n
 
-    of_block : s.lets c y.source ≡ Some n
-    of_block = is_of-is n (s.lets c y.source)
-        (named y.source n ∙ rw (is.letting, is.source) (same_number (b.release_source c)))
-
-    was_let : pending (ReleaseSource y.source) t ≡ true
-    was_let = before.release_sources y.source ∙ ap (λ (o : Option ℕ). is_let_by c y.source (rest channel.C) o s)
-        of_block ∙ ap (is_release_pending y.source (rest channel.C)) is.letting
-
-    names : (m : ℕ) → releases m (release_of y.source t) ≡ (n == m)
-    names m = of_releases n m (release_of y.source t) (before.released y.source n of_block was_let)
-
-    releases_at : (m : ℕ) → let_of c (rest channel.C) (s'.block m) ≡ step true true false
-        (is_release_ack y.opcode && releases m (release_of y.source t)) (let_of c (rest channel.C) (s.block m))
-    releases_at = each-block (λ m z. let_of c (rest channel.C) z ≡ step true true false
-        (is_release_ack y.opcode && releases m (release_of y.source t))
-        (let_of c (rest channel.C) (s.block m))) n s s' is.elsewhere
-        (ap (is_release_pending ((s'.block n).release_source c) (rest channel.C)) is.letting_is
-        ∙ sym (closed (is_release_ack y.opcode) (releases n (release_of y.source t)) (let_of c (rest channel.C) b)
-        is.ack (names n ∙ same_number n)))
-        (λ m ne. sym (unclosed_by (is_release_ack y.opcode) (releases m (release_of y.source t))
-        (let_of c (rest channel.C) (s.block m)) (names m ∙ ne_eqb n m (λ e. ne (sym e)))))
-
-    requests : (i : ℕ) → is_requested c i (rest' channel.A) (s'.uses c i) s' ≡ is_requested c i (rest channel.A)
-        (s.uses c i) s
-    requests i =
-        ap (λ (l : List (Beat w)). is_requested c i l (s'.uses c i) s') (rests channel.A) ∙ ap
-        (λ (u : SourceState). is_requested c i (rest channel.A) u s') (is.uses i)
-        ∙ requested-blocks c i (rest channel.A) (s.uses c i) s s'
-        (part-block (λ (z : Block X). is_unserved (view z.service c)) n s s' is.elsewhere
-        (ap (λ (q : Service). is_unserved (view q c)) is.service))
-
-    acquires : (m : ℕ) → acquired_by c (s'.block m) ≡ acquired_by c (s.block m)
-    acquires = part-block (acquired_by c) n s s' is.elsewhere
-        (ap (λ (l : AcquirePhase). is_wanting l && not (is_unserved (view (s'.block n).service c))) is.acquiring
-        ∙ ap (λ (q : Service). is_wanting (b.pair c).acquiring && not (is_unserved (view q c))) is.service)
-
-    answered : (m : ℕ) → is_answered ((s'.block m).pair c).probing ≡ is_answered ((s.block m).pair c).probing
-    answered = part-block (λ (z : Block X). is_answered (z.pair c).probing) n s s' is.elsewhere
-        (ap is_answered is.probing)
-
-    sinks : (i : ℕ) (o : Option ℕ) → is_sunk c i (rest' channel.D) o s' ≡ is_sunk c i (rest channel.D) o s
+    sinks : (i : ℕ) (o : Option ℕ) → is_sunk c i (rest' Channel.D) o s' ≡ is_sunk c i (rest Channel.D) o s
     sinks i None = refl
-    sinks i (Some m) = ap (λ (z : Bool). is_acknowledging (view (s'.block m).service c)
-        || (is_granting (view (s'.block m).service c) && z)) (is.comes i)
-        ∙ ap (λ (q : Service). is_acknowledging (view q c) || (is_granting (view q c) && comes_in_grant i
-        (rest channel.D))) (part-block (λ (z : Block X). z.service) n s s' is.elsewhere is.service m)
+    sinks i (Some m) = cc (is.comes i, part-block (λ (z : Block X). z.service) n s s' is.elsewhere is.service m)
 
-    grants : (m : ℕ) → granted_by c m asked' (rest' channel.D) (s'.block m) ≡ granted_by c m asked (rest channel.D)
+    grants : (m : ℕ) → granted_by c m asked' (rest' Channel.D) (s'.block m) ≡ granted_by c m asked (rest Channel.D)
         (s.block m)
-    grants m =
-        ap (λ (z : Bool). is_acknowledging (view (s'.block m).service c) || z) (is.grants m)
-        ∙ part-block (granted_by c m asked (rest channel.D)) n s s' is.elsewhere
-        (ap (λ (q : Service). is_acknowledging (view q c) || comes_granting m asked (rest channel.D)) is.service) m
+    grants m = cc (
+      is.grants m,
+      part-block (granted_by c m asked (rest Channel.D)) n s s' is.elsewhere
+          (ap (λ (q : Service). is_acknowledging (view q c) || comes_granting m asked (rest Channel.D)) is.service) m,
+    )
 
     -- an open Release with another source is of another block
     other_source : (i m : ℕ) → s.lets c i ≡ Some m → (y.source == i) ≡ false → m ≡ n → ⊥
@@ -310,36 +289,29 @@ flowed-let_go {w} {X} c n y asked asked' rest rest' s s' t first_is last_is rest
         let u : true ≡ false = sym l ∙ f in cc
 
     rest_same : (i : ℕ) (o : Option ℕ) → s.lets c i ≡ o → (y.source == i) ≡ false
-        → is_let_by c i (rest' channel.C) o s' ≡ is_let_by c i (rest channel.C) o s
+        → is_let_by c i (rest' Channel.C) o s' ≡ is_let_by c i (rest Channel.C) o s
     rest_same i None e f = refl
-    rest_same i (Some m) e f = ap (λ (l : List (Beat w)). is_release_pending i l ((s'.block m).pair c).letting)
-        (rests channel.C)
-        ∙ ap (λ (z : Block X). is_release_pending i (rest channel.C) (z.pair c).letting)
-        (is.elsewhere m (other_source i m e f))
+    rest_same i (Some m) e f = cc (rests Channel.C, is.elsewhere m (other_source i m e f))
 
-    lets : (i : ℕ) (z : Bool) → (y.source == i) ≡ z → is_let_by c i (rest' channel.C) (s'.lets c i) s' ≡ step true true
+    lets : (i : ℕ) (z : Bool) → (y.source == i) ≡ z → is_let_by c i (rest' Channel.C) (s'.lets c i) s' ≡ step true true
         false
-        (is_release_ack y.opcode && (y.source == i)) (is_let_by c i (rest channel.C) (s.lets c i) s)
-    lets i true e =
-        ap (λ (o : Option ℕ). is_let_by c i (rest' channel.C) o s')
-        (is.lets i ∙ ap (λ (z : Bool). if z then None else s.lets c i) e)
-        ∙ sym (closed (is_release_ack y.opcode) (y.source == i) (is_let_by c i (rest channel.C) (s.lets c i) s) is.ack
-        e)
-    lets i false e =
-        ap (λ (o : Option ℕ). is_let_by c i (rest' channel.C) o s')
-        (is.lets i ∙ ap (λ (z : Bool). if z then None else s.lets c i) e)
-        ∙ rest_same i (s.lets c i) refl e ∙ sym (unclosed_by (is_release_ack y.opcode) (y.source == i)
-        (is_let_by c i (rest channel.C) (s.lets c i) s) e)
+        (is_release_ack y.opcode && (y.source == i)) (is_let_by c i (rest Channel.C) (s.lets c i) s)
+    lets i true e = cc (
+      is.lets i,
+      e,
+      closed (is_release_ack y.opcode) (y.source == i)
+          (is_let_by c i (rest Channel.C) (s.lets c i) s) is.ack e,
+    )
+    lets i false e = cc (
+      is.lets i,
+      e,
+      rest_same i (s.lets c i) refl e,
+      unclosed_by (is_release_ack y.opcode)
+          (y.source == i) (is_let_by c i (rest Channel.C) (s.lets c i) s) e,
+    )
 
     is_another : (i m : ℕ) → s'.lets c i ≡ Some m → (z : Bool) → (y.source == i) ≡ z → ((y.source == i) ≡ false)
         × (s.lets c i ≡ Some m)
     is_another i m e true f =
         absurd (let g : None ≡ Some m = sym (is.lets i ∙ ap (λ (z : Bool). if z then None else s.lets c i) f) ∙ e in cc)
     is_another i m e false f = (f, sym (is.lets i ∙ ap (λ (z : Bool). if z then None else s.lets c i) f) ∙ e)
-
-    still_pending : (i m : ℕ) → s'.lets c i ≡ Some m → is_let_by c i (rest' channel.C) (s'.lets c i) s' ≡ true
-        → pending (ReleaseSource i) t ≡ true
-    still_pending i m e f = before.release_sources i ∙ sym
-        (unclosed_by (is_release_ack y.opcode) (y.source == i) (is_let_by c i (rest channel.C) (s.lets c i) s)
-        (is_another i m e (y.source == i) refl).0)
-        ∙ sym (lets i (y.source == i) refl) ∙ f

@@ -1,19 +1,17 @@
 -- What an event leaves of what is delivered on a link: each value is as before, where the event isn't of the link, or
 -- comes of a beat of it that is accounted for.
 use Rattle.tl_coherence.proofs.flow.Imports.{Beat, BeatA, Channel, Cap, Grow, Prune, Report, comes_in_grant, is_sunk}
-use Rattle.tl_coherence.proofs.flow.Imports.{View, Own, Other, Granting, GrantedOther, is_unprobed, after_report}
-use Rattle.tl_coherence.proofs.flow.Imports.{Service, Free, Waits, GrantSent, GrantTaken, Block, State, SourceState}
-use Rattle.tl_coherence.proofs.flow.Imports.{InService, Replied, Acquires, view, is_granting, is_acknowledging}
-use Rattle.tl_coherence.proofs.flow.Imports.{is_answered, acquiring_block, acquire_asked, access_asked, releasing_block}
+use Rattle.tl_coherence.proofs.flow.Imports.{Own, Other, Granting, GrantedOther, is_unprobed, after_report, Service}
+use Rattle.tl_coherence.proofs.flow.Imports.{Free, Waits, GrantSent, GrantTaken, Block, State, SourceState, InService}
+use Rattle.tl_coherence.proofs.flow.Imports.{Replied, Acquires, view, is_granting, is_acknowledging, is_answered}
+use Rattle.tl_coherence.proofs.flow.Imports.{acquiring_block, acquire_asked, access_asked, releasing_block}
 use Rattle.tl_coherence.proofs.flow.Imports.{release_asked, granted_at_once, acquire_granted, served_block}
 use Rattle.tl_coherence.proofs.flow.Imports.{probed_block, probe_taken, reported_block, report_taken, let_block}
 use Rattle.tl_coherence.proofs.flow.Imports.{release_taken, taken_block, let_go_block, release_ack_taken, freed_block}
 use Rattle.tl_coherence.proofs.flow.Imports.{grant_ack_taken, Packet, set, set_at}
 use Rattle.std.proofs.Common.{◌≡◌, subst, ℕ, Bool, true, false, ◌&&◌, ◌||◌, Option, Some, None, refl, sym, ◌∙◌, ap}
 use Rattle.std.proofs.Common.{List, ◌⊎◌, inl, inr}
-use Rattle.std.specs.Prelude.{◌==◌, if◌then◌else◌}
-use Rattle.std.proofs.lemmas.Bool.{cases_eq}
-use Rattle.tl_beat.specs.declared.channel.Channel.TheVariants as channel
+use Rattle.std.{specs.Prelude.◌==◌, specs.Prelude.if◌then◌else◌, proofs.lemmas.Bool.cases_eq}
 use Rattle.tl_coherence.specs.protocol.Protocol.{stored_block, block_stored, performed_block, access_answered}
 use Rattle.tl_coherence.specs.protocol.Protocol.{access_served, ended_block, report_answers, granted_block}
 use Rattle.tl_coherence.specs.protocol.Protocol.{report_grants, answer_taken, grant_taken}
@@ -50,7 +48,7 @@ set-again n y z f m = elim (cases_eq m n) [
 
 module _ {w : ℕ} {X : Type 0} (d : ℕ) (asked asked' : ℕ → Option (BeatA w)) (rest : Channel → List (Beat w))
     (s : State X) (asks : (i : ℕ) → asked' i ≡ asked i)
-    (coming : IsComing asked (rest channel.D) d s) where
+    (coming : IsComing asked (rest Channel.D) d s) where
   -- ---- a state that differs in block n alone
 
   -- what is delivered is as it was
@@ -61,7 +59,7 @@ module _ {w : ℕ} {X : Type 0} (d : ℕ) (asked asked' : ℕ → Option (BeatA 
   IsChanged n b s' = (m : ℕ) → s'.block m ≡ set n b s.block m
 
   abbrev AreSameSinks : State X → Type 0
-  AreSameSinks s' = (i : ℕ) → is_sunk d i (rest channel.D) (s'.tracked i) s' ≡ is_sunk d i (rest channel.D)
+  AreSameSinks s' = (i : ℕ) → is_sunk d i (rest Channel.D) (s'.tracked i) s' ≡ is_sunk d i (rest Channel.D)
       (s.tracked i) s
 
   apart-at : (n : ℕ) (b : Block X) (s' : State X) → IsChanged n b s' → IsSameBlock d (s.block n) b
@@ -80,22 +78,22 @@ module _ {w : ℕ} {X : Type 0} (d : ℕ) (asked asked' : ℕ → Option (BeatA 
   sinks-same : (n : ℕ) (b : Block X) (s' : State X) → IsChanged n b s' → b.service ≡ (s.block n).service
       → ((i : ℕ) → s'.tracked i ≡ s.tracked i) → AreSameSinks s'
   sinks-same n b s' changed same tracked i =
-      ap (λ (o : Option ℕ). is_sunk d i (rest channel.D) o s') (tracked i)
-      ∙ sunk-as d i (rest channel.D) (s.tracked i) s s' (λ m. ap (sunk_in d i (rest channel.D)) (changed m)
-      ∙ set-part (sunk_in d i (rest channel.D)) n b s.block
-      (ap (λ (q : Service). is_acknowledging (view q d) || (is_granting (view q d) && comes_in_grant i
-      (rest channel.D))) same) m)
+      cc (
+        tracked i,
+        sunk-as d i (rest Channel.D) (s.tracked i) s s' (λ m. ap (sunk_in d i (rest Channel.D)) (changed m)
+            ∙ set-part (sunk_in d i (rest Channel.D)) n b s.block
+            (ap (λ (q : Service). is_acknowledging (view q d) || (is_granting (view q d) && comes_in_grant i
+            (rest Channel.D))) same) m),
+      )
 
   sinks-outside : (n : ℕ) (b : Block X) (s' : State X) → IsChanged n b s'
       → is_outside (view (s.block n).service d) ≡ true → is_outside (view b.service d) ≡ true
       → ((i : ℕ) → (s'.tracked i ≡ s.tracked i) ⊎ (IsWithin n (s.tracked i) × IsWithin n (s'.tracked i)))
       → AreSameSinks s'
-  sinks-outside n b s' changed was now tracked i =
-      sunk-elsewhere d i n (rest channel.D) (s.tracked i) (s'.tracked i) s s'
-      (λ m ne. changed m ∙ set-other n m b s.block ne) (tracked i)
-      (λ e. outside-unsunk (view (s.block n).service d) (comes_in_grant i (rest channel.D)) was)
-      (λ e. ap (sunk_in d i (rest channel.D)) (changed n ∙ set-same n b s.block) ∙ outside-unsunk (view b.service d)
-      (comes_in_grant i (rest channel.D)) now)
+  sinks-outside n b s' changed was now tracked i = cc (sunk-elsewhere d i n (rest Channel.D) (s.tracked i) (s'.tracked
+      i) s s' (λ m ne. changed m ∙ set-other n m b s.block ne) (tracked i) (λ e. outside-unsunk (view (s.block
+      n).service d) (comes_in_grant i (rest Channel.D)) was) (λ e. ap (sunk_in d i (rest Channel.D)) (changed n ∙
+      set-same n b s.block) ∙ outside-unsunk (view b.service d) (comes_in_grant i (rest Channel.D)) now))
 
   free-outside : (n : ℕ) → (s.block n).service ≡ Free → is_outside (view (s.block n).service d) ≡ true
   free-outside n free = ap (λ (q : Service). is_outside (view q d)) free
@@ -107,32 +105,27 @@ module _ {w : ℕ} {X : Type 0} (d : ℕ) (asked asked' : ℕ → Option (BeatA 
     blocks = λ m. same-block d (s.block m);
     uses = λ i. inl (set_at-other c d source i _ s.uses ne);
     lets = λ i. refl;
-    sinks = λ i. sunk-as d i (rest channel.D) (s.tracked i) s (access_asked c source s) (λ m. refl);
+    sinks = λ i. sunk-as d i (rest Channel.D) (s.tracked i) s (access_asked c source s) (λ m. refl);
     asked_is = asks;
     coming = coming;
   }
 
   pub left-acquire_asked : (c n source : ℕ) (whole : Bool) (g : Grow) (bytes : X) → (d ≡ c → ⊥)
       → IsLeft (acquire_asked c n source whole g bytes s)
-  left-acquire_asked c n source whole g bytes ne =
-      apart-at n (acquiring_block c source whole g bytes (s.block n)) (acquire_asked c n source whole g bytes s)
-      (λ m. refl)
-      (same-acquiring d c source whole g bytes (s.block n) ne)
+  left-acquire_asked c n source whole g bytes ne = apart-at n (acquiring_block c source whole g bytes (s.block n))
+      (acquire_asked c n source whole g bytes s) (λ m. refl) (same-acquiring d c source whole g bytes (s.block n) ne)
       (λ i. inl (set_at-other c d source i (Acquires n) s.uses ne)) (λ i. refl)
       (sinks-same n (acquiring_block c source whole g bytes (s.block n)) (acquire_asked c n source whole g bytes s)
       (λ m. refl) refl (λ i. refl))
 
   pub left-release_asked : (c n source : ℕ) (r : Prune) → (d ≡ c → ⊥) → IsLeft (release_asked c n source r s)
-  left-release_asked c n source r ne =
-      apart-at n (releasing_block c source r (s.block n)) (release_asked c n source r s) (λ m. refl)
-      (same-releasing d c source r (s.block n) ne)
-      (λ i. inl refl) (λ i. set_at-other c d source i (Some n) s.lets ne)
-      (sinks-same n (releasing_block c source r (s.block n)) (release_asked c n source r s) (λ m. refl) refl
-      (λ i. refl))
+  left-release_asked c n source r ne = apart-at n (releasing_block c source r (s.block n))
+      (release_asked c n source r s) (λ m. refl) (same-releasing d c source r (s.block n) ne) (λ i. inl refl)
+      (λ i. set_at-other c d source i (Some n) s.lets ne) (sinks-same n (releasing_block c source r (s.block n))
+      (release_asked c n source r s) (λ m. refl) refl (λ i. refl))
 
   pub left-block_stored : (c n : ℕ) (bytes : X) → IsLeft (block_stored c n bytes s)
-  left-block_stored c n bytes =
-      apart-at n (stored_block c bytes (s.block n)) (block_stored c n bytes s) (λ m. refl)
+  left-block_stored c n bytes = apart-at n (stored_block c bytes (s.block n)) (block_stored c n bytes s) (λ m. refl)
       (same-stored d c bytes (s.block n)) (λ i. inl refl) (λ i. refl)
       (sinks-same n (stored_block c bytes (s.block n)) (block_stored c n bytes s) (λ m. refl) refl (λ i. refl))
 
@@ -143,7 +136,7 @@ module _ {w : ℕ} {X : Type 0} (d : ℕ) (asked asked' : ℕ → Option (BeatA 
     blocks = λ m. same-block d (s.block m);
     uses = λ i. inl (set_at-other c d source i Replied s.uses ne);
     lets = λ i. refl;
-    sinks = λ i. sunk-as d i (rest channel.D) (s.tracked i) s (replied c source s) (λ m. refl);
+    sinks = λ i. sunk-as d i (rest Channel.D) (s.tracked i) s (replied c source s) (λ m. refl);
     asked_is = asks;
     coming = coming;
   }
@@ -151,9 +144,8 @@ module _ {w : ℕ} {X : Type 0} (d : ℕ) (asked asked' : ℕ → Option (BeatA 
   left-performed : (n : ℕ) (f : X → X) (s' : State X) → IsChanged n (performed_block f (s.block n)) s'
       → ((i : ℕ) → IsSameUse (s.uses d i) (s'.uses d i))
       → ((i : ℕ) → s'.lets d i ≡ s.lets d i) → ((i : ℕ) → s'.tracked i ≡ s.tracked i) → IsLeft s'
-  left-performed n f s' changed uses lets tracked =
-      apart-at n (performed_block f (s.block n)) s' changed (same-performed d f (s.block n)) uses lets
-      (sinks-same n (performed_block f (s.block n)) s' changed refl tracked)
+  left-performed n f s' changed uses lets tracked = apart-at n (performed_block f (s.block n)) s' changed
+      (same-performed d f (s.block n)) uses lets (sinks-same n (performed_block f (s.block n)) s' changed refl tracked)
 
   pub left-served : (r n source tracker : ℕ) (own : Bool) (k : Cap) (s' : State X)
       → IsChanged n (served_block r own source tracker k (s.block n)) s'
@@ -161,46 +153,38 @@ module _ {w : ℕ} {X : Type 0} (d : ℕ) (asked asked' : ℕ → Option (BeatA 
       → ((i : ℕ) → IsSameUse (s.uses d i) (s'.uses d i)) → ((i : ℕ) → s'.lets d i ≡ s.lets d i)
       → s.tracked tracker ≡ None → ((i : ℕ) → s'.tracked i ≡ set tracker (Some n) s.tracked i) → IsLeft s'
   left-served r n source tracker own k s' changed other free quiet uses lets unused tracked =
+      let new : Block X = served_block r own source tracker k (s.block n) in
       apart-at n new s' changed (same-served d r source tracker own k (s.block n) other free quiet) uses lets
       (sinks-outside n new s' changed (free-outside n free) (outside-waits d r source own k other)
       (λ i. subst (λ (o : Option ℕ). (o ≡ s.tracked i) ⊎ (IsWithin n (s.tracked i) × IsWithin n o)) (sym (tracked i))
       (tracked-new n tracker s.tracked unused i)))
-    where
-      new : Block X
-      new = served_block r own source tracker k (s.block n)
 
   pub left-acquire_granted : (r n tracker : ℕ) (x : Bool) (k : Cap) (toks : List Packet) → (d ≡ r → ⊥)
-      → (s.block n).service ≡ Free
-      → is_answered ((s.block n).pair d).probing ≡ false → s.tracked tracker ≡ None
+      → (s.block n).service ≡ Free → is_answered ((s.block n).pair d).probing ≡ false → s.tracked tracker ≡ None
       → IsLeft (acquire_granted r n tracker x k toks s)
   left-acquire_granted r n tracker x k toks ne free quiet unused =
+      let new : Block X = granted_at_once r tracker x k (s.block n) in
       apart-at n new (acquire_granted r n tracker x k toks s) (λ m. refl)
       (same-granted_at_once d r tracker x k (s.block n) ne free quiet) (λ i. inl refl) (λ i. refl)
       (sinks-outside n new (acquire_granted r n tracker x k toks s) (λ m. refl) (free-outside n free)
       (outside-sent d r x k ne) (tracked-new n tracker s.tracked unused))
-    where
-      new : Block X
-      new = granted_at_once r tracker x k (s.block n)
 
   -- ---- Probes, ProbeAcks and Releases
 
   pub left-probe_taken : (c n : ℕ) (k : Cap) (toks : List Packet) → (d ≡ c → ⊥) → IsLeft (probe_taken c n k toks s)
-  left-probe_taken c n k toks ne =
-      apart-at n (probed_block c k (s.block n)) (probe_taken c n k toks s) (λ m. refl)
+  left-probe_taken c n k toks ne = apart-at n (probed_block c k (s.block n)) (probe_taken c n k toks s) (λ m. refl)
       (same-probed d c k (s.block n) ne) (λ i. inl refl) (λ i. refl)
       (sinks-same n (probed_block c k (s.block n)) (probe_taken c n k toks s) (λ m. refl) refl (λ i. refl))
 
   pub left-report_taken : (c n : ℕ) (r : Report) (toks : List Packet) → (d ≡ c → ⊥) → IsLeft (report_taken c n r toks s)
-  left-report_taken c n r toks ne =
-      apart-at n (reported_block c r (s.block n)) (report_taken c n r toks s) (λ m. refl)
+  left-report_taken c n r toks ne = apart-at n (reported_block c r (s.block n)) (report_taken c n r toks s) (λ m. refl)
       (same-reported d c r (s.block n) ne) (λ i. inl refl) (λ i. refl)
       (sinks-same n (reported_block c r (s.block n)) (report_taken c n r toks s) (λ m. refl) refl (λ i. refl))
 
   pub left-release_taken : (c n : ℕ) (r : Prune) (toks : List Packet) → (d ≡ c → ⊥)
       → IsLeft (release_taken c n r toks s)
-  left-release_taken c n r toks ne =
-      apart-at n (let_block c r (s.block n)) (release_taken c n r toks s) (λ m. refl) (same-let d c r (s.block n) ne)
-      (λ i. inl refl) (λ i. refl)
+  left-release_taken c n r toks ne = apart-at n (let_block c r (s.block n)) (release_taken c n r toks s) (λ m. refl)
+      (same-let d c r (s.block n) ne) (λ i. inl refl) (λ i. refl)
       (sinks-same n (let_block c r (s.block n)) (release_taken c n r toks s) (λ m. refl) refl (λ i. refl))
 
   -- ---- responses and GrantAcks
@@ -210,7 +194,7 @@ module _ {w : ℕ} {X : Type 0} (d : ℕ) (asked asked' : ℕ → Option (BeatA 
     blocks = λ m. same-block d (s.block m);
     uses = λ i. inl (set_at-other c d source i _ s.uses ne);
     lets = λ i. refl;
-    sinks = λ i. sunk-as d i (rest channel.D) (s.tracked i) s (answer_taken c source toks s) (λ m. refl);
+    sinks = λ i. sunk-as d i (rest Channel.D) (s.tracked i) s (answer_taken c source toks s) (λ m. refl);
     asked_is = asks;
     coming = coming;
   }
@@ -219,24 +203,21 @@ module _ {w : ℕ} {X : Type 0} (d : ℕ) (asked asked' : ℕ → Option (BeatA 
       → (s.block n).service ≡ GrantSent c x k → IsLeft (grant_taken c n whole x k toks s)
   left-grant_taken c n whole x k toks ne sent =
       apart-at n (taken_block c whole x k (s.block n)) (grant_taken c n whole x k toks s) (λ m. refl)
-      (same-taken d c whole x k (s.block n) ne sent)
-      (λ i. inl (set_at-other c d ((s.block n).source c) i _ s.uses ne)) (λ i. refl)
-      (sinks-outside n (taken_block c whole x k (s.block n)) (grant_taken c n whole x k toks s) (λ m. refl)
+      (same-taken d c whole x k (s.block n) ne sent) (λ i. inl (set_at-other c d ((s.block n).source c) i _ s.uses ne))
+      (λ i. refl) (sinks-outside n (taken_block c whole x k (s.block n)) (grant_taken c n whole x k toks s) (λ m. refl)
       (ap (λ (q : Service). is_outside (view q d)) sent ∙ outside-sent d c x k ne) (outside-taken d c ne)
       (λ i. inl refl))
 
   pub left-release_ack_taken : (c n : ℕ) (toks : List Packet) → (d ≡ c → ⊥) → IsLeft (release_ack_taken c n toks s)
-  left-release_ack_taken c n toks ne =
-      apart-at n (let_go_block c (s.block n)) (release_ack_taken c n toks s) (λ m. refl)
-      (same-let_go d c (s.block n) ne) (λ i. inl refl)
-      (λ i. set_at-other c d ((s.block n).release_source c) i None s.lets ne)
-      (sinks-same n (let_go_block c (s.block n)) (release_ack_taken c n toks s) (λ m. refl) refl (λ i. refl))
+  left-release_ack_taken c n toks ne = apart-at n (let_go_block c (s.block n)) (release_ack_taken c n toks s)
+      (λ m. refl) (same-let_go d c (s.block n) ne) (λ i. inl refl) (λ i. set_at-other c d ((s.block n).release_source c)
+      i None s.lets ne) (sinks-same n (let_go_block c (s.block n)) (release_ack_taken c n toks s) (λ m. refl) refl
+      (λ i. refl))
 
   pub left-grant_ack_taken : (c n : ℕ) (toks : List Packet) → (d ≡ c → ⊥) → (s.block n).service ≡ GrantTaken c
       → s.tracked (s.block n).tracker ≡ Some n → IsLeft (grant_ack_taken c n toks s)
-  left-grant_ack_taken c n toks ne taken tracks =
-      apart-at n (freed_block (s.block n)) (grant_ack_taken c n toks s) (λ m. refl)
-      (same-freed d c (s.block n) ne taken) (λ i. inl refl) (λ i. refl)
+  left-grant_ack_taken c n toks ne taken tracks = apart-at n (freed_block (s.block n)) (grant_ack_taken c n toks s)
+      (λ m. refl) (same-freed d c (s.block n) ne taken) (λ i. inl refl) (λ i. refl)
       (sinks-outside n (freed_block (s.block n)) (grant_ack_taken c n toks s) (λ m. refl)
       (ap (λ (q : Service). is_outside (view q d)) taken ∙ outside-taken d c ne) refl
       (tracked-free n (s.block n).tracker s.tracked tracks))
@@ -245,22 +226,18 @@ module _ {w : ℕ} {X : Type 0} (d : ℕ) (asked asked' : ℕ → Option (BeatA 
 
 module _ {w : ℕ} {X : Type 0} (d : ℕ) (asked asked' : ℕ → Option (BeatA w)) (rest : Channel → List (Beat w))
     (s : State X) (asks : (i : ℕ) → asked' i ≡ asked i)
-    (coming : IsComing asked (rest channel.D) d s) where
+    (coming : IsComing asked (rest Channel.D) d s) where
   pub left-access_answered : (c n source : ℕ) (f : X → X) (toks : List Packet)
       → IsAside asked asked' rest d (replied c source s) (access_answered c n source f toks s)
   left-access_answered c n source f toks = left-performed d asked asked' rest (replied c source s) asks coming n f
-      (access_answered c n source f toks s)
-      (λ m. refl) (λ i. inl refl) (λ i. refl) (λ i. refl)
+      (access_answered c n source f toks s) (λ m. refl) (λ i. inl refl) (λ i. refl) (λ i. refl)
 
   pub left-access_served : (c n source tracker : ℕ) (k : Cap) (toks : List Packet) → (s.block n).service ≡ Free
-      → is_unprobed ((s.block n).pair d).probing ≡ true
-      → s.tracked tracker ≡ None → IsAside asked asked' rest d (replied c source s)
-      (access_served c n source tracker k toks s)
-  left-access_served c n source tracker k toks free quiet unused =
-      left-served d asked asked' rest (replied c source s) asks coming c n source tracker false k
-      (access_served c n source tracker k toks s)
-      (λ m. refl) refl free quiet (uses-heard c source Replied (InService n) s.uses refl refl d) (λ i. refl) unused
-      (λ i. refl)
+      → is_unprobed ((s.block n).pair d).probing ≡ true → s.tracked tracker ≡ None
+      → IsAside asked asked' rest d (replied c source s) (access_served c n source tracker k toks s)
+  left-access_served c n source tracker k toks free quiet unused = left-served d asked asked' rest (replied c source s)
+      asks coming c n source tracker false k (access_served c n source tracker k toks s) (λ m. refl) refl free quiet
+      (uses-heard c source Replied (InService n) s.uses refl refl d) (λ i. refl) unused (λ i. refl)
 
   -- ---- a ProbeAck that is the last one, after its last beat
 
@@ -271,7 +248,7 @@ module _ {w : ℕ} {X : Type 0} (d : ℕ) (asked asked' : ℕ → Option (BeatA 
     new_is : between.block n ≡ reported_block c r (s.block n)
     new_is = set-same n (reported_block c r (s.block n)) s.block
 
-    coming_still : IsComing asked (rest channel.D) d between
+    coming_still : IsComing asked (rest Channel.D) d between
     coming_still m e = set-part (λ (z : Block X). is_granting (view z.service d)) n (reported_block c r (s.block n))
         s.block refl m ∙ coming m e
 
@@ -286,17 +263,14 @@ module _ {w : ℕ} {X : Type 0} (d : ℕ) (asked asked' : ℕ → Option (BeatA 
     seen q e = ap (λ (z : Block X). view z.service d) new_is ∙ ap (λ (i : Service). view i d) e
 
     pub left-report_answers : (q source : ℕ) (k : Cap) (f : X → X) → (s.block n).service ≡ Waits q false source k
-        → ((i : ℕ) → (i ≡ c → ⊥) → is_answered ((s.block n).pair i).probing ≡ false)
-        → s.tracked (s.block n).tracker ≡ Some n
-        → is_heard (s.uses q source) ≡ true → IsAside asked asked' rest d (report_taken c n r toks s)
+        → ((i : ℕ) → (i ≡ c → ⊥) → is_answered ((s.block n).pair i).probing ≡ false) → s.tracked (s.block n).tracker
+        ≡ Some n → is_heard (s.uses q source) ≡ true → IsAside asked asked' rest d (report_taken c n r toks s)
         (report_answers c q n source r f toks s)
-    left-report_answers q source k f waits quiet tracks heard =
-        apart-at d asked asked' rest between asks coming_still n (ended_block c r f (s.block n))
-        (report_answers c q n source r f toks s)
+    left-report_answers q source k f waits quiet tracks heard = apart-at d asked asked' rest between asks coming_still n
+        (ended_block c r f (s.block n)) (report_answers c q n source r f toks s)
         (set-again n (reported_block c r (s.block n)) (ended_block c r f (s.block n)) s.block)
         (subst (λ (z : Block X). IsSameBlock d z (ended_block c r f (s.block n))) (sym new_is)
-        (same-settled d c q source r k f (s.block n) waits (unanswered quiet)))
-        uses (λ i. refl)
+        (same-settled d c q source r k f (s.block n) waits (unanswered quiet))) uses (λ i. refl)
         (sinks-outside d asked asked' rest between asks coming_still n (ended_block c r f (s.block n))
         (report_answers c q n source r f toks s)
         (set-again n (reported_block c r (s.block n)) (ended_block c r f (s.block n)) s.block)
@@ -315,49 +289,40 @@ module _ {w : ℕ} {X : Type 0} (d : ℕ) (asked asked' : ℕ → Option (BeatA 
     pub left-report_grants : (q source : ℕ) (j k : Cap) (x : Bool) → (s.block n).service ≡ Waits q true source j
         → ((i : ℕ) → (i ≡ c → ⊥) → is_answered ((s.block n).pair i).probing ≡ false) → (q ≡ c → ⊥)
         → ((s.block n).pair q).held ≡ ((s.block n).pair q).recorded
-        → ((i : ℕ) → s.tracked i ≡ Some n → comes_in_grant i (rest channel.D) ≡ false)
+        → ((i : ℕ) → s.tracked i ≡ Some n → comes_in_grant i (rest Channel.D) ≡ false)
         → IsAside asked asked' rest d (report_taken c n r toks s) (report_grants c q n r x k toks s)
     left-report_grants q source j k x waits quiet apart even none =
+        let changed = set-again n (reported_block c r (s.block n)) new s.block in
+        let same : IsSameBlock d (reported_block c r (s.block n)) new = elim (cases_eq d q) [
+          | inl here ↦ rw here (same-given c q source r j k x (s.block n) apart waits even (quiet q apart))
+          | inr other ↦ same-granted d c q source r j k x (s.block n) other waits (unanswered quiet)
+        ] in
+        let sinks : (i : ℕ) → is_sunk d i (rest Channel.D) (s.tracked i) (report_grants c q n r x k toks s)
+        ≡ is_sunk d i (rest Channel.D) (s.tracked i) between =
+        λ i. cc (sunk-elsewhere d i n (rest Channel.D) (s.tracked i) (s.tracked i) between
+        (report_grants c q n r x k toks s) (λ m ne. changed m ∙ set-other n m new between.block ne) (inl refl)
+        (λ e. unsunk_then i) (λ e. ap (sunk_in d i (rest Channel.D)) (set-same n new s.block) ∙ unsunk_now i e)) in
         apart-at d asked asked' rest between asks coming_still n new (report_grants c q n r x k toks s) changed
         (subst (λ (z : Block X). IsSameBlock d z new) (sym new_is) same) (λ i. inl refl) (λ i. refl) sinks
       where
         new : Block X
         new = granted_block c q r x k (s.block n)
 
-        changed : (m : ℕ) → set n new s.block m ≡ set n new between.block m
-        changed = set-again n (reported_block c r (s.block n)) new s.block
+        unsunk_now : (i : ℕ) → s.tracked i ≡ Some n → sunk_in d i (rest Channel.D) new ≡ false
+        unsunk_now i e =
+            let granted : (z : Bool) → (is_acknowledging (if z then Granting x k else GrantedOther) || (is_granting (if
+            z then Granting x k else GrantedOther) && false)) ≡ false = elim [ true ↦ refl | false ↦ refl ] in
+            elim (cases_eq d q) [
+              | inl here ↦ ap (λ (z : Bool). is_acknowledging (view new.service d)
+                  || (is_granting (view new.service d) && z)) (none i e) ∙ granted (d == q)
+              | inr other ↦ outside-unsunk (view new.service d) (comes_in_grant i (rest Channel.D))
+                  (outside-sent d q x k other)
+            ]
 
-        same : IsSameBlock d (reported_block c r (s.block n)) new
-        same = elim (cases_eq d q) [
-          | inl here ↦ rw here (same-given c q source r j k x (s.block n) apart waits even (quiet q apart))
-          | inr other ↦ same-granted d c q source r j k x (s.block n) other waits (unanswered quiet)
-        ]
-
-        unsunk_now : (i : ℕ) → s.tracked i ≡ Some n → sunk_in d i (rest channel.D) new ≡ false
-        unsunk_now i e = elim (cases_eq d q) [
-          | inl here ↦ ap (λ (z : Bool). is_acknowledging (view new.service d)
-              || (is_granting (view new.service d) && z)) (none i e) ∙ granted (d == q)
-          | inr other ↦ outside-unsunk (view new.service d) (comes_in_grant i (rest channel.D))
-              (outside-sent d q x k other)
-        ]
-          where
-            granted : (z : Bool) → (is_acknowledging (if z then Granting x k else GrantedOther)
-                || (is_granting (if z then Granting x k else GrantedOther) && false)) ≡ false
-            granted true = refl
-            granted false = refl
-
-        unsunk_then : (i : ℕ) → sunk_in d i (rest channel.D) (between.block n) ≡ false
-        unsunk_then i = ap (λ (z : View). is_acknowledging z || (is_granting z && comes_in_grant i (rest channel.D)))
-            (seen (Waits q true source j) waits) ∙ waiting (d == q)
+        unsunk_then : (i : ℕ) → sunk_in d i (rest Channel.D) (between.block n) ≡ false
+        unsunk_then i = cc (seen (Waits q true source j) waits, waiting (d == q))
           where
             waiting : (z : Bool) → (is_acknowledging (if true && z then Own else Other j)
-                || (is_granting (if true && z then Own else Other j) && comes_in_grant i (rest channel.D))) ≡ false
+                || (is_granting (if true && z then Own else Other j) && comes_in_grant i (rest Channel.D))) ≡ false
             waiting true = refl
             waiting false = refl
-
-        sinks : (i : ℕ) → is_sunk d i (rest channel.D) (s.tracked i) (report_grants c q n r x k toks s) ≡ is_sunk d i
-            (rest channel.D) (s.tracked i) between
-        sinks i = sunk-elsewhere d i n (rest channel.D) (s.tracked i) (s.tracked i) between
-            (report_grants c q n r x k toks s)
-            (λ m ne. changed m ∙ set-other n m new between.block ne) (inl refl) (λ e. unsunk_then i)
-            (λ e. ap (sunk_in d i (rest channel.D)) (set-same n new s.block) ∙ unsunk_now i e)

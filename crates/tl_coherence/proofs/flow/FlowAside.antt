@@ -1,16 +1,11 @@
 -- What is delivered on a link, as an event leaves it alone: each value of it is as before.
-use Rattle.tl_coherence.proofs.flow.Imports.{Beat, BeatA, Channel, History, is_grant, asks_for, MonitorRelation}
-use Rattle.tl_coherence.proofs.flow.Imports.{is_requested, is_release_pending, is_let_by}
-use Rattle.tl_coherence.proofs.flow.Imports.{is_sunk, comes_granting, ReleasePhase}
-use Rattle.tl_coherence.proofs.flow.Imports.{Block, State, SourceState, SourceFree, Asked, InService, Replied, Acquires}
-use Rattle.tl_coherence.proofs.flow.Imports.{view, is_granting, is_acknowledging, is_answered, is_wanting, is_unserved}
-use Rattle.tl_coherence.proofs.flow.Imports.{cap_waited}
-use Rattle.std.proofs.Common.{◌≡◌, ℕ, Bool, true, false, not, ◌&&◌, ◌||◌, [], ◌∷◌, Option, Some, None, refl, sym, ◌∙◌}
-use Rattle.std.proofs.Common.{ap, List, ◌⊎◌, inl, inr}
-use Rattle.tl_beat.specs.declared.beat.Beat.TheVariants as beat
-use Rattle.tl_beat.specs.declared.channel.Channel.TheVariants as channel
-use Rattle.tl_coherence.proofs.flow.FlowSame.{flowed-untouched}
-use Rattle.tl_coherence.proofs.flow.FlowStep.{held_by, granted_by}
+use Rattle.tl_coherence.proofs.flow.Imports.{Beat, BeatA, Channel, History, MonitorRelation, is_requested}
+use Rattle.tl_coherence.proofs.flow.Imports.{is_release_pending, is_let_by, is_sunk, comes_granting, ReleasePhase}
+use Rattle.tl_coherence.proofs.flow.Imports.{Block, State, SourceState, InService, Replied, Acquires, view, is_granting}
+use Rattle.tl_coherence.proofs.flow.Imports.{is_acknowledging, is_answered, is_wanting, is_unserved, cap_waited}
+use Rattle.std.proofs.Common.{◌≡◌, ℕ, Bool, true, false, not, ◌&&◌, ◌||◌, ◌∷◌, Option, Some, None, refl, sym, ◌∙◌, ap}
+use Rattle.std.proofs.Common.{List, ◌⊎◌, inl, inr}
+use Rattle.tl_coherence.proofs.{flow.FlowSame.flowed-untouched, flow.FlowStep.held_by, flow.FlowStep.granted_by}
 
 -- the block is as before for what was delivered on client d's link
 pub record IsSameBlock {X : Type 0} (d : ℕ) (b b' : Block X) : Type 0 where
@@ -32,8 +27,7 @@ same-block d b = record {
   unserved = refl;
   letting = refl;
   source = refl;
-  acknowledging =
-      refl;
+  acknowledging = refl;
   answered = refl;
   cap = λ e. refl;
   tracker = inl refl;
@@ -57,25 +51,19 @@ heard_requested : {w : ℕ} {X : Type 0} (c i : ℕ) (rest : List (Beat w)) (u :
     → is_heard u ≡ true → is_requested c i rest u s ≡ true
 heard_requested c i rest (InService n) s e = refl
 heard_requested c i rest Replied s e = refl
-heard_requested c i rest SourceFree s e = absurd cc
-heard_requested c i rest Asked s e = absurd cc
-heard_requested c i rest (Acquires n) s e = absurd cc
+heard_requested c i rest u s e = absurd cc
 
 pub requested-blocks : {w : ℕ} {X : Type 0} (c i : ℕ) (rest : List (Beat w)) (u : SourceState) (s s' : State X)
     → ((n : ℕ) → is_unserved (view (s'.block n).service c) ≡ is_unserved (view (s.block n).service c))
     → is_requested c i rest u s' ≡ is_requested c i rest u s
-requested-blocks c i rest SourceFree s s' h = refl
-requested-blocks c i rest Asked s s' h = refl
-requested-blocks c i rest (InService n) s s' h = refl
-requested-blocks c i rest Replied s s' h = refl
 requested-blocks c i rest (Acquires n) s s' h = ap not (h n)
+requested-blocks c i rest u s s' h = refl
 
 requested-same : {w : ℕ} {X : Type 0} (c i : ℕ) (rest : List (Beat w)) (s s' : State X)
     → ((n : ℕ) → is_unserved (view (s'.block n).service c) ≡ is_unserved (view (s.block n).service c))
     → IsSameUse (s.uses c i) (s'.uses c i)
     → is_requested c i rest (s'.uses c i) s' ≡ is_requested c i rest (s.uses c i) s
-requested-same c i rest s s' h (inl same) = ap (λ (u : SourceState). is_requested c i rest u s') same ∙ requested-blocks
-    c i rest (s.uses c i) s s' h
+requested-same c i rest s s' h (inl same) = cc (same, requested-blocks c i rest (s.uses c i) s s' h)
 requested-same c i rest s s' h (inr both) = heard_requested c i rest (s'.uses c i) s' both.1 ∙ sym
     (heard_requested c i rest (s.uses c i) s both.0)
 
@@ -91,13 +79,8 @@ IsComing asked rest c s = (n : ℕ) → comes_granting n asked rest ≡ true →
 
 pub comes-same : {w : ℕ} (n : ℕ) (asked asked' : ℕ → Option (BeatA w)) (rest : List (Beat w))
     → ((i : ℕ) → asked' i ≡ asked i) → comes_granting n asked' rest ≡ comes_granting n asked rest
-comes-same n asked asked' [] h = refl
-comes-same n asked asked' (beat.A x ∷ rest) h = refl
-comes-same n asked asked' (beat.B x ∷ rest) h = refl
-comes-same n asked asked' (beat.C x ∷ rest) h = refl
-comes-same n asked asked' (beat.D x ∷ rest) h = ap (λ (o : Option (BeatA _)). is_grant x.opcode && asks_for n o)
-    (h x.source)
-comes-same n asked asked' (beat.E x ∷ rest) h = refl
+comes-same n asked asked' (Beat.D x ∷ rest) h = cc (h x.source)
+comes-same n asked asked' rest h = refl
 
 -- ---- all values
 
@@ -106,32 +89,30 @@ pub record IsAside {w : ℕ} {X : Type 0} (asked asked' : ℕ → Option (BeatA 
   pub blocks : AreSame d s s'
   pub uses : (i : ℕ) → IsSameUse (s.uses d i) (s'.uses d i)
   pub lets : (i : ℕ) → s'.lets d i ≡ s.lets d i
-  pub sinks : (i : ℕ) → is_sunk d i (rest channel.D) (s'.tracked i) s' ≡ is_sunk d i (rest channel.D) (s.tracked i) s
+  pub sinks : (i : ℕ) → is_sunk d i (rest Channel.D) (s'.tracked i) s' ≡ is_sunk d i (rest Channel.D) (s.tracked i) s
   pub asked_is : (i : ℕ) → asked' i ≡ asked i
-  pub coming : IsComing asked (rest channel.D) d s
+  pub coming : IsComing asked (rest Channel.D) d s
 
 either_is : (a b g : Bool) → (a || b) ≡ true → (b ≡ true → g ≡ true) → (a || g) ≡ false → ⊥
-either_is true b g e f h = absurd cc
 either_is false true g e f h = let p : g ≡ true = f refl in let q : true ≡ false = sym p ∙ h in cc
-either_is false false g e f h = absurd cc
+either_is a b g e f h = absurd cc
 
-pub flowed-aside : {w : ℕ} {X : Type 0} (asked asked' : ℕ → Option (BeatA w)) (rest : Channel → List (Beat w)) (d : ℕ)
-    (s s' : State X) (t : History w)
+pub flowed-aside : {w : ℕ} {X : Type 0} {asked asked' : ℕ → Option (BeatA w)} {rest : Channel → List (Beat w)} {d : ℕ}
+    {s s' : State X} {t : History w}
     → IsAside asked asked' rest d s s' → MonitorRelation asked rest d s t → MonitorRelation asked' rest d s' t
-flowed-aside {w} {X} asked asked' rest d s s' t is = flowed-untouched asked asked' rest d s s' t (record {
+flowed-aside {w} {X} {asked} {asked'} {rest} {d} {s} {s'} {t} is = flowed-untouched (record {
   held_is = λ n. (is.blocks n).held;
-  requests = λ i. requested-same d i (rest channel.A) s s' (λ n. (is.blocks n).unserved) (is.uses i);
+  requests = λ i. requested-same d i (rest Channel.A) s s' (λ n. (is.blocks n).unserved) (is.uses i);
   asked_is = λ i e. is.asked_is i;
   acquires = λ n. both_same (is.blocks n).wanting (is.blocks n).unserved;
-  release_sources = λ i. ap (λ (o : Option ℕ). is_let_by d i (rest channel.C) o s') (is.lets i) ∙ let_by-same d i
-      (rest channel.C) (s.lets d i) s s' (λ n. (is.blocks n).letting);
+  release_sources = λ i. ap (λ (o : Option ℕ). is_let_by d i (rest Channel.C) o s') (is.lets i) ∙ let_by-same d i
+      (rest Channel.C) (s.lets d i) s s' (λ n. (is.blocks n).letting);
   lets = λ i n e f. sym (is.lets i) ∙ f;
-  releases = λ n. ap (λ (i : ℕ). is_release_pending i (rest channel.C) ((s'.block n).pair d).letting)
-      (is.blocks n).source
-      ∙ ap (λ (l : ReleasePhase). is_release_pending ((s.block n).release_source d) (rest channel.C) l)
-      (is.blocks n).letting;
+  releases = λ n. ap (λ (i : ℕ). is_release_pending i (rest Channel.C) ((s'.block n).pair d).letting)
+      (is.blocks n).source ∙ ap (λ (l : ReleasePhase). is_release_pending ((s.block n).release_source d)
+      (rest Channel.C) l) (is.blocks n).letting;
   sinks = is.sinks;
-  grants = λ n. either_same (is.blocks n).acknowledging (comes-same n asked asked' (rest channel.D) is.asked_is);
+  grants = λ n. either_same (is.blocks n).acknowledging (comes-same n asked asked' (rest Channel.D) is.asked_is);
   probes = λ n. (is.blocks n).answered;
   caps = λ n e. (is.blocks n).cap ((is.blocks n).answered ∙ e);
   trackers = λ n e. tracked n e (is.blocks n).tracker;
@@ -143,20 +124,21 @@ flowed-aside {w} {X} asked asked' rest d s s' t is = flowed-untouched asked aske
     either_same : {a b a' b' : Bool} → a' ≡ a → b' ≡ b → (a' || b') ≡ (a || b)
     either_same e f = rw (e, f) refl
 
-    tracked : (n : ℕ) → granted_by d n asked (rest channel.D) (s.block n) ≡ true
+    tracked : (n : ℕ) → granted_by d n asked (rest Channel.D) (s.block n) ≡ true
         → ((s'.block n).tracker ≡ (s.block n).tracker)
         ⊎ ((is_acknowledging (view (s.block n).service d) || is_granting (view (s.block n).service d)) ≡ false)
         → (s'.block n).tracker ≡ (s.block n).tracker
     tracked n e (inl same) = same
     tracked n e (inr none) =
-        absurd (either_is (is_acknowledging (view (s.block n).service d)) (comes_granting n asked (rest channel.D))
+        absurd (either_is (is_acknowledging (view (s.block n).service d)) (comes_granting n asked (rest Channel.D))
         (is_granting (view (s.block n).service d)) e (is.coming n) none)
 
 -- where the same requests are given in another way, nothing changes
-pub flowed-asks : {w : ℕ} {X : Type 0} (asked asked' : ℕ → Option (BeatA w)) (rest : Channel → List (Beat w)) (d : ℕ)
-    (s : State X) (t : History w)
+pub flowed-asks : {w : ℕ} {X : Type 0} {asked : ℕ → Option (BeatA w)} (asked' : ℕ → Option (BeatA w)) {rest : Channel
+    → List (Beat w)} {d : ℕ}
+    {s : State X} {t : History w}
     → ((i : ℕ) → asked' i ≡ asked i) → MonitorRelation asked rest d s t → MonitorRelation asked' rest d s t
-flowed-asks asked asked' rest d s t asks = flowed-untouched asked asked' rest d s s t (record {
+flowed-asks {asked} asked' {rest} {d} {s} {t} asks = flowed-untouched (record {
   held_is = λ n. refl;
   requests = λ i. refl;
   asked_is = λ i e. asks i;
@@ -166,7 +148,7 @@ flowed-asks asked asked' rest d s t asks = flowed-untouched asked asked' rest d 
   releases = λ n. refl;
   sinks = λ i. refl;
   grants = λ n. ap (λ (z : Bool). is_acknowledging (view (s.block n).service d) || z)
-      (comes-same n asked asked' (rest channel.D) asks);
+      (comes-same n asked asked' (rest Channel.D) asks);
   probes = λ n. refl;
   caps = λ n e. refl;
   trackers = λ n e. refl;

@@ -1,23 +1,19 @@
 -- What is delivered on a client's link stays as it is when the client itself is asked for something.
 use Rattle.tl_coherence.proofs.flow.Imports.{Beat, BeatA, Channel, Grow, Prune, comes_in_request, comes_in_release}
-use Rattle.tl_coherence.proofs.flow.Imports.{is_requested, is_release_pending, is_let_by}
-use Rattle.tl_coherence.proofs.flow.Imports.{is_of, comes_granting, ClientBlock}
-use Rattle.tl_coherence.proofs.flow.Imports.{NoAcquire, ReleasePhase, NoRelease, ReleaseSent, after_release, Block}
-use Rattle.tl_coherence.proofs.flow.Imports.{State, SourceState, SourceFree, Asked, Acquires, view, is_acknowledging}
-use Rattle.tl_coherence.proofs.flow.Imports.{is_answered, is_granting, is_wanting, is_unserved, access_asked}
-use Rattle.tl_coherence.proofs.flow.Imports.{acquire_asked, acquiring_block, release_asked, releasing_block, cap_waited}
-use Rattle.tl_coherence.proofs.flow.Imports.{set_at}
+use Rattle.tl_coherence.proofs.flow.Imports.{is_requested, is_release_pending, is_let_by, is_of, comes_granting}
+use Rattle.tl_coherence.proofs.flow.Imports.{ClientBlock, NoAcquire, ReleasePhase, NoRelease, ReleaseSent}
+use Rattle.tl_coherence.proofs.flow.Imports.{after_release, Block, State, SourceState, SourceFree, Asked, Acquires}
+use Rattle.tl_coherence.proofs.flow.Imports.{view, is_acknowledging, is_answered, is_granting, is_wanting, is_unserved}
+use Rattle.tl_coherence.proofs.flow.Imports.{access_asked, acquire_asked, acquiring_block, release_asked}
+use Rattle.tl_coherence.proofs.flow.Imports.{releasing_block, cap_waited, set_at}
 use Rattle.std.proofs.Common.{◌≡◌, ℕ, Bool, true, false, not, ◌&&◌, ◌||◌, Option, Some, None, refl, sym, ◌∙◌, ap, List}
 use Rattle.std.proofs.Common.{inl, inr}
-use Rattle.std.specs.Prelude.{◌==◌, if◌then◌else◌}
-use Rattle.std.proofs.lemmas.Bool.{cases_eq}
-use Rattle.tl_beat.specs.declared.channel.Channel.TheVariants as channel
+use Rattle.std.{specs.Prelude.◌==◌, specs.Prelude.if◌then◌else◌, proofs.lemmas.Bool.cases_eq}
 use Rattle.tl_coherence.specs.protocol.PhaseSteps.{after_acquire}
-use Rattle.tl_coherence.proofs.client.Aside.{set_at-else}
+use Rattle.tl_coherence.proofs.{client.Aside.set_at-else, flow.FlowSame.IsUntouched, flow.FlowSunk.sunk_in}
+use Rattle.tl_coherence.proofs.{flow.FlowSunk.sunk-as}
 use Rattle.tl_coherence.proofs.flow.FlowAside.{comes-same, requested-blocks, let_by-same}
-use Rattle.tl_coherence.proofs.flow.FlowSame.{IsUntouched}
 use Rattle.tl_coherence.proofs.flow.FlowStep.{held_by, acquired_by, let_of, granted_by}
-use Rattle.tl_coherence.proofs.flow.FlowSunk.{sunk_in, sunk-as}
 use Rattle.tl_coherence.proofs.queues.Tokens.{same_number, set-same, set-each, set-part, set_at-same}
 
 -- ---- a request
@@ -37,9 +33,8 @@ requested-now c source u rest s s' closed uses none same i = elim (cases_eq i so
 ]
 
 asked-now : {w : ℕ} {X : Type 0} (c source : ℕ) (asked asked' : ℕ → Option (BeatA w)) (rest : List (Beat w))
-    (s : State X) → s.uses c source ≡ SourceFree
-    → ((i : ℕ) → (i ≡ source → ⊥) → asked' i ≡ asked i) → (i : ℕ) → is_requested c i rest (s.uses c i) s ≡ true
-    → asked' i ≡ asked i
+    (s : State X) → s.uses c source ≡ SourceFree → ((i : ℕ) → (i ≡ source → ⊥) → asked' i ≡ asked i) → (i : ℕ)
+    → is_requested c i rest (s.uses c i) s ≡ true → asked' i ≡ asked i
 asked-now c source asked asked' rest s closed asks i e = elim (cases_eq i source) [
   | inl here ↦ absurd (let no : false ≡ true =
       sym (ap (λ (j : ℕ). is_requested c j rest (s.uses c j) s) here ∙ ap
@@ -48,21 +43,20 @@ asked-now c source asked asked' rest s closed asks i e = elim (cases_eq i source
 ]
 
 pub untouched-access_asked : {w : ℕ} {X : Type 0} (c source : ℕ) (asked asked' : ℕ → Option (BeatA w)) (rest : Channel
-    → List (Beat w)) (s : State X)
-    → s.uses c source ≡ SourceFree → comes_in_request source (rest channel.A) ≡ false
+    → List (Beat w)) (s : State X) → s.uses c source ≡ SourceFree → comes_in_request source (rest Channel.A) ≡ false
     → ((i : ℕ) → (i ≡ source → ⊥) → asked' i ≡ asked i)
-    → ((m : ℕ) → comes_granting m asked' (rest channel.D) ≡ comes_granting m asked (rest channel.D))
+    → ((m : ℕ) → comes_granting m asked' (rest Channel.D) ≡ comes_granting m asked (rest Channel.D))
     → IsUntouched asked asked' rest c s (access_asked c source s)
 untouched-access_asked c source asked asked' rest s closed none asks grants = record {
   held_is = λ m. refl;
-  requests = requested-now c source Asked (rest channel.A) s (access_asked c source s) closed (λ i. refl) none
+  requests = requested-now c source Asked (rest Channel.A) s (access_asked c source s) closed (λ i. refl) none
       (λ m. refl);
-  asked_is = asked-now c source asked asked' (rest channel.A) s closed asks;
+  asked_is = asked-now c source asked asked' (rest Channel.A) s closed asks;
   acquires = λ m. refl;
-  release_sources = λ i. let_by-same c i (rest channel.C) (s.lets c i) s (access_asked c source s) (λ m. refl);
+  release_sources = λ i. let_by-same c i (rest Channel.C) (s.lets c i) s (access_asked c source s) (λ m. refl);
   lets = λ i m e f. f;
   releases = λ m. refl;
-  sinks = λ i. sunk-as c i (rest channel.D) (s.tracked i) s (access_asked c source s) (λ m. refl);
+  sinks = λ i. sunk-as c i (rest Channel.D) (s.tracked i) s (access_asked c source s) (λ m. refl);
   grants = λ m. ap (λ (z : Bool). is_acknowledging (view (s.block m).service c) || z) (grants m);
   probes = λ m. refl;
   caps = λ m e. refl;
@@ -70,36 +64,39 @@ untouched-access_asked c source asked asked' rest s closed none asks grants = re
 }
 
 pub untouched-acquire_asked : {w : ℕ} {X : Type 0} (c n source : ℕ) (whole : Bool) (g : Grow) (bytes : X)
-    (asked asked' : ℕ → Option (BeatA w))
-    (rest : Channel → List (Beat w)) (s : State X) → s.uses c source ≡ SourceFree
+    (asked asked' : ℕ → Option (BeatA w)) (rest : Channel → List (Beat w)) (s : State X) → s.uses c source ≡ SourceFree
     → ((s.block n).pair c).acquiring ≡ NoAcquire → is_unserved (view (s.block n).service c) ≡ true
     → ((i : ℕ) → (i ≡ source → ⊥) → asked' i ≡ asked i)
-    → ((m : ℕ) → comes_granting m asked' (rest channel.D) ≡ comes_granting m asked (rest channel.D))
+    → ((m : ℕ) → comes_granting m asked' (rest Channel.D) ≡ comes_granting m asked (rest Channel.D))
     → IsUntouched asked asked' rest c s (acquire_asked c n source whole g bytes s)
-untouched-acquire_asked {w} {X} c n source whole g bytes asked asked' rest s closed calm unserved asks grants = record {
-  held_is = set-part (held_by c) n new s.block
-      (ap (λ (p : ClientBlock). if is_granting (view b.service c) then p.held else p.recorded) pair);
-  requests = requested-now c source (Acquires n) (rest channel.A) s s' closed (λ i. refl)
-      (ap not (unserved_same n ∙ unserved)) unserved_same;
-  asked_is = asked-now c source asked asked' (rest channel.A) s closed asks;
-  acquires = set-part (acquired_by c) n new s.block
-      (served (is_wanting (new.pair c).acquiring) (is_unserved (view b.service c)) unserved
-      ∙ sym (served (is_wanting (b.pair c).acquiring) (is_unserved (view b.service c)) unserved));
-  release_sources = λ i. let_by-same c i (rest channel.C) (s.lets c i) s s'
-      (set-part (λ (z : Block X). (z.pair c).letting) n new s.block letting_same);
-  lets = λ i m e f. f;
-  releases = set-part (let_of c (rest channel.C)) n new s.block
-      (ap (is_release_pending (b.release_source c) (rest channel.C))
-      letting_same);
-  sinks = λ i. sunk-as c i (rest channel.D) (s.tracked i) s s' (set-part (sunk_in c i (rest channel.D)) n new s.block
-      refl);
-  grants = λ m. ap (λ (z : Bool). is_acknowledging (view (s'.block m).service c) || z) (grants m) ∙ set-part
-      (granted_by c m asked (rest channel.D)) n new s.block refl m;
-  probes = set-part (λ (z : Block X). is_answered (z.pair c).probing) n new s.block
-      (ap (λ (p : ClientBlock). is_answered p.probing) pair);
-  caps = λ m e. set-part (λ (z : Block X). cap_waited z.service) n new s.block refl m;
-  trackers = λ m e. set-part (λ (z : Block X). z.tracker) n new s.block refl m;
-}
+untouched-acquire_asked {w} {X} c n source whole g bytes asked asked' rest s closed calm unserved asks grants =
+    let served : (p q : Bool) → q ≡ true → (p && not q) ≡ false = elim [ true ↦ λ q e. rw e refl | false ↦ λ q e. refl ]
+    in
+    let s' : State X = acquire_asked c n source whole g bytes s in
+    let letting_same : (new.pair c).letting ≡ (b.pair c).letting = ap (λ (p : ClientBlock). p.letting) pair in
+    let unserved_same = set-part (λ (z : Block X). is_unserved (view z.service c)) n new s.block refl in
+    record {
+      held_is = set-part (held_by c) n new s.block
+          (ap (λ (p : ClientBlock). if is_granting (view b.service c) then p.held else p.recorded) pair);
+      requests = requested-now c source (Acquires n) (rest Channel.A) s s' closed (λ i. refl)
+          (ap not (unserved_same n ∙ unserved)) unserved_same;
+      asked_is = asked-now c source asked asked' (rest Channel.A) s closed asks;
+      acquires = set-part (acquired_by c) n new s.block
+          (served (is_wanting (new.pair c).acquiring) (is_unserved (view b.service c)) unserved
+          ∙ sym (served (is_wanting (b.pair c).acquiring) (is_unserved (view b.service c)) unserved));
+      release_sources = λ i. let_by-same c i (rest Channel.C) (s.lets c i) s s'
+          (set-part (λ (z : Block X). (z.pair c).letting) n new s.block letting_same);
+      lets = λ i m e f. f;
+      releases = set-part (let_of c (rest Channel.C)) n new s.block
+          (ap (is_release_pending (b.release_source c) (rest Channel.C)) letting_same);
+      sinks = λ i. sunk-as c i (rest Channel.D) (s.tracked i) s s'
+          (set-part (sunk_in c i (rest Channel.D)) n new s.block refl);
+      grants = λ m. cc (grants m, set-part (granted_by c m asked (rest Channel.D)) n new s.block refl m);
+      probes = set-part (λ (z : Block X). is_answered (z.pair c).probing) n new s.block
+          (ap (λ (p : ClientBlock). is_answered p.probing) pair);
+      caps = λ m e. set-part (λ (z : Block X). cap_waited z.service) n new s.block refl m;
+      trackers = λ m e. set-part (λ (z : Block X). z.tracker) n new s.block refl m;
+    }
   where
     b : Block X
     b = s.block n
@@ -107,56 +104,52 @@ untouched-acquire_asked {w} {X} c n source whole g bytes asked asked' rest s clo
     new : Block X
     new = acquiring_block c source whole g bytes b
 
-    s' : State X
-    s' = acquire_asked c n source whole g bytes s
-
     pair : new.pair c ≡ after_acquire whole g (b.pair c)
     pair = set-same c (after_acquire whole g (b.pair c)) b.pair
-
-    letting_same : (new.pair c).letting ≡ (b.pair c).letting
-    letting_same = ap (λ (p : ClientBlock). p.letting) pair
-
-    unserved_same : (m : ℕ) → is_unserved (view (s'.block m).service c) ≡ is_unserved (view (s.block m).service c)
-    unserved_same = set-part (λ (z : Block X). is_unserved (view z.service c)) n new s.block refl
-
-    served : (p q : Bool) → q ≡ true → (p && not q) ≡ false
-    served true q e = rw e refl
-    served false q e = refl
 
 -- ---- a Release
 
 pub untouched-release_asked : {w : ℕ} {X : Type 0} (c n source : ℕ) (r : Prune) (asked asked' : ℕ → Option (BeatA w))
-    (rest : Channel → List (Beat w))
-    (s : State X) → s.lets c source ≡ None → comes_in_release source (rest channel.C) ≡ false
-    → ((s.block n).pair c).letting ≡ NoRelease → ((i : ℕ) → is_of n (s.lets c i) ≡ false)
-    → is_granting (view (s.block n).service c) ≡ false
-    → ((i : ℕ) → asked' i ≡ asked i) → IsUntouched asked asked' rest c s (release_asked c n source r s)
-untouched-release_asked {w} {X} c n source r asked asked' rest s free none kept unused ungranted asks = record {
-  held_is = set-part (held_by c) n new s.block
-      (ap (λ (z : Bool). if z then (new.pair c).held else (new.pair c).recorded) ungranted
-      ∙ ap (λ (p : ClientBlock). p.recorded) pair ∙ sym
-      (ap (λ (z : Bool). if z then (b.pair c).held else (b.pair c).recorded) ungranted));
-  requests = λ i. requested-blocks c i (rest channel.A) (s.uses c i) s s'
-      (set-part (λ (z : Block X). is_unserved (view z.service c)) n new s.block refl);
-  asked_is = λ i e. asks i;
-  acquires = set-part (acquired_by c) n new s.block
-      (ap (λ (p : ClientBlock). is_wanting p.acquiring && not (is_unserved (view b.service c))) pair);
-  release_sources = lets;
-  lets = λ i m e f. still i m e f;
-  releases = set-part (let_of c (rest channel.C)) n new s.block
-      (ap (λ (l : ReleasePhase). is_release_pending (new.release_source c) (rest channel.C) l) letting_is
-      ∙ ap (λ (j : ℕ). comes_in_release j (rest channel.C)) (set-same c source b.release_source) ∙ none
-      ∙ sym (ap (is_release_pending (b.release_source c) (rest channel.C)) kept));
-  sinks = λ i. sunk-as c i (rest channel.D) (s.tracked i) s s' (set-part (sunk_in c i (rest channel.D)) n new s.block
-      refl);
-  grants = λ m. ap (λ (z : Bool). is_acknowledging (view (s'.block m).service c) || z)
-      (comes-same m asked asked' (rest channel.D) asks)
-      ∙ set-part (granted_by c m asked (rest channel.D)) n new s.block refl m;
-  probes = set-part (λ (z : Block X). is_answered (z.pair c).probing) n new s.block
-      (ap (λ (p : ClientBlock). is_answered p.probing) pair);
-  caps = λ m e. set-part (λ (z : Block X). cap_waited z.service) n new s.block refl m;
-  trackers = λ m e. set-part (λ (z : Block X). z.tracker) n new s.block refl m;
-}
+    (rest : Channel → List (Beat w)) (s : State X) → s.lets c source ≡ None → comes_in_release source (rest Channel.C)
+    ≡ false → ((s.block n).pair c).letting ≡ NoRelease → ((i : ℕ) → is_of n (s.lets c i) ≡ false)
+    → is_granting (view (s.block n).service c) ≡ false → ((i : ℕ) → asked' i ≡ asked i)
+    → IsUntouched asked asked' rest c s (release_asked c n source r s)
+untouched-release_asked {w} {X} c n source r asked asked' rest s free none kept unused ungranted asks =
+    let still : (i m : ℕ) → is_let_by c i (rest Channel.C) (s.lets c i) s ≡ true → s'.lets c i ≡ Some m
+    → s.lets c i ≡ Some m = λ i m e f. elim (cases_eq i source) [
+      | inl here ↦ absurd (let no : false ≡ true =
+          sym (ap (λ (j : ℕ). is_let_by c j (rest Channel.C) (s.lets c j) s) here
+          ∙ ap (λ (o : Option ℕ). is_let_by c source (rest Channel.C) o s) free) ∙ e in cc)
+      | inr other ↦ sym (set_at-else c source i (Some n) s.lets other c) ∙ f
+    ] in
+    record {
+      held_is = set-part (held_by c) n new s.block
+          (ap (λ (z : Bool). if z then (new.pair c).held else (new.pair c).recorded) ungranted
+          ∙ ap (λ (p : ClientBlock). p.recorded) pair ∙ sym
+          (ap (λ (z : Bool). if z then (b.pair c).held else (b.pair c).recorded) ungranted));
+      requests = λ i. requested-blocks c i (rest Channel.A) (s.uses c i) s s'
+          (set-part (λ (z : Block X). is_unserved (view z.service c)) n new s.block refl);
+      asked_is = λ i e. asks i;
+      acquires = set-part (acquired_by c) n new s.block
+          (ap (λ (p : ClientBlock). is_wanting p.acquiring && not (is_unserved (view b.service c))) pair);
+      release_sources = lets;
+      lets = λ i m e f. still i m e f;
+      releases = set-part (let_of c (rest Channel.C)) n new s.block
+          (ap (λ (l : ReleasePhase). is_release_pending (new.release_source c) (rest Channel.C) l) letting_is
+          ∙ ap (λ (j : ℕ). comes_in_release j (rest Channel.C)) (set-same c source b.release_source) ∙ none
+          ∙ sym (ap (is_release_pending (b.release_source c) (rest Channel.C)) kept));
+      sinks = λ i. sunk-as c i (rest Channel.D) (s.tracked i) s s'
+          (set-part (sunk_in c i (rest Channel.D)) n new s.block refl);
+      grants = λ m. cc (
+        comes-same m asked asked' (rest Channel.D) asks,
+        set-part (granted_by c m asked (rest Channel.D)) n
+            new s.block refl m,
+      );
+      probes = set-part (λ (z : Block X). is_answered (z.pair c).probing) n new s.block
+          (ap (λ (p : ClientBlock). is_answered p.probing) pair);
+      caps = λ m e. set-part (λ (z : Block X). cap_waited z.service) n new s.block refl m;
+      trackers = λ m e. set-part (λ (z : Block X). z.tracker) n new s.block refl m;
+    }
   where
     b : Block X
     b = s.block n
@@ -173,35 +166,26 @@ untouched-release_asked {w} {X} c n source r asked asked' rest s free none kept 
     letting_is : (new.pair c).letting ≡ ReleaseSent r
     letting_is = ap (λ (p : ClientBlock). p.letting) pair
 
-    others : (i : ℕ) (o : Option ℕ) → is_of n o ≡ false → is_let_by c i (rest channel.C) o s' ≡ is_let_by c i
-        (rest channel.C) o s
+    others : (i : ℕ) (o : Option ℕ) → is_of n o ≡ false → is_let_by c i (rest Channel.C) o s' ≡ is_let_by c i
+        (rest Channel.C) o s
     others i None e = refl
     others i (Some m) e = elim (cases_eq m n) [
       | inl here ↦ absurd (let no : (n == n) ≡ false = rw here at e in let yes : true ≡ false =
           sym (same_number n) ∙ no in cc)
       | inr other ↦ set-each (λ j z. (j ≡ n → ⊥)
-          → is_release_pending i (rest channel.C) (z.pair c).letting ≡ is_release_pending i
-          (rest channel.C) ((s.block j).pair c).letting) n new
+          → is_release_pending i (rest Channel.C) (z.pair c).letting ≡ is_release_pending i
+          (rest Channel.C) ((s.block j).pair c).letting) n new
           s.block (λ ne. absurd (ne refl)) (λ j ne f. refl) m other
     ]
 
-    lets : (i : ℕ) → is_let_by c i (rest channel.C) (s'.lets c i) s' ≡ is_let_by c i (rest channel.C) (s.lets c i) s
+    lets : (i : ℕ) → is_let_by c i (rest Channel.C) (s'.lets c i) s' ≡ is_let_by c i (rest Channel.C) (s.lets c i) s
     lets i = elim (cases_eq i source) [
-      | inl here ↦ rw here (ap (λ (o : Option ℕ). is_let_by c source (rest channel.C) o s')
+      | inl here ↦ rw here (ap (λ (o : Option ℕ). is_let_by c source (rest Channel.C) o s')
           (set_at-same c source (Some n) s.lets)
-          ∙ ap (λ (z : Block X). is_release_pending source (rest channel.C) (z.pair c).letting) (set-same n new s.block)
+          ∙ ap (λ (z : Block X). is_release_pending source (rest Channel.C) (z.pair c).letting) (set-same n new s.block)
           ∙ ap
-          (is_release_pending source (rest channel.C)) letting_is ∙ none
-          ∙ sym (ap (λ (o : Option ℕ). is_let_by c source (rest channel.C) o s) free))
-      | inr other ↦ ap (λ (o : Option ℕ). is_let_by c i (rest channel.C) o s')
+          (is_release_pending source (rest Channel.C)) letting_is ∙ none
+          ∙ sym (ap (λ (o : Option ℕ). is_let_by c source (rest Channel.C) o s) free))
+      | inr other ↦ ap (λ (o : Option ℕ). is_let_by c i (rest Channel.C) o s')
           (set_at-else c source i (Some n) s.lets other c) ∙ others i (s.lets c i) (unused i)
-    ]
-
-    still : (i m : ℕ) → is_let_by c i (rest channel.C) (s.lets c i) s ≡ true → s'.lets c i ≡ Some m
-        → s.lets c i ≡ Some m
-    still i m e f = elim (cases_eq i source) [
-      | inl here ↦ absurd (let no : false ≡ true =
-          sym (ap (λ (j : ℕ). is_let_by c j (rest channel.C) (s.lets c j) s) here
-          ∙ ap (λ (o : Option ℕ). is_let_by c source (rest channel.C) o s) free) ∙ e in cc)
-      | inr other ↦ sym (set_at-else c source i (Some n) s.lets other c) ∙ f
     ]

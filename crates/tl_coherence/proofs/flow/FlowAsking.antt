@@ -1,40 +1,27 @@
 -- What is delivered on each link stays as it is when a client is asked for something.
 use Rattle.tl_coherence.proofs.flow.Imports.{IsWidth, BeatA, MessageA, History, Config, Grow, Prune, block_at}
-use Rattle.tl_coherence.proofs.flow.Imports.{MonitorRelation, AbstractState, Log, View, Idle, Own, Other, Granting}
-use Rattle.tl_coherence.proofs.flow.Imports.{Acknowledging, GrantedOther, NoAcquire, ClientBlock, after_release, Block}
-use Rattle.tl_coherence.proofs.flow.Imports.{SourceState, SourceFree, Asked, Acquires, view, is_granting, is_unserved}
-use Rattle.tl_coherence.proofs.flow.Imports.{is_wanting, access_asked, acquire_asked, release_asked, releasing_block}
-use Rattle.tl_coherence.proofs.flow.Imports.{AccessMessages, System, set_at, SimulationRelation, is_caching, asked_by}
+use Rattle.tl_coherence.proofs.flow.Imports.{MonitorRelation, AbstractState, Log, View, Granting, NoAcquire}
+use Rattle.tl_coherence.proofs.flow.Imports.{ClientBlock, after_release, Block, SourceState, SourceFree, Asked}
+use Rattle.tl_coherence.proofs.flow.Imports.{Acquires, view, is_granting, is_unserved, is_wanting, access_asked}
+use Rattle.tl_coherence.proofs.flow.Imports.{acquire_asked, release_asked, releasing_block, AccessMessages, System}
+use Rattle.tl_coherence.proofs.flow.Imports.{set_at, SimulationRelation, is_caching, asked_by, Message}
 use Rattle.std.proofs.Common.{◌≡◌, subst, ℕ, Bool, true, false, Option, refl, sym, ◌∙◌, ap, List, inl, inr}
-use Rattle.std.specs.Prelude.{◌==◌}
-use Rattle.std.proofs.lemmas.Bool.{cases_eq, ne_eqb}
-use Rattle.tl_beat.specs.declared.channel.Channel.TheVariants as channel
-use Rattle.tl_burst.specs.declared.message.Message.TheVariants as message
-use Rattle.tl_client.specs.declared.operation.Op.{Op}
-use Rattle.tl_client.specs.declared.operation.Op.TheVariants as op
-use Rattle.tl_client.specs.declared.reply.Reply.{Reply}
-use Rattle.tl_client.specs.declared.reply.Reply.TheVariants as reply
-use Rattle.tl_client.specs.statement.Ask.{copy_stored, whole_grow}
-use Rattle.tl_client.specs.statement.Send.{access}
-use Rattle.tl_coherence.specs.refinement.AbstractStep.{asked}
-use Rattle.tl_coherence.specs.protocol.Protocol.{block_stored}
-use Rattle.tl_coherence.proofs.client.Aside.{set_at-else}
-use Rattle.tl_coherence.proofs.client.AsideAll.{Leaves, leaves-asked}
-use Rattle.tl_coherence.proofs.deliveries.AskedAfter.{reply-cases, IsPlain}
-use Rattle.tl_coherence.proofs.memory.BesideAsked.{IsReply}
-use Rattle.tl_coherence.proofs.client.ClientRequests.{asks_acquire}
-use Rattle.tl_coherence.proofs.client.ClientEnd.{asks-same}
-use Rattle.tl_coherence.proofs.queues.Facts.{unserved_calm}
+use Rattle.std.{specs.Prelude.◌==◌, proofs.lemmas.Bool.cases_eq, proofs.lemmas.Bool.ne_eqb}
+use Rattle.tl_client.{specs.declared.operation.Op.Op, specs.declared.reply.Reply.Reply, specs.statement.Ask.copy_stored}
+use Rattle.tl_client.{specs.statement.Ask.whole_grow, specs.statement.Send.access}
+use Rattle.tl_coherence.specs.{refinement.AbstractStep.asked, protocol.Protocol.block_stored}
+use Rattle.tl_coherence.proofs.{client.Aside.set_at-else, client.AsideAll.Leaves, client.AsideAll.leaves-asked}
+use Rattle.tl_coherence.proofs.{deliveries.AskedAfter.reply-cases, deliveries.AskedAfter.IsPlain}
+use Rattle.tl_coherence.proofs.{memory.BesideAsked.IsReply, client.ClientRequests.asks_acquire}
+use Rattle.tl_coherence.proofs.{client.ClientEnd.asks-same, queues.Facts.unserved_calm, flow.ComingRequests.waits_on_a}
+use Rattle.tl_coherence.proofs.{flow.ComingRequests.not-coming_a, flow.FlowSame.flowed-untouched}
+use Rattle.tl_coherence.proofs.{protocol.FollowKept.IsAskable, queues.Tokens.set-same, queues.Tokens.set-part}
+use Rattle.tl_coherence.proofs.{simulation.Popped.unfinished_at}
 use Rattle.tl_coherence.proofs.flow.FlowApart.{left-access_asked, left-acquire_asked, left-release_asked}
 use Rattle.tl_coherence.proofs.flow.FlowApart.{left-block_stored}
-use Rattle.tl_coherence.proofs.flow.FlowAside.{IsComing, IsAside, flowed-aside}
+use Rattle.tl_coherence.proofs.flow.FlowAside.{IsAside, flowed-aside}
 use Rattle.tl_coherence.proofs.flow.FlowAsked.{untouched-access_asked, untouched-acquire_asked, untouched-release_asked}
 use Rattle.tl_coherence.proofs.flow.FlowComing.{coming-granting, coming-asked, coming-free}
-use Rattle.tl_coherence.proofs.flow.ComingRequests.{waits_on_a, not-coming_a}
-use Rattle.tl_coherence.proofs.flow.FlowSame.{flowed-untouched}
-use Rattle.tl_coherence.proofs.protocol.FollowKept.{IsAskable}
-use Rattle.tl_coherence.proofs.queues.Tokens.{set-same, set-part}
-use Rattle.tl_coherence.proofs.simulation.Popped.{unfinished_at}
 
 -- what client d's end is left with asks for the same
 pub asks-left : {w : ℕ} (d : ℕ) (h h' : AbstractState w) → Leaves d h h' → (i : ℕ)
@@ -43,12 +30,8 @@ asks-left d h h' left i = asks-same d i h.mail h'.mail h.state h'.state (left.re
     (λ n used. left.acquiring n) (λ n used. left.source n)
 
 unserved_ungranted : (v : View) → is_unserved v ≡ true → is_granting v ≡ false
-unserved_ungranted Idle e = refl
-unserved_ungranted (Other k) e = refl
-unserved_ungranted Acknowledging e = refl
-unserved_ungranted GrantedOther e = refl
-unserved_ungranted Own e = refl
 unserved_ungranted (Granting d k) e = absurd cc
+unserved_ungranted v e = refl
 
 acquires_not : (u : SourceState) (n : ℕ) → u ≡ SourceFree → u ≡ Acquires n → ⊥
 acquires_not u n e f = let g : SourceFree ≡ Acquires n = sym e ∙ f in cc
@@ -63,13 +46,11 @@ module _ {w : ℕ} (config : Config) (log : Log w) (h : AbstractState w) (sys : 
       (asked c o r h).state t
 
   asked-nothing : (d : ℕ) (t : History w) (o : Op w) (r : Reply) → IsPlain o r → IsAskedOn d t o r
-  asked-nothing d t o r plain may before =
-      subst (λ (x : AbstractState w). MonitorRelation (asked_by x.mail x.state d) (unfinished_at sys d) d x.state t)
-      (sym (plain c h).0) before
+  asked-nothing d t o r plain may before = rw (plain c h).0 before
 
   -- ---- the client's own link
 
-  own-stored : (t : History w) (address size value : ℕ) → IsAskedOn c t (op.Store address size value) reply.Stored
+  own-stored : (t : History w) (address size value : ℕ) → IsAskedOn c t (Op.Store address size value) Reply.Stored
   own-stored t address size value may =
       let n = block_at address in
       let bytes = copy_stored address size value ((h.state.block n).copy c) in
@@ -77,11 +58,10 @@ module _ {w : ℕ} (config : Config) (log : Log w) (h : AbstractState w) (sys : 
       λ i. asks-same c i h.mail h.mail h.state (block_stored c n bytes h.state) refl (inl refl)
       (λ j used. set-part (λ b. (b.pair c).acquiring) n _ h.state.block refl j)
       (λ j used. set-part (λ b. b.source c) n _ h.state.block refl j) in
-      flowed-aside (asked_by h.mail h.state c) (asked_by h.mail (block_stored c n bytes h.state) c)
-      (unfinished_at sys c) c h.state (block_stored c n bytes h.state) t
+      flowed-aside
       (left-block_stored c (asked_by h.mail h.state c) (asked_by h.mail (block_stored c n bytes h.state) c)
       (unfinished_at sys c) h.state asks
-      (coming-granting config log h.mail h.request h.state sys c is) c n bytes)
+      (coming-granting c is) c n bytes)
 
   own-acquire : (t : History w) (n source : ℕ) (whole : Bool) (g : Grow) (bytes : List ℕ)
       → h.state.uses c source ≡ SourceFree → ((h.state.block n).pair c).acquiring ≡ NoAcquire
@@ -89,11 +69,10 @@ module _ {w : ℕ} (config : Config) (log : Log w) (h : AbstractState w) (sys : 
       → MonitorRelation (asked_by h.mail (acquire_asked c n source whole g bytes h.state) c) (unfinished_at sys c) c
       (acquire_asked c n source whole g bytes h.state) t
   own-acquire t n source whole g bytes closed calm =
-      flowed-untouched before after (unfinished_at sys c) c h.state (acquire_asked c n source whole g bytes h.state) t
-      (untouched-acquire_asked c n source whole g bytes before after (unfinished_at sys c) h.state closed calm
-      (unserved_calm ((h.state.block n).pair c) (view (h.state.block n).service c) ((is.invariant.blocks n).phases c)
-      calm) asks
-      (λ m. coming-asked config log h.mail h.request h.state sys c m before after is
+      flowed-untouched (untouched-acquire_asked c n source whole g bytes before after (unfinished_at sys c) h.state
+      closed calm (unserved_calm ((h.state.block n).pair c) (view (h.state.block n).service c)
+      ((is.invariant.blocks n).phases c) calm) asks
+      (λ m. coming-asked c m before after is
       (λ i k used. asks i (λ e. acquires_not (h.state.uses c i) k (ap (h.state.uses c) e ∙ closed) used))))
     where
       before : ℕ → Option (BeatA w)
@@ -104,62 +83,50 @@ module _ {w : ℕ} (config : Config) (log : Log w) (h : AbstractState w) (sys : 
 
       asks : (i : ℕ) → (i ≡ source → ⊥) → after i ≡ before i
       asks i ne = let other : (source == i) ≡ false = ne_eqb source i
-          (λ e. ne (sym e)) in asks_acquire c n source i whole g bytes h.mail h.state is.invariant.named
+          (λ e. ne (sym e)) in asks_acquire c n source i whole g bytes h.mail is.invariant.named
           (ap is_wanting calm) ∙ rw other refl
 
-  own-release : (t : History w) (n source : ℕ) (r : Prune) → IsAskedOn c t (op.Release n r) (reply.Started source)
+  own-release : (t : History w) (n source : ℕ) (r : Prune) → IsAskedOn c t (Op.Release n r) (Reply.Started source)
   own-release t n source r may =
-      flowed-untouched before after (unfinished_at sys c) c h.state (release_asked c n source r h.state) t
+      let before : ℕ → Option (BeatA w) = asked_by h.mail h.state c in
+      let after : ℕ → Option (BeatA w) = asked_by h.mail (release_asked c n source r h.state) c in
+      let new : Block (List ℕ) = releasing_block c source r (h.state.block n) in
+      let asks : (i : ℕ) → after i ≡ before i =
+      λ i. asks-same c i h.mail h.mail h.state (release_asked c n source r h.state) refl (inl refl)
+      (λ j used. set-part (λ (b : Block (List ℕ)). (b.pair c).acquiring) n new h.state.block
+      (ap (λ (p : ClientBlock). p.acquiring) (set-same c (after_release r ((h.state.block n).pair c))
+      (h.state.block n).pair)) j) (λ j used. set-part (λ (b : Block (List ℕ)). b.source c) n new h.state.block refl
+      j) in
+      flowed-untouched
       (untouched-release_asked c n source r before after (unfinished_at sys c) h.state may.1
-      (coming-free config log h.mail h.request h.state sys c source width is may.1) may.3
+      (coming-free c source width is may.1) may.3
       (λ i. is.invariant.named.releases c i n ∙ rw may.3 refl)
       (unserved_ungranted (view (h.state.block n).service c)
       (unserved_calm ((h.state.block n).pair c) (view (h.state.block n).service c) ((is.invariant.blocks n).phases c)
       may.2)) asks)
-    where
-      before : ℕ → Option (BeatA w)
-      before = asked_by h.mail h.state c
-
-      after : ℕ → Option (BeatA w)
-      after = asked_by h.mail (release_asked c n source r h.state) c
-
-      new : Block (List ℕ)
-      new = releasing_block c source r (h.state.block n)
-
-      asks : (i : ℕ) → after i ≡ before i
-      asks i = asks-same c i h.mail h.mail h.state (release_asked c n source r h.state) refl (inl refl)
-          (λ j used. set-part (λ (b : Block (List ℕ)). (b.pair c).acquiring) n new h.state.block
-          (ap (λ (p : ClientBlock). p.acquiring) (set-same c (after_release r ((h.state.block n).pair c))
-          (h.state.block n).pair)) j)
-          (λ j used. set-part (λ (b : Block (List ℕ)). b.source c) n new h.state.block refl j)
 
   own-access : (t : History w) (m : MessageA w) (source : ℕ)
-      → IsAskedOn c t (op.Access (message.A m)) (reply.Started source)
+      → IsAskedOn c t (Op.Access (Message.A m)) (Reply.Started source)
   own-access t m source closed =
-      flowed-untouched before after (unfinished_at sys c) c h.state (access_asked c source h.state) t
+      let mail' : AccessMessages w = record {
+        request = set_at c source (access source m) h.mail.request;
+        answer = h.mail.answer;
+      } in
+      let before : ℕ → Option (BeatA w) = asked_by h.mail h.state c in
+      let after : ℕ → Option (BeatA w) = asked_by mail' (access_asked c source h.state) c in
+      let asks : (i : ℕ) → (i ≡ source → ⊥) → after i ≡ before i =
+      λ i ne. asks-same c i h.mail mail' h.state (access_asked c source h.state)
+      (set_at-else c source i (access source m) h.mail.request ne c)
+      (inl (set_at-else c source i Asked h.state.uses ne c)) (λ n used. refl) (λ n used. refl) in
+      flowed-untouched
       (untouched-access_asked c source before after (unfinished_at sys c) h.state closed
-      (not-coming_a config log h.mail h.request h.state sys c source is
+      (not-coming_a c source is
       (ap (λ (u : SourceState). waits_on_a c u h.state) closed)) asks
-      (λ k. coming-asked config log h.mail h.request h.state sys c k before after is
+      (λ k. coming-asked c k before after is
       (λ i n used. asks i (λ e. acquires_not (h.state.uses c i) n (ap (h.state.uses c) e ∙ closed) used))))
-    where
-      mail' : AccessMessages w
-      mail' = record { request = set_at c source (access source m) h.mail.request; answer = h.mail.answer }
-
-      before : ℕ → Option (BeatA w)
-      before = asked_by h.mail h.state c
-
-      after : ℕ → Option (BeatA w)
-      after = asked_by mail' (access_asked c source h.state) c
-
-      asks : (i : ℕ) → (i ≡ source → ⊥) → after i ≡ before i
-      asks i ne = asks-same c i h.mail mail' h.state (access_asked c source h.state)
-          (set_at-else c source i (access source m) h.mail.request ne c)
-          (inl (set_at-else c source i Asked h.state.uses ne c)) (λ n used. refl) (λ n used. refl)
 
   asked-own : (t : History w) (o : Op w) (r : Reply) → IsReply o r → IsAskedOn c t o r
-  asked-own t o r may_be =
-      reply-cases (IsAskedOn c t) o r may_be (own-stored t)
+  asked-own t o r may_be = reply-cases (IsAskedOn c t) o r may_be (own-stored t)
       (λ n g source may. own-acquire t n source false g ((h.state.block n).waiting c) may.1 may.2)
       (λ n bytes source may. own-acquire t n source true (whole_grow ((h.state.block n).pair c).held) bytes may.1 may.2)
       (λ n p source. own-release t n source p) (own-access t) (asked-nothing c t)
@@ -167,42 +134,28 @@ module _ {w : ℕ} (config : Config) (log : Log w) (h : AbstractState w) (sys : 
   -- ---- another one
 
   asked-other : (d : ℕ) (t : History w) (o : Op w) (r : Reply) → (d ≡ c → ⊥) → IsReply o r → IsAskedOn d t o r
-  asked-other d t o r ne may_be = reply-cases (IsAskedOn d t) o r may_be
-      (λ address size value may. left (op.Store address size value) reply.Stored
-      (λ asks. left-block_stored d before (after (op.Store address size value) reply.Stored) (unfinished_at sys d)
-      h.state asks coming c
-      (block_at address) (copy_stored address size value ((h.state.block (block_at address)).copy c))))
-      (λ n g source may. left (op.Acquire n g) (reply.Started source)
-      (λ asks. left-acquire_asked d before (after (op.Acquire n g) (reply.Started source)) (unfinished_at sys d) h.state
-      asks coming c n source false g
-      ((h.state.block n).waiting c) ne))
-      (λ n bytes source may. left (op.AcquireWhole n bytes) (reply.Started source)
-      (λ asks. left-acquire_asked d before (after (op.AcquireWhole n bytes) (reply.Started source))
-      (unfinished_at sys d) h.state asks coming c n source true (whole_grow ((h.state.block n).pair c).held) bytes ne))
-      (λ n p source may. left (op.Release n p) (reply.Started source)
-      (λ asks. left-release_asked d before (after (op.Release n p) (reply.Started source)) (unfinished_at sys d) h.state
-      asks coming c n source p ne))
-      (λ m source may. left (op.Access (message.A m)) (reply.Started source)
-      (λ asks. left-access_asked d before (after (op.Access (message.A m)) (reply.Started source)) (unfinished_at sys d)
-      h.state asks coming c source ne))
-      (asked-nothing d t)
-    where
-      before : ℕ → Option (BeatA w)
-      before = asked_by h.mail h.state d
-
-      after : Op w → Reply → ℕ → Option (BeatA w)
-      after i j = asked_by (asked c i j h).mail (asked c i j h).state d
-
-      coming : IsComing before (unfinished_at sys d channel.D) d h.state
-      coming = coming-granting config log h.mail h.request h.state sys d is
-
-      left : (i : Op w) (j : Reply)
-          → (((k : ℕ) → after i j k ≡ before k) → IsAside before (after i j) (unfinished_at sys d) d h.state
-          (asked c i j h).state)
-          → MonitorRelation before (unfinished_at sys d) d h.state t → MonitorRelation (after i j) (unfinished_at sys d)
-          d (asked c i j h).state t
-      left i j aside = flowed-aside before (after i j) (unfinished_at sys d) d h.state (asked c i j h).state t
-          (aside (asks-left d h (asked c i j h) (leaves-asked c i j h d ne)))
+  asked-other d t o r ne may_be =
+      let before : ℕ → Option (BeatA w) = asked_by h.mail h.state d in
+      let after : Op w → Reply → ℕ → Option (BeatA w) = λ i j. asked_by (asked c i j h).mail (asked c i j h).state d in
+      let coming = coming-granting d is in
+      let left : (i : Op w) (j : Reply)
+      → (((k : ℕ) → after i j k ≡ before k) → IsAside before (after i j) (unfinished_at sys d) d h.state
+      (asked c i j h).state) → MonitorRelation before (unfinished_at sys d) d h.state t
+      → MonitorRelation (after i j) (unfinished_at sys d) d (asked c i j h).state t =
+      λ i j aside. flowed-aside (aside (asks-left d h (asked c i j h) (leaves-asked c i j h d ne))) in
+      reply-cases (IsAskedOn d t) o r may_be (λ address size value may. left (Op.Store address size value) Reply.Stored
+      (λ asks. left-block_stored d before (after (Op.Store address size value) Reply.Stored) (unfinished_at sys d)
+      h.state asks coming c (block_at address) (copy_stored address size value ((h.state.block (block_at
+      address)).copy c)))) (λ n g source may. left (Op.Acquire n g) (Reply.Started source) (λ asks.
+      left-acquire_asked d before (after (Op.Acquire n g) (Reply.Started source)) (unfinished_at sys d) h.state asks
+      coming c n source false g ((h.state.block n).waiting c) ne)) (λ n bytes source may. left (Op.AcquireWhole n
+      bytes) (Reply.Started source) (λ asks. left-acquire_asked d before (after (Op.AcquireWhole n bytes)
+      (Reply.Started source)) (unfinished_at sys d) h.state asks coming c n source true (whole_grow ((h.state.block
+      n).pair c).held) bytes ne)) (λ n p source may. left (Op.Release n p) (Reply.Started source) (λ asks.
+      left-release_asked d before (after (Op.Release n p) (Reply.Started source)) (unfinished_at sys d) h.state asks
+      coming c n source p ne)) (λ m source may. left (Op.Access (Message.A m)) (Reply.Started source) (λ asks.
+      left-access_asked d before (after (Op.Access (Message.A m)) (Reply.Started source)) (unfinished_at sys d)
+      h.state asks coming c source ne)) (asked-nothing d t)
 
   pub flowed-asked : (d : ℕ) (t : History w) (o : Op w) (r : Reply) → IsReply o r → IsAskedOn d t o r
   flowed-asked d t o r may_be = elim (cases_eq d c) [

@@ -6,46 +6,36 @@ use Rattle.std.proofs.Common.{inr}
 use Rattle.std.specs.Prelude.{◌==◌, if◌then◌else◌}
 use Rattle.std.proofs.lemmas.Bool.{cases_eq, ne_eqb, and_right}
 use Rattle.tl_burst.specs.statement.Burst.{beats_of}
-use Rattle.tl_params.specs.declared.perm.Perm.TheVariants as perm
 use Rattle.tl_coherence.specs.protocol.Invariant.{AreNamed}
-use Rattle.tl_coherence.proofs.client.Aside.{set_at-else}
-use Rattle.tl_coherence.proofs.queues.Carried.{IsNext}
-use Rattle.tl_coherence.proofs.queues.Tokens.{same_number, set_at-same}
-use Rattle.tl_coherence.proofs.client.ProbeDelivered.{first_beat}
+use Rattle.tl_coherence.proofs.{client.Aside.set_at-else, queues.Carried.IsNext, queues.Tokens.same_number}
+use Rattle.tl_coherence.proofs.{queues.Tokens.set_at-same, client.ProbeDelivered.first_beat}
 
 -- a test of what was delivered, which no beats pass, and all beginnings of the message alike
-pub came-so : {w : ℕ} (f : List (Beat w) → Bool) (m : Message w) (x : Beat w) (rest : List (Beat w))
-    (ms : List (Message w)) (queue : List (Beat w)) (v : Bool)
-    → IsNext x rest m ms queue → f [] ≡ false → ((j : ℕ) → f (begun m (suc j)) ≡ v)
-    → f rest ≡ (not (is_empty rest) && v)
-came-so {w} f m x rest ms queue v next none some = rw next.rest_is (go next.k)
-  where
-    go : (k : ℕ) → f (begun m k) ≡ (not (is_empty (begun m k)) && v)
-    go zero = none
-    go (suc j) = some j
+pub came-so : {w : ℕ} (f : List (Beat w) → Bool) {m : Message w} {x : Beat w} {rest : List (Beat w)}
+    {ms : List (Message w)} {queue : List (Beat w)} (v : Bool) → IsNext x rest m ms queue → f [] ≡ false
+    → ((j : ℕ) → f (begun m (suc j)) ≡ v) → f rest ≡ (not (is_empty rest) && v)
+came-so {w} f {m} v next none some =
+    let go : (k : ℕ) → f (begun m k) ≡ (not (is_empty (begun m k)) && v) = elim [ zero ↦ none | suc j ↦ some j ] in
+    rw next.rest_is (go next.k)
 
 pub comes-so : {w : ℕ} (f : List (Beat w) → Bool) (x : Beat w) (rest : List (Beat w)) (v : Bool) → f [] ≡ false
     → f (x ∷ rest) ≡ v → f (grown x rest) ≡ (not (completes x rest) && v)
-comes-so {w} f x rest v none here = go (completes x rest)
-  where
-    go : (b : Bool) → f (if b then [] else x ∷ rest) ≡ (not b && v)
-    go true = none
-    go false = here
+comes-so {w} f x rest v none here =
+    let go : (b : Bool) → f (if b then [] else x ∷ rest) ≡ (not b && v) = elim [ true ↦ none | false ↦ here ] in
+    go (completes x rest)
 
 -- the first beat is beat 0
-pub first-zero : {w : ℕ} (m : Message w) (x : Beat w) (rest : List (Beat w)) (ms : List (Message w))
-    (queue : List (Beat w)) → (next : IsNext x rest m ms queue) → is_empty rest ≡ true → next.k ≡ 0
-first-zero {w} m x rest ms queue next e = go next.k (sym (ap is_empty next.rest_is) ∙ e)
-  where
-    go : (k : ℕ) → is_empty (begun m k) ≡ true → k ≡ 0
-    go zero f = refl
-    go (suc j) f = absurd cc
+pub first-zero : {w : ℕ} {m : Message w} {x : Beat w} {rest : List (Beat w)} {ms : List (Message w)}
+    {queue : List (Beat w)} → (next : IsNext x rest m ms queue) → is_empty rest ≡ true → next.k ≡ 0
+first-zero {w} {m} next e =
+    let go : (k : ℕ) → is_empty (begun m k) ≡ true → k ≡ 0 = elim [ zero ↦ λ f. refl | suc j ↦ λ f. absurd cc ] in
+    go next.k (sym (ap is_empty next.rest_is) ∙ e)
 
 -- a message of one beat
-pub one-beat : {w : ℕ} (m : Message w) (x : Beat w) (rest : List (Beat w)) (ms : List (Message w))
-    (queue : List (Beat w)) → (next : IsNext x rest m ms queue)
+pub one-beat : {w : ℕ} {m : Message w} {x : Beat w} {rest : List (Beat w)} {ms : List (Message w)}
+    {queue : List (Beat w)} → (next : IsNext x rest m ms queue)
     → beats_of m ≡ 1 → (next.k ≡ 0) × (rest ≡ []) × (completes x rest ≡ true)
-one-beat m x rest ms queue next one =
+one-beat {m} next one =
     let zeroth : next.k ≡ 0 = first_beat next.k (beats_of m) next.within one in
     (zeroth, next.rest_is ∙ ap (begun m) zeroth, next.completes_is ∙ rw (zeroth, one) refl)
 
@@ -60,23 +50,18 @@ set_at-if c source i y f j e = elim (cases_eq i source) [
 ]
 
 pub same_perms : (p q : Perm) → same_perm p q ≡ true → q ≡ p
-same_perms perm.None perm.None e = refl
-same_perms perm.Branch perm.Branch e = refl
-same_perms perm.Trunk perm.Trunk e = refl
-same_perms perm.None perm.Branch e = absurd cc
-same_perms perm.None perm.Trunk e = absurd cc
-same_perms perm.Branch perm.None e = absurd cc
-same_perms perm.Branch perm.Trunk e = absurd cc
-same_perms perm.Trunk perm.None e = absurd cc
-same_perms perm.Trunk perm.Branch e = absurd cc
+same_perms Perm.None Perm.None e = refl
+same_perms Perm.Branch Perm.Branch e = refl
+same_perms Perm.Trunk Perm.Trunk e = refl
+same_perms p q e = absurd cc
 
 pub first_false : (p q : Bool) → p ≡ false → (p && q) ≡ false
 first_false p q e = rw e refl
 
 -- the source of a client's Acquire of a block is of no other
-pub unused-else : {X : Type 0} (c n i : ℕ) (s : State X) → AreNamed s → ((s.block n).source c == i) ≡ false
+pub unused-else : {X : Type 0} (c n i : ℕ) {s : State X} → AreNamed s → ((s.block n).source c == i) ≡ false
     → acquires_of n (s.uses c i) ≡ false
-unused-else c n i s named e = named.acquires c i n ∙ and_right (is_wanting ((s.block n).pair c).acquiring)
+unused-else c n i {s} named e = named.acquires c i n ∙ and_right (is_wanting ((s.block n).pair c).acquiring)
     (i == (s.block n).source c) (ne_eqb i ((s.block n).source c) apart)
   where
     apart : i ≡ (s.block n).source c → ⊥

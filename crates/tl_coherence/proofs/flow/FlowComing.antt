@@ -4,28 +4,19 @@ use Rattle.tl_coherence.proofs.flow.Imports.{begun, unfinished, Config, on_link,
 use Rattle.tl_coherence.proofs.flow.Imports.{block_at, is_grant, is_release, asks_for, same_block, IsCarried}
 use Rattle.tl_coherence.proofs.flow.Imports.{comes_granting, Log, State, Acquires, packet, shown, view, is_on}
 use Rattle.tl_coherence.proofs.flow.Imports.{is_granting, AccessMessages, message_of, message_of_kind, report_told}
-use Rattle.tl_coherence.proofs.flow.Imports.{prune_told, block_message, System, Kind, Request, Acquire, Probe, ProbeAck}
-use Rattle.tl_coherence.proofs.flow.Imports.{Release, Answer, Grant, ReleaseAck, GrantAck, Packet, SimulationRelation}
-use Rattle.tl_coherence.proofs.flow.Imports.{is_caching, asked_by}
+use Rattle.tl_coherence.proofs.flow.Imports.{prune_told, block_message, System, Kind, ProbeAck, Release, Answer, Grant}
+use Rattle.tl_coherence.proofs.flow.Imports.{ReleaseAck, Packet, SimulationRelation, is_caching, asked_by, Channel}
 use Rattle.std.proofs.Common.{◌≡◌, ℕ, zero, suc, ◌*◌, Bool, true, false, ◌&&◌, List, [], ◌∷◌, Option, Some, None, refl}
 use Rattle.std.proofs.Common.{sym, ◌∙◌, ap, subst}
-use Rattle.std.specs.Prelude.{◌==◌, map}
-use Rattle.std.proofs.lemmas.Bool.{eqb-true}
-use Rattle.tl_beat.specs.declared.beat.Beat.TheVariants as beat
-use Rattle.tl_beat.specs.declared.channel.Channel.TheVariants as channel
-use Rattle.tl_burst.specs.declared.message.Message.TheVariants as message
+use Rattle.std.{specs.Prelude.◌==◌, specs.Prelude.map, proofs.lemmas.Bool.eqb-true}
 use Rattle.tl_coherence.specs.protocol.Tokens.{is_releasing}
-use Rattle.tl_coherence.proofs.client.ClientEnd.{asks-acquire}
+use Rattle.tl_coherence.proofs.{client.ClientEnd.asks-acquire, queues.FirstToken.own_kind, flow.FlowAside.IsComing}
+use Rattle.tl_coherence.proofs.{manager.ManagedEndings.tracker-of, queues.Phases.and_left, queues.Phases.and_right}
+use Rattle.tl_coherence.proofs.{manager.Reporting.report-about, manager.Reporting.release-about}
+use Rattle.tl_coherence.proofs.{queues.Tokens.same_number, queues.Tokens.holds-first, protocol.BothParts.is_of-is}
+use Rattle.tl_coherence.proofs.{protocol.BothParts.releasing-is, queues.Codes.access_kind}
 use Rattle.tl_coherence.proofs.protocol.HeadOfD.{IsGrantDue, answer-due, grant-due, grant-rendered, grant_message}
 use Rattle.tl_coherence.proofs.protocol.HeadOfD.{ack_message, own_view}
-use Rattle.tl_coherence.proofs.queues.FirstToken.{own_kind}
-use Rattle.tl_coherence.proofs.flow.FlowAside.{IsComing}
-use Rattle.tl_coherence.proofs.manager.ManagedEndings.{tracker-of}
-use Rattle.tl_coherence.proofs.queues.Phases.{and_left, and_right}
-use Rattle.tl_coherence.proofs.manager.Reporting.{report-about, release-about}
-use Rattle.tl_coherence.proofs.queues.Tokens.{same_number, holds-first}
-use Rattle.tl_coherence.proofs.protocol.BothParts.{is_of-is, releasing-is}
-use Rattle.tl_coherence.proofs.queues.Codes.{access_kind}
 
 -- ---- a Grant
 
@@ -35,18 +26,18 @@ IsOfGrant {w} c s x = (n : ℕ) × IsGrantDue c n s × (x.source ≡ (s.block n)
 
 -- a beat of this message is, if it is one of a Grant
 IsGrantAlone : {w : ℕ} → ℕ → State (List ℕ) → Message w → Type 0
-IsGrantAlone {w} c s m = (y : MessageD w) × (m ≡ message.D y) × (is_grant y.opcode ≡ true → (n : ℕ) × IsGrantDue c n s
+IsGrantAlone {w} c s m = (y : MessageD w) × (m ≡ Message.D y) × (is_grant y.opcode ≡ true → (n : ℕ) × IsGrantDue c n s
     × (y.source ≡ (s.block n).source c) × (y.sink ≡ (s.block n).tracker))
 
 never_grant : {A : Type 0} (b : Bool) → b ≡ false → b ≡ true → A
 never_grant b e f = absurd (let no : false ≡ true = sym e ∙ f in cc)
 
-alone_answer : {w : ℕ} (config : Config) (log : Log w) (mail : AccessMessages w) (request : ℕ → MessageA w)
-    (s : State (List ℕ)) (sys : System w) (c i : ℕ)
+alone_answer : {w : ℕ} {config : Config} {log : Log w} {mail : AccessMessages w} {request : ℕ → MessageA w}
+    {s : State (List ℕ)} {sys : System w} (c i : ℕ)
     (rest : List Packet) → SimulationRelation config log mail request s sys → (s.link c).d ≡ packet Answer i ∷ rest
     → IsGrantAlone c s (mail.answer c i)
 unfolding IsGrantAlone
-alone_answer config log mail request s sys c i rest h first =
+alone_answer {config} {mail} {s} c i rest h first =
     let due = answer-due (is_caching config) c i rest mail s h.invariant (h.answered c i) first in (
       due.answer,
       due.answer_is,
@@ -54,12 +45,12 @@ alone_answer config log mail request s sys c i rest h first =
           (access_kind due.answer.opcode due.answers_access).0,
     )
 
-alone_grant : {w : ℕ} (config : Config) (log : Log w) (mail : AccessMessages w) (request : ℕ → MessageA w)
-    (s : State (List ℕ)) (sys : System w) (c n : ℕ)
+alone_grant : {w : ℕ} {config : Config} {log : Log w} {mail : AccessMessages w} {request : ℕ → MessageA w}
+    {s : State (List ℕ)} {sys : System w} (c n : ℕ)
     (rest : List Packet) → SimulationRelation config log mail request s sys → (s.link c).d ≡ packet Grant n ∷ rest
     → IsGrantAlone {w = w} c s (block_message Grant c n (s.block n))
 unfolding IsGrantAlone
-alone_grant config log mail request s sys c n rest h first =
+alone_grant {config} {s} c n rest h first =
     let due = grant-due (is_caching config) c n rest s h.invariant first in (
       grant_message due.data_too due.k ((s.block n).source c) (s.block n).tracker (s.block n).truth,
       grant-rendered c n s
@@ -72,12 +63,11 @@ unfolding IsGrantAlone block_message
 alone_ack w s c n = (ack_message ((s.block n).release_source c), refl, λ e. absurd cc)
 
 begun_alone : {w : ℕ} (c : ℕ) (s : State (List ℕ)) (m : Message w) (k : ℕ) (x : BeatD w) (more : List (Beat w))
-    → IsGrantAlone c s m
-    → beat.D x ∷ more ≡ begun m k → is_grant x.opcode ≡ true → IsOfGrant c s x
+    → IsGrantAlone c s m → Beat.D x ∷ more ≡ begun m k → is_grant x.opcode ≡ true → IsOfGrant c s x
 unfolding IsGrantAlone
 begun_alone {w} c s m k x more is e grants = go k (e ∙ ap (λ (y : Message w). begun y k) is.1)
   where
-    go : (i : ℕ) → beat.D x ∷ more ≡ begun (message.D is.0) i → IsOfGrant c s x
+    go : (i : ℕ) → Beat.D x ∷ more ≡ begun (Message.D is.0) i → IsOfGrant c s x
     go zero f = absurd cc
     go (suc i) f =
         let opcode : x.opcode ≡ is.0.opcode = cc in
@@ -90,151 +80,132 @@ begun_alone {w} c s m k x more is e grants = go k (e ∙ ap (λ (y : Message w).
         told source sink (n, due, of_source, of_sink) = (n, due, source ∙ of_source, sink ∙ of_sink)
 
 -- a Grant that was delivered in part is due
-half-granted : {w : ℕ} (config : Config) (log : Log w) (mail : AccessMessages w) (request : ℕ → MessageA w)
-    (s : State (List ℕ)) (sys : System w) (c : ℕ) (x : BeatD w)
+half-granted : {w : ℕ} {config : Config} {log : Log w} {mail : AccessMessages w} {request : ℕ → MessageA w}
+    {s : State (List ℕ)} {sys : System w} (c : ℕ) (x : BeatD w)
     (more : List (Beat w)) → SimulationRelation config log mail request s sys
-    → unfinished channel.D (sys.clients c).past ≡ beat.D x ∷ more → is_grant x.opcode ≡ true → IsOfGrant c s x
-half-granted {w} config log mail request s sys c x more h is grants = go (s.link c).d refl (h.carried c channel.D)
+    → unfinished Channel.D (sys.clients c).past ≡ Beat.D x ∷ more → is_grant x.opcode ≡ true → IsOfGrant c s x
+half-granted {w} {config} {log} {mail} {request} {s} {sys} c x more h is grants =
+    go (s.link c).d refl (h.carried c Channel.D)
   where
     rest_now : List (Beat w)
-    rest_now = unfinished channel.D (sys.clients c).past
+    rest_now = unfinished Channel.D (sys.clients c).past
 
-    each : (k : Kind) (i : ℕ) (rest : List Packet) → (s.link c).d ≡ packet k i ∷ rest → is_on channel.D k ≡ true
+    each : (k : Kind) (i : ℕ) (rest : List Packet) → (s.link c).d ≡ packet k i ∷ rest → is_on Channel.D k ≡ true
         → IsGrantAlone c s (message_of_kind k mail s c i)
-    each Answer i rest first own = alone_answer config log mail request s sys c i rest h first
-    each Grant i rest first own = alone_grant config log mail request s sys c i rest h first
+    each Answer i rest first own = alone_answer c i rest h first
+    each Grant i rest first own = alone_grant c i rest h first
     each ReleaseAck i rest first own = alone_ack w s c i
-    each Request i rest first own = absurd cc
-    each Acquire i rest first own = absurd cc
-    each Probe i rest first own = absurd cc
-    each ProbeAck i rest first own = absurd cc
-    each Release i rest first own = absurd cc
-    each GrantAck i rest first own = absurd cc
+    each k i rest first own = absurd cc
 
     go : (xs : List Packet) → (s.link c).d ≡ xs → IsCarried rest_now (map (message_of mail s c) (s.link c).d)
-        (sys.channels c channel.D) → IsOfGrant c s x
+        (sys.channels c Channel.D) → IsOfGrant c s x
     go [] first carried =
-        let none : IsCarried rest_now [] (sys.channels c channel.D) =
-        subst (λ (ms : List (Message w)). IsCarried rest_now ms (sys.channels c channel.D))
+        let none : IsCarried rest_now [] (sys.channels c Channel.D) =
+        subst (λ (ms : List (Message w)). IsCarried rest_now ms (sys.channels c Channel.D))
         (ap (map (message_of mail s c)) first) carried in
-        absurd (let no : [] ≡ beat.D x ∷ more = sym none.0 ∙ is in cc)
+        absurd (let no : [] ≡ Beat.D x ∷ more = sym none.0 ∙ is in cc)
     go (y ∷ ys) first carried =
         let some : IsCarried rest_now (message_of mail s c y ∷ map (message_of mail s c) ys)
-        (sys.channels c channel.D) =
-        subst (λ (ms : List (Message w)). IsCarried rest_now ms (sys.channels c channel.D))
+        (sys.channels c Channel.D) =
+        subst (λ (ms : List (Message w)). IsCarried rest_now ms (sys.channels c Channel.D))
         (ap (map (message_of mail s c)) first) carried in
         begun_alone c s (message_of mail s c y) some.0 x more
-        (each y.kind y.number ys first (own_kind (is_caching config) s c channel.D y.kind y.number ys h.invariant
+        (each y.kind y.number ys first (own_kind (is_caching config) s c Channel.D y.kind y.number ys h.invariant
         first)) (sym is ∙ some.2) grants
 
 -- the block of a Grant with this sink that was delivered in part
-pub coming-sink : {w : ℕ} (config : Config) (log : Log w) (mail : AccessMessages w) (request : ℕ → MessageA w)
-    (s : State (List ℕ)) (sys : System w) (c i : ℕ) → SimulationRelation config log mail request s sys
-    → comes_in_grant i (unfinished channel.D (sys.clients c).past) ≡ true → (n : ℕ) × IsGrantDue c n s
+pub coming-sink : {w : ℕ} {config : Config} {log : Log w} {mail : AccessMessages w} {request : ℕ → MessageA w}
+    {s : State (List ℕ)} {sys : System w} (c i : ℕ) → SimulationRelation config log mail request s sys
+    → comes_in_grant i (unfinished Channel.D (sys.clients c).past) ≡ true → (n : ℕ) × IsGrantDue c n s
     × (s.tracked i ≡ Some n)
-coming-sink {w} config log mail request s sys c i h = go (unfinished channel.D (sys.clients c).past) refl
+coming-sink {w} {config} {log} {mail} {request} {s} {sys} c i h = go (unfinished Channel.D (sys.clients c).past) refl
   where
-    go : (beats : List (Beat w)) → unfinished channel.D (sys.clients c).past ≡ beats → comes_in_grant i beats ≡ true
+    go : (beats : List (Beat w)) → unfinished Channel.D (sys.clients c).past ≡ beats → comes_in_grant i beats ≡ true
         → (n : ℕ) × IsGrantDue c n s × (s.tracked i ≡ Some n)
-    go [] e f = absurd cc
-    go (beat.A x ∷ more) e f = absurd cc
-    go (beat.B x ∷ more) e f = absurd cc
-    go (beat.C x ∷ more) e f = absurd cc
-    go (beat.E x ∷ more) e f = absurd cc
-    go (beat.D x ∷ more) e f =
-        let of = half-granted config log mail request s sys c x more h e (and_left (is_grant x.opcode) (x.sink == i) f)
+    go (Beat.D x ∷ more) e f =
+        let of = half-granted c x more h e (and_left (is_grant x.opcode) (x.sink == i) f)
         in
         let same : i ≡ (s.block of.0).tracker = sym (eqb-true x.sink i (and_right (is_grant x.opcode) (x.sink == i) f))
         ∙ of.3 in
-        (of.0, of.1, ap s.tracked same ∙ tracker-of of.0 s h.invariant.named (rw of.1.service refl))
+        (of.0, of.1, ap s.tracked same ∙ tracker-of of.0 h.invariant.named (rw of.1.service refl))
+    go beats e f = absurd cc
 
 -- a Grant of a block that was delivered in part is due
-pub coming-granting : {w : ℕ} (config : Config) (log : Log w) (mail : AccessMessages w) (request : ℕ → MessageA w)
-    (s : State (List ℕ)) (sys : System w) (c : ℕ)
-    → SimulationRelation config log mail request s sys
-    → IsComing (asked_by mail s c) (unfinished channel.D (sys.clients c).past) c s
-coming-granting {w} config log mail request s sys c h n = go (unfinished channel.D (sys.clients c).past) refl
+pub coming-granting : {w : ℕ} {config : Config} {log : Log w} {mail : AccessMessages w} {request : ℕ → MessageA w}
+    {s : State (List ℕ)} {sys : System w} (c : ℕ) → SimulationRelation config log mail request s sys
+    → IsComing (asked_by mail s c) (unfinished Channel.D (sys.clients c).past) c s
+coming-granting {w} {config} {log} {mail} {request} {s} {sys} c h n =
+    go (unfinished Channel.D (sys.clients c).past) refl
   where
-    go : (beats : List (Beat w)) → unfinished channel.D (sys.clients c).past ≡ beats
+    go : (beats : List (Beat w)) → unfinished Channel.D (sys.clients c).past ≡ beats
         → comes_granting n (asked_by mail s c) beats ≡ true → is_granting (view (s.block n).service c) ≡ true
-    go [] e f = absurd cc
-    go (beat.A x ∷ more) e f = absurd cc
-    go (beat.B x ∷ more) e f = absurd cc
-    go (beat.C x ∷ more) e f = absurd cc
-    go (beat.E x ∷ more) e f = absurd cc
-    go (beat.D x ∷ more) e f =
-        let of = half-granted config log mail request s sys c x more h e
+    go (Beat.D x ∷ more) e f =
+        let of = half-granted c x more h e
         (and_left (is_grant x.opcode) (asks_for n (asked_by mail s c x.source)) f) in
         let asks = asks-acquire c ((s.block of.0).source c) of.0 ((s.block of.0).source c) of.1.whole of.1.g mail s
         of.1.used of.1.wants refl in
         let here : (block_at (64 * of.0) == n) ≡ true =
-        sym (ap (λ (i : ℕ). asks_for n (asked_by mail s c i)) of.2 ∙ ap (asks_for n) asks)
-        ∙ and_right (is_grant x.opcode) (asks_for n (asked_by mail s c x.source)) f in
+        cc (of.2, asks, and_right (is_grant x.opcode) (asks_for n (asked_by mail s c x.source)) f) in
         let same : of.0 ≡ n = sym (same_block of.0) ∙ eqb-true (block_at (64 * of.0)) n here in
         ap (λ (i : ℕ). is_granting (view (s.block i).service c)) (sym same) ∙ ap is_granting
         (own_view c of.1.data_too of.1.k (s.block of.0).service of.1.service)
+    go beats e f = absurd cc
 
 -- requests that are asked with other first beats, but for sources that are open, change nothing of it
-pub coming-asked : {w : ℕ} (config : Config) (log : Log w) (mail : AccessMessages w) (request : ℕ → MessageA w)
-    (s : State (List ℕ)) (sys : System w) (c m : ℕ)
-    (asked asked' : ℕ → Option (BeatA w)) → SimulationRelation config log mail request s sys
-    → ((i n : ℕ) → s.uses c i ≡ Acquires n → asked' i ≡ asked i)
-    → comes_granting m asked' (unfinished channel.D (sys.clients c).past) ≡ comes_granting m asked
-    (unfinished channel.D (sys.clients c).past)
-coming-asked {w} config log mail request s sys c m asked asked' h same =
-    go (unfinished channel.D (sys.clients c).past) refl
+pub coming-asked : {w : ℕ} {config : Config} {log : Log w} {mail : AccessMessages w} {request : ℕ → MessageA w}
+    {s : State (List ℕ)} {sys : System w} (c m : ℕ) (asked asked' : ℕ → Option (BeatA w))
+    → SimulationRelation config log mail request s sys → ((i n : ℕ) → s.uses c i ≡ Acquires n → asked' i ≡ asked i)
+    → comes_granting m asked' (unfinished Channel.D (sys.clients c).past) ≡ comes_granting m asked
+    (unfinished Channel.D (sys.clients c).past)
+coming-asked {w} {config} {log} {mail} {request} {s} {sys} c m asked asked' h same =
+    go (unfinished Channel.D (sys.clients c).past) refl
   where
-    go : (beats : List (Beat w)) → unfinished channel.D (sys.clients c).past ≡ beats
+    go : (beats : List (Beat w)) → unfinished Channel.D (sys.clients c).past ≡ beats
         → comes_granting m asked' beats ≡ comes_granting m asked beats
-    go [] e = refl
-    go (beat.A x ∷ more) e = refl
-    go (beat.B x ∷ more) e = refl
-    go (beat.C x ∷ more) e = refl
-    go (beat.E x ∷ more) e = refl
-    go (beat.D x ∷ more) e = by (is_grant x.opcode) refl
+    go (Beat.D x ∷ more) e = by (is_grant x.opcode) refl
       where
         by : (b : Bool) → is_grant x.opcode ≡ b
             → (b && asks_for m (asked' x.source)) ≡ (b && asks_for m (asked x.source))
         by false f = refl
         by true f =
-            let of = half-granted config log mail request s sys c x more h e f in
+            let of = half-granted c x more h e f in
             ap (asks_for m) (same x.source of.0 (ap (s.uses c) of.2 ∙ of.1.used))
+    go beats e = refl
 
 -- ---- a Release
 
 -- a beat of this message, if it is one of a Release, has the source of one that isn't answered
 IsReleaseAlone : {w : ℕ} → ℕ → State (List ℕ) → Message w → Type 0
-IsReleaseAlone {w} c s m = (y : MessageC w) × (m ≡ message.C y)
+IsReleaseAlone {w} c s m = (y : MessageC w) × (m ≡ Message.C y)
     × (is_release y.opcode ≡ true → (n : ℕ) × (is_releasing ((s.block n).pair c).letting ≡ true)
     × (y.source ≡ (s.block n).release_source c))
 
-alone_report : {w : ℕ} (c n : ℕ) (s : State (List ℕ)) (width : IsWidth w) (config : Config) (log : Log w)
-    (mail : AccessMessages w) (request : ℕ → MessageA w)
-    (sys : System w) → SimulationRelation config log mail request s sys
+alone_report : {w : ℕ} (c n : ℕ) {s : State (List ℕ)} (width : IsWidth w) {config : Config} {log : Log w}
+    {mail : AccessMessages w} {request : ℕ → MessageA w}
+    {sys : System w} → SimulationRelation config log mail request s sys
     → IsReleaseAlone {w = w} c s (block_message ProbeAck c n (s.block n))
 unfolding IsReleaseAlone block_message
-alone_report c n s width config log mail request sys h =
+alone_report c n {s} width h =
     let about = report-about (report_told ((s.block n).pair c).probing) n (s.block n).truth width (h.sized n).truth in
     (about.0, about.1, never_grant (is_release about.0.opcode) about.2.releases)
 
-alone_release : {w : ℕ} (c n : ℕ) (s : State (List ℕ)) (width : IsWidth w) (config : Config) (log : Log w)
-    (mail : AccessMessages w) (request : ℕ → MessageA w)
-    (sys : System w) → SimulationRelation config log mail request s sys
-    → is_releasing ((s.block n).pair c).letting ≡ true
+alone_release : {w : ℕ} (c n : ℕ) {s : State (List ℕ)} (width : IsWidth w) {config : Config} {log : Log w}
+    {mail : AccessMessages w} {request : ℕ → MessageA w} {sys : System w}
+    → SimulationRelation config log mail request s sys → is_releasing ((s.block n).pair c).letting ≡ true
     → IsReleaseAlone {w = w} c s (block_message Release c n (s.block n))
 unfolding IsReleaseAlone block_message
-alone_release c n s width config log mail request sys h shows =
+alone_release c n {s} width h shows =
     let about = release-about (prune_told ((s.block n).pair c).letting) ((s.block n).release_source c) n
     (s.block n).truth width (h.sized n).truth in
     (about.0, about.1, λ e. (n, shows, about.3))
 
 begun_release : {w : ℕ} (c : ℕ) (s : State (List ℕ)) (m : Message w) (k : ℕ) (x : BeatC w) (more : List (Beat w))
-    → IsReleaseAlone c s m → beat.C x ∷ more ≡ begun m k → is_release x.opcode ≡ true
+    → IsReleaseAlone c s m → Beat.C x ∷ more ≡ begun m k → is_release x.opcode ≡ true
     → (n : ℕ) × (is_releasing ((s.block n).pair c).letting ≡ true) × (x.source ≡ (s.block n).release_source c)
 unfolding IsReleaseAlone
 begun_release {w} c s m k x more is e releases = go k (e ∙ ap (λ (y : Message w). begun y k) is.1)
   where
-    go : (i : ℕ) → beat.C x ∷ more ≡ begun (message.C is.0) i
+    go : (i : ℕ) → Beat.C x ∷ more ≡ begun (Message.C is.0) i
         → (n : ℕ) × (is_releasing ((s.block n).pair c).letting ≡ true) × (x.source ≡ (s.block n).release_source c)
     go zero f = absurd cc
     go (suc i) f =
@@ -247,77 +218,65 @@ begun_release {w} c s m k x more is e releases = go k (e ∙ ap (λ (y : Message
             → (n : ℕ) × (is_releasing ((s.block n).pair c).letting ≡ true) × (x.source ≡ (s.block n).release_source c)
         told source (n, releasing, of_source) = (n, releasing, source ∙ of_source)
 
-half-released : {w : ℕ} (config : Config) (log : Log w) (mail : AccessMessages w) (request : ℕ → MessageA w)
-    (s : State (List ℕ)) (sys : System w) (c : ℕ) (x : BeatC w)
+half-released : {w : ℕ} {config : Config} {log : Log w} {mail : AccessMessages w} {request : ℕ → MessageA w}
+    {s : State (List ℕ)} {sys : System w} (c : ℕ) (x : BeatC w)
     (more : List (Beat w)) → IsWidth w → SimulationRelation config log mail request s sys
-    → unfinished channel.C (on_link c sys.manager.trace) ≡ beat.C x ∷ more → is_release x.opcode ≡ true → (n : ℕ)
+    → unfinished Channel.C (on_link c sys.manager.trace) ≡ Beat.C x ∷ more → is_release x.opcode ≡ true → (n : ℕ)
     × (is_releasing ((s.block n).pair c).letting ≡ true) × (x.source ≡ (s.block n).release_source c)
-half-released {w} config log mail request s sys c x more width h is releases =
-    go (s.link c).c refl (h.carried c channel.C)
+half-released {w} {config} {log} {mail} {request} {s} {sys} c x more width h is releases =
+    go (s.link c).c refl (h.carried c Channel.C)
   where
     Here : Type 0
     Here = (n : ℕ) × (is_releasing ((s.block n).pair c).letting ≡ true) × (x.source ≡ (s.block n).release_source c)
 
     rest_now : List (Beat w)
-    rest_now = unfinished channel.C (on_link c sys.manager.trace)
+    rest_now = unfinished Channel.C (on_link c sys.manager.trace)
 
-    each : (k : Kind) (i : ℕ) (rest : List Packet) → (s.link c).c ≡ packet k i ∷ rest → is_on channel.C k ≡ true
+    each : (k : Kind) (i : ℕ) (rest : List Packet) → (s.link c).c ≡ packet k i ∷ rest → is_on Channel.C k ≡ true
         → IsReleaseAlone c s (message_of_kind k mail s c i)
-    each ProbeAck i rest first own = alone_report c i s width config log mail request sys h
-    each Release i rest first own = alone_release c i s width config log mail request sys h
+    each ProbeAck i rest first own = alone_report c i width h
+    each Release i rest first own = alone_release c i width h
         (holds-first Release (s.link c).c rest (packet Release i) (λ j. shown Release c (s.block j)) first refl
         (h.invariant.transfers c Release refl))
-    each Request i rest first own = absurd cc
-    each Acquire i rest first own = absurd cc
-    each Probe i rest first own = absurd cc
-    each Answer i rest first own = absurd cc
-    each Grant i rest first own = absurd cc
-    each ReleaseAck i rest first own = absurd cc
-    each GrantAck i rest first own = absurd cc
+    each k i rest first own = absurd cc
 
     go : (xs : List Packet) → (s.link c).c ≡ xs → IsCarried rest_now (map (message_of mail s c) (s.link c).c)
-        (sys.channels c channel.C) → Here
+        (sys.channels c Channel.C) → Here
     go [] first carried =
-        let none : IsCarried rest_now [] (sys.channels c channel.C) =
-        subst (λ (ms : List (Message w)). IsCarried rest_now ms (sys.channels c channel.C))
+        let none : IsCarried rest_now [] (sys.channels c Channel.C) =
+        subst (λ (ms : List (Message w)). IsCarried rest_now ms (sys.channels c Channel.C))
         (ap (map (message_of mail s c)) first) carried in
-        absurd (let no : [] ≡ beat.C x ∷ more = sym none.0 ∙ is in cc)
+        absurd (let no : [] ≡ Beat.C x ∷ more = sym none.0 ∙ is in cc)
     go (y ∷ ys) first carried =
         let some : IsCarried rest_now (message_of mail s c y ∷ map (message_of mail s c) ys)
-        (sys.channels c channel.C) =
-        subst (λ (ms : List (Message w)). IsCarried rest_now ms (sys.channels c channel.C))
+        (sys.channels c Channel.C) =
+        subst (λ (ms : List (Message w)). IsCarried rest_now ms (sys.channels c Channel.C))
         (ap (map (message_of mail s c)) first) carried in
         begun_release c s (message_of mail s c y) some.0 x more
-        (each y.kind y.number ys first (own_kind (is_caching config) s c channel.C y.kind y.number ys h.invariant
+        (each y.kind y.number ys first (own_kind (is_caching config) s c Channel.C y.kind y.number ys h.invariant
         first)) (sym is ∙ some.2) releases
 
 -- no Release is half delivered with a source that is free
-pub coming-free : {w : ℕ} (config : Config) (log : Log w) (mail : AccessMessages w) (request : ℕ → MessageA w)
-    (s : State (List ℕ)) (sys : System w) (c source : ℕ)
-    → IsWidth w → SimulationRelation config log mail request s sys → s.lets c source ≡ None
-    → comes_in_release source (unfinished channel.C (on_link c sys.manager.trace)) ≡ false
-coming-free {w} config log mail request s sys c source width h free =
-    go (unfinished channel.C (on_link c sys.manager.trace)) refl
+pub coming-free : {w : ℕ} {config : Config} {log : Log w} {mail : AccessMessages w} {request : ℕ → MessageA w}
+    {s : State (List ℕ)} {sys : System w} (c source : ℕ) → IsWidth w → SimulationRelation config log mail request s sys
+    → s.lets c source ≡ None → comes_in_release source (unfinished Channel.C (on_link c sys.manager.trace)) ≡ false
+coming-free {w} {config} {log} {mail} {request} {s} {sys} c source width h free =
+    go (unfinished Channel.C (on_link c sys.manager.trace)) refl
   where
-    go : (beats : List (Beat w)) → unfinished channel.C (on_link c sys.manager.trace) ≡ beats
+    go : (beats : List (Beat w)) → unfinished Channel.C (on_link c sys.manager.trace) ≡ beats
         → comes_in_release source beats ≡ false
-    go [] e = refl
-    go (beat.A x ∷ more) e = refl
-    go (beat.B x ∷ more) e = refl
-    go (beat.D x ∷ more) e = refl
-    go (beat.E x ∷ more) e = refl
-    go (beat.C x ∷ more) e = by (is_release x.opcode && (x.source == source)) refl
+    go (Beat.C x ∷ more) e = by (is_release x.opcode && (x.source == source)) refl
       where
         by : (b : Bool) → (is_release x.opcode && (x.source == source)) ≡ b → b ≡ false
         by false f = refl
         by true f =
-            let of = half-released config log mail request s sys c x more width h e
+            let of = half-released c x more width h e
             (and_left (is_release x.opcode) (x.source == source) f) in
             let same : source ≡ (s.block of.0).release_source c =
             sym (eqb-true x.source source (and_right (is_release x.opcode) (x.source == source) f)) ∙ of.2 in
             let letting = releasing-is ((s.block of.0).pair c).letting of.1 in
-            let used : s.lets c ((s.block of.0).release_source c) ≡ Some of.0 =
-            is_of-is of.0 (s.lets c ((s.block of.0).release_source c))
-            (h.invariant.named.releases c ((s.block of.0).release_source c) of.0 ∙ rw
-            (letting, same_number ((s.block of.0).release_source c)) refl) in
+            let used = is_of-is of.0 (s.lets c ((s.block of.0).release_source c))
+            (h.invariant.named.releases c ((s.block of.0).release_source c) of.0
+            ∙ rw (letting, same_number ((s.block of.0).release_source c)) refl) in
             absurd (let no : None ≡ Some of.0 = sym free ∙ ap (s.lets c) same ∙ used in cc)
+    go beats e = refl

@@ -11,19 +11,14 @@ use Rattle.std.proofs.Common.{◌≡◌, ℕ, Bool, true, false, not, ◌&&◌, 
 use Rattle.std.proofs.Common.{List}
 use Rattle.std.specs.Prelude.{◌==◌, if◌then◌else◌, option_map, unwrap_or}
 use Rattle.std.proofs.lemmas.Bool.{ne_eqb, and_right}
-use Rattle.tl_beat.specs.declared.beat.Beat.TheVariants as beat
-use Rattle.tl_beat.specs.declared.channel.Channel.TheVariants as channel
 use Rattle.tl_params.specs.statement.Param.{cap_right}
 use Rattle.tl_rules.specs.statement.History.{releases, capped}
-use Rattle.tl_client.proofs.pending.Opens.{request_of-d}
-use Rattle.tl_client.proofs.pending.AccountedResponse.{release_of-d}
-use Rattle.tl_coherence.proofs.flow.FlowAlone.{AreRests}
+use Rattle.tl_client.{proofs.pending.Opens.request_of-d, proofs.pending.AccountedResponse.release_of-d}
+use Rattle.tl_coherence.proofs.{flow.FlowAlone.AreRests, flow.FlowAside.let_by-same}
+use Rattle.tl_coherence.proofs.{flow.FlowReport.unclosed as not_last, queues.Tokens.same_number}
 use Rattle.tl_coherence.proofs.flow.FlowAnswered.{probed-of, unclosed, closes_last}
-use Rattle.tl_coherence.proofs.flow.FlowAside.{let_by-same}
-use Rattle.tl_coherence.proofs.flow.FlowReport.{unclosed as not_last}
 use Rattle.tl_coherence.proofs.flow.FlowReleased.{AreElsewhere, each-block, part-block, opened, with_true}
 use Rattle.tl_coherence.proofs.flow.FlowStep.{flowed-next, held_by, acquired_by, let_of, granted_by, step, step_quiet}
-use Rattle.tl_coherence.proofs.queues.Tokens.{same_number}
 
 abbrev pub seen_after : Bool → Bool → Cap → View
 seen_after true d k = Acknowledging
@@ -45,10 +40,10 @@ pub record IsGranting {w : ℕ} {X : Type 0} (c n : ℕ) (d : Bool) (k : Cap) (y
   pub tracks : (i : ℕ) → (y.sink == i) ≡ true → s.tracked i ≡ Some n
   pub tracks_not : (i : ℕ) → (y.sink == i) ≡ false → is_of n (s.tracked i) ≡ false
   pub asks : (m : ℕ) → asks_for m (asked y.source) ≡ (n == m)
-  pub came : (i : ℕ) → comes_in_grant i (rest channel.D) ≡ (not first && (y.sink == i))
-  pub comes : (i : ℕ) → comes_in_grant i (rest' channel.D) ≡ (not last && (y.sink == i))
-  pub granted : (m : ℕ) → comes_granting m asked (rest channel.D) ≡ (not first && (n == m))
-  pub grants : (m : ℕ) → comes_granting m asked' (rest' channel.D) ≡ (not last && (n == m))
+  pub came : (i : ℕ) → comes_in_grant i (rest Channel.D) ≡ (not first && (y.sink == i))
+  pub comes : (i : ℕ) → comes_in_grant i (rest' Channel.D) ≡ (not last && (y.sink == i))
+  pub granted : (m : ℕ) → comes_granting m asked (rest Channel.D) ≡ (not first && (n == m))
+  pub grants : (m : ℕ) → comes_granting m asked' (rest' Channel.D) ≡ (not last && (n == m))
   pub asked_is : (i : ℕ) → (last && (y.source == i)) ≡ false → asked' i ≡ asked i
   pub elsewhere : AreElsewhere n s s'
   pub uses : (i : ℕ) → s'.uses c i ≡ (if last && (y.source == i) then SourceFree else s.uses c i)
@@ -93,35 +88,31 @@ pub unbegun : (first last g p : Bool) → g ≡ false → step first last g fals
 unbegun first last g p e = rw e (step_quiet first last p)
 
 -- the sink of the last Grant of the block of the beat, and of another one
-of_block : {w : ℕ} (m : ℕ) (y : BeatD w) (t : History w) (first : Bool) (v : ℕ) → begins (beat.D y) t ≡ first
+of_block : {w : ℕ} (m : ℕ) (y : BeatD w) (t : History w) (first : Bool) (v : ℕ) → begins (Beat.D y) t ≡ first
     → (is_grant y.opcode && asks_for m (request_of y.source t)) ≡ true → y.sink ≡ v
-    → (first ≡ false → grant_sink m t ≡ Some v)
-    → grant_sink m (beat.D y ∷ t) ≡ Some v
+    → (first ≡ false → grant_sink m t ≡ Some v) → grant_sink m (Beat.D y ∷ t) ≡ Some v
 unfolding grant_sink
 of_block m y t true v e f g before = rw (e, f) (ap Some g)
 of_block m y t false v e f g before = rw e (before refl)
 
 of_other : {w : ℕ} (m : ℕ) (y : BeatD w) (t : History w)
-    → (is_grant y.opcode && asks_for m (request_of y.source t)) ≡ false → grant_sink m (beat.D y ∷ t) ≡ grant_sink m t
+    → (is_grant y.opcode && asks_for m (request_of y.source t)) ≡ false → grant_sink m (Beat.D y ∷ t) ≡ grant_sink m t
 unfolding grant_sink
-of_other {w} m y t e = go (begins (beat.D y) t) (is_grant y.opcode && asks_for m (request_of y.source t)) e
-  where
-    go : (p q : Bool) → q ≡ false → (if p && q then Some y.sink else grant_sink m t) ≡ grant_sink m t
-    go true q f = rw f refl
-    go false q f = refl
+of_other {w} m y t e =
+    let go : (p q : Bool) → q ≡ false → (if p && q then Some y.sink else grant_sink m t) ≡ grant_sink m t =
+    elim [ true ↦ λ q f. rw f refl | false ↦ λ q f. refl ] in
+    go (begins (Beat.D y) t) (is_grant y.opcode && asks_for m (request_of y.source t)) e
 
 -- a use that isn't of the block in which the states differ
 pub requested-apart : {w : ℕ} {X : Type 0} (c i n : ℕ) (rest rest' : List (Beat w)) (u : SourceState) (s s' : State X)
-    → AreElsewhere n s s'
-    → comes_in_request i rest' ≡ comes_in_request i rest → acquires_of n u ≡ false
+    → AreElsewhere n s s' → comes_in_request i rest' ≡ comes_in_request i rest → acquires_of n u ≡ false
     → is_requested c i rest' u s' ≡ is_requested c i rest u s
 requested-apart c i n rest rest' SourceFree s s' same comes e = refl
 requested-apart c i n rest rest' Asked s s' same comes e = comes
 requested-apart c i n rest rest' (InService m) s s' same comes e = refl
 requested-apart c i n rest rest' Replied s s' same comes e = refl
 requested-apart {w} {X} c i n rest rest' (Acquires m) s s' same comes e =
-    ap (λ (z : Block X). not (is_unserved (view z.service c))) (same m (λ f. let g : (n == n) ≡ false = rw f at e in
-    let h : true ≡ false = sym (same_number n) ∙ g in cc))
+    cc (same m (λ f. let g : (n == n) ≡ false = rw f at e in let h : true ≡ false = sym (same_number n) ∙ g in cc))
 
 now_requested : (last d : Bool) (k : Cap) (v : View) → v ≡ seen_after last d k → last ≡ false
     → not (is_unserved v) ≡ true
@@ -143,23 +134,46 @@ now_sunk : (last d : Bool) (k : Cap) (v : View) (a : Bool) → v ≡ seen_after 
 now_sunk true d k v a e f = rw e refl
 now_sunk false d k v a e f = rw (f, e) refl
 
-pub flowed-grant : {w : ℕ} {X : Type 0} (c n : ℕ) (d : Bool) (k : Cap) (y : BeatD w) (first last : Bool)
-    (asked asked' : ℕ → Option (BeatA w))
-    (rest rest' : Channel → List (Beat w)) (s s' : State X) (t : History w)
-    → begins (beat.D y) t ≡ first → ends (beat.D y) t ≡ last → AreRests (beat.D y) rest rest'
-    → IsGranting c n d k y first last asked asked' rest rest' s s'
-    → MonitorRelation asked rest c s t → MonitorRelation asked' rest' c s' (beat.D y ∷ t)
-flowed-grant {w} {X} c n d k y first last asked asked' rest rest' s s' t first_is last_is rests is before =
-    flowed-next (beat.D y) first last asked asked' rest rest' c s s' t (record {
+pub flowed-grant : {w : ℕ} {X : Type 0} {c n : ℕ} {d : Bool} {k : Cap} {y : BeatD w} {first last : Bool}
+    {asked asked' : ℕ → Option (BeatA w)} {rest rest' : Channel → List (Beat w)} {s s' : State X} {t : History w}
+    → begins (Beat.D y) t ≡ first → ends (Beat.D y) t ≡ last → AreRests (Beat.D y) rest rest'
+    → IsGranting c n d k y first last asked asked' rest rest' s s' → MonitorRelation asked rest c s t
+    → MonitorRelation asked' rest' c s' (Beat.D y ∷ t)
+flowed-grant {w} {X} {c} {n} {d} {k} {y} {first} {last} {asked} {asked'} {rest} {rest'} {s} {s'} {t} first_is last_is
+    rests is before =
+    let b : Block X = s.block n in
+    let grants_at : ℕ → Bool = λ m. is_grant y.opcode && asks_for m (request_of y.source t) in
+    let names : (m : ℕ) → (is_grant y.opcode && asks_for m (request_of y.source t)) ≡ (n == m) =
+    λ m. cc (
+      is.grant,
+      before.asked_is y.source (before.requests y.source
+          ∙ was_requested y.source (same_number y.source)),
+      is.asks m,
+    ) in
+    let apart : (m : ℕ) → (m ≡ n → ⊥) → (is_grant y.opcode && asks_for m (request_of y.source t)) ≡ false =
+    λ m ne. names m ∙ ne_eqb n m (λ e. ne (sym e)) in
+    let granted_then : granted_by c n asked (rest Channel.D) b ≡ not first =
+    cc (is.seen, is.granted n, with_true (not first) (n == n) (same_number n)) in
+    let grants_other : (m : ℕ) → (m ≡ n → ⊥) → granted_by c m asked' (rest' Channel.D) (s.block m)
+    ≡ granted_by c m asked (rest Channel.D) (s.block m) =
+    λ m ne. cc (
+      is.grants m,
+      and_right (not last) (n == m) (ne_eqb n m (λ e. ne (sym e))),
+      is.granted m,
+      and_right
+          (not first) (n == m) (ne_eqb n m (λ e. ne (sym e))),
+    ) in
+    let let_same : (m : ℕ) → let_of c (rest Channel.C) (s'.block m) ≡ let_of c (rest Channel.C) (s.block m) =
+    part-block (let_of c (rest Channel.C)) n s s' is.elsewhere (rw (is.release_source, is.letting_is) refl) in
+    flowed-next (record {
       first_is = first_is;
       last_is = last_is;
       rests = rests;
-      held_is = each-block (λ m z. held_by c z ≡ (if last then unwrap_or
-          (if is_grant y.opcode && asks_for m (request_of y.source t) then Some (capped y.param) else None)
-          (held_by c (s.block m)) else held_by c
-          (s.block m))) n s s' is.elsewhere
-          (is.held_is ∙ ap (λ (q : Perm). if last then q else held_by c b) (sym is.says) ∙ sym
-          (said last (grants_at n) (capped y.param) (held_by c b) (names n ∙ same_number n)))
+      held_is = each-block (λ m z. held_by c z
+          ≡ (if last then unwrap_or (if is_grant y.opcode && asks_for m (request_of y.source t) then Some
+          (capped y.param) else None) (held_by c (s.block m)) else held_by c (s.block m))) n s s' is.elsewhere
+          (is.held_is ∙ ap (λ (q : Perm). if last then q else held_by c b) (sym is.says)
+          ∙ sym (said last (grants_at n) (capped y.param) (held_by c b) (names n ∙ same_number n)))
           (λ m ne. sym (unsaid last (grants_at m) (capped y.param) (held_by c (s.block m)) (apart m ne)));
       requests = λ i. use_at i ∙ requests i last (y.source == i) refl refl;
       asked_is = λ i e. asked_still i e (last && (y.source == i)) refl;
@@ -170,152 +184,124 @@ flowed-grant {w} {X} c n d k y first last asked asked' rest rest' s s' t first_i
           (rw (is.wants, is.seen) refl)))
           (λ m ne. sym (unended first last (grants_at m) (acquired_by c (s.block m)) (apart m ne)));
       release_sources = λ i. lets i ∙ sym (unclosed first last (is_release_ack y.opcode) (y.source == i)
-          (is_let_by c i (rest channel.C) (s.lets c i) s) is.ack);
+          (is_let_by c i (rest Channel.C) (s.lets c i) s) is.ack);
       released = λ i m e f. ap (option_map (λ z. block_at z.address)) (release_of-d i y t) ∙ before.released i m
           (sym (is.lets i) ∙ e) (before.release_sources i ∙ sym (lets i) ∙ f);
       sizes = λ i m e f. ap (option_map (λ z. z.size)) (release_of-d i y t) ∙ before.sizes i m (sym (is.lets i) ∙ e)
           (before.release_sources i ∙ sym (lets i) ∙ f);
-      releases = λ m. ap (λ (l : List (Beat w)). let_of c l (s'.block m)) (rests channel.C) ∙ let_same m
+      releases = λ m. ap (λ (l : List (Beat w)). let_of c l (s'.block m)) (rests Channel.C) ∙ let_same m
           ∙ sym (unclosed first last (is_release_ack y.opcode) (releases m (release_of y.source t))
-          (let_of c (rest channel.C) (s.block m)) is.ack);
-      sinks = λ i. ap (λ (o : Option ℕ). is_sunk c i (rest' channel.D) o s') (is.tracked i) ∙ sinks i (y.sink == i)
+          (let_of c (rest Channel.C) (s.block m)) is.ack);
+      sinks = λ i. ap (λ (o : Option ℕ). is_sunk c i (rest' Channel.D) o s') (is.tracked i) ∙ sinks i (y.sink == i)
           (s.tracked i) refl refl;
-      grants = each-block (λ m z. granted_by c m asked' (rest' channel.D) z ≡ step first last
-          (is_grant y.opcode && asks_for m (request_of y.source t)) false
-          (granted_by c m asked (rest channel.D) (s.block m))) n s s' is.elsewhere
-          (now_granted last d k (view new.service c) (comes_granting n asked' (rest' channel.D)) is.seen_is
-          (is.grants n ∙ with_true (not last) (n == n) (same_number n))
-          ∙ sym (begun first last (grants_at n) (granted_by c n asked (rest channel.D) b) (names n ∙ same_number n)
-          granted_then))
-          (λ m ne. grants_other m ne ∙ sym
-          (unbegun first last (grants_at m) (granted_by c m asked (rest channel.D) (s.block m)) (apart m ne)));
+      grants = each-block (λ m z. granted_by c m asked' (rest' Channel.D) z
+          ≡ step first last (is_grant y.opcode && asks_for m (request_of y.source t)) false
+          (granted_by c m asked (rest Channel.D) (s.block m))) n s s' is.elsewhere
+          (now_granted last d k (view new.service c) (comes_granting n asked' (rest' Channel.D)) is.seen_is (is.grants n
+          ∙ with_true (not last) (n == n) (same_number n))
+          ∙ sym (begun first last (grants_at n) (granted_by c n asked (rest Channel.D) b) (names n ∙ same_number n)
+          granted_then)) (λ m ne. grants_other m ne
+          ∙ sym (unbegun first last (grants_at m) (granted_by c m asked (rest Channel.D) (s.block m)) (apart m ne)));
       probes = λ m. answered m ∙ sym (step_quiet first last (is_answered ((s.block m).pair c).probing));
       probed = λ m e. probed-of m y t ∙ probed m e;
-      sunk = each-block (λ m z. granted_by c m asked' (rest' channel.D) z ≡ true
-          → grant_sink m (beat.D y ∷ t) ≡ Some z.tracker) n s s' is.elsewhere
+      sunk = each-block (λ m z. granted_by c m asked' (rest' Channel.D) z ≡ true
+          → grant_sink m (Beat.D y ∷ t) ≡ Some z.tracker) n s s' is.elsewhere
           (λ e. of_block n y t first new.tracker first_is (names n ∙ same_number n) (is.sink ∙ sym is.tracker)
           (λ f. before.sunk n (before.grants n ∙ granted_then ∙ ap not f) ∙ ap Some (sym is.tracker)))
           (λ m ne e. of_other m y t (apart m ne) ∙ before.sunk m (before.grants m ∙ sym (grants_other m ne) ∙ e));
     }) before
   where
-    b : Block X
-    b = s.block n
-
     new : Block X
     new = s'.block n
 
-    grants_at : ℕ → Bool
-    grants_at m = is_grant y.opcode && asks_for m (request_of y.source t)
+    was_requested : (i : ℕ) → (y.source == i) ≡ true → is_requested c i (rest Channel.A) (s.uses c i) s ≡ true
+    was_requested i e = cc (is.use_is i e, is.seen)
 
-    was_requested : (i : ℕ) → (y.source == i) ≡ true → is_requested c i (rest channel.A) (s.uses c i) s ≡ true
-    was_requested i e = ap (λ (u : SourceState). is_requested c i (rest channel.A) u s) (is.use_is i e) ∙ ap
-        (λ (v : View). not (is_unserved v)) is.seen
-
-    names : (m : ℕ) → (is_grant y.opcode && asks_for m (request_of y.source t)) ≡ (n == m)
-    names m = ap (λ (z : Bool). z && asks_for m (request_of y.source t)) is.grant
-        ∙ ap (asks_for m) (before.asked_is y.source (before.requests y.source ∙ was_requested y.source
-        (same_number y.source))) ∙ is.asks m
-
-    apart : (m : ℕ) → (m ≡ n → ⊥) → (is_grant y.opcode && asks_for m (request_of y.source t)) ≡ false
-    apart m ne = names m ∙ ne_eqb n m (λ e. ne (sym e))
-
-    granted_then : granted_by c n asked (rest channel.D) b ≡ not first
-    granted_then = ap (λ (v : View). is_acknowledging v || comes_granting n asked (rest channel.D)) is.seen ∙ is.granted
-        n ∙ with_true (not first) (n == n) (same_number n)
-
-    grants_other : (m : ℕ) → (m ≡ n → ⊥) → granted_by c m asked' (rest' channel.D) (s.block m) ≡ granted_by c m asked
-        (rest channel.D) (s.block m)
-    grants_other m ne =
-        ap (λ (z : Bool). is_acknowledging (view (s.block m).service c) || z)
-        (is.grants m ∙ and_right (not last) (n == m) (ne_eqb n m (λ e. ne (sym e))) ∙ sym
-        (is.granted m ∙ and_right (not first) (n == m) (ne_eqb n m (λ e. ne (sym e)))))
-
-    use_at : (i : ℕ) → is_requested c i (rest' channel.A) (s'.uses c i) s' ≡ is_requested c i (rest channel.A)
+    use_at : (i : ℕ) → is_requested c i (rest' Channel.A) (s'.uses c i) s' ≡ is_requested c i (rest Channel.A)
         (if last && (y.source == i) then SourceFree else s.uses c i) s'
-    use_at i = ap (λ (l : List (Beat w)). is_requested c i l (s'.uses c i) s') (rests channel.A) ∙ ap
-        (λ (u : SourceState). is_requested c i (rest channel.A) u s') (is.uses i)
+    use_at i = cc (rests Channel.A, is.uses i)
 
     requests : (i : ℕ) (z here : Bool) → last ≡ z → (y.source == i) ≡ here
-        → is_requested c i (rest channel.A) (if z && here then SourceFree else s.uses c i) s' ≡ step first last false
-        (not (is_release_ack y.opcode) && (y.source == i)) (is_requested c i (rest channel.A) (s.uses c i) s)
+        → is_requested c i (rest Channel.A) (if z && here then SourceFree else s.uses c i) s' ≡ step first last false
+        (not (is_release_ack y.opcode) && (y.source == i)) (is_requested c i (rest Channel.A) (s.uses c i) s)
     requests i true true e f =
         ap not (sym e) ∙ sym (closed first last (is_release_ack y.opcode) (y.source == i)
-        (is_requested c i (rest channel.A) (s.uses c i) s) is.ack f (was_requested i f))
+        (is_requested c i (rest Channel.A) (s.uses c i) s) is.ack f (was_requested i f))
     requests i false true e f =
-        ap (λ (u : SourceState). is_requested c i (rest channel.A) u s') (is.use_is i f) ∙ now_requested last d k
-        (view new.service c) is.seen_is e ∙ ap not (sym e)
-        ∙ sym (closed first last (is_release_ack y.opcode) (y.source == i)
-        (is_requested c i (rest channel.A) (s.uses c i) s) is.ack f (was_requested i f))
-    requests i true false e f = requested-apart c i n (rest channel.A) (rest channel.A) (s.uses c i) s s' is.elsewhere
-        refl (is.no_use i f)
-        ∙ sym (unclosed_by first last (not (is_release_ack y.opcode)) (y.source == i)
-        (is_requested c i (rest channel.A) (s.uses c i) s) f)
-    requests i false false e f = requested-apart c i n (rest channel.A) (rest channel.A) (s.uses c i) s s' is.elsewhere
-        refl (is.no_use i f)
-        ∙ sym (unclosed_by first last (not (is_release_ack y.opcode)) (y.source == i)
-        (is_requested c i (rest channel.A) (s.uses c i) s) f)
+        cc (
+          is.use_is i f,
+          now_requested last d k (view new.service c) is.seen_is e,
+          e,
+          closed first last
+              (is_release_ack y.opcode) (y.source == i) (is_requested c i (rest Channel.A) (s.uses c i) s) is.ack f
+              (was_requested i f),
+        )
+    requests i true false e f = requested-apart c i n (rest Channel.A) (rest Channel.A) (s.uses c i) s s' is.elsewhere
+        refl (is.no_use i f) ∙ sym (unclosed_by first last (not (is_release_ack y.opcode)) (y.source == i)
+        (is_requested c i (rest Channel.A) (s.uses c i) s) f)
+    requests i false false e f = requested-apart c i n (rest Channel.A) (rest Channel.A) (s.uses c i) s s' is.elsewhere
+        refl (is.no_use i f) ∙ sym (unclosed_by first last (not (is_release_ack y.opcode)) (y.source == i)
+        (is_requested c i (rest Channel.A) (s.uses c i) s) f)
 
-    was_pending : (i : ℕ) → is_requested c i (rest channel.A) (s.uses c i) s' ≡ true → (here : Bool)
+    was_pending : (i : ℕ) → is_requested c i (rest Channel.A) (s.uses c i) s' ≡ true → (here : Bool)
         → (y.source == i) ≡ here → pending (RequestSource i) t ≡ true
     was_pending i e true f = before.requests i ∙ was_requested i f
     was_pending i e false f =
-        before.requests i ∙ sym (requested-apart c i n (rest channel.A) (rest channel.A) (s.uses c i) s s' is.elsewhere
+        before.requests i ∙ sym (requested-apart c i n (rest Channel.A) (rest Channel.A) (s.uses c i) s s' is.elsewhere
         refl (is.no_use i f)) ∙ e
 
-    asked_still : (i : ℕ) → is_requested c i (rest' channel.A) (s'.uses c i) s' ≡ true → (z : Bool)
-        → (last && (y.source == i)) ≡ z → request_of i (beat.D y ∷ t) ≡ asked' i
+    asked_still : (i : ℕ) → is_requested c i (rest' Channel.A) (s'.uses c i) s' ≡ true → (z : Bool)
+        → (last && (y.source == i)) ≡ z → request_of i (Beat.D y ∷ t) ≡ asked' i
     asked_still i e true f =
         absurd (let g : false ≡ true =
-        sym (use_at i ∙ ap (λ (z : Bool). is_requested c i (rest channel.A) (if z then SourceFree else s.uses c i) s')
+        sym (use_at i ∙ ap (λ (z : Bool). is_requested c i (rest Channel.A) (if z then SourceFree else s.uses c i) s')
         f) ∙ e in cc)
     asked_still i e false f =
-        request_of-d i y t
-        ∙ before.asked_is i (was_pending i
-        (sym (use_at i ∙ ap (λ (z : Bool). is_requested c i (rest channel.A) (if z then SourceFree else s.uses c i)
-        s') f) ∙ e) (y.source == i) refl)
-        ∙ sym (is.asked_is i f)
+        cc (
+          request_of-d i y t,
+          before.asked_is i
+              (was_pending i (sym (use_at i
+              ∙ ap (λ (z : Bool). is_requested c i (rest Channel.A) (if z then SourceFree else s.uses c i) s') f) ∙ e)
+              (y.source == i) refl),
+          is.asked_is i f,
+        )
 
-    lets : (i : ℕ) → is_let_by c i (rest' channel.C) (s'.lets c i) s' ≡ is_let_by c i (rest channel.C) (s.lets c i) s
-    lets i =
-        ap (λ (l : List (Beat w)). is_let_by c i l (s'.lets c i) s') (rests channel.C) ∙ ap
-        (λ (o : Option ℕ). is_let_by c i (rest channel.C) o s') (is.lets i)
-        ∙ let_by-same c i (rest channel.C) (s.lets c i) s s' (part-block (λ (z : Block X). (z.pair c).letting) n s s'
-        is.elsewhere is.letting_is)
+    lets : (i : ℕ) → is_let_by c i (rest' Channel.C) (s'.lets c i) s' ≡ is_let_by c i (rest Channel.C) (s.lets c i) s
+    lets i = cc (
+      rests Channel.C,
+      is.lets i,
+      let_by-same c i (rest Channel.C) (s.lets c i) s s'
+          (part-block (λ (z : Block X). (z.pair c).letting) n s s' is.elsewhere is.letting_is),
+    )
 
-    let_same : (m : ℕ) → let_of c (rest channel.C) (s'.block m) ≡ let_of c (rest channel.C) (s.block m)
-    let_same = part-block (let_of c (rest channel.C)) n s s' is.elsewhere (rw (is.release_source, is.letting_is) refl)
-
-    sinks : (i : ℕ) (z : Bool) (o : Option ℕ) → (y.sink == i) ≡ z → s.tracked i ≡ o
-        → is_sunk c i (rest' channel.D) o s' ≡ step first last (is_grant y.opcode && (y.sink == i)) false
-        (is_sunk c i (rest channel.D) o s)
+    sinks : (i : ℕ) (z : Bool) (o : Option ℕ) → (y.sink == i) ≡ z → s.tracked i ≡ o → is_sunk c i (rest' Channel.D) o s'
+        ≡ step first last (is_grant y.opcode && (y.sink == i)) false (is_sunk c i (rest Channel.D) o s)
     sinks i true o e f =
-        ap (λ (p : Option ℕ). is_sunk c i (rest' channel.D) p s') at_n
-        ∙ now_sunk last d k (view new.service c) (comes_in_grant i (rest' channel.D)) is.seen_is
-        (is.comes i ∙ with_true (not last) (y.sink == i) e)
-        ∙ sym (opened first last (is_grant y.opcode) (y.sink == i) (is_sunk c i (rest channel.D) o s) is.grant e
-        then_sunk)
-      where
-        at_n : o ≡ Some n
-        at_n = sym f ∙ is.tracks i e
-
-        then_sunk : is_sunk c i (rest channel.D) o s ≡ not first
-        then_sunk = ap (λ (p : Option ℕ). is_sunk c i (rest channel.D) p s) at_n
-            ∙ ap (λ (v : View). is_acknowledging v || (is_granting v && comes_in_grant i (rest channel.D)))
-            is.seen ∙ is.came i
-            ∙ with_true (not first) (y.sink == i) e
+        let at_n : o ≡ Some n = sym f ∙ is.tracks i e in
+        let then_sunk : is_sunk c i (rest Channel.D) o s ≡ not first =
+        cc (at_n, is.seen, is.came i, with_true (not first) (y.sink == i) e) in
+        cc (
+          at_n,
+          now_sunk last d k (view new.service c) (comes_in_grant i (rest' Channel.D)) is.seen_is (is.comes i
+              ∙ with_true (not last) (y.sink == i) e),
+          opened first last (is_grant y.opcode) (y.sink == i)
+              (is_sunk c i (rest Channel.D) o s) is.grant e then_sunk,
+        )
     sinks i false None e f =
         sym (unbegun first last (is_grant y.opcode && (y.sink == i)) false
         (and_right (is_grant y.opcode) (y.sink == i) e))
     sinks i false (Some m) e f =
-        ap (λ (z : Block X). is_acknowledging (view z.service c) || (is_granting (view z.service c) && comes_in_grant i
-        (rest' channel.D)))
-        (is.elsewhere m (λ g. let h : (n == n) ≡ false = sym (rw (f, g) refl) ∙ is.tracks_not i e in
-        let j : true ≡ false = sym (same_number n) ∙ h in cc))
-        ∙ ap (λ (z : Bool). is_acknowledging (view (s.block m).service c)
-        || (is_granting (view (s.block m).service c) && z))
-        (is.comes i ∙ and_right (not last) (y.sink == i) e ∙ sym (is.came i ∙ and_right (not first) (y.sink == i) e))
-        ∙ sym (unbegun first last (is_grant y.opcode && (y.sink == i)) (is_sunk c i (rest channel.D) (Some m) s)
-        (and_right (is_grant y.opcode) (y.sink == i) e))
+        cc (
+          is.elsewhere m (λ g. let h : (n == n) ≡ false = sym (rw (f, g) refl) ∙ is.tracks_not i e in
+              let j : true ≡ false = sym (same_number n) ∙ h in cc),
+          is.comes i,
+          and_right (not last) (y.sink == i) e,
+          is.came
+              i,
+          and_right (not first) (y.sink == i) e,
+          unbegun first last (is_grant y.opcode && (y.sink == i))
+              (is_sunk c i (rest Channel.D) (Some m) s) (and_right (is_grant y.opcode) (y.sink == i) e),
+        )
 
     answered : (m : ℕ) → is_answered ((s'.block m).pair c).probing ≡ is_answered ((s.block m).pair c).probing
     answered = part-block (λ (z : Block X). is_answered (z.pair c).probing) n s s' is.elsewhere is.answered
@@ -324,5 +310,4 @@ flowed-grant {w} {X} c n d k y first last asked asked' rest rest' s s' t first_i
         → probe_of m t ≡ Some (probe_beat m (cap_waited (s'.block m).service))
     probed = each-block (λ m z. is_answered (z.pair c).probing ≡ true
         → probe_of m t ≡ Some (probe_beat m (cap_waited z.service))) n s s' is.elsewhere
-        (λ e. absurd (let f : false ≡ true = sym is.quiet ∙ sym is.answered ∙ e in cc))
-        (λ m ne e. before.probed m e)
+        (λ e. absurd (let f : false ≡ true = sym is.quiet ∙ sym is.answered ∙ e in cc)) (λ m ne e. before.probed m e)

@@ -1,104 +1,84 @@
 -- A beat of channel B or C that is delivered breaks no rule after what was delivered before it.
 use Rattle.tl_coherence.proofs.flow.Imports.{IsWidth, Beat, Channel, Message, MessageA, MessageC, beat_of, History}
-use Rattle.tl_coherence.proofs.flow.Imports.{channel_of, unfinished, Config, Level, Prune, Report, Profile, prune_code}
-use Rattle.tl_coherence.proofs.flow.Imports.{prune_left, report_code, report_left, on_link, broken_in_order}
-use Rattle.tl_coherence.proofs.flow.Imports.{broken_after, same_perm, illegal, same_block, level_of, flow, Log}
-use Rattle.tl_coherence.proofs.flow.Imports.{receiver, View, Idle, Own, Other, Granting, Acknowledging, GrantedOther}
-use Rattle.tl_coherence.proofs.flow.Imports.{ProbeSent, ProbeAnswered, ReleasePhase, NoRelease, ReleaseSent}
-use Rattle.tl_coherence.proofs.flow.Imports.{ReleaseAcked, AcquirePhase, NoAcquire, AcquireOpen, ok, is_unreleased}
-use Rattle.tl_coherence.proofs.flow.Imports.{is_unprobed, Block, State, packet, shown, view, is_granting}
-use Rattle.tl_coherence.proofs.flow.Imports.{is_acknowledging, is_answered, is_acked, is_on, AccessMessages, message_of}
-use Rattle.tl_coherence.proofs.flow.Imports.{message_of_kind, block_message, prune_told, report_told, cap_waited}
-use Rattle.tl_coherence.proofs.flow.Imports.{System, Kind, Request, Acquire, Probe, ProbeAck, Release, Answer, Grant}
-use Rattle.tl_coherence.proofs.flow.Imports.{ReleaseAck, GrantAck, Packet, SimulationRelation, MonitorRelations}
-use Rattle.tl_coherence.proofs.flow.Imports.{is_caching, asked_by}
-use Rattle.std.proofs.Common.{◌≡◌, ℕ, true, false, List, [], ◌∷◌, Option, Some, None, refl, sym, ◌∙◌, ap, subst}
+use Rattle.tl_coherence.proofs.flow.Imports.{channel_of, unfinished, Config, Level, Prune, Report, Profile}
+use Rattle.tl_coherence.proofs.flow.Imports.{on_link, broken_in_order}
+use Rattle.tl_coherence.proofs.flow.Imports.{broken_after, illegal, same_block, level_of, flow, Log}
+use Rattle.tl_coherence.proofs.flow.Imports.{View, Idle, Own, Other, Granting, Acknowledging, GrantedOther}
+use Rattle.tl_coherence.proofs.flow.Imports.{ProbeSent, ProbeAnswered, ReleasePhase, ReleaseSent, ReleaseAcked}
+use Rattle.tl_coherence.proofs.flow.Imports.{AcquirePhase, NoAcquire, AcquireOpen, ok, is_unreleased, is_unprobed}
+use Rattle.tl_coherence.proofs.flow.Imports.{Block, State, packet, shown, view, is_granting, is_acknowledging}
+use Rattle.tl_coherence.proofs.flow.Imports.{is_answered, is_acked, is_on, AccessMessages, message_of, message_of_kind}
+use Rattle.tl_coherence.proofs.flow.Imports.{block_message, prune_told, report_told, cap_waited, System, Kind, Probe}
+use Rattle.tl_coherence.proofs.flow.Imports.{ProbeAck, Release, Packet, SimulationRelation, MonitorRelations}
+use Rattle.tl_coherence.proofs.flow.Imports.{is_caching}
+use Rattle.std.proofs.Common.{◌≡◌, ℕ, true, false, List, [], ◌∷◌, Some, None, refl, sym, ◌∙◌, ap, subst}
 use Rattle.std.specs.Prelude.{map}
-use Rattle.tl_beat.specs.declared.channel.Channel.TheVariants as channel
-use Rattle.tl_burst.specs.declared.message.Message.TheVariants as message
-use Rattle.tl_burst.specs.statement.Burst.{c_beat_of}
-use Rattle.tl_burst.specs.statement.Messages.{channel_in}
-use Rattle.tl_params.specs.declared.perm.Perm.TheVariants as perm
+use Rattle.tl_burst.{specs.statement.Burst.c_beat_of, specs.statement.Messages.channel_in}
 use Rattle.tl_params.specs.statement.Param.{report_at}
-use Rattle.tl_manager.specs.code.Kept.{illegal_at}
-use Rattle.tl_coherence.specs.protocol.Phase.{ProbePhase, NoProbe, same_report}
-use Rattle.tl_coherence.specs.protocol.Tokens.{is_sent}
-use Rattle.tl_coherence.proofs.queues.Carried.{IsNext}
-use Rattle.tl_coherence.proofs.client.ClientTakes.{sound-beat}
-use Rattle.tl_coherence.proofs.queues.Facts.{answered_other, granting_alone, is_other}
-use Rattle.tl_coherence.proofs.queues.PhaseFacts.{acknowledging_quiet}
-use Rattle.tl_coherence.proofs.queues.Facts.{release_begins}
-use Rattle.tl_coherence.proofs.queues.PhaseFacts.{release_alone, report_first, report_fits}
-use Rattle.tl_coherence.proofs.queues.FirstToken.{IsFirst, first-token}
+use Rattle.tl_coherence.specs.{protocol.Phase.ProbePhase, protocol.Phase.same_report, protocol.Tokens.is_sent}
+use Rattle.tl_coherence.proofs.{queues.Carried.IsNext, client.ClientTakes.sound-beat, queues.FirstToken.IsFirst}
+use Rattle.tl_coherence.proofs.{queues.FirstToken.first-token, queues.Phases.and_left, queues.Phases.and_right}
+use Rattle.tl_coherence.proofs.{client.ProbeDelivered.not_coming, queues.Tokens.same_number, queues.Tokens.holds-first}
+use Rattle.tl_coherence.proofs.queues.Facts.{answered_other, granting_alone, is_other, release_begins}
+use Rattle.tl_coherence.proofs.queues.PhaseFacts.{acknowledging_quiet, release_alone, report_first, report_fits}
 use Rattle.tl_coherence.proofs.flow.FlowOrders.{beat-flows, probe-flows, report-flows, release-flows}
 use Rattle.tl_coherence.proofs.manager.ManagerTakes.{by-first_c, same_report-is, seen_cap, unanswered}
-use Rattle.tl_coherence.proofs.queues.Phases.{and_left, and_right}
-use Rattle.tl_coherence.proofs.client.ProbeDelivered.{not_coming}
-use Rattle.tl_coherence.proofs.manager.Reporting.{IsAbout, report-about, release-about}
-use Rattle.tl_coherence.proofs.queues.Tokens.{same_number, holds-first}
+use Rattle.tl_coherence.proofs.manager.Reporting.{report-about, release-about}
 use Rattle.tl_coherence.proofs.protocol.BothParts.{is_of-is, answered-is, releasing-is}
 
 -- the next beat of a message whose first breaks no rule of order
-pub next-flows : {w : ℕ} (l : Level) (p : Profile) (m : Message w) (x : Beat w) (rest : List (Beat w))
-    (ms : List (Message w)) (queue : List (Beat w))
+pub next-flows : {w : ℕ} (l : Level) (p : Profile) {m : Message w} {x : Beat w} {rest : List (Beat w)}
+    {ms : List (Message w)} {queue : List (Beat w)}
     (t : History w) → illegal l (channel_of x) x ≡ None → IsNext x rest m ms queue → unfinished (channel_in m) t ≡ rest
     → (rest ≡ [] → broken_in_order p (beat_of m 0) t ≡ None) → broken_after l p x t ≡ None
-next-flows {w} l p m x rest ms queue t lawful next is first =
-    ap (λ (y : Beat w). broken_after l p y t) next.beat_is
-    ∙ beat-flows l p m next.k t (sym (ap (λ (y : Beat w). illegal l (channel_of y) y) next.beat_is) ∙ lawful)
-    (is ∙ next.rest_is) (λ e. first (sym is ∙ e))
+next-flows {w} l p {m} t lawful next is first =
+    cc (
+      next.beat_is,
+      beat-flows l p m next.k t (sym (ap (λ (y : Beat w). illegal l (channel_of y) y) next.beat_is)
+          ∙ lawful) (is ∙ next.rest_is) (λ e. first (sym is ∙ e)),
+    )
 
-pub lawful-beat : {w : ℕ} (config : Config) (log : Log w) (mail : AccessMessages w) (request : ℕ → MessageA w)
-    (s : State (List ℕ)) (sys : System w) (c : ℕ)
+pub lawful-beat : {w : ℕ} {config : Config} {log : Log w} {mail : AccessMessages w} {request : ℕ → MessageA w}
+    {s : State (List ℕ)} {sys : System w} (c : ℕ)
     (ch : Channel) (l : Level) (x : Beat w) (queue : List (Beat w)) → SimulationRelation config log mail request s sys
     → sys.channels c ch ≡ x ∷ queue → level_of config c ≡ Some l → illegal l (channel_of x) x ≡ None
-lawful-beat {w} config log mail request s sys c ch l x queue is beats level =
-    sym (ap (λ (o : Option Level). illegal_at o x) level)
-    ∙ (sound-beat config log mail request s sys c ch x queue is beats).lawful
+lawful-beat {w} {config} {log} {mail} {request} {s} {sys} c ch l x queue is beats level =
+    cc (level, (sound-beat c ch x queue is beats).lawful)
 
 -- ---- channel C
 
 -- who sees another's service isn't granted the block
 pub other_ungranted : (v : View) → is_other v ≡ true → is_granting v ≡ false
-other_ungranted (Other k) e = refl
-other_ungranted Idle e = refl
-other_ungranted Own e = refl
-other_ungranted Acknowledging e = refl
-other_ungranted GrantedOther e = refl
 other_ungranted (Granting d k) e = absurd cc
+other_ungranted v e = refl
 
-report-lawful : {w : ℕ} (config : Config) (log : Log w) (mail : AccessMessages w) (request : ℕ → MessageA w)
-    (s : State (List ℕ)) (sys : System w) (c n : ℕ)
-    (toks : List Packet) (l : Level) (x : Beat w) (ms : List (Message w)) (queue : List (Beat w)) → IsWidth w
-    → SimulationRelation config log mail request s sys → MonitorRelations log mail s sys
-    → illegal l (channel_of x) x ≡ None → (s.link c).c ≡ packet ProbeAck n ∷ toks
-    → IsNext x (unfinished channel.C (on_link c sys.manager.trace)) (block_message ProbeAck c n (s.block n)) ms queue
+report-lawful : {w : ℕ} {config : Config} {log : Log w} {mail : AccessMessages w} {request : ℕ → MessageA w}
+    {s : State (List ℕ)} {sys : System w} (c n : ℕ) (toks : List Packet) (l : Level) {x : Beat w}
+    {ms : List (Message w)} {queue : List (Beat w)} → IsWidth w → SimulationRelation config log mail request s sys
+    → MonitorRelations log mail s sys → illegal l (channel_of x) x ≡ None → (s.link c).c ≡ packet ProbeAck n ∷ toks
+    → IsNext x (unfinished Channel.C (on_link c sys.manager.trace)) (block_message ProbeAck c n (s.block n)) ms queue
     → broken_after l config.profile x (flow c log) ≡ None
 unfolding block_message
-report-lawful {w} config log mail request s sys c n toks l x ms queue width is flowed lawful tokens next =
-    next-flows l config.profile (message.C m) x rest ms queue (flow c log) lawful
-    (subst (λ (i : Message w). IsNext x rest i ms queue) about.1 next) ((flowed c).rest_is channel.C)
-    (λ none. report-flows config.profile c n (cap_waited b.service) r (c_beat_of m 0) (asked_by mail s c)
-    (λ ch. unfinished ch (receiver ch c sys)) s
-    (flow c log) (flowed c) none about.2.reports about.2.releases about.2.block about.2.param_is
+report-lawful {w} {config} {log} {mail} {s} {sys} c n toks l {x} {ms} {queue} width is flowed lawful tokens next =
+    let rest : List (Beat w) = unfinished Channel.C (on_link c sys.manager.trace) in
+    let about = report-about r n b.truth width (is.sized n).truth in
+    let m : MessageC w = about.0 in
+    let told : r ≡ report_at (cap_waited b.service) (b.pair c).recorded =
+    cc (same_report-is r (report_at (cap_waited b.service) (b.pair c).recorded)
+    (seen_cap (λ k. same_report r (report_at k (b.pair c).recorded)) b.service c
+    (report_fits r (b.pair c) (view b.service c) ok_is answered))) in
+    next-flows l config.profile (flow c log) lawful
+    (subst (λ (i : Message w). IsNext x rest i ms queue) about.1 next) ((flowed c).rest_is Channel.C)
+    (λ none. report-flows config.profile n (cap_waited b.service) r (c_beat_of m 0)
+    (flowed c) none about.2.reports about.2.releases about.2.block about.2.param_is
     answered refl (unacked (b.pair c).letting refl)
     (other_ungranted (view b.service c) (answered_other r (b.pair c) (view b.service c) ok_is answered)) told)
   where
     b : Block (List ℕ)
     b = s.block n
 
-    rest : List (Beat w)
-    rest = unfinished channel.C (on_link c sys.manager.trace)
-
     r : Report
     r = report_told (b.pair c).probing
-
-    about : (i : MessageC w) × (block_message ProbeAck c n b ≡ message.C i) × IsAbout true n (report_code r)
-        (same_perm (report_left r) perm.Trunk) b.truth i
-    about = report-about r n b.truth width (is.sized n).truth
-
-    m : MessageC w
-    m = about.0
 
     ok_is : ok (b.pair c) (view b.service c) ≡ true
     ok_is = (is.invariant.blocks n).phases c
@@ -107,49 +87,37 @@ report-lawful {w} config log mail request s sys c n toks l x ms queue width is f
     answered = answered-is (b.pair c).probing (holds-first ProbeAck (s.link c).c toks (packet ProbeAck n)
         (λ i. shown ProbeAck c (s.block i)) tokens refl (is.invariant.transfers c ProbeAck refl))
 
-    told : r ≡ report_at (cap_waited b.service) (b.pair c).recorded
-    told =
-        same_report-is r (report_at (cap_waited b.service) (b.pair c).recorded)
-        (seen_cap (λ k. same_report r (report_at k (b.pair c).recorded)) b.service c
-        (report_fits r (b.pair c) (view b.service c) ok_is answered))
-
     unacked : (y : ReleasePhase) → (b.pair c).letting ≡ y → is_acked y ≡ false
-    unacked NoRelease f = refl
-    unacked (ReleaseSent q) f = refl
     unacked ReleaseAcked f = absurd (let first = report_first r (b.pair c) (view b.service c) ok_is answered in
         let no : false ≡ true = rw f at first in cc)
+    unacked y f = refl
 
-release-lawful : {w : ℕ} (config : Config) (log : Log w) (mail : AccessMessages w) (request : ℕ → MessageA w)
-    (s : State (List ℕ)) (sys : System w) (c n : ℕ)
-    (toks : List Packet) (l : Level) (x : Beat w) (ms : List (Message w)) (queue : List (Beat w)) → IsWidth w
-    → SimulationRelation config log mail request s sys → MonitorRelations log mail s sys
-    → illegal l (channel_of x) x ≡ None → (s.link c).c ≡ packet Release n ∷ toks
-    → IsNext x (unfinished channel.C (on_link c sys.manager.trace)) (block_message Release c n (s.block n)) ms queue
+release-lawful : {w : ℕ} {config : Config} {log : Log w} {mail : AccessMessages w} {request : ℕ → MessageA w}
+    {s : State (List ℕ)} {sys : System w} (c n : ℕ) (toks : List Packet) (l : Level) {x : Beat w}
+    {ms : List (Message w)} {queue : List (Beat w)} → IsWidth w → SimulationRelation config log mail request s sys
+    → MonitorRelations log mail s sys → illegal l (channel_of x) x ≡ None → (s.link c).c ≡ packet Release n ∷ toks
+    → IsNext x (unfinished Channel.C (on_link c sys.manager.trace)) (block_message Release c n (s.block n)) ms queue
     → broken_after l config.profile x (flow c log) ≡ None
 unfolding block_message
-release-lawful {w} config log mail request s sys c n toks l x ms queue width is flowed lawful tokens next =
-    next-flows l config.profile (message.C m) x rest ms queue (flow c log) lawful
-    (subst (λ (i : Message w). IsNext x rest i ms queue) about.1 next) ((flowed c).rest_is channel.C)
-    (λ none. release-flows config.profile c n r (c_beat_of m 0) (asked_by mail s c)
-    (λ ch. unfinished ch (receiver ch c sys)) s (flow c log)
+release-lawful {w} {config} {log} {mail} {s} {sys} c n toks l {x} {ms} {queue} width is flowed lawful tokens next =
+    let rest : List (Beat w) = unfinished Channel.C (on_link c sys.manager.trace) in
+    let about = release-about r (b.release_source c) n b.truth width (is.sized n).truth in
+    let m : MessageC w = about.0 in
+    let used = is_of-is n (s.lets c (b.release_source c)) (is.invariant.named.releases c (b.release_source c) n
+    ∙ rw (releasing, same_number (b.release_source c)) refl) in
+    let fits = release_begins r (b.pair c) (view b.service c) ok_is releasing
+    (unanswered (is_caching config) c n toks s is.invariant tokens) in
+    next-flows l config.profile (flow c log) lawful
+    (subst (λ (i : Message w). IsNext x rest i ms queue) about.1 next) ((flowed c).rest_is Channel.C)
+    (λ none. release-flows config.profile n r (c_beat_of m 0)
     (flowed c) none about.2.releases about.2.block about.2.param_is
     (ap (s.lets c) about.3 ∙ used) releasing (calm (b.pair c).acquiring refl) (ungranted (view b.service c) refl) fits)
   where
     b : Block (List ℕ)
     b = s.block n
 
-    rest : List (Beat w)
-    rest = unfinished channel.C (on_link c sys.manager.trace)
-
     r : Prune
     r = prune_told (b.pair c).letting
-
-    about : (i : MessageC w) × (block_message Release c n b ≡ message.C i) × IsAbout false n (prune_code r)
-        (same_perm (prune_left r) perm.Trunk) b.truth i × (i.source ≡ b.release_source c)
-    about = release-about r (b.release_source c) n b.truth width (is.sized n).truth
-
-    m : MessageC w
-    m = about.0
 
     ok_is : ok (b.pair c) (view b.service c) ≡ true
     ok_is = (is.invariant.blocks n).phases c
@@ -157,10 +125,6 @@ release-lawful {w} config log mail request s sys c n toks l x ms queue width is 
     releasing : (b.pair c).letting ≡ ReleaseSent r
     releasing = releasing-is (b.pair c).letting (holds-first Release (s.link c).c toks (packet Release n)
         (λ i. shown Release c (s.block i)) tokens refl (is.invariant.transfers c Release refl))
-
-    used : s.lets c (b.release_source c) ≡ Some n
-    used = is_of-is n (s.lets c (b.release_source c)) (is.invariant.named.releases c (b.release_source c) n ∙ rw
-        (releasing, same_number (b.release_source c)) refl)
 
     calm : (y : AcquirePhase) → (b.pair c).acquiring ≡ y → y ≡ NoAcquire
     calm NoAcquire f = refl
@@ -173,109 +137,76 @@ release-lawful {w} config log mail request s sys c n toks l x ms queue width is 
         let held_back : is_unreleased (b.pair c).letting ≡ true =
         and_left (is_unreleased (b.pair c).letting) _ (and_right (is_unprobed (b.pair c).probing) _ alone) in
         absurd (let no : false ≡ true = rw releasing at held_back in cc)
-    ungranted Idle f = refl
-    ungranted Own f = refl
-    ungranted (Other k) f = refl
-    ungranted Acknowledging f = refl
-    ungranted GrantedOther f = refl
+    ungranted v f = refl
 
-    fits : same_perm (prune_left r) (b.pair c).recorded ≡ true
-    fits = release_begins r (b.pair c) (view b.service c) ok_is releasing
-        (unanswered (is_caching config) c n toks s is.invariant tokens)
-
-pub flows-c : {w : ℕ} (config : Config) (log : Log w) (mail : AccessMessages w) (request : ℕ → MessageA w)
-    (s : State (List ℕ)) (sys : System w) (c : ℕ) (l : Level)
-    (x : Beat w) (queue : List (Beat w)) → IsWidth w → SimulationRelation config log mail request s sys
-    → MonitorRelations log mail s sys
-    → sys.channels c channel.C ≡ x ∷ queue → level_of config c ≡ Some l
-    → broken_after l config.profile x (flow c log) ≡ None
-flows-c {w} config log mail request s sys c l x queue width is flowed beats level =
-    by-first_c (λ i. broken_after l config.profile x (flow c log) ≡ None) c mail s sys x queue
-    (first-token (is_caching config) channel.C c mail s sys x queue width is.invariant is.carried beats)
-    (λ n rest tokens next. report-lawful config log mail request s sys c n rest l x (map (message_of mail s c) rest)
-    queue width is flowed lawful tokens next)
-    (λ n rest tokens next. release-lawful config log mail request s sys c n rest l x (map (message_of mail s c) rest)
-    queue width is flowed lawful tokens next)
-  where
-    lawful : illegal l (channel_of x) x ≡ None
-    lawful = lawful-beat config log mail request s sys c channel.C l x queue is beats level
+pub flows-c : {w : ℕ} {config : Config} {log : Log w} {mail : AccessMessages w} {request : ℕ → MessageA w}
+    {s : State (List ℕ)} {sys : System w} (c : ℕ) (l : Level) (x : Beat w) (queue : List (Beat w)) → IsWidth w
+    → SimulationRelation config log mail request s sys → MonitorRelations log mail s sys
+    → sys.channels c Channel.C ≡ x ∷ queue → level_of config c ≡ Some l → broken_after l config.profile x (flow c log)
+    ≡ None
+flows-c {w} {config} {log} {mail} {request} {s} {sys} c l x queue width is flowed beats level =
+    let lawful = lawful-beat c Channel.C l x queue is beats level in
+    cc (by-first_c (λ i. broken_after l config.profile x (flow c log) ≡ None) c mail s sys x queue
+    (first-token (is_caching config) Channel.C c mail s sys x queue width is.invariant is.carried beats)
+    (λ n rest tokens next. report-lawful c n rest l
+    width is flowed lawful tokens next) (λ n rest tokens next. release-lawful c n
+    rest l width is flowed lawful tokens next))
 
 -- ---- channel B
 
 unanswered_yet : (p : ProbePhase) → is_sent p ≡ true → is_answered p ≡ false
 unanswered_yet (ProbeSent k) e = refl
-unanswered_yet NoProbe e = absurd cc
-unanswered_yet (ProbeAnswered r) e = absurd cc
+unanswered_yet p e = absurd cc
 
 -- a Probe on its way hasn't been answered, and is of another's service
-probe-lawful : {w : ℕ} (config : Config) (log : Log w) (mail : AccessMessages w) (request : ℕ → MessageA w)
-    (s : State (List ℕ)) (sys : System w) (c n : ℕ)
-    (toks : List Packet) (l : Level) (x : Beat w) (ms : List (Message w)) (queue : List (Beat w))
-    → SimulationRelation config log mail request s sys → MonitorRelations log mail s sys
-    → illegal l (channel_of x) x ≡ None → (s.link c).b ≡ packet Probe n ∷ toks
-    → is_acknowledging (view (s.block n).service c) ≡ false → IsNext x (unfinished channel.B (sys.clients c).past)
-    (block_message Probe c n (s.block n)) ms queue
-    → broken_after l config.profile x (flow c log) ≡ None
+probe-lawful : {w : ℕ} {config : Config} {log : Log w} {mail : AccessMessages w} {request : ℕ → MessageA w}
+    {s : State (List ℕ)} {sys : System w} (c n : ℕ) (toks : List Packet) (l : Level) {x : Beat w}
+    {ms : List (Message w)} {queue : List (Beat w)} → SimulationRelation config log mail request s sys
+    → MonitorRelations log mail s sys → illegal l (channel_of x) x ≡ None → (s.link c).b ≡ packet Probe n ∷ toks
+    → is_acknowledging (view (s.block n).service c) ≡ false → IsNext x (unfinished Channel.B (sys.clients c).past)
+    (block_message Probe c n (s.block n)) ms queue → broken_after l config.profile x (flow c log) ≡ None
 unfolding block_message
-probe-lawful {w} config log mail request s sys c n toks l x ms queue is flowed lawful tokens unacknowledged next =
-    next-flows l config.profile (block_message Probe c n b) x (unfinished channel.B (sys.clients c).past) ms queue
-    (flow c log) lawful next ((flowed c).rest_is channel.B)
-    (λ none. probe-flows config.profile c n _ (asked_by mail s c) (λ ch. unfinished ch (receiver ch c sys)) s
-    (flow c log) (flowed c) none (same_block n)
+probe-lawful {w} {config} {log} {mail} {request} {s} {sys} c n toks l {x} {ms} {queue} is flowed lawful tokens
+    unacknowledged next =
+    let b : Block (List ℕ) = s.block n in
+    let shows : is_sent (b.pair c).probing ≡ true = holds-first Probe (s.link c).b toks (packet Probe n)
+    (λ i. shown Probe c (s.block i)) tokens refl (is.invariant.transfers c Probe refl) in
+    next-flows l config.profile
+    (flow c log) lawful next ((flowed c).rest_is Channel.B)
+    (λ none. probe-flows config.profile n _
+    (flowed c) none (same_block n)
     (unanswered_yet (b.pair c).probing shows) unacknowledged
-    (not_coming config log mail request s sys c n is shows))
-  where
-    b : Block (List ℕ)
-    b = s.block n
+    (not_coming c n is shows))
 
-    shows : is_sent (b.pair c).probing ≡ true
-    shows = holds-first Probe (s.link c).b toks (packet Probe n) (λ i. shown Probe c (s.block i)) tokens refl
-        (is.invariant.transfers c Probe refl)
-
-pub flows-b : {w : ℕ} (config : Config) (log : Log w) (mail : AccessMessages w) (request : ℕ → MessageA w)
-    (s : State (List ℕ)) (sys : System w) (c : ℕ) (l : Level)
-    (x : Beat w) (queue : List (Beat w)) → IsWidth w → SimulationRelation config log mail request s sys
-    → MonitorRelations log mail s sys
-    → sys.channels c channel.B ≡ x ∷ queue → level_of config c ≡ Some l
-    → broken_after l config.profile x (flow c log) ≡ None
-flows-b {w} config log mail request s sys c l x queue width is flowed beats level =
+pub flows-b : {w : ℕ} {config : Config} {log : Log w} {mail : AccessMessages w} {request : ℕ → MessageA w}
+    {s : State (List ℕ)} {sys : System w} (c : ℕ) (l : Level) (x : Beat w) (queue : List (Beat w)) → IsWidth w
+    → SimulationRelation config log mail request s sys → MonitorRelations log mail s sys
+    → sys.channels c Channel.B ≡ x ∷ queue → level_of config c ≡ Some l → broken_after l config.profile x (flow c log)
+    ≡ None
+flows-b {w} {config} {log} {mail} {request} {s} {sys} c l x queue width is flowed beats level =
     go first.kind first.number first.tokens first.own first.next
   where
-    first : IsFirst channel.B c mail s sys x queue
-    first = first-token (is_caching config) channel.B c mail s sys x queue width is.invariant is.carried beats
+    first : IsFirst Channel.B c mail s sys x queue
+    first = first-token (is_caching config) Channel.B c mail s sys x queue width is.invariant is.carried beats
 
     unacknowledged : (n : ℕ) → is_sent ((s.block n).pair c).probing ≡ true → (v : View) → view (s.block n).service c ≡ v
         → is_acknowledging v ≡ false
     unacknowledged n shows Acknowledging f =
+        let not_both : (p : ProbePhase) → is_sent p ≡ true → is_unprobed p ≡ true → ⊥ =
+        elim [ ProbeSent k ↦ λ g i. cc | p ↦ λ g i. cc ] in
         let quiet = acknowledging_quiet ((s.block n).pair c) (view (s.block n).service c)
         ((is.invariant.blocks n).phases c) f in absurd (not_both ((s.block n).pair c).probing shows quiet)
-      where
-        not_both : (p : ProbePhase) → is_sent p ≡ true → is_unprobed p ≡ true → ⊥
-        not_both (ProbeSent k) g i = cc
-        not_both (ProbeAnswered r) g i = cc
-        not_both p g i = cc
     unacknowledged n shows Idle f = refl
     unacknowledged n shows Own f = refl
     unacknowledged n shows (Other k) f = refl
     unacknowledged n shows (Granting d k) f = refl
     unacknowledged n shows GrantedOther f = refl
 
-    go : (k : Kind) (i : ℕ) → (s.link c).b ≡ packet k i ∷ first.rest → is_on channel.B k ≡ true
-        → IsNext x (unfinished channel.B (sys.clients c).past) (message_of_kind k mail s c i)
-        (map (message_of mail s c) first.rest) queue
-        → broken_after l config.profile x (flow c log) ≡ None
+    go : (k : Kind) (i : ℕ) → (s.link c).b ≡ packet k i ∷ first.rest → is_on Channel.B k ≡ true
+        → IsNext x (unfinished Channel.B (sys.clients c).past) (message_of_kind k mail s c i)
+        (map (message_of mail s c) first.rest) queue → broken_after l config.profile x (flow c log) ≡ None
     go Probe i tokens own next =
-        probe-lawful config log mail request s sys c i first.rest l x (map (message_of mail s c) first.rest) queue is
-        flowed
-        (lawful-beat config log mail request s sys c channel.B l x queue is beats level) tokens
+        cc (probe-lawful c i first.rest l is flowed (lawful-beat c Channel.B l x queue is beats level) tokens
         (unacknowledged i (holds-first Probe (s.link c).b first.rest (packet Probe i) (λ j. shown Probe c (s.block j))
-        tokens refl
-        (is.invariant.transfers c Probe refl)) (view (s.block i).service c) refl) next
-    go Request i tokens own next = absurd cc
-    go Acquire i tokens own next = absurd cc
-    go ProbeAck i tokens own next = absurd cc
-    go Release i tokens own next = absurd cc
-    go Answer i tokens own next = absurd cc
-    go Grant i tokens own next = absurd cc
-    go ReleaseAck i tokens own next = absurd cc
-    go GrantAck i tokens own next = absurd cc
+        tokens refl (is.invariant.transfers c Probe refl)) (view (s.block i).service c) refl) next)
+    go k i tokens own next = absurd cc

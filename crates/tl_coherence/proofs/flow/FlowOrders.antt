@@ -1,71 +1,56 @@
 -- A message of channel A, B, C or E that is delivered breaks no rule of order after what was delivered before it.
 use Rattle.tl_coherence.proofs.flow.Imports.{Beat, BeatA, BeatC, BeatE, Channel, Message, beat_of, begun, History}
 use Rattle.tl_coherence.proofs.flow.Imports.{channel_of, unfinished, Level, Cap, Prune, Report, Profile, prune_code}
-use Rattle.tl_coherence.proofs.flow.Imports.{prune_left, report_code, broken_in_order, broken_after, comes_in_request}
+use Rattle.tl_coherence.proofs.flow.Imports.{prune_left, report_code, broken_in_order, broken_after}
 use Rattle.tl_coherence.proofs.flow.Imports.{comes_in_release, comes_in_grant, same_perm, block_at, is_acquire}
 use Rattle.tl_coherence.proofs.flow.Imports.{is_probe_ack, is_release, held, pending, illegal, MonitorRelation}
-use Rattle.tl_coherence.proofs.flow.Imports.{is_requested, is_release_pending, is_let_by}
-use Rattle.tl_coherence.proofs.flow.Imports.{is_sunk, comes_granting, View, Idle}
-use Rattle.tl_coherence.proofs.flow.Imports.{ReleasePhase, NoRelease, ReleaseSent, ReleaseAcked, AcquirePhase}
+use Rattle.tl_coherence.proofs.flow.Imports.{is_requested, is_release_pending, is_let_by, comes_granting, View}
+use Rattle.tl_coherence.proofs.flow.Imports.{Idle, ReleasePhase, NoRelease, ReleaseSent, ReleaseAcked}
 use Rattle.tl_coherence.proofs.flow.Imports.{NoAcquire, ProbeAnswered, State, SourceState, Asked, Acquires, view}
 use Rattle.tl_coherence.proofs.flow.Imports.{is_granting, is_acknowledging, is_answered, is_acked, is_wanting}
 use Rattle.tl_coherence.proofs.flow.Imports.{is_unserved, probe_beat, cap_waited}
 use Rattle.std.proofs.Common.{◌≡◌, ℕ, zero, suc, Bool, true, false, not, ◌&&◌, ◌||◌, [], Option, Some, None, refl, ◌∙◌}
 use Rattle.std.proofs.Common.{ap, List}
 use Rattle.std.proofs.Math.Bool.{and-false}
-use Rattle.std.specs.Prelude.{if◌then◌else◌}
-use Rattle.tl_beat.specs.declared.beat.Beat.TheVariants as beat
-use Rattle.tl_beat.specs.declared.beat.BeatB.{BeatB}
-use Rattle.tl_beat.specs.declared.channel.Channel.TheVariants as channel
-use Rattle.tl_beat.specs.statement.First.{first_if}
+use Rattle.tl_beat.{specs.declared.beat.BeatB.BeatB, specs.statement.First.first_if}
 use Rattle.tl_burst.specs.statement.Messages.{channel_in}
-use Rattle.tl_params.specs.declared.key.Key.TheVariants as key
+use Rattle.tl_params.{specs.declared.key.Key.Key, specs.statement.Param.prune_of, specs.statement.Param.report_at}
 use Rattle.tl_params.specs.declared.rule.Rule.TheVariants.{H1, H9, H13}
-use Rattle.tl_params.specs.statement.Param.{prune_of, report_at}
 use Rattle.tl_rules.specs.statement.Conformance.{broken_order, grows_from, prunes_from}
-use Rattle.tl_rules.specs.statement.History.{is_probe}
-use Rattle.tl_rules.proofs.Later.{later-legal}
+use Rattle.tl_rules.{specs.statement.History.is_probe, proofs.Later.later-legal}
 use Rattle.tl_coherence.proofs.manager.Orders.{report-legal, acquire-legal}
 use Rattle.tl_client.proofs.messages.InOrder.{prune_again}
 
 -- who isn't granted the block holds what is recorded, as far as was delivered
-held_as : {w : ℕ} {X : Type 0} (c n : ℕ) (asked : ℕ → Option (BeatA w)) (rest : Channel → List (Beat w)) (s : State X)
-    (t : History w)
-    → MonitorRelation asked rest c s t → is_granting (view (s.block n).service c) ≡ false
+held_as : {w : ℕ} {X : Type 0} {c : ℕ} (n : ℕ) {asked : ℕ → Option (BeatA w)} {rest : Channel → List (Beat w)}
+    {s : State X} {t : History w} → MonitorRelation asked rest c s t → is_granting (view (s.block n).service c) ≡ false
     → held n t ≡ ((s.block n).pair c).recorded
-held_as c n asked rest s t flowed none =
-    flowed.held_is n ∙ ap (λ (g : Bool). if g then ((s.block n).pair c).held else ((s.block n).pair c).recorded) none
+held_as n flowed none = cc (flowed.held_is n, none)
 
 -- ---- channel A
 
-pub request-flows : {w : ℕ} {X : Type 0} (p : Profile) (c : ℕ) (x : BeatA w) (asked : ℕ → Option (BeatA w))
-    (rest : Channel → List (Beat w)) (s : State X)
-    (t : History w) → MonitorRelation asked rest c s t → rest channel.A ≡ [] → is_acquire x.opcode ≡ false
-    → s.uses c x.source ≡ Asked
-    → broken_in_order p (beat.A x) t ≡ None
+pub request-flows : {w : ℕ} {X : Type 0} (p : Profile) {c : ℕ} (x : BeatA w) {asked : ℕ → Option (BeatA w)}
+    {rest : Channel → List (Beat w)} {s : State X} {t : History w} → MonitorRelation asked rest c s t
+    → rest Channel.A ≡ [] → is_acquire x.opcode ≡ false → s.uses c x.source ≡ Asked → broken_in_order p (Beat.A x) t
+    ≡ None
 unfolding broken_order
-request-flows {w} p c x asked rest s t flowed whole plain used =
-    let none : unfinished channel.A t ≡ [] = flowed.rest_is channel.A ∙ whole in
-    let free : pending (key.RequestSource x.source) t ≡ false =
-    flowed.requests x.source ∙ ap (λ (u : SourceState). is_requested c x.source (rest channel.A) u s) used ∙ ap
-    (comes_in_request x.source) whole in
+request-flows {w} p x {t} flowed whole plain used =
+    let none : unfinished Channel.A t ≡ [] = flowed.rest_is Channel.A ∙ whole in
+    let free : pending (Key.RequestSource x.source) t ≡ false = cc (flowed.requests x.source, used, whole) in
     rw (none, plain, free) refl
 
-pub acquire-flows : {w : ℕ} {X : Type 0} (p : Profile) (c n : ℕ) (x : BeatA w) (asked : ℕ → Option (BeatA w))
-    (rest : Channel → List (Beat w)) (s : State X)
-    (t : History w) → MonitorRelation asked rest c s t → rest channel.A ≡ [] → is_acquire x.opcode ≡ true
-    → block_at x.address ≡ n
-    → s.uses c x.source ≡ Acquires n → view (s.block n).service c ≡ Idle → ((s.block n).pair c).letting ≡ NoRelease
-    → grows_from x.param ((s.block n).pair c).recorded ≡ true
-    → broken_in_order p (beat.A x) t ≡ None
-acquire-flows {w} p c n x asked rest s t flowed whole acquires block used idle kept grows =
-    acquire-legal p n ((s.block n).pair c).recorded x t acquires block (flowed.rest_is channel.A ∙ whole)
-    (flowed.requests x.source ∙ ap (λ (u : SourceState). is_requested c x.source (rest channel.A) u s) used ∙ ap
-    (λ (v : View). not (is_unserved v)) idle)
-    (flowed.acquires n ∙ ap (λ (v : View). is_wanting ((s.block n).pair c).acquiring && not (is_unserved v))
-    idle ∙ and-false (is_wanting ((s.block n).pair c).acquiring))
-    (flowed.releases n ∙ ap (is_release_pending ((s.block n).release_source c) (rest channel.C)) kept)
-    (held_as c n asked rest s t flowed (ap is_granting idle)) grows
+pub acquire-flows : {w : ℕ} {X : Type 0} (p : Profile) {c : ℕ} (n : ℕ) (x : BeatA w) {asked : ℕ → Option (BeatA w)}
+    {rest : Channel → List (Beat w)} {s : State X} {t : History w} → MonitorRelation asked rest c s t
+    → rest Channel.A ≡ [] → is_acquire x.opcode ≡ true → block_at x.address ≡ n → s.uses c x.source ≡ Acquires n
+    → view (s.block n).service c ≡ Idle → ((s.block n).pair c).letting ≡ NoRelease
+    → grows_from x.param ((s.block n).pair c).recorded ≡ true → broken_in_order p (Beat.A x) t ≡ None
+acquire-flows {w} p {c} n x {asked} {rest} {s} {t} flowed whole acquires block used idle kept grows =
+    cc (acquire-legal p n
+    ((s.block n).pair c).recorded x t acquires block (flowed.rest_is Channel.A ∙ whole) (flowed.requests x.source ∙ ap
+    (λ (u : SourceState). is_requested c x.source (rest Channel.A) u s) used ∙ ap (λ (v : View). not (is_unserved v))
+    idle) (flowed.acquires n ∙ ap (λ (v : View). is_wanting ((s.block n).pair c).acquiring && not (is_unserved v)) idle
+    ∙ and-false (is_wanting ((s.block n).pair c).acquiring)) (flowed.releases n ∙ ap (is_release_pending ((s.block
+    n).release_source c) (rest Channel.C)) kept) (held_as n flowed (ap is_granting idle)) grows)
 
 -- ---- channel B
 
@@ -73,19 +58,17 @@ unprobed : (probes a b : Bool) → a ≡ false → b ≡ false → first_if (pro
 unprobed true a b e f = rw (e, f) refl
 unprobed false a b e f = refl
 
-pub probe-flows : {w : ℕ} {X : Type 0} (p : Profile) (c n : ℕ) (x : BeatB w) (asked : ℕ → Option (BeatA w))
-    (rest : Channel → List (Beat w)) (s : State X)
-    (t : History w) → MonitorRelation asked rest c s t → rest channel.B ≡ [] → block_at x.address ≡ n
-    → is_answered ((s.block n).pair c).probing ≡ false → is_acknowledging (view (s.block n).service c) ≡ false
-    → comes_granting n asked (rest channel.D) ≡ false
-    → broken_in_order p (beat.B x) t ≡ None
+pub probe-flows : {w : ℕ} {X : Type 0} (p : Profile) {c : ℕ} (n : ℕ) (x : BeatB w) {asked : ℕ → Option (BeatA w)}
+    {rest : Channel → List (Beat w)} {s : State X} {t : History w} → MonitorRelation asked rest c s t
+    → rest Channel.B ≡ [] → block_at x.address ≡ n → is_answered ((s.block n).pair c).probing ≡ false
+    → is_acknowledging (view (s.block n).service c) ≡ false → comes_granting n asked (rest Channel.D) ≡ false
+    → broken_in_order p (Beat.B x) t ≡ None
 unfolding broken_order
-probe-flows {w} p c n x asked rest s t flowed whole block unanswered open_ none_comes =
-    let none : unfinished channel.B t ≡ [] = flowed.rest_is channel.B ∙ whole in
-    let probes : pending (key.ProbeOf n) t ≡ false = flowed.probes n ∙ unanswered in
-    let grants : pending (key.GrantAckOf n) t ≡ false =
-    flowed.grants n ∙ ap (λ (b : Bool). b || comes_granting n asked (rest channel.D)) open_ ∙ none_comes in
-    rw (none, block) (unprobed (is_probe x.opcode) (pending (key.ProbeOf n) t) (pending (key.GrantAckOf n) t) probes
+probe-flows {w} p n x {t} flowed whole block unanswered open_ none_comes =
+    let none : unfinished Channel.B t ≡ [] = flowed.rest_is Channel.B ∙ whole in
+    let probes : pending (Key.ProbeOf n) t ≡ false = flowed.probes n ∙ unanswered in
+    let grants : pending (Key.GrantAckOf n) t ≡ false = cc (flowed.grants n, open_, none_comes) in
+    rw (none, block) (unprobed (is_probe x.opcode) (pending (Key.ProbeOf n) t) (pending (Key.GrantAckOf n) t) probes
     grants)
 
 -- ---- channel C
@@ -96,70 +79,59 @@ unlet source rest NoRelease e f = refl
 unlet source rest (ReleaseSent r) e f = ap (comes_in_release source) e
 unlet source rest ReleaseAcked e f = absurd cc
 
-pub report-flows : {w : ℕ} {X : Type 0} (p : Profile) (c n : ℕ) (k : Cap) (r : Report) (x : BeatC w) (asked : ℕ
-    → Option (BeatA w))
-    (rest : Channel → List (Beat w)) (s : State X) (t : History w) → MonitorRelation asked rest c s t
-    → rest channel.C ≡ []
-    → is_probe_ack x.opcode ≡ true → is_release x.opcode ≡ false → block_at x.address ≡ n → x.param ≡ report_code r
-    → ((s.block n).pair c).probing ≡ ProbeAnswered r → cap_waited (s.block n).service ≡ k
-    → is_acked ((s.block n).pair c).letting ≡ false
+pub report-flows : {w : ℕ} {X : Type 0} (p : Profile) {c : ℕ} (n : ℕ) (k : Cap) (r : Report) (x : BeatC w) {asked : ℕ
+    → Option (BeatA w)} {rest : Channel → List (Beat w)} {s : State X} {t : History w}
+    → MonitorRelation asked rest c s t → rest Channel.C ≡ [] → is_probe_ack x.opcode ≡ true
+    → is_release x.opcode ≡ false → block_at x.address ≡ n → x.param ≡ report_code r → ((s.block n).pair c).probing
+    ≡ ProbeAnswered r → cap_waited (s.block n).service ≡ k → is_acked ((s.block n).pair c).letting ≡ false
     → is_granting (view (s.block n).service c) ≡ false → r ≡ report_at k ((s.block n).pair c).recorded
-    → broken_in_order p (beat.C x) t ≡ None
-report-flows {w} p c n k r x asked rest s t flowed whole acks other block param answered waited unacked ungranted told =
+    → broken_in_order p (Beat.C x) t ≡ None
+report-flows {w} p {c} n k r x {asked} {rest} {s} {t} flowed whole acks other block param answered waited unacked
+    ungranted told =
     let answers : is_answered ((s.block n).pair c).probing ≡ true = ap is_answered answered in
-    report-legal p n k r ((s.block n).pair c).recorded x t acks other block param (flowed.rest_is channel.C ∙ whole)
+    report-legal p n k r ((s.block n).pair c).recorded x t acks other block param (flowed.rest_is Channel.C ∙ whole)
     (flowed.probes n ∙ answers)
-    (flowed.releases n ∙ unlet ((s.block n).release_source c) (rest channel.C) ((s.block n).pair c).letting whole
+    (flowed.releases n ∙ unlet ((s.block n).release_source c) (rest Channel.C) ((s.block n).pair c).letting whole
     unacked)
     (flowed.probed n answers ∙ ap (λ (j : Cap). Some (probe_beat n j)) waited)
-    (held_as c n asked rest s t flowed ungranted) told
+    (held_as n flowed ungranted) told
 
 releases : (taken acquires again prunes : Bool) → taken ≡ false → acquires ≡ false → again ≡ false → prunes ≡ true
     → first_if taken H1 (first_if (acquires || (again || not prunes)) H13 None) ≡ None
 releases taken acquires again prunes e f g h = rw (e, f, g, h) refl
 
-pub release-flows : {w : ℕ} {X : Type 0} (p : Profile) (c n : ℕ) (r : Prune) (x : BeatC w) (asked : ℕ
-    → Option (BeatA w)) (rest : Channel → List (Beat w))
-    (s : State X) (t : History w) → MonitorRelation asked rest c s t → rest channel.C ≡ []
-    → is_release x.opcode ≡ true → block_at x.address ≡ n → x.param ≡ prune_code r → s.lets c x.source ≡ Some n
-    → ((s.block n).pair c).letting ≡ ReleaseSent r → ((s.block n).pair c).acquiring ≡ NoAcquire
-    → is_granting (view (s.block n).service c) ≡ false
-    → same_perm (prune_left r) ((s.block n).pair c).recorded ≡ true
-    → broken_in_order p (beat.C x) t ≡ None
+pub release-flows : {w : ℕ} {X : Type 0} (p : Profile) {c : ℕ} (n : ℕ) (r : Prune) (x : BeatC w) {asked : ℕ
+    → Option (BeatA w)} {rest : Channel → List (Beat w)} {s : State X} {t : History w}
+    → MonitorRelation asked rest c s t → rest Channel.C ≡ [] → is_release x.opcode ≡ true → block_at x.address ≡ n
+    → x.param ≡ prune_code r → s.lets c x.source ≡ Some n → ((s.block n).pair c).letting ≡ ReleaseSent r
+    → ((s.block n).pair c).acquiring ≡ NoAcquire → is_granting (view (s.block n).service c) ≡ false
+    → same_perm (prune_left r) ((s.block n).pair c).recorded ≡ true → broken_in_order p (Beat.C x) t ≡ None
 unfolding broken_order
-release-flows {w} p c n r x asked rest s t flowed whole is block param used lets calm ungranted left =
-    let none : unfinished channel.C t ≡ [] = flowed.rest_is channel.C ∙ whole in
-    let free : pending (key.ReleaseSource x.source) t ≡ false =
-    flowed.release_sources x.source ∙ ap (λ (o : Option ℕ). is_let_by c x.source (rest channel.C) o s) used ∙ unlet
-    x.source (rest channel.C) ((s.block n).pair c).letting whole (ap is_acked lets) in
-    let once : pending (key.AcquireOf n) t ≡ false =
-    flowed.acquires n ∙ ap (λ (a : AcquirePhase). is_wanting a && not (is_unserved (view (s.block n).service c)))
-    calm in
-    let again : pending (key.ReleaseOf n) t ≡ false = flowed.releases n ∙ unlet ((s.block n).release_source c)
-    (rest channel.C) ((s.block n).pair c).letting whole (ap is_acked lets) in
+release-flows {w} p {c} n r x {asked} {rest} {s} {t} flowed whole is block param used lets calm ungranted left =
+    let none : unfinished Channel.C t ≡ [] = flowed.rest_is Channel.C ∙ whole in
+    let free : pending (Key.ReleaseSource x.source) t ≡ false =
+    flowed.release_sources x.source ∙ ap (λ (o : Option ℕ). is_let_by c x.source (rest Channel.C) o s) used ∙ unlet
+    x.source (rest Channel.C) ((s.block n).pair c).letting whole (ap is_acked lets) in
+    let once : pending (Key.AcquireOf n) t ≡ false = cc (flowed.acquires n, calm) in
+    let again : pending (Key.ReleaseOf n) t ≡ false = flowed.releases n ∙ unlet ((s.block n).release_source c)
+    (rest Channel.C) ((s.block n).pair c).letting whole (ap is_acked lets) in
     let prunes : prunes_from (prune_of x.param) (held n t) ≡ true =
-    rw (param, prune_again r, held_as c n asked rest s t flowed ungranted) left in
-    rw (none, is, block) (releases (pending (key.ReleaseSource x.source) t) (pending (key.AcquireOf n) t)
-    (pending (key.ReleaseOf n) t)
+    rw (param, prune_again r, held_as n flowed ungranted) left in
+    rw (none, is, block) (releases (pending (Key.ReleaseSource x.source) t) (pending (Key.AcquireOf n) t)
+    (pending (Key.ReleaseOf n) t)
     (prunes_from (prune_of x.param) (held n t)) free once again prunes)
 
 -- ---- channel E
 
-pub grant_ack-flows : {w : ℕ} {X : Type 0} (p : Profile) (c n : ℕ) (x : BeatE) (asked : ℕ → Option (BeatA w))
-    (rest : Channel → List (Beat w)) (s : State X)
-    (t : History w) → MonitorRelation asked rest c s t → rest channel.E ≡ []
-    → s.tracked x.sink ≡ Some n → is_acknowledging (view (s.block n).service c) ≡ true
-    → comes_in_grant x.sink (rest channel.D) ≡ false
-    → broken_in_order p (beat.E x) t ≡ None
+pub grant_ack-flows : {w : ℕ} {X : Type 0} (p : Profile) {c : ℕ} (n : ℕ) (x : BeatE) {asked : ℕ → Option (BeatA w)}
+    {rest : Channel → List (Beat w)} {s : State X} {t : History w} → MonitorRelation asked rest c s t
+    → rest Channel.E ≡ [] → s.tracked x.sink ≡ Some n → is_acknowledging (view (s.block n).service c) ≡ true
+    → comes_in_grant x.sink (rest Channel.D) ≡ false → broken_in_order p (Beat.E x) t ≡ None
 unfolding broken_order
-grant_ack-flows {w} p c n x asked rest s t flowed whole tracked acknowledging none_comes =
-    let none : unfinished channel.E t ≡ [] = flowed.rest_is channel.E ∙ whole in
-    let sunk : pending (key.GrantSink x.sink) t ≡ true =
-    flowed.sinks x.sink ∙ ap (λ (o : Option ℕ). is_sunk c x.sink (rest channel.D) o s) tracked
-    ∙ ap (λ (b : Bool). b || (is_granting (view (s.block n).service c) && comes_in_grant x.sink (rest channel.D)))
-    acknowledging in
-    let apart : comes_in_grant x.sink (unfinished channel.D t) ≡ false =
-    ap (comes_in_grant x.sink) (flowed.rest_is channel.D) ∙ none_comes in
+grant_ack-flows {w} p n x {t} flowed whole tracked acknowledging none_comes =
+    let none : unfinished Channel.E t ≡ [] = flowed.rest_is Channel.E ∙ whole in
+    let sunk : pending (Key.GrantSink x.sink) t ≡ true = cc (flowed.sinks x.sink, tracked, acknowledging) in
+    let apart : comes_in_grant x.sink (unfinished Channel.D t) ≡ false = cc (flowed.rest_is Channel.D, none_comes) in
     rw (none, sunk, apart) refl
 
 -- ---- each beat of a message

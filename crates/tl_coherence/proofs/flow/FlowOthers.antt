@@ -7,15 +7,13 @@ use Rattle.tl_coherence.proofs.flow.Imports.{is_answered, is_wanting, is_unserve
 use Rattle.tl_coherence.proofs.flow.Imports.{granted_at_once, served_block, probed_block, reported_block, let_block}
 use Rattle.tl_coherence.proofs.flow.Imports.{taken_block, let_go_block, freed_block, cap_waited, set}
 use Rattle.std.proofs.Common.{◌≡◌, ℕ, Bool, true, false, ◌&&◌, ◌||◌, refl, sym, ◌∙◌, ap, ◌⊎◌, inl, inr}
-use Rattle.std.specs.Prelude.{◌==◌, if◌then◌else◌}
-use Rattle.std.proofs.lemmas.Bool.{ne_eqb}
+use Rattle.std.{specs.Prelude.◌==◌, specs.Prelude.if◌then◌else◌, proofs.lemmas.Bool.ne_eqb}
 use Rattle.tl_coherence.specs.protocol.Phase.{ProbePhase}
 use Rattle.tl_coherence.specs.protocol.PhaseSteps.{after_acquire, is_above, after_served, after_grant_sent}
 use Rattle.tl_coherence.specs.protocol.PhaseSteps.{after_release_taken, after_grant}
 use Rattle.tl_coherence.specs.protocol.Protocol.{stored_block, performed_block, served_pair, ended_block, granted_block}
-use Rattle.tl_coherence.proofs.flow.FlowAside.{IsSameBlock}
+use Rattle.tl_coherence.proofs.{flow.FlowAside.IsSameBlock, protocol.BothParts.quiet_unanswered}
 use Rattle.tl_coherence.proofs.queues.Tokens.{same_number, set-same, set-other}
-use Rattle.tl_coherence.proofs.protocol.BothParts.{quiet_unanswered}
 
 -- the service looks the same to the client's link
 pub record IsSameView (v v' : View) : Type 0 where
@@ -27,13 +25,11 @@ same-view : (v : View) → IsSameView v v
 same-view v = record { granting = refl; unserved = refl; acknowledging = refl }
 
 others-same : {X : Type 0} (d : ℕ) (b b' : Block X) → b'.pair d ≡ b.pair d → b'.release_source d ≡ b.release_source d
-    → (b'.tracker ≡ b.tracker)
-    ⊎ ((is_acknowledging (view b.service d) || is_granting (view b.service d)) ≡ false)
+    → (b'.tracker ≡ b.tracker) ⊎ ((is_acknowledging (view b.service d) || is_granting (view b.service d)) ≡ false)
     → IsSameView (view b.service d) (view b'.service d)
     → (is_answered (b.pair d).probing ≡ true → cap_waited b'.service ≡ cap_waited b.service) → IsSameBlock d b b'
 others-same {X} d b b' pair source tracker sees cap = record {
-  held = ap (λ (p : ClientBlock). if is_granting (view b'.service d) then p.held else p.recorded) pair ∙ ap
-      (λ (g : Bool). if g then (b.pair d).held else (b.pair d).recorded) sees.granting;
+  held = cc (pair, sees.granting);
   wanting = ap (λ (p : ClientBlock). is_wanting p.acquiring) pair;
   unserved = sees.unserved;
   letting = ap (λ (p : ClientBlock). p.letting) pair;
@@ -61,28 +57,22 @@ outside-same v v' e f = record {
 }
   where
     granting : (u : View) → is_outside u ≡ true → is_granting u ≡ false
-    granting Idle g = refl
-    granting (Other k) g = refl
-    granting GrantedOther g = refl
     granting Own g = absurd cc
     granting (Granting d k) g = absurd cc
     granting Acknowledging g = absurd cc
+    granting u g = refl
 
     unserved : (u : View) → is_outside u ≡ true → is_unserved u ≡ true
-    unserved Idle g = refl
-    unserved (Other k) g = refl
-    unserved GrantedOther g = refl
     unserved Own g = absurd cc
     unserved (Granting d k) g = absurd cc
     unserved Acknowledging g = absurd cc
+    unserved u g = refl
 
     acknowledging : (u : View) → is_outside u ≡ true → is_acknowledging u ≡ false
-    acknowledging Idle g = refl
-    acknowledging (Other k) g = refl
-    acknowledging GrantedOther g = refl
     acknowledging Own g = absurd cc
     acknowledging (Granting d k) g = absurd cc
     acknowledging Acknowledging g = absurd cc
+    acknowledging u g = refl
 
 -- only the one who asked sees a service from inside
 pub outside-waits : (d r source : ℕ) (own : Bool) (k : Cap) → (own && (d == r)) ≡ false
@@ -96,12 +86,10 @@ pub outside-taken : (d r : ℕ) → (d ≡ r → ⊥) → is_outside (view (Gran
 outside-taken d r ne = rw (ne_eqb d r ne) refl
 
 not_in : (v : View) → is_outside v ≡ true → (is_acknowledging v || is_granting v) ≡ false
-not_in Idle e = refl
-not_in (Other k) e = refl
-not_in GrantedOther e = refl
 not_in Own e = absurd cc
 not_in (Granting d k) e = absurd cc
 not_in Acknowledging e = absurd cc
+not_in v e = refl
 
 -- ---- each event
 
@@ -111,40 +99,31 @@ same-performed d f b = others-same d b (performed_block f b) refl refl (inl refl
 
 -- one who is probed, or spared, as a block that was at rest is served
 pub same-served : {X : Type 0} (d r source tracker : ℕ) (own : Bool) (k : Cap) (b : Block X) → (own && (d == r)) ≡ false
-    → b.service ≡ Free
-    → is_unprobed (b.pair d).probing ≡ true → IsSameBlock d b (served_block r own source tracker k b)
-same-served {X} d r source tracker own k b other free quiet = record {
-  held = ap (λ (p : ClientBlock). if is_granting (view (Waits r own source k) d) then p.held else p.recorded) pair ∙ ap
-      (λ (g : Bool). if g then (b.pair d).held else (b.pair d).recorded) sees.granting;
-  wanting = ap (λ (p : ClientBlock). is_wanting p.acquiring) pair;
-  unserved = sees.unserved;
-  letting = ap (λ (p : ClientBlock). p.letting) pair;
-  source = refl;
-  acknowledging = sees.acknowledging;
-  answered = ap (λ (p : ClientBlock). is_answered p.probing) pair ∙ nor_now (is_above k (b.pair d).recorded)
-      (b.pair d).probing quiet ∙ sym (quiet_unanswered (b.pair d).probing quiet);
-  cap = λ e. absurd (let f : false ≡ true =
-      sym (ap (λ (p : ClientBlock). is_answered p.probing) pair ∙ nor_now (is_above k (b.pair d).recorded)
-      (b.pair d).probing quiet) ∙ e in cc);
-  tracker = inr (not_in (view b.service d) before);
-}
-  where
-    before : is_outside (view b.service d) ≡ true
-    before = ap (λ (q : Service). is_outside (view q d)) free
-
-    sees : IsSameView (view b.service d) (view (Waits r own source k) d)
-    sees = outside-same (view b.service d) (view (Waits r own source k) d) before (outside-waits d r source own k other)
-
-    pair : served_pair r own k b.pair d ≡ after_served k (b.pair d)
-    pair = rw other refl
-
-    nor_now : (a : Bool) (p : ProbePhase) → is_unprobed p ≡ true → is_answered (if a then ProbeSent k else p) ≡ false
-    nor_now true p e = refl
-    nor_now false p e = quiet_unanswered p e
+    → b.service ≡ Free → is_unprobed (b.pair d).probing ≡ true → IsSameBlock d b (served_block r own source tracker k b)
+same-served {X} d r source tracker own k b other free quiet =
+    let nor_now : (a : Bool) (p : ProbePhase) → is_unprobed p ≡ true → is_answered (if a then ProbeSent k else p)
+    ≡ false = elim [ true ↦ λ p e. refl | false ↦ λ p e. quiet_unanswered p e ] in
+    let before : is_outside (view b.service d) ≡ true = ap (λ (q : Service). is_outside (view q d)) free in
+    let sees : IsSameView (view b.service d) (view (Waits r own source k) d) =
+    outside-same (view b.service d) (view (Waits r own source k) d) before (outside-waits d r source own k other) in
+    let pair : served_pair r own k b.pair d ≡ after_served k (b.pair d) = rw other refl in
+    record {
+      held = cc (pair, sees.granting);
+      wanting = ap (λ (p : ClientBlock). is_wanting p.acquiring) pair;
+      unserved = sees.unserved;
+      letting = ap (λ (p : ClientBlock). p.letting) pair;
+      source = refl;
+      acknowledging = sees.acknowledging;
+      answered = ap (λ (p : ClientBlock). is_answered p.probing) pair ∙ nor_now (is_above k (b.pair d).recorded)
+          (b.pair d).probing quiet ∙ sym (quiet_unanswered (b.pair d).probing quiet);
+      cap = λ e. absurd (let f : false ≡ true =
+          sym (ap (λ (p : ClientBlock). is_answered p.probing) pair ∙ nor_now (is_above k (b.pair d).recorded)
+          (b.pair d).probing quiet) ∙ e in cc);
+      tracker = inr (not_in (view b.service d) before);
+    }
 
 pub same-granted_at_once : {X : Type 0} (d r tracker : ℕ) (x : Bool) (k : Cap) (b : Block X) → (d ≡ r → ⊥)
-    → b.service ≡ Free
-    → is_answered (b.pair d).probing ≡ false → IsSameBlock d b (granted_at_once r tracker x k b)
+    → b.service ≡ Free → is_answered (b.pair d).probing ≡ false → IsSameBlock d b (granted_at_once r tracker x k b)
 same-granted_at_once {X} d r tracker x k b ne free quiet =
     let before : is_outside (view b.service d) ≡ true = ap (λ (q : Service). is_outside (view q d)) free in
     others-same d b (granted_at_once r tracker x k b) (set-other r d (after_grant_sent k (b.pair r)) b.pair ne) refl
@@ -163,67 +142,50 @@ same-reported d c r b ne = others-same d b (reported_block c r b) (set-other c d
 
 -- the last ProbeAck, where nobody has anything of a Probe any more
 pub same-settled : {X : Type 0} (d c q source : ℕ) (r : Report) (k : Cap) (f : X → X) (b : Block X)
-    → b.service ≡ Waits q false source k
-    → is_answered ((reported_block c r b).pair d).probing ≡ false
+    → b.service ≡ Waits q false source k → is_answered ((reported_block c r b).pair d).probing ≡ false
     → IsSameBlock d (reported_block c r b) (ended_block c r f b)
-same-settled {X} d c q source r k f b waits quiet =
-    others-same d (reported_block c r b) (ended_block c r f b) refl refl (inl refl)
-    (outside-same (view b.service d) (view Free d) (ap (λ (i : Service). is_outside (view i d)) waits ∙ outside-waits d
-    q source false k refl) refl)
-    (λ e. absurd (let g : false ≡ true = sym quiet ∙ e in cc))
+same-settled {X} d c q source r k f b waits quiet = others-same d (reported_block c r b) (ended_block c r f b) refl refl
+    (inl refl) (outside-same (view b.service d) (view Free d) (ap (λ (i : Service). is_outside (view i d)) waits
+    ∙ outside-waits d q source false k refl) refl) (λ e. absurd (let g : false ≡ true = sym quiet ∙ e in cc))
 
 pub same-granted : {X : Type 0} (d c q source : ℕ) (r : Report) (j k : Cap) (x : Bool) (b : Block X) → (d ≡ q → ⊥)
-    → b.service ≡ Waits q true source j
-    → is_answered ((reported_block c r b).pair d).probing ≡ false
+    → b.service ≡ Waits q true source j → is_answered ((reported_block c r b).pair d).probing ≡ false
     → IsSameBlock d (reported_block c r b) (granted_block c q r x k b)
 same-granted {X} d c q source r j k x b other waits quiet =
     others-same d (reported_block c r b) (granted_block c q r x k b)
     (set-other q d (after_grant_sent k (b.pair q)) (set c (after_report r (b.pair c)) b.pair) other) refl (inl refl)
-    (outside-same (view b.service d) (view (GrantSent q x k) d)
-    (ap (λ (i : Service). is_outside (view i d)) waits ∙ outside-waits d q source true j (ne_eqb d q other))
-    (outside-sent d q x k other))
+    (outside-same (view b.service d) (view (GrantSent q x k) d) (ap (λ (i : Service). is_outside (view i d)) waits
+    ∙ outside-waits d q source true j (ne_eqb d q other)) (outside-sent d q x k other))
     (λ e. absurd (let g : false ≡ true = sym quiet ∙ e in cc))
 
 -- who asked for the block had as much of it as was recorded
 pub same-given : {X : Type 0} (c q source : ℕ) (r : Report) (j k : Cap) (x : Bool) (b : Block X) → (q ≡ c → ⊥)
-    → b.service ≡ Waits q true source j
-    → (b.pair q).held ≡ (b.pair q).recorded → is_answered (b.pair q).probing ≡ false
+    → b.service ≡ Waits q true source j → (b.pair q).held ≡ (b.pair q).recorded → is_answered (b.pair q).probing ≡ false
     → IsSameBlock q (reported_block c r b) (granted_block c q r x k b)
-same-given {X} c q source r j k x b other waits even quiet = record {
-  held = ap (λ (v : View). if is_granting v then (new.pair q).held else (new.pair q).recorded) now ∙ ap
-      (λ (p : ClientBlock). p.held) pair ∙ even
-      ∙ sym (ap (λ (v : View). if is_granting v then (old.pair q).held else (old.pair q).recorded) then_ ∙ ap
-      (λ (p : ClientBlock). p.recorded) same);
-  wanting = ap (λ (p : ClientBlock). is_wanting p.acquiring) pair ∙ sym
-      (ap (λ (p : ClientBlock). is_wanting p.acquiring) same);
-  unserved = ap is_unserved now ∙ sym (ap is_unserved then_);
-  letting = ap (λ (p : ClientBlock). p.letting) pair ∙ sym (ap (λ (p : ClientBlock). p.letting) same);
-  source = refl;
-  acknowledging = ap is_acknowledging now ∙ sym (ap is_acknowledging then_);
-  answered = ap (λ (p : ClientBlock). is_answered p.probing) pair ∙ sym
-      (ap (λ (p : ClientBlock). is_answered p.probing) same);
-  cap = λ e. absurd (let f : false ≡ true = sym quiet ∙ sym (ap (λ (p : ClientBlock). is_answered p.probing) pair) ∙ e
-      in cc);
-  tracker = inl refl;
-}
+same-given {X} c q source r j k x b other waits even quiet =
+    let old : Block X = reported_block c r b in
+    let same : old.pair q ≡ b.pair q = set-other c q (after_report r (b.pair c)) b.pair other in
+    let now : view new.service q ≡ Granting x k = rw (same_number q) refl in
+    let then_ : view old.service q ≡ Own = rw (waits, same_number q) refl in
+    record {
+      held = cc (now, pair, even, then_, same);
+      wanting = ap (λ (p : ClientBlock). is_wanting p.acquiring) pair ∙ sym
+          (ap (λ (p : ClientBlock). is_wanting p.acquiring) same);
+      unserved = ap is_unserved now ∙ sym (ap is_unserved then_);
+      letting = ap (λ (p : ClientBlock). p.letting) pair ∙ sym (ap (λ (p : ClientBlock). p.letting) same);
+      source = refl;
+      acknowledging = ap is_acknowledging now ∙ sym (ap is_acknowledging then_);
+      answered = cc (pair, same);
+      cap = λ e. absurd (let f : false ≡ true = sym quiet ∙ sym (ap (λ (p : ClientBlock). is_answered p.probing) pair)
+          ∙ e in cc);
+      tracker = inl refl;
+    }
   where
-    old : Block X
-    old = reported_block c r b
-
     new : Block X
     new = granted_block c q r x k b
 
-    same : old.pair q ≡ b.pair q
-    same = set-other c q (after_report r (b.pair c)) b.pair other
-
     pair : new.pair q ≡ after_grant_sent k (b.pair q)
     pair = set-same q (after_grant_sent k (b.pair q)) (set c (after_report r (b.pair c)) b.pair)
-
-    now : view new.service q ≡ Granting x k
-    now = rw (same_number q) refl
-
-    then_ : view old.service q ≡ Own
-    then_ = rw (waits, same_number q) refl
 
 pub same-let : {X : Type 0} (d c : ℕ) (r : Prune) (b : Block X) → (d ≡ c → ⊥) → IsSameBlock d b (let_block c r b)
 same-let d c r b ne = others-same d b (let_block c r b) (set-other c d (after_release_taken r (b.pair c)) b.pair ne)
@@ -237,16 +199,14 @@ pub same-taken : {X : Type 0} (d c : ℕ) (whole x : Bool) (k : Cap) (b : Block 
     → b.service ≡ GrantSent c x k → IsSameBlock d b (taken_block c whole x k b)
 same-taken {X} d c whole x k b ne sent =
     others-same d b (taken_block c whole x k b) (set-other c d (after_grant k (b.pair c)) b.pair ne) refl (inl refl)
-    (outside-same (view b.service d) (view (GrantTaken c) d)
-    (ap (λ (i : Service). is_outside (view i d)) sent ∙ outside-sent d c x k ne) (outside-taken d c ne))
-    (λ e. sym (ap cap_waited sent))
+    (outside-same (view b.service d) (view (GrantTaken c) d) (ap (λ (i : Service). is_outside (view i d)) sent
+    ∙ outside-sent d c x k ne) (outside-taken d c ne)) (λ e. sym (ap cap_waited sent))
 
 pub same-freed : {X : Type 0} (d c : ℕ) (b : Block X) → (d ≡ c → ⊥) → b.service ≡ GrantTaken c
     → IsSameBlock d b (freed_block b)
-same-freed {X} d c b ne taken =
-    others-same d b (freed_block b) refl refl (inl refl)
-    (outside-same (view b.service d) (view Free d) (ap (λ (i : Service). is_outside (view i d)) taken ∙ outside-taken d
-    c ne) refl) (λ e. sym (ap cap_waited taken))
+same-freed {X} d c b ne taken = others-same d b (freed_block b) refl refl (inl refl)
+    (outside-same (view b.service d) (view Free d) (ap (λ (i : Service). is_outside (view i d)) taken
+    ∙ outside-taken d c ne) refl) (λ e. sym (ap cap_waited taken))
 
 -- ---- what another client is asked for
 
@@ -260,8 +220,7 @@ pub same-releasing : {X : Type 0} (d c source : ℕ) (r : Prune) (b : Block X) �
     → IsSameBlock d b (releasing_block c source r b)
 same-releasing d c source r b ne =
     others-same d b (releasing_block c source r b) (set-other c d (after_release r (b.pair c)) b.pair ne)
-    (set-other c d source b.release_source ne) (inl refl)
-    (same-view (view b.service d)) (λ e. refl)
+    (set-other c d source b.release_source ne) (inl refl) (same-view (view b.service d)) (λ e. refl)
 
 pub same-stored : {X : Type 0} (d c : ℕ) (bytes : X) (b : Block X) → IsSameBlock d b (stored_block c bytes b)
 same-stored d c bytes b = others-same d b (stored_block c bytes b) refl refl (inl refl) (same-view (view b.service d))

@@ -1,7 +1,9 @@
 -- What is delivered on a link, as a beat of it is: each value of it is that of the protocol afterwards.
-use Rattle.tl_coherence.specs.protocol.Phase.{is_whole}
+use Rattle.tl_coherence.specs.{protocol.Phase.is_whole, protocol.Invariant.cap_asked}
+use Rattle.tl_coherence.specs.{protocol.PhaseSteps.is_granted_data, protocol.Protocol.packets_on}
+use Rattle.tl_coherence.specs.{protocol.Protocol.is_probed}
 use Rattle.tl_coherence.proofs.flow.Imports.{IsWidth, Beat, Channel, Message, MessageA, MessageC, beat_of, History, on}
-use Rattle.tl_coherence.proofs.flow.Imports.{grown, completes, Config, Cap, block_at, MonitorRelation, AbstractState}
+use Rattle.tl_coherence.proofs.flow.Imports.{completes, Config, Cap, block_at, MonitorRelation, AbstractState}
 use Rattle.tl_coherence.proofs.flow.Imports.{kind_taken, Log, ClientBlock, AcquirePhase, AcquireOpen, after_probe}
 use Rattle.tl_coherence.proofs.flow.Imports.{after_release_ack, Service, Block, State, packet, is_on, probed_block}
 use Rattle.tl_coherence.proofs.flow.Imports.{probe_taken, let_go_block, release_ack_taken, release_taken}
@@ -9,36 +11,23 @@ use Rattle.tl_coherence.proofs.flow.Imports.{acquire_served, acquire_granted, ca
 use Rattle.tl_coherence.proofs.flow.Imports.{message_of_kind, System, Kind, Request, Acquire, Probe, ProbeAck, Release}
 use Rattle.tl_coherence.proofs.flow.Imports.{Answer, Grant, ReleaseAck, GrantAck, Packet, SimulationRelation}
 use Rattle.tl_coherence.proofs.flow.Imports.{is_caching, asked_by}
-use Rattle.std.proofs.Common.{◌≡◌, subst, ℕ, Bool, true, false, List, [], ◌∷◌, length, refl, sym, ◌∙◌, ap, inl}
+use Rattle.std.proofs.Common.{◌≡◌, subst, ℕ, Bool, true, false, List, ◌∷◌, length, refl, sym, ◌∙◌, ap, inl}
 use Rattle.std.specs.Prelude.{if◌then◌else◌}
-use Rattle.tl_beat.specs.declared.channel.Channel.TheVariants as channel
-use Rattle.tl_burst.specs.declared.message.Message.TheVariants as message
 use Rattle.tl_burst.specs.declared.message.MessageE.{MessageE}
 use Rattle.tl_coherence.specs.refinement.AbstractStep.{with_state, some_below, request_taken, is_unheld, gift}
 use Rattle.tl_coherence.specs.refinement.AbstractStep.{acquire_taken, taken_by_client}
-use Rattle.tl_coherence.specs.protocol.Invariant.{cap_asked}
-use Rattle.tl_coherence.specs.protocol.PhaseSteps.{is_granted_data}
-use Rattle.tl_coherence.specs.protocol.Protocol.{packets_on, is_probed}
-use Rattle.tl_coherence.proofs.client.AsideAll.{Leaves, leaves-at_manager}
-use Rattle.tl_coherence.proofs.queues.Carried.{IsNext}
-use Rattle.tl_coherence.proofs.client.ClientDelivered.{ack_next}
-use Rattle.tl_coherence.proofs.client.ClientEnd.{asks-same}
-use Rattle.tl_coherence.proofs.protocol.HeadOfD.{IsGrantDue, grant-due, ack_message}
-use Rattle.tl_coherence.proofs.flow.FlowAlone.{AreRests}
-use Rattle.tl_coherence.proofs.flow.FlowAside.{flowed-asks}
-use Rattle.tl_coherence.proofs.flow.FlowAsking.{asks-left}
-use Rattle.tl_coherence.proofs.flow.FlowBeats.{one-beat}
+use Rattle.tl_coherence.proofs.{client.AsideAll.Leaves, client.AsideAll.leaves-at_manager, queues.Carried.IsNext}
+use Rattle.tl_coherence.proofs.{client.ClientDelivered.ack_next, client.ClientEnd.asks-same, flow.FlowAlone.AreRests}
+use Rattle.tl_coherence.proofs.{flow.FlowAside.flowed-asks, flow.FlowAsking.asks-left, flow.FlowBeats.one-beat}
+use Rattle.tl_coherence.proofs.{flow.FlowKinds.settled-request, flow.FlowKinds.settled-report, flow.ChannelB.own-probe}
+use Rattle.tl_coherence.proofs.{protocol.FollowKept.IsReady, client.ProbeDelivered.probe-beat}
+use Rattle.tl_coherence.proofs.{manager.RequestsTaken.acquire_wanted, queues.Tokens.set-same, queues.Tokens.set-part}
+use Rattle.tl_coherence.proofs.{simulation.Popped.unfinished_at}
+use Rattle.tl_coherence.proofs.protocol.HeadOfD.{IsGrantDue, grant-due}
 use Rattle.tl_coherence.proofs.flow.ChannelD.{own-answer, own-release_ack, own-grant}
-use Rattle.tl_coherence.proofs.flow.FlowKinds.{settled-request, settled-report}
-use Rattle.tl_coherence.proofs.flow.ChannelB.{own-probe}
 use Rattle.tl_coherence.proofs.flow.ChannelA.{own-access, own-acquire_served, own-acquire_granted}
 use Rattle.tl_coherence.proofs.flow.ChannelCE.{report_rendered, ack_rendered, own-report, own-release, own-grant_ack}
-use Rattle.tl_coherence.proofs.protocol.FollowKept.{IsReady}
 use Rattle.tl_coherence.proofs.protocol.Heads.{IsAsked, asked-first, IsWanted, wanted-first, acquisition_beats}
-use Rattle.tl_coherence.proofs.client.ProbeDelivered.{probe-beat}
-use Rattle.tl_coherence.proofs.manager.RequestsTaken.{acquire_wanted}
-use Rattle.tl_coherence.proofs.queues.Tokens.{set-same, set-part}
-use Rattle.tl_coherence.proofs.simulation.Popped.{unfinished_at}
 
 module _ {w : ℕ} (config : Config) (log : Log w) (h : AbstractState w) (sys : System w) (c : ℕ) (width : IsWidth w)
     (is : SimulationRelation config log h.mail h.request h.state sys) (tracker : ℕ) (t : History w)
@@ -55,8 +44,7 @@ module _ {w : ℕ} (config : Config) (log : Log w) (h : AbstractState w) (sys : 
       (rests : AreRests x (unfinished_at sys c) rest') where
     -- after the beat, which was the last of its message or not
     abbrev Goes : Channel → Kind → Type 0
-    Goes ch k =
-        packets_on ch (h.state.link c) ≡ packet k i ∷ toks
+    Goes ch k = packets_on ch (h.state.link c) ≡ packet k i ∷ toks
         → IsNext x (unfinished_at sys c ch) (message_of_kind k h.mail h.state c i) ms queue → (b : Bool)
         → completes x (unfinished_at sys c ch) ≡ b → (b ≡ true → IsReady tracker c k i h)
         → FlowsWith x (if b then kind_taken config tracker c k i toks h else h)
@@ -65,58 +53,53 @@ module _ {w : ℕ} (config : Config) (log : Log w) (h : AbstractState w) (sys : 
     contrary b e f = absurd (let no : true ≡ false = sym e ∙ f in cc)
 
     -- what of channel D's first message was delivered stays
-    d_same : (m : Message w) (k : ℕ) → x ≡ beat_of m k → on channel.D (beat_of m k) ≡ false
-        → rest' channel.D ≡ unfinished_at sys c channel.D
-    d_same m k e off = rests channel.D ∙ ap
-        (λ (z : Beat w). if on channel.D z then grown x (unfinished_at sys c channel.D) else unfinished_at sys c
-        channel.D)
-        e ∙ ap (λ (b : Bool). if b then grown x (unfinished_at sys c channel.D) else unfinished_at sys c channel.D) off
+    d_same : (m : Message w) (k : ℕ) → x ≡ beat_of m k → on Channel.D (beat_of m k) ≡ false
+        → rest' Channel.D ≡ unfinished_at sys c Channel.D
+    d_same m k e off = cc (rests Channel.D, e, off)
 
     -- ---- channel A
 
-    goes-request : Goes channel.A Request
+    goes-request : Goes Channel.A Request
     goes-request tokens next b last ready = go b last ready
       where
         asked : IsAsked config c i h.mail s
-        asked = asked-first config log h.mail h.request s sys c i toks is tokens
+        asked = asked-first c i toks is tokens
 
-        here : IsNext x (unfinished_at sys c channel.A) (message.A asked.request) ms queue
-        here = subst (λ (m : Message w). IsNext x (unfinished_at sys c channel.A) m ms queue) asked.is_it next
+        here : IsNext x (unfinished_at sys c Channel.A) (Message.A asked.request) ms queue
+        here = subst (λ (m : Message w). IsNext x (unfinished_at sys c Channel.A) m ms queue) asked.is_it next
 
-        go : (z : Bool) → completes x (unfinished_at sys c channel.A) ≡ z → (z ≡ true → IsReady tracker c Request i h)
+        go : (z : Bool) → completes x (unfinished_at sys c Channel.A) ≡ z → (z ≡ true → IsReady tracker c Request i h)
             → FlowsWith x (if z then kind_taken config tracker c Request i toks h else h)
         go false e r = own-access config log h sys c is t flowed rest' i asked x ms queue here rests false e
         go true e r =
             let told = r refl in
-            let same : told.0 ≡ asked.request = (let both : message.A told.0 ≡ message.A asked.request =
+            let same : told.0 ≡ asked.request = (let both : Message.A told.0 ≡ Message.A asked.request =
             sym told.1 ∙ asked.is_it in cc) in
-            let left : Leaves c h (request_taken (length config.clients.items) c i (message.A asked.request) tracker
-            toks h) =
-            subst (λ (m : Message w). Leaves c h (request_taken (length config.clients.items) c i m tracker toks h))
-            asked.is_it
-            (leaves-at_manager (is_caching config) config tracker c Request i toks h c refl is.invariant tokens) in
+            let left : Leaves c h (request_taken (length config.clients.items) c i (Message.A asked.request) tracker
+            toks h) = subst (λ (m : Message w). Leaves c h (request_taken (length config.clients.items) c i m
+            tracker toks h)) asked.is_it (leaves-at_manager config tracker c Request i toks h c refl is.invariant
+            tokens) in
             subst (λ (m : Message w). FlowsWith x (request_taken (length config.clients.items) c i m tracker toks h))
             (sym asked.is_it)
-            (settled-request config log h sys c is tracker c rest' (d_same (message.A asked.request) here.k here.beat_is
+            (settled-request config log h sys c is tracker c rest' (d_same (Message.A asked.request) here.k here.beat_is
             refl) (x ∷ t) i asked.request toks
             (ap (λ (m : MessageA w). (s.block (block_at m.address)).service) (sym same) ∙ told.3) told.4 left
             (own-access config log h sys c is t flowed rest' i asked x ms queue here rests true e))
 
-    goes-acquire : Goes channel.A Acquire
+    goes-acquire : Goes Channel.A Acquire
     goes-acquire tokens next b last ready = go b last ready
       where
         wanted : IsWanted w c i s
-        wanted = wanted-first config log h.mail h.request s sys c i toks is tokens
+        wanted = wanted-first c i toks is tokens
 
         m : MessageA w
         m = acquire_wanted c i s wanted
 
-        here : IsNext x (unfinished_at sys c channel.A) (message.A m) ms queue
-        here = subst (λ (z : Message w). IsNext x (unfinished_at sys c channel.A) z ms queue) wanted.renders next
+        here : IsNext x (unfinished_at sys c Channel.A) (Message.A m) ms queue
+        here = subst (λ (z : Message w). IsNext x (unfinished_at sys c Channel.A) z ms queue) wanted.renders next
 
-        one : completes x (unfinished_at sys c channel.A) ≡ true
-        one = (one-beat (message.A m) x (unfinished_at sys c channel.A) ms queue here
-            (acquisition_beats w wanted.whole wanted.grow ((s.block i).source c) i)).2
+        one : completes x (unfinished_at sys c Channel.A) ≡ true
+        one = (one-beat here (acquisition_beats w wanted.whole wanted.grow ((s.block i).source c) i)).2
 
         taken : IsReady tracker c Acquire i h → Leaves c h
             (acquire_taken (length config.clients.items) config.profile c i (AcquireOpen wanted.whole wanted.grow)
@@ -138,209 +121,156 @@ module _ {w : ℕ} (config : Config) (log : Log w) (h : AbstractState w) (sys : 
 
             either : (z : Bool) → Leaves c h (with_state (if z then served else granted) h)
                 → FlowsWith x (with_state (if z then served else granted) h)
-            either true l =
-                own-acquire_served config log h sys c is t flowed rest' i wanted r.0 tracker r.1
-                (asked_by h.mail served c)
-                (asks-left c h (with_state served h) l) (cap_asked (AcquireOpen wanted.whole wanted.grow)) toks x ms
-                queue here rests
-            either false l =
-                own-acquire_granted config log h sys c is t flowed rest' i wanted r.0 tracker r.1
-                (asked_by h.mail granted c)
-                (asks-left c h (with_state granted h) l)
+            either true l = own-acquire_served config log h sys c is t flowed rest' i wanted r.0 tracker r.1
+                (asked_by h.mail served c) (asks-left c h (with_state served h) l)
+                (cap_asked (AcquireOpen wanted.whole wanted.grow)) toks x ms queue here rests
+            either false l = own-acquire_granted config log h sys c is t flowed rest' i wanted r.0 tracker r.1
+                (asked_by h.mail granted c) (asks-left c h (with_state granted h) l)
                 (is_granted_data wanted.whole wanted.grow ((s.block i).pair c).recorded)
                 (gift config.profile wanted.whole wanted.grow
                 (is_unheld (length config.clients.items) (s.block i).pair)) toks x ms queue here rests
 
-        go : (z : Bool) → completes x (unfinished_at sys c channel.A) ≡ z → (z ≡ true → IsReady tracker c Acquire i h)
+        go : (z : Bool) → completes x (unfinished_at sys c Channel.A) ≡ z → (z ≡ true → IsReady tracker c Acquire i h)
             → FlowsWith x (if z then kind_taken config tracker c Acquire i toks h else h)
-        go false e r = contrary (completes x (unfinished_at sys c channel.A)) one e
-        go true e r =
-            subst (λ (a : AcquirePhase). FlowsWith x (acquire_taken (length config.clients.items) config.profile c i a
-            tracker toks h)) (sym wanted.wants)
+        go false e r = contrary (completes x (unfinished_at sys c Channel.A)) one e
+        go true e r = rw wanted.wants
             (taken (r refl) (subst (λ (a : AcquirePhase). Leaves c h
-            (acquire_taken (length config.clients.items) config.profile c i a tracker toks h))
-            wanted.wants (leaves-at_manager (is_caching config) config tracker c Acquire i toks h c refl is.invariant
-            tokens)))
+            (acquire_taken (length config.clients.items) config.profile c i a tracker toks h)) wanted.wants
+            (leaves-at_manager config tracker c Acquire i toks h c refl is.invariant tokens)))
 
     -- ---- channel B
 
-    goes-probe : Goes channel.B Probe
+    goes-probe : Goes Channel.B Probe
     goes-probe tokens next b last ready = go b last
       where
         k : Cap
         k = cap_sent ((s.block i).pair c).probing
 
-        one : completes x (unfinished_at sys c channel.B) ≡ true
-        one = ap (completes x) (is.kept c).b_whole ∙ ap (λ (z : Beat w). completes z [])
-            (probe-beat c i s x (unfinished_at sys c channel.B) ms queue next)
+        one : completes x (unfinished_at sys c Channel.B) ≡ true
+        one = cc ((is.kept c).b_whole, probe-beat c i s next)
 
         new : Block (List ℕ)
         new = probed_block c k (s.block i)
 
         asks : (j : ℕ) → asked_by h.mail (probe_taken c i k toks s) c j ≡ asked_by h.mail s c j
-        asks j = asks-same c j h.mail h.mail s (probe_taken c i k toks s) refl (inl refl)
+        asks j = cc (asks-same c j h.mail h.mail s (probe_taken c i k toks s) refl (inl refl)
             (λ n used. set-part (λ (z : Block (List ℕ)). (z.pair c).acquiring) i new s.block
-            (ap (λ (p : ClientBlock). p.acquiring)
-            (set-same c (after_probe k ((s.block i).pair c)) (s.block i).pair)) n)
-            (λ n used. set-part (λ (z : Block (List ℕ)). z.source c) i new s.block refl n)
+            (ap (λ (p : ClientBlock). p.acquiring) (set-same c (after_probe k ((s.block i).pair c)) (s.block i).pair))
+            n) (λ n used. set-part (λ (z : Block (List ℕ)). z.source c) i new s.block refl n))
 
-        go : (z : Bool) → completes x (unfinished_at sys c channel.B) ≡ z
+        go : (z : Bool) → completes x (unfinished_at sys c Channel.B) ≡ z
             → FlowsWith x (if z then kind_taken config tracker c Probe i toks h else h)
-        go false e = contrary (completes x (unfinished_at sys c channel.B)) one e
+        go false e = contrary (completes x (unfinished_at sys c Channel.B)) one e
         go true e = own-probe config log h sys c is t flowed rest' toks i tokens x ms queue next rests
             (asked_by h.mail (probe_taken c i k toks s) c) asks
 
     -- ---- channel C
 
-    goes-report : Goes channel.C ProbeAck
+    goes-report : Goes Channel.C ProbeAck
     goes-report tokens next b last ready = go b last
       where
-        about : (m : MessageC w) × (block_message ProbeAck c i (s.block i) ≡ message.C m)
+        about : (m : MessageC w) × (block_message ProbeAck c i (s.block i) ≡ Message.C m)
         about = let told = report_rendered c i (s.block i) width (is.sized i).truth in (told.0, told.1)
 
-        here : IsNext x (unfinished_at sys c channel.C) (message.C about.0) ms queue
-        here = subst (λ (m : Message w). IsNext x (unfinished_at sys c channel.C) m ms queue) about.1 next
+        here : IsNext x (unfinished_at sys c Channel.C) (Message.C about.0) ms queue
+        here = subst (λ (m : Message w). IsNext x (unfinished_at sys c Channel.C) m ms queue) about.1 next
 
-        go : (z : Bool) → completes x (unfinished_at sys c channel.C) ≡ z
+        go : (z : Bool) → completes x (unfinished_at sys c Channel.C) ≡ z
             → FlowsWith x (if z then kind_taken config tracker c ProbeAck i toks h else h)
         go false e = own-report config log h sys c width is t flowed rest' i toks tokens x ms queue next rests false e
-        go true e =
-            settled-report config log h sys c is tracker c rest' (d_same (message.C about.0) here.k here.beat_is refl)
-            (x ∷ t) i toks tokens
-            (leaves-at_manager (is_caching config) config tracker c ProbeAck i toks h c refl is.invariant tokens)
+        go true e = settled-report config log h sys c is tracker c rest'
+            (d_same (Message.C about.0) here.k here.beat_is refl) (x ∷ t) i toks tokens
+            (leaves-at_manager config tracker c ProbeAck i toks h c refl is.invariant tokens)
             (own-report config log h sys c width is t flowed rest' i toks tokens x ms queue next rests true e)
 
-    goes-release : Goes channel.C Release
+    goes-release : Goes Channel.C Release
     goes-release tokens next b last ready = go b last
       where
         after : State (List ℕ)
         after = release_taken c i (prune_told ((s.block i).pair c).letting) toks s
 
-        go : (z : Bool) → completes x (unfinished_at sys c channel.C) ≡ z
+        go : (z : Bool) → completes x (unfinished_at sys c Channel.C) ≡ z
             → FlowsWith x (if z then kind_taken config tracker c Release i toks h else h)
         go false e = own-release config log h sys c width is t flowed rest' i toks tokens x ms queue next rests false e
-        go true e =
-            flowed-asks (asked_by h.mail s c) (asked_by h.mail after c) rest' c after (x ∷ t)
-            (asks-left c h (with_state after h) (leaves-at_manager (is_caching config) config tracker c Release i toks h
-            c refl is.invariant tokens))
-            (own-release config log h sys c width is t flowed rest' i toks tokens x ms queue next rests true e)
+        go true e = flowed-asks (asked_by h.mail after c)
+            (asks-left c h (with_state after h) (leaves-at_manager config tracker c Release i toks h c refl is.invariant
+            tokens)) (own-release config log h sys c width is t flowed rest' i toks tokens x ms queue next rests true e)
 
     -- ---- channel D
 
-    goes-answer : Goes channel.D Answer
+    goes-answer : Goes Channel.D Answer
     goes-answer tokens next b last ready = go b last
       where
-        go : (z : Bool) → completes x (unfinished_at sys c channel.D) ≡ z
+        go : (z : Bool) → completes x (unfinished_at sys c Channel.D) ≡ z
             → FlowsWith x (if z then kind_taken config tracker c Answer i toks h else h)
         go false e = own-answer config log h sys c is t flowed rest' toks i tokens x ms queue next rests false e
         go true e = own-answer config log h sys c is t flowed rest' toks i tokens x ms queue next rests true e
 
-    goes-grant : Goes channel.D Grant
+    goes-grant : Goes Channel.D Grant
     goes-grant tokens next b last ready = go b last
       where
         due : IsGrantDue c i s
         due = grant-due (is_caching config) c i toks s is.invariant tokens
 
-        go : (z : Bool) → completes x (unfinished_at sys c channel.D) ≡ z
+        go : (z : Bool) → completes x (unfinished_at sys c Channel.D) ≡ z
             → FlowsWith x (if z then kind_taken config tracker c Grant i toks h else h)
         go false e = own-grant config log h sys c is t flowed rest' toks i tokens due
             (is_whole ((s.block i).pair c).acquiring) x ms queue next rests false e
-        go true e =
-            subst (λ (q : Service). FlowsWith x (taken_by_client c i q toks h)) (sym due.service)
-            (own-grant config log h sys c is t flowed rest' toks i tokens due (is_whole ((s.block i).pair c).acquiring)
-            x ms queue next rests true e)
+        go true e = rw due.service (own-grant config log h sys c is t flowed rest' toks i tokens due
+            (is_whole ((s.block i).pair c).acquiring) x ms queue next rests true e)
 
-    goes-release_ack : Goes channel.D ReleaseAck
+    goes-release_ack : Goes Channel.D ReleaseAck
     goes-release_ack tokens next b last ready = go b last
       where
-        one : completes x (unfinished_at sys c channel.D) ≡ true
-        one = (one-beat (message.D (ack_message ((s.block i).release_source c))) x (unfinished_at sys c channel.D) ms
-            queue (ack_next c i s x (unfinished_at sys c channel.D) ms queue next) refl).2
+        one : completes x (unfinished_at sys c Channel.D) ≡ true
+        one = (one-beat (ack_next c i s next) refl).2
 
         new : Block (List ℕ)
         new = let_go_block c (s.block i)
 
         asks : (j : ℕ) → asked_by h.mail (release_ack_taken c i toks s) c j ≡ asked_by h.mail s c j
-        asks j = asks-same c j h.mail h.mail s (release_ack_taken c i toks s) refl (inl refl)
+        asks j = cc (asks-same c j h.mail h.mail s (release_ack_taken c i toks s) refl (inl refl)
             (λ n used. set-part (λ (z : Block (List ℕ)). (z.pair c).acquiring) i new s.block
             (ap (λ (p : ClientBlock). p.acquiring) (set-same c (after_release_ack ((s.block i).pair c))
-            (s.block i).pair)) n)
-            (λ n used. set-part (λ (z : Block (List ℕ)). z.source c) i new s.block refl n)
+            (s.block i).pair)) n) (λ n used. set-part (λ (z : Block (List ℕ)). z.source c) i new s.block refl n))
 
-        go : (z : Bool) → completes x (unfinished_at sys c channel.D) ≡ z
+        go : (z : Bool) → completes x (unfinished_at sys c Channel.D) ≡ z
             → FlowsWith x (if z then kind_taken config tracker c ReleaseAck i toks h else h)
-        go false e = contrary (completes x (unfinished_at sys c channel.D)) one e
+        go false e = contrary (completes x (unfinished_at sys c Channel.D)) one e
         go true e = own-release_ack config log h sys c is t flowed rest' toks i tokens x ms queue next rests
             (asked_by h.mail (release_ack_taken c i toks s) c) asks
 
     -- ---- channel E
 
-    goes-grant_ack : Goes channel.E GrantAck
-    goes-grant_ack tokens next b last ready = go b last
+    goes-grant_ack : Goes Channel.E GrantAck
+    goes-grant_ack tokens next b last ready =
+        let m : MessageE = record { sink = (s.block i).tracker } in
+        go b last
       where
-        m : MessageE
-        m = record { sink = (s.block i).tracker }
-
-        one : completes x (unfinished_at sys c channel.E) ≡ true
-        one = (one-beat (message.E m) x (unfinished_at sys c channel.E) ms queue
-            (subst (λ (z : Message w). IsNext x (unfinished_at sys c channel.E) z ms queue)
+        one : completes x (unfinished_at sys c Channel.E) ≡ true
+        one = (one-beat (subst (λ (z : Message w). IsNext x (unfinished_at sys c Channel.E) z ms queue)
             (ack_rendered c i (s.block i)) next) refl).2
 
-        go : (z : Bool) → completes x (unfinished_at sys c channel.E) ≡ z
+        go : (z : Bool) → completes x (unfinished_at sys c Channel.E) ≡ z
             → FlowsWith x (if z then kind_taken config tracker c GrantAck i toks h else h)
-        go false e = contrary (completes x (unfinished_at sys c channel.E)) one e
+        go false e = contrary (completes x (unfinished_at sys c Channel.E)) one e
         go true e =
             let after = kind_taken config tracker c GrantAck i toks h in
             own-grant_ack config log h sys c width is t flowed rest' i toks tokens x ms queue next rests
             (asked_by after.mail after.state c)
-            (asks-left c h after (leaves-at_manager (is_caching config) config tracker c GrantAck i toks h c refl
+            (asks-left c h after (leaves-at_manager config tracker c GrantAck i toks h c refl
             is.invariant tokens))
 
     -- ---- each kind on its channel
 
     pub own-kind : (ch : Channel) (k : Kind) → is_on ch k ≡ true → Goes ch k
-    own-kind channel.A Request own = goes-request
-    own-kind channel.A Acquire own = goes-acquire
-    own-kind channel.B Probe own = goes-probe
-    own-kind channel.C ProbeAck own = goes-report
-    own-kind channel.C Release own = goes-release
-    own-kind channel.D Answer own = goes-answer
-    own-kind channel.D Grant own = goes-grant
-    own-kind channel.D ReleaseAck own = goes-release_ack
-    own-kind channel.E GrantAck own = goes-grant_ack
-    own-kind channel.A Probe own = absurd cc
-    own-kind channel.A ProbeAck own = absurd cc
-    own-kind channel.A Release own = absurd cc
-    own-kind channel.A Answer own = absurd cc
-    own-kind channel.A Grant own = absurd cc
-    own-kind channel.A ReleaseAck own = absurd cc
-    own-kind channel.A GrantAck own = absurd cc
-    own-kind channel.B Request own = absurd cc
-    own-kind channel.B Acquire own = absurd cc
-    own-kind channel.B ProbeAck own = absurd cc
-    own-kind channel.B Release own = absurd cc
-    own-kind channel.B Answer own = absurd cc
-    own-kind channel.B Grant own = absurd cc
-    own-kind channel.B ReleaseAck own = absurd cc
-    own-kind channel.B GrantAck own = absurd cc
-    own-kind channel.C Request own = absurd cc
-    own-kind channel.C Acquire own = absurd cc
-    own-kind channel.C Probe own = absurd cc
-    own-kind channel.C Answer own = absurd cc
-    own-kind channel.C Grant own = absurd cc
-    own-kind channel.C ReleaseAck own = absurd cc
-    own-kind channel.C GrantAck own = absurd cc
-    own-kind channel.D Request own = absurd cc
-    own-kind channel.D Acquire own = absurd cc
-    own-kind channel.D Probe own = absurd cc
-    own-kind channel.D ProbeAck own = absurd cc
-    own-kind channel.D Release own = absurd cc
-    own-kind channel.D GrantAck own = absurd cc
-    own-kind channel.E Request own = absurd cc
-    own-kind channel.E Acquire own = absurd cc
-    own-kind channel.E Probe own = absurd cc
-    own-kind channel.E ProbeAck own = absurd cc
-    own-kind channel.E Release own = absurd cc
-    own-kind channel.E Answer own = absurd cc
-    own-kind channel.E Grant own = absurd cc
-    own-kind channel.E ReleaseAck own = absurd cc
+    own-kind Channel.A Request own = goes-request
+    own-kind Channel.A Acquire own = goes-acquire
+    own-kind Channel.B Probe own = goes-probe
+    own-kind Channel.C ProbeAck own = goes-report
+    own-kind Channel.C Release own = goes-release
+    own-kind Channel.D Answer own = goes-answer
+    own-kind Channel.D Grant own = goes-grant
+    own-kind Channel.D ReleaseAck own = goes-release_ack
+    own-kind Channel.E GrantAck own = goes-grant_ack
+    own-kind ch k own = absurd cc

@@ -1,36 +1,30 @@
 -- What is delivered on a link, as a Probe is.
-use Rattle.tl_coherence.proofs.flow.Imports.{Beat, BeatA, Channel, History, Cap, comes_in_grant, begins, ends, block_at}
-use Rattle.tl_coherence.proofs.flow.Imports.{release_of, probe_of, grant_sink, MonitorRelation}
-use Rattle.tl_coherence.proofs.flow.Imports.{is_requested, is_release_pending}
+use Rattle.tl_coherence.proofs.flow.Imports.{Beat, BeatA, Channel, History, Cap, begins, ends, block_at, release_of}
+use Rattle.tl_coherence.proofs.flow.Imports.{probe_of, grant_sink, MonitorRelation, is_requested, is_release_pending}
 use Rattle.tl_coherence.proofs.flow.Imports.{is_let_by, is_sunk, comes_granting, View, Other, ClientBlock, after_probe}
-use Rattle.tl_coherence.proofs.flow.Imports.{Service, Block, State, view, is_granting, is_acknowledging, is_answered}
-use Rattle.tl_coherence.proofs.flow.Imports.{is_wanting, is_unserved, probe_taken, probed_block, probe_beat, cap_waited}
-use Rattle.tl_coherence.proofs.flow.Imports.{Packet, set}
-use Rattle.std.proofs.Common.{◌≡◌, ℕ, ◌*◌, Bool, true, false, not, ◌&&◌, ◌||◌, ◌∷◌, Option, Some, None, refl, sym, ◌∙◌}
-use Rattle.std.proofs.Common.{ap, List}
-use Rattle.std.specs.Prelude.{◌==◌, if◌then◌else◌, option_map}
-use Rattle.std.proofs.lemmas.Bool.{ne_eqb}
-use Rattle.tl_beat.specs.declared.beat.Beat.TheVariants as beat
+use Rattle.tl_coherence.proofs.flow.Imports.{Block, State, view, is_granting, is_answered, is_wanting, is_unserved}
+use Rattle.tl_coherence.proofs.flow.Imports.{probe_taken, probed_block, probe_beat, cap_waited, Packet, set}
+use Rattle.std.proofs.Common.{◌≡◌, ℕ, ◌*◌, Bool, true, false, not, ◌&&◌, ◌∷◌, Option, Some, None, refl, sym, ◌∙◌, ap}
+use Rattle.std.proofs.Common.{List}
+use Rattle.std.{specs.Prelude.◌==◌, specs.Prelude.if◌then◌else◌, specs.Prelude.option_map, proofs.lemmas.Bool.ne_eqb}
 use Rattle.tl_beat.specs.declared.beat.BeatB.{BeatB}
-use Rattle.tl_beat.specs.declared.channel.Channel.TheVariants as channel
 use Rattle.tl_rules.specs.statement.History.{is_probe}
 use Rattle.tl_client.proofs.pending.Opens.{request_of-b}
-use Rattle.tl_coherence.proofs.flow.FlowAlone.{AreRests}
-use Rattle.tl_coherence.proofs.flow.FlowAside.{requested-blocks, let_by-same}
+use Rattle.tl_coherence.proofs.{flow.FlowAlone.AreRests, flow.FlowAside.requested-blocks, flow.FlowAside.let_by-same}
 use Rattle.tl_coherence.proofs.flow.FlowStep.{flowed-next, held_by, acquired_by, let_of, granted_by, step, whole_opened}
 use Rattle.tl_coherence.proofs.flow.FlowStep.{whole_unopened}
 use Rattle.tl_coherence.proofs.queues.Tokens.{same_number, set-same, set-each, set-part}
 
-released-of : {w : ℕ} (i : ℕ) (y : BeatB w) (t : History w) → release_of i (beat.B y ∷ t) ≡ release_of i t
+released-of : {w : ℕ} (i : ℕ) (y : BeatB w) (t : History w) → release_of i (Beat.B y ∷ t) ≡ release_of i t
 unfolding release_of
 released-of i y t = refl
 
-sunk-of : {w : ℕ} (n : ℕ) (y : BeatB w) (t : History w) → grant_sink n (beat.B y ∷ t) ≡ grant_sink n t
+sunk-of : {w : ℕ} (n : ℕ) (y : BeatB w) (t : History w) → grant_sink n (Beat.B y ∷ t) ≡ grant_sink n t
 unfolding grant_sink
 sunk-of n y t = refl
 
-probed-of : {w : ℕ} (n : ℕ) (y : BeatB w) (t : History w) → begins (beat.B y) t ≡ true
-    → probe_of n (beat.B y ∷ t) ≡ (if is_probe y.opcode && (block_at y.address == n) then Some y else probe_of n t)
+probed-of : {w : ℕ} (n : ℕ) (y : BeatB w) (t : History w) → begins (Beat.B y) t ≡ true
+    → probe_of n (Beat.B y ∷ t) ≡ (if is_probe y.opcode && (block_at y.address == n) then Some y else probe_of n t)
 unfolding probe_of
 probed-of n y t first = rw first refl
 
@@ -39,16 +33,34 @@ pub part_of : {A : Type 0} (part : ClientBlock → A) (c : ℕ) (p : ClientBlock
     → part p ≡ part (pair c) → part (set c p pair c) ≡ part (pair c)
 part_of part c p pair e = ap part (set-same c p pair) ∙ e
 
-pub flowed-probe : {w : ℕ} {X : Type 0} (c n : ℕ) (k : Cap) (toks : List Packet) (asked asked' : ℕ → Option (BeatA w))
-    (rest rest' : Channel → List (Beat w)) (s : State X) (t : History w)
-    → begins (beat.B (probe_beat n k)) t ≡ true → ends (beat.B (probe_beat n k)) t ≡ true
-    → AreRests (beat.B (probe_beat n k)) rest rest' → ((i : ℕ) → asked' i ≡ asked i) → block_at (64 * n) ≡ n
+pub flowed-probe : {w : ℕ} {X : Type 0} {c : ℕ} (n : ℕ) (k : Cap) (toks : List Packet) {asked : ℕ → Option (BeatA w)}
+    (asked' : ℕ → Option (BeatA w))
+    {rest : Channel → List (Beat w)} (rest' : Channel → List (Beat w)) {s : State X} {t : History w}
+    → begins (Beat.B (probe_beat n k)) t ≡ true → ends (Beat.B (probe_beat n k)) t ≡ true
+    → AreRests (Beat.B (probe_beat n k)) rest rest' → ((i : ℕ) → asked' i ≡ asked i) → block_at (64 * n) ≡ n
     → view (s.block n).service c ≡ Other k → cap_waited (s.block n).service ≡ k
-    → ((m : ℕ) → comes_granting m asked' (rest channel.D) ≡ comes_granting m asked (rest channel.D))
+    → ((m : ℕ) → comes_granting m asked' (rest Channel.D) ≡ comes_granting m asked (rest Channel.D))
     → MonitorRelation asked rest c s t → MonitorRelation asked' rest' c (probe_taken c n k toks s)
-    (beat.B (probe_beat n k) ∷ t)
-flowed-probe {w} {X} c n k toks asked asked' rest rest' s t first last rests asks at seen waited comes before =
-    flowed-next (beat.B y) true true asked asked' rest rest' c s s' t (record {
+    (Beat.B (probe_beat n k) ∷ t)
+flowed-probe {w} {X} {c} n k toks {asked} asked' {rest} rest' {s} {t} first last rests asks at seen waited comes
+    before =
+    let sunk_same : (i : ℕ) (o : Option ℕ) → is_sunk c i (rest Channel.D) o s' ≡ is_sunk c i (rest Channel.D) o s =
+    λ i. elim [ None ↦ refl | Some m ↦ cc (set-part (λ (z : Block X). z.service) n new s.block refl m) ] in
+    let part_true = ap (λ (p : ClientBlock). is_answered p.probing) (set-same c (after_probe k (b.pair c)) b.pair) in
+    let requests : (i : ℕ) → is_requested c i (rest' Channel.A) (s'.uses c i) s' ≡ is_requested c i (rest Channel.A)
+    (s.uses c i) s = λ i. cc (
+      rests Channel.A,
+      requested-blocks c i (rest Channel.A) (s.uses c i) s s'
+          (set-part (λ (z : Block X). is_unserved (view z.service c)) n new s.block refl),
+    ) in
+    let grants : (m : ℕ) → granted_by c m asked' (rest' Channel.D) (s'.block m) ≡ granted_by c m asked (rest Channel.D)
+    (s.block m) = λ m. cc (
+      rests Channel.D,
+      comes m,
+      set-part (granted_by c m asked (rest Channel.D)) n new s.block
+          refl m,
+    ) in
+    flowed-next (record {
       first_is = first;
       last_is = last;
       rests = rests;
@@ -66,17 +78,15 @@ flowed-probe {w} {X} c n k toks asked asked' rest rest' s t first last rests ask
           (before.release_sources i ∙ sym (lets i) ∙ f);
       sizes = λ i m e f. ap (option_map (λ z. z.size)) (released-of i y t) ∙ before.sizes i m e
           (before.release_sources i ∙ sym (lets i) ∙ f);
-      releases = λ m. ap (λ (r : List (Beat w)). let_of c r (s'.block m)) (rests channel.C)
-          ∙ set-part (let_of c (rest channel.C)) n new s.block
-          (ap (is_release_pending (b.release_source c) (rest channel.C))
-          letting_same) m;
-      sinks = λ i. ap (λ (r : List (Beat w)). is_sunk c i r (s.tracked i) s') (rests channel.D) ∙ sunk_same i
+      releases = λ m. ap (λ (r : List (Beat w)). let_of c r (s'.block m)) (rests Channel.C)
+          ∙ set-part (let_of c (rest Channel.C)) n new s.block
+          (ap (is_release_pending (b.release_source c) (rest Channel.C)) letting_same) m;
+      sinks = λ i. ap (λ (r : List (Beat w)). is_sunk c i r (s.tracked i) s') (rests Channel.D) ∙ sunk_same i
           (s.tracked i);
       grants = grants;
       probes = set-each (λ m z. is_answered (z.pair c).probing ≡ step true true (block_at (64 * n) == m) false
-          (is_answered ((s.block m).pair c).probing)) n new s.block
-          (part_true ∙ sym (whole_opened (block_at (64 * n) == n) (is_answered (b.pair c).probing)
-          (rw at (same_number n))))
+          (is_answered ((s.block m).pair c).probing)) n new s.block (part_true
+          ∙ sym (whole_opened (block_at (64 * n) == n) (is_answered (b.pair c).probing) (rw at (same_number n))))
           (λ m ne. sym (whole_unopened (block_at (64 * n) == m) (is_answered ((s.block m).pair c).probing)
           (rw at (ne_eqb n m (λ e. ne (sym e))))));
       probed = λ m e. probed-of m y t first ∙ probed m e;
@@ -99,48 +109,23 @@ flowed-probe {w} {X} c n k toks asked asked' rest rest' s t first last rests ask
     letting_same : (new.pair c).letting ≡ (b.pair c).letting
     letting_same = part_of (λ (p : ClientBlock). p.letting) c (after_probe k (b.pair c)) b.pair refl
 
-    part_true : is_answered (new.pair c).probing ≡ true
-    part_true = ap (λ (p : ClientBlock). is_answered p.probing) (set-same c (after_probe k (b.pair c)) b.pair)
-
-    requests : (i : ℕ) → is_requested c i (rest' channel.A) (s'.uses c i) s' ≡ is_requested c i (rest channel.A)
-        (s.uses c i) s
-    requests i =
-        ap (λ (r : List (Beat w)). is_requested c i r (s.uses c i) s') (rests channel.A)
-        ∙ requested-blocks c i (rest channel.A) (s.uses c i) s s'
-        (set-part (λ (z : Block X). is_unserved (view z.service c)) n new s.block refl)
-
-    lets : (i : ℕ) → is_let_by c i (rest' channel.C) (s'.lets c i) s' ≡ is_let_by c i (rest channel.C) (s.lets c i) s
-    lets i =
-        ap (λ (r : List (Beat w)). is_let_by c i r (s.lets c i) s') (rests channel.C)
-        ∙ let_by-same c i (rest channel.C) (s.lets c i) s s' (set-part (λ (z : Block X). (z.pair c).letting) n new
-        s.block letting_same)
-
-    sunk_same : (i : ℕ) (o : Option ℕ) → is_sunk c i (rest channel.D) o s' ≡ is_sunk c i (rest channel.D) o s
-    sunk_same i None = refl
-    sunk_same i (Some m) = ap
-        (λ (q : Service). is_acknowledging (view q c) || (is_granting (view q c) && comes_in_grant i (rest channel.D)))
-        (set-part (λ (z : Block X). z.service) n new s.block refl m)
-
-    grants : (m : ℕ) → granted_by c m asked' (rest' channel.D) (s'.block m) ≡ granted_by c m asked (rest channel.D)
-        (s.block m)
-    grants m =
-        ap (λ (r : List (Beat w)). granted_by c m asked' r (s'.block m)) (rests channel.D) ∙ ap
-        (λ (z : Bool). is_acknowledging (view (s'.block m).service c) || z) (comes m)
-        ∙ set-part (granted_by c m asked (rest channel.D)) n new s.block refl m
+    lets : (i : ℕ) → is_let_by c i (rest' Channel.C) (s'.lets c i) s' ≡ is_let_by c i (rest Channel.C) (s.lets c i) s
+    lets i = cc (
+      rests Channel.C,
+      let_by-same c i (rest Channel.C) (s.lets c i) s s'
+          (set-part (λ (z : Block X). (z.pair c).letting) n new s.block letting_same),
+    )
 
     probed : (m : ℕ) → is_answered ((s'.block m).pair c).probing ≡ true
         → (if true && (block_at (64 * n) == m) then Some y else probe_of m t) ≡ Some
         (probe_beat m (cap_waited (s'.block m).service))
-    probed = set-each (λ m z. is_answered (z.pair c).probing ≡ true
-        → (if true && (block_at (64 * n) == m) then Some y else probe_of m t) ≡ Some
-        (probe_beat m (cap_waited z.service))) n new s.block
-        (λ e. chosen (block_at (64 * n) == n) (Some y) (probe_of n t) (rw at (same_number n)) ∙ ap
-        (λ (j : Cap). Some (probe_beat n j)) (sym waited))
+    probed =
+        let chosen : (o : Bool) (p q : Option (BeatB w)) → o ≡ true → (if true && o then p else q) ≡ p =
+        λ o p q e. rw e refl in
+        let unchosen : (o : Bool) (p q : Option (BeatB w)) → o ≡ false → (if true && o then p else q) ≡ q =
+        λ o p q e. rw e refl in
+        set-each (λ m z. is_answered (z.pair c).probing ≡ true → (if true && (block_at (64 * n) == m) then Some y else
+        probe_of m t) ≡ Some (probe_beat m (cap_waited z.service))) n new s.block (λ e. chosen (block_at (64 * n) ==
+        n) (Some y) (probe_of n t) (rw at (same_number n)) ∙ ap (λ (j : Cap). Some (probe_beat n j)) (sym waited))
         (λ m ne e. unchosen (block_at (64 * n) == m) (Some y) (probe_of m t) (rw at (ne_eqb n m (λ f. ne (sym f))))
         ∙ before.probed m e)
-      where
-        chosen : (o : Bool) (p q : Option (BeatB w)) → o ≡ true → (if true && o then p else q) ≡ p
-        chosen o p q e = rw e refl
-
-        unchosen : (o : Bool) (p q : Option (BeatB w)) → o ≡ false → (if true && o then p else q) ≡ q
-        unchosen o p q e = rw e refl

@@ -1,53 +1,36 @@
 -- What the receivers have after a delivery.
-use Rattle.tl_coherence.proofs.flow.Imports.{IsWidth, Beat, Channel, grown, unfinished, completes, Config}
-use Rattle.tl_coherence.proofs.flow.Imports.{on_link, flow}
-use Rattle.tl_coherence.proofs.flow.Imports.{AbstractState, kind_taken, Log, receiver, System}
-use Rattle.tl_coherence.proofs.flow.Imports.{Packet, SimulationRelation, is_caching}
-use Rattle.std.proofs.Common.{◌≡◌, subst, ℕ, Bool, true, false, ◌&&◌, List, [], ◌∷◌, Some, None, refl, sym, ◌∙◌}
-use Rattle.std.proofs.Common.{ap}
+use Rattle.tl_coherence.proofs.flow.Imports.{IsWidth, Beat, Channel, grown, completes, Config, flow, AbstractState}
+use Rattle.tl_coherence.proofs.flow.Imports.{kind_taken, Log, receiver, System, SimulationRelation, is_caching}
+use Rattle.std.proofs.Common.{◌≡◌, subst, ℕ, Bool, true, false, ◌&&◌, List, [], ◌∷◌, Some, None, refl, sym, ◌∙◌, ap}
 use Rattle.std.specs.Prelude.{◌==◌, if◌then◌else◌}
 use Rattle.tl_beat.specs.declared.beat.Link.{Link}
-use Rattle.tl_beat.specs.declared.channel.Channel.TheVariants as channel
-use Rattle.tl_client.specs.statement.Endpoint as client
 use Rattle.tl_client.specs.statement.Endpoint.{EndConfig}
 use Rattle.tl_client.specs.statement.Offer as offer
-use Rattle.tl_manager.specs.statement.Handing.{Handed}
+use Rattle.tl_manager.{specs.statement.Handing.Handed, specs.statement.Reaction.reaction}
 use Rattle.tl_manager.specs.statement.End as manager_end
 use Rattle.tl_manager.specs.statement.Offer as manager_offer
-use Rattle.tl_manager.specs.statement.Reaction.{reaction}
-use Rattle.tl_coherence.specs.declared.event.Event.TheVariants.{Deliver}
-use Rattle.tl_coherence.specs.declared.event.Outcome.TheVariants as outcome
-use Rattle.tl_coherence.specs.statement.Draining.{is_moving}
-use Rattle.tl_coherence.specs.refinement.AbstractStep.{abstract_step, packet_taken}
-use Rattle.tl_coherence.specs.statement.Log.{system_after}
+use Rattle.tl_coherence.specs.{declared.event.Event.TheVariants.Deliver, declared.event.Outcome.Outcome}
+use Rattle.tl_coherence.specs.{statement.Draining.is_moving, refinement.AbstractStep.abstract_step}
+use Rattle.tl_coherence.specs.{statement.Log.system_after}
 use Rattle.tl_coherence.specs.statement.Step.{Step, stepped, outcome_of, is_to_client}
 use Rattle.tl_coherence.specs.statement.System.{terms_at, same_channel, with_manager, with_channel, with_messages}
 use Rattle.tl_coherence.proofs.links.FifoOfChannels.{on_it, flow_moved, taken_at}
-use Rattle.tl_coherence.proofs.links.HeadsOfLinks.{first-of}
-use Rattle.tl_coherence.proofs.queues.FirstToken.{IsFirst, first-token}
-use Rattle.tl_coherence.proofs.deliveries.DeliverDAfter.{followed-moving}
+use Rattle.tl_coherence.proofs.{links.HeadsOfLinks.first-of, queues.FirstToken.IsFirst, queues.FirstToken.first-token}
+use Rattle.tl_coherence.proofs.{deliveries.DeliverDAfter.followed-moving, manager.UnwaitedRequests.next_tracker}
+use Rattle.tl_coherence.proofs.{simulation.Popped.unfinished_at}
 use Rattle.tl_coherence.proofs.queues.Landed.{IsOn, landed-client, landed-manager}
-use Rattle.tl_coherence.proofs.deliveries.ManagersAfter.{IsAtManager, at-manager}
-use Rattle.tl_coherence.proofs.simulation.Moved.{IsTakenByClient, client-moves, client-heard}
-use Rattle.tl_coherence.proofs.manager.UnwaitedRequests.{next_tracker}
+use Rattle.tl_coherence.proofs.deliveries.ManagersAfter.{at-manager}
+use Rattle.tl_coherence.proofs.simulation.Moved.{client-moves, client-heard}
 use Rattle.tl_coherence.proofs.queues.Steps.{clients-with_messages, manager-with_messages}
-use Rattle.tl_coherence.proofs.simulation.Popped.{unfinished_at}
 
 -- ---- what the receivers have after a delivery
 
 -- messages that are handed out change no receiver
 receiver_handed : {w : ℕ} (handed : Handed w) (sys : System w) (d : ℕ) (at : Channel)
     → receiver at d (with_messages handed sys) ≡ receiver at d sys
-receiver_handed handed sys d channel.A =
-    ap (λ (m : manager_end.End _). on_link d m.trace) (manager-with_messages handed sys)
-receiver_handed handed sys d channel.B =
-    ap (λ (f : ℕ → client.Endpoint _). (f d).past) (clients-with_messages handed sys)
-receiver_handed handed sys d channel.C =
-    ap (λ (m : manager_end.End _). on_link d m.trace) (manager-with_messages handed sys)
-receiver_handed handed sys d channel.D =
-    ap (λ (f : ℕ → client.Endpoint _). (f d).past) (clients-with_messages handed sys)
-receiver_handed handed sys d channel.E =
-    ap (λ (m : manager_end.End _). on_link d m.trace) (manager-with_messages handed sys)
+receiver_handed handed sys d Channel.B = cc (clients-with_messages handed sys)
+receiver_handed handed sys d Channel.D = cc (clients-with_messages handed sys)
+receiver_handed handed sys d at = cc (manager-with_messages handed sys)
 
 -- what is left of a beat that is moved on channel ch of client c's link: what was delivered, what receivers have, and
 -- what the protocol is
@@ -58,92 +41,75 @@ pub record IsMovedOn {w : ℕ} (config : Config) (log : Log w) (link : Link) (ch
   pub delivered : (d : ℕ) → flow d
       ((Deliver link ch, (stepped config (Deliver link ch) (system_after config log)).outcome) ∷ log)
       ≡ (if link.0 == d then x ∷ flow d log else flow d log)
-  pub rests : (d : ℕ) (at : Channel)
-      → unfinished_at (stepped config (Deliver link ch) (system_after config log)).after d at
-      ≡ (if (d == link.0) && same_channel at ch then grown x (unfinished_at (system_after config log) d at) else
+  pub rests : (d : ℕ) (at : Channel) → unfinished_at (stepped config (Deliver link ch) (system_after config log)).after
+      d at ≡ (if (d == link.0) && same_channel at ch then grown x (unfinished_at (system_after config log) d at) else
       unfinished_at (system_after config log) d at)
   pub follows : abstract_step config (Deliver link ch) (system_after config log) h
       ≡ (if completes x (unfinished_at (system_after config log) link.0 ch) then kind_taken config
       (next_tracker (system_after config log)) link.0 first.kind first.number first.rest h else h)
 
-moved-to_manager : {w : ℕ} (config : Config) (log : Log w) (link : Link) (ch : Channel) (h : AbstractState w)
-    (terms : EndConfig) (x : Beat w) (queue : List (Beat w))
-    → IsWidth w → SimulationRelation config log h.mail h.request h.state (system_after config log)
-    → terms_at config link.0 ≡ Some terms → is_to_client ch ≡ false
-    → (system_after config log).channels link.0 ch ≡ x ∷ queue
-    → is_moving (stepped config (Deliver link ch) (system_after config log)).outcome ≡ true
+moved-to_manager : {w : ℕ} {config : Config} {log : Log w} (link : Link) (ch : Channel) (h : AbstractState w)
+    (terms : EndConfig) (x : Beat w) (queue : List (Beat w)) → IsWidth w
+    → SimulationRelation config log h.mail h.request h.state (system_after config log)
+    → terms_at config link.0 ≡ Some terms → is_to_client ch ≡ false → (system_after config log).channels link.0 ch
+    ≡ x ∷ queue → is_moving (stepped config (Deliver link ch) (system_after config log)).outcome ≡ true
     → IsMovedOn config log link ch h x queue
 unfolding with_messages
-moved-to_manager {w} config log link ch h terms x queue width is known down beats moving = record {
-  first = at.first;
-  on_ch = at.on_it;
-  delivered = λ d. ap (λ (y : Step w). flow d ((Deliver link ch, y.outcome) ∷ log)) at.step_is ∙ flow_moved link ch
-      (outcome.Moved x) x log d refl;
-  rests = λ d i. ap (λ (y : Step w). unfinished_at y.after d i) at.step_is ∙ ap (unfinished i)
-      (receiver_handed handed base d i)
-      ∙ (landed-manager link.0 ch x queue (λ k j. None) [] e sys down at.beats at.on_it at.heard (λ k j. refl)).rests d
-      i;
-  follows = at.follows;
-}
+moved-to_manager {w} {config} {log} link ch h terms x queue width is known down beats moving =
+    let at = at-manager link ch h terms x queue width is known down beats moving in
+    let e : manager_end.End w = manager_offer.taken link x (reaction config link x sys.manager) sys.manager in
+    let base : System w = with_manager e (with_channel link.0 ch queue sys) in
+    record {
+      first = at.first;
+      on_ch = at.on_it;
+      delivered = λ d. cc (at.step_is, flow_moved link ch (Outcome.Moved x) x log d refl);
+      rests = λ d i. cc (
+        at.step_is,
+        receiver_handed handed base d i,
+        (landed-manager link.0 ch x queue (λ k j. None) [] e
+            sys down at.beats at.on_it at.heard (λ k j. refl)).rests d i,
+      );
+      follows = at.follows;
+    }
   where
     sys : System w
     sys = system_after config log
-
-    at : IsAtManager config log link ch h x queue
-    at = at-manager config log link ch h terms x queue width is known down beats moving
 
     handed : Handed w
     handed = (reaction config link x sys.manager).handed
 
-    e : manager_end.End w
-    e = manager_offer.taken link x (reaction config link x sys.manager) sys.manager
-
-    base : System w
-    base = with_manager e (with_channel link.0 ch queue sys)
-
-moved-to_client : {w : ℕ} (config : Config) (log : Log w) (link : Link) (ch : Channel) (h : AbstractState w)
-    (terms : EndConfig) (x : Beat w) (queue : List (Beat w))
-    → IsWidth w → SimulationRelation config log h.mail h.request h.state (system_after config log)
-    → terms_at config link.0 ≡ Some terms → is_to_client ch ≡ true
-    → (system_after config log).channels link.0 ch ≡ x ∷ queue
-    → is_moving (stepped config (Deliver link ch) (system_after config log)).outcome ≡ true
+moved-to_client : {w : ℕ} {config : Config} {log : Log w} (link : Link) (ch : Channel) (h : AbstractState w)
+    (terms : EndConfig) (x : Beat w) (queue : List (Beat w)) → IsWidth w
+    → SimulationRelation config log h.mail h.request h.state (system_after config log)
+    → terms_at config link.0 ≡ Some terms → is_to_client ch ≡ true → (system_after config log).channels link.0 ch
+    ≡ x ∷ queue → is_moving (stepped config (Deliver link ch) (system_after config log)).outcome ≡ true
     → IsMovedOn config log link ch h x queue
-moved-to_client {w} config log link ch h terms x queue width is known up beats moving = record {
-  first = first;
-  on_ch = on_ch;
-  delivered = λ d. ap (λ (y : Step w). flow d ((Deliver link ch, y.outcome) ∷ log)) t.step_is
-      ∙ flow_moved link ch (outcome_of x t.verdict_is) x log d
-      (taken_at link ch x t.verdict_is d (sym (ap (λ (y : Step w). is_moving y.outcome) t.step_is) ∙ moving));
-  rests = λ d i. ap (λ (y : Step w). unfinished_at y.after d i) t.step_is
-      ∙ (landed-client link.0 ch x queue t.message (offer.taken x (sys.clients link.0)).after sys up beats on_ch
-      (client-heard terms link.0 ch x queue sys (stepped config (Deliver link ch) sys) width (is.kept link.0) t)).rests
-      d i;
-  follows = followed-moving config link ch sys h x queue moving beats
-      ∙ ap (λ (l : List Packet). if completes x (unfinished_at sys link.0 ch) then packet_taken config
-      (next_tracker sys) link.0 l h else h) first.tokens;
-}
-  where
-    sys : System w
-    sys = system_after config log
+moved-to_client {w} {config} {log} link ch h terms x queue width is known up beats moving =
+    let sys : System w = system_after config log in
+    let t = client-moves config link ch sys terms x queue known beats up moving in
+    let first : IsFirst ch link.0 h.mail h.state sys x queue = first-token (is_caching config) ch link.0 h.mail h.state
+    sys x queue width is.invariant is.carried beats in
+    let on_ch : IsOn ch x = subst (λ (i : Channel). IsOn i x) (first-of config log h link.0 terms ch x queue width is
+    known beats).on (on_it x) in
+    record {
+      first = first;
+      on_ch = on_ch;
+      delivered = λ d. ap (λ (y : Step w). flow d ((Deliver link ch, y.outcome) ∷ log)) t.step_is
+          ∙ flow_moved link ch (outcome_of x t.verdict_is) x log d
+          (taken_at link ch x t.verdict_is d (sym (ap (λ (y : Step w). is_moving y.outcome) t.step_is) ∙ moving));
+      rests = λ d i. ap (λ (y : Step w). unfinished_at y.after d i) t.step_is
+          ∙ (landed-client link.0 ch x queue t.message (offer.taken x (sys.clients link.0)).after sys up beats on_ch
+          (client-heard width (is.kept link.0) t)).rests d i;
+      follows = cc (followed-moving config link ch sys h x queue moving beats, first.tokens);
+    }
 
-    t : IsTakenByClient terms link.0 ch x queue sys (stepped config (Deliver link ch) sys)
-    t = client-moves config link ch sys terms x queue known beats up moving
-
-    first : IsFirst ch link.0 h.mail h.state sys x queue
-    first = first-token (is_caching config) ch link.0 h.mail h.state sys x queue width is.invariant is.carried beats
-
-    on_ch : IsOn ch x
-    on_ch = subst (λ (i : Channel). IsOn i x) (first-of config log h link.0 terms ch x queue width is known beats).on
-        (on_it x)
-
-pub moved-on : {w : ℕ} (config : Config) (log : Log w) (link : Link) (ch : Channel) (h : AbstractState w) (x : Beat w)
-    (queue : List (Beat w)) (terms : EndConfig)
-    → IsWidth w → SimulationRelation config log h.mail h.request h.state (system_after config log)
-    → (system_after config log).channels link.0 ch ≡ x ∷ queue → terms_at config link.0 ≡ Some terms
+pub moved-on : {w : ℕ} {config : Config} {log : Log w} (link : Link) (ch : Channel) (h : AbstractState w) (x : Beat w)
+    (queue : List (Beat w)) (terms : EndConfig) → IsWidth w → SimulationRelation config log h.mail h.request h.state
+    (system_after config log) → (system_after config log).channels link.0 ch ≡ x ∷ queue
+    → terms_at config link.0 ≡ Some terms
     → is_moving (stepped config (Deliver link ch) (system_after config log)).outcome ≡ true → (b : Bool)
-    → is_to_client ch ≡ b
-    → IsMovedOn config log link ch h x queue
-moved-on config log link ch h x queue terms width is beats known moving true e =
-    moved-to_client config log link ch h terms x queue width is known e beats moving
-moved-on config log link ch h x queue terms width is beats known moving false e =
-    moved-to_manager config log link ch h terms x queue width is known e beats moving
+    → is_to_client ch ≡ b → IsMovedOn config log link ch h x queue
+moved-on {config} {log} link ch h x queue terms width is beats known moving true e =
+    moved-to_client link ch h terms x queue width is known e beats moving
+moved-on {config} {log} link ch h x queue terms width is beats known moving false e =
+    moved-to_manager link ch h terms x queue width is known e beats moving

@@ -1,27 +1,21 @@
 -- What is delivered on a link, as the beats of a Release are.
 use Rattle.tl_coherence.proofs.flow.Imports.{Beat, BeatA, BeatC, Channel, History, ReleaseSource, Prune, Perm}
-use Rattle.tl_coherence.proofs.flow.Imports.{comes_in_release, comes_in_grant, begins, ends, block_at, pending}
-use Rattle.tl_coherence.proofs.flow.Imports.{is_probe_ack, is_release, release_of, reported, MonitorRelation}
-use Rattle.tl_coherence.proofs.flow.Imports.{is_requested, is_release_pending}
-use Rattle.tl_coherence.proofs.flow.Imports.{is_let_by, is_sunk, comes_granting, is_of}
-use Rattle.tl_coherence.proofs.flow.Imports.{ReleasePhase, NoRelease, ReleaseSent, ReleaseAcked, AcquirePhase}
-use Rattle.tl_coherence.proofs.flow.Imports.{is_unreleased, Service, Block, State, view, is_granting, is_acknowledging}
-use Rattle.tl_coherence.proofs.flow.Imports.{is_answered, is_wanting, is_unserved, probe_beat, cap_waited, grant_sink-c}
-use Rattle.tl_coherence.proofs.flow.Imports.{probe_of-c, request_of-c}
+use Rattle.tl_coherence.proofs.flow.Imports.{comes_in_release, begins, ends, block_at, pending, is_probe_ack}
+use Rattle.tl_coherence.proofs.flow.Imports.{is_release, release_of, reported, MonitorRelation, is_requested}
+use Rattle.tl_coherence.proofs.flow.Imports.{is_release_pending, is_let_by, is_sunk, comes_granting, is_of}
+use Rattle.tl_coherence.proofs.flow.Imports.{ReleasePhase, ReleaseSent, ReleaseAcked, AcquirePhase, is_unreleased}
+use Rattle.tl_coherence.proofs.flow.Imports.{Service, Block, State, view, is_acknowledging, is_answered, is_wanting}
+use Rattle.tl_coherence.proofs.flow.Imports.{is_unserved, probe_beat, cap_waited, grant_sink-c, probe_of-c}
+use Rattle.tl_coherence.proofs.flow.Imports.{request_of-c}
 use Rattle.std.proofs.Common.{◌≡◌, ℕ, Bool, true, false, not, ◌&&◌, ◌||◌, ◌∷◌, Option, Some, None, refl, sym, ◌∙◌, ap}
 use Rattle.std.proofs.Common.{List, ◌⊎◌, inl, inr}
 use Rattle.std.specs.Prelude.{◌==◌, if◌then◌else◌, option_map, unwrap_or}
 use Rattle.std.proofs.lemmas.Bool.{cases_eq, ne_eqb, and_right}
-use Rattle.tl_beat.specs.declared.beat.Beat.TheVariants as beat
-use Rattle.tl_beat.specs.declared.channel.Channel.TheVariants as channel
 use Rattle.tl_params.specs.statement.Param.{prune_right}
 use Rattle.tl_coherence.specs.protocol.Invariant.{releases_with}
-use Rattle.tl_coherence.proofs.flow.FlowAlone.{AreRests}
-use Rattle.tl_coherence.proofs.flow.FlowAside.{requested-blocks}
-use Rattle.tl_coherence.proofs.flow.FlowReported.{unsaid}
+use Rattle.tl_coherence.proofs.{flow.FlowAlone.AreRests, flow.FlowAside.requested-blocks, flow.FlowReported.unsaid}
+use Rattle.tl_coherence.proofs.{queues.Tokens.same_number, protocol.BothParts.is_of-is}
 use Rattle.tl_coherence.proofs.flow.FlowStep.{flowed-next, held_by, acquired_by, let_of, granted_by, step, step_quiet}
-use Rattle.tl_coherence.proofs.queues.Tokens.{same_number}
-use Rattle.tl_coherence.proofs.protocol.BothParts.{is_of-is}
 
 -- ---- another value of one block
 
@@ -56,8 +50,8 @@ pub record IsReleased {w : ℕ} {X : Type 0} (c n : ℕ) (r : Prune) (y : BeatC 
   pub size : y.size ≡ 6
   pub says : reported y.param ≡ prune_right r
   pub letting : ((s.block n).pair c).letting ≡ ReleaseSent r
-  pub came : (i : ℕ) → comes_in_release i (rest channel.C) ≡ (not first && (y.source == i))
-  pub comes : (i : ℕ) → comes_in_release i (rest' channel.C) ≡ (not last && (y.source == i))
+  pub came : (i : ℕ) → comes_in_release i (rest Channel.C) ≡ (not first && (y.source == i))
+  pub comes : (i : ℕ) → comes_in_release i (rest' Channel.C) ≡ (not last && (y.source == i))
   pub elsewhere : AreElsewhere n s s'
   pub uses : (i : ℕ) → s'.uses c i ≡ s.uses c i
   pub lets : (i : ℕ) → s'.lets c i ≡ s.lets c i
@@ -106,71 +100,105 @@ with_true false q e = refl
 let_other : {w : ℕ} (i : ℕ) (rest rest' : List (Beat w)) (l : ReleasePhase)
     → (is_unreleased l ≡ false → comes_in_release i rest' ≡ comes_in_release i rest)
     → is_release_pending i rest' l ≡ is_release_pending i rest l
-let_other i rest rest' NoRelease h = refl
 let_other i rest rest' (ReleaseSent r) h = h refl
-let_other i rest rest' ReleaseAcked h = refl
+let_other i rest rest' l h = refl
 
 -- the last Release with the source of the beat, and with another one
 of_source : {w : ℕ} {A : Type 0} (part : BeatC w → A) (v : A) (i : ℕ) (y : BeatC w) (t : History w) (first : Bool)
-    → begins (beat.C y) t ≡ first
-    → is_release y.opcode ≡ true → (y.source == i) ≡ true → part y ≡ v
-    → (first ≡ false → option_map part (release_of i t) ≡ Some v) → option_map part (release_of i (beat.C y ∷ t)) ≡ Some
-    v
+    → begins (Beat.C y) t ≡ first → is_release y.opcode ≡ true → (y.source == i) ≡ true → part y ≡ v
+    → (first ≡ false → option_map part (release_of i t) ≡ Some v) → option_map part (release_of i (Beat.C y ∷ t))
+    ≡ Some v
 unfolding release_of
 of_source part v i y t true e f g h before = rw (e, f, g) (ap Some h)
 of_source part v i y t false e f g h before = rw e (before refl)
 
 of_other : {w : ℕ} (i : ℕ) (y : BeatC w) (t : History w) → (y.source == i) ≡ false
-    → release_of i (beat.C y ∷ t) ≡ release_of i t
+    → release_of i (Beat.C y ∷ t) ≡ release_of i t
 unfolding release_of
-of_other {w} i y t e = go (begins (beat.C y) t) (is_release y.opcode) (y.source == i) e
+of_other {w} i y t e = go (begins (Beat.C y) t) (is_release y.opcode) (y.source == i) e
   where
     go : (p q r : Bool) → r ≡ false → (if p && (q && r) then Some y else release_of i t) ≡ release_of i t
     go true true r f = rw f refl
-    go true false r f = refl
-    go false q r f = refl
+    go p q r f = refl
 
 both_some : (n m : ℕ) (o : Option ℕ) → o ≡ Some n → o ≡ Some m → n ≡ m
 both_some n m None e f = absurd cc
 both_some n m (Some i) e f = let g : Some n ≡ Some m = sym e ∙ f in cc
 
-pub flowed-release : {w : ℕ} {X : Type 0} (c n : ℕ) (r : Prune) (y : BeatC w) (first last : Bool) (asked : ℕ
-    → Option (BeatA w)) (rest rest' : Channel → List (Beat w)) (s s' : State X) (t : History w)
-    → begins (beat.C y) t ≡ first → ends (beat.C y) t ≡ last → AreRests (beat.C y) rest rest'
+pub flowed-release : {w : ℕ} {X : Type 0} {c n : ℕ} {r : Prune} {y : BeatC w} {first last : Bool} {asked : ℕ
+    → Option (BeatA w)} {rest rest' : Channel → List (Beat w)} {s s' : State X} {t : History w}
+    → begins (Beat.C y) t ≡ first → ends (Beat.C y) t ≡ last → AreRests (Beat.C y) rest rest'
     → ((i m : ℕ) → is_of m (s.lets c i) ≡ releases_with c i (s.block m)) → IsReleased c n r y first last rest rest' s s'
-    → MonitorRelation asked rest c s t → MonitorRelation asked rest' c s' (beat.C y ∷ t)
-flowed-release {w} {X} c n r y first last asked rest rest' s s' t first_is last_is rests named is before =
-    flowed-next (beat.C y) first last asked asked rest rest' c s s' t (record {
+    → MonitorRelation asked rest c s t → MonitorRelation asked rest' c s' (Beat.C y ∷ t)
+flowed-release {w} {X} {c} {n} {r} {y} {first} {last} {asked} {rest} {rest'} {s} {s'} {t} first_is last_is rests named
+    is before =
+    let here_at : (block_at y.address == n) ≡ true = rw is.at (same_number n) in
+    let apart : (m : ℕ) → (m ≡ n → ⊥) → (block_at y.address == m) ≡ false =
+    λ m ne. rw is.at (ne_eqb n m (λ e. ne (sym e))) in
+    let then_here : let_of c (rest Channel.C) b ≡ not first = let_then (b.release_source c) first r (rest Channel.C)
+    (b.pair c).letting is.letting (is.came (b.release_source c)
+    ∙ with_true (not first) (y.source == b.release_source c) (rw is.source (same_number (b.release_source c)))) in
+    let open_other : (m : ℕ) → (m ≡ n → ⊥) → (i : ℕ) → i ≡ (s.block m).release_source c → is_unreleased ((s.block
+    m).pair c).letting ≡ false → i ≡ y.source → ⊥ = λ m ne i at begun same. ne (both_some m n (s.lets c i)
+    (is_of-is m (s.lets c i) (named i m ∙ rw (begun, at) (same_number ((s.block m).release_source c)))) (of_block i
+    same)) in
+    let let_rest : (m : ℕ) → (m ≡ n → ⊥) → let_of c (rest' Channel.C) (s.block m) ≡ let_of c (rest Channel.C)
+    (s.block m) = λ m ne. let_other ((s.block m).release_source c) (rest Channel.C) (rest' Channel.C)
+    ((s.block m).pair c).letting (λ begun. comes_other ((s.block m).release_source c)
+    (open_other m ne ((s.block m).release_source c) refl begun)) in
+    let requests : (i : ℕ) → is_requested c i (rest' Channel.A) (s'.uses c i) s' ≡ is_requested c i (rest Channel.A)
+    (s.uses c i) s = λ i. cc (
+      rests Channel.A,
+      is.uses i,
+      requested-blocks c i (rest Channel.A) (s.uses c i) s s'
+          (part-block (λ (z : Block X). is_unserved (view z.service c)) n s s' is.elsewhere
+          (ap (λ (q : Service). is_unserved (view q c)) is.service)),
+    ) in
+    let acquires = part-block (acquired_by c) n s s' is.elsewhere
+    (ap (λ (l : AcquirePhase). is_wanting l && not (is_unserved (view new.service c))) is.acquiring
+    ∙ ap (λ (q : Service). is_wanting (b.pair c).acquiring && not (is_unserved (view q c))) is.service) in
+    let answered : (m : ℕ) → is_answered ((s'.block m).pair c).probing ≡ is_answered ((s.block m).pair c).probing =
+    part-block (λ (z : Block X). is_answered (z.pair c).probing) n s s' is.elsewhere (ap is_answered is.probing) in
+    let not_closed : (m : ℕ) → step first last false (is_probe_ack y.opcode && (block_at y.address == m))
+    (is_answered ((s.block m).pair c).probing) ≡ is_answered ((s.block m).pair c).probing =
+    λ m. rw is.ack (step_quiet first last (is_answered ((s.block m).pair c).probing)) in
+    let grants : (m : ℕ) → granted_by c m asked (rest' Channel.D) (s'.block m) ≡ granted_by c m asked (rest Channel.D)
+    (s.block m) = λ m. cc (
+      rests Channel.D,
+      part-block (granted_by c m asked (rest Channel.D)) n s s' is.elsewhere
+          (ap (λ (q : Service). is_acknowledging (view q c) || comes_granting m asked (rest Channel.D)) is.service) m,
+    )
+    in
+    flowed-next (record {
       first_is = first_is;
       last_is = last_is;
       rests = rests;
-      held_is = each-block (λ m z. held_by c z ≡ (if last then unwrap_or
-          (if (is_probe_ack y.opcode || is_release y.opcode) && (block_at y.address == m) then Some (reported y.param)
-          else None)
-          (held_by c (s.block m)) else held_by c (s.block m))) n s s' is.elsewhere
+      held_is = each-block (λ m z. held_by c z
+          ≡ (if last then unwrap_or (if (is_probe_ack y.opcode || is_release y.opcode) && (block_at y.address == m) then
+          Some (reported y.param) else None) (held_by c (s.block m)) else held_by c (s.block m))) n s s' is.elsewhere
           (is.held_is ∙ ap (λ (q : Perm). if last then q else held_by c b) (sym is.says)
           ∙ sym (said last (is_probe_ack y.opcode) (is_release y.opcode) (block_at y.address == n) (reported y.param)
           (held_by c b) is.release here_at))
           (λ m ne. sym (unsaid_any last (is_probe_ack y.opcode) (is_release y.opcode) (block_at y.address == m)
           (reported y.param) (held_by c (s.block m)) (apart m ne)));
-      requests = λ i. requests i ∙ sym (step_quiet first last (is_requested c i (rest channel.A) (s.uses c i) s));
+      requests = λ i. requests i ∙ sym (step_quiet first last (is_requested c i (rest Channel.A) (s.uses c i) s));
       asked_is = λ i e. request_of-c i y t ∙ before.asked_is i (before.requests i ∙ sym (requests i) ∙ e);
       acquires = λ m. acquires m ∙ sym (step_quiet first last (acquired_by c (s.block m)));
       release_sources = lets;
       released = λ i m e f. released i m (sym (is.lets i) ∙ e) f (cases_eq i y.source);
       sizes = λ i m e f. sizes i m (sym (is.lets i) ∙ e) f (cases_eq i y.source);
-      releases = each-block (λ m z. let_of c (rest' channel.C) z ≡ step first last
-          (is_release y.opcode && (block_at y.address == m)) false (let_of c (rest channel.C) (s.block m))) n s s'
+      releases = each-block (λ m z. let_of c (rest' Channel.C) z ≡ step first last
+          (is_release y.opcode && (block_at y.address == m)) false (let_of c (rest Channel.C) (s.block m))) n s s'
           is.elsewhere
-          (let_now (new.release_source c) last r (rest' channel.C) (new.pair c).letting is.letting_is
+          (let_now (new.release_source c) last r (rest' Channel.C) (new.pair c).letting is.letting_is
           (is.comes (new.release_source c) ∙ with_true (not last) (y.source == new.release_source c)
           (rw (is.release_source, is.source) (same_number (b.release_source c))))
-          ∙ sym (opened first last (is_release y.opcode) (block_at y.address == n) (let_of c (rest channel.C) b)
+          ∙ sym (opened first last (is_release y.opcode) (block_at y.address == n) (let_of c (rest Channel.C) b)
           is.release here_at then_here))
           (λ m ne. let_rest m ne ∙ sym (unopened first last (is_release y.opcode) (block_at y.address == m)
-          (let_of c (rest channel.C) (s.block m)) (apart m ne)));
-      sinks = λ i. sinks i ∙ sym (step_quiet first last (is_sunk c i (rest channel.D) (s.tracked i) s));
-      grants = λ m. grants m ∙ sym (step_quiet first last (granted_by c m asked (rest channel.D) (s.block m)));
+          (let_of c (rest Channel.C) (s.block m)) (apart m ne)));
+      sinks = λ i. sinks i ∙ sym (step_quiet first last (is_sunk c i (rest Channel.D) (s.tracked i) s));
+      grants = λ m. grants m ∙ sym (step_quiet first last (granted_by c m asked (rest Channel.D) (s.block m)));
       probes = λ m. answered m ∙ sym (not_closed m);
       probed = λ m e. probe_of-c m y t ∙ before.probed m (sym (answered m) ∙ e)
           ∙ sym (ap (λ k. Some (probe_beat m k)) (part-block (λ (z : Block X). cap_waited z.service) n s s' is.elsewhere
@@ -185,17 +213,6 @@ flowed-release {w} {X} c n r y first last asked rest rest' s s' t first_is last_
     new : Block X
     new = s'.block n
 
-    here_at : (block_at y.address == n) ≡ true
-    here_at = rw is.at (same_number n)
-
-    apart : (m : ℕ) → (m ≡ n → ⊥) → (block_at y.address == m) ≡ false
-    apart m ne = rw is.at (ne_eqb n m (λ e. ne (sym e)))
-
-    then_here : let_of c (rest channel.C) b ≡ not first
-    then_here = let_then (b.release_source c) first r (rest channel.C) (b.pair c).letting is.letting
-        (is.came (b.release_source c) ∙ with_true (not first) (y.source == b.release_source c)
-        (rw is.source (same_number (b.release_source c))))
-
     -- the source is that of the block's Release, and of no other
     of_block : (i : ℕ) → i ≡ y.source → s.lets c i ≡ Some n
     of_block i e = is_of-is n (s.lets c i)
@@ -207,112 +224,72 @@ flowed-release {w} {X} c n r y first last asked rest rest' s s' t first_is last_
     another : (i : ℕ) → (i ≡ y.source → ⊥) → (y.source == i) ≡ false
     another i ne = ne_eqb y.source i (λ e. ne (sym e))
 
-    comes_other : (i : ℕ) → (i ≡ y.source → ⊥) → comes_in_release i (rest' channel.C) ≡ comes_in_release i
-        (rest channel.C)
+    comes_other : (i : ℕ) → (i ≡ y.source → ⊥) → comes_in_release i (rest' Channel.C) ≡ comes_in_release i
+        (rest Channel.C)
     comes_other i ne = is.comes i ∙ and_right (not last) (y.source == i) (another i ne) ∙ sym
         (is.came i ∙ and_right (not first) (y.source == i) (another i ne))
 
-    open_other : (m : ℕ) → (m ≡ n → ⊥) → (i : ℕ) → i ≡ (s.block m).release_source c
-        → is_unreleased ((s.block m).pair c).letting ≡ false → i ≡ y.source → ⊥
-    open_other m ne i at begun same =
-        ne (both_some m n (s.lets c i)
-        (is_of-is m (s.lets c i) (named i m ∙ rw (begun, at) (same_number ((s.block m).release_source c))))
-        (of_block i same))
-
-    let_rest : (m : ℕ) → (m ≡ n → ⊥) → let_of c (rest' channel.C) (s.block m) ≡ let_of c (rest channel.C) (s.block m)
-    let_rest m ne =
-        let_other ((s.block m).release_source c) (rest channel.C) (rest' channel.C) ((s.block m).pair c).letting
-        (λ begun. comes_other ((s.block m).release_source c) (open_other m ne ((s.block m).release_source c) refl
-        begun))
-
-    requests : (i : ℕ) → is_requested c i (rest' channel.A) (s'.uses c i) s' ≡ is_requested c i (rest channel.A)
-        (s.uses c i) s
-    requests i =
-        ap (λ (l : List (Beat w)). is_requested c i l (s'.uses c i) s') (rests channel.A) ∙ ap
-        (λ u. is_requested c i (rest channel.A) u s') (is.uses i)
-        ∙ requested-blocks c i (rest channel.A) (s.uses c i) s s'
-        (part-block (λ (z : Block X). is_unserved (view z.service c)) n s s' is.elsewhere
-        (ap (λ (q : Service). is_unserved (view q c)) is.service))
-
-    acquires : (m : ℕ) → acquired_by c (s'.block m) ≡ acquired_by c (s.block m)
-    acquires = part-block (acquired_by c) n s s' is.elsewhere
-        (ap (λ (l : AcquirePhase). is_wanting l && not (is_unserved (view new.service c))) is.acquiring
-        ∙ ap (λ (q : Service). is_wanting (b.pair c).acquiring && not (is_unserved (view q c))) is.service)
-
-    answered : (m : ℕ) → is_answered ((s'.block m).pair c).probing ≡ is_answered ((s.block m).pair c).probing
-    answered = part-block (λ (z : Block X). is_answered (z.pair c).probing) n s s' is.elsewhere
-        (ap is_answered is.probing)
-
-    not_closed : (m : ℕ) → step first last false (is_probe_ack y.opcode && (block_at y.address == m))
-        (is_answered ((s.block m).pair c).probing) ≡ is_answered ((s.block m).pair c).probing
-    not_closed m = rw is.ack (step_quiet first last (is_answered ((s.block m).pair c).probing))
-
-    sinks : (i : ℕ) → is_sunk c i (rest' channel.D) (s'.tracked i) s' ≡ is_sunk c i (rest channel.D) (s.tracked i) s
-    sinks i = ap (λ (l : List (Beat w)). is_sunk c i l (s'.tracked i) s') (rests channel.D) ∙ ap
-        (λ o. is_sunk c i (rest channel.D) o s') (is.tracked i) ∙ same (s.tracked i)
+    sinks : (i : ℕ) → is_sunk c i (rest' Channel.D) (s'.tracked i) s' ≡ is_sunk c i (rest Channel.D) (s.tracked i) s
+    sinks i = cc (rests Channel.D, is.tracked i, same (s.tracked i))
       where
-        same : (o : Option ℕ) → is_sunk c i (rest channel.D) o s' ≡ is_sunk c i (rest channel.D) o s
+        same : (o : Option ℕ) → is_sunk c i (rest Channel.D) o s' ≡ is_sunk c i (rest Channel.D) o s
         same None = refl
-        same (Some m) = ap (λ (q : Service). is_acknowledging (view q c) || (is_granting (view q c) && comes_in_grant i
-            (rest channel.D)))
-            (part-block (λ (z : Block X). z.service) n s s' is.elsewhere is.service m)
+        same (Some m) = cc (part-block (λ (z : Block X). z.service) n s s' is.elsewhere is.service m)
 
-    grants : (m : ℕ) → granted_by c m asked (rest' channel.D) (s'.block m) ≡ granted_by c m asked (rest channel.D)
-        (s.block m)
-    grants m = ap (λ (l : List (Beat w)). granted_by c m asked l (s'.block m)) (rests channel.D)
-        ∙ part-block (granted_by c m asked (rest channel.D)) n s s' is.elsewhere
-        (ap (λ (q : Service). is_acknowledging (view q c) || comes_granting m asked (rest channel.D)) is.service) m
-
-    then_by : (i : ℕ) (o : Option ℕ) → s.lets c i ≡ o → i ≡ y.source → is_let_by c i (rest channel.C) o s ≡ not first
-    then_by i o e same =
-        ap (λ p. is_let_by c i (rest channel.C) p s) (sym e ∙ of_block i same)
-        ∙ let_then i first r (rest channel.C) (b.pair c).letting is.letting
-        (is.came i ∙ with_true (not first) (y.source == i) (rw same (same_number y.source)))
+    then_by : (i : ℕ) (o : Option ℕ) → s.lets c i ≡ o → i ≡ y.source → is_let_by c i (rest Channel.C) o s ≡ not first
+    then_by i o e same = cc (
+      e,
+      of_block i same,
+      let_then i first r (rest Channel.C) (b.pair c).letting is.letting
+          (is.came i ∙ with_true (not first) (y.source == i) (rw same (same_number y.source))),
+    )
 
     lets_with : (i : ℕ) (o : Option ℕ) → s.lets c i ≡ o → (i ≡ y.source) ⊎ (i ≡ y.source → ⊥)
-        → is_let_by c i (rest' channel.C) o s' ≡ step first last (is_release y.opcode && (y.source == i)) false
-        (is_let_by c i (rest channel.C) o s)
+        → is_let_by c i (rest' Channel.C) o s' ≡ step first last (is_release y.opcode && (y.source == i)) false
+        (is_let_by c i (rest Channel.C) o s)
     lets_with i o e (inl same) =
-        ap (λ p. is_let_by c i (rest' channel.C) p s') (sym e ∙ of_block i same)
-        ∙ let_now i last r (rest' channel.C) (new.pair c).letting is.letting_is
-        (is.comes i ∙ with_true (not last) (y.source == i) (rw same (same_number y.source)))
-        ∙ sym (opened first last (is_release y.opcode) (y.source == i) (is_let_by c i (rest channel.C) o s) is.release
-        (rw same (same_number y.source)) (then_by i o e same))
+        cc (
+          e,
+          of_block i same,
+          let_now i last r (rest' Channel.C) (new.pair c).letting is.letting_is (is.comes i
+              ∙ with_true (not last) (y.source == i) (rw same (same_number y.source))),
+          opened first last
+              (is_release y.opcode) (y.source == i) (is_let_by c i (rest Channel.C) o s) is.release
+              (rw same (same_number y.source)) (then_by i o e same),
+        )
     lets_with i None e (inr ne) = sym (unopened first last (is_release y.opcode) (y.source == i) false (another i ne))
     lets_with i (Some m) e (inr ne) =
-        ap (λ (z : Block X). is_release_pending i (rest' channel.C) (z.pair c).letting)
-        (is.elsewhere m (λ f. let g : (n == n) ≡ false = sym (rw (e, f) refl) ∙ of_no_block i ne in
-        let h : true ≡ false = sym (same_number n) ∙ g in cc))
-        ∙ let_other i (rest channel.C) (rest' channel.C) ((s.block m).pair c).letting (λ begun. comes_other i ne)
-        ∙ sym (unopened first last (is_release y.opcode) (y.source == i)
-        (is_release_pending i (rest channel.C) ((s.block m).pair c).letting) (another i ne))
+        cc (
+          is.elsewhere m (λ f. let g : (n == n) ≡ false = sym (rw (e, f) refl) ∙ of_no_block i ne in
+              let h : true ≡ false = sym (same_number n) ∙ g in cc),
+          let_other i (rest Channel.C) (rest' Channel.C)
+              ((s.block m).pair c).letting (λ begun. comes_other i ne),
+          unopened first last (is_release y.opcode)
+              (y.source == i) (is_release_pending i (rest Channel.C) ((s.block m).pair c).letting) (another i ne),
+        )
 
-    lets : (i : ℕ) → is_let_by c i (rest' channel.C) (s'.lets c i) s' ≡ step first last
-        (is_release y.opcode && (y.source == i)) false (is_let_by c i (rest channel.C) (s.lets c i) s)
-    lets i = ap (λ o. is_let_by c i (rest' channel.C) o s') (is.lets i) ∙ lets_with i (s.lets c i) refl
-        (cases_eq i y.source)
+    lets : (i : ℕ) → is_let_by c i (rest' Channel.C) (s'.lets c i) s' ≡ step first last
+        (is_release y.opcode && (y.source == i)) false (is_let_by c i (rest Channel.C) (s.lets c i) s)
+    lets i = cc (is.lets i, lets_with i (s.lets c i) refl (cases_eq i y.source))
 
     was_pending : (i : ℕ) → i ≡ y.source → first ≡ false → pending (ReleaseSource i) t ≡ true
     was_pending i same e = before.release_sources i ∙ then_by i (s.lets c i) refl same ∙ ap not e
 
-    still_pending : (i : ℕ) → (i ≡ y.source → ⊥) → is_let_by c i (rest' channel.C) (s'.lets c i) s' ≡ true
+    still_pending : (i : ℕ) → (i ≡ y.source → ⊥) → is_let_by c i (rest' Channel.C) (s'.lets c i) s' ≡ true
         → pending (ReleaseSource i) t ≡ true
     still_pending i ne f = before.release_sources i ∙ sym (unopened first last (is_release y.opcode) (y.source == i)
-        (is_let_by c i (rest channel.C) (s.lets c i) s) (another i ne)) ∙ sym (lets i) ∙ f
+        (is_let_by c i (rest Channel.C) (s.lets c i) s) (another i ne)) ∙ sym (lets i) ∙ f
 
-    released : (i m : ℕ) → s.lets c i ≡ Some m → is_let_by c i (rest' channel.C) (s'.lets c i) s' ≡ true
+    released : (i m : ℕ) → s.lets c i ≡ Some m → is_let_by c i (rest' Channel.C) (s'.lets c i) s' ≡ true
         → (i ≡ y.source) ⊎ (i ≡ y.source → ⊥)
-        → option_map (λ z. block_at z.address) (release_of i (beat.C y ∷ t)) ≡ Some m
+        → option_map (λ z. block_at z.address) (release_of i (Beat.C y ∷ t)) ≡ Some m
     released i m e f (inl same) =
         of_source (λ z. block_at z.address) m i y t first first_is is.release (rw same (same_number y.source))
         (is.at ∙ both_some n m (s.lets c i) (of_block i same) e) (λ g. before.released i m e (was_pending i same g))
-    released i m e f (inr ne) = ap (option_map (λ z. block_at z.address)) (of_other i y t (another i ne))
-        ∙ before.released i m e (still_pending i ne f)
+    released i m e f (inr ne) = cc (of_other i y t (another i ne), before.released i m e (still_pending i ne f))
 
-    sizes : (i m : ℕ) → s.lets c i ≡ Some m → is_let_by c i (rest' channel.C) (s'.lets c i) s' ≡ true
-        → (i ≡ y.source) ⊎ (i ≡ y.source → ⊥)
-        → option_map (λ z. z.size) (release_of i (beat.C y ∷ t)) ≡ Some 6
+    sizes : (i m : ℕ) → s.lets c i ≡ Some m → is_let_by c i (rest' Channel.C) (s'.lets c i) s' ≡ true
+        → (i ≡ y.source) ⊎ (i ≡ y.source → ⊥) → option_map (λ z. z.size) (release_of i (Beat.C y ∷ t)) ≡ Some 6
     sizes i m e f (inl same) = of_source (λ z. z.size) 6 i y t first first_is is.release
         (rw same (same_number y.source)) is.size (λ g. before.sizes i m e (was_pending i same g))
-    sizes i m e f (inr ne) = ap (option_map (λ z. z.size)) (of_other i y t (another i ne)) ∙ before.sizes i m e
-        (still_pending i ne f)
+    sizes i m e f (inr ne) = cc (of_other i y t (another i ne), before.sizes i m e (still_pending i ne f))

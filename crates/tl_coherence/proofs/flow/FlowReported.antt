@@ -1,22 +1,17 @@
 -- What is delivered on a link, as the last beat of a ProbeAck is.
 use Rattle.tl_coherence.proofs.flow.Imports.{Beat, BeatA, BeatC, Channel, History, Report, Perm, comes_in_release}
-use Rattle.tl_coherence.proofs.flow.Imports.{comes_in_grant, begins, ends, block_at, is_probe_ack, is_release, probe_of}
-use Rattle.tl_coherence.proofs.flow.Imports.{reported, MonitorRelation, is_requested}
-use Rattle.tl_coherence.proofs.flow.Imports.{is_release_pending, is_let_by, is_sunk}
-use Rattle.tl_coherence.proofs.flow.Imports.{ClientBlock, after_report, Service, Block, State, view, is_granting}
-use Rattle.tl_coherence.proofs.flow.Imports.{is_acknowledging, is_answered, is_wanting, is_unserved, report_taken}
-use Rattle.tl_coherence.proofs.flow.Imports.{reported_block, probe_beat, cap_waited, Packet, grant_sink-c, probe_of-c}
-use Rattle.tl_coherence.proofs.flow.Imports.{request_of-c}
+use Rattle.tl_coherence.proofs.flow.Imports.{begins, ends, block_at, is_probe_ack, is_release, probe_of, reported}
+use Rattle.tl_coherence.proofs.flow.Imports.{MonitorRelation, is_requested, is_release_pending, is_let_by, is_sunk}
+use Rattle.tl_coherence.proofs.flow.Imports.{ClientBlock, after_report, Block, State, view, is_granting, is_answered}
+use Rattle.tl_coherence.proofs.flow.Imports.{is_wanting, is_unserved, report_taken, reported_block, probe_beat}
+use Rattle.tl_coherence.proofs.flow.Imports.{cap_waited, Packet, grant_sink-c, probe_of-c, request_of-c}
 use Rattle.std.proofs.Common.{◌≡◌, ℕ, Bool, true, false, not, ◌&&◌, ◌||◌, ◌∷◌, Option, Some, None, refl, sym, ◌∙◌, ap}
 use Rattle.std.proofs.Common.{List}
 use Rattle.std.specs.Prelude.{◌==◌, if◌then◌else◌, option_map, unwrap_or}
 use Rattle.std.proofs.lemmas.Bool.{ne_eqb}
-use Rattle.tl_beat.specs.declared.beat.Beat.TheVariants as beat
-use Rattle.tl_beat.specs.declared.channel.Channel.TheVariants as channel
 use Rattle.tl_params.specs.statement.Param.{report_right}
-use Rattle.tl_coherence.proofs.flow.FlowAlone.{AreRests}
-use Rattle.tl_coherence.proofs.flow.FlowAside.{requested-blocks, let_by-same}
-use Rattle.tl_coherence.proofs.flow.FlowProbe.{part_of}
+use Rattle.tl_coherence.proofs.{flow.FlowAlone.AreRests, flow.FlowAside.requested-blocks, flow.FlowAside.let_by-same}
+use Rattle.tl_coherence.proofs.{flow.FlowProbe.part_of}
 use Rattle.tl_coherence.proofs.flow.FlowReport.{released-of, let_rest, let_by_rest, unopened}
 use Rattle.tl_coherence.proofs.flow.FlowStep.{flowed-next, held_by, acquired_by, let_of, granted_by, step, step_quiet}
 use Rattle.tl_coherence.proofs.queues.Tokens.{same_number, set-same, set-each, set-part}
@@ -37,50 +32,68 @@ said ack let_go here q p e f = rw (e, f) refl
 
 pub unsaid : (ack let_go here : Bool) (q p : Perm) → here ≡ false
     → unwrap_or (if (ack || let_go) && here then Some q else None) p ≡ p
-unsaid true let_go here q p e = rw e refl
-unsaid false true here q p e = rw e refl
 unsaid false false here q p e = refl
+unsaid ack let_go here q p e = rw e refl
 
 -- the state in which nothing but the report is taken
-pub flowed-report : {w : ℕ} {X : Type 0} (c n : ℕ) (r : Report) (toks : List Packet) (y : BeatC w) (first : Bool)
-    (asked : ℕ → Option (BeatA w))
-    (rest rest' : Channel → List (Beat w)) (s : State X) (t : History w)
-    → begins (beat.C y) t ≡ first → ends (beat.C y) t ≡ true → AreRests (beat.C y) rest rest'
+pub flowed-report : {w : ℕ} {X : Type 0} {c : ℕ} (n : ℕ) (r : Report) (toks : List Packet) (y : BeatC w) (first : Bool)
+    {asked : ℕ → Option (BeatA w)} {rest : Channel → List (Beat w)} (rest' : Channel → List (Beat w)) {s : State X}
+    {t : History w} → begins (Beat.C y) t ≡ first → ends (Beat.C y) t ≡ true → AreRests (Beat.C y) rest rest'
     → is_probe_ack y.opcode ≡ true → is_release y.opcode ≡ false
-    → ((i : ℕ) → comes_in_release i (rest' channel.C) ≡ comes_in_release i (rest channel.C))
-    → block_at y.address ≡ n → reported y.param ≡ report_right r → is_granting (view (s.block n).service c) ≡ false
-    → MonitorRelation asked rest c s t → MonitorRelation asked rest' c (report_taken c n r toks s) (beat.C y ∷ t)
-flowed-report {w} {X} c n r toks y first asked rest rest' s t first_is last_is rests ack other comes at says alone
+    → ((i : ℕ) → comes_in_release i (rest' Channel.C) ≡ comes_in_release i (rest Channel.C)) → block_at y.address ≡ n
+    → reported y.param ≡ report_right r → is_granting (view (s.block n).service c) ≡ false
+    → MonitorRelation asked rest c s t → MonitorRelation asked rest' c (report_taken c n r toks s) (Beat.C y ∷ t)
+flowed-report {w} {X} {c} n r toks y first {asked} {rest} rest' {s} {t} first_is last_is rests ack other comes at says
+    alone
     before =
-    flowed-next (beat.C y) first true asked asked rest rest' c s s' t (record {
+    let sunk_same : (i : ℕ) (o : Option ℕ) → is_sunk c i (rest Channel.D) o s' ≡ is_sunk c i (rest Channel.D) o s =
+    λ i. elim [ None ↦ refl | Some m ↦ cc (set-part (λ (z : Block X). z.service) n new s.block refl m) ] in
+    let apart : (m : ℕ) → (m ≡ n → ⊥) → (block_at y.address == m) ≡ false =
+    λ m ne. rw at (ne_eqb n m (λ e. ne (sym e))) in
+    let requests : (i : ℕ) → is_requested c i (rest' Channel.A) (s'.uses c i) s' ≡ is_requested c i (rest Channel.A)
+    (s.uses c i) s = λ i. cc (
+      rests Channel.A,
+      requested-blocks c i (rest Channel.A) (s.uses c i) s s'
+          (set-part (λ (z : Block X). is_unserved (view z.service c)) n new s.block refl),
+    ) in
+    let acquires = set-part (acquired_by c) n new s.block (ap (λ (z : Bool). z && not (is_unserved (view b.service c)))
+    (part_of (λ (p : ClientBlock). is_wanting p.acquiring) c (after_report r (b.pair c)) b.pair refl)) in
+    let releases : (m : ℕ) → let_of c (rest' Channel.C) (s'.block m) ≡ let_of c (rest Channel.C) (s.block m) =
+    λ m. cc (
+      let_rest ((s'.block m).release_source c) (rest Channel.C) (rest' Channel.C)
+          ((s'.block m).pair c).letting (comes ((s'.block m).release_source c)),
+      set-part (let_of c (rest Channel.C)) n
+          new s.block (ap (is_release_pending (b.release_source c) (rest Channel.C)) letting_same) m,
+    ) in
+    let grants : (m : ℕ) → granted_by c m asked (rest' Channel.D) (s'.block m) ≡ granted_by c m asked (rest Channel.D)
+    (s.block m) = λ m. cc (rests Channel.D, set-part (granted_by c m asked (rest Channel.D)) n new s.block refl m)
+    in
+    flowed-next (record {
       first_is = first_is;
       last_is = last_is;
       rests = rests;
-      held_is = set-each (λ m z. held_by c z ≡ unwrap_or
-          (if (is_probe_ack y.opcode || is_release y.opcode) && (block_at y.address == m) then Some (reported y.param)
-          else None) (held_by c (s.block m))) n
-          new s.block
+      held_is = set-each (λ m z. held_by c z
+          ≡ unwrap_or (if (is_probe_ack y.opcode || is_release y.opcode) && (block_at y.address == m) then Some
+          (reported y.param) else None) (held_by c (s.block m))) n new s.block
           (ap (λ (g : Bool). if g then (new.pair c).held else (new.pair c).recorded) alone ∙ recorded ∙ sym says
           ∙ sym (said (is_probe_ack y.opcode) (is_release y.opcode) (block_at y.address == n) (reported y.param)
-          (held_by c b) ack
-          (rw at (same_number n))))
+          (held_by c b) ack (rw at (same_number n))))
           (λ m ne. sym (unsaid (is_probe_ack y.opcode) (is_release y.opcode) (block_at y.address == m)
           (reported y.param) (held_by c (s.block m)) (apart m ne)));
-      requests = λ i. requests i ∙ sym (step_quiet first true (is_requested c i (rest channel.A) (s.uses c i) s));
+      requests = λ i. requests i ∙ sym (step_quiet first true (is_requested c i (rest Channel.A) (s.uses c i) s));
       asked_is = λ i e. request_of-c i y t ∙ before.asked_is i (before.requests i ∙ sym (requests i) ∙ e);
       acquires = λ m. acquires m ∙ sym (step_quiet first true (acquired_by c (s.block m)));
       release_sources = λ i. lets i ∙ sym (unopened first true (is_release y.opcode) (y.source == i)
-          (is_let_by c i (rest channel.C) (s.lets c i) s) other);
+          (is_let_by c i (rest Channel.C) (s.lets c i) s) other);
       released = λ i m e f. ap (option_map (λ z. block_at z.address)) (released-of i y t other) ∙ before.released i m e
           (before.release_sources i ∙ sym (lets i) ∙ f);
       sizes = λ i m e f. ap (option_map (λ z. z.size)) (released-of i y t other) ∙ before.sizes i m e
           (before.release_sources i ∙ sym (lets i) ∙ f);
       releases = λ m. releases m ∙ sym (unopened first true (is_release y.opcode) (block_at y.address == m)
-          (let_of c (rest channel.C) (s.block m)) other);
-      sinks = λ i. ap (λ (l : List (Beat w)). is_sunk c i l (s.tracked i) s') (rests channel.D) ∙ sunk_same i
-          (s.tracked i)
-          ∙ sym (step_quiet first true (is_sunk c i (rest channel.D) (s.tracked i) s));
-      grants = λ m. grants m ∙ sym (step_quiet first true (granted_by c m asked (rest channel.D) (s.block m)));
+          (let_of c (rest Channel.C) (s.block m)) other);
+      sinks = λ i. ap (λ (l : List (Beat w)). is_sunk c i l (s.tracked i) s') (rests Channel.D)
+          ∙ sunk_same i (s.tracked i) ∙ sym (step_quiet first true (is_sunk c i (rest Channel.D) (s.tracked i) s));
+      grants = λ m. grants m ∙ sym (step_quiet first true (granted_by c m asked (rest Channel.D) (s.block m)));
       probes = set-each (λ m z. is_answered (z.pair c).probing ≡ step first true false
           (is_probe_ack y.opcode && (block_at y.address == m)) (is_answered ((s.block m).pair c).probing)) n new s.block
           (quiet ∙ sym (closed first (is_probe_ack y.opcode) (block_at y.address == n) (is_answered (b.pair c).probing)
@@ -110,48 +123,13 @@ flowed-report {w} {X} c n r toks y first asked rest rest' s t first_is last_is r
     letting_same : (new.pair c).letting ≡ (b.pair c).letting
     letting_same = part_of (λ (p : ClientBlock). p.letting) c (after_report r (b.pair c)) b.pair refl
 
-    apart : (m : ℕ) → (m ≡ n → ⊥) → (block_at y.address == m) ≡ false
-    apart m ne = rw at (ne_eqb n m (λ e. ne (sym e)))
-
-    requests : (i : ℕ) → is_requested c i (rest' channel.A) (s'.uses c i) s' ≡ is_requested c i (rest channel.A)
-        (s.uses c i) s
-    requests i =
-        ap (λ (l : List (Beat w)). is_requested c i l (s.uses c i) s') (rests channel.A)
-        ∙ requested-blocks c i (rest channel.A) (s.uses c i) s s'
-        (set-part (λ (z : Block X). is_unserved (view z.service c)) n new s.block refl)
-
-    acquires : (m : ℕ) → acquired_by c (s'.block m) ≡ acquired_by c (s.block m)
-    acquires = set-part (acquired_by c) n new s.block (ap (λ (z : Bool). z && not (is_unserved (view b.service c)))
-        (part_of (λ (p : ClientBlock). is_wanting p.acquiring) c (after_report r (b.pair c)) b.pair refl))
-
-    lets : (i : ℕ) → is_let_by c i (rest' channel.C) (s'.lets c i) s' ≡ is_let_by c i (rest channel.C) (s.lets c i) s
-    lets i =
-        let_by_rest c i (rest channel.C) (rest' channel.C) (s.lets c i) s' (comes i)
-        ∙ let_by-same c i (rest channel.C) (s.lets c i) s s' (set-part (λ (z : Block X). (z.pair c).letting) n new
+    lets : (i : ℕ) → is_let_by c i (rest' Channel.C) (s'.lets c i) s' ≡ is_let_by c i (rest Channel.C) (s.lets c i) s
+    lets i = let_by_rest c i (rest Channel.C) (rest' Channel.C) (s.lets c i) s' (comes i)
+        ∙ let_by-same c i (rest Channel.C) (s.lets c i) s s' (set-part (λ (z : Block X). (z.pair c).letting) n new
         s.block letting_same)
-
-    releases : (m : ℕ) → let_of c (rest' channel.C) (s'.block m) ≡ let_of c (rest channel.C) (s.block m)
-    releases m =
-        let_rest ((s'.block m).release_source c) (rest channel.C) (rest' channel.C) ((s'.block m).pair c).letting
-        (comes ((s'.block m).release_source c))
-        ∙ set-part (let_of c (rest channel.C)) n new s.block
-        (ap (is_release_pending (b.release_source c) (rest channel.C))
-        letting_same) m
-
-    sunk_same : (i : ℕ) (o : Option ℕ) → is_sunk c i (rest channel.D) o s' ≡ is_sunk c i (rest channel.D) o s
-    sunk_same i None = refl
-    sunk_same i (Some m) = ap
-        (λ (q : Service). is_acknowledging (view q c) || (is_granting (view q c) && comes_in_grant i (rest channel.D)))
-        (set-part (λ (z : Block X). z.service) n new s.block refl m)
-
-    grants : (m : ℕ) → granted_by c m asked (rest' channel.D) (s'.block m) ≡ granted_by c m asked (rest channel.D)
-        (s.block m)
-    grants m = ap (λ (l : List (Beat w)). granted_by c m asked l (s'.block m)) (rests channel.D) ∙ set-part
-        (granted_by c m asked (rest channel.D)) n new s.block refl m
 
     probed : (m : ℕ) → is_answered ((s'.block m).pair c).probing ≡ true
         → probe_of m t ≡ Some (probe_beat m (cap_waited (s'.block m).service))
     probed = set-each (λ m z. is_answered (z.pair c).probing ≡ true
         → probe_of m t ≡ Some (probe_beat m (cap_waited z.service))) n new s.block
-        (λ e. absurd (let f : false ≡ true = sym quiet ∙ e in cc))
-        (λ m ne e. before.probed m e)
+        (λ e. absurd (let f : false ≡ true = sym quiet ∙ e in cc)) (λ m ne e. before.probed m e)

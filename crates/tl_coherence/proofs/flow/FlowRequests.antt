@@ -1,66 +1,58 @@
 -- A beat of channel A that needn't wait breaks no rule after what was delivered before it.
 use Rattle.tl_coherence.proofs.flow.Imports.{IsWidth, Beat, Message, MessageA, a_beat_of, channel_of, unfinished}
 use Rattle.tl_coherence.proofs.flow.Imports.{Config, Level, broken_after, on_link, same_perm, block_at, ends, illegal}
-use Rattle.tl_coherence.proofs.flow.Imports.{same_block, level_of, flow, Log, receiver, ClientBlock, Idle}
+use Rattle.tl_coherence.proofs.flow.Imports.{same_block, level_of, flow, Log, ClientBlock, Idle}
 use Rattle.tl_coherence.proofs.flow.Imports.{is_unreleased, is_unprobed, ok, Free, State, packet, view, is_on}
 use Rattle.tl_coherence.proofs.flow.Imports.{AccessMessages, message_of, message_of_kind, System, Kind, Request}
-use Rattle.tl_coherence.proofs.flow.Imports.{Acquire, Probe, ProbeAck, Release, Answer, Grant, ReleaseAck, GrantAck}
-use Rattle.tl_coherence.proofs.flow.Imports.{SimulationRelation, MonitorRelations, is_caching, asked_by}
+use Rattle.tl_coherence.proofs.flow.Imports.{Acquire, SimulationRelation, MonitorRelations, is_caching}
+use Rattle.tl_coherence.proofs.flow.Imports.{Channel}
 use Rattle.std.proofs.Common.{◌≡◌, ℕ, true, false, ◌&&◌, List, ◌∷◌, length, Some, None, refl, sym, ◌∙◌, ap, subst}
 use Rattle.std.proofs.Common.{arith}
-use Rattle.std.specs.Prelude.{map, nat_le}
-use Rattle.tl_beat.specs.declared.beat.Beat.TheVariants as beat
-use Rattle.tl_beat.specs.declared.channel.Channel.TheVariants as channel
-use Rattle.tl_burst.specs.declared.message.Message.TheVariants as message
+use Rattle.std.{specs.Prelude.map, specs.Prelude.nat_le, proofs.lemmas.Bool.or_parts}
 use Rattle.tl_burst.specs.statement.Burst.{beats_of}
 use Rattle.tl_rules.proofs.Sent.{is_last}
-use Rattle.std.proofs.lemmas.Bool.{or_parts}
 use Rattle.tl_manager.specs.statement.Service.{services, is_in_service}
 use Rattle.tl_manager.specs.statement.Offer.{must_wait}
 use Rattle.tl_coherence.proofs.manager.Admitted.{first_three, grows, unserved-free}
-use Rattle.tl_coherence.proofs.queues.Carried.{IsNext}
-use Rattle.tl_coherence.proofs.queues.Facts.{acquire_fits}
-use Rattle.tl_coherence.proofs.queues.PhaseFacts.{asked_alone}
-use Rattle.tl_coherence.proofs.queues.FirstToken.{IsFirst, first-token}
-use Rattle.tl_coherence.proofs.flow.FlowLawful.{lawful-beat, next-flows}
-use Rattle.tl_coherence.proofs.flow.FlowOrders.{acquire-flows, request-flows}
+use Rattle.tl_coherence.proofs.{queues.Carried.IsNext, queues.Facts.acquire_fits, queues.PhaseFacts.asked_alone}
+use Rattle.tl_coherence.proofs.{queues.FirstToken.IsFirst, queues.FirstToken.first-token, flow.FlowLawful.lawful-beat}
+use Rattle.tl_coherence.proofs.{flow.FlowLawful.next-flows, flow.FlowOrders.acquire-flows}
+use Rattle.tl_coherence.proofs.{flow.FlowOrders.request-flows, queues.Phases.and_left, queues.Phases.and_right}
+use Rattle.tl_coherence.proofs.{deliveries.FirstRequest.ends-burst, manager.RequestsTaken.acquire_wanted}
+use Rattle.tl_coherence.proofs.{protocol.BothParts.kept-is, queues.Codes.acquires-so}
 use Rattle.tl_coherence.proofs.protocol.Heads.{IsAsked, asked-first, IsWanted, wanted-first, acquisition_beats}
-use Rattle.tl_coherence.proofs.queues.Phases.{and_left, and_right}
-use Rattle.tl_coherence.proofs.deliveries.FirstRequest.{ends-burst}
-use Rattle.tl_coherence.proofs.manager.RequestsTaken.{acquire_wanted}
-use Rattle.tl_coherence.proofs.protocol.BothParts.{kept-is}
-use Rattle.tl_coherence.proofs.queues.Codes.{acquires-so}
 
-access-lawful : {w : ℕ} (config : Config) (log : Log w) (mail : AccessMessages w) (request : ℕ → MessageA w)
-    (s : State (List ℕ)) (sys : System w) (c source : ℕ)
-    (l : Level) (x : Beat w) (ms : List (Message w)) (queue : List (Beat w))
-    → SimulationRelation config log mail request s sys → MonitorRelations log mail s sys
+access-lawful : {w : ℕ} {config : Config} {log : Log w} {mail : AccessMessages w} {request : ℕ → MessageA w}
+    {s : State (List ℕ)} {sys : System w} {c source : ℕ} (l : Level) {x : Beat w} {ms : List (Message w)}
+    {queue : List (Beat w)} → SimulationRelation config log mail request s sys → MonitorRelations log mail s sys
     → illegal l (channel_of x) x ≡ None → IsAsked config c source mail s
-    → IsNext x (unfinished channel.A (on_link c sys.manager.trace)) (mail.request c source) ms queue
+    → IsNext x (unfinished Channel.A (on_link c sys.manager.trace)) (mail.request c source) ms queue
     → broken_after l config.profile x (flow c log) ≡ None
-access-lawful {w} config log mail request s sys c source l x ms queue is flowed lawful asked next =
-    next-flows l config.profile (message.A asked.request) x rest ms queue (flow c log) lawful
-    (subst (λ (i : Message w). IsNext x rest i ms queue) asked.is_it next) ((flowed c).rest_is channel.A)
-    (λ none. request-flows config.profile c (a_beat_of asked.request 0) (asked_by mail s c)
-    (λ ch. unfinished ch (receiver ch c sys)) s (flow c log)
+access-lawful {w} {config} {log} {mail} {s} {sys} {c} l {x} {ms} {queue} is flowed lawful asked next =
+    let rest : List (Beat w) = unfinished Channel.A (on_link c sys.manager.trace) in
+    next-flows l config.profile (flow c log) lawful
+    (subst (λ (i : Message w). IsNext x rest i ms queue) asked.is_it next) ((flowed c).rest_is Channel.A)
+    (λ none. request-flows config.profile (a_beat_of asked.request 0)
     (flowed c) none asked.access (ap (s.uses c) asked.source_is ∙ asked.used))
-  where
-    rest : List (Beat w)
-    rest = unfinished channel.A (on_link c sys.manager.trace)
 
-acquire-lawful : {w : ℕ} (config : Config) (log : Log w) (mail : AccessMessages w) (request : ℕ → MessageA w)
-    (s : State (List ℕ)) (sys : System w) (c n : ℕ) (l : Level)
-    (x : Beat w) (ms : List (Message w)) (queue : List (Beat w))
-    → SimulationRelation config log mail request s sys → MonitorRelations log mail s sys
+acquire-lawful : {w : ℕ} {config : Config} {log : Log w} {mail : AccessMessages w} {request : ℕ → MessageA w}
+    {s : State (List ℕ)} {sys : System w} {c n : ℕ} (l : Level) {x : Beat w} {ms : List (Message w)}
+    {queue : List (Beat w)} → SimulationRelation config log mail request s sys → MonitorRelations log mail s sys
     → illegal l (channel_of x) x ≡ None → (wanted : IsWanted w c n s)
-    → IsNext x (unfinished channel.A (on_link c sys.manager.trace)) (message.A (acquire_wanted c n s wanted)) ms queue
-    → must_wait config (record { 0 = c }) x sys.manager.trace ≡ false
-    → broken_after l config.profile x (flow c log) ≡ None
-acquire-lawful {w} config log mail request s sys c n l x ms queue is flowed lawful wanted next moves =
-    next-flows l config.profile (message.A m) x (unfinished channel.A (on_link c sys.manager.trace)) ms queue
-    (flow c log) lawful next ((flowed c).rest_is channel.A)
-    (λ none. acquire-flows config.profile c n (a_beat_of m 0) (asked_by mail s c)
-    (λ ch. unfinished ch (receiver ch c sys)) s (flow c log) (flowed c) none
+    → IsNext x (unfinished Channel.A (on_link c sys.manager.trace)) (Message.A (acquire_wanted c n s wanted)) ms queue
+    → must_wait config (record { 0 = c }) x sys.manager.trace ≡ false → broken_after l config.profile x (flow c log)
+    ≡ None
+acquire-lawful {w} {config} {log} {mail} {request} {s} {sys} {c} {n} l {x} {ms} {queue} is flowed lawful wanted next
+    moves =
+    let p : ClientBlock = (s.block n).pair c in
+    let well : ok p (view (s.block n).service c) ≡ true = (is.invariant.blocks n).phases c in
+    let idle : view (s.block n).service c ≡ Idle = rw free refl in
+    let settled = first_three (is_unprobed p.probing) (is_unreleased p.letting) (same_perm p.recorded p.held) _
+    (asked_alone wanted.whole wanted.grow p (view (s.block n).service c) well idle wanted.wants) in
+    next-flows l config.profile
+    (flow c log) lawful next ((flowed c).rest_is Channel.A)
+    (λ none. acquire-flows config.profile n (a_beat_of m 0)
+    (flowed c) none
     (acquires-so wanted.whole) (same_block n) wanted.used idle
     (kept-is p.letting (and_right (is_unprobed p.probing) (is_unreleased p.letting)
     (and_left (is_unprobed p.probing && is_unreleased p.letting) (same_perm p.recorded p.held) settled)))
@@ -71,68 +63,46 @@ acquire-lawful {w} config log mail request s sys c n l x ms queue is flowed lawf
     m : MessageA w
     m = acquire_wanted c n s wanted
 
-    p : ClientBlock
-    p = (s.block n).pair c
-
-    well : ok p (view (s.block n).service c) ≡ true
-    well = (is.invariant.blocks n).phases c
-
     free : (s.block n).service ≡ Free
     free =
         let one = acquisition_beats w wanted.whole wanted.grow ((s.block n).source c) n in
-        let moves_so : must_wait config (record { 0 = c }) (beat.A (a_beat_of m next.k)) sys.manager.trace ≡ false =
+        let moves_so : must_wait config (record { 0 = c }) (Beat.A (a_beat_of m next.k)) sys.manager.trace ≡ false =
         rw next.beat_is at moves in
-        let ended : ends (beat.A (a_beat_of m next.k)) (on_link c sys.manager.trace) ≡ true =
+        let ended : ends (Beat.A (a_beat_of m next.k)) (on_link c sys.manager.trace) ≡ true =
         ends-burst c next.k m sys.manager next.rest_is
-        ∙ is_last next.k (beats_of (message.A m)) (omega (arith, next.within, one)) in
-        let free_at = unserved-free request s sys.manager.trace (block_at m.address) is.managed
+        ∙ is_last next.k (beats_of (Message.A m)) (omega (arith, next.within, one)) in
+        let free_at = unserved-free (block_at m.address) is.managed
         (or_parts (is_in_service (block_at m.address) (services sys.manager.trace))
         (nat_le config.trackers (length (services sys.manager.trace)))
         (rw ended at moves_so)).0 in
         ap (λ i. (s.block i).service) (sym (same_block n)) ∙ free_at
 
-    idle : view (s.block n).service c ≡ Idle
-    idle = rw free refl
-
-    settled : ((is_unprobed p.probing && is_unreleased p.letting) && same_perm p.recorded p.held) ≡ true
-    settled = first_three (is_unprobed p.probing) (is_unreleased p.letting) (same_perm p.recorded p.held) _
-        (asked_alone wanted.whole wanted.grow p (view (s.block n).service c) well idle wanted.wants)
-
-pub flows-a : {w : ℕ} (config : Config) (log : Log w) (mail : AccessMessages w) (request : ℕ → MessageA w)
-    (s : State (List ℕ)) (sys : System w) (c : ℕ) (l : Level)
-    (x : Beat w) (queue : List (Beat w)) → IsWidth w → SimulationRelation config log mail request s sys
-    → MonitorRelations log mail s sys
-    → sys.channels c channel.A ≡ x ∷ queue → level_of config c ≡ Some l
-    → must_wait config (record { 0 = c }) x sys.manager.trace ≡ false
-    → broken_after l config.profile x (flow c log) ≡ None
-flows-a {w} config log mail request s sys c l x queue width is flowed beats level moves =
+pub flows-a : {w : ℕ} {config : Config} {log : Log w} {mail : AccessMessages w} {request : ℕ → MessageA w}
+    {s : State (List ℕ)} {sys : System w} (c : ℕ) (l : Level) (x : Beat w) (queue : List (Beat w)) → IsWidth w
+    → SimulationRelation config log mail request s sys → MonitorRelations log mail s sys
+    → sys.channels c Channel.A ≡ x ∷ queue → level_of config c ≡ Some l
+    → must_wait config (record { 0 = c }) x sys.manager.trace ≡ false → broken_after l config.profile x (flow c log)
+    ≡ None
+flows-a {w} {config} {log} {mail} {request} {s} {sys} c l x queue width is flowed beats level moves =
     go first.kind first.number first.tokens first.own first.next
   where
     rest : List (Beat w)
-    rest = unfinished channel.A (on_link c sys.manager.trace)
+    rest = unfinished Channel.A (on_link c sys.manager.trace)
 
-    first : IsFirst channel.A c mail s sys x queue
-    first = first-token (is_caching config) channel.A c mail s sys x queue width is.invariant is.carried beats
+    first : IsFirst Channel.A c mail s sys x queue
+    first = first-token (is_caching config) Channel.A c mail s sys x queue width is.invariant is.carried beats
 
     lawful : illegal l (channel_of x) x ≡ None
-    lawful = lawful-beat config log mail request s sys c channel.A l x queue is beats level
+    lawful = lawful-beat c Channel.A l x queue is beats level
 
-    go : (k : Kind) (i : ℕ) → (s.link c).a ≡ packet k i ∷ first.rest → is_on channel.A k ≡ true
+    go : (k : Kind) (i : ℕ) → (s.link c).a ≡ packet k i ∷ first.rest → is_on Channel.A k ≡ true
         → IsNext x rest (message_of_kind k mail s c i) (map (message_of mail s c) first.rest) queue
         → broken_after l config.profile x (flow c log) ≡ None
-    go Request i tokens own next = access-lawful config log mail request s sys c i l x
-        (map (message_of mail s c) first.rest) queue is flowed lawful
-        (asked-first config log mail request s sys c i first.rest is tokens) next
+    go Request i tokens own next = access-lawful l is flowed lawful (asked-first c i first.rest is tokens) next
     go Acquire i tokens own next =
-        let wanted = wanted-first config log mail request s sys c i first.rest is tokens in
-        acquire-lawful config log mail request s sys c i l x (map (message_of mail s c) first.rest) queue is flowed
+        let wanted = wanted-first c i first.rest is tokens in
+        acquire-lawful l is flowed
         lawful wanted
         (subst (λ (j : Message w). IsNext x rest j (map (message_of mail s c) first.rest) queue) wanted.renders next)
         moves
-    go Probe i tokens own next = absurd cc
-    go ProbeAck i tokens own next = absurd cc
-    go Release i tokens own next = absurd cc
-    go Answer i tokens own next = absurd cc
-    go Grant i tokens own next = absurd cc
-    go ReleaseAck i tokens own next = absurd cc
-    go GrantAck i tokens own next = absurd cc
+    go k i tokens own next = absurd cc

@@ -2,75 +2,62 @@
 use Rattle.tl_coherence.proofs.flow.Imports.{IsWidth, Beat, BeatA, Message, MessageA, MessageC, MessageD, a_beat_of}
 use Rattle.tl_coherence.proofs.flow.Imports.{beat_of, begun, unfinished, History, channel_of, Config, Level, Profile}
 use Rattle.tl_coherence.proofs.flow.Imports.{illegal, level_of, RequestSource, ReleaseSource, Prune, Report, Perm}
-use Rattle.tl_coherence.proofs.flow.Imports.{prune_code, report_code, report_left, on_link, comes_in_request}
-use Rattle.tl_coherence.proofs.flow.Imports.{comes_in_release, broken_in_order, same_perm, broken_after}
-use Rattle.tl_coherence.proofs.flow.Imports.{is_release, held, pending, request_of, same_block, IsCarried, flow}
-use Rattle.tl_coherence.proofs.flow.Imports.{is_requested, is_sunk, is_release_pending}
-use Rattle.tl_coherence.proofs.flow.Imports.{is_let_by, is_busy, Log, View, ReleasePhase}
-use Rattle.tl_coherence.proofs.flow.Imports.{NoRelease, ReleaseSent, ReleaseAcked, AcquirePhase, AcquireOpen}
-use Rattle.tl_coherence.proofs.flow.Imports.{is_unreleased, Service, GrantSent, is_answered, is_acked, is_granting}
-use Rattle.tl_coherence.proofs.flow.Imports.{is_acknowledging, State, SourceState, view, packet, shown}
-use Rattle.tl_coherence.proofs.flow.Imports.{is_on, is_unserved, AccessMessages, report_told, prune_told}
-use Rattle.tl_coherence.proofs.flow.Imports.{block_message, message_of, message_of_kind, System, Kind, Request, Acquire}
-use Rattle.tl_coherence.proofs.flow.Imports.{Probe, ProbeAck, Release, Answer, Grant, ReleaseAck, GrantAck, Packet}
-use Rattle.tl_coherence.proofs.flow.Imports.{SimulationRelation, MonitorRelations, is_caching, asked_by}
+use Rattle.tl_coherence.proofs.flow.Imports.{prune_code, report_code, report_left, on_link, comes_in_release}
+use Rattle.tl_coherence.proofs.flow.Imports.{broken_in_order, same_perm, broken_after, is_release, held, pending}
+use Rattle.tl_coherence.proofs.flow.Imports.{request_of, same_block, IsCarried, flow, is_requested, is_sunk}
+use Rattle.tl_coherence.proofs.flow.Imports.{is_release_pending, is_busy, Log, View, ReleasePhase}
+use Rattle.tl_coherence.proofs.flow.Imports.{ReleaseSent, ReleaseAcked, AcquirePhase, AcquireOpen, is_unreleased}
+use Rattle.tl_coherence.proofs.flow.Imports.{Service, GrantSent, is_answered, is_acked, is_granting, is_acknowledging}
+use Rattle.tl_coherence.proofs.flow.Imports.{State, SourceState, view, packet, shown, is_on, is_unserved}
+use Rattle.tl_coherence.proofs.flow.Imports.{AccessMessages, report_told, prune_told, block_message, message_of}
+use Rattle.tl_coherence.proofs.flow.Imports.{message_of_kind, System, Kind, ProbeAck, Release, Answer, Grant}
+use Rattle.tl_coherence.proofs.flow.Imports.{ReleaseAck, Packet, SimulationRelation, MonitorRelations, is_caching}
+use Rattle.tl_coherence.proofs.flow.Imports.{Channel}
 use Rattle.std.proofs.Common.{◌≡◌, subst, ℕ, zero, suc, Bool, true, false, not, ◌&&◌, ◌||◌, List, [], ◌∷◌, Option, Some}
 use Rattle.std.proofs.Common.{None, refl, sym, ◌∙◌, ap}
-use Rattle.std.specs.Prelude.{◌==◌, if◌then◌else◌, map}
-use Rattle.std.proofs.lemmas.Bool.{eqb-true, and_from}
-use Rattle.std.proofs.lemmas.Option.{same_Some}
-use Rattle.tl_beat.specs.declared.channel.Channel.TheVariants as channel
-use Rattle.tl_beat.specs.declared.opcode.OpB.TheVariants as opb
-use Rattle.tl_beat.specs.declared.opcode.OpC.TheVariants as opc
-use Rattle.tl_burst.specs.declared.message.Message.TheVariants as message
+use Rattle.std.{specs.Prelude.◌==◌, specs.Prelude.map, proofs.lemmas.Bool.eqb-true}
+use Rattle.std.{proofs.lemmas.Bool.and_from, proofs.lemmas.Option.same_Some}
+use Rattle.tl_beat.{specs.declared.opcode.OpB.OpB, specs.declared.opcode.OpC.OpC}
 use Rattle.tl_burst.specs.statement.Burst.{d_beat_of}
-use Rattle.tl_params.specs.declared.param.Prune.TheVariants as prune
-use Rattle.tl_params.specs.declared.perm.Perm.TheVariants as perm
 use Rattle.tl_rules.specs.statement.Conformance as rules
 use Rattle.tl_client.specs.statement.Endpoint.{zeros}
 use Rattle.tl_client.specs.statement.Send.{acquisition, about, release, probe_ack}
-use Rattle.tl_manager.specs.statement.Handing.{grant_opcode}
-use Rattle.tl_coherence.specs.refinement.AbstractStep.{acquire_opcode}
-use Rattle.tl_coherence.specs.protocol.Invariant.{IsInvariant}
-use Rattle.tl_coherence.specs.protocol.Tokens.{is_releasing}
+use Rattle.tl_manager.{specs.statement.Handing.grant_opcode, proofs.pending.Answered.no_ack_grant}
+use Rattle.tl_coherence.specs.{refinement.AbstractStep.acquire_opcode, protocol.Invariant.IsInvariant}
+use Rattle.tl_coherence.specs.{protocol.Tokens.is_releasing}
 use Rattle.tl_coherence.specs.refinement.SimulationRelation.{IsGivenAsked, gives_asked}
-use Rattle.tl_coherence.proofs.queues.Carried.{IsNext}
-use Rattle.tl_coherence.proofs.client.ClientDelivered.{ack_next}
+use Rattle.tl_coherence.proofs.{queues.Carried.IsNext, client.ClientDelivered.ack_next, queues.Facts.granting_alone}
+use Rattle.tl_coherence.proofs.{flow.FlowLawful.lawful-beat, queues.Phases.and_left, queues.Tokens.same_number}
+use Rattle.tl_coherence.proofs.{queues.Tokens.holds-first, protocol.BothParts.is_of-is}
+use Rattle.tl_coherence.proofs.{protocol.BothParts.quiet_unanswered, queues.Codes.access_kind}
+use Rattle.tl_coherence.proofs.{flow.ComingRequests.waits_on_a, flow.ComingRequests.not-coming_a}
 use Rattle.tl_coherence.proofs.client.ClientEnd.{is_access, asks-access, asks-acquire}
 use Rattle.tl_coherence.proofs.client.ClientTakes.{answers_acquire, fits_asked, fitting, has_data, next-legal}
 use Rattle.tl_coherence.proofs.protocol.HeadOfD.{IsAnswerDue, answer-due, IsGrantDue, grant-due, grant-rendered}
 use Rattle.tl_coherence.proofs.protocol.HeadOfD.{ack-due, grant_message, ack_message, own_view}
-use Rattle.tl_coherence.proofs.queues.Facts.{granting_alone}
 use Rattle.tl_coherence.proofs.queues.FirstToken.{IsFirst, first-token, own_kind}
-use Rattle.tl_coherence.proofs.flow.FlowLawful.{lawful-beat}
-use Rattle.tl_coherence.proofs.queues.Phases.{and_left}
 use Rattle.tl_coherence.proofs.client.ResponseOrder.{answer-legal, grant-legal, ack-legal}
-use Rattle.tl_coherence.proofs.queues.Tokens.{same_number, holds-first}
-use Rattle.tl_coherence.proofs.protocol.BothParts.{is_of-is, quiet_unanswered}
-use Rattle.tl_coherence.proofs.queues.Codes.{access_kind}
-use Rattle.tl_manager.proofs.pending.Answered.{no_ack_grant}
-use Rattle.tl_coherence.proofs.flow.ComingRequests.{waits_on_a, not-coming_a}
 
 -- ---- an answer
 
-flow-answer : {w : ℕ} (config : Config) (log : Log w) (mail : AccessMessages w) (request : ℕ → MessageA w)
-    (s : State (List ℕ)) (sys : System w) (c source : ℕ)
-    → SimulationRelation config log mail request s sys → MonitorRelations log mail s sys
-    → (due : IsAnswerDue c source mail s)
-    → unfinished channel.D (sys.clients c).past ≡ [] → broken_in_order config.profile (beat_of (message.D due.answer) 0)
-    (flow c log) ≡ None
-flow-answer {w} config log mail request s sys c source h flowed due whole =
+flow-answer : {w : ℕ} {config : Config} {log : Log w} {mail : AccessMessages w} {request : ℕ → MessageA w}
+    {s : State (List ℕ)} {sys : System w} {c source : ℕ} → SimulationRelation config log mail request s sys
+    → MonitorRelations log mail s sys → (due : IsAnswerDue c source mail s) → unfinished Channel.D (sys.clients c).past
+    ≡ [] → broken_in_order config.profile (beat_of (Message.D due.answer) 0) (flow c log) ≡ None
+flow-answer {w} {config} {log} {mail} {request} {s} {sys} {c} {source} h flowed due whole =
     let kind = access_kind due.answer.opcode due.answers_access in
-    let asks : asked_by mail s c source ≡ Some (a_beat_of due.request 0) =
-    asks-access c source due.request mail s (ap is_access due.used) due.request_is in
+    let asks = asks-access c source due.request mail s (ap is_access due.used) due.request_is in
     let live = (flowed c).requests source ∙ ap
-    (λ (u : SourceState). is_requested c source (unfinished channel.A (on_link c sys.manager.trace)) u s) due.used
+    (λ (u : SourceState). is_requested c source (unfinished Channel.A (on_link c sys.manager.trace)) u s) due.used
     in
-    answer-legal config.profile (d_beat_of due.answer 0) (a_beat_of due.request 0) (flow c log) (record {
-      whole = (flowed c).rest_is channel.D ∙ whole;
-      complete = ap (λ (b : List (Beat w)). comes_in_request due.answer.source b) ((flowed c).rest_is channel.A)
-          ∙ ap (λ (i : ℕ). comes_in_request i (unfinished channel.A (on_link c sys.manager.trace))) due.from
-          ∙ not-coming_a config log mail request s sys c source h (ap (λ (u : SourceState). waits_on_a c u s) due.used);
+    answer-legal config.profile (record {
+      whole = (flowed c).rest_is Channel.D ∙ whole;
+      complete = cc (
+        (flowed c).rest_is Channel.A,
+        due.from,
+        not-coming_a c source h
+            (ap (λ (u : SourceState). waits_on_a c u s) due.used),
+      );
       other = kind.1;
       live = ap (λ (i : ℕ). pending (RequestSource i) (flow c log)) due.from ∙ live;
       request = ap (λ (i : ℕ). request_of i (flow c log)) due.from ∙ (flowed c).asked_is source live ∙ asks;
@@ -84,51 +71,46 @@ abbrev none_of : (w : ℕ) → List (Beat w)
 none_of w = []
 
 -- what the client of a Grant has of its block
-pub grant_quiet : (caching : ℕ → Bool) (c n : ℕ) (s : State (List ℕ)) → IsInvariant caching s → (due : IsGrantDue c n s)
+pub grant_quiet : {caching : ℕ → Bool} {c n : ℕ} {s : State (List ℕ)} → IsInvariant caching s → (due : IsGrantDue c n s)
     → is_answered ((s.block n).pair c).probing ≡ false
-grant_quiet caching c n s inv due =
+grant_quiet {c} {n} {s} inv due =
     let mine = own_view c due.data_too due.k (s.block n).service due.service in
     let alone = granting_alone due.data_too due.k ((s.block n).pair c) (view (s.block n).service c)
     ((inv.blocks n).phases c) mine in
     quiet_unanswered ((s.block n).pair c).probing (and_left _ _ alone)
 
 -- the tracker of a Grant is of its block
-pub grant_tracked : (caching : ℕ → Bool) (c n : ℕ) (s : State (List ℕ)) → IsInvariant caching s → IsGrantDue c n s
+pub grant_tracked : {caching : ℕ → Bool} {c n : ℕ} {s : State (List ℕ)} → IsInvariant caching s → IsGrantDue c n s
     → s.tracked (s.block n).tracker ≡ Some n
-grant_tracked caching c n s inv due =
-    is_of-is n (s.tracked (s.block n).tracker) (inv.named.trackers (s.block n).tracker n
-    ∙ ap (λ (x : Service). is_busy x && ((s.block n).tracker == (s.block n).tracker)) due.service ∙ same_number
-    (s.block n).tracker)
+grant_tracked {n} {s} inv due = is_of-is n (s.tracked (s.block n).tracker) (inv.named.trackers (s.block n).tracker n
+    ∙ ap (λ (x : Service). is_busy x && ((s.block n).tracker == (s.block n).tracker)) due.service
+    ∙ same_number (s.block n).tracker)
 
-flow-grant : {w : ℕ} (config : Config) (log : Log w) (mail : AccessMessages w) (request : ℕ → MessageA w)
-    (s : State (List ℕ)) (sys : System w) (c n : ℕ)
-    → SimulationRelation config log mail request s sys → MonitorRelations log mail s sys → (due : IsGrantDue c n s)
-    → gives_asked config.profile (AcquireOpen due.whole due.g) due.k ≡ true
-    → unfinished channel.D (sys.clients c).past ≡ []
-    → broken_in_order config.profile
-    (beat_of (message.D (grant_message due.data_too due.k ((s.block n).source c) (s.block n).tracker
-    (s.block n).truth)) 0) (flow c log) ≡ None
-flow-grant {w} config log mail request s sys c n h flowed due given whole =
+flow-grant : {w : ℕ} {config : Config} {log : Log w} {mail : AccessMessages w} {request : ℕ → MessageA w}
+    {s : State (List ℕ)} {sys : System w} {c n : ℕ} → SimulationRelation config log mail request s sys
+    → MonitorRelations log mail s sys → (due : IsGrantDue c n s)
+    → gives_asked config.profile (AcquireOpen due.whole due.g) due.k ≡ true → unfinished Channel.D (sys.clients c).past
+    ≡ [] → broken_in_order config.profile
+    (beat_of (Message.D (grant_message due.data_too due.k ((s.block n).source c) (s.block n).tracker (s.block n).truth))
+    0) (flow c log) ≡ None
+flow-grant {w} {config} {log} {mail} {request} {s} {sys} {c} {n} h flowed due given whole =
     let source = (s.block n).source c in
     let sink = (s.block n).tracker in
     let r : BeatA w = a_beat_of (acquisition (acquire_opcode due.whole) due.g source n) 0 in
     let fits = fitting ((s.block n).pair c).recorded ((s.block n).pair c).held due.data_too due.k due.whole due.g
     due.fits in
-    let asks : asked_by mail s c source ≡ Some r = asks-acquire c source n source due.whole due.g mail s due.used
-    due.wants refl in
+    let asks = asks-acquire c source n source due.whole due.g mail s due.used due.wants refl in
     let mine = own_view c due.data_too due.k (s.block n).service due.service in
-    let live : pending (RequestSource source) (flow c log) ≡ true =
-    (flowed c).requests source ∙ ap
-    (λ (u : SourceState). is_requested c source (unfinished channel.A (on_link c sys.manager.trace)) u s)
-    due.used ∙ ap (λ (v : View). not (is_unserved v)) mine in
-    let held_now : held n (flow c log) ≡ ((s.block n).pair c).held = (flowed c).held_is n
-    ∙ ap (λ (v : View). if is_granting v then ((s.block n).pair c).held else ((s.block n).pair c).recorded) mine in
-    grant-legal config.profile n (d_beat_of (grant_message due.data_too due.k source sink (s.block n).truth) 0) r
-    (flow c log) (record {
-      whole = (flowed c).rest_is channel.D ∙ whole;
-      complete = ap (λ (b : List (Beat w)). comes_in_request source b) ((flowed c).rest_is channel.A)
-          ∙ not-coming_a config log mail request s sys c source h
-          (ap (λ (u : SourceState). waits_on_a c u s) due.used ∙ ap is_unserved mine);
+    let live : pending (RequestSource source) (flow c log) ≡ true = cc ((flowed c).requests source, due.used, mine) in
+    let held_now : held n (flow c log) ≡ ((s.block n).pair c).held = cc ((flowed c).held_is n, mine) in
+    grant-legal config.profile n
+    (record {
+      whole = (flowed c).rest_is Channel.D ∙ whole;
+      complete = cc (
+        (flowed c).rest_is Channel.A,
+        not-coming_a c source h
+            (ap (λ (u : SourceState). waits_on_a c u s) due.used ∙ ap is_unserved mine),
+      );
       other = no_ack_grant due.data_too;
       live = live;
       request = (flowed c).asked_is source live ∙ asks;
@@ -136,43 +118,40 @@ flow-grant {w} config log mail request s sys c n h flowed due given whole =
       size = refl;
     }) (same_block n) (fits_asked config.profile due.whole due.g due.k fits.cap_is given)
     (ap (λ (q : Perm). rules.is_grant_without_data (grant_opcode due.data_too)
-    && (rules.is_acquire_block (acquire_opcode due.whole) && not (same_perm q perm.Branch))) held_now
+    && (rules.is_acquire_block (acquire_opcode due.whole) && not (same_perm q Perm.Branch))) held_now
     ∙ has_data due.whole due.data_too ((s.block n).pair c).held fits.carried)
-    ((flowed c).probes n ∙ grant_quiet (is_caching config) c n s h.invariant due)
+    ((flowed c).probes n ∙ grant_quiet h.invariant due)
     ((flowed c).sinks sink ∙ ap (λ (b : List (Beat w)). is_sunk c sink b (s.tracked sink) s) whole
-    ∙ ap (λ (o : Option ℕ). is_sunk c sink (none_of w) o s) (grant_tracked (is_caching config) c n s h.invariant due)
+    ∙ ap (λ (o : Option ℕ). is_sunk c sink (none_of w) o s) (grant_tracked h.invariant due)
     ∙ ap (λ (v : View). is_acknowledging v || (is_granting v && false)) mine)
 
 -- ---- a ReleaseAck
 
 -- the message is no Release with this source
 IsUnreleased : {w : ℕ} → ℕ → Message w → Type 0
-IsUnreleased {w} source m = (r : MessageC w) × (m ≡ message.C r)
+IsUnreleased {w} source m = (r : MessageC w) × (m ≡ Message.C r)
     × ((is_release r.opcode && (r.source == source)) ≡ false)
 
 unreleased : {w : ℕ} (source : ℕ) (m : Message w) (k : ℕ) (rest : List (Beat w)) → rest ≡ begun m k
     → IsUnreleased source m → comes_in_release source rest ≡ false
 unfolding IsUnreleased
 unreleased {w} source m k rest e is =
-    ap (comes_in_release source) e ∙ ap (λ (y : Message w). comes_in_release source (begun y k)) is.1 ∙ go k
-  where
-    go : (i : ℕ) → comes_in_release source (begun (message.C is.0) i) ≡ false
-    go zero = refl
-    go (suc i) = is.2
+    let go : (i : ℕ) → comes_in_release source (begun (Message.C is.0) i) ≡ false =
+    elim [ zero ↦ refl | suc i ↦ is.2 ] in
+    cc (e, is.1, go k)
 
 unreleased_report : (w : ℕ) (source : ℕ) (p : Perm) (r : Report) (n : ℕ) (copy : List ℕ)
-    → IsUnreleased {w = w} source (probe_ack opb.ProbeBlock p r n copy)
+    → IsUnreleased {w = w} source (probe_ack OpB.ProbeBlock p r n copy)
 unfolding IsUnreleased
-unreleased_report w source perm.Trunk r n copy = (about opc.ProbeAckData (report_code r) 0 n copy, refl, refl)
-unreleased_report w source perm.Branch r n copy = (about opc.ProbeAck (report_code r) 0 n zeros, refl, refl)
-unreleased_report w source perm.None r n copy = (about opc.ProbeAck (report_code r) 0 n zeros, refl, refl)
+unreleased_report w source Perm.Trunk r n copy = (about OpC.ProbeAckData (report_code r) 0 n copy, refl, refl)
+unreleased_report w source p r n copy = (about OpC.ProbeAck (report_code r) 0 n zeros, refl, refl)
 
 unreleased_prune : (w : ℕ) (source : ℕ) (p : Prune) (i n : ℕ) (copy : List ℕ) → (i == source) ≡ false
     → IsUnreleased {w = w} source (release p i n copy)
 unfolding IsUnreleased
-unreleased_prune w source prune.TtoB i n copy e = (about opc.ReleaseData (prune_code prune.TtoB) i n copy, refl, e)
-unreleased_prune w source prune.TtoN i n copy e = (about opc.ReleaseData (prune_code prune.TtoN) i n copy, refl, e)
-unreleased_prune w source prune.BtoN i n copy e = (about opc.Release (prune_code prune.BtoN) i n zeros, refl, e)
+unreleased_prune w source Prune.TtoB i n copy e = (about OpC.ReleaseData (prune_code Prune.TtoB) i n copy, refl, e)
+unreleased_prune w source Prune.TtoN i n copy e = (about OpC.ReleaseData (prune_code Prune.TtoN) i n copy, refl, e)
+unreleased_prune w source Prune.BtoN i n copy e = (about OpC.Release (prune_code Prune.BtoN) i n zeros, refl, e)
 
 rendered_report : (w : ℕ) (c n source : ℕ) (s : State (List ℕ))
     → IsUnreleased {w = w} source (block_message ProbeAck c n (s.block n))
@@ -187,130 +166,109 @@ rendered_release w c n source s e = unreleased_prune w source (prune_told ((s.bl
     ((s.block n).release_source c) n (s.block n).truth e
 
 -- no Release is half taken with the source of one that was acknowledged
-not-coming_c : {w : ℕ} (config : Config) (log : Log w) (mail : AccessMessages w) (request : ℕ → MessageA w)
-    (s : State (List ℕ)) (sys : System w) (c n : ℕ)
-    → SimulationRelation config log mail request s sys → s.lets c ((s.block n).release_source c) ≡ Some n
-    → is_acked ((s.block n).pair c).letting ≡ true
-    → comes_in_release ((s.block n).release_source c) (unfinished channel.C (on_link c sys.manager.trace)) ≡ false
-not-coming_c {w} config log mail request s sys c n h let_ acked = go (s.link c).c refl (h.carried c channel.C)
+not-coming_c : {w : ℕ} {config : Config} {log : Log w} {mail : AccessMessages w} {request : ℕ → MessageA w}
+    {s : State (List ℕ)} {sys : System w} (c n : ℕ) → SimulationRelation config log mail request s sys
+    → s.lets c ((s.block n).release_source c) ≡ Some n → is_acked ((s.block n).pair c).letting ≡ true
+    → comes_in_release ((s.block n).release_source c) (unfinished Channel.C (on_link c sys.manager.trace)) ≡ false
+not-coming_c {w} {config} {mail} {s} {sys} c n h let_ acked = go (s.link c).c refl (h.carried c Channel.C)
   where
     source : ℕ
     source = (s.block n).release_source c
 
     rest_now : List (Beat w)
-    rest_now = unfinished channel.C (on_link c sys.manager.trace)
+    rest_now = unfinished Channel.C (on_link c sys.manager.trace)
 
     apart : (x : ReleasePhase) → is_acked x ≡ true → is_releasing x ≡ true → ⊥
     apart ReleaseAcked e f = cc
-    apart NoRelease e f = cc
-    apart (ReleaseSent r) e f = cc
+    apart x e f = cc
 
     open_release : (x : ReleasePhase) → is_releasing x ≡ true → not (is_unreleased x) ≡ true
     open_release (ReleaseSent r) e = refl
-    open_release NoRelease e = absurd cc
-    open_release ReleaseAcked e = absurd cc
+    open_release x e = absurd cc
 
     differ : (i : ℕ) → is_releasing ((s.block i).pair c).letting ≡ true → (b : Bool)
         → ((s.block i).release_source c == source) ≡ b → b ≡ false
     differ i releasing false e = refl
     differ i releasing true e =
         let open_ = open_release ((s.block i).pair c).letting releasing in
-        let lets : s.lets c ((s.block i).release_source c) ≡ Some i =
-        is_of-is i (s.lets c ((s.block i).release_source c))
-        (h.invariant.named.releases c ((s.block i).release_source c) i
-        ∙ and_from (not (is_unreleased ((s.block i).pair c).letting))
-        ((s.block i).release_source c == (s.block i).release_source c) open_
-        (same_number ((s.block i).release_source c))) in
-        let same : i ≡ n = same_Some i n (sym lets ∙ ap (s.lets c) (eqb-true ((s.block i).release_source c) source e)
-        ∙ let_) in
+        let lets = is_of-is i (s.lets c ((s.block i).release_source c)) (h.invariant.named.releases c ((s.block
+        i).release_source c) i ∙ and_from (not (is_unreleased ((s.block i).pair c).letting)) ((s.block
+        i).release_source c == (s.block i).release_source c) open_ (same_number ((s.block i).release_source c))) in
+        let same = same_Some i n (sym lets ∙ ap (s.lets c) (eqb-true ((s.block i).release_source c) source e) ∙ let_) in
         absurd (apart ((s.block n).pair c).letting acked
         (sym (ap (λ (j : ℕ). is_releasing ((s.block j).pair c).letting) same) ∙ releasing))
 
-    each : (k : Kind) (i : ℕ) (rest : List Packet) → (s.link c).c ≡ packet k i ∷ rest → is_on channel.C k ≡ true
+    each : (k : Kind) (i : ℕ) (rest : List Packet) → (s.link c).c ≡ packet k i ∷ rest → is_on Channel.C k ≡ true
         → IsUnreleased source (message_of_kind k mail s c i)
     each ProbeAck i rest first own = rendered_report w c i source s
     each Release i rest first own =
         rendered_release w c i source s
         (differ i (holds-first Release (s.link c).c rest (packet Release i) (λ j. shown Release c (s.block j)) first
-        refl (h.invariant.transfers c Release refl))
-        ((s.block i).release_source c == source) refl)
-    each Request i rest first own = absurd cc
-    each Acquire i rest first own = absurd cc
-    each Probe i rest first own = absurd cc
-    each Answer i rest first own = absurd cc
-    each Grant i rest first own = absurd cc
-    each ReleaseAck i rest first own = absurd cc
-    each GrantAck i rest first own = absurd cc
+        refl (h.invariant.transfers c Release refl)) ((s.block i).release_source c == source) refl)
+    each k i rest first own = absurd cc
 
     go : (xs : List Packet) → (s.link c).c ≡ xs → IsCarried rest_now (map (message_of mail s c) (s.link c).c)
-        (sys.channels c channel.C) → comes_in_release source rest_now ≡ false
+        (sys.channels c Channel.C) → comes_in_release source rest_now ≡ false
     go [] first carried =
-        let nothing : IsCarried rest_now [] (sys.channels c channel.C) =
-        subst (λ (ms : List (Message w)). IsCarried rest_now ms (sys.channels c channel.C))
+        let nothing : IsCarried rest_now [] (sys.channels c Channel.C) =
+        subst (λ (ms : List (Message w)). IsCarried rest_now ms (sys.channels c Channel.C))
         (ap (map (message_of mail s c)) first) carried in
         ap (comes_in_release source) nothing.0
     go (x ∷ xs) first carried =
         let some : IsCarried rest_now (message_of mail s c x ∷ map (message_of mail s c) xs)
-        (sys.channels c channel.C) =
-        subst (λ (ms : List (Message w)). IsCarried rest_now ms (sys.channels c channel.C))
+        (sys.channels c Channel.C) =
+        subst (λ (ms : List (Message w)). IsCarried rest_now ms (sys.channels c Channel.C))
         (ap (map (message_of mail s c)) first) carried in
         unreleased source (message_of mail s c x) some.0 rest_now some.2
-        (each x.kind x.number xs first (own_kind (is_caching config) s c channel.C x.kind x.number xs h.invariant
+        (each x.kind x.number xs first (own_kind (is_caching config) s c Channel.C x.kind x.number xs h.invariant
         first))
 
-flow-ack : {w : ℕ} (config : Config) (log : Log w) (mail : AccessMessages w) (request : ℕ → MessageA w)
-    (s : State (List ℕ)) (sys : System w) (c n : ℕ)
-    → SimulationRelation config log mail request s sys → MonitorRelations log mail s sys
-    → s.lets c ((s.block n).release_source c) ≡ Some n → is_acked ((s.block n).pair c).letting ≡ true
-    → unfinished channel.D (sys.clients c).past ≡ []
-    → broken_in_order config.profile (beat_of (message.D (ack_message ((s.block n).release_source c))) 0) (flow c log)
+flow-ack : {w : ℕ} {config : Config} {log : Log w} {mail : AccessMessages w} {request : ℕ → MessageA w}
+    {s : State (List ℕ)} {sys : System w} (c n : ℕ) → SimulationRelation config log mail request s sys
+    → MonitorRelations log mail s sys → s.lets c ((s.block n).release_source c) ≡ Some n
+    → is_acked ((s.block n).pair c).letting ≡ true → unfinished Channel.D (sys.clients c).past ≡ []
+    → broken_in_order config.profile (beat_of (Message.D (ack_message ((s.block n).release_source c))) 0) (flow c log)
     ≡ None
-flow-ack {w} config log mail request s sys c n h flowed let_ acked whole =
+flow-ack {w} {config} {log} {mail} {request} {s} {sys} c n h flowed let_ acked whole =
+    let let_acked : (x : ReleasePhase) (source : ℕ) (rest : List (Beat w)) → is_acked x ≡ true
+    → is_release_pending source rest x ≡ true =
+    elim [ ReleaseAcked ↦ λ source rest e. refl | x ↦ λ source rest e. absurd cc ] in
     let source = (s.block n).release_source c in
-    let rest = unfinished channel.C (on_link c sys.manager.trace) in
+    let rest = unfinished Channel.C (on_link c sys.manager.trace) in
     let live : pending (ReleaseSource source) (flow c log) ≡ true =
-    (flowed c).release_sources source ∙ ap (λ (o : Option ℕ). is_let_by c source rest o s) let_ ∙ let_acked
-    ((s.block n).pair c).letting source rest acked in
-    ack-legal config.profile (d_beat_of (ack_message source) 0) (flow c log) ((flowed c).rest_is channel.D ∙ whole)
-    (ap (λ (b : List (Beat w)). comes_in_release source b) ((flowed c).rest_is channel.C) ∙ not-coming_c config log mail
-    request s sys c n h let_ acked)
+    cc ((flowed c).release_sources source, let_, let_acked ((s.block n).pair c).letting source rest acked) in
+    ack-legal config.profile (d_beat_of (ack_message source) 0) (flow c log) ((flowed c).rest_is Channel.D ∙ whole)
+    (ap (λ (b : List (Beat w)). comes_in_release source b) ((flowed c).rest_is Channel.C) ∙ not-coming_c
+    c n h let_ acked)
     refl live
     ((flowed c).sizes source n let_ live)
-  where
-    let_acked : (x : ReleasePhase) (source : ℕ) (rest : List (Beat w)) → is_acked x ≡ true
-        → is_release_pending source rest x ≡ true
-    let_acked ReleaseAcked source rest e = refl
-    let_acked NoRelease source rest e = absurd cc
-    let_acked (ReleaseSent r) source rest e = absurd cc
 
 -- ---- all of channel D
 
 -- each beat of a response, where its first breaks no rule
-legal_next : {w : ℕ} (config : Config) (log : Log w) (mail : AccessMessages w) (request : ℕ → MessageA w)
-    (s : State (List ℕ)) (sys : System w) (c : ℕ) (m : MessageD w)
-    (ms : List (Message w)) (x : Beat w) (queue : List (Beat w))
-    → SimulationRelation config log mail request s sys → MonitorRelations log mail s sys
-    → IsNext x (unfinished channel.D (sys.clients c).past) (message.D m) ms queue
-    → (unfinished channel.D (sys.clients c).past ≡ [] → broken_in_order config.profile (beat_of (message.D m) 0)
+legal_next : {w : ℕ} {config : Config} {log : Log w} {mail : AccessMessages w} {request : ℕ → MessageA w}
+    {s : State (List ℕ)} {sys : System w} (c : ℕ) (m : MessageD w) {ms : List (Message w)} {x : Beat w}
+    {queue : List (Beat w)} → SimulationRelation config log mail request s sys → MonitorRelations log mail s sys
+    → IsNext x (unfinished Channel.D (sys.clients c).past) (Message.D m) ms queue
+    → (unfinished Channel.D (sys.clients c).past ≡ [] → broken_in_order config.profile (beat_of (Message.D m) 0)
     (flow c log) ≡ None) → broken_in_order config.profile x (flow c log) ≡ None
-legal_next {w} config log mail request s sys c m ms x queue h flowed next first =
-    let rest_is = (flowed c).rest_is channel.D in
+legal_next {w} {config} {log} c m h flowed next first =
+    let rest_is = (flowed c).rest_is Channel.D in
     ap (λ (y : Beat w). broken_in_order config.profile y (flow c log)) next.beat_is ∙ next-legal config.profile m next.k
     (flow c log) (rest_is ∙ next.rest_is) (λ whole. first (sym rest_is ∙ whole))
 
-legal_d : {w : ℕ} (config : Config) (log : Log w) (mail : AccessMessages w) (request : ℕ → MessageA w)
-    (s : State (List ℕ)) (sys : System w) (c : ℕ) (x : Beat w)
-    (queue : List (Beat w)) → IsWidth w → SimulationRelation config log mail request s sys
-    → MonitorRelations log mail s sys
-    → sys.channels c channel.D ≡ x ∷ queue → broken_in_order config.profile x (flow c log) ≡ None
-legal_d {w} config log mail request s sys c x queue width h flowed beats =
+legal_d : {w : ℕ} {config : Config} {log : Log w} {mail : AccessMessages w} {request : ℕ → MessageA w}
+    {s : State (List ℕ)} {sys : System w} (c : ℕ) (x : Beat w) (queue : List (Beat w)) → IsWidth w
+    → SimulationRelation config log mail request s sys → MonitorRelations log mail s sys
+    → sys.channels c Channel.D ≡ x ∷ queue → broken_in_order config.profile x (flow c log) ≡ None
+legal_d {w} {config} {log} {mail} {request} {s} {sys} c x queue width h flowed beats =
     go first.kind first.number first.tokens first.own first.next
   where
-    first : IsFirst channel.D c mail s sys x queue
-    first = first-token (is_caching config) channel.D c mail s sys x queue width h.invariant h.carried beats
+    first : IsFirst Channel.D c mail s sys x queue
+    first = first-token (is_caching config) Channel.D c mail s sys x queue width h.invariant h.carried beats
 
     rest_now : List (Beat w)
-    rest_now = unfinished channel.D (sys.clients c).past
+    rest_now = unfinished Channel.D (sys.clients c).past
 
     ms : List (Message w)
     ms = map (message_of mail s c) first.rest
@@ -325,55 +283,46 @@ legal_d {w} config log mail request s sys c x queue width h flowed beats =
         → broken_in_order config.profile x (flow c log) ≡ None
     answer i tokens next =
         let due = answer-due (is_caching config) c i first.rest mail s h.invariant (h.answered c i) tokens in
-        legal_next config log mail request s sys c due.answer ms x queue h flowed
+        legal_next c due.answer h flowed
         (subst (λ (m : Message w). IsNext x rest_now m ms queue) due.answer_is next)
-        (flow-answer config log mail request s sys c i h flowed due)
+        (flow-answer h flowed due)
 
     grant : (n : ℕ) → (s.link c).d ≡ packet Grant n ∷ first.rest
         → IsNext x rest_now (block_message Grant c n (s.block n)) ms queue
         → broken_in_order config.profile x (flow c log) ≡ None
     grant n tokens next =
         let due = grant-due (is_caching config) c n first.rest s h.invariant tokens in
-        legal_next config log mail request s sys c (grant_message due.data_too due.k ((s.block n).source c)
-        (s.block n).tracker (s.block n).truth) ms x queue h flowed
+        legal_next c (grant_message due.data_too due.k ((s.block n).source c)
+        (s.block n).tracker (s.block n).truth) h flowed
         (subst (λ (m : Message w). IsNext x rest_now m ms queue) (grant-rendered c n s due) next)
-        (flow-grant config log mail request s sys c n h flowed due (given n due))
+        (flow-grant h flowed due (given n due))
 
     ack : (n : ℕ) → (s.link c).d ≡ packet ReleaseAck n ∷ first.rest
         → IsNext x rest_now (block_message ReleaseAck c n (s.block n)) ms queue
         → broken_in_order config.profile x (flow c log) ≡ None
-    ack n tokens next =
-        legal_next config log mail request s sys c (ack_message ((s.block n).release_source c)) ms x queue h flowed
-        (ack_next c n s x rest_now ms queue next)
-        (flow-ack config log mail request s sys c n h flowed (ack-due (is_caching config) c n first.rest s h.invariant
-        tokens)
+    ack n tokens next = legal_next c (ack_message ((s.block n).release_source c)) h flowed (ack_next c n s next)
+        (flow-ack c n h flowed (ack-due c n first.rest h.invariant tokens)
         (holds-first ReleaseAck (s.link c).d first.rest (packet ReleaseAck n) (λ i. shown ReleaseAck c (s.block i))
         tokens refl (h.invariant.transfers c ReleaseAck refl)))
 
-    go : (k : Kind) (i : ℕ) → (s.link c).d ≡ packet k i ∷ first.rest → is_on channel.D k ≡ true
+    go : (k : Kind) (i : ℕ) → (s.link c).d ≡ packet k i ∷ first.rest → is_on Channel.D k ≡ true
         → IsNext x rest_now (message_of_kind k mail s c i) ms queue
         → broken_in_order config.profile x (flow c log) ≡ None
     go Answer i tokens own next = answer i tokens next
     go Grant i tokens own next = grant i tokens next
     go ReleaseAck i tokens own next = ack i tokens next
-    go Request i tokens own next = absurd cc
-    go Acquire i tokens own next = absurd cc
-    go Probe i tokens own next = absurd cc
-    go ProbeAck i tokens own next = absurd cc
-    go Release i tokens own next = absurd cc
-    go GrantAck i tokens own next = absurd cc
+    go k i tokens own next = absurd cc
 
 in_order : {w : ℕ} (l : Level) (p : Profile) (x : Beat w) (t : History w) → illegal l (channel_of x) x ≡ None
     → broken_in_order p x t ≡ None → broken_after l p x t ≡ None
 unfolding broken_after
 in_order l p x t lawful order = rw lawful order
 
-pub flows-d : {w : ℕ} (config : Config) (log : Log w) (mail : AccessMessages w) (request : ℕ → MessageA w)
-    (s : State (List ℕ)) (sys : System w) (c : ℕ) (l : Level)
-    (x : Beat w) (queue : List (Beat w)) → IsWidth w → SimulationRelation config log mail request s sys
-    → MonitorRelations log mail s sys
-    → sys.channels c channel.D ≡ x ∷ queue → level_of config c ≡ Some l
-    → broken_after l config.profile x (flow c log) ≡ None
-flows-d config log mail request s sys c l x queue width h flowed beats level =
-    in_order l config.profile x (flow c log) (lawful-beat config log mail request s sys c channel.D l x queue h beats
-    level) (legal_d config log mail request s sys c x queue width h flowed beats)
+pub flows-d : {w : ℕ} {config : Config} {log : Log w} {mail : AccessMessages w} {request : ℕ → MessageA w}
+    {s : State (List ℕ)} {sys : System w} (c : ℕ) (l : Level) (x : Beat w) (queue : List (Beat w)) → IsWidth w
+    → SimulationRelation config log mail request s sys → MonitorRelations log mail s sys
+    → sys.channels c Channel.D ≡ x ∷ queue → level_of config c ≡ Some l → broken_after l config.profile x (flow c log)
+    ≡ None
+flows-d {config} {log} {mail} {request} {s} {sys} c l x queue width h flowed beats level =
+    in_order l config.profile x (flow c log) (lawful-beat c Channel.D l x queue h beats
+    level) (legal_d c x queue width h flowed beats)

@@ -2,54 +2,43 @@
 -- with its sink is still coming.
 use Rattle.tl_coherence.proofs.flow.Imports.{IsWidth, Beat, BeatE, Message, MessageA, MessageD, begun, unfinished}
 use Rattle.tl_coherence.proofs.flow.Imports.{channel_of, Config, Level, Cap, broken_after, comes_in_grant, on_link}
-use Rattle.tl_coherence.proofs.flow.Imports.{is_grant, illegal, level_of, IsCarried, flow, Log, receiver, Service}
-use Rattle.tl_coherence.proofs.flow.Imports.{GrantSent, GrantTaken, State, packet, shown, view, is_on, is_acknowledging}
+use Rattle.tl_coherence.proofs.flow.Imports.{is_grant, illegal, level_of, IsCarried, flow, Log, Service}
+use Rattle.tl_coherence.proofs.flow.Imports.{GrantSent, GrantTaken, State, packet, shown, is_on}
 use Rattle.tl_coherence.proofs.flow.Imports.{AccessMessages, message_of, message_of_kind, block_message, System, Kind}
-use Rattle.tl_coherence.proofs.flow.Imports.{Request, Acquire, Probe, ProbeAck, Release, Answer, Grant, ReleaseAck}
-use Rattle.tl_coherence.proofs.flow.Imports.{GrantAck, Packet, SimulationRelation, MonitorRelations, is_caching}
-use Rattle.tl_coherence.proofs.flow.Imports.{asked_by}
+use Rattle.tl_coherence.proofs.flow.Imports.{Answer, Grant, ReleaseAck, GrantAck, Packet, SimulationRelation}
+use Rattle.tl_coherence.proofs.flow.Imports.{MonitorRelations, is_caching, Channel}
 use Rattle.std.proofs.Common.{◌≡◌, ℕ, zero, suc, Bool, true, false, ◌&&◌, List, [], ◌∷◌, Some, None, refl, sym, ◌∙◌, ap}
 use Rattle.std.proofs.Common.{subst}
-use Rattle.std.specs.Prelude.{◌==◌, map}
-use Rattle.std.proofs.lemmas.Bool.{ne_eqb, and_right}
-use Rattle.std.proofs.lemmas.Option.{same_Some}
-use Rattle.tl_beat.specs.declared.channel.Channel.TheVariants as channel
-use Rattle.tl_burst.specs.declared.message.Message.TheVariants as message
+use Rattle.std.{specs.Prelude.◌==◌, specs.Prelude.map, proofs.lemmas.Bool.ne_eqb, proofs.lemmas.Bool.and_right}
+use Rattle.std.{proofs.lemmas.Option.same_Some}
 use Rattle.tl_manager.specs.statement.Handing.{grant_opcode}
-use Rattle.tl_coherence.proofs.queues.Carried.{IsNext}
+use Rattle.tl_coherence.proofs.{queues.Carried.IsNext, queues.FirstToken.first-token, queues.FirstToken.own_kind}
+use Rattle.tl_coherence.proofs.{flow.FlowBeats.first_false, flow.FlowLawful.lawful-beat, flow.FlowLawful.next-flows}
+use Rattle.tl_coherence.proofs.{flow.FlowOrders.grant_ack-flows, manager.ManagedEndings.tracker-of}
+use Rattle.tl_coherence.proofs.{manager.ManagerTakes.by-first_e, queues.Tokens.holds-first}
+use Rattle.tl_coherence.proofs.{protocol.BothParts.acknowledging-is, queues.Codes.access_kind}
 use Rattle.tl_coherence.proofs.protocol.HeadOfD.{ack_message, answer-due, grant-due, grant-rendered, grant_message}
-use Rattle.tl_coherence.proofs.queues.FirstToken.{first-token, own_kind}
-use Rattle.tl_coherence.proofs.flow.FlowBeats.{first_false}
-use Rattle.tl_coherence.proofs.flow.FlowLawful.{lawful-beat, next-flows}
-use Rattle.tl_coherence.proofs.flow.FlowOrders.{grant_ack-flows}
-use Rattle.tl_coherence.proofs.manager.ManagedEndings.{tracker-of}
-use Rattle.tl_coherence.proofs.manager.ManagerTakes.{by-first_e}
-use Rattle.tl_coherence.proofs.queues.Tokens.{holds-first}
-use Rattle.tl_coherence.proofs.protocol.BothParts.{acknowledging-is}
-use Rattle.tl_coherence.proofs.queues.Codes.{access_kind}
 
 -- the message is no Grant with this sink
 IsElse : {w : ℕ} → ℕ → Message w → Type 0
-IsElse {w} sink m = (x : MessageD w) × (m ≡ message.D x) × ((is_grant x.opcode && (x.sink == sink)) ≡ false)
+IsElse {w} sink m = (x : MessageD w) × (m ≡ Message.D x) × ((is_grant x.opcode && (x.sink == sink)) ≡ false)
 
 comes_else : {w : ℕ} (sink : ℕ) (m : Message w) (k : ℕ) (rest : List (Beat w)) → rest ≡ begun m k → IsElse sink m
     → comes_in_grant sink rest ≡ false
 unfolding IsElse
-comes_else sink m k rest e is = ap (comes_in_grant sink) e ∙ ap (λ y. comes_in_grant sink (begun y k)) is.1 ∙ go k
-  where
-    go : (i : ℕ) → comes_in_grant sink (begun (message.D is.0) i) ≡ false
-    go zero = refl
-    go (suc i) = is.2
+comes_else sink m k rest e is =
+    let go : (i : ℕ) → comes_in_grant sink (begun (Message.D is.0) i) ≡ false = elim [ zero ↦ refl | suc i ↦ is.2 ] in
+    ap (comes_in_grant sink) e ∙ ap (λ y. comes_in_grant sink (begun y k)) is.1 ∙ go k
 
 not_both : (c : ℕ) (d : Bool) (k : Cap) (q : Service) → q ≡ GrantSent c d k → q ≡ GrantTaken c → ⊥
 not_both c d k q e f = let g : GrantSent c d k ≡ GrantTaken c = sym e ∙ f in cc
 
-else_answer : {w : ℕ} (config : Config) (log : Log w) (mail : AccessMessages w) (request : ℕ → MessageA w)
-    (s : State (List ℕ)) (sys : System w) (c sink i : ℕ)
+else_answer : {w : ℕ} {config : Config} {log : Log w} {mail : AccessMessages w} {request : ℕ → MessageA w}
+    {s : State (List ℕ)} {sys : System w} (c sink i : ℕ)
     (rest : List Packet) → SimulationRelation config log mail request s sys → (s.link c).d ≡ packet Answer i ∷ rest
     → IsElse sink (mail.answer c i)
 unfolding IsElse
-else_answer config log mail request s sys c sink i rest h first =
+else_answer {config} {mail} {s} c sink i rest h first =
     let due = answer-due (is_caching config) c i rest mail s h.invariant (h.answered c i) first in (
       due.answer,
       due.answer_is,
@@ -58,16 +47,16 @@ else_answer config log mail request s sys c sink i rest h first =
     )
 
 -- a Grant that is on its way has another block's tracker for its sink
-else_grant : {w : ℕ} (config : Config) (log : Log w) (mail : AccessMessages w) (request : ℕ → MessageA w)
-    (s : State (List ℕ)) (sys : System w) (c n i : ℕ)
+else_grant : {w : ℕ} {config : Config} {log : Log w} {mail : AccessMessages w} {request : ℕ → MessageA w}
+    {s : State (List ℕ)} {sys : System w} (c n i : ℕ)
     (rest : List Packet) → SimulationRelation config log mail request s sys → (s.link c).d ≡ packet Grant i ∷ rest
     → (s.block n).service ≡ GrantTaken c
     → IsElse {w = w} (s.block n).tracker (block_message {w = w} Grant c i (s.block i))
 unfolding IsElse
-else_grant {w} config log mail request s sys c n i rest h first taken =
+else_grant {w} {config} {s} c n i rest h first taken =
     let due = grant-due (is_caching config) c i rest s h.invariant first in
-    let mine : s.tracked (s.block i).tracker ≡ Some i = tracker-of i s h.invariant.named (rw due.service refl) in
-    let theirs : s.tracked (s.block n).tracker ≡ Some n = tracker-of n s h.invariant.named (rw taken refl) in
+    let mine : s.tracked (s.block i).tracker ≡ Some i = tracker-of i h.invariant.named (rw due.service refl) in
+    let theirs : s.tracked (s.block n).tracker ≡ Some n = tracker-of n h.invariant.named (rw taken refl) in
     let apart : (s.block i).tracker ≡ (s.block n).tracker → ⊥ =
     λ e. not_both c due.data_too due.k (s.block i).service due.service
     (ap (λ (j : ℕ). (s.block j).service) (same_Some i n (sym mine ∙ ap s.tracked e ∙ theirs)) ∙ taken) in (
@@ -82,82 +71,68 @@ else_ack : {w : ℕ} (mail : AccessMessages w) (s : State (List ℕ)) (c sink i 
 unfolding IsElse block_message
 else_ack mail s c sink i = (ack_message ((s.block i).release_source c), refl, refl)
 
-no_grant_coming : {w : ℕ} (config : Config) (log : Log w) (mail : AccessMessages w) (request : ℕ → MessageA w)
-    (s : State (List ℕ)) (sys : System w) (c n : ℕ)
+no_grant_coming : {w : ℕ} {config : Config} {log : Log w} {mail : AccessMessages w} {request : ℕ → MessageA w}
+    {s : State (List ℕ)} {sys : System w} (c n : ℕ)
     → SimulationRelation config log mail request s sys → (s.block n).service ≡ GrantTaken c
-    → comes_in_grant (s.block n).tracker (unfinished channel.D (sys.clients c).past) ≡ false
-no_grant_coming {w} config log mail request s sys c n h taken = go (s.link c).d refl (h.carried c channel.D)
+    → comes_in_grant (s.block n).tracker (unfinished Channel.D (sys.clients c).past) ≡ false
+no_grant_coming {w} {config} {log} {mail} {request} {s} {sys} c n h taken = go (s.link c).d refl (h.carried c Channel.D)
   where
     rest_now : List (Beat w)
-    rest_now = unfinished channel.D (sys.clients c).past
+    rest_now = unfinished Channel.D (sys.clients c).past
 
     sink : ℕ
     sink = (s.block n).tracker
 
-    elses : (k : Kind) (i : ℕ) (rest : List Packet) → (s.link c).d ≡ packet k i ∷ rest → is_on channel.D k ≡ true
+    elses : (k : Kind) (i : ℕ) (rest : List Packet) → (s.link c).d ≡ packet k i ∷ rest → is_on Channel.D k ≡ true
         → IsElse sink (message_of_kind k mail s c i)
-    elses Answer i rest first own = else_answer config log mail request s sys c sink i rest h first
-    elses Grant i rest first own = else_grant config log mail request s sys c n i rest h first taken
+    elses Answer i rest first own = else_answer c sink i rest h first
+    elses Grant i rest first own = else_grant c n i rest h first taken
     elses ReleaseAck i rest first own = else_ack mail s c sink i
-    elses Request i rest first own = absurd cc
-    elses Acquire i rest first own = absurd cc
-    elses Probe i rest first own = absurd cc
-    elses ProbeAck i rest first own = absurd cc
-    elses Release i rest first own = absurd cc
-    elses GrantAck i rest first own = absurd cc
+    elses k i rest first own = absurd cc
 
     go : (xs : List Packet) → (s.link c).d ≡ xs → IsCarried rest_now (map (message_of mail s c) (s.link c).d)
-        (sys.channels c channel.D) → comes_in_grant sink rest_now ≡ false
+        (sys.channels c Channel.D) → comes_in_grant sink rest_now ≡ false
     go [] first carried =
-        let none : IsCarried rest_now [] (sys.channels c channel.D) =
-        subst (λ (ms : List (Message w)). IsCarried rest_now ms (sys.channels c channel.D))
+        let none : IsCarried rest_now [] (sys.channels c Channel.D) =
+        subst (λ (ms : List (Message w)). IsCarried rest_now ms (sys.channels c Channel.D))
         (ap (map (message_of mail s c)) first) carried in
         ap (comes_in_grant sink) none.0
     go (x ∷ xs) first carried =
         let some : IsCarried rest_now (message_of mail s c x ∷ map (message_of mail s c) xs)
-        (sys.channels c channel.D) =
-        subst (λ (ms : List (Message w)). IsCarried rest_now ms (sys.channels c channel.D))
+        (sys.channels c Channel.D) =
+        subst (λ (ms : List (Message w)). IsCarried rest_now ms (sys.channels c Channel.D))
         (ap (map (message_of mail s c)) first) carried in
         comes_else sink (message_of mail s c x) some.0 rest_now some.2
-        (elses x.kind x.number xs first (own_kind (is_caching config) s c channel.D x.kind x.number xs h.invariant
+        (elses x.kind x.number xs first (own_kind (is_caching config) s c Channel.D x.kind x.number xs h.invariant
         first))
 
-ack-lawful : {w : ℕ} (config : Config) (log : Log w) (mail : AccessMessages w) (request : ℕ → MessageA w)
-    (s : State (List ℕ)) (sys : System w) (c n : ℕ)
-    (toks : List Packet) (l : Level) (x : Beat w) (ms : List (Message w)) (queue : List (Beat w))
-    → SimulationRelation config log mail request s sys → MonitorRelations log mail s sys
-    → illegal l (channel_of x) x ≡ None → (s.link c).e ≡ packet GrantAck n ∷ toks
-    → IsNext x (unfinished channel.E (on_link c sys.manager.trace)) (block_message GrantAck c n (s.block n)) ms queue
+ack-lawful : {w : ℕ} {config : Config} {log : Log w} {mail : AccessMessages w} {request : ℕ → MessageA w}
+    {s : State (List ℕ)} {sys : System w} (c n : ℕ) (toks : List Packet) (l : Level) {x : Beat w}
+    {ms : List (Message w)} {queue : List (Beat w)} → SimulationRelation config log mail request s sys
+    → MonitorRelations log mail s sys → illegal l (channel_of x) x ≡ None → (s.link c).e ≡ packet GrantAck n ∷ toks
+    → IsNext x (unfinished Channel.E (on_link c sys.manager.trace)) (block_message GrantAck c n (s.block n)) ms queue
     → broken_after l config.profile x (flow c log) ≡ None
 unfolding block_message
-ack-lawful {w} config log mail request s sys c n toks l x ms queue is flowed lawful tokens next =
-    next-flows l config.profile (block_message GrantAck c n (s.block n)) x
-    (unfinished channel.E (on_link c sys.manager.trace)) ms queue (flow c log) lawful next
-    ((flowed c).rest_is channel.E)
-    (λ none. grant_ack-flows config.profile c n y (asked_by mail s c) (λ ch. unfinished ch (receiver ch c sys)) s
-    (flow c log) (flowed c) none
-    (tracker-of n s is.invariant.named (rw taken refl)) shows (no_grant_coming config log mail request s sys c n is
+ack-lawful {w} {config} {log} {mail} {request} {s} {sys} c n toks l {x} {ms} {queue} is flowed lawful tokens next =
+    let y : BeatE = record { sink = (s.block n).tracker } in
+    let shows = holds-first GrantAck (s.link c).e toks (packet GrantAck n) (λ i. shown GrantAck c (s.block i)) tokens
+    refl (is.invariant.transfers c GrantAck refl) in
+    let taken : (s.block n).service ≡ GrantTaken c = acknowledging-is (s.block n).service c shows in
+    next-flows l config.profile
+    (flow c log) lawful next
+    ((flowed c).rest_is Channel.E)
+    (λ none. grant_ack-flows config.profile n y
+    (flowed c) none
+    (tracker-of n is.invariant.named (rw taken refl)) shows (no_grant_coming c n is
     taken))
-  where
-    y : BeatE
-    y = record { sink = (s.block n).tracker }
 
-    shows : is_acknowledging (view (s.block n).service c) ≡ true
-    shows = holds-first GrantAck (s.link c).e toks (packet GrantAck n) (λ i. shown GrantAck c (s.block i)) tokens refl
-        (is.invariant.transfers c GrantAck refl)
-
-    taken : (s.block n).service ≡ GrantTaken c
-    taken = acknowledging-is (s.block n).service c shows
-
-pub flows-e : {w : ℕ} (config : Config) (log : Log w) (mail : AccessMessages w) (request : ℕ → MessageA w)
-    (s : State (List ℕ)) (sys : System w) (c : ℕ) (l : Level)
-    (x : Beat w) (queue : List (Beat w)) → IsWidth w → SimulationRelation config log mail request s sys
-    → MonitorRelations log mail s sys
-    → sys.channels c channel.E ≡ x ∷ queue → level_of config c ≡ Some l
-    → broken_after l config.profile x (flow c log) ≡ None
-flows-e {w} config log mail request s sys c l x queue width is flowed beats level =
-    by-first_e (λ i. broken_after l config.profile x (flow c log) ≡ None) c mail s sys x queue
-    (first-token (is_caching config) channel.E c mail s sys x queue width is.invariant is.carried beats)
-    (λ n rest tokens next. ack-lawful config log mail request s sys c n rest l x (map (message_of mail s c) rest) queue
-    is flowed
-    (lawful-beat config log mail request s sys c channel.E l x queue is beats level) tokens next)
+pub flows-e : {w : ℕ} {config : Config} {log : Log w} {mail : AccessMessages w} {request : ℕ → MessageA w}
+    {s : State (List ℕ)} {sys : System w} (c : ℕ) (l : Level) (x : Beat w) (queue : List (Beat w)) → IsWidth w
+    → SimulationRelation config log mail request s sys → MonitorRelations log mail s sys
+    → sys.channels c Channel.E ≡ x ∷ queue → level_of config c ≡ Some l → broken_after l config.profile x (flow c log)
+    ≡ None
+flows-e {w} {config} {log} {mail} {request} {s} {sys} c l x queue width is flowed beats level =
+    cc (by-first_e (λ i. broken_after l config.profile x (flow c log) ≡ None)
+    (first-token (is_caching config) Channel.E c mail s sys x queue width is.invariant is.carried beats)
+    (λ n rest tokens next. ack-lawful c n rest l
+    is flowed (lawful-beat c Channel.E l x queue is beats level) tokens next))

@@ -1,14 +1,12 @@
 -- What is delivered on a link, with one more beat: each value of it is as the beat leaves it.
 use Rattle.tl_coherence.proofs.flow.Imports.{Beat, BeatA, Channel, History, unfinished, on, grown, RequestSource}
 use Rattle.tl_coherence.proofs.flow.Imports.{ReleaseSource, Perm, begins, ends, pending, held, block_at, request_of}
-use Rattle.tl_coherence.proofs.flow.Imports.{release_of, probe_of, grant_sink, MonitorRelation}
-use Rattle.tl_coherence.proofs.flow.Imports.{is_requested, is_release_pending}
-use Rattle.tl_coherence.proofs.flow.Imports.{is_let_by, is_sunk, comes_granting, Block, State, view, is_granting}
-use Rattle.tl_coherence.proofs.flow.Imports.{is_acknowledging, is_answered, is_wanting, is_unserved, probe_beat}
-use Rattle.tl_coherence.proofs.flow.Imports.{cap_waited}
-use Rattle.std.proofs.Common.{◌≡◌, ℕ, Bool, true, false, not, ◌&&◌, ◌||◌, ◌∷◌, Option, Some, refl, sym, ◌∙◌, ap, List}
+use Rattle.tl_coherence.proofs.flow.Imports.{release_of, probe_of, grant_sink, MonitorRelation, is_requested}
+use Rattle.tl_coherence.proofs.flow.Imports.{is_release_pending, is_let_by, is_sunk, comes_granting, Block, State, view}
+use Rattle.tl_coherence.proofs.flow.Imports.{is_granting, is_acknowledging, is_answered, is_wanting, is_unserved}
+use Rattle.tl_coherence.proofs.flow.Imports.{probe_beat, cap_waited}
+use Rattle.std.proofs.Common.{◌≡◌, ℕ, Bool, true, false, not, ◌&&◌, ◌||◌, ◌∷◌, Option, Some, refl, sym, ◌∙◌, List}
 use Rattle.std.specs.Prelude.{if◌then◌else◌, option_map, unwrap_or}
-use Rattle.tl_beat.specs.declared.channel.Channel.TheVariants as channel
 use Rattle.tl_params.specs.declared.key.Key.{Key}
 use Rattle.tl_params.specs.declared.key.Key.TheVariants.{AcquireOf, ReleaseOf, GrantSink, GrantAckOf, ProbeOf}
 use Rattle.tl_rules.specs.statement.History.{opens, closes, says_held}
@@ -68,51 +66,47 @@ pub record IsStepped {w : ℕ} {X : Type 0} (x : Beat w) (first last : Bool) (as
   pub rests : (ch : Channel) → rest' ch ≡ (if on ch x then grown x (rest ch) else rest ch)
   pub held_is : (n : ℕ) → held_by c (s'.block n) ≡ (if last then unwrap_or (says_held n x t) (held_by c (s.block n))
       else held_by c (s.block n))
-  pub requests : (i : ℕ) → is_requested c i (rest' channel.A) (s'.uses c i) s' ≡ step first last
+  pub requests : (i : ℕ) → is_requested c i (rest' Channel.A) (s'.uses c i) s' ≡ step first last
       (opens (RequestSource i) x t) (closes (RequestSource i) x t)
-      (is_requested c i (rest channel.A) (s.uses c i) s)
-  pub asked_is : (i : ℕ) → is_requested c i (rest' channel.A) (s'.uses c i) s' ≡ true → request_of i (x ∷ t) ≡ asked' i
+      (is_requested c i (rest Channel.A) (s.uses c i) s)
+  pub asked_is : (i : ℕ) → is_requested c i (rest' Channel.A) (s'.uses c i) s' ≡ true → request_of i (x ∷ t) ≡ asked' i
   pub acquires : (n : ℕ) → acquired_by c (s'.block n) ≡ step first last (opens (AcquireOf n) x t)
       (closes (AcquireOf n) x t) (acquired_by c (s.block n))
-  pub release_sources : (i : ℕ) → is_let_by c i (rest' channel.C) (s'.lets c i) s' ≡ step first last
+  pub release_sources : (i : ℕ) → is_let_by c i (rest' Channel.C) (s'.lets c i) s' ≡ step first last
       (opens (ReleaseSource i) x t)
-      (closes (ReleaseSource i) x t) (is_let_by c i (rest channel.C) (s.lets c i) s)
-  pub released : (i n : ℕ) → s'.lets c i ≡ Some n → is_let_by c i (rest' channel.C) (s'.lets c i) s' ≡ true
+      (closes (ReleaseSource i) x t) (is_let_by c i (rest Channel.C) (s.lets c i) s)
+  pub released : (i n : ℕ) → s'.lets c i ≡ Some n → is_let_by c i (rest' Channel.C) (s'.lets c i) s' ≡ true
       → option_map (λ y. block_at y.address) (release_of i (x ∷ t)) ≡ Some n
-  pub sizes : (i n : ℕ) → s'.lets c i ≡ Some n → is_let_by c i (rest' channel.C) (s'.lets c i) s' ≡ true
+  pub sizes : (i n : ℕ) → s'.lets c i ≡ Some n → is_let_by c i (rest' Channel.C) (s'.lets c i) s' ≡ true
       → option_map (λ y. y.size) (release_of i (x ∷ t)) ≡ Some 6
-  pub releases : (n : ℕ) → let_of c (rest' channel.C) (s'.block n) ≡ step first last (opens (ReleaseOf n) x t)
-      (closes (ReleaseOf n) x t) (let_of c (rest channel.C) (s.block n))
-  pub sinks : (i : ℕ) → is_sunk c i (rest' channel.D) (s'.tracked i) s' ≡ step first last (opens (GrantSink i) x t)
-      (closes (GrantSink i) x t) (is_sunk c i (rest channel.D) (s.tracked i) s)
-  pub grants : (n : ℕ) → granted_by c n asked' (rest' channel.D) (s'.block n) ≡ step first last
+  pub releases : (n : ℕ) → let_of c (rest' Channel.C) (s'.block n) ≡ step first last (opens (ReleaseOf n) x t)
+      (closes (ReleaseOf n) x t) (let_of c (rest Channel.C) (s.block n))
+  pub sinks : (i : ℕ) → is_sunk c i (rest' Channel.D) (s'.tracked i) s' ≡ step first last (opens (GrantSink i) x t)
+      (closes (GrantSink i) x t) (is_sunk c i (rest Channel.D) (s.tracked i) s)
+  pub grants : (n : ℕ) → granted_by c n asked' (rest' Channel.D) (s'.block n) ≡ step first last
       (opens (GrantAckOf n) x t) (closes (GrantAckOf n) x t)
-      (granted_by c n asked (rest channel.D) (s.block n))
+      (granted_by c n asked (rest Channel.D) (s.block n))
   pub probes : (n : ℕ) → is_answered ((s'.block n).pair c).probing ≡ step first last (opens (ProbeOf n) x t)
       (closes (ProbeOf n) x t) (is_answered ((s.block n).pair c).probing)
   pub probed : (n : ℕ) → is_answered ((s'.block n).pair c).probing ≡ true
       → probe_of n (x ∷ t) ≡ Some (probe_beat n (cap_waited (s'.block n).service))
-  pub sunk : (n : ℕ) → granted_by c n asked' (rest' channel.D) (s'.block n) ≡ true
+  pub sunk : (n : ℕ) → granted_by c n asked' (rest' Channel.D) (s'.block n) ≡ true
       → grant_sink n (x ∷ t) ≡ Some (s'.block n).tracker
 
 stepped : {w : ℕ} (k : Key) (x : Beat w) (t : History w) (first last p p' : Bool) → begins x t ≡ first → ends x t ≡ last
-    → pending k t ≡ p
-    → p' ≡ step first last (opens k x t) (closes k x t) p → pending k (x ∷ t) ≡ p'
-stepped k x t first last p p' e f before after =
-    pending-next k x t first last e f ∙ ap (step first last (opens k x t) (closes k x t)) before ∙ sym after
+    → pending k t ≡ p → p' ≡ step first last (opens k x t) (closes k x t) p → pending k (x ∷ t) ≡ p'
+stepped k x t first last p p' e f before after = cc (pending-next k x t first last e f, before, after)
 
 held_stepped : {w : ℕ} (n : ℕ) (x : Beat w) (t : History w) (last : Bool) (p p' : Perm) → ends x t ≡ last → held n t ≡ p
     → p' ≡ (if last then unwrap_or (says_held n x t) p else p) → held n (x ∷ t) ≡ p'
-held_stepped n x t last p p' f before after =
-    held-next n x t last f ∙ ap (λ (q : Perm). if last then unwrap_or (says_held n x t) q else q) before ∙ sym after
+held_stepped n x t last p p' f before after = cc (held-next n x t last f, before, after)
 
-pub flowed-next : {w : ℕ} {X : Type 0} (x : Beat w) (first last : Bool) (asked asked' : ℕ → Option (BeatA w))
-    (rest rest' : Channel → List (Beat w)) (c : ℕ) (s s' : State X) (t : History w)
+pub flowed-next : {w : ℕ} {X : Type 0} {x : Beat w} {first last : Bool} {asked asked' : ℕ → Option (BeatA w)}
+    {rest rest' : Channel → List (Beat w)} {c : ℕ} {s s' : State X} {t : History w}
     → IsStepped x first last asked asked' rest rest' c s s' t → MonitorRelation asked rest c s t
     → MonitorRelation asked' rest' c s' (x ∷ t)
-flowed-next {w} {X} x first last asked asked' rest rest' c s s' t is before = record {
-  rest_is = λ ch. unfinished-next ch x t ∙ ap (λ (r : List (Beat w)). if on ch x then grown x r else r)
-      (before.rest_is ch) ∙ sym (is.rests ch);
+flowed-next {w} {X} {x} {first} {last} {asked} {asked'} {rest} {rest'} {c} {s} {s'} {t} is before = record {
+  rest_is = λ ch. cc (unfinished-next ch x t, before.rest_is ch, is.rests ch);
   held_is = λ n. held_stepped n x t last (held_by c (s.block n)) (held_by c (s'.block n)) is.last_is (before.held_is n)
       (is.held_is n);
   requests = requests;
@@ -122,10 +116,10 @@ flowed-next {w} {X} x first last asked asked' rest rest' c s s' t is before = re
   release_sources = lets;
   released = λ i n e f. is.released i n e (sym (lets i) ∙ f);
   sizes = λ i n e f. is.sizes i n e (sym (lets i) ∙ f);
-  releases = λ n. stepped (ReleaseOf n) x t first last (let_of c (rest channel.C) (s.block n))
-      (let_of c (rest' channel.C) (s'.block n)) is.first_is is.last_is (before.releases n) (is.releases n);
-  sinks = λ i. stepped (GrantSink i) x t first last (is_sunk c i (rest channel.D) (s.tracked i) s)
-      (is_sunk c i (rest' channel.D) (s'.tracked i) s') is.first_is is.last_is (before.sinks i) (is.sinks i);
+  releases = λ n. stepped (ReleaseOf n) x t first last (let_of c (rest Channel.C) (s.block n))
+      (let_of c (rest' Channel.C) (s'.block n)) is.first_is is.last_is (before.releases n) (is.releases n);
+  sinks = λ i. stepped (GrantSink i) x t first last (is_sunk c i (rest Channel.D) (s.tracked i) s)
+      (is_sunk c i (rest' Channel.D) (s'.tracked i) s') is.first_is is.last_is (before.sinks i) (is.sinks i);
   grants = grants;
   probes = λ n. stepped (ProbeOf n) x t first last (is_answered ((s.block n).pair c).probing)
       (is_answered ((s'.block n).pair c).probing) is.first_is is.last_is (before.probes n) (is.probes n);
@@ -133,15 +127,15 @@ flowed-next {w} {X} x first last asked asked' rest rest' c s s' t is before = re
   sunk = λ n e. is.sunk n (sym (grants n) ∙ e);
 }
   where
-    requests : (i : ℕ) → pending (RequestSource i) (x ∷ t) ≡ is_requested c i (rest' channel.A) (s'.uses c i) s'
-    requests i = stepped (RequestSource i) x t first last (is_requested c i (rest channel.A) (s.uses c i) s)
-        (is_requested c i (rest' channel.A) (s'.uses c i) s') is.first_is is.last_is (before.requests i) (is.requests i)
+    requests : (i : ℕ) → pending (RequestSource i) (x ∷ t) ≡ is_requested c i (rest' Channel.A) (s'.uses c i) s'
+    requests i = stepped (RequestSource i) x t first last (is_requested c i (rest Channel.A) (s.uses c i) s)
+        (is_requested c i (rest' Channel.A) (s'.uses c i) s') is.first_is is.last_is (before.requests i) (is.requests i)
 
-    lets : (i : ℕ) → pending (ReleaseSource i) (x ∷ t) ≡ is_let_by c i (rest' channel.C) (s'.lets c i) s'
-    lets i = stepped (ReleaseSource i) x t first last (is_let_by c i (rest channel.C) (s.lets c i) s)
-        (is_let_by c i (rest' channel.C) (s'.lets c i) s') is.first_is is.last_is (before.release_sources i)
+    lets : (i : ℕ) → pending (ReleaseSource i) (x ∷ t) ≡ is_let_by c i (rest' Channel.C) (s'.lets c i) s'
+    lets i = stepped (ReleaseSource i) x t first last (is_let_by c i (rest Channel.C) (s.lets c i) s)
+        (is_let_by c i (rest' Channel.C) (s'.lets c i) s') is.first_is is.last_is (before.release_sources i)
         (is.release_sources i)
 
-    grants : (n : ℕ) → pending (GrantAckOf n) (x ∷ t) ≡ granted_by c n asked' (rest' channel.D) (s'.block n)
-    grants n = stepped (GrantAckOf n) x t first last (granted_by c n asked (rest channel.D) (s.block n))
-        (granted_by c n asked' (rest' channel.D) (s'.block n)) is.first_is is.last_is (before.grants n) (is.grants n)
+    grants : (n : ℕ) → pending (GrantAckOf n) (x ∷ t) ≡ granted_by c n asked' (rest' Channel.D) (s'.block n)
+    grants n = stepped (GrantAckOf n) x t first last (granted_by c n asked (rest Channel.D) (s.block n))
+        (granted_by c n asked' (rest' Channel.D) (s'.block n)) is.first_is is.last_is (before.grants n) (is.grants n)

@@ -1,13 +1,11 @@
 -- Which sinks are those of Grants that were delivered, as an event changes one block and its tracker.
-use Rattle.tl_coherence.proofs.flow.Imports.{Beat, comes_in_grant, is_sunk, View, Idle, Own, Other, Granting}
-use Rattle.tl_coherence.proofs.flow.Imports.{Acknowledging, GrantedOther, Block, State, view, is_granting}
-use Rattle.tl_coherence.proofs.flow.Imports.{is_acknowledging, set}
+use Rattle.tl_coherence.proofs.flow.Imports.{Beat, comes_in_grant, is_sunk, View, Own, Granting, Acknowledging, Block}
+use Rattle.tl_coherence.proofs.flow.Imports.{State, view, is_granting, is_acknowledging, set}
 use Rattle.std.proofs.Common.{◌≡◌, ℕ, Bool, true, false, ◌&&◌, ◌||◌, Option, Some, None, refl, sym, ◌∙◌, ap, List, ◌⊎◌}
 use Rattle.std.proofs.Common.{inl, inr}
 use Rattle.std.proofs.lemmas.Bool.{cases_eq}
-use Rattle.tl_coherence.proofs.flow.FlowOthers.{is_outside}
-use Rattle.tl_coherence.proofs.flow.FlowReleased.{AreElsewhere}
-use Rattle.tl_coherence.proofs.queues.Tokens.{set-same, set-other}
+use Rattle.tl_coherence.proofs.{flow.FlowOthers.is_outside, flow.FlowReleased.AreElsewhere, queues.Tokens.set-same}
+use Rattle.tl_coherence.proofs.{queues.Tokens.set-other}
 
 -- the Grant of the block, if it has this sink, was delivered to client c, and its GrantAck wasn't
 abbrev pub sunk_in : {w : ℕ} {X : Type 0} → ℕ → ℕ → List (Beat w) → Block X → Bool
@@ -25,10 +23,10 @@ sunk-as c i rest (Some n) s s' same = same n
 abbrev pub IsWithin : ℕ → Option ℕ → Type 0
 IsWithin n o = (o ≡ None) ⊎ (o ≡ Some n)
 
-unsunk : {w : ℕ} {X : Type 0} (c i n : ℕ) (rest : List (Beat w)) (o : Option ℕ) (s : State X) → IsWithin n o
+unsunk : {w : ℕ} {X : Type 0} (c i : ℕ) {n : ℕ} (rest : List (Beat w)) {o : Option ℕ} (s : State X) → IsWithin n o
     → (o ≡ Some n → sunk_in c i rest (s.block n) ≡ false) → is_sunk c i rest o s ≡ false
-unsunk c i n rest o s (inl e) none = ap (λ (p : Option ℕ). is_sunk c i rest p s) e
-unsunk c i n rest o s (inr e) none = ap (λ (p : Option ℕ). is_sunk c i rest p s) e ∙ none e
+unsunk c i rest s (inl e) none = ap (λ (p : Option ℕ). is_sunk c i rest p s) e
+unsunk c i rest s (inr e) none = ap (λ (p : Option ℕ). is_sunk c i rest p s) e ∙ none e
 
 -- block n isn't one of the client's Grants before, nor afterwards
 pub sunk-elsewhere : {w : ℕ} {X : Type 0} (c i n : ℕ) (rest : List (Beat w)) (o o' : Option ℕ) (s s' : State X)
@@ -36,9 +34,8 @@ pub sunk-elsewhere : {w : ℕ} {X : Type 0} (c i n : ℕ) (rest : List (Beat w))
     → (o ≡ Some n → sunk_in c i rest (s.block n) ≡ false) → (o' ≡ Some n → sunk_in c i rest (s'.block n) ≡ false)
     → is_sunk c i rest o' s' ≡ is_sunk c i rest o s
 sunk-elsewhere c i n rest o o' s s' same (inr both) before now =
-    unsunk c i n rest o' s' both.1 now ∙ sym (unsunk c i n rest o s both.0 before)
-sunk-elsewhere {w} {X} c i n rest o o' s s' same (inl e) before now =
-    ap (λ (p : Option ℕ). is_sunk c i rest p s') e ∙ go o before (λ f. now (e ∙ f))
+    unsunk c i rest s' both.1 now ∙ sym (unsunk c i rest s both.0 before)
+sunk-elsewhere {w} {X} c i n rest o o' s s' same (inl e) before now = cc (e, go o before (λ f. now (e ∙ f)))
   where
     go : (p : Option ℕ) → (p ≡ Some n → sunk_in c i rest (s.block n) ≡ false)
         → (p ≡ Some n → sunk_in c i rest (s'.block n) ≡ false) → is_sunk c i rest p s' ≡ is_sunk c i rest p s
@@ -63,8 +60,7 @@ tracked-new n tracker tracked free i = elim (cases_eq i tracker) [
 ]
 
 pub tracked-free : (n tracker : ℕ) (tracked : ℕ → Option ℕ) → tracked tracker ≡ Some n → (i : ℕ)
-    → (set tracker None tracked i ≡ tracked i)
-    ⊎ (IsWithin n (tracked i) × IsWithin n (set tracker None tracked i))
+    → (set tracker None tracked i ≡ tracked i) ⊎ (IsWithin n (tracked i) × IsWithin n (set tracker None tracked i))
 tracked-free n tracker tracked used i = elim (cases_eq i tracker) [
   | inl same ↦ inr (
     inr (ap tracked same ∙ used),
@@ -75,9 +71,7 @@ tracked-free n tracker tracked used i = elim (cases_eq i tracker) [
 ]
 
 pub outside-unsunk : (v : View) (b : Bool) → is_outside v ≡ true → (is_acknowledging v || (is_granting v && b)) ≡ false
-outside-unsunk Idle b e = refl
-outside-unsunk (Other k) b e = refl
-outside-unsunk GrantedOther b e = refl
 outside-unsunk Own b e = absurd cc
 outside-unsunk (Granting d k) b e = absurd cc
 outside-unsunk Acknowledging b e = absurd cc
+outside-unsunk v b e = refl

@@ -4,41 +4,39 @@ use Rattle.tl_coherence.proofs.flow.Imports.{SimulationRelation, flow}
 use Rattle.std.proofs.Common.{◌≡◌, ℕ, Bool, true, false, List, [], ◌∷◌, Some, refl, sym, ◌∙◌, ap}
 use Rattle.std.specs.Prelude.{◌++◌, ◌==◌, if◌then◌else◌}
 use Rattle.tl_beat.specs.declared.beat.Link.{Link}
-use Rattle.tl_client.specs.declared.verdict.Finish.{Finish}
-use Rattle.tl_client.specs.statement.Endpoint.{EndConfig}
-use Rattle.tl_coherence.specs.declared.event.Event.{Event}
-use Rattle.tl_coherence.specs.declared.event.Event.TheVariants.{Ask, Deliver}
-use Rattle.tl_coherence.specs.declared.event.Outcome.{Outcome}
-use Rattle.tl_coherence.specs.declared.event.Outcome.TheVariants as outcome
-use Rattle.tl_coherence.specs.statement.Draining.{is_moving}
+use Rattle.tl_client.{specs.declared.verdict.Finish.Finish, specs.statement.Endpoint.EndConfig}
+use Rattle.tl_coherence.specs.{declared.event.Event.Event, declared.event.Event.TheVariants.Deliver}
+use Rattle.tl_coherence.specs.{declared.event.Outcome.Outcome, statement.Draining.is_moving, statement.Headline.IsGiven}
+use Rattle.tl_coherence.specs.{statement.Log.IsLog, statement.Log.system_after, statement.Step.stepped}
+use Rattle.tl_coherence.specs.{statement.Step.is_to_client, statement.System.terms_at}
 use Rattle.tl_coherence.specs.statement.Flow.{taken_at, IsTaken, EachTaken}
-use Rattle.tl_coherence.specs.statement.Headline.{IsGiven}
-use Rattle.tl_coherence.specs.statement.Log.{IsLog, system_after}
-use Rattle.tl_coherence.specs.statement.Step.{stepped, is_to_client}
-use Rattle.tl_coherence.specs.statement.System.{terms_at}
-use Rattle.tl_coherence.proofs.bound.Settling.{given-before}
-use Rattle.tl_coherence.proofs.deliveries.Matching.{shadow}
-use Rattle.tl_coherence.proofs.flow.FlowReceived.{IsMovedOn, moved-on}
-use Rattle.tl_coherence.proofs.links.FromInvariant.{matched-given}
-use Rattle.tl_coherence.proofs.links.HeadsOfLinks.{first-of}
-use Rattle.tl_coherence.proofs.outstanding.Outstanding.{first-moved}
-use Rattle.tl_coherence.proofs.queues.Tokens.{same_number}
+use Rattle.tl_coherence.proofs.{bound.Settling.given-before, deliveries.Matching.shadow}
+use Rattle.tl_coherence.proofs.{flow.FlowReceived.moved-on, links.FromInvariant.matched-given}
+use Rattle.tl_coherence.proofs.{links.HeadsOfLinks.first-of, outstanding.Outstanding.first-moved}
+use Rattle.tl_coherence.proofs.{queues.Tokens.same_number}
 
 first_of_two : {w : ℕ} (x y : Beat w) (t : History w) → x ∷ t ≡ y ∷ t → y ≡ x
 first_of_two x y t e = cc
 
 -- a beat that is moved was first on its channel
-moved-first : {w : ℕ} (config : Config) (log : Log w) (h : AbstractState w) (link : Link) (ch : Channel) (o : Outcome w)
-    (x : Beat w) → IsWidth w
-    → SimulationRelation config log h.mail h.request h.state (system_after config log)
+moved-first : {w : ℕ} {config : Config} {log : Log w} (h : AbstractState w) (link : Link) (ch : Channel) (o : Outcome w)
+    (x : Beat w) → IsWidth w → SimulationRelation config log h.mail h.request h.state (system_after config log)
     → o ≡ (stepped config (Deliver link ch) (system_after config log)).outcome → is_moving o ≡ true
     → ((d : ℕ) → flow d ((Deliver link ch, o) ∷ log) ≡ (if link.0 == d then x ∷ flow d log else flow d log))
     → (queue : List (Beat w)) × ((system_after config log).channels link.0 (channel_of x) ≡ x ∷ queue)
-moved-first {w} config log h link ch o x width is o_is moves delivered = (
-  at.1,
-  ap ((system_after config log).channels link.0) (sym (ap (λ (z : Beat w). channel_of z) same) ∙ on) ∙ at.3.0
-      ∙ ap (λ (z : Beat w). z ∷ at.1) same,
-)
+moved-first {w} {config} {log} h link ch o x width is o_is moves delivered =
+    let head : (b : Bool) → b ≡ true → (if b then x ∷ flow link.0 log else flow link.0 log)
+    ≡ (if b then at.0 ∷ flow link.0 log else flow link.0 log) → at.0 ≡ x =
+    elim [ true ↦ λ e f. first_of_two x at.0 (flow link.0 log) f | false ↦ λ e f. absurd cc ] in
+    let moved = moved-on link ch h at.0 at.1 at.2 width is at.3.0 at.3.1 moving (is_to_client ch) refl in
+    let both : (if link.0 == link.0 then x ∷ flow link.0 log else flow link.0 log)
+    ≡ (if link.0 == link.0 then at.0 ∷ flow link.0 log else flow link.0 log) =
+    cc (delivered link.0, o_is, moved.delivered link.0) in
+    let same : at.0 ≡ x = head (link.0 == link.0) (same_number link.0) both in (
+      at.1,
+      ap ((system_after config log).channels link.0) (sym (ap (λ (z : Beat w). channel_of z) same) ∙ on) ∙ at.3.0
+          ∙ ap (λ (z : Beat w). z ∷ at.1) same,
+    )
   where
     moving : is_moving (stepped config (Deliver link ch) (system_after config log)).outcome ≡ true
     moving = sym (ap is_moving o_is) ∙ moves
@@ -47,54 +45,30 @@ moved-first {w} config log h link ch o x width is o_is moves delivered = (
         × (((system_after config log).channels link.0 ch ≡ z ∷ queue) × (terms_at config link.0 ≡ Some terms))
     at = first-moved config link ch (system_after config log) moving
 
-    moved : IsMovedOn config log link ch h at.0 at.1
-    moved = moved-on config log link ch h at.0 at.1 at.2 width is at.3.0 at.3.1 moving (is_to_client ch) refl
-
-    both : (if link.0 == link.0 then x ∷ flow link.0 log else flow link.0 log)
-        ≡ (if link.0 == link.0 then at.0 ∷ flow link.0 log else flow link.0 log)
-    both = sym (delivered link.0) ∙ ap (λ (i : Outcome w). flow link.0 ((Deliver link ch, i) ∷ log))
-        o_is ∙ moved.delivered link.0
-
-    head : (b : Bool) → b ≡ true
-        → (if b then x ∷ flow link.0 log else flow link.0 log) ≡ (if b then at.0 ∷ flow link.0 log else flow link.0 log)
-        → at.0 ≡ x
-    head true e f = first_of_two x at.0 (flow link.0 log) f
-    head false e f = absurd cc
-
-    same : at.0 ≡ x
-    same = head (link.0 == link.0) (same_number link.0) both
-
     on : channel_of at.0 ≡ ch
     on = (first-of config log h link.0 at.2 ch at.0 at.1 width is at.3.1 at.3.0).on
 
 -- the beat of an outcome
-moved-beat : {w : ℕ} (config : Config) (log : Log w) (h : AbstractState w) (link : Link) (ch : Channel) (x : Beat w)
-    → IsWidth w
-    → SimulationRelation config log h.mail h.request h.state (system_after config log)
-    → outcome.Moved x ≡ (stepped config (Deliver link ch) (system_after config log)).outcome
-    → (queue : List (Beat w)) × ((system_after config log).channels link.0 (channel_of x) ≡ x ∷ queue)
+moved-beat : {w : ℕ} {config : Config} {log : Log w} (h : AbstractState w) (link : Link) (ch : Channel) (x : Beat w)
+    → IsWidth w → SimulationRelation config log h.mail h.request h.state (system_after config log)
+    → Outcome.Moved x ≡ (stepped config (Deliver link ch) (system_after config log)).outcome → (queue : List (Beat w))
+    × ((system_after config log).channels link.0 (channel_of x) ≡ x ∷ queue)
 unfolding flow
-moved-beat {w} config log h link ch x width is o_is = moved-first config log h link ch (outcome.Moved x) x width is o_is
-    refl (λ d. taken_there d (link.0 == d))
-  where
-    taken_there : (d : ℕ) (b : Bool)
-        → (if b then x ∷ [] else []) ++ flow d log ≡ (if b then x ∷ flow d log else flow d log)
-    taken_there d true = refl
-    taken_there d false = refl
+moved-beat {w} {config} {log} h link ch x width is o_is =
+    let taken_there : (d : ℕ) (b : Bool) → (if b then x ∷ [] else []) ++ flow d log
+    ≡ (if b then x ∷ flow d log else flow d log) = λ d. elim [ true ↦ refl | false ↦ refl ] in
+    moved-first h link ch (Outcome.Moved x) x width is o_is refl (λ d. taken_there d (link.0 == d))
 
-done-beat : {w : ℕ} (config : Config) (log : Log w) (h : AbstractState w) (link : Link) (ch : Channel) (x : Beat w)
+done-beat : {w : ℕ} {config : Config} {log : Log w} (h : AbstractState w) (link : Link) (ch : Channel) (x : Beat w)
     (source : ℕ) (f : Finish) → IsWidth w
     → SimulationRelation config log h.mail h.request h.state (system_after config log)
-    → outcome.Done x source f ≡ (stepped config (Deliver link ch) (system_after config log)).outcome
+    → Outcome.Done x source f ≡ (stepped config (Deliver link ch) (system_after config log)).outcome
     → (queue : List (Beat w)) × ((system_after config log).channels link.0 (channel_of x) ≡ x ∷ queue)
 unfolding flow
-done-beat {w} config log h link ch x source f width is o_is = moved-first config log h link ch (outcome.Done x source f)
-    x width is o_is refl (λ d. taken_there d (link.0 == d))
-  where
-    taken_there : (d : ℕ) (b : Bool)
-        → (if b then x ∷ [] else []) ++ flow d log ≡ (if b then x ∷ flow d log else flow d log)
-    taken_there d true = refl
-    taken_there d false = refl
+done-beat {w} {config} {log} h link ch x source f width is o_is =
+    let taken_there : (d : ℕ) (b : Bool) → (if b then x ∷ [] else []) ++ flow d log
+    ≡ (if b then x ∷ flow d log else flow d log) = λ d. elim [ true ↦ refl | false ↦ refl ] in
+    moved-first h link ch (Outcome.Done x source f) x width is o_is refl (λ d. taken_there d (link.0 == d))
 
 -- ---- all that is taken
 
@@ -104,26 +78,20 @@ module _ {w : ℕ} (config : Config) (P : Log w → ℕ → Beat w → Type 0)
   where
     taken-event : (event : Event w) (o : Outcome w) (log : Log w) → IsGiven config ((event, o) ∷ log)
         → o ≡ (stepped config event (system_after config log)).outcome → IsTaken P log (taken_at event o)
-    taken-event (Deliver link ch) (outcome.Moved x) log given o_is =
-        let before = given-before config (Deliver link ch, outcome.Moved x) log given in
-        let first = moved-beat config log (shadow config log) link ch x given.width (matched-given config log before)
+    taken-event (Deliver link ch) (Outcome.Moved x) log given o_is =
+        let before = given-before config (Deliver link ch, Outcome.Moved x) log given in
+        let first = moved-beat (shadow config log) link ch x given.width (matched-given config log before)
         o_is in
         front log before link.0 x first.0 first.1
-    taken-event (Deliver link ch) (outcome.Done x source f) log given o_is =
-        let before = given-before config (Deliver link ch, outcome.Done x source f) log given in
-        let first = done-beat config log (shadow config log) link ch x source f given.width
+    taken-event (Deliver link ch) (Outcome.Done x source f) log given o_is =
+        let before = given-before config (Deliver link ch, Outcome.Done x source f) log given in
+        let first = done-beat (shadow config log) link ch x source f given.width
         (matched-given config log before) o_is in
         front log before link.0 x first.0 first.1
-    taken-event (Deliver link ch) (outcome.Replied r) log given o_is = tt
-    taken-event (Deliver link ch) outcome.Empty log given o_is = tt
-    taken-event (Deliver link ch) outcome.Stalled log given o_is = tt
-    taken-event (Deliver link ch) outcome.NoSuchClient log given o_is = tt
-    taken-event (Ask c i) o log given o_is = tt
+    taken-event event o log given o_is = tt
 
     pub each-taken : (log : Log w) → IsGiven config log → EachTaken P log
     unfolding EachTaken IsLog
     each-taken [] given = tt
-    each-taken (x ∷ log) given = (
-      taken-event x.0 x.1 log given given.is_log.0,
-      each-taken log (given-before config x log given),
-    )
+    each-taken (x ∷ log) given =
+        (taken-event x.0 x.1 log given given.is_log.0, each-taken log (given-before config x log given))

@@ -4,63 +4,46 @@ use Rattle.tl_coherence.proofs.flow.Imports.{level_of, flow, Log}
 use Rattle.std.proofs.Common.{◌≡◌, ℕ, Bool, true, false, ◌&&◌, List, [], ◌∷◌, ◌++◌, refl, sym, ◌∙◌, ap, subst}
 use Rattle.std.proofs.Common.{append_assoc}
 use Rattle.std.specs.Prelude.{◌==◌, if◌then◌else◌, Option, Some, None, is_none, reverse, slice_get, ⊤}
-use Rattle.std.proofs.lemmas.Bool.{eqb-false}
+use Rattle.std.{proofs.lemmas.Bool.eqb-false, proofs.lemmas.Option.slice_get-map}
 use Rattle.std.proofs.lemmas.List.{append-nil, reverse-append, reverse-reverse}
-use Rattle.std.proofs.lemmas.Option.{slice_get-map}
 use Rattle.tl_beat.specs.declared.beat.Link.{Link}
-use Rattle.tl_params.specs.declared.config.ClientConfig.{ClientConfig}
-use Rattle.tl_params.specs.declared.rule.Rule.{Rule}
+use Rattle.tl_params.{specs.declared.config.ClientConfig.ClientConfig, specs.declared.rule.Rule.Rule}
 use Rattle.tl_rules.specs.statement.Conformance.{Trace, broken_at_level, broken_on_link, fault_from, is_legal}
-use Rattle.tl_client.specs.statement.Endpoint.{EndConfig}
-use Rattle.tl_coherence.specs.declared.event.Event.{Event}
+use Rattle.tl_coherence.specs.{declared.event.Event.Event, declared.event.Outcome.Outcome, statement.Delivery.Faultless}
+use Rattle.tl_coherence.specs.{statement.Delivery.levels_of, statement.Draining.is_moving, statement.Headline.IsGiven}
+use Rattle.tl_coherence.specs.{statement.Log.IsLog, statement.Log.system_after}
 use Rattle.tl_coherence.specs.declared.event.Event.TheVariants.{Ask, Deliver}
-use Rattle.tl_coherence.specs.declared.event.Outcome.{Outcome}
-use Rattle.tl_coherence.specs.declared.event.Outcome.TheVariants as outcome
-use Rattle.tl_coherence.specs.statement.Delivery.{Faultless, levels_of}
-use Rattle.tl_coherence.specs.statement.Draining.{is_moving}
 use Rattle.tl_coherence.specs.statement.Flow.{taken_at, taken_on, trace_of}
-use Rattle.tl_coherence.specs.statement.Headline.{IsGiven}
-use Rattle.tl_coherence.specs.statement.Log.{IsLog, system_after}
-use Rattle.tl_coherence.specs.statement.System.{terms_at}
-use Rattle.tl_coherence.proofs.bound.Settling.{given-before}
-use Rattle.tl_coherence.proofs.flow.Flows.{flows}
-use Rattle.tl_coherence.proofs.outstanding.Outstanding.{first-moved}
-use Rattle.tl_coherence.proofs.simulation.BeatsInFlight.{level-terms}
+use Rattle.tl_coherence.proofs.{bound.Settling.given-before, flow.Flows.flows, outstanding.Outstanding.first-moved}
+use Rattle.tl_coherence.proofs.{simulation.BeatsInFlight.level-terms}
 
 -- ---- the beats of all links, and those of one
 
 on-link : {w : ℕ} (n : ℕ) (link : Link) (x : Beat w) (t : Trace w)
     → on_link n ((link, x) ∷ t) ≡ (if link.0 == n then x ∷ [] else []) ++ on_link n t
 unfolding on_link
-on-link {w} n link x t = go (link.0 == n)
-  where
-    go : (b : Bool) → (if b then x ∷ on_link n t else on_link n t) ≡ (if b then x ∷ [] else []) ++ on_link n t
-    go true = refl
-    go false = refl
+on-link {w} n link x t =
+    let go : (b : Bool) → (if b then x ∷ on_link n t else on_link n t) ≡ (if b then x ∷ [] else []) ++ on_link n t =
+    elim [ true ↦ refl | false ↦ refl ] in
+    go (link.0 == n)
 
 taken-flows : {w : ℕ} (n : ℕ) (event : Event w) (o : Outcome w) (t : Trace w)
     → on_link n (taken_at event o ++ t) ≡ taken_on n event o ++ on_link n t
-taken-flows n (Deliver link ch) (outcome.Moved x) t = on-link n link x t
-taken-flows n (Deliver link ch) (outcome.Done x source f) t = on-link n link x t
-taken-flows n (Deliver link ch) (outcome.Replied r) t = refl
-taken-flows n (Deliver link ch) outcome.Empty t = refl
-taken-flows n (Deliver link ch) outcome.Stalled t = refl
-taken-flows n (Deliver link ch) outcome.NoSuchClient t = refl
-taken-flows n (Ask client op) o t = refl
+taken-flows n (Deliver link ch) (Outcome.Moved x) t = on-link n link x t
+taken-flows n (Deliver link ch) (Outcome.Done x source f) t = on-link n link x t
+taken-flows n event o t = refl
 
 pub trace-flows : {w : ℕ} (n : ℕ) (log : Log w) → on_link n (trace_of log) ≡ flow n log
 unfolding on_link flow trace_of
 trace-flows n [] = refl
-trace-flows n (x ∷ log) = taken-flows n x.0 x.1 (trace_of log) ∙ ap (λ (t : History _). taken_on n x.0 x.1 ++ t)
-    (trace-flows n log)
+trace-flows n (x ∷ log) = cc (taken-flows n x.0 x.1 (trace_of log), trace-flows n log)
 
 -- what was taken on a link is first in its flow
 pub taken : {w : ℕ} (link : Link) (x : Beat w) (t : History w) → (if link.0 == link.0 then x ∷ [] else []) ++ t ≡ x ∷ t
-taken {w} link x t = go (link.0 == link.0) refl
-  where
-    go : (b : Bool) → (link.0 == link.0) ≡ b → (if b then x ∷ [] else []) ++ t ≡ x ∷ t
-    go true e = refl
-    go false e = absurd (eqb-false link.0 link.0 e refl)
+taken {w} link x t =
+    let go : (b : Bool) → (link.0 == link.0) ≡ b → (if b then x ∷ [] else []) ++ t ≡ x ∷ t =
+    elim [ true ↦ λ e. refl | false ↦ λ e. absurd (eqb-false link.0 link.0 e refl) ] in
+    go (link.0 == link.0) refl
 
 -- ---- a beat that is delivered breaks no rule after the earlier ones
 
@@ -71,21 +54,16 @@ pub record IsLevelled (config : Config) (link : ℕ) : Type 0 where
   pub in_levels : slice_get (levels_of config) link ≡ Some level
 
 pub levelled : {w : ℕ} (config : Config) (log : Log w) (link : Link) (ch : Channel) (o : Outcome w)
-    → IsGiven config ((Deliver link ch, o) ∷ log) → is_moving o ≡ true
-    → IsLevelled config link.0
+    → IsGiven config ((Deliver link ch, o) ∷ log) → is_moving o ≡ true → IsLevelled config link.0
 unfolding IsLog
-levelled {w} config log link ch o given moving = record {
-  level = first.2.level;
-  of_link = of_link;
-  in_levels = slice_get-map (λ (c : ClientConfig). c.level) config.clients.items link.0 ∙ of_link;
-}
-  where
-    first : (y : Beat w) × (queue : List (Beat w)) × (terms : EndConfig)
-        × (((system_after config log).channels link.0 ch ≡ y ∷ queue) × (terms_at config link.0 ≡ Some terms))
-    first = first-moved config link ch (system_after config log) (ap is_moving (sym given.is_log.0) ∙ moving)
-
-    of_link : level_of config link.0 ≡ Some first.2.level
-    of_link = (level-terms config link.0 first.2 first.3.1).0
+levelled {w} config log link ch o given moving =
+    let first = first-moved config link ch (system_after config log) (ap is_moving (sym given.is_log.0) ∙ moving) in
+    let of_link : level_of config link.0 ≡ Some first.2.level = (level-terms config link.0 first.2 first.3.1).0 in
+    record {
+      level = first.2.level;
+      of_link = of_link;
+      in_levels = slice_get-map (λ (c : ClientConfig). c.level) config.clients.items link.0 ∙ of_link;
+    }
 
 unbroken : (o : Option Rule) (b : Bool) → (is_none o && b) ≡ true → o ≡ None
 unbroken None b e = refl
@@ -136,26 +114,25 @@ unfolding AreGood trace_of flow
 all-good config [] given = tt
 all-good config ((Ask client op, o) ∷ log) given =
     all-good config log (given-before config (Ask client op, o) log given)
-all-good config ((Deliver link ch, outcome.Moved x) ∷ log) given = (
-  delivered-unbroken config log link ch (outcome.Moved x) x given refl (taken link x (flow link.0 log)),
-  all-good config log (given-before config (Deliver link ch, outcome.Moved x) log given),
+all-good config ((Deliver link ch, Outcome.Moved x) ∷ log) given = (
+  delivered-unbroken config log link ch (Outcome.Moved x) x given refl (taken link x (flow link.0 log)),
+  all-good
+      config log (given-before config (Deliver link ch, Outcome.Moved x) log given),
 )
-all-good config ((Deliver link ch, outcome.Done x source f) ∷ log) given = (
-  delivered-unbroken config log link ch (outcome.Done x source f) x given refl (taken link x (flow link.0 log)),
-  all-good config log (given-before config (Deliver link ch, outcome.Done x source f) log given),
+all-good config ((Deliver link ch, Outcome.Done x source f) ∷ log) given = (
+  delivered-unbroken config log link ch (Outcome.Done x source f) x given refl (taken link x (flow link.0 log)),
+  all-good config log (given-before config (Deliver link ch, Outcome.Done x source f) log given),
 )
-all-good config ((Deliver link ch, outcome.Replied r) ∷ log) given =
-    all-good config log (given-before config (Deliver link ch, outcome.Replied r) log given)
-all-good config ((Deliver link ch, outcome.Empty) ∷ log) given =
-    all-good config log (given-before config (Deliver link ch, outcome.Empty) log given)
-all-good config ((Deliver link ch, outcome.Stalled) ∷ log) given =
-    all-good config log (given-before config (Deliver link ch, outcome.Stalled) log given)
-all-good config ((Deliver link ch, outcome.NoSuchClient) ∷ log) given =
-    all-good config log (given-before config (Deliver link ch, outcome.NoSuchClient) log given)
+all-good config ((Deliver link ch, Outcome.Replied r) ∷ log) given =
+    all-good config log (given-before config (Deliver link ch, Outcome.Replied r) log given)
+all-good config ((Deliver link ch, Outcome.Empty) ∷ log) given =
+    all-good config log (given-before config (Deliver link ch, Outcome.Empty) log given)
+all-good config ((Deliver link ch, Outcome.Stalled) ∷ log) given =
+    all-good config log (given-before config (Deliver link ch, Outcome.Stalled) log given)
+all-good config ((Deliver link ch, Outcome.NoSuchClient) ∷ log) given =
+    all-good config log (given-before config (Deliver link ch, Outcome.NoSuchClient) log given)
 
 pub faultless : {w : ℕ} → Faultless w
-faultless {w} config log given =
-    no-fault (levels_of config) config.profile [] (reverse (trace_of log))
+faultless {w} config log given = no-fault (levels_of config) config.profile [] (reverse (trace_of log))
     (subst (AreGood (levels_of config) config.profile)
-    (sym (append-nil (reverse (reverse (trace_of log))) ∙ reverse-reverse (trace_of log)))
-    (all-good config log given))
+    (sym (append-nil (reverse (reverse (trace_of log))) ∙ reverse-reverse (trace_of log))) (all-good config log given))

@@ -1,57 +1,38 @@
 -- What is delivered on each link has the values of the protocol after every event, and so breaks no rule.
-use Rattle.tl_coherence.proofs.flow.Imports.{IsWidth, Beat, Channel, History, grown, completes, Config}
-use Rattle.tl_coherence.proofs.flow.Imports.{Level, Profile, broken_after, level_of, flow, MonitorRelation}
-use Rattle.tl_coherence.proofs.flow.Imports.{AbstractState, kind_taken, Log, packet, message_of, System}
-use Rattle.tl_coherence.proofs.flow.Imports.{SimulationRelation, MonitorRelations, asked_by}
-use Rattle.std.proofs.Common.{◌≡◌, subst, ℕ, Bool, true, false, ◌&&◌, List, [], ◌∷◌, Option, Some, None, refl, sym, ◌∙◌}
-use Rattle.std.proofs.Common.{ap, inl, inr}
+use Rattle.tl_coherence.proofs.flow.Imports.{IsWidth, Beat, Channel, History, completes, Config, Level, Profile}
+use Rattle.tl_coherence.proofs.flow.Imports.{broken_after, level_of, flow, MonitorRelation, AbstractState, kind_taken}
+use Rattle.tl_coherence.proofs.flow.Imports.{Log, packet, message_of, System, SimulationRelation, MonitorRelations}
+use Rattle.tl_coherence.proofs.flow.Imports.{asked_by}
+use Rattle.std.proofs.Common.{◌≡◌, subst, ℕ, Bool, true, false, List, [], ◌∷◌, Option, Some, None, refl, sym, ◌∙◌, ap}
+use Rattle.std.proofs.Common.{inl, inr}
 use Rattle.std.specs.Prelude.{◌==◌, if◌then◌else◌, map}
 use Rattle.std.proofs.lemmas.Bool.{cases_eq, ne_eqb, eqb-true}
 use Rattle.tl_beat.specs.declared.beat.Link.{Link}
-use Rattle.tl_beat.specs.declared.channel.Channel.TheVariants as channel
 use Rattle.tl_rules.specs.statement.Conformance.{is_legal}
-use Rattle.tl_client.specs.declared.operation.Op.{Op}
+use Rattle.tl_client.{specs.declared.operation.Op.Op, specs.statement.Endpoint.EndConfig}
+use Rattle.tl_client.{proofs.endpoint.Outstanding.unfinished-asked}
 use Rattle.tl_client.specs.statement.Ask as ask
-use Rattle.tl_client.specs.statement.Endpoint.{EndConfig}
-use Rattle.tl_client.proofs.endpoint.Outstanding.{unfinished-asked}
-use Rattle.tl_coherence.specs.declared.event.Event.{Event}
+use Rattle.tl_coherence.specs.{declared.event.Event.Event, declared.event.Outcome.Outcome, statement.Draining.is_moving}
+use Rattle.tl_coherence.specs.{statement.Headline.AreTyped, statement.Headline.IsGiven, statement.Log.IsLog}
+use Rattle.tl_coherence.specs.{statement.Log.system_after, protocol.Protocol.on}
+use Rattle.tl_coherence.specs.{statement.System.terms_at}
 use Rattle.tl_coherence.specs.declared.event.Event.TheVariants.{Ask, Deliver}
-use Rattle.tl_coherence.specs.declared.event.Outcome.{Outcome}
-use Rattle.tl_coherence.specs.declared.event.Outcome.TheVariants as outcome
-use Rattle.tl_coherence.specs.statement.Draining.{is_moving}
 use Rattle.tl_coherence.specs.refinement.AbstractStep.{abstract_step, abstract_step_by, asked}
-use Rattle.tl_coherence.specs.statement.Headline.{AreTyped, IsGiven}
-use Rattle.tl_coherence.specs.statement.Log.{IsLog, system_after}
-use Rattle.tl_coherence.specs.statement.OneMemory.{one_memory_after}
-use Rattle.tl_coherence.specs.protocol.Protocol.{on}
 use Rattle.tl_coherence.specs.statement.Step.{Step, stepped, replied, is_to_client}
-use Rattle.tl_coherence.specs.statement.System.{terms_at, same_channel}
-use Rattle.tl_coherence.proofs.deliveries.AskedWell.{IsAskedWell, asked-well}
-use Rattle.tl_coherence.proofs.client.ManagerStep.{on_same}
-use Rattle.tl_coherence.proofs.links.FifoOfChannels.{flow_still}
-use Rattle.tl_coherence.proofs.flow.FlowAlone.{AreRests}
-use Rattle.tl_coherence.proofs.flow.FlowAsking.{flowed-asked}
-use Rattle.tl_coherence.proofs.flow.FlowKinds.{FlowsAs, other-kind}
-use Rattle.tl_coherence.proofs.flow.FlowOwn.{own-kind}
-use Rattle.tl_coherence.proofs.flow.FlowLawful.{flows-b, flows-c}
-use Rattle.tl_coherence.proofs.flow.FlowRequests.{flows-a}
-use Rattle.tl_coherence.proofs.flow.FlowResponses.{flows-d}
-use Rattle.tl_coherence.proofs.flow.FlowSame.{flowed-rests}
-use Rattle.tl_coherence.proofs.flow.FlowSinks.{flows-e}
-use Rattle.tl_coherence.proofs.protocol.FollowKept.{IsReady}
-use Rattle.tl_coherence.proofs.deliveries.DeliverDAfter.{followed-still}
-use Rattle.tl_coherence.proofs.deliveries.DeliverDUnmoved.{unmoved}
-use Rattle.tl_coherence.proofs.simulation.Fresh.{fresh-flowed}
+use Rattle.tl_coherence.proofs.{deliveries.AskedWell.asked-well}
+use Rattle.tl_coherence.proofs.{client.ManagerStep.on_same, links.FifoOfChannels.flow_still, flow.FlowAlone.AreRests}
+use Rattle.tl_coherence.proofs.{flow.FlowAsking.flowed-asked, flow.FlowKinds.FlowsAs, flow.FlowKinds.other-kind}
+use Rattle.tl_coherence.proofs.{flow.FlowOwn.own-kind, flow.FlowLawful.flows-b, flow.FlowLawful.flows-c}
+use Rattle.tl_coherence.proofs.{flow.FlowRequests.flows-a, flow.FlowResponses.flows-d, flow.FlowSame.flowed-rests}
+use Rattle.tl_coherence.proofs.{flow.FlowSinks.flows-e, protocol.FollowKept.IsReady}
+use Rattle.tl_coherence.proofs.{deliveries.DeliverDAfter.followed-still, deliveries.DeliverDUnmoved.unmoved}
+use Rattle.tl_coherence.proofs.{simulation.Fresh.fresh-flowed, deliveries.FirstRequest.arrival-first}
+use Rattle.tl_coherence.proofs.{queues.Landed.handed-client, outstanding.Outstanding.first-moved}
+use Rattle.tl_coherence.proofs.{manager.UnwaitedRequests.next_tracker, queues.Steps.stepped-asked}
+use Rattle.tl_coherence.proofs.{queues.Tokens.same_number, simulation.Popped.unfinished_at, flow.FlowReceived.IsMovedOn}
+use Rattle.tl_coherence.proofs.{flow.FlowReceived.moved-on}
 use Rattle.tl_coherence.proofs.deliveries.InvariantKept.{request-moves, ready-delivered}
 use Rattle.tl_coherence.proofs.deliveries.Matching.{shadow, matched, stepped-nobody}
-use Rattle.tl_coherence.proofs.deliveries.FirstRequest.{arrival-first}
-use Rattle.tl_coherence.proofs.queues.Landed.{handed-client}
-use Rattle.tl_coherence.proofs.outstanding.Outstanding.{first-moved}
-use Rattle.tl_coherence.proofs.manager.UnwaitedRequests.{next_tracker}
-use Rattle.tl_coherence.proofs.queues.Steps.{stepped-asked}
-use Rattle.tl_coherence.proofs.queues.Tokens.{same_number}
-use Rattle.tl_coherence.proofs.simulation.Popped.{unfinished_at}
-use Rattle.tl_coherence.proofs.flow.FlowReceived.{IsMovedOn, moved-on}
 
 -- ---- what is delivered after a delivery
 
@@ -59,19 +40,18 @@ use Rattle.tl_coherence.proofs.flow.FlowReceived.{IsMovedOn, moved-on}
 abbrev AreFlowedAfter : {w : ℕ} → Config → Log w → Event w → AbstractState w → Type 0
 AreFlowedAfter config log event h =
     MonitorRelations ((event, (stepped config event (system_after config log)).outcome) ∷ log)
-    (abstract_step config event (system_after config log) h).mail
-    (abstract_step config event (system_after config log) h).state
-    (stepped config event (system_after config log)).after
+    (abstract_step config event (system_after config log) h).mail (abstract_step config event (system_after config log)
+    h).state (stepped config event (system_after config log)).after
 
-moved-flowed : {w : ℕ} (config : Config) (log : Log w) (link : Link) (ch : Channel) (h : AbstractState w) (x : Beat w)
-    (queue : List (Beat w)) → IsWidth w
-    → SimulationRelation config log h.mail h.request h.state (system_after config log)
-    → MonitorRelations log h.mail h.state (system_after config log)
+moved-flowed : {w : ℕ} {config : Config} {log : Log w} {link : Link} {ch : Channel} {h : AbstractState w} {x : Beat w}
+    {queue : List (Beat w)} → IsWidth w → SimulationRelation config log h.mail h.request h.state
+    (system_after config log) → MonitorRelations log h.mail h.state (system_after config log)
     → (system_after config log).channels link.0 ch ≡ x ∷ queue
     → is_moving (stepped config (Deliver link ch) (system_after config log)).outcome ≡ true
-    → IsMovedOn config log link ch h x queue
-    → AreFlowedAfter config log (Deliver link ch) h
-moved-flowed {w} config log link ch h x queue width is flowed beats moving at d =
+    → IsMovedOn config log link ch h x queue → AreFlowedAfter config log (Deliver link ch) h
+moved-flowed {w} {config} {log} {link} {ch} {h} {x} {queue} width is flowed beats moving at d =
+    let Here : AbstractState w → History w → Type 0 = λ z t. MonitorRelation (asked_by z.mail z.state d)
+    (unfinished_at sys' d) d z.state t in
     subst (λ (z : AbstractState w). Here z
     (flow d ((Deliver link ch, (stepped config (Deliver link ch) sys).outcome) ∷ log))) (sym at.follows)
     (subst (λ (t : History w). Here h' t) (sym (at.delivered d))
@@ -96,9 +76,6 @@ moved-flowed {w} config log link ch h x queue width is flowed beats moving at d 
     h' : AbstractState w
     h' = if last then kind_taken config (next_tracker sys) c at.first.kind at.first.number at.first.rest h else h
 
-    Here : AbstractState w → History w → Type 0
-    Here z t = MonitorRelation (asked_by z.mail z.state d) (unfinished_at sys' d) d z.state t
-
     ready : last ≡ true → IsReady (next_tracker sys) c at.first.kind at.first.number h
     ready e = ready-delivered config log h.mail h.request h.state sys link ch x queue width is
         (record { moves = moving; beats = beats; whole = e; first = at.first })
@@ -108,31 +85,19 @@ moved-flowed {w} config log link ch h x queue width is flowed beats moving at d 
 
     own : MonitorRelation (asked_by h'.mail h'.state c) (unfinished_at sys' c) c h'.state
         (if c == c then x ∷ flow c log else flow c log)
-    own =
-        subst (λ (b : Bool). MonitorRelation (asked_by h'.mail h'.state c) (unfinished_at sys' c) c h'.state
-        (if b then x ∷ flow c log else flow c log)) (sym (same_number c))
-        (own-kind config log h sys c width is (next_tracker sys) (flow c log) (flowed c) (unfinished_at sys' c)
-        at.first.number at.first.rest x
-        (map (message_of h.mail h.state c) at.first.rest) queue rests ch at.first.kind at.first.own at.first.tokens
-        at.first.next last refl ready)
+    own = rw (same_number c) (own-kind config log h sys c width is (next_tracker sys) (flow c log) (flowed c)
+        (unfinished_at sys' c) at.first.number at.first.rest x (map (message_of h.mail h.state c) at.first.rest) queue
+        rests ch at.first.kind at.first.own at.first.tokens at.first.next last refl ready)
       where
         rests : AreRests x (unfinished_at sys c) (unfinished_at sys' c)
-        rests i =
-            at.rests c i ∙ ap (λ (b : Bool). if b && same_channel i ch then grown x (unfinished_at sys c i) else
-            unfinished_at sys c i) (same_number c)
-            ∙ ap (λ (b : Bool). if b then grown x (unfinished_at sys c i) else unfinished_at sys c i) (sym (at.on_ch i))
+        rests i = cc (at.rests c i, same_number c, at.on_ch i)
 
     others : (d ≡ c → ⊥) → MonitorRelation (asked_by h'.mail h'.state d) (unfinished_at sys' d) d h'.state
         (if c == d then x ∷ flow d log else flow d log)
-    others ne =
-        subst (λ (b : Bool). MonitorRelation (asked_by h'.mail h'.state d) (unfinished_at sys' d) d h'.state
-        (if b then x ∷ flow d log else flow d log)) (sym (ne_eqb c d (λ e. ne (sym e))))
-        (flowed-rests (asked_by h'.mail h'.state d) (unfinished_at sys d) (unfinished_at sys' d) d h'.state (flow d log)
-        rests (either last refl))
+    others ne = rw (ne_eqb c d (λ e. ne (sym e))) (flowed-rests (unfinished_at sys' d) rests (either last refl))
       where
         rests : (i : Channel) → unfinished_at sys' d i ≡ unfinished_at sys d i
-        rests i = at.rests d i ∙ ap (λ (b : Bool). if b && same_channel i ch then grown x (unfinished_at sys d i) else
-            unfinished_at sys d i) (ne_eqb d c ne)
+        rests i = cc (at.rests d i, ne_eqb d c ne)
 
         either : (b : Bool) → last ≡ b → FlowsAs config log h sys c is (next_tracker sys) d ne (flow d log)
             (if b then kind_taken config (next_tracker sys) c at.first.kind at.first.number at.first.rest h else h)
@@ -140,12 +105,10 @@ moved-flowed {w} config log link ch h x queue width is flowed beats moving at d 
             at.first.number at.first.rest on_kind (ready e) (flowed d)
         either false e = flowed d
 
-delivered-flowed : {w : ℕ} (config : Config) (log : Log w) (link : Link) (ch : Channel) (h : AbstractState w)
-    → IsWidth w
-    → SimulationRelation config log h.mail h.request h.state (system_after config log)
-    → MonitorRelations log h.mail h.state (system_after config log)
-    → AreFlowedAfter config log (Deliver link ch) h
-delivered-flowed {w} config log link ch h width is flowed =
+delivered-flowed : {w : ℕ} {config : Config} {log : Log w} (link : Link) (ch : Channel) (h : AbstractState w)
+    → IsWidth w → SimulationRelation config log h.mail h.request h.state (system_after config log)
+    → MonitorRelations log h.mail h.state (system_after config log) → AreFlowedAfter config log (Deliver link ch) h
+delivered-flowed {w} {config} {log} link ch h width is flowed =
     go (is_moving (stepped config (Deliver link ch) sys).outcome) refl
   where
     sys : System w
@@ -155,27 +118,24 @@ delivered-flowed {w} config log link ch h width is flowed =
         → AreFlowedAfter config log (Deliver link ch) h
     go true moving =
         let at = first-moved config link ch sys moving in
-        moved-flowed config log link ch h at.0 at.1 width is flowed at.3.0 moving
-        (moved-on config log link ch h at.0 at.1 at.2 width is at.3.0 at.3.1 moving (is_to_client ch) refl)
-    go false still =
-        λ d. subst (λ (z : AbstractState w). MonitorRelation (asked_by z.mail z.state d)
+        moved-flowed width is flowed at.3.0 moving
+        (moved-on link ch h at.0 at.1 at.2 width is at.3.0 at.3.1 moving (is_to_client ch) refl)
+    go false still = λ d. subst (λ (z : AbstractState w). MonitorRelation (asked_by z.mail z.state d)
         (unfinished_at (stepped config (Deliver link ch) sys).after d) d z.state
         (flow d ((Deliver link ch, (stepped config (Deliver link ch) sys).outcome) ∷ log)))
         (sym (followed-still config link ch sys h still))
         (subst (λ (t : History w). MonitorRelation (asked_by h.mail h.state d)
         (unfinished_at (stepped config (Deliver link ch) sys).after d) d h.state t)
         (sym (flow_still (Deliver link ch) (stepped config (Deliver link ch) sys).outcome log d still))
-        (flowed-rests (asked_by h.mail h.state d) (unfinished_at sys d)
-        (unfinished_at (stepped config (Deliver link ch) sys).after d) d h.state (flow d log)
+        (flowed-rests (unfinished_at (stepped config (Deliver link ch) sys).after d)
         (λ i. (unmoved config link ch sys still).rests d i) (flowed d)))
 
 -- ---- and after a client was asked
 
-asked-flowed : {w : ℕ} (config : Config) (log : Log w) (c : ℕ) (o : Op w) (h : AbstractState w) → IsWidth w
+asked-flowed : {w : ℕ} {config : Config} {log : Log w} (c : ℕ) (o : Op w) (h : AbstractState w) → IsWidth w
     → SimulationRelation config log h.mail h.request h.state (system_after config log)
-    → MonitorRelations log h.mail h.state (system_after config log)
-    → AreFlowedAfter config log (Ask c o) h
-asked-flowed {w} config log c o h width is flowed = go (terms_at config c) refl
+    → MonitorRelations log h.mail h.state (system_after config log) → AreFlowedAfter config log (Ask c o) h
+asked-flowed {w} {config} {log} c o h width is flowed = go (terms_at config c) refl
   where
     sys : System w
     sys = system_after config log
@@ -187,31 +147,23 @@ asked-flowed {w} config log c o h width is flowed = go (terms_at config c) refl
     go : (i : Option EndConfig) → terms_at config c ≡ i → After (stepped config (Ask c o) sys)
     go None none = subst After (sym (stepped-nobody config (Ask c o) sys none))
         (λ d. subst (λ (t : History w). MonitorRelation (asked_by h.mail h.state d) (unfinished_at sys d) d h.state t)
-        (sym (flow_still (Ask c o) outcome.NoSuchClient log d refl)) (flowed d))
-    go (Some terms) known = subst After (sym (stepped-asked config c o sys terms known)) (λ d.
-        subst (λ (t : History w). MonitorRelation (asked_by h'.mail h'.state d)
-        (unfinished_at (replied c a sys).after d) d h'.state t)
-        (sym (flow_still (Ask c o) (outcome.Replied a.reply) log d refl))
-        (flowed-rests (asked_by h'.mail h'.state d) (unfinished_at sys d) (unfinished_at (replied c a sys).after d) d
-        h'.state (flow d log)
-        (λ i. (handed-client c a.message a.after sys (λ j. unfinished-asked terms o (sys.clients c) j width
-        (is.kept c))).rests d i)
-        (flowed-asked config log h sys c width is d (flow d log) o a.reply well.reply well.may (flowed d))))
-      where
-        a : ask.Asked w
-        a = ask.asked terms o (sys.clients c)
+        (sym (flow_still (Ask c o) Outcome.NoSuchClient log d refl)) (flowed d))
+    go (Some terms) known =
+        let a : ask.Asked w = ask.asked terms o (sys.clients c) in
+        let h' : AbstractState w = asked c o a.reply h in
+        let well = asked-well config log h sys c terms o width is known in
+        subst After (sym (stepped-asked config c o sys terms known)) (λ d. subst (λ (t : History w). MonitorRelation
+        (asked_by h'.mail h'.state d) (unfinished_at (replied c a sys).after d) d h'.state t) (sym (flow_still (Ask
+        c o) (Outcome.Replied a.reply) log d refl)) (flowed-rests
+        (unfinished_at (replied c a sys).after d) (λ i. (handed-client c a.message
+        a.after sys (λ j. unfinished-asked terms o (sys.clients c) j width (is.kept c))).rests d i) (flowed-asked
+        config log h sys c width is d (flow d log) o a.reply well.reply well.may (flowed d))))
 
-        h' : AbstractState w
-        h' = asked c o a.reply h
-
-        well : IsAskedWell config c o h (one_memory_after config log) (ask.asked terms o (sys.clients c))
-        well = asked-well config log h sys c terms o width is known
-
-flowed-event : {w : ℕ} (config : Config) (log : Log w) (event : Event w) (h : AbstractState w) → IsWidth w
+flowed-event : {w : ℕ} {config : Config} {log : Log w} (event : Event w) (h : AbstractState w) → IsWidth w
     → SimulationRelation config log h.mail h.request h.state (system_after config log)
     → MonitorRelations log h.mail h.state (system_after config log) → AreFlowedAfter config log event h
-flowed-event config log (Ask c o) h width is flowed = asked-flowed config log c o h width is flowed
-flowed-event config log (Deliver link ch) h width is flowed = delivered-flowed config log link ch h width is flowed
+flowed-event {config} {log} (Ask c o) h width is flowed = asked-flowed c o h width is flowed
+flowed-event {config} {log} (Deliver link ch) h width is flowed = delivered-flowed link ch h width is flowed
 
 -- what is delivered on each link has the values of the protocol after every log
 pub flowed : {w : ℕ} (config : Config) (log : Log w) → IsWidth w → AreTyped log → IsLog config log
@@ -224,7 +176,7 @@ flowed {w} config (x ∷ log) width typed is =
     let h' : AbstractState w = abstract_step config x.0 sys h in
     subst (λ (o : Outcome w). MonitorRelations ((x.0, o) ∷ log) h'.mail h'.state (stepped config x.0 sys).after)
     (sym is.0)
-    (flowed-event config log x.0 h width (matched config log width typed.1 is.1) (flowed config log width typed.1 is.1))
+    (flowed-event x.0 h width (matched config log width typed.1 is.1) (flowed config log width typed.1 is.1))
 
 -- ---- no rule is broken
 
@@ -234,25 +186,23 @@ unfolding is_legal
 legal_more l p x t e f = rw (e, f) refl
 
 -- nor by a beat of any channel that is moved
-unbroken : {w : ℕ} (config : Config) (log : Log w) (h : AbstractState w) (link : Link) (ch : Channel) (l : Level)
-    (x : Beat w) (queue : List (Beat w)) → IsWidth w
-    → SimulationRelation config log h.mail h.request h.state (system_after config log)
-    → MonitorRelations log h.mail h.state (system_after config log)
+unbroken : {w : ℕ} {config : Config} {log : Log w} (h : AbstractState w) (link : Link) (ch : Channel) (l : Level)
+    (x : Beat w) (queue : List (Beat w)) → IsWidth w → SimulationRelation config log h.mail h.request h.state
+    (system_after config log) → MonitorRelations log h.mail h.state (system_after config log)
     → is_moving (stepped config (Deliver link ch) (system_after config log)).outcome ≡ true
-    → (system_after config log).channels link.0 ch ≡ x ∷ queue
-    → level_of config link.0 ≡ Some l → broken_after l config.profile x (flow link.0 log) ≡ None
-unbroken config log h link channel.A l x queue width is values moving beats level =
-    flows-a config log h.mail h.request h.state (system_after config log) link.0 l x queue width is values beats level
-    (request-moves config log h.mail h.request h.state (system_after config log) link x queue is moving beats
-    (arrival-first config log h (system_after config log) link.0 x queue width is beats))
-unbroken config log h link channel.B l x queue width is values moving beats level =
-    flows-b config log h.mail h.request h.state (system_after config log) link.0 l x queue width is values beats level
-unbroken config log h link channel.C l x queue width is values moving beats level =
-    flows-c config log h.mail h.request h.state (system_after config log) link.0 l x queue width is values beats level
-unbroken config log h link channel.D l x queue width is values moving beats level =
-    flows-d config log h.mail h.request h.state (system_after config log) link.0 l x queue width is values beats level
-unbroken config log h link channel.E l x queue width is values moving beats level =
-    flows-e config log h.mail h.request h.state (system_after config log) link.0 l x queue width is values beats level
+    → (system_after config log).channels link.0 ch ≡ x ∷ queue → level_of config link.0 ≡ Some l
+    → broken_after l config.profile x (flow link.0 log) ≡ None
+unbroken {config} {log} h link Channel.A l x queue width is values moving beats level =
+    flows-a link.0 l x queue width is values beats level
+    (request-moves link is moving beats (arrival-first h link.0 x queue width is beats))
+unbroken {config} {log} h link Channel.B l x queue width is values moving beats level =
+    flows-b link.0 l x queue width is values beats level
+unbroken {config} {log} h link Channel.C l x queue width is values moving beats level =
+    flows-c link.0 l x queue width is values beats level
+unbroken {config} {log} h link Channel.D l x queue width is values moving beats level =
+    flows-d link.0 l x queue width is values beats level
+unbroken {config} {log} h link Channel.E l x queue width is values moving beats level =
+    flows-e link.0 l x queue width is values beats level
 
 -- who is asked moves no beat
 pub asked-still : {w : ℕ} (config : Config) (log : Log w) (c : ℕ) (o : Op w)
@@ -261,22 +211,19 @@ asked-still {w} config log c o = go (terms_at config c) refl
   where
     go : (i : Option EndConfig) → terms_at config c ≡ i
         → is_moving (stepped config (Ask c o) (system_after config log)).outcome ≡ false
-    go None none = ap (λ (x : Step w). is_moving x.outcome) (stepped-nobody config (Ask c o) (system_after config log)
-        none)
-    go (Some terms) known = ap (λ (x : Step w). is_moving x.outcome) (stepped-asked config c o (system_after config log)
-        terms known)
+    go None none = cc (stepped-nobody config (Ask c o) (system_after config log) none)
+    go (Some terms) known = cc (stepped-asked config c o (system_after config log) terms known)
 
-legal-event : {w : ℕ} (config : Config) (log : Log w) (h : AbstractState w) (event : Event w) (d : ℕ) (l : Level)
-    → IsWidth w
-    → SimulationRelation config log h.mail h.request h.state (system_after config log)
-    → MonitorRelations log h.mail h.state (system_after config log)
-    → level_of config d ≡ Some l → is_legal l config.profile (flow d log) ≡ true
+legal-event : {w : ℕ} {config : Config} {log : Log w} (h : AbstractState w) (event : Event w) (d : ℕ) (l : Level)
+    → IsWidth w → SimulationRelation config log h.mail h.request h.state (system_after config log)
+    → MonitorRelations log h.mail h.state (system_after config log) → level_of config d ≡ Some l
+    → is_legal l config.profile (flow d log) ≡ true
     → is_legal l config.profile (flow d ((event, (stepped config event (system_after config log)).outcome) ∷ log))
     ≡ true
-legal-event {w} config log h (Ask c o) d l width is values level legal =
+legal-event {w} {config} {log} h (Ask c o) d l width is values level legal =
     ap (is_legal l config.profile) (flow_still (Ask c o) (stepped config (Ask c o) (system_after config log)).outcome
     log d (asked-still config log c o)) ∙ legal
-legal-event {w} config log h (Deliver link ch) d l width is values level legal =
+legal-event {w} {config} {log} h (Deliver link ch) d l width is values level legal =
     go (is_moving (stepped config (Deliver link ch) sys).outcome) refl
   where
     sys : System w
@@ -293,23 +240,21 @@ legal-event {w} config log h (Deliver link ch) d l width is values level legal =
     go true moving =
         let at = first-moved config link ch sys moving in
         ap (is_legal l config.profile)
-        ((moved-on config log link ch h at.0 at.1 at.2 width is at.3.0 at.3.1 moving (is_to_client ch)
+        ((moved-on link ch h at.0 at.1 at.2 width is at.3.0 at.3.1 moving (is_to_client ch)
         refl).delivered d)
         ∙ with_beat at.0 (link.0 == d) (λ same.
         let here : link.0 ≡ d = eqb-true link.0 d same in
         subst (λ (i : ℕ). broken_after l config.profile at.0 (flow i log) ≡ None) here
-        (unbroken config log h link ch l at.0 at.1 width is values moving at.3.0
+        (unbroken h link ch l at.0 at.1 width is values moving at.3.0
         (ap (level_of config) here ∙ level)))
-    go false still = ap (is_legal l config.profile)
-        (flow_still (Deliver link ch) (stepped config (Deliver link ch) sys).outcome log d still) ∙ legal
+    go false still = cc (flow_still (Deliver link ch) (stepped config (Deliver link ch) sys).outcome log d still, legal)
 
 legal : {w : ℕ} (config : Config) (log : Log w) (d : ℕ) (l : Level) → IsWidth w → AreTyped log → IsLog config log
     → level_of config d ≡ Some l → is_legal l config.profile (flow d log) ≡ true
 unfolding AreTyped IsLog flow is_legal
 legal config [] d l width typed is level = refl
 legal {w} config (x ∷ log) d l width typed is level =
-    subst (λ (o : Outcome w). is_legal l config.profile (flow d ((x.0, o) ∷ log)) ≡ true) (sym is.0)
-    (legal-event config log (shadow config log) x.0 d l width (matched config log width typed.1 is.1)
+    rw is.0 (legal-event (shadow config log) x.0 d l width (matched config log width typed.1 is.1)
     (flowed config log width typed.1 is.1) level (legal config log d l width typed.1 is.1 level))
 
 -- A monitor in the middle of a link finds no fault in what is delivered there.

@@ -2,35 +2,23 @@
 use Rattle.tl_coherence.proofs.flow.Imports.{Beat, BeatD, History, channel_of, unfinished, Config, Perm, Log, Cap}
 use Rattle.tl_coherence.proofs.flow.Imports.{on_link, same_perm, held, View, Granting, GrantedOther, Block, Service}
 use Rattle.tl_coherence.proofs.flow.Imports.{GrantSent, view, is_granting, AbstractState, SimulationRelation, flow}
-use Rattle.tl_coherence.proofs.flow.Imports.{MonitorRelations, is_unprobed, is_unreleased}
-use Rattle.std.proofs.Common.{◌≡◌, ℕ, zero, suc, Bool, true, false, List, ◌∷◌, Some, refl, sym, ◌∙◌, ap, subst}
-use Rattle.std.proofs.Common.{inl, inr, ◌||◌}
+use Rattle.tl_coherence.proofs.flow.Imports.{MonitorRelations, is_unprobed, is_unreleased, Channel}
+use Rattle.std.proofs.Common.{◌≡◌, ℕ, zero, suc, Bool, true, false, List, ◌∷◌, Some, refl, sym, ◌∙◌, ap, subst, inl}
+use Rattle.std.proofs.Common.{inr, ◌||◌}
 use Rattle.std.specs.Prelude.{◌==◌, if◌then◌else◌, length, Option}
 use Rattle.std.proofs.lemmas.Bool.{cases_eq, eq-eqb, ne_eqb, or_right}
-use Rattle.tl_beat.specs.declared.beat.Beat.TheVariants as beat
-use Rattle.tl_beat.specs.declared.channel.Channel.TheVariants as channel
-use Rattle.tl_params.specs.declared.perm.Perm.TheVariants as perm
 use Rattle.tl_params.specs.statement.Param.{cap_right}
-use Rattle.tl_rules.specs.statement.Conformance.{Trace}
-use Rattle.tl_rules.specs.statement.History.{grants, capped}
+use Rattle.tl_rules.{specs.statement.Conformance.Trace, specs.statement.History.grants, specs.statement.History.capped}
 use Rattle.tl_rules.specs.statement.Windows.{leaves, is_spared, is_free}
 use Rattle.tl_manager.proofs.blocks.Recording.{cap-gives}
-use Rattle.tl_coherence.specs.statement.Flow.{trace_of}
-use Rattle.tl_coherence.specs.statement.Headline.{IsGiven}
-use Rattle.tl_coherence.specs.statement.Log.{system_after}
+use Rattle.tl_coherence.specs.{statement.Flow.trace_of, statement.Headline.IsGiven, statement.Log.system_after}
+use Rattle.tl_coherence.specs.{statement.Permissions.perm_le}
 use Rattle.tl_coherence.specs.statement.OneWriter.{IsGivenAlone, IsOneWriter, IsApart}
-use Rattle.tl_coherence.specs.statement.Permissions.{perm_le}
-use Rattle.tl_coherence.proofs.deliveries.Matching.{shadow}
-use Rattle.tl_coherence.proofs.flow.FlowBeats.{same_perms}
-use Rattle.tl_coherence.proofs.flow.FlowStep.{held_by}
-use Rattle.tl_coherence.proofs.flow.FlowTaken.{each-taken}
-use Rattle.tl_coherence.proofs.flow.FlowTraces.{trace-flows}
-use Rattle.tl_coherence.proofs.flow.Flows.{flowed}
-use Rattle.tl_coherence.proofs.links.FromInvariant.{matched-given}
-use Rattle.tl_coherence.proofs.flow.NextOnD.{IsGrantBeat, grant-next}
-use Rattle.tl_coherence.proofs.protocol.HeadOfD.{IsGrantDue, own_view}
-use Rattle.tl_coherence.proofs.queues.Facts.{granting_alone, held_at_most}
-use Rattle.tl_coherence.proofs.queues.Phases.{and_right}
+use Rattle.tl_coherence.proofs.{deliveries.Matching.shadow, flow.FlowBeats.same_perms, flow.FlowStep.held_by}
+use Rattle.tl_coherence.proofs.{flow.FlowTaken.each-taken, flow.FlowTraces.trace-flows, flow.Flows.flowed}
+use Rattle.tl_coherence.proofs.{links.FromInvariant.matched-given, flow.NextOnD.IsGrantBeat, flow.NextOnD.grant-next}
+use Rattle.tl_coherence.proofs.{protocol.HeadOfD.IsGrantDue, protocol.HeadOfD.own_view, queues.Facts.granting_alone}
+use Rattle.tl_coherence.proofs.{queues.Facts.held_at_most, queues.Phases.and_right}
 
 -- ---- all links
 
@@ -47,8 +35,7 @@ free-where (suc n) spared given block t each = rw (free-where n spared given blo
 -- who isn't granted the block in service sees another's
 other_view : (c other : ℕ) (d : Bool) (k : Cap) (service : Service) → service ≡ GrantSent c d k → (other ≡ c → ⊥)
     → is_granting (view service other) ≡ false
-other_view c other d k service e ne = ap (λ (x : Service). is_granting (view x other)) e ∙ here (other == c)
-    (ne_eqb other c ne)
+other_view c other d k service e ne = cc (e, here (other == c) (ne_eqb other c ne))
   where
     here : (x : Bool) → x ≡ false → is_granting (if x then Granting d k else GrantedOther) ≡ false
     here x f = rw f refl
@@ -60,38 +47,39 @@ ungranted_holds c b e = rw e refl
 -- what is held by what was delivered is at most what is recorded
 pub held_by_most : {X : Type 0} (c : ℕ) (b : Block X) (v : View) → perm_le (b.pair c).held (b.pair c).recorded ≡ true
     → perm_le (if is_granting v then (b.pair c).held else (b.pair c).recorded) (b.pair c).recorded ≡ true
-held_by_most c b v e = go (is_granting v) (b.pair c).recorded e
-  where
-    same : (p : Perm) → perm_le p p ≡ true
-    same perm.None = refl
-    same perm.Branch = refl
-    same perm.Trunk = refl
+held_by_most c b v e =
+    let same : (p : Perm) → perm_le p p ≡ true = elim [ Perm.None ↦ refl | p ↦ refl ] in
+    let go : (x : Bool) (p : Perm) → perm_le (b.pair c).held p ≡ true → perm_le (if x then (b.pair c).held else p) p
+    ≡ true = elim [ true ↦ λ p f. f | false ↦ λ p f. same p ] in
+    go (is_granting v) (b.pair c).recorded e
 
-    go : (x : Bool) (p : Perm) → perm_le (b.pair c).held p ≡ true → perm_le (if x then (b.pair c).held else p) p ≡ true
-    go true p f = f
-    go false p f = same p
+trunk_below : (p q : Perm) → perm_le p q ≡ true → p ≡ Perm.Trunk → same_perm q Perm.Trunk ≡ true
+trunk_below p Perm.Trunk e f = refl
+trunk_below p q e f = absurd (let no : false ≡ true = rw f at e in cc)
 
-trunk_below : (p q : Perm) → perm_le p q ≡ true → p ≡ perm.Trunk → same_perm q perm.Trunk ≡ true
-trunk_below p perm.Trunk e f = refl
-trunk_below p perm.Branch e f = absurd (let no : false ≡ true = rw f at e in cc)
-trunk_below p perm.None e f = absurd (let no : false ≡ true = rw f at e in cc)
-
-none_above : (p q : Perm) → perm_le p q ≡ true → same_perm q perm.None ≡ true → p ≡ perm.None
-none_above perm.None q e f = refl
-none_above perm.Branch perm.None e f = absurd cc
-none_above perm.Branch perm.Branch e f = absurd cc
-none_above perm.Branch perm.Trunk e f = absurd cc
-none_above perm.Trunk perm.None e f = absurd cc
-none_above perm.Trunk perm.Branch e f = absurd cc
-none_above perm.Trunk perm.Trunk e f = absurd cc
+none_above : (p q : Perm) → perm_le p q ≡ true → same_perm q Perm.None ≡ true → p ≡ Perm.None
+none_above Perm.None q e f = refl
+none_above Perm.Branch Perm.None e f = absurd cc
+none_above Perm.Branch Perm.Branch e f = absurd cc
+none_above Perm.Branch Perm.Trunk e f = absurd cc
+none_above Perm.Trunk Perm.None e f = absurd cc
+none_above Perm.Trunk Perm.Branch e f = absurd cc
+none_above Perm.Trunk Perm.Trunk e f = absurd cc
 
 -- ---- a beat of a Grant that is next on channel D
 
-given-next : {w : ℕ} (config : Config) (log : Log w) → IsGiven config log → (c : ℕ) (y : BeatD w)
-    (queue : List (Beat w)) → (system_after config log).channels c channel.D ≡ beat.D y ∷ queue
+given-next : {w : ℕ} {config : Config} {log : Log w} → IsGiven config log → (c : ℕ) (y : BeatD w)
+    (queue : List (Beat w)) → (system_after config log).channels c Channel.D ≡ Beat.D y ∷ queue
     → (n other : ℕ) → grants n y (flow c log) ≡ true → (other ≡ c → ⊥)
     → leaves (capped y.param) (held n (flow other log)) ≡ true
-given-next {w} config log given c y queue beats n other granted ne =
+given-next {w} {config} {log} given c y queue beats n other granted ne =
+    let seen : view b.service c ≡ Granting due.data_too due.k = own_view c due.data_too due.k b.service due.service in
+    let gives : capped y.param ≡ cap_right due.k = cc (grant.beat_is, cap-gives due.k) in
+    let holds : held n (flow other log) ≡ (b.pair other).recorded = (values other).held_is n
+    ∙ ungranted_holds other b (other_view c other due.data_too due.k b.service due.service ne) in
+    let even : (b.pair c).recorded ≡ cap_right due.k = sym (same_perms (b.pair c).recorded (cap_right due.k) (and_right
+    (is_unreleased (b.pair c).letting) _ (and_right (is_unprobed (b.pair c).probing) _ (granting_alone due.data_too
+    due.k (b.pair c) (view b.service c) ((is.invariant.blocks n).phases c) seen)))) in
     subst (λ (p : Perm). leaves p (held n (flow other log)) ≡ true) (sym gives)
     (subst (λ (p : Perm). leaves (cap_right due.k) p ≡ true) (sym holds)
     (left (cap_right due.k) (b.pair other).recorded even refl))
@@ -105,7 +93,7 @@ given-next {w} config log given c y queue beats n other granted ne =
     values : MonitorRelations log h.mail h.state (system_after config log)
     values = flowed config log given.width given.typed given.is_log
 
-    grant : IsGrantBeat c n h.state y (length (unfinished channel.D (flow c log)))
+    grant : IsGrantBeat c n h.state y (length (unfinished Channel.D (flow c log)))
     grant = grant-next config log h c y queue given.width is values beats n granted
 
     due : IsGrantDue c n h.state
@@ -114,31 +102,13 @@ given-next {w} config log given c y queue beats n other granted ne =
     b : Block (List ℕ)
     b = h.state.block n
 
-    seen : view b.service c ≡ Granting due.data_too due.k
-    seen = own_view c due.data_too due.k b.service due.service
-
-    gives : capped y.param ≡ cap_right due.k
-    gives = ap (λ (z : BeatD w). capped z.param) grant.beat_is ∙ cap-gives due.k
-
-    holds : held n (flow other log) ≡ (b.pair other).recorded
-    holds = (values other).held_is n
-        ∙ ungranted_holds other b (other_view c other due.data_too due.k b.service due.service ne)
-
-    even : (b.pair c).recorded ≡ cap_right due.k
-    even = sym (same_perms (b.pair c).recorded (cap_right due.k)
-        (and_right (is_unreleased (b.pair c).letting) _
-        (and_right (is_unprobed (b.pair c).probing) _
-        (granting_alone due.data_too due.k (b.pair c) (view b.service c) ((is.invariant.blocks n).phases c) seen))))
-
     left : (p q : Perm) → (b.pair c).recorded ≡ p → (b.pair other).recorded ≡ q → leaves p q ≡ true
-    left perm.Trunk q e f = ap (λ (r : Perm). same_perm r perm.None) (sym f)
-        ∙ (is.invariant.blocks n).one_owner c other (ap (λ (r : Perm). same_perm r perm.Trunk) e) ne
-    left perm.Branch perm.Trunk e f = absurd (let alone = (is.invariant.blocks n).one_owner other c
-        (ap (λ (r : Perm). same_perm r perm.Trunk) f) (λ j. ne (sym j)) in
+    left Perm.Trunk q e f = ap (λ (r : Perm). same_perm r Perm.None) (sym f)
+        ∙ (is.invariant.blocks n).one_owner c other (ap (λ (r : Perm). same_perm r Perm.Trunk) e) ne
+    left Perm.Branch Perm.Trunk e f = absurd (let alone = (is.invariant.blocks n).one_owner other c
+        (ap (λ (r : Perm). same_perm r Perm.Trunk) f) (λ j. ne (sym j)) in
         let no : false ≡ true = rw e at alone in cc)
-    left perm.Branch perm.Branch e f = refl
-    left perm.Branch perm.None e f = refl
-    left perm.None q e f = refl
+    left p q e f = refl
 
 -- each other link leaves what is granted
 beside : (link other : ℕ) (given held : Perm) → ((other ≡ link → ⊥) → leaves given held ≡ true)
@@ -151,46 +121,40 @@ beside link other given held left = elim (cases_eq other link) [
 given-moved : {w : ℕ} (config : Config) (log : Log w) → IsGiven config log → (c : ℕ) (x : Beat w)
     (queue : List (Beat w)) → (system_after config log).channels c (channel_of x) ≡ x ∷ queue
     → IsGivenAlone c x (trace_of log)
-given-moved {w} config log given c (beat.D y) queue beats = λ n block begun granted.
+given-moved {w} config log given c (Beat.D y) queue beats = λ n block begun granted.
     free-where n (Some c) (capped y.param) block (trace_of log)
     (λ other. beside c other (capped y.param) (held block (on_link other (trace_of log)))
     (λ ne. subst (λ (t : History w). leaves (capped y.param) (held block t) ≡ true) (sym (trace-flows other log))
-    (given-next config log given c y queue beats block other
+    (given-next given c y queue beats block other
     (subst (λ (t : History w). grants block y t ≡ true) (trace-flows c log) granted) ne)))
-given-moved config log given c (beat.A y) queue beats = tt
-given-moved config log given c (beat.B y) queue beats = tt
-given-moved config log given c (beat.C y) queue beats = tt
-given-moved config log given c (beat.E y) queue beats = tt
+given-moved config log given c (Beat.A y) queue beats = tt
+given-moved config log given c (Beat.B y) queue beats = tt
+given-moved config log given c (Beat.C y) queue beats = tt
+given-moved config log given c (Beat.E y) queue beats = tt
 
 -- ---- at each moment
 
-one-writer : {w : ℕ} (config : Config) (log : Log w) → IsGiven config log → IsOneWriter (trace_of log)
-one-writer {w} config log given one other n ne trunk =
-    ap (held n) (trace-flows other log) ∙ values other ∙ none_above (held_by other b) (b.pair other).recorded
-    (most other)
-    ((at.invariant.blocks n).one_owner one other
-    (trunk_below (held_by one b) (b.pair one).recorded (most one)
-    (sym (values one) ∙ sym (ap (held n) (trace-flows one log)) ∙ trunk)) ne)
-  where
-    h : AbstractState w
-    h = shadow config log
-
-    b : Block (List ℕ)
-    b = h.state.block n
-
-    at : SimulationRelation config log h.mail h.request h.state (system_after config log)
-    at = matched-given config log given
-
-    values : (c : ℕ) → held n (flow c log) ≡ held_by c b
-    values c = (flowed config log given.width given.typed given.is_log c).held_is n
-
-    most : (c : ℕ) → perm_le (held_by c b) (b.pair c).recorded ≡ true
-    most c = held_by_most c b (view b.service c)
-        (held_at_most (b.pair c) (view b.service c) ((at.invariant.blocks n).phases c))
+one-writer : {w : ℕ} {config : Config} {log : Log w} → IsGiven config log → IsOneWriter (trace_of log)
+one-writer {w} {config} {log} given one other n ne trunk =
+    let h : AbstractState w = shadow config log in
+    let b : Block (List ℕ) = h.state.block n in
+    let at = matched-given config log given in
+    let values : (c : ℕ) → held n (flow c log) ≡ held_by c b =
+    λ c. (flowed config log given.width given.typed given.is_log c).held_is n in
+    let most : (c : ℕ) → perm_le (held_by c b) (b.pair c).recorded ≡ true =
+    λ c. held_by_most c b (view b.service c)
+    (held_at_most (b.pair c) (view b.service c) ((at.invariant.blocks n).phases c)) in
+    cc (
+      trace-flows other log,
+      values other,
+      none_above (held_by other b) (b.pair other).recorded (most other)
+          ((at.invariant.blocks n).one_owner one other (trunk_below (held_by one b) (b.pair one).recorded (most one)
+          (sym (values one) ∙ sym (ap (held n) (trace-flows one log)) ∙ trunk)) ne),
+    )
 
 pub apart : {w : ℕ} (config : Config) (log : Log w) → IsGiven config log → IsApart log
 apart config log given = record {
   given_alone = each-taken config (λ earlier link x. IsGivenAlone link x (trace_of earlier)) (given-moved config) log
       given;
-  one_writer = one-writer config log given;
+  one_writer = one-writer given;
 }

@@ -1,38 +1,30 @@
 -- Each beat of a GrantData has bytes of the one memory.
 use Rattle.tl_coherence.proofs.flow.Imports.{Beat, BeatD, History, channel_of, unfinished, Config, Log, AbstractState}
-use Rattle.tl_coherence.proofs.flow.Imports.{SimulationRelation, flow}
+use Rattle.tl_coherence.proofs.flow.Imports.{SimulationRelation, flow, Channel}
 use Rattle.std.proofs.Common.{◌≡◌, ℕ, Bool, true, false, List, ◌∷◌, refl, sym, ◌∙◌, ap, subst}
 use Rattle.std.specs.Prelude.{length}
-use Rattle.tl_beat.specs.declared.beat.Beat.TheVariants as beat
-use Rattle.tl_beat.specs.declared.channel.Channel.TheVariants as channel
-use Rattle.tl_beat.specs.declared.opcode.OpD.TheVariants as opd
-use Rattle.tl_burst.specs.statement.Burst.{d_beat_of, lanes_at}
-use Rattle.tl_rules.specs.statement.Effect.{IsBlock}
-use Rattle.tl_rules.specs.statement.History.{grants}
+use Rattle.tl_beat.specs.declared.opcode.OpD.{OpD}
+use Rattle.tl_burst.specs.statement.Burst.{lanes_at}
+use Rattle.tl_rules.{specs.statement.Effect.IsBlock, specs.statement.History.grants}
 use Rattle.tl_manager.specs.statement.Handing.{grant_opcode}
-use Rattle.tl_coherence.specs.statement.Flow.{trace_of}
-use Rattle.tl_coherence.specs.statement.Headline.{IsGiven}
-use Rattle.tl_coherence.specs.statement.Log.{system_after}
-use Rattle.tl_coherence.specs.statement.OneMemory.{one_memory_after}
-use Rattle.tl_coherence.specs.statement.TrueGrants.{IsTrueGrant, TrueGrants}
-use Rattle.tl_coherence.proofs.deliveries.Matching.{shadow}
-use Rattle.tl_coherence.proofs.flow.FlowTaken.{each-taken}
-use Rattle.tl_coherence.proofs.flow.FlowTraces.{trace-flows}
-use Rattle.tl_coherence.proofs.flow.Flows.{flowed}
-use Rattle.tl_coherence.proofs.flow.NextOnD.{IsGrantBeat, grant-next}
-use Rattle.tl_coherence.proofs.links.FromInvariant.{matched-given}
-use Rattle.tl_coherence.proofs.protocol.HeadOfD.{IsGrantDue, grant_message}
+use Rattle.tl_coherence.specs.{statement.Flow.trace_of, statement.Headline.IsGiven, statement.Log.system_after}
+use Rattle.tl_coherence.specs.{statement.OneMemory.one_memory_after, statement.TrueGrants.IsTrueGrant}
+use Rattle.tl_coherence.specs.{statement.TrueGrants.TrueGrants}
+use Rattle.tl_coherence.proofs.{deliveries.Matching.shadow, flow.FlowTaken.each-taken, flow.FlowTraces.trace-flows}
+use Rattle.tl_coherence.proofs.{flow.Flows.flowed, flow.NextOnD.IsGrantBeat, flow.NextOnD.grant-next}
+use Rattle.tl_coherence.proofs.{links.FromInvariant.matched-given, protocol.HeadOfD.IsGrantDue}
 
-with_data_only : (x : Bool) → grant_opcode x ≡ opd.GrantData → x ≡ true
+with_data_only : (x : Bool) → grant_opcode x ≡ OpD.GrantData → x ≡ true
 with_data_only true e = refl
 with_data_only false e = absurd cc
 
 pub true-next : {w : ℕ} (config : Config) (log : Log w) → IsGiven config log → (c : ℕ) (y : BeatD w)
-    (queue : List (Beat w)) → (system_after config log).channels c channel.D ≡ beat.D y ∷ queue
-    → (n : ℕ) → grants n y (flow c log) ≡ true → y.opcode ≡ opd.GrantData
+    (queue : List (Beat w)) → (system_after config log).channels c Channel.D ≡ Beat.D y ∷ queue
+    → (n : ℕ) → grants n y (flow c log) ≡ true → y.opcode ≡ OpD.GrantData
     → (bytes : List ℕ) × (length bytes ≡ 64) × IsBlock (one_memory_after config log).memory n bytes
-    × (y.lanes ≡ lanes_at true w bytes (length (unfinished channel.D (flow c log))))
+    × (y.lanes ≡ lanes_at true w bytes (length (unfinished Channel.D (flow c log))))
 true-next {w} config log given c y queue beats n granted with_data =
+    let lanes : y.lanes ≡ lanes_at true w (h.state.block n).truth k = cc (grant.beat_is, data_too) in
     ((h.state.block n).truth, (is.sized n).truth, is.beside.memory n, lanes)
   where
     h : AbstractState w
@@ -42,7 +34,7 @@ true-next {w} config log given c y queue beats n granted with_data =
     is = matched-given config log given
 
     k : ℕ
-    k = length (unfinished channel.D (flow c log))
+    k = length (unfinished Channel.D (flow c log))
 
     grant : IsGrantBeat c n h.state y k
     grant = grant-next config log h c y queue given.width is (flowed config log given.width given.typed given.is_log)
@@ -54,27 +46,20 @@ true-next {w} config log given c y queue beats n granted with_data =
     data_too : due.data_too ≡ true
     data_too = with_data_only due.data_too (sym (ap (λ (z : BeatD w). z.opcode) grant.beat_is) ∙ with_data)
 
-    lanes : y.lanes ≡ lanes_at true w (h.state.block n).truth k
-    lanes = ap (λ (z : BeatD w). z.lanes) grant.beat_is
-        ∙ ap (λ (x : Bool). (d_beat_of (grant_message {w = w} x due.k ((h.state.block n).source c)
-        (h.state.block n).tracker (h.state.block n).truth) k).lanes) data_too
-
 true-moved : {w : ℕ} (config : Config) (log : Log w) → IsGiven config log → (c : ℕ) (x : Beat w) (queue : List (Beat w))
     → (system_after config log).channels c (channel_of x) ≡ x ∷ queue
     → IsTrueGrant (one_memory_after config log).memory c x (trace_of log)
-true-moved {w} config log given c (beat.D y) queue beats = λ n granted with_data.
-    subst (λ (t : History w). (bytes : List ℕ) × IsBlock (one_memory_after config log).memory n bytes
-    × (y.lanes ≡ lanes_at true w bytes (length (unfinished channel.D t)))) (sym (trace-flows c log))
-    (let found = true-next config log given c y queue beats n
-    (subst (λ (t : History w). grants n y t ≡ true) (trace-flows c log) granted) with_data in
-    (found.0, found.2, found.3))
-true-moved config log given c (beat.A y) queue beats = tt
-true-moved config log given c (beat.B y) queue beats = tt
-true-moved config log given c (beat.C y) queue beats = tt
-true-moved config log given c (beat.E y) queue beats = tt
+true-moved {w} config log given c (Beat.D y) queue beats =
+    λ n granted with_data. subst (λ (t : History w). (bytes : List ℕ) × IsBlock (one_memory_after config log).memory n
+    bytes × (y.lanes ≡ lanes_at true w bytes (length (unfinished Channel.D t)))) (sym (trace-flows c log)) (let found =
+    true-next config log given c y queue beats n (subst (λ (t : History w). grants n y t ≡ true) (trace-flows c log)
+    granted) with_data in (found.0, found.2, found.3))
+true-moved config log given c (Beat.A y) queue beats = tt
+true-moved config log given c (Beat.B y) queue beats = tt
+true-moved config log given c (Beat.C y) queue beats = tt
+true-moved config log given c (Beat.E y) queue beats = tt
 
 pub true_grants : {w : ℕ} → TrueGrants w
 true_grants config log given =
-    each-taken config
-    (λ earlier link x. IsTrueGrant (one_memory_after config earlier).memory link x (trace_of earlier))
+    each-taken config (λ earlier link x. IsTrueGrant (one_memory_after config earlier).memory link x (trace_of earlier))
     (true-moved config) log given

@@ -2,42 +2,26 @@
 use Rattle.tl_coherence.proofs.flow.Imports.{Beat, BeatA, BeatD, Message, MessageA, MessageD, channel_of, unfinished}
 use Rattle.tl_coherence.proofs.flow.Imports.{Config, Log, AbstractState, SimulationRelation, MonitorRelations, Replied}
 use Rattle.tl_coherence.proofs.flow.Imports.{SourceState, System, block_at, flow, level_of, on_link, request_of}
-use Rattle.tl_coherence.proofs.flow.Imports.{a_beat_of}
-use Rattle.std.proofs.Common.{◌≡◌, ℕ, Bool, true, false, List, [], ◌∷◌, ◌⊎◌, Some, None, refl, sym, ◌∙◌, ap, subst}
-use Rattle.std.proofs.Common.{inl, inr}
+use Rattle.tl_coherence.proofs.flow.Imports.{a_beat_of, Channel}
+use Rattle.std.proofs.Common.{◌≡◌, ℕ, Bool, true, false, List, [], ◌∷◌, ◌⊎◌, Some, None, refl, sym, ◌∙◌, ap, subst, inl}
+use Rattle.std.proofs.Common.{inr}
 use Rattle.std.specs.Prelude.{◌%◌, ◌^◌, Option, is_some, length}
-use Rattle.tl_beat.specs.declared.beat.Beat.TheVariants as beat
-use Rattle.tl_beat.specs.declared.channel.Channel.TheVariants as channel
-use Rattle.tl_beat.specs.declared.opcode.OpA.{OpA}
-use Rattle.tl_beat.specs.declared.opcode.OpA.TheVariants as a
-use Rattle.tl_beat.specs.declared.opcode.OpD.{OpD}
-use Rattle.tl_beat.specs.declared.opcode.OpD.TheVariants as d
-use Rattle.tl_beat.specs.statement.Opcode.{d_carries_data}
-use Rattle.tl_burst.specs.declared.message.Message.TheVariants as message
+use Rattle.tl_beat.{specs.declared.opcode.OpA.OpA, specs.declared.opcode.OpD.OpD}
 use Rattle.tl_burst.specs.statement.Burst.{d_beat_of, lanes_at}
-use Rattle.tl_rules.specs.code.Open.{open_request}
+use Rattle.tl_rules.{specs.code.Open.open_request, specs.statement.Windows.is_free, specs.statement.Windows.needs}
 use Rattle.tl_rules.specs.statement.Effect.{Memory, access_result, answer_of, as_payload, bytes_from, effect}
 use Rattle.tl_manager.specs.code.Kept.{illegal_message_at}
-use Rattle.tl_rules.specs.statement.Windows.{is_free, needs}
 use Rattle.tl_manager.specs.statement.Handing.{access_answer, grant_opcode}
-use Rattle.tl_coherence.specs.refinement.AbstractStep.{answers}
-use Rattle.tl_coherence.specs.refinement.SimulationRelation.{IsSourced}
-use Rattle.tl_coherence.specs.statement.Flow.{trace_of}
-use Rattle.tl_coherence.specs.statement.Headline.{IsGiven}
-use Rattle.tl_coherence.specs.statement.Log.{system_after}
-use Rattle.tl_coherence.specs.statement.OneMemory.{one_memory_after}
+use Rattle.tl_coherence.specs.{refinement.AbstractStep.answers, refinement.SimulationRelation.IsSourced}
+use Rattle.tl_coherence.specs.{statement.Flow.trace_of, statement.Headline.IsGiven, statement.Log.system_after}
+use Rattle.tl_coherence.specs.{statement.OneMemory.one_memory_after}
 use Rattle.tl_coherence.specs.statement.TrueReads.{IsTrueRead, TrueReads, WasFound, lanes_found}
-use Rattle.tl_coherence.proofs.bound.Settling.{given-before}
-use Rattle.tl_coherence.proofs.deliveries.Matching.{shadow}
-use Rattle.tl_coherence.proofs.flow.FlowTaken.{each-taken}
-use Rattle.tl_coherence.proofs.flow.FlowTraces.{trace-flows}
-use Rattle.tl_coherence.proofs.flow.Flows.{flowed}
-use Rattle.tl_coherence.proofs.flow.NextOnD.{next-on_d}
-use Rattle.tl_coherence.proofs.flow.Renewed.{IsSettledFor}
-use Rattle.tl_coherence.proofs.flow.Windowed.{asked_flow, closed_first, free-now, opened-now}
-use Rattle.tl_coherence.proofs.flow.Windowed.{renewed-followed, same_first, same_request}
-use Rattle.tl_coherence.proofs.links.FromInvariant.{matched-given}
-use Rattle.tl_coherence.proofs.memory.OneMemory.{reply-performed}
+use Rattle.tl_coherence.proofs.{bound.Settling.given-before, deliveries.Matching.shadow, flow.FlowTaken.each-taken}
+use Rattle.tl_coherence.proofs.{flow.FlowTraces.trace-flows, flow.Flows.flowed, flow.NextOnD.next-on_d}
+use Rattle.tl_coherence.proofs.{flow.Renewed.IsSettledFor, links.FromInvariant.matched-given}
+use Rattle.tl_coherence.proofs.{memory.OneMemory.reply-performed}
+use Rattle.tl_coherence.proofs.flow.Windowed.{asked_flow, closed_first, free-now, opened-now, renewed-followed}
+use Rattle.tl_coherence.proofs.flow.Windowed.{same_first, same_request}
 
 -- ---- what is answered
 
@@ -45,109 +29,85 @@ use Rattle.tl_coherence.proofs.memory.OneMemory.{reply-performed}
 record IsAnswered {w : ℕ} (config : Config) (m : MessageA w) (reply : Message w) (now before : Log w) : Type 0 where
   free : (n : ℕ) → is_free n None (needs m.opcode) (block_at m.address) (trace_of now) ≡ true
   reply_is : reply ≡ access_answer m
-      (answer_of (message.A m) (effect (message.A m) (one_memory_after config before).memory).1)
+      (answer_of (Message.A m) (effect (Message.A m) (one_memory_after config before).memory).1)
 
 -- since the access with this source is complete there has been such an event
 unfoldable WasAnswered : {w : ℕ} → Config → ℕ → ℕ → MessageA w → Message w → Log w → Type 0
 WasAnswered config c source m reply [] = ⊥
-WasAnswered config c source m reply (e ∷ log) =
-    (is_some (open_request source (on_link c (trace_of (e ∷ log)))) ≡ true)
+WasAnswered config c source m reply (e ∷ log) = (is_some (open_request source (on_link c (trace_of (e ∷ log)))) ≡ true)
     × (IsAnswered config m reply (e ∷ log) log ⊎ WasAnswered config c source m reply log)
 
 lawful_request : {w : ℕ} (config : Config) (c source : ℕ) (m : MessageA w) (r : Message w) (u : SourceState)
-    → IsSourced config c source r u → u ≡ Replied → r ≡ message.A m
-    → illegal_message_at (level_of config c) (message.A m) ≡ None
+    → IsSourced config c source r u → u ≡ Replied → r ≡ Message.A m
+    → illegal_message_at (level_of config c) (Message.A m) ≡ None
 lawful_request config c source m r u sourced used is = (rw (used, is) at sourced).1
 
 -- each access that is answered was so
 answered : {w : ℕ} (config : Config) (log : Log w) → IsGiven config log → (c source : ℕ) (m : MessageA w)
-    → (shadow config log).state.uses c source ≡ Replied → (shadow config log).mail.request c source ≡ message.A m
+    → (shadow config log).state.uses c source ≡ Replied → (shadow config log).mail.request c source ≡ Message.A m
     → WasAnswered config c source m ((shadow config log).mail.answer c source) log
 unfolding shadow system_after WasAnswered
 answered config [] given c source m used request = absurd (closed_first used)
-answered {w} config (x ∷ log) given c source m used request = (
-  opened-now config (x ∷ log) h' sys' is' values c source m used request,
-  elim (renewed-followed config log x.0 h given.width is c source used) [
-    | inl old ↦ inr (subst (λ (r : Message w). WasAnswered config c source m r log) (sym old.1.1)
-        (answered config log before c source m old.0 (sym old.1.0 ∙ request)))
-    | inr new ↦ inl (now new.0 new.1 new.2 new.3 (same_request new.0 m (sym new.1 ∙ request)))
-  ],
-)
-  where
-    before : IsGiven config log
-    before = given-before config x log given
-
-    h : AbstractState w
-    h = shadow config log
-
-    h' : AbstractState w
-    h' = shadow config (x ∷ log)
-
-    sys' : System w
-    sys' = system_after config (x ∷ log)
-
-    is : SimulationRelation config log h.mail h.request h.state (system_after config log)
-    is = matched-given config log before
-
-    is' : SimulationRelation config (x ∷ log) h'.mail h'.request h'.state sys'
-    is' = matched-given config (x ∷ log) given
-
-    values : MonitorRelations (x ∷ log) h'.mail h'.state sys'
-    values = flowed config (x ∷ log) given.width given.typed given.is_log
-
-    now : (i : MessageA w) → h'.mail.request c source ≡ message.A i → IsSettledFor i h'.state
-        → h'.mail.answer c source ≡ answers i (h.state.block (block_at i.address)).truth → i ≡ m
-        → IsAnswered config m (h'.mail.answer c source) (x ∷ log) log
-    now i asked settled replied same = record {
+answered {w} config (x ∷ log) given c source m used request =
+    let before : IsGiven config log = given-before config x log given in
+    let h : AbstractState w = shadow config log in
+    let h' : AbstractState w = shadow config (x ∷ log) in
+    let sys' : System w = system_after config (x ∷ log) in
+    let is = matched-given config log before in
+    let is' = matched-given config (x ∷ log) given in
+    let values = flowed config (x ∷ log) given.width given.typed given.is_log in
+    let now : (i : MessageA w) → h'.mail.request c source ≡ Message.A i → IsSettledFor i h'.state
+    → h'.mail.answer c source ≡ answers i (h.state.block (block_at i.address)).truth → i ≡ m
+    → IsAnswered config m (h'.mail.answer c source) (x ∷ log) log = λ i asked settled replied same. record {
       free = λ n. free-now config (x ∷ log) h' sys' is' values c source m used request
           (subst (λ (j : MessageA w). IsSettledFor j h'.state) same settled) n;
-      reply_is = subst (λ (j : MessageA w). h'.mail.answer c source ≡ answers j
-          (h.state.block (block_at j.address)).truth)
-          same replied
-          ∙ ap (λ r. access_answer m (answer_of (message.A m) r))
+      reply_is = subst (λ (j : MessageA w). h'.mail.answer c source
+          ≡ answers j (h.state.block (block_at j.address)).truth) same replied
+          ∙ ap (λ r. access_answer m (answer_of (Message.A m) r))
           (sym (reply-performed (level_of config c) m (one_memory_after config log).memory
           (h.state.block (block_at m.address)).truth given.width
           (lawful_request config c source m (h'.mail.request c source) (h'.state.uses c source) (is'.sourced c source)
-          used request)
-          (is.beside.memory (block_at m.address)) (is.sized (block_at m.address)).truth));
-    }
+          used request) (is.beside.memory (block_at m.address)) (is.sized (block_at m.address)).truth));
+    } in (
+      opened-now config (x ∷ log) h' sys' is' values c source m used request,
+      elim (renewed-followed config log x.0 h given.width is c source used) [
+        | inl old ↦ inr (subst (λ (r : Message w). WasAnswered config c source m r log) (sym old.1.1)
+            (answered config log before c source m old.0 (sym old.1.0 ∙ request)))
+        | inr new ↦ inl (now new.0 new.1 new.2 new.3 (same_request new.0 m (sym new.1 ∙ request)))
+      ],
+    )
 
 -- ---- its beats
 
 -- an answer with data has the bytes that were found
 lanes_answered : {w : ℕ} (m : MessageA w) (f : Memory) (z : MessageD w) (k : ℕ)
-    → message.D z ≡ access_answer m (answer_of (message.A m) (effect (message.A m) f).1) → z.opcode ≡ d.AccessAckData
+    → Message.D z ≡ access_answer m (answer_of (Message.A m) (effect (Message.A m) f).1) → z.opcode ≡ OpD.AccessAckData
     → (d_beat_of z k).lanes ≡ lanes_found (a_beat_of m 0) f k
 unfolding effect
 lanes_answered {w} m f z k is with_data = go m.opcode is
   where
-    same : (u v : MessageD w) → message.D u ≡ message.D v → u ≡ v
+    same : (u v : MessageD w) → Message.D u ≡ Message.D v → u ≡ v
     same u v e = cc
 
-    lanes : (payload : List ℕ) (i : MessageD w) → z ≡ i → i.opcode ≡ d.AccessAckData → i.payload ≡ payload
+    lanes : (payload : List ℕ) (i : MessageD w) → z ≡ i → i.opcode ≡ OpD.AccessAckData → i.payload ≡ payload
         → (d_beat_of z k).lanes ≡ lanes_at true w payload k
-    lanes payload i e o p = ap (λ (u : MessageD w). (d_beat_of u k).lanes) e
-        ∙ ap (λ (c : OpD). lanes_at (d_carries_data c) w i.payload k) o ∙ ap (λ (b : List ℕ). lanes_at true w b k) p
+    lanes payload i e o p = cc (e, o, p)
 
-    never : (i : MessageD w) → z ≡ i → (i.opcode ≡ d.AccessAckData → ⊥)
+    never : (i : MessageD w) → z ≡ i → (i.opcode ≡ OpD.AccessAckData → ⊥)
         → (d_beat_of z k).lanes ≡ lanes_found (a_beat_of m 0) f k
     never i e refuse = absurd (refuse (sym (ap (λ (u : MessageD w). u.opcode) e) ∙ with_data))
 
-    go : (o : OpA) → message.D z ≡ access_answer m (answer_of (message.A m) (access_result o m f))
+    go : (o : OpA) → Message.D z ≡ access_answer m (answer_of (Message.A m) (access_result o m f))
         → (d_beat_of z k).lanes ≡ lanes_found (a_beat_of m 0) f k
-    go a.Get e = lanes (as_payload (m.address % w) (bytes_from f m.address (2 ^ m.size))) _ (same z _ e) refl refl
-    go a.ArithmeticData e =
+    go OpA.Get e = lanes (as_payload (m.address % w) (bytes_from f m.address (2 ^ m.size))) _ (same z _ e) refl refl
+    go OpA.ArithmeticData e =
         lanes (as_payload (m.address % w) (bytes_from f m.address (2 ^ m.size))) _ (same z _ e) refl refl
-    go a.LogicalData e =
+    go OpA.LogicalData e =
         lanes (as_payload (m.address % w) (bytes_from f m.address (2 ^ m.size))) _ (same z _ e) refl refl
-    go a.PutFullData e = never _ (same z _ e) (λ i. cc)
-    go a.PutPartialData e = never _ (same z _ e) (λ i. cc)
-    go a.Intent e = never _ (same z _ e) (λ i. cc)
-    go a.AcquireBlock e = never _ (same z _ e) (λ i. cc)
-    go a.AcquirePerm e = never _ (same z _ e) (λ i. cc)
+    go o e = never _ (same z _ e) (λ i. cc)
 
 found-beat : {w : ℕ} (config : Config) (c source : ℕ) (m : MessageA w) (z : MessageD w) (k : ℕ) (log : Log w)
-    → z.opcode ≡ d.AccessAckData → WasAnswered config c source m (message.D z) log
+    → z.opcode ≡ OpD.AccessAckData → WasAnswered config c source m (Message.D z) log
     → WasFound config c source (a_beat_of m 0) (d_beat_of z k).lanes k log
 unfolding WasAnswered WasFound
 found-beat config c source m z k [] with_data was = absurd was
@@ -165,15 +125,15 @@ found-beat config c source m z k (e ∷ log) with_data was = (
 -- ---- a beat that is next
 
 true-next : {w : ℕ} (config : Config) (log : Log w) → IsGiven config log → (c : ℕ) (y : BeatD w) (queue : List (Beat w))
-    → (system_after config log).channels c channel.D ≡ beat.D y ∷ queue
-    → (x : BeatA w) → y.opcode ≡ d.AccessAckData → request_of y.source (flow c log) ≡ Some x
-    → WasFound config c y.source x y.lanes (length (unfinished channel.D (flow c log))) log
+    → (system_after config log).channels c Channel.D ≡ Beat.D y ∷ queue
+    → (x : BeatA w) → y.opcode ≡ OpD.AccessAckData → request_of y.source (flow c log) ≡ Some x
+    → WasFound config c y.source x y.lanes (length (unfinished Channel.D (flow c log))) log
 true-next {w} config log given c y queue beats x with_data asks =
+    let no_grant : (b : Bool) → grant_opcode b ≡ OpD.AccessAckData → ⊥ = elim [ true ↦ λ e. cc | false ↦ λ e. cc ] in
     next-on_d config log h c y queue given.width is values beats Found
     (λ i due e. answer i due.request due.answer e (ap (λ (z : BeatD w). z.source) e ∙ due.from) due.used
-    due.request_is due.answer_is)
-    (λ i grant. no_answer (ap (λ (z : BeatD w). z.opcode) grant.beat_is) (no_grant grant.due.data_too))
-    (λ i j e. no_answer (ap (λ (z : BeatD w). z.opcode) e) (λ f. cc))
+    due.request_is due.answer_is) (λ i grant. no_answer (ap (λ (z : BeatD w). z.opcode) grant.beat_is)
+    (no_grant grant.due.data_too)) (λ i j e. no_answer (ap (λ (z : BeatD w). z.opcode) e) (λ f. cc))
   where
     h : AbstractState w
     h = shadow config log
@@ -185,21 +145,19 @@ true-next {w} config log given c y queue beats x with_data asks =
     values = flowed config log given.width given.typed given.is_log
 
     k : ℕ
-    k = length (unfinished channel.D (flow c log))
+    k = length (unfinished Channel.D (flow c log))
 
     Found : Type 0
     Found = WasFound config c y.source x y.lanes k log
 
-    no_answer : {o : OpD} → y.opcode ≡ o → (o ≡ d.AccessAckData → ⊥) → Found
+    no_answer : {o : OpD} → y.opcode ≡ o → (o ≡ OpD.AccessAckData → ⊥) → Found
     no_answer e refuse = absurd (refuse (sym e ∙ with_data))
 
-    no_grant : (b : Bool) → grant_opcode b ≡ d.AccessAckData → ⊥
-    no_grant true e = cc
-    no_grant false e = cc
-
     answer : (i : ℕ) (m : MessageA w) (z : MessageD w) → y ≡ d_beat_of z k → y.source ≡ i
-        → h.state.uses c i ≡ Replied → h.mail.request c i ≡ message.A m → h.mail.answer c i ≡ message.D z → Found
+        → h.state.uses c i ≡ Replied → h.mail.request c i ≡ Message.A m → h.mail.answer c i ≡ Message.D z → Found
     answer i m z e from used request reply =
+        let used_y : h.state.uses c y.source ≡ Replied = ap (h.state.uses c) from ∙ used in
+        let request_y : h.mail.request c y.source ≡ Message.A m = ap (h.mail.request c) from ∙ request in
         subst (λ (u : BeatA w). WasFound config c y.source u y.lanes k log)
         (same_first x (a_beat_of m 0) (sym asks
         ∙ asked_flow config log h (system_after config log) is values c y.source m used_y request_y))
@@ -209,23 +167,17 @@ true-next {w} config log given c y queue beats x with_data asks =
         (subst (λ (r : Message w). WasAnswered config c y.source m r log)
         (ap (h.mail.answer c) from ∙ reply)
         (answered config log given c y.source m used_y request_y))))
-      where
-        used_y : h.state.uses c y.source ≡ Replied
-        used_y = ap (h.state.uses c) from ∙ used
-
-        request_y : h.mail.request c y.source ≡ message.A m
-        request_y = ap (h.mail.request c) from ∙ request
 
 true-moved : {w : ℕ} (config : Config) (log : Log w) → IsGiven config log → (c : ℕ) (x : Beat w) (queue : List (Beat w))
     → (system_after config log).channels c (channel_of x) ≡ x ∷ queue → IsTrueRead config c x log
-true-moved {w} config log given c (beat.D y) queue beats = λ x with_data asks.
-    subst (λ (t : List (Beat w)). WasFound config c y.source x y.lanes (length (unfinished channel.D t)) log)
+true-moved {w} config log given c (Beat.D y) queue beats = λ x with_data asks.
+    subst (λ (t : List (Beat w)). WasFound config c y.source x y.lanes (length (unfinished Channel.D t)) log)
     (sym (trace-flows c log))
     (true-next config log given c y queue beats x with_data (ap (request_of y.source) (sym (trace-flows c log)) ∙ asks))
-true-moved config log given c (beat.A y) queue beats = tt
-true-moved config log given c (beat.B y) queue beats = tt
-true-moved config log given c (beat.C y) queue beats = tt
-true-moved config log given c (beat.E y) queue beats = tt
+true-moved config log given c (Beat.A y) queue beats = tt
+true-moved config log given c (Beat.B y) queue beats = tt
+true-moved config log given c (Beat.C y) queue beats = tt
+true-moved config log given c (Beat.E y) queue beats = tt
 
 pub true_reads : {w : ℕ} → TrueReads w
 true_reads config log given =

@@ -1,50 +1,43 @@
 -- Each beat of data that are given back has bytes of the one memory.
 use Rattle.tl_coherence.proofs.flow.Imports.{Beat, BeatC, History, MessageC, channel_of, unfinished, Config, Log}
-use Rattle.tl_coherence.proofs.flow.Imports.{AbstractState, SimulationRelation, MonitorRelations, is_caching, flow}
-use Rattle.tl_coherence.proofs.flow.Imports.{Message, beat_of, begun, block_at, on_link}
+use Rattle.tl_coherence.proofs.flow.Imports.{AbstractState, SimulationRelation, is_caching, flow}
+use Rattle.tl_coherence.proofs.flow.Imports.{Message, beat_of, begun, block_at, on_link, Channel}
 use Rattle.std.proofs.Common.{◌≡◌, ℕ, Bool, true, List, ◌∷◌, sym, ◌∙◌, ap, subst}
 use Rattle.std.specs.Prelude.{length}
-use Rattle.tl_beat.specs.declared.beat.Beat.TheVariants as beat
-use Rattle.tl_beat.specs.declared.channel.Channel.TheVariants as channel
 use Rattle.tl_beat.specs.statement.Opcode.{c_carries_data}
-use Rattle.tl_burst.specs.declared.message.Message.TheVariants as message
-use Rattle.tl_burst.specs.statement.Burst.{c_beat_of, lanes_at}
-use Rattle.tl_burst.proofs.Begun.{length-begun}
+use Rattle.tl_burst.{specs.statement.Burst.c_beat_of, specs.statement.Burst.lanes_at, proofs.Begun.length-begun}
 use Rattle.tl_rules.specs.statement.Effect.{IsBlock}
-use Rattle.tl_coherence.specs.statement.Flow.{trace_of}
-use Rattle.tl_coherence.specs.statement.Headline.{IsGiven}
-use Rattle.tl_coherence.specs.statement.Log.{system_after}
-use Rattle.tl_coherence.specs.statement.OneMemory.{one_memory_after}
-use Rattle.tl_coherence.specs.statement.TrueReturns.{IsTrueReturn, TrueReturns}
-use Rattle.tl_coherence.proofs.deliveries.Matching.{shadow}
-use Rattle.tl_coherence.proofs.flow.ChannelCE.{report_rendered, release_rendered}
-use Rattle.tl_coherence.proofs.flow.FlowTaken.{each-taken}
-use Rattle.tl_coherence.proofs.flow.FlowTraces.{trace-flows}
-use Rattle.tl_coherence.proofs.flow.Flows.{flowed}
-use Rattle.tl_coherence.proofs.links.FromInvariant.{matched-given}
-use Rattle.tl_coherence.proofs.manager.ManagerTakes.{by-first_c}
-use Rattle.tl_coherence.proofs.manager.Reporting.{IsAbout}
-use Rattle.tl_coherence.proofs.queues.FirstToken.{first-token}
+use Rattle.tl_coherence.specs.{statement.Flow.trace_of, statement.Headline.IsGiven, statement.Log.system_after}
+use Rattle.tl_coherence.specs.{statement.OneMemory.one_memory_after, statement.TrueReturns.IsTrueReturn}
+use Rattle.tl_coherence.specs.{statement.TrueReturns.TrueReturns}
+use Rattle.tl_coherence.proofs.{deliveries.Matching.shadow, flow.ChannelCE.report_rendered}
+use Rattle.tl_coherence.proofs.{flow.ChannelCE.release_rendered, flow.FlowTaken.each-taken, flow.FlowTraces.trace-flows}
+use Rattle.tl_coherence.proofs.{flow.Flows.flowed, links.FromInvariant.matched-given, manager.ManagerTakes.by-first_c}
+use Rattle.tl_coherence.proofs.{manager.Reporting.IsAbout, queues.FirstToken.first-token}
 
-same_beat : {w : ℕ} (x y : BeatC w) → beat.C x ≡ beat.C y → x ≡ y
+same_beat : {w : ℕ} (x y : BeatC w) → Beat.C x ≡ Beat.C y → x ≡ y
 same_beat x y e = cc
 
 true-next : {w : ℕ} (config : Config) (log : Log w) → IsGiven config log → (c : ℕ) (y : BeatC w) (queue : List (Beat w))
-    → (system_after config log).channels c channel.C ≡ beat.C y ∷ queue → c_carries_data y.opcode ≡ true
+    → (system_after config log).channels c Channel.C ≡ Beat.C y ∷ queue → c_carries_data y.opcode ≡ true
     → (bytes : List ℕ) × IsBlock (one_memory_after config log).memory (block_at y.address) bytes
-    × (y.lanes ≡ lanes_at true w bytes (length (unfinished channel.C (flow c log))))
+    × (y.lanes ≡ lanes_at true w bytes (length (unfinished Channel.C (flow c log))))
 true-next {w} config log given c y queue beats with_data =
-    by-first_c (λ i. True) c h.mail h.state (system_after config log) (beat.C y) queue
-    (first-token (is_caching config) channel.C c h.mail h.state (system_after config log) (beat.C y) queue given.width
+    let values = flowed config log given.width given.typed given.is_log in
+    let place : (m : Message w) (k : ℕ) → unfinished Channel.C (on_link c (system_after config log).manager.trace)
+    ≡ begun m k → k ≡ length (unfinished Channel.C (flow c log)) =
+    λ m k e. sym (ap length ((values c).rest_is Channel.C ∙ e) ∙ length-begun m k) in
+    by-first_c (λ i. True) c h.mail h.state (system_after config log) (Beat.C y) queue
+    (first-token (is_caching config) Channel.C c h.mail h.state (system_after config log) (Beat.C y) queue given.width
     is.invariant is.carried beats)
     (λ n rest tokens next.
     let m = report_rendered c n (h.state.block n) given.width (is.sized n).truth in
     about n true _ _ m.0 m.2 next.k (next.beat_is ∙ ap (λ (z : Message w). beat_of z next.k) m.1)
-    (place (message.C m.0) next.k (next.rest_is ∙ ap (λ (z : Message w). begun z next.k) m.1)))
+    (place (Message.C m.0) next.k (next.rest_is ∙ ap (λ (z : Message w). begun z next.k) m.1)))
     (λ n rest tokens next.
     let m = release_rendered c n (h.state.block n) given.width (is.sized n).truth in
     about n _ _ _ m.0 m.2 next.k (next.beat_is ∙ ap (λ (z : Message w). beat_of z next.k) m.1)
-    (place (message.C m.0) next.k (next.rest_is ∙ ap (λ (z : Message w). begun z next.k) m.1)))
+    (place (Message.C m.0) next.k (next.rest_is ∙ ap (λ (z : Message w). begun z next.k) m.1)))
   where
     h : AbstractState w
     h = shadow config log
@@ -52,57 +45,38 @@ true-next {w} config log given c y queue beats with_data =
     is : SimulationRelation config log h.mail h.request h.state (system_after config log)
     is = matched-given config log given
 
-    values : MonitorRelations log h.mail h.state (system_after config log)
-    values = flowed config log given.width given.typed given.is_log
-
     True : Type 0
     True = (bytes : List ℕ) × IsBlock (one_memory_after config log).memory (block_at y.address) bytes
-        × (y.lanes ≡ lanes_at true w bytes (length (unfinished channel.C (flow c log))))
-
-    place : (m : Message w) (k : ℕ)
-        → unfinished channel.C (on_link c (system_after config log).manager.trace) ≡ begun m k
-        → k ≡ length (unfinished channel.C (flow c log))
-    place m k e = sym (ap length ((values c).rest_is channel.C ∙ e) ∙ length-begun m k)
+        × (y.lanes ≡ lanes_at true w bytes (length (unfinished Channel.C (flow c log))))
 
     about : (n : ℕ) (b : Bool) (param : ℕ) (carries : Bool) (m : MessageC w)
-        → IsAbout b n param carries (h.state.block n).truth m → (k : ℕ) → beat.C y ≡ beat_of (message.C m) k
-        → k ≡ length (unfinished channel.C (flow c log)) → True
-    about n b param carries m says k beat_is at = (
-      (h.state.block n).truth,
-      subst (λ (i : ℕ). IsBlock (one_memory_after config log).memory i (h.state.block n).truth) (sym of_block)
-          (is.beside.memory n),
-      lanes,
-    )
-      where
-        same : y ≡ c_beat_of m k
-        same = same_beat y (c_beat_of m k) beat_is
-
-        of_block : block_at y.address ≡ n
-        of_block = ap (λ (z : BeatC w). block_at z.address) same ∙ says.block
-
-        data_too : c_carries_data m.opcode ≡ true
-        data_too = sym (ap (λ (z : BeatC w). c_carries_data z.opcode) same) ∙ with_data
-
-        lanes : y.lanes ≡ lanes_at true w (h.state.block n).truth (length (unfinished channel.C (flow c log)))
-        lanes = ap (λ (z : BeatC w). z.lanes) same
-            ∙ ap (λ (d : Bool). lanes_at d w m.payload k) data_too
-            ∙ ap (λ (p : List ℕ). lanes_at true w p k) (says.payload_is (sym says.carries_is ∙ data_too))
-            ∙ ap (lanes_at true w (h.state.block n).truth) at
+        → IsAbout b n param carries (h.state.block n).truth m → (k : ℕ) → Beat.C y ≡ beat_of (Message.C m) k
+        → k ≡ length (unfinished Channel.C (flow c log)) → True
+    about n b param carries m says k beat_is at =
+        let same : y ≡ c_beat_of m k = same_beat y (c_beat_of m k) beat_is in
+        let of_block : block_at y.address ≡ n = ap (λ (z : BeatC w). block_at z.address) same ∙ says.block in
+        let data_too : c_carries_data m.opcode ≡ true = cc (same, with_data) in
+        let lanes : y.lanes ≡ lanes_at true w (h.state.block n).truth (length (unfinished Channel.C (flow c log))) =
+        cc (same, data_too, says.payload_is (sym says.carries_is ∙ data_too), at) in (
+          (h.state.block n).truth,
+          subst (λ (i : ℕ). IsBlock (one_memory_after config log).memory i
+              (h.state.block n).truth) (sym of_block) (is.beside.memory n),
+          lanes,
+        )
 
 true-moved : {w : ℕ} (config : Config) (log : Log w) → IsGiven config log → (c : ℕ) (x : Beat w) (queue : List (Beat w))
     → (system_after config log).channels c (channel_of x) ≡ x ∷ queue
     → IsTrueReturn (one_memory_after config log).memory c x (trace_of log)
-true-moved {w} config log given c (beat.C y) queue beats = λ with_data.
+true-moved {w} config log given c (Beat.C y) queue beats = λ with_data.
     subst (λ (t : History w). (bytes : List ℕ) × IsBlock (one_memory_after config log).memory (block_at y.address) bytes
-    × (y.lanes ≡ lanes_at true w bytes (length (unfinished channel.C t)))) (sym (trace-flows c log))
+    × (y.lanes ≡ lanes_at true w bytes (length (unfinished Channel.C t)))) (sym (trace-flows c log))
     (true-next config log given c y queue beats with_data)
-true-moved config log given c (beat.A y) queue beats = tt
-true-moved config log given c (beat.B y) queue beats = tt
-true-moved config log given c (beat.D y) queue beats = tt
-true-moved config log given c (beat.E y) queue beats = tt
+true-moved config log given c (Beat.A y) queue beats = tt
+true-moved config log given c (Beat.B y) queue beats = tt
+true-moved config log given c (Beat.D y) queue beats = tt
+true-moved config log given c (Beat.E y) queue beats = tt
 
 pub true_returns : {w : ℕ} → TrueReturns w
 true_returns config log given =
-    each-taken config
-    (λ earlier link x. IsTrueReturn (one_memory_after config earlier).memory link x (trace_of earlier))
-    (true-moved config) log given
+    each-taken config (λ earlier link x. IsTrueReturn (one_memory_after config earlier).memory link x
+    (trace_of earlier)) (true-moved config) log given

@@ -1,92 +1,57 @@
 -- Each access is answered after a moment, since it was asked whole, at which nobody held what excludes it.
 use Rattle.std.proofs.Common.{◌≡◌, ℕ, Bool, true, false, List, [], ◌∷◌, Option, Some, None, refl, sym, ◌∙◌, ap, subst}
 use Rattle.std.proofs.Common.{inl, inr}
-use Rattle.std.specs.Prelude.{◌++◌, is_some}
-use Rattle.std.proofs.lemmas.Bool.{or_left, or_right}
-use Rattle.tl_beat.specs.statement.Width.{IsWidth}
-use Rattle.tl_beat.specs.declared.beat.Beat.{Beat}
-use Rattle.tl_beat.specs.declared.beat.Beat.TheVariants as beat
-use Rattle.tl_beat.specs.declared.beat.BeatA.{BeatA}
-use Rattle.tl_beat.specs.declared.beat.BeatD.{BeatD}
-use Rattle.tl_beat.specs.declared.beat.Link.{Link}
-use Rattle.tl_beat.specs.declared.channel.Channel.TheVariants as channel
-use Rattle.tl_beat.specs.declared.opcode.OpA.{OpA}
-use Rattle.tl_beat.specs.declared.opcode.OpA.TheVariants as a
-use Rattle.tl_burst.specs.declared.message.Message.{Message}
-use Rattle.tl_burst.specs.declared.message.Message.TheVariants as message
-use Rattle.tl_burst.specs.declared.message.MessageA.{MessageA}
-use Rattle.tl_burst.specs.statement.Burst.{a_beat_of}
+use Rattle.std.{specs.Prelude.◌++◌, specs.Prelude.is_some, proofs.lemmas.Bool.or_left, proofs.lemmas.Bool.or_right}
+use Rattle.tl_beat.{specs.statement.Width.IsWidth, specs.declared.beat.Beat.Beat, specs.declared.beat.BeatA.BeatA}
+use Rattle.tl_beat.{specs.declared.beat.BeatD.BeatD, specs.declared.beat.Link.Link, specs.declared.opcode.OpA.OpA}
+use Rattle.tl_coherence.proofs.{flow.Imports.Channel, deliveries.DeliverDAfter.followed-still}
+use Rattle.tl_coherence.proofs.{deliveries.InvariantKept.ready-delivered, flow.ComingRequests.not-coming_a}
+use Rattle.tl_coherence.proofs.{flow.ComingRequests.waits_on_a, flow.FlowStep.held_by, flow.Flows.flowed}
+use Rattle.tl_coherence.proofs.{flow.FlowTaken.each-taken, flow.FlowTraces.trace-flows, flow.GivenAlone.free-where}
+use Rattle.tl_coherence.proofs.{flow.GivenAlone.held_by_most, flow.NextOnD.next-on_d, links.FromInvariant.matched-given}
+use Rattle.tl_coherence.proofs.{manager.UnwaitedRequests.next_tracker, queues.Facts.held_at_most}
+use Rattle.tl_coherence.proofs.{queues.Perms.nothing_below, queues.Steps.stepped-asked}
+use Rattle.tl_burst.{specs.declared.message.Message.Message, specs.declared.message.MessageA.MessageA}
+use Rattle.tl_burst.{specs.statement.Burst.a_beat_of}
 use Rattle.tl_burst.specs.statement.Messages.{History, channel_of, unfinished}
-use Rattle.tl_params.specs.declared.config.Config.{Config}
-use Rattle.tl_params.specs.declared.key.Key.TheVariants.{RequestSource}
-use Rattle.tl_params.specs.declared.perm.Perm.{Perm}
-use Rattle.tl_params.specs.declared.perm.Perm.TheVariants as perm
+use Rattle.tl_params.{specs.declared.config.Config.Config, specs.declared.key.Key.TheVariants.RequestSource}
+use Rattle.tl_params.{specs.declared.perm.Perm.Perm}
 use Rattle.tl_rules.specs.statement.Conformance.{Trace, on_link, comes_in_request}
 use Rattle.tl_rules.specs.statement.History.{block_at, held, pending, request_of}
 use Rattle.tl_rules.specs.statement.Windows.{leaves, needs, is_free, has_window}
 use Rattle.tl_rules.specs.code.Open.{open_request}
-use Rattle.tl_client.specs.declared.operation.Op.{Op}
+use Rattle.tl_client.{specs.declared.operation.Op.Op, specs.statement.Endpoint.EndConfig}
 use Rattle.tl_client.specs.statement.Ask as ask
-use Rattle.tl_client.specs.statement.Endpoint.{EndConfig}
-use Rattle.tl_manager.specs.statement.Handing.{grant_opcode}
-use Rattle.tl_manager.specs.statement.Service.{is_access_answer}
-use Rattle.tl_coherence.specs.declared.event.Event.{Event}
+use Rattle.tl_manager.{specs.statement.Handing.grant_opcode, specs.statement.Service.is_access_answer}
+use Rattle.tl_coherence.specs.{declared.event.Event.Event, declared.event.Outcome.Outcome, statement.Draining.is_moving}
+use Rattle.tl_coherence.specs.{statement.Flow.flow, statement.Flow.taken_at, statement.Flow.trace_of}
+use Rattle.tl_coherence.specs.{statement.Headline.AreTyped, statement.Headline.IsGiven, statement.Log.Log}
+use Rattle.tl_coherence.specs.{statement.Log.IsLog, statement.Log.system_after, statement.Step.Step}
+use Rattle.tl_coherence.specs.{statement.Step.stepped, statement.System.System, statement.System.terms_at}
+use Rattle.tl_coherence.specs.{statement.Permissions.perm_le, refinement.PacketMessages.block_message}
+use Rattle.tl_coherence.specs.{protocol.Packet.Acquire}
 use Rattle.tl_coherence.specs.declared.event.Event.TheVariants.{Ask, Deliver}
-use Rattle.tl_coherence.specs.declared.event.Outcome.{Outcome}
-use Rattle.tl_coherence.specs.declared.event.Outcome.TheVariants as outcome
-use Rattle.tl_coherence.specs.statement.Draining.{is_moving}
-use Rattle.tl_coherence.specs.statement.Flow.{flow}
-use Rattle.tl_coherence.specs.statement.Headline.{AreTyped, IsGiven}
-use Rattle.tl_coherence.specs.statement.Log.{Log, IsLog, system_after}
-use Rattle.tl_coherence.specs.statement.Flow.{taken_at, trace_of}
-use Rattle.tl_coherence.specs.statement.Step.{Step, stepped}
-use Rattle.tl_coherence.specs.statement.System.{System, terms_at}
 use Rattle.tl_coherence.specs.statement.AnsweredInTime.{IsAnsweredInTime, AnsweredInTime}
-use Rattle.tl_coherence.specs.statement.Permissions.{perm_le}
-use Rattle.tl_coherence.specs.refinement.MonitorRelation.{is_requested}
 use Rattle.tl_coherence.specs.refinement.AbstractStep.{AbstractState, abstract_step, abstract_step_by}
-use Rattle.tl_coherence.specs.statement.Delivery.{receiver}
-use Rattle.tl_coherence.specs.refinement.PacketMessages.{block_message}
-use Rattle.tl_coherence.specs.refinement.SimulationRelation.{SimulationRelation, MonitorRelations}
-use Rattle.tl_coherence.specs.refinement.SimulationRelation.{asked_for, block_used, first_of}
+use Rattle.tl_coherence.specs.refinement.SimulationRelation.{SimulationRelation, MonitorRelations, asked_for}
+use Rattle.tl_coherence.specs.refinement.SimulationRelation.{block_used, first_of}
 use Rattle.tl_coherence.specs.protocol.Protocol.{Block, SourceState, SourceFree, Replied, view}
-use Rattle.tl_coherence.specs.protocol.Packet.{Acquire}
-use Rattle.tl_coherence.proofs.deliveries.DeliverDAfter.{followed-still}
-use Rattle.tl_coherence.proofs.deliveries.InvariantKept.{ready-delivered}
 use Rattle.tl_coherence.proofs.deliveries.Matching.{shadow, matched, stepped-nobody}
-use Rattle.tl_coherence.proofs.flow.ComingRequests.{not-coming_a, waits_on_a}
-use Rattle.tl_coherence.proofs.flow.FlowStep.{held_by}
-use Rattle.tl_coherence.proofs.flow.Flows.{flowed}
 use Rattle.tl_coherence.proofs.flow.Renewed.{AreRenewed, AreKept, IsSettledFor, kept-same, kept-asked, renewed-same}
 use Rattle.tl_coherence.proofs.flow.Renewed.{renewed-kind_taken}
-use Rattle.tl_coherence.proofs.flow.FlowTaken.{each-taken}
-use Rattle.tl_coherence.proofs.flow.FlowTraces.{trace-flows}
-use Rattle.tl_coherence.proofs.flow.GivenAlone.{free-where, held_by_most}
-use Rattle.tl_coherence.proofs.flow.NextOnD.{next-on_d}
-use Rattle.tl_coherence.proofs.links.FromInvariant.{matched-given}
-use Rattle.tl_coherence.proofs.manager.UnwaitedRequests.{next_tracker}
-use Rattle.tl_coherence.proofs.queues.Facts.{held_at_most}
-use Rattle.tl_coherence.proofs.queues.Perms.{nothing_below}
-use Rattle.tl_coherence.proofs.queues.Steps.{stepped-asked}
 use Rattle.tl_coherence.proofs.simulation.FollowCases.{followed-cases, on-first}
 
 -- ---- what is held and excludes nothing
 
 leaves_below : (o : OpA) (p q : Perm) → perm_le p q ≡ true → leaves (needs o) q ≡ true → leaves (needs o) p ≡ true
-leaves_below a.Intent p q e f = refl
-leaves_below a.Get perm.None q e f = refl
-leaves_below a.Get perm.Branch q e f = refl
-leaves_below a.Get perm.Trunk perm.Trunk e f = f
-leaves_below a.Get perm.Trunk perm.Branch e f = absurd cc
-leaves_below a.Get perm.Trunk perm.None e f = absurd cc
-leaves_below a.PutFullData p q e f = nothing_below p q e f
-leaves_below a.PutPartialData p q e f = nothing_below p q e f
-leaves_below a.ArithmeticData p q e f = nothing_below p q e f
-leaves_below a.LogicalData p q e f = nothing_below p q e f
-leaves_below a.AcquireBlock p q e f = nothing_below p q e f
-leaves_below a.AcquirePerm p q e f = nothing_below p q e f
+leaves_below OpA.Intent p q e f = refl
+leaves_below OpA.Get Perm.None q e f = refl
+leaves_below OpA.Get Perm.Branch q e f = refl
+leaves_below OpA.Get Perm.Trunk Perm.Trunk e f = f
+leaves_below OpA.Get Perm.Trunk q e f = absurd cc
+leaves_below o p q e f = nothing_below p q e f
 
-pub same_request : {w : ℕ} (m n : MessageA w) → message.A m ≡ message.A n → m ≡ n
+pub same_request : {w : ℕ} (m n : MessageA w) → Message.A m ≡ Message.A n → m ≡ n
 same_request m n e = cc
 
 pub same_first : {w : ℕ} (x y : BeatA w) → Some x ≡ Some y → y ≡ x
@@ -96,8 +61,7 @@ same_first x y e = cc
 
 abbrev AreWindowed : {w : ℕ} → AbstractState w → Trace w → Type 0
 AreWindowed {w} h t = (n c source : ℕ) (m : MessageA w) → h.state.uses c source ≡ Replied
-    → h.mail.request c source ≡ message.A m
-    → has_window n c source (needs m.opcode) (block_at m.address) t ≡ true
+    → h.mail.request c source ≡ Message.A m → has_window n c source (needs m.opcode) (block_at m.address) t ≡ true
 
 asked_replied : {w : ℕ} (u : SourceState) (m acquire : Message w) → u ≡ Replied → asked_for u m acquire ≡ first_of m
 asked_replied u m acquire e = rw e refl
@@ -106,52 +70,54 @@ asked_replied u m acquire e = rw e refl
 module _ {w : ℕ} (config : Config) (log : Log w) (h : AbstractState w) (sys : System w)
     (is : SimulationRelation config log h.mail h.request h.state sys)
     (values : MonitorRelations log h.mail h.state sys) (c source : ℕ) (m : MessageA w)
-    (used : h.state.uses c source ≡ Replied) (request : h.mail.request c source ≡ message.A m) where
+    (used : h.state.uses c source ≡ Replied) (request : h.mail.request c source ≡ Message.A m) where
   pending_flow : pending (RequestSource source) (flow c log) ≡ true
-  pending_flow = (values c).requests source ∙ ap
-      (λ (u : SourceState). is_requested c source (unfinished channel.A (receiver channel.A c sys)) u h.state) used
+  pending_flow = cc ((values c).requests source, used)
 
   pub asked_flow : request_of source (flow c log) ≡ Some (a_beat_of m 0)
-  asked_flow = (values c).asked_is source pending_flow
-      ∙ asked_replied (h.state.uses c source) (h.mail.request c source)
-      (block_message Acquire c (block_used (h.state.uses c source))
-      (h.state.block (block_used (h.state.uses c source)))) used
-      ∙ ap first_of request
+  asked_flow = cc (
+    (values c).asked_is source pending_flow,
+    asked_replied (h.state.uses c source)
+        (h.mail.request c source) (block_message Acquire c (block_used (h.state.uses c source))
+        (h.state.block (block_used (h.state.uses c source)))) used,
+    request,
+  )
 
   -- its request is pending and complete
   pub opened-now : is_some (open_request source (on_link c (trace_of log))) ≡ true
-  opened-now = ap (λ (t : History w). is_some (open_request source t)) (trace-flows c log)
+  opened-now =
+      let whole : comes_in_request source (unfinished Channel.A (flow c log)) ≡ false =
+      cc (
+        (values c).rest_is Channel.A,
+        not-coming_a c source is
+            (ap (λ (u : SourceState). waits_on_a c u h.state) used),
+      ) in
+      ap (λ (t : History w). is_some (open_request source t)) (trace-flows c log)
       ∙ rw (pending_flow, whole, asked_flow) refl
-    where
-      whole : comes_in_request source (unfinished channel.A (flow c log)) ≡ false
-      whole = ap (comes_in_request source) ((values c).rest_is channel.A)
-          ∙ not-coming_a config log h.mail h.request h.state sys c source is
-          (ap (λ (u : SourceState). waits_on_a c u h.state) used)
 
   pub free-now : IsSettledFor m h.state → (n : ℕ)
       → is_free n None (needs m.opcode) (block_at m.address) (trace_of log) ≡ true
-  free-now settled n = free-where n None (needs m.opcode) k (trace_of log) (λ other.
-      ap (λ (t : History w). leaves (needs m.opcode) (held k t)) (trace-flows other log)
-      ∙ ap (leaves (needs m.opcode)) ((values other).held_is k)
-      ∙ leaves_below m.opcode (held_by other b) (b.pair other).recorded
-      (held_by_most other b (view b.service other)
-      (held_at_most (b.pair other) (view b.service other) ((is.invariant.blocks k).phases other))) (settled other))
-    where
-      k : ℕ
-      k = block_at m.address
-
-      b : Block (List ℕ)
-      b = h.state.block k
+  free-now settled n =
+      let k : ℕ = block_at m.address in
+      let b : Block (List ℕ) = h.state.block k in
+      cc (free-where n None (needs m.opcode) k (trace_of log)
+      (λ other. ap (λ (t : History w). leaves (needs m.opcode) (held k t)) (trace-flows other log)
+      ∙ ap (leaves (needs m.opcode)) ((values other).held_is k) ∙ leaves_below m.opcode (held_by other b)
+      (b.pair other).recorded (held_by_most other b (view b.service other)
+      (held_at_most (b.pair other) (view b.service other) ((is.invariant.blocks k).phases other))) (settled other)))
 
 -- ---- after one more event
 
 -- with one more beat
-windowed-more : {w : ℕ} (config : Config) (log' : Log w) (h h' : AbstractState w) (sys' : System w) (y : Link × Beat w)
+windowed-more : {w : ℕ} {config : Config} {log' : Log w} (h h' : AbstractState w) {sys' : System w} (y : Link × Beat w)
     (t : Trace w) → SimulationRelation config log' h'.mail h'.request h'.state sys'
     → MonitorRelations log' h'.mail h'.state sys' → trace_of log' ≡ y ∷ t
     → AreRenewed h h' → AreWindowed h t → AreWindowed h' (y ∷ t)
 unfolding has_window
-windowed-more {w} config log' h h' sys' y t is values more renewed before n c source m used request =
+windowed-more {w} {config} {log'} h h' {sys'} y t is values more renewed before n c source m used request =
+    let opened : is_some (open_request source (on_link c (y ∷ t))) ≡ true =
+    subst (λ (s : Trace w). is_some (open_request source (on_link c s)) ≡ true) more
+    (opened-now config log' h' sys' is values c source m used request) in
     rw opened (elim (renewed c source used) [
       | inl old ↦ or_right (is_free n None (needs m.opcode) (block_at m.address) (y ∷ t))
           (has_window n c source (needs m.opcode) (block_at m.address) t)
@@ -162,10 +128,6 @@ windowed-more {w} config log' h h' sys' y t is values more renewed before n c so
           (free-now config log' h' sys' is values c source m used request
           (subst (λ (i : MessageA w). IsSettledFor i h'.state) (same_request new.0 m (sym new.1 ∙ request)) new.2) n))
     ])
-  where
-    opened : is_some (open_request source (on_link c (y ∷ t))) ≡ true
-    opened = subst (λ (s : Trace w). is_some (open_request source (on_link c s)) ≡ true) more
-        (opened-now config log' h' sys' is values c source m used request)
 
 windowed-kept : {w : ℕ} (h h' : AbstractState w) (t : Trace w) → AreKept h h' → AreWindowed h t → AreWindowed h' t
 windowed-kept h h' t kept before n c source m used request = let old = kept c source used in
@@ -189,20 +151,17 @@ pub renewed-followed : {w : ℕ} (config : Config) (log : Log w) (event : Event 
     → SimulationRelation config log h.mail h.request h.state (system_after config log)
     → AreRenewed h (abstract_step config event (system_after config log) h)
 renewed-followed {w} config log event h width is =
-    followed-cases config log h.mail h.request h.state sys event (λ (i : AbstractState w). AreRenewed h i) width is
+    let sys : System w = system_after config log in
+    followed-cases event (λ (i : AbstractState w). AreRenewed h i) width is
     (renewed-same h h (λ d j. refl) (λ d j. (refl, refl)))
     (λ terms c o at d j e. inl (kept-asked c o (ask.asked terms o (sys.clients c)).reply h d j e))
     (λ link ch x queue d. renewed-kind_taken config log (next_tracker sys) link.0 d.first.kind d.first.number
     d.first.rest h sys is
-    (on-first config h.mail h.state sys link ch x queue d) (ready-delivered config log h.mail h.request h.state sys link
+    (on-first d) (ready-delivered config log h.mail h.request h.state sys link
     ch x queue width is d))
-  where
-    sys : System w
-    sys = system_after config log
 
-windowed-event : {w : ℕ} (config : Config) (log : Log w) (h : AbstractState w) (event : Event w) (o : Outcome w)
-    → IsWidth w
-    → SimulationRelation config log h.mail h.request h.state (system_after config log)
+windowed-event : {w : ℕ} {config : Config} {log : Log w} (h : AbstractState w) (event : Event w) (o : Outcome w)
+    → IsWidth w → SimulationRelation config log h.mail h.request h.state (system_after config log)
     → o ≡ (stepped config event (system_after config log)).outcome
     → SimulationRelation config ((event, o) ∷ log) (abstract_step config event (system_after config log) h).mail
     (abstract_step config event (system_after config log) h).request
@@ -210,35 +169,26 @@ windowed-event : {w : ℕ} (config : Config) (log : Log w) (h : AbstractState w)
     (stepped config event (system_after config log)).after
     → MonitorRelations ((event, o) ∷ log) (abstract_step config event (system_after config log) h).mail
     (abstract_step config event (system_after config log) h).state
-    (stepped config event (system_after config log)).after
-    → AreWindowed h (trace_of log) → AreWindowed (abstract_step config event (system_after config log) h)
-    (taken_at event o ++ trace_of log)
+    (stepped config event (system_after config log)).after → AreWindowed h (trace_of log)
+    → AreWindowed (abstract_step config event (system_after config log) h) (taken_at event o ++ trace_of log)
 unfolding trace_of
-windowed-event config log h (Ask c i) o width is o_is is' values before =
+windowed-event {config} {log} h (Ask c i) o width is o_is is' values before =
     windowed-kept h (abstract_step config (Ask c i) (system_after config log) h) (trace_of log)
     (kept-ask config c i (system_after config log) h) before
-windowed-event config log h (Deliver link ch) (outcome.Moved x) width is o_is is' values before =
-    windowed-more config ((Deliver link ch, outcome.Moved x) ∷ log) h
-    (abstract_step config (Deliver link ch) (system_after config log) h)
-    (stepped config (Deliver link ch) (system_after config log)).after
-    (link, x) (trace_of log) is' values refl (renewed-followed config log (Deliver link ch) h width is) before
-windowed-event config log h (Deliver link ch) (outcome.Done x source f) width is o_is is' values before =
-    windowed-more config ((Deliver link ch, outcome.Done x source f) ∷ log) h
-    (abstract_step config (Deliver link ch) (system_after config log) h)
-    (stepped config (Deliver link ch) (system_after config log)).after
-    (link, x) (trace_of log) is' values refl (renewed-followed config log (Deliver link ch) h width is) before
-windowed-event {w} config log h (Deliver link ch) (outcome.Replied r) width is o_is is' values before =
-    subst (λ (i : AbstractState w). AreWindowed i (trace_of log))
-    (sym (followed-still config link ch (system_after config log) h (sym (ap is_moving o_is)))) before
-windowed-event {w} config log h (Deliver link ch) outcome.Empty width is o_is is' values before =
-    subst (λ (i : AbstractState w). AreWindowed i (trace_of log))
-    (sym (followed-still config link ch (system_after config log) h (sym (ap is_moving o_is)))) before
-windowed-event {w} config log h (Deliver link ch) outcome.Stalled width is o_is is' values before =
-    subst (λ (i : AbstractState w). AreWindowed i (trace_of log))
-    (sym (followed-still config link ch (system_after config log) h (sym (ap is_moving o_is)))) before
-windowed-event {w} config log h (Deliver link ch) outcome.NoSuchClient width is o_is is' values before =
-    subst (λ (i : AbstractState w). AreWindowed i (trace_of log))
-    (sym (followed-still config link ch (system_after config log) h (sym (ap is_moving o_is)))) before
+windowed-event {config} {log} h (Deliver link ch) (Outcome.Moved x) width is o_is is' values before =
+    windowed-more h (abstract_step config (Deliver link ch) (system_after config log) h) (link, x) (trace_of log) is'
+    values refl (renewed-followed config log (Deliver link ch) h width is) before
+windowed-event {config} {log} h (Deliver link ch) (Outcome.Done x source f) width is o_is is' values before =
+    windowed-more h (abstract_step config (Deliver link ch) (system_after config log) h) (link, x) (trace_of log) is'
+    values refl (renewed-followed config log (Deliver link ch) h width is) before
+windowed-event {w} {config} {log} h (Deliver link ch) (Outcome.Replied r) width is o_is is' values before =
+    rw (followed-still config link ch (system_after config log) h (sym (ap is_moving o_is))) before
+windowed-event {w} {config} {log} h (Deliver link ch) Outcome.Empty width is o_is is' values before =
+    rw (followed-still config link ch (system_after config log) h (sym (ap is_moving o_is))) before
+windowed-event {w} {config} {log} h (Deliver link ch) Outcome.Stalled width is o_is is' values before =
+    rw (followed-still config link ch (system_after config log) h (sym (ap is_moving o_is))) before
+windowed-event {w} {config} {log} h (Deliver link ch) Outcome.NoSuchClient width is o_is is' values before =
+    rw (followed-still config link ch (system_after config log) h (sym (ap is_moving o_is))) before
 
 pub closed_first : SourceFree ≡ Replied → ⊥
 closed_first e = cc
@@ -248,7 +198,7 @@ windowed : {w : ℕ} (config : Config) (log : Log w) → IsWidth w → AreTyped 
 unfolding shadow system_after AreTyped IsLog trace_of
 windowed config [] width typed is = λ n c source m used request. absurd (closed_first used)
 windowed {w} config (x ∷ log) width typed is =
-    windowed-event config log (shadow config log) x.0 x.1 width (matched config log width typed.1 is.1) is.0
+    windowed-event (shadow config log) x.0 x.1 width (matched config log width typed.1 is.1) is.0
     (matched config (x ∷ log) width typed is) (flowed config (x ∷ log) width typed is)
     (windowed config log width typed.1 is.1)
 
@@ -258,16 +208,17 @@ pub grants_no_access : (d : Bool) → is_access_answer (grant_opcode d) ≡ fals
 grants_no_access true = refl
 grants_no_access false = refl
 
-answered-next : {w : ℕ} (config : Config) (log : Log w) → IsGiven config log → (c : ℕ) (y : BeatD w)
-    (queue : List (Beat w)) → (system_after config log).channels c channel.D ≡ beat.D y ∷ queue
+answered-next : {w : ℕ} {config : Config} {log : Log w} → IsGiven config log → (c : ℕ) (y : BeatD w)
+    (queue : List (Beat w)) → (system_after config log).channels c Channel.D ≡ Beat.D y ∷ queue
     → (n : ℕ) (x : BeatA w) → is_access_answer y.opcode ≡ true → request_of y.source (on_link c (trace_of log)) ≡ Some x
     → has_window n c y.source (needs x.opcode) (block_at x.address) (trace_of log) ≡ true
-answered-next {w} config log given c y queue beats n x answers asks =
-    next-on_d config log h c y queue given.width is values beats (Windowed x)
+answered-next {w} {config} {log} given c y queue beats n x answers asks =
+    let no_answer : is_access_answer y.opcode ≡ false → Windowed x =
+    λ e. absurd (let no : false ≡ true = sym e ∙ answers in cc) in
+    cc (next-on_d config log h c y queue given.width is values beats (Windowed x)
     (λ i due e. answer i due.request (ap (λ (z : BeatD w). z.source) e ∙ due.from) due.used due.request_is)
     (λ i grant. no_answer (ap (λ (z : BeatD w). is_access_answer z.opcode) grant.beat_is
-    ∙ grants_no_access grant.due.data_too))
-    (λ i k e. no_answer (ap (λ (z : BeatD w). is_access_answer z.opcode) e))
+    ∙ grants_no_access grant.due.data_too)) (λ i k e. no_answer (ap (λ (z : BeatD w). is_access_answer z.opcode) e)))
   where
     h : AbstractState w
     h = shadow config log
@@ -281,32 +232,22 @@ answered-next {w} config log given c y queue beats n x answers asks =
     Windowed : BeatA w → Type 0
     Windowed z = has_window n c y.source (needs z.opcode) (block_at z.address) (trace_of log) ≡ true
 
-    no_answer : is_access_answer y.opcode ≡ false → Windowed x
-    no_answer e = absurd (let no : false ≡ true = sym e ∙ answers in cc)
-
     answer : (i : ℕ) (m : MessageA w) → y.source ≡ i → h.state.uses c i ≡ Replied
-        → h.mail.request c i ≡ message.A m → Windowed x
+        → h.mail.request c i ≡ Message.A m → Windowed x
     answer i m from used request =
+        let used_y : h.state.uses c y.source ≡ Replied = ap (h.state.uses c) from ∙ used in
+        let request_y : h.mail.request c y.source ≡ Message.A m = ap (h.mail.request c) from ∙ request in
         subst Windowed
         (same_first x (a_beat_of m 0) (sym asks ∙ ap (request_of y.source) (trace-flows c log)
         ∙ asked_flow config log h (system_after config log) is values c y.source m used_y request_y))
         (windowed config log given.width given.typed given.is_log n c y.source m used_y request_y)
-      where
-        used_y : h.state.uses c y.source ≡ Replied
-        used_y = ap (h.state.uses c) from ∙ used
-
-        request_y : h.mail.request c y.source ≡ message.A m
-        request_y = ap (h.mail.request c) from ∙ request
 
 in_time-moved : {w : ℕ} (config : Config) (log : Log w) → IsGiven config log → (c : ℕ) (x : Beat w)
     (queue : List (Beat w)) → (system_after config log).channels c (channel_of x) ≡ x ∷ queue
     → IsAnsweredInTime c x (trace_of log)
-in_time-moved config log given c (beat.D y) queue beats = λ n x begun answers asks.
-    answered-next config log given c y queue beats n x answers asks
-in_time-moved config log given c (beat.A y) queue beats = tt
-in_time-moved config log given c (beat.B y) queue beats = tt
-in_time-moved config log given c (beat.C y) queue beats = tt
-in_time-moved config log given c (beat.E y) queue beats = tt
+in_time-moved config log given c (Beat.D y) queue beats = λ n x begun answers asks.
+    answered-next given c y queue beats n x answers asks
+in_time-moved config log given c x queue beats = tt
 
 pub in_time : {w : ℕ} → AnsweredInTime w
 in_time config log given =

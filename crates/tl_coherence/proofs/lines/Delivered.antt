@@ -1,42 +1,29 @@
 -- Each beat that is delivered has room in its line, and is within its types.
-use Rattle.std.proofs.Common.{◌≡◌, ℕ, Bool, true, false, List, [], ◌∷◌, Some, None, refl, sym, ◌∙◌, ap, subst}
+use Rattle.std.proofs.Common.{◌≡◌, ℕ, Bool, true, false, List, [], ◌∷◌, Some, refl, sym, ◌∙◌, ap, subst}
 use Rattle.std.specs.Prelude.{◌==◌, All, if◌then◌else◌}
 use Rattle.std.proofs.lemmas.List.Elements.{All-head, All-nil, All-cons}
-use Rattle.tl_beat.specs.declared.beat.Beat.{Beat}
-use Rattle.tl_beat.specs.declared.channel.Channel.{Channel}
-use Rattle.tl_beat.specs.statement.Line.{IsInRange, IsWritable}
+use Rattle.tl_beat.{specs.declared.beat.Beat.Beat, specs.declared.channel.Channel.Channel}
+use Rattle.tl_beat.{specs.statement.Line.IsInRange, specs.statement.Line.IsWritable}
 use Rattle.tl_burst.specs.statement.Messages.{channel_of}
 use Rattle.tl_params.specs.declared.config.Config.{Config}
-use Rattle.tl_rules.specs.statement.Admission.{is_outside}
-use Rattle.tl_rules.specs.statement.Legality.{illegal}
+use Rattle.tl_rules.{specs.statement.Admission.is_outside, specs.statement.Legality.illegal}
 use Rattle.tl_client.specs.statement.Endpoint.{EndConfig}
 use Rattle.tl_manager.proofs.blocks.Placing.{limits}
-use Rattle.tl_coherence.specs.declared.event.Event.{Event}
+use Rattle.tl_coherence.specs.{declared.event.Event.Event, declared.event.Outcome.Outcome, statement.Draining.is_moving}
+use Rattle.tl_coherence.specs.{statement.Flow.flow, statement.Headline.AreTyped, statement.Headline.IsGiven}
+use Rattle.tl_coherence.specs.{statement.Log.Log, statement.Log.IsLog, statement.Log.system_after}
+use Rattle.tl_coherence.specs.{statement.Ranged.AreRanged, statement.Step.is_to_client, statement.Step.stepped}
+use Rattle.tl_coherence.specs.{statement.System.terms_at}
 use Rattle.tl_coherence.specs.declared.event.Event.TheVariants.{Ask, Deliver}
-use Rattle.tl_coherence.specs.declared.event.Outcome.{Outcome}
-use Rattle.tl_coherence.specs.statement.Draining.{is_moving}
-use Rattle.tl_coherence.specs.statement.Flow.{flow}
-use Rattle.tl_coherence.specs.statement.Headline.{AreTyped, IsGiven}
-use Rattle.tl_coherence.specs.statement.Log.{Log, IsLog, system_after}
-use Rattle.tl_coherence.specs.statement.Ranged.{AreRanged}
-use Rattle.tl_coherence.specs.statement.Step.{is_to_client, stepped}
-use Rattle.tl_coherence.specs.statement.System.{terms_at}
 use Rattle.tl_coherence.specs.refinement.SimulationRelation.{AreLanes, SimulationRelation, is_caching}
-use Rattle.tl_coherence.proofs.simulation.Bounded.{matched-bounded}
-use Rattle.tl_coherence.proofs.memory.Bytes.{remembered-ranged}
-use Rattle.tl_coherence.proofs.client.ClientTakes.{sound-beat}
-use Rattle.tl_coherence.proofs.links.FifoOfChannels.{flow_still}
-use Rattle.tl_coherence.proofs.queues.FirstToken.{IsFirst, first-token}
-use Rattle.tl_coherence.proofs.flow.FlowLawful.{lawful-beat}
-use Rattle.tl_coherence.proofs.flow.Flows.{asked-still}
-use Rattle.tl_coherence.proofs.flow.FlowReceived.{moved-on}
-use Rattle.tl_coherence.proofs.links.FromInvariant.{matched-given}
-use Rattle.tl_coherence.proofs.simulation.BeatsInFlight.{level-terms}
-use Rattle.tl_coherence.proofs.deliveries.Matching.{shadow}
-use Rattle.tl_coherence.proofs.outstanding.Outstanding.{first-moved}
-use Rattle.tl_coherence.proofs.simulation.Owned.{sources-own}
+use Rattle.tl_coherence.proofs.{simulation.Bounded.matched-bounded, memory.Bytes.remembered-ranged}
+use Rattle.tl_coherence.proofs.{client.ClientTakes.sound-beat, links.FifoOfChannels.flow_still}
+use Rattle.tl_coherence.proofs.{queues.FirstToken.IsFirst, queues.FirstToken.first-token, flow.FlowLawful.lawful-beat}
+use Rattle.tl_coherence.proofs.{flow.Flows.asked-still, flow.FlowReceived.moved-on, links.FromInvariant.matched-given}
+use Rattle.tl_coherence.proofs.{simulation.BeatsInFlight.level-terms, deliveries.Matching.shadow}
+use Rattle.tl_coherence.proofs.{outstanding.Outstanding.first-moved, simulation.Owned.sources-own}
+use Rattle.tl_coherence.proofs.{lines.Writable.legal-writable}
 use Rattle.tl_coherence.proofs.lines.Ranges.{few-sources, first-ranged, ranged-beat}
-use Rattle.tl_coherence.proofs.lines.Writable.{legal-writable}
 
 -- ---- the first beat of a channel
 
@@ -53,17 +40,16 @@ module _ {w : ℕ} (config : Config) (log : Log w) (given : IsGiven config log) 
 
   pub first-writable : IsWritable x
   first-writable =
-      let lawful : illegal terms.level (channel_of x) x ≡ None =
-      lawful-beat config log (shadow config log).mail (shadow config log).request (shadow config log).state
-      (system_after config log) c ch terms.level x queue is beats (level-terms config c terms known).0 in
+      let lawful = lawful-beat
+      c ch terms.level x queue is beats (level-terms config c terms known).0 in
       subst IsWritable (sym first.next.beat_is) (legal-writable terms.level (channel_of x) _ first.next.k given.width
       (ap (λ (y : Beat w). illegal terms.level (channel_of x) y) (sym first.next.beat_is) ∙ lawful))
 
   pub first-in_range : AreRanged log → IsInRange x
   first-in_range ranged =
       let few = limits config given.fits in
-      let sound = sound-beat config log (shadow config log).mail (shadow config log).request (shadow config log).state
-      (system_after config log) c ch x queue is beats in
+      let sound = sound-beat
+      c ch x queue is beats in
       let lanes : AreLanes x =
       All-head AreLanes x queue (subst (λ (l : List (Beat w)). All AreLanes l) beats (is.typed c ch)) in
       let bounds = matched-bounded config log (shadow config log).mail (shadow config log).request
@@ -103,14 +89,13 @@ module _ {w : ℕ} (config : Config) (P : Beat w → Type 0) (Q : Log w → Type
             ∷ log))
         go true moving =
             let at = first-moved config link ch (system_after config log) moving in
-            let moved = moved-on config log link ch (shadow config log) at.0 at.1 at.2 given.width
+            let moved = moved-on link ch (shadow config log) at.0 at.1 at.2 given.width
             (matched-given config log given) at.3.0 at.3.1 moving (is_to_client ch) refl in
             subst (All P) (sym (moved.delivered d))
             (with-beat d log at.0 (link.0 == d) (front log given q link.0 at.2 at.3.1 ch at.0 at.1 at.3.0) rest)
         go false still = subst (All P)
             (sym (flow_still (Deliver link ch) (stepped config (Deliver link ch) (system_after config log)).outcome log
-            d
-            still)) rest
+            d still)) rest
 
     pub all-delivered : (log : Log w) → IsGiven config log → Q log → (d : ℕ) → All P (flow d log)
     unfolding AreTyped IsLog flow
@@ -120,18 +105,15 @@ module _ {w : ℕ} (config : Config) (P : Beat w → Type 0) (Q : Log w → Type
           width = given.width;
           fits = given.fits;
           typed = given.typed.1;
-          is_log =
-              given.is_log.1;
+          is_log = given.is_log.1;
         } in
         subst (λ (o : Outcome w). All P (flow d ((x.0, o) ∷ log))) (sym given.is_log.0)
         (next log x.0 d before (earlier x log q) (all-delivered log before (earlier x log q) d))
 
 pub have-room : {w : ℕ} (config : Config) (log : Log w) → IsGiven config log → (link : ℕ)
     → All IsWritable (flow link log)
-have-room config log given link =
-    all-delivered config IsWritable (λ l. Unit {0}) (λ x l q. tt)
-    (λ l g q c terms known ch x queue beats. first-writable config l g c terms known ch x queue beats) log given tt
-    link
+have-room config log given link = all-delivered config IsWritable (λ l. Unit {0}) (λ x l q. tt)
+    (λ l g q c terms known ch x queue beats. first-writable config l g c terms known ch x queue beats) log given tt link
 
 pub are-in_range : {w : ℕ} (config : Config) (log : Log w) → IsGiven config log → AreRanged log → (link : ℕ)
     → All IsInRange (flow link log)

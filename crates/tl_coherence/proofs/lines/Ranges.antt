@@ -4,65 +4,48 @@ use Rattle.std.proofs.Common.{◌++◌, Option, Some, None, length, refl, sym, �
 use Rattle.std.specs.Prelude.{IfSome, drop, nat_le, option_map, replicate, slice_get}
 use Rattle.std.proofs.lemmas.Bool.{and_parts, leb-false, leb-true}
 use Rattle.std.proofs.lemmas.List.Elements.{All-append, All-drop, All-from_get_or, All-replicate, All-take}
-use Rattle.tl_beat.specs.statement.Line.{AreLanes as HasLanes, IsInRange}
+use Rattle.tl_beat.{specs.statement.Line.AreLanes as HasLanes, specs.statement.Line.IsInRange}
+use Rattle.tl_beat.{specs.declared.channel.Channel.Channel, specs.declared.opcode.OpB.OpB}
 use Rattle.tl_beat.specs.statement.Opcode.{a_carries_data, b_carries_data, c_carries_data, d_carries_data}
-use Rattle.tl_beat.specs.declared.channel.Channel.{Channel}
-use Rattle.tl_beat.specs.declared.opcode.OpB.TheVariants as opb
-use Rattle.tl_burst.specs.declared.message.Message.{Message}
-use Rattle.tl_burst.specs.declared.message.Message.TheVariants as message
-use Rattle.tl_burst.specs.declared.message.MessageA.{MessageA}
-use Rattle.tl_burst.specs.statement.Burst.{beat_of, lanes_at}
-use Rattle.tl_params.specs.declared.config.ClientConfig.{ClientConfig}
-use Rattle.tl_params.specs.declared.config.Config.{Config}
-use Rattle.tl_params.specs.declared.param.Prune.{Prune}
-use Rattle.tl_params.specs.declared.param.Prune.TheVariants as prune
-use Rattle.tl_params.specs.declared.param.Report.{Report}
-use Rattle.tl_params.specs.declared.perm.Perm.{Perm}
-use Rattle.tl_params.specs.declared.perm.Perm.TheVariants as perm
+use Rattle.tl_burst.{specs.declared.message.Message.Message, specs.declared.message.MessageA.MessageA}
+use Rattle.tl_burst.{specs.statement.Burst.beat_of, specs.statement.Burst.lanes_at}
+use Rattle.tl_params.{specs.declared.config.ClientConfig.ClientConfig, specs.declared.config.Config.Config}
+use Rattle.tl_params.{specs.declared.param.Prune.Prune, specs.declared.param.Report.Report}
+use Rattle.tl_params.{specs.declared.perm.Perm.Perm, specs.statement.Range.is_from_to}
 use Rattle.tl_params.specs.statement.Config.{all_sources_fit, blocks_fit, config_fault, sources_fit, trackers_fit}
-use Rattle.tl_params.specs.statement.Range.{is_from_to}
-use Rattle.tl_rules.specs.statement.Admission.{is_outside}
+use Rattle.tl_rules.{specs.statement.Admission.is_outside, specs.statement.Effect.answer_of}
+use Rattle.tl_rules.{specs.statement.Effect.as_payload, specs.statement.History.block_at}
 use Rattle.tl_rules.specs.statement.Effect as memory
-use Rattle.tl_rules.specs.statement.Effect.{IsBlock, answer_of, as_payload}
-use Rattle.tl_rules.specs.statement.History.{block_at}
-use Rattle.tl_client.specs.declared.operation.Op.TheVariants as op
-use Rattle.tl_client.specs.statement.Endpoint.{EndConfig}
+use Rattle.tl_client.{specs.declared.operation.Op.Op, specs.statement.Endpoint.EndConfig}
 use Rattle.tl_client.specs.statement.Send.{probe_ack, release, sourced}
 use Rattle.tl_manager.specs.statement.Handing.{access_answer, release_ack}
-use Rattle.tl_coherence.specs.refinement.MemoryRelation.{Answers, IsOpened}
-use Rattle.tl_coherence.specs.statement.Delivery.{sources_of}
-use Rattle.tl_coherence.specs.statement.Log.{Log}
-use Rattle.tl_coherence.specs.statement.Machine.{Requests}
-use Rattle.tl_coherence.specs.protocol.Phase.{AcquirePhase, NoAcquire, AcquireOpen}
-use Rattle.tl_coherence.specs.protocol.Protocol.{Service, Free, Waits, GrantSent, GrantTaken, State, SourceState}
-use Rattle.tl_coherence.specs.protocol.Protocol.{SourceFree, Asked, Replied, Acquires, packet, packets_on, is_on}
-use Rattle.tl_coherence.specs.statement.Ranged.{AreBytes}
-use Rattle.tl_coherence.specs.statement.OneMemory.{one_memory_after}
+use Rattle.tl_coherence.specs.{refinement.MemoryRelation.Answers, refinement.MemoryRelation.IsOpened}
+use Rattle.tl_coherence.specs.{statement.Delivery.sources_of, statement.Log.Log, statement.Machine.Requests}
+use Rattle.tl_coherence.specs.{protocol.Phase.AcquirePhase, protocol.Phase.AcquireOpen, statement.Ranged.AreBytes}
+use Rattle.tl_coherence.specs.{statement.OneMemory.one_memory_after, statement.System.System, statement.System.terms_at}
+use Rattle.tl_coherence.specs.protocol.Protocol.{Service, GrantSent, State, SourceState, SourceFree, Asked, Replied}
+use Rattle.tl_coherence.specs.protocol.Protocol.{Acquires, packet, packets_on, is_on}
 use Rattle.tl_coherence.specs.refinement.PacketMessages.{AccessMessages, acquire_of, grant_of, message_of_kind}
 use Rattle.tl_coherence.specs.refinement.PacketMessages.{prune_told, block_message, report_told}
-use Rattle.tl_coherence.specs.statement.System.{System, terms_at}
 use Rattle.tl_coherence.specs.protocol.Packet.{Kind, Request, Acquire, Probe, ProbeAck, Release, Answer, Grant}
-use Rattle.tl_manager.specs.laws.Pending.{one_if}
 use Rattle.tl_coherence.specs.protocol.Packet.{ReleaseAck, GrantAck, Packet, count, is}
+use Rattle.tl_manager.specs.laws.Pending.{one_if}
 use Rattle.tl_coherence.specs.refinement.SimulationRelation.{AreLanes, SimulationRelation, is_caching}
 use Rattle.tl_coherence.proofs.memory.Bytes.{IsRangedMachine, IsRangedOpen, IsRangedReply}
-use Rattle.tl_coherence.proofs.protocol.Capacities.{acquire_named, answer_named, grant_ack_named}
-use Rattle.tl_coherence.proofs.protocol.TokenNames.{AreBounded}
-use Rattle.tl_coherence.proofs.protocol.Capacities.{grant_named, release_ack_named, release_named, request_named}
-use Rattle.tl_coherence.proofs.protocol.TokenNames.{shown_there, shows_it, tracker_of_service}
-use Rattle.tl_coherence.proofs.queues.Rendered.{same_kind_again}
-use Rattle.tl_coherence.proofs.queues.Tokens.{same_number}
-use Rattle.tl_coherence.proofs.queues.Limits.{limits-fit}
+use Rattle.tl_coherence.proofs.protocol.Capacities.{acquire_named, answer_named, grant_ack_named, grant_named}
+use Rattle.tl_coherence.proofs.protocol.Capacities.{release_ack_named, release_named, request_named}
+use Rattle.tl_coherence.proofs.protocol.TokenNames.{AreBounded, shown_there, shows_it, tracker_of_service}
+use Rattle.tl_coherence.proofs.{queues.Rendered.same_kind_again, queues.Tokens.same_number, queues.Limits.limits-fit}
 
 -- ---- messages, and their beats
 
 -- a message's numbers are within their types
 abbrev pub IsRangedMessage : {w : ℕ} → Message w → Type 0
-IsRangedMessage (message.A m) = (m.source < 2 ^ 8) × AreBytes m.payload
-IsRangedMessage (message.B m) = (m.source < 2 ^ 8) × AreBytes m.payload
-IsRangedMessage (message.C m) = (m.source < 2 ^ 8) × AreBytes m.payload
-IsRangedMessage (message.D m) = (m.source < 2 ^ 8) × (m.sink < 2 ^ 8) × AreBytes m.payload
-IsRangedMessage (message.E m) = m.sink < 2 ^ 8
+IsRangedMessage (Message.A m) = (m.source < 2 ^ 8) × AreBytes m.payload
+IsRangedMessage (Message.B m) = (m.source < 2 ^ 8) × AreBytes m.payload
+IsRangedMessage (Message.C m) = (m.source < 2 ^ 8) × AreBytes m.payload
+IsRangedMessage (Message.D m) = (m.source < 2 ^ 8) × (m.sink < 2 ^ 8) × AreBytes m.payload
+IsRangedMessage (Message.E m) = m.sink < 2 ^ 8
 
 ranged-lanes : (w : ℕ) (carries : Bool) (payload : List ℕ) (k : ℕ) → AreBytes payload
     → IfSome (lanes_at carries w payload k) (λ lanes. length lanes ≡ w) → HasLanes w (lanes_at carries w payload k)
@@ -80,15 +63,15 @@ inside-below blocks address few inside = let less = leb-false blocks (block_at a
 
 pub ranged-beat : {w : ℕ} (blocks : ℕ) (m : Message w) (k : ℕ) → blocks ≤ 1024 → is_outside blocks (beat_of m k) ≡ false
     → AreLanes (beat_of m k) → IsRangedMessage m → IsInRange (beat_of m k)
-ranged-beat {w} blocks (message.A m) k few inside lanes is =
+ranged-beat {w} blocks (Message.A m) k few inside lanes is =
     (is.0, inside-below blocks m.address few inside, ranged-lanes w (a_carries_data m.opcode) m.payload k is.1 lanes.1)
-ranged-beat {w} blocks (message.B m) k few inside lanes is =
+ranged-beat {w} blocks (Message.B m) k few inside lanes is =
     (is.0, inside-below blocks m.address few inside, ranged-lanes w (b_carries_data m.opcode) m.payload k is.1 lanes)
-ranged-beat {w} blocks (message.C m) k few inside lanes is =
+ranged-beat {w} blocks (Message.C m) k few inside lanes is =
     (is.0, inside-below blocks m.address few inside, ranged-lanes w (c_carries_data m.opcode) m.payload k is.1 lanes)
-ranged-beat {w} blocks (message.D m) k few inside lanes is =
+ranged-beat {w} blocks (Message.D m) k few inside lanes is =
     (is.0, is.1, ranged-lanes w (d_carries_data m.opcode) m.payload k is.2 lanes)
-ranged-beat blocks (message.E m) k few inside lanes is = is
+ranged-beat blocks (Message.E m) k few inside lanes is = is
 
 -- ---- what messages are made of
 
@@ -98,20 +81,17 @@ zeros-bytes n = All-replicate (λ byte. byte < 2 ^ 8) n 0 (lit< tt)
 acquire-ranged : (w : ℕ) (a : AcquirePhase) (source n : ℕ) → source < 2 ^ 8
     → IsRangedMessage (acquire_of {w = w} a source n)
 acquire-ranged w (AcquireOpen true g) source n small = (small, zeros-bytes 64)
-acquire-ranged w (AcquireOpen false g) source n small = (small, zeros-bytes 64)
-acquire-ranged w NoAcquire source n small = (small, zeros-bytes 64)
+acquire-ranged w a source n small = (small, zeros-bytes 64)
 
 report-ranged : (w : ℕ) (p : Perm) (r : Report) (n : ℕ) (truth : List ℕ) → AreBytes truth
-    → IsRangedMessage (probe_ack {w = w} opb.ProbeBlock p r n truth)
-report-ranged w perm.Trunk r n truth bytes = (lit< tt, bytes)
-report-ranged w perm.Branch r n truth bytes = (lit< tt, zeros-bytes 64)
-report-ranged w perm.None r n truth bytes = (lit< tt, zeros-bytes 64)
+    → IsRangedMessage (probe_ack {w = w} OpB.ProbeBlock p r n truth)
+report-ranged w Perm.Trunk r n truth bytes = (lit< tt, bytes)
+report-ranged w p r n truth bytes = (lit< tt, zeros-bytes 64)
 
 release-ranged : (w : ℕ) (p : Prune) (source n : ℕ) (truth : List ℕ) → source < 2 ^ 8 → AreBytes truth
     → IsRangedMessage (release {w = w} p source n truth)
-release-ranged w prune.TtoB source n truth small bytes = (small, bytes)
-release-ranged w prune.TtoN source n truth small bytes = (small, bytes)
-release-ranged w prune.BtoN source n truth small bytes = (small, zeros-bytes 64)
+release-ranged w Prune.BtoN source n truth small bytes = (small, zeros-bytes 64)
+release-ranged w p source n truth small bytes = (small, bytes)
 
 ack-ranged : (w : ℕ) (source : ℕ) → source < 2 ^ 8 → IsRangedMessage (release_ack {w = w} source)
 ack-ranged w source small = (small, lit< tt, zeros-bytes 64)
@@ -122,18 +102,15 @@ grant-ranged : (w : ℕ) (service : Service) (source tracker : ℕ) (truth : Lis
 grant-ranged w (GrantSent q true k) source tracker truth small sink bytes = (small, sink q true k refl, bytes)
 grant-ranged w (GrantSent q false k) source tracker truth small sink bytes =
     (small, sink q false k refl, zeros-bytes 64)
-grant-ranged w Free source tracker truth small sink bytes = ack-ranged w source small
-grant-ranged w (Waits r own s k) source tracker truth small sink bytes = ack-ranged w source small
-grant-ranged w (GrantTaken q) source tracker truth small sink bytes = ack-ranged w source small
+grant-ranged w service source tracker truth small sink bytes = ack-ranged w source small
 
 payload-bytes : (at : ℕ) (bytes : List ℕ) → AreBytes bytes → AreBytes (as_payload at bytes)
-payload-bytes at bytes are =
-    All-append (λ byte. byte < 2 ^ 8) (replicate at 0 ++ bytes) (replicate (64 - at - length bytes) 0)
-    (All-append (λ byte. byte < 2 ^ 8) (replicate at 0) bytes (zeros-bytes at) are)
-    (zeros-bytes (64 - at - length bytes))
+payload-bytes at bytes are = All-append (λ byte. byte < 2 ^ 8) (replicate at 0 ++ bytes)
+    (replicate (64 - at - length bytes) 0) (All-append (λ byte. byte < 2 ^ 8) (replicate at 0) bytes (zeros-bytes at)
+    are) (zeros-bytes (64 - at - length bytes))
 
 answer-ranged : {w : ℕ} (m : MessageA w) (r : memory.AccessResult) → m.source < 2 ^ 8 → IsRangedReply r
-    → IsRangedMessage (access_answer m (answer_of (message.A m) r))
+    → IsRangedMessage (access_answer m (answer_of (Message.A m) r))
 answer-ranged m memory.Done small bytes = (small, lit< tt, zeros-bytes 64)
 answer-ranged m memory.Hinted small bytes = (small, lit< tt, zeros-bytes 64)
 answer-ranged {w} m (memory.Bytes list) small bytes = (small, lit< tt, payload-bytes (m.address % w) list bytes)
@@ -159,8 +136,7 @@ few-sources config c fits = go (slice_get config.clients.items c) refl
         → sources_of (option_map {U = EndConfig} (λ x. record {
           level = x.level;
           profile = config.profile;
-          sources =
-              x.sources;
+          sources = x.sources;
           blocks = config.blocks;
         }) o) ≤ 8
     go None e = omega arith
@@ -193,7 +169,7 @@ module _ {w : ℕ} (config : Config) (log : Log w) (mail : AccessMessages w) (re
   request-ranged n used =
       let opened : IsOpened c n mail s Asked ((one_memory_after config log).opened c Requests n) =
       rw used at (matched.beside.requests c n) in
-      let are : IsRangedOpen (Some (record { asked = op.Access (message.A opened.0); answer = None })) =
+      let are : IsRangedOpen (Some (record { asked = Op.Access (Message.A opened.0); answer = None })) =
       rw opened.2 at (ranged.opened c Requests n) in
       rw opened.1 (used-small n Asked used (λ e. absurd cc), are.0)
 
@@ -203,17 +179,16 @@ module _ {w : ℕ} (config : Config) (log : Log w) (mail : AccessMessages w) (re
       rw used at (matched.beside.requests c n) in
       let m : MessageA w = opened.1.0 in
       let r : memory.AccessResult = opened.0 in
-      let are : IsRangedOpen (Some (record { asked = op.Access (message.A m); answer = Some r })) =
+      let are : IsRangedOpen (Some (record { asked = Op.Access (Message.A m); answer = Some r })) =
       rw opened.1.2 at (ranged.opened c Requests n) in
-      let answers : Answers (message.A (sourced n m)) r (mail.answer c n) = rw opened.1.1 at opened.2 in
+      let answers : Answers (Message.A (sourced n m)) r (mail.answer c n) = rw opened.1.1 at opened.2 in
       rw answers.0 (answer-ranged (sourced n m) r (used-small n Replied used (λ e. absurd cc)) are.1)
 
   kind-ranged : (k : Kind) (n : ℕ) → shows_it s c k n ≡ true → IsRangedMessage (message_of_kind k mail s c n)
   unfolding block_message
   kind-ranged Request n shows = request-ranged n (request_named (is_caching config) s c n matched.invariant shows)
   kind-ranged Answer n shows = answer-is-ranged n (answer_named (is_caching config) s c n matched.invariant shows)
-  kind-ranged Acquire n shows =
-      acquire-ranged w ((s.block n).pair c).acquiring ((s.block n).source c) n
+  kind-ranged Acquire n shows = acquire-ranged w ((s.block n).pair c).acquiring ((s.block n).source c) n
       (used-small ((s.block n).source c) (Acquires n) (acquire_named (is_caching config) s c n matched.invariant shows)
       (λ e. absurd cc))
   kind-ranged Probe n shows = (lit< tt, zeros-bytes 64)
@@ -223,12 +198,11 @@ module _ {w : ℕ} (config : Config) (log : Log w) (mail : AccessMessages w) (re
       release-ranged w (prune_told ((s.block n).pair c).letting) ((s.block n).release_source c) n (s.block n).truth
       (let-small ((s.block n).release_source c) n (release_named (is_caching config) s c n matched.invariant shows))
       (truth-bytes n)
-  kind-ranged Grant n shows =
-      grant-ranged w (s.block n).service ((s.block n).source c) (s.block n).tracker (s.block n).truth
-      (used-small ((s.block n).source c) (Acquires n) (grant_named (is_caching config) s c n matched.invariant shows)
-      (λ e. absurd cc))
-      (λ q d k e. tracker-small (s.block n).tracker n (tracker_of_service (is_caching config) s n matched.invariant
-      (rw e refl))) (truth-bytes n)
+  kind-ranged Grant n shows = grant-ranged w (s.block n).service ((s.block n).source c) (s.block n).tracker
+      (s.block n).truth (used-small ((s.block n).source c) (Acquires n)
+      (grant_named (is_caching config) s c n matched.invariant shows) (λ e. absurd cc))
+      (λ q d k e. tracker-small (s.block n).tracker n (tracker_of_service n matched.invariant (rw e refl)))
+      (truth-bytes n)
   kind-ranged ReleaseAck n shows =
       ack-ranged w ((s.block n).release_source c)
       (let-small ((s.block n).release_source c) n (release_ack_named (is_caching config) s c n matched.invariant shows))
@@ -240,5 +214,5 @@ module _ {w : ℕ} (config : Config) (log : Log w) (mail : AccessMessages w) (re
   unfolding count
   first-ranged ch k n rest on_it tokens =
       let one : one_if (is k n (packet k n)) ≡ 1 = rw (same_kind_again k, same_number n) refl in
-      kind-ranged k n (shown_there (is_caching config) s c ch k n matched.invariant on_it
+      kind-ranged k n (shown_there c ch k n matched.invariant on_it
       (rw tokens (omega (arith, one))))

@@ -1,29 +1,17 @@
 -- A beat of a message that breaks no rule of legality has room in its line.
 use Rattle.std.proofs.Common.{◌≡◌, ℕ, ◌<◌, ◌≤◌, ◌*◌, ◌/◌, ◌^◌, Bool, true, false, ◌&&◌, refl, arith, pow_pos, inl, inr}
-use Rattle.std.specs.Prelude.{None, is_some, ◌==◌}
+use Rattle.std.{specs.Prelude.None, specs.Prelude.is_some, specs.Prelude.◌==◌, proofs.lemmas.Nat.mod_below}
 use Rattle.std.proofs.lemmas.Bool.{cases_lt, eqb-true, ne_eqb, not-false, both_ways, and_parts}
-use Rattle.std.proofs.lemmas.Nat.{mod_below}
-use Rattle.tl_beat.specs.declared.beat.Beat.{Beat}
+use Rattle.tl_beat.{specs.declared.beat.Beat.Beat, specs.declared.channel.Channel.Channel}
+use Rattle.tl_beat.{specs.declared.opcode.OpA.OpA, specs.declared.opcode.OpC.OpC, specs.declared.opcode.OpD.OpD}
+use Rattle.tl_beat.{specs.statement.Line.IsWritable, specs.statement.Width.IsWidth}
 use Rattle.tl_beat.specs.declared.beat.Beat.TheVariants.{A, B, C, D, E}
-use Rattle.tl_beat.specs.declared.channel.Channel.{Channel}
-use Rattle.tl_beat.specs.declared.opcode.OpA.{OpA}
-use Rattle.tl_beat.specs.declared.opcode.OpA.TheVariants as a
-use Rattle.tl_beat.specs.declared.opcode.OpC.{OpC}
-use Rattle.tl_beat.specs.declared.opcode.OpC.TheVariants as c
-use Rattle.tl_beat.specs.declared.opcode.OpD.{OpD}
-use Rattle.tl_beat.specs.declared.opcode.OpD.TheVariants as d
-use Rattle.tl_beat.specs.statement.Line.{IsWritable}
-use Rattle.tl_beat.specs.statement.Width.{IsWidth}
-use Rattle.tl_burst.specs.declared.message.Message.{Message}
-use Rattle.tl_burst.specs.declared.message.Message.TheVariants as message
-use Rattle.tl_burst.specs.statement.Burst.{beat_of}
-use Rattle.tl_params.specs.declared.level.Level.{Level}
+use Rattle.tl_burst.{specs.declared.message.Message.Message, specs.statement.Burst.beat_of}
+use Rattle.tl_params.{specs.declared.level.Level.Level, specs.statement.Param.cap_of}
 use Rattle.tl_params.specs.declared.rule.Rule.TheVariants.{L1, L2, L3, L7}
-use Rattle.tl_params.specs.statement.Param.{cap_of}
 use Rattle.tl_rules.specs.statement.Legality.{a_has_param, a_has_size, breaks_l1, breaks_l2, breaks_l3, breaks_l7}
 use Rattle.tl_rules.specs.statement.Legality.{c_has_param, c_has_source, d_has_param, d_has_sink, illegal}
-use Rattle.tl_rules.proofs.Bursts.{next_rule}
-use Rattle.tl_rules.proofs.Sizes.{response-small}
+use Rattle.tl_rules.{proofs.Bursts.next_rule, proofs.Sizes.response-small}
 use Rattle.tl_manager.proofs.words_of_clients.Masks.{request_small}
 
 -- ---- params
@@ -35,9 +23,7 @@ cap-large : (n : ℕ) → 4 ≤ n → is_some (cap_of n) ≡ false
 cap-large n large = rw (apart n 0 (omega arith), apart n 1 (omega arith), apart n 2 (omega arith)) refl
 
 a-large : (opcode : OpA) (n : ℕ) → 8 ≤ n → a_has_param opcode n ≡ false
-a-large a.PutFullData n large = apart n 0 (omega arith)
-a-large a.PutPartialData n large = apart n 0 (omega arith)
-a-large a.ArithmeticData n large =
+a-large OpA.ArithmeticData n large =
     rw (
       apart n 0 (omega arith),
       apart n 1 (omega arith),
@@ -46,18 +32,15 @@ a-large a.ArithmeticData n large =
       apart n 4
           (omega arith),
     ) refl
-a-large a.LogicalData n large =
+a-large OpA.LogicalData n large =
     rw (apart n 0 (omega arith), apart n 1 (omega arith), apart n 2 (omega arith), apart n 3 (omega arith)) refl
-a-large a.Get n large = apart n 0 (omega arith)
-a-large a.Intent n large = rw (apart n 0 (omega arith), apart n 1 (omega arith)) refl
-a-large a.AcquireBlock n large = rw (apart n 0 (omega arith), apart n 1 (omega arith), apart n 2 (omega arith)) refl
-a-large a.AcquirePerm n large = rw (apart n 0 (omega arith), apart n 1 (omega arith), apart n 2 (omega arith)) refl
+a-large OpA.Intent n large = rw (apart n 0 (omega arith), apart n 1 (omega arith)) refl
+a-large OpA.AcquireBlock n large = rw (apart n 0 (omega arith), apart n 1 (omega arith), apart n 2 (omega arith)) refl
+a-large OpA.AcquirePerm n large = rw (apart n 0 (omega arith), apart n 1 (omega arith), apart n 2 (omega arith)) refl
+a-large opcode n large = apart n 0 (omega arith)
 
 c-large : (opcode : OpC) (n : ℕ) → 8 ≤ n → c_has_param opcode n ≡ false
-c-large c.AccessAck n large = apart n 0 (omega arith)
-c-large c.AccessAckData n large = apart n 0 (omega arith)
-c-large c.HintAck n large = apart n 0 (omega arith)
-c-large c.ProbeAck n large =
+c-large OpC.ProbeAck n large =
     rw (
       apart n 0 (omega arith),
       apart n 1 (omega arith),
@@ -67,17 +50,15 @@ c-large c.ProbeAck n large =
           (omega arith),
       apart n 5 (omega arith),
     ) refl
-c-large c.ProbeAckData n large = rw (apart n 0 (omega arith), apart n 1 (omega arith), apart n 3 (omega arith)) refl
-c-large c.Release n large = rw (apart n 0 (omega arith), apart n 1 (omega arith), apart n 2 (omega arith)) refl
-c-large c.ReleaseData n large = rw (apart n 0 (omega arith), apart n 1 (omega arith)) refl
+c-large OpC.ProbeAckData n large = rw (apart n 0 (omega arith), apart n 1 (omega arith), apart n 3 (omega arith)) refl
+c-large OpC.Release n large = rw (apart n 0 (omega arith), apart n 1 (omega arith), apart n 2 (omega arith)) refl
+c-large OpC.ReleaseData n large = rw (apart n 0 (omega arith), apart n 1 (omega arith)) refl
+c-large opcode n large = apart n 0 (omega arith)
 
 d-large : (opcode : OpD) (n : ℕ) → 4 ≤ n → d_has_param opcode n ≡ false
-d-large d.AccessAck n large = apart n 0 (omega arith)
-d-large d.AccessAckData n large = apart n 0 (omega arith)
-d-large d.HintAck n large = apart n 0 (omega arith)
-d-large d.Grant n large = cap-large n large
-d-large d.GrantData n large = cap-large n large
-d-large d.ReleaseAck n large = apart n 0 (omega arith)
+d-large OpD.Grant n large = cap-large n large
+d-large OpD.GrantData n large = cap-large n large
+d-large opcode n large = apart n 0 (omega arith)
 
 -- a number that passes a test which those from a limit on don't pass
 below : (n limit : ℕ) (b : Bool) → (limit ≤ n → b ≡ false) → b ≡ true → n < limit
@@ -92,11 +73,11 @@ IsNarrow {w} (B x) = x.mask < 2 ^ w
 IsNarrow _ = Unit {0}
 
 narrow : {w : ℕ} (m : Message w) (k : ℕ) → IsNarrow (beat_of m k)
-narrow {w} (message.A m) k = mod_below (m.mask / 2 ^ (w * k)) (2 ^ w) (pow_pos w)
-narrow {w} (message.B m) k = mod_below (m.mask / 2 ^ (w * k)) (2 ^ w) (pow_pos w)
-narrow (message.C m) k = tt
-narrow (message.D m) k = tt
-narrow (message.E m) k = tt
+narrow {w} (Message.A m) k = mod_below (m.mask / 2 ^ (w * k)) (2 ^ w) (pow_pos w)
+narrow {w} (Message.B m) k = mod_below (m.mask / 2 ^ (w * k)) (2 ^ w) (pow_pos w)
+narrow (Message.C m) k = tt
+narrow (Message.D m) k = tt
+narrow (Message.E m) k = tt
 
 -- the rules of params and sizes, which a legal beat keeps
 record Keeps {w : ℕ} (l : Level) (x : Beat w) : Type 0 where
@@ -117,8 +98,7 @@ roomy {w} l ch (A x) width mask e =
     let k = keeps l ch (A x) e in
     let param : x.param < 8 = below x.param 8 (a_has_param x.opcode x.param) (a-large x.opcode x.param)
     (not-false (a_has_param x.opcode x.param) k.two) in
-    let size : x.size ≤ 6 = request_small w x.size l x.opcode width (not-false (a_has_size w l x.opcode x.size) k.three)
-    in
+    let size = request_small w x.size l x.opcode width (not-false (a_has_size w l x.opcode x.size) k.three) in
     (param, omega arith, mask)
 roomy {w} l ch (B x) width mask e =
     let k = keeps l ch (B x) e in

@@ -2,91 +2,74 @@
 use Rattle.tl_coherence.proofs.links.Imports.{IsWidth, Beat, Link, Channel, Message, beat_of, unfinished, Config}
 use Rattle.tl_coherence.proofs.links.Imports.{Verdict, Endpoint, EndConfig, Deliver, is_moving, AbstractState, Log}
 use Rattle.tl_coherence.proofs.links.Imports.{system_after, packet, is_on, message_of_kind, block_message, Step}
-use Rattle.tl_coherence.proofs.links.Imports.{stepped, is_to_client, System, terms_at, Kind, Request, Acquire, Probe}
-use Rattle.tl_coherence.proofs.links.Imports.{ProbeAck, Release, Answer, Grant, ReleaseAck, GrantAck}
+use Rattle.tl_coherence.proofs.links.Imports.{stepped, is_to_client, System, terms_at, Kind, Answer, Grant, ReleaseAck}
 use Rattle.tl_coherence.proofs.links.Imports.{SimulationRelation, is_caching}
 use Rattle.std.proofs.Common.{◌≡◌, ℕ, Bool, true, false, List, [], ◌∷◌, Option, Some, None, refl, sym, ◌∙◌, ap, subst}
 use Rattle.std.specs.Prelude.{if◌then◌else◌, Ok}
-use Rattle.tl_beat.specs.declared.beat.Beat.TheVariants as beat
 use Rattle.tl_beat.specs.declared.beat.BeatD.{BeatD}
-use Rattle.tl_beat.specs.declared.channel.Channel.TheVariants as channel
-use Rattle.tl_burst.specs.declared.message.Message.TheVariants as message
-use Rattle.tl_burst.specs.declared.message.MessageD.{MessageD}
-use Rattle.tl_burst.specs.statement.Burst.{d_beat_of}
-use Rattle.tl_burst.specs.statement.Part.{completes}
+use Rattle.tl_burst.{specs.declared.message.MessageD.MessageD, specs.statement.Burst.d_beat_of}
+use Rattle.tl_burst.{specs.statement.Part.completes}
 use Rattle.tl_client.specs.declared.verdict.Finish.{Finish}
-use Rattle.tl_client.specs.declared.verdict.Verdict.TheVariants as verdict
 use Rattle.tl_client.specs.statement.Offer as offer
-use Rattle.tl_coherence.specs.declared.event.Outcome.TheVariants as outcome
+use Rattle.tl_coherence.specs.{declared.event.Outcome.Outcome, statement.Step.outcome_of, protocol.Packet.Packet}
 use Rattle.tl_coherence.specs.refinement.AbstractStep.{abstract_step, kind_taken, packet_taken}
-use Rattle.tl_coherence.specs.statement.Step.{outcome_of}
-use Rattle.tl_coherence.specs.protocol.Packet.{Packet}
 use Rattle.tl_coherence.proofs.protocol.HeadOfD.{answer-due, grant-due, grant-rendered, ack_message}
-use Rattle.tl_coherence.proofs.queues.FirstToken.{IsFirst, first-token}
+use Rattle.tl_coherence.proofs.{queues.FirstToken.IsFirst, queues.FirstToken.first-token}
+use Rattle.tl_coherence.proofs.{deliveries.DeliverDAfter.followed-moving, deliveries.Matching.not_moving}
+use Rattle.tl_coherence.proofs.{deliveries.Matching.stepped-nobody, client.ProbeDelivered.delivered-b}
+use Rattle.tl_coherence.proofs.{manager.UnwaitedRequests.next_tracker, queues.Steps.stepped-empty}
 use Rattle.tl_coherence.proofs.client.DeliverD.{finish_at, acked, answer-last, answer-part, same_answers}
-use Rattle.tl_coherence.proofs.deliveries.DeliverDAfter.{followed-moving}
-use Rattle.tl_coherence.proofs.deliveries.Matching.{not_moving, stepped-nobody}
 use Rattle.tl_coherence.proofs.simulation.Moved.{IsTakenByClient, client-moves, manager-moves}
-use Rattle.tl_coherence.proofs.client.ProbeDelivered.{delivered-b}
-use Rattle.tl_coherence.proofs.manager.UnwaitedRequests.{next_tracker}
-use Rattle.tl_coherence.proofs.queues.Steps.{stepped-empty}
 
 -- the operation with this source ends so
 pub record IsEnding {w : ℕ} (config : Config) (log : Log w) (link : Link) (ch : Channel) (h : AbstractState w)
     (x : Beat w) (source : ℕ) (f : Finish) : Type 0 where
-  pub on_d : ch ≡ channel.D
+  pub on_d : ch ≡ Channel.D
   pub queue : List (Beat w)
-  pub first : IsFirst channel.D link.0 h.mail h.state (system_after config log) x queue
+  pub first : IsFirst Channel.D link.0 h.mail h.state (system_after config log) x queue
   pub response : MessageD w
-  pub response_is : message_of_kind first.kind h.mail h.state link.0 first.number ≡ message.D response
-  pub last : completes x (unfinished channel.D ((system_after config log).clients link.0).past) ≡ true
-  pub beat_is : x ≡ beat.D (d_beat_of response first.next.k)
+  pub response_is : message_of_kind first.kind h.mail h.state link.0 first.number ≡ Message.D response
+  pub last : completes x (unfinished Channel.D ((system_after config log).clients link.0).past) ≡ true
+  pub beat_is : x ≡ Beat.D (d_beat_of response first.next.k)
   pub source_is : source ≡ response.source
   pub finish_is : f ≡ finish_at (d_beat_of response first.next.k) ((system_after config log).clients link.0)
-  pub follows : abstract_step config (Deliver link channel.D) (system_after config log) h ≡ kind_taken config
+  pub follows : abstract_step config (Deliver link Channel.D) (system_after config log) h ≡ kind_taken config
       (next_tracker (system_after config log)) link.0 first.kind first.number first.rest h
 
-done_beat : {w : ℕ} (x y : Beat w) (i j : ℕ) (f g : Finish) → outcome.Done x i f ≡ outcome.Done y j g → x ≡ y
+done_beat : {w : ℕ} (x y : Beat w) (i j : ℕ) (f g : Finish) → Outcome.Done x i f ≡ Outcome.Done y j g → x ≡ y
 done_beat x y i j f g e = cc
 
-done_source : {w : ℕ} (x y : Beat w) (i j : ℕ) (f g : Finish) → outcome.Done x i f ≡ outcome.Done y j g → i ≡ j
+done_source : {w : ℕ} (x y : Beat w) (i j : ℕ) (f g : Finish) → Outcome.Done x i f ≡ Outcome.Done y j g → i ≡ j
 done_source x y i j f g e = cc
 
-done_finish : {w : ℕ} (x y : Beat w) (i j : ℕ) (f g : Finish) → outcome.Done x i f ≡ outcome.Done y j g → f ≡ g
+done_finish : {w : ℕ} (x y : Beat w) (i j : ℕ) (f g : Finish) → Outcome.Done x i f ≡ Outcome.Done y j g → f ≡ g
 done_finish x y i j f g e = cc
 
-done_moved : {w : ℕ} (x y : Beat w) (i : ℕ) (f : Finish) → outcome.Done x i f ≡ outcome.Moved y → ⊥
+done_moved : {w : ℕ} (x y : Beat w) (i : ℕ) (f : Finish) → Outcome.Done x i f ≡ Outcome.Moved y → ⊥
 done_moved x y i f e = absurd cc
 
 -- the response that is first on channel D
-response_of : {w : ℕ} (config : Config) (log : Log w) (h : AbstractState w) (sys : System w) (c : ℕ) (k : Kind) (i : ℕ)
-    (rest : List Packet)
-    → SimulationRelation config log h.mail h.request h.state sys → (h.state.link c).d ≡ packet k i ∷ rest
-    → is_on channel.D k ≡ true
-    → (m : MessageD w) × (message_of_kind k h.mail h.state c i ≡ message.D m)
+response_of : {w : ℕ} {config : Config} {log : Log w} (h : AbstractState w) {sys : System w} (c : ℕ) (k : Kind) (i : ℕ)
+    (rest : List Packet) → SimulationRelation config log h.mail h.request h.state sys
+    → (h.state.link c).d ≡ packet k i ∷ rest → is_on Channel.D k ≡ true
+    → (m : MessageD w) × (message_of_kind k h.mail h.state c i ≡ Message.D m)
 unfolding block_message
-response_of config log h sys c Answer i rest is tokens own = let due =
+response_of {config} h c Answer i rest is tokens own = let due =
     answer-due (is_caching config) c i rest h.mail h.state is.invariant (is.answered c i) tokens in
     (due.answer, due.answer_is)
-response_of config log h sys c Grant n rest is tokens own = let due =
+response_of {config} h c Grant n rest is tokens own = let due =
     grant-due (is_caching config) c n rest h.state is.invariant tokens in (_, grant-rendered c n h.state due)
-response_of config log h sys c ReleaseAck n rest is tokens own =
-    (ack_message ((h.state.block n).release_source c), refl)
-response_of config log h sys c Request i rest is tokens own = absurd cc
-response_of config log h sys c Acquire i rest is tokens own = absurd cc
-response_of config log h sys c Probe i rest is tokens own = absurd cc
-response_of config log h sys c ProbeAck i rest is tokens own = absurd cc
-response_of config log h sys c Release i rest is tokens own = absurd cc
-response_of config log h sys c GrantAck i rest is tokens own = absurd cc
+response_of h c ReleaseAck n rest is tokens own = (ack_message ((h.state.block n).release_source c), refl)
+response_of h c k i rest is tokens own = absurd cc
 
-ending_d : {w : ℕ} (config : Config) (log : Log w) (link : Link) (h : AbstractState w) (terms : EndConfig) (y : Beat w)
+ending_d : {w : ℕ} {config : Config} {log : Log w} (link : Link) (h : AbstractState w) (terms : EndConfig) (y : Beat w)
     (queue : List (Beat w)) (x : Beat w) (source : ℕ)
     (f : Finish) → IsWidth w → SimulationRelation config log h.mail h.request h.state (system_after config log)
-    → terms_at config link.0 ≡ Some terms → (system_after config log).channels link.0 channel.D ≡ y ∷ queue
-    → (stepped config (Deliver link channel.D) (system_after config log)).outcome ≡ outcome.Done x source f
-    → IsEnding config log link channel.D h x source f
-ending_d {w} config log link h terms y queue x source f width is known beats done =
-    go (completes y (unfinished channel.D e.past)) refl
+    → terms_at config link.0 ≡ Some terms → (system_after config log).channels link.0 Channel.D ≡ y ∷ queue
+    → (stepped config (Deliver link Channel.D) (system_after config log)).outcome ≡ Outcome.Done x source f
+    → IsEnding config log link Channel.D h x source f
+ending_d {w} {config} {log} link h terms y queue x source f width is known beats done =
+    go (completes y (unfinished Channel.D e.past)) refl
   where
     sys : System w
     sys = system_after config log
@@ -97,69 +80,62 @@ ending_d {w} config log link h terms y queue x source f width is known beats don
     e : Endpoint w
     e = sys.clients c
 
-    moving : is_moving (stepped config (Deliver link channel.D) sys).outcome ≡ true
+    moving : is_moving (stepped config (Deliver link Channel.D) sys).outcome ≡ true
     moving = ap is_moving done
 
-    first : IsFirst channel.D c h.mail h.state sys y queue
-    first = first-token (is_caching config) channel.D c h.mail h.state sys y queue width is.invariant is.carried beats
+    first : IsFirst Channel.D c h.mail h.state sys y queue
+    first = first-token (is_caching config) Channel.D c h.mail h.state sys y queue width is.invariant is.carried beats
 
-    t : IsTakenByClient terms c channel.D y queue sys (stepped config (Deliver link channel.D) sys)
-    t = client-moves config link channel.D sys terms y queue known beats refl moving
+    t : IsTakenByClient terms c Channel.D y queue sys (stepped config (Deliver link Channel.D) sys)
+    t = client-moves config link Channel.D sys terms y queue known beats refl moving
 
-    m : (m : MessageD w) × (message_of_kind first.kind h.mail h.state c first.number ≡ message.D m)
-    m = response_of config log h sys c first.kind first.number first.rest is first.tokens first.own
+    m : (m : MessageD w) × (message_of_kind first.kind h.mail h.state c first.number ≡ Message.D m)
+    m = response_of h c first.kind first.number first.rest is first.tokens first.own
 
     z : BeatD w
     z = d_beat_of m.0 first.next.k
 
-    y_is : y ≡ beat.D z
+    y_is : y ≡ Beat.D z
     y_is = first.next.beat_is ∙ ap (λ (i : Message w). beat_of i first.next.k) m.1
 
-    outcome_is : (v : Verdict) (n : Option (Message w)) → (offer.taken (beat.D z) e).answer ≡ Ok (v, n)
-        → outcome.Done x source f ≡ outcome_of y v
-    outcome_is v n answer =
-        sym done ∙ ap (λ (s : Step w). s.outcome) t.step_is
+    outcome_is : (v : Verdict) (n : Option (Message w)) → (offer.taken (Beat.D z) e).answer ≡ Ok (v, n)
+        → Outcome.Done x source f ≡ outcome_of y v
+    outcome_is v n answer = sym done ∙ ap (λ (s : Step w). s.outcome) t.step_is
         ∙ ap (outcome_of y) (same_answers t.verdict_is v t.message n (offer.taken y e).answer t.answer
         (ap (λ (i : Beat w). (offer.taken i e).answer) y_is ∙ answer)).0
 
-    go : (b : Bool) → completes y (unfinished channel.D e.past) ≡ b → IsEnding config log link channel.D h x source f
+    go : (b : Bool) → completes y (unfinished Channel.D e.past) ≡ b → IsEnding config log link Channel.D h x source f
     go false part =
-        let unended : completes (beat.D z) (unfinished channel.D e.past) ≡ false =
-        sym (ap (λ (i : Beat w). completes i (unfinished channel.D e.past)) y_is) ∙ part in
-        absurd (done_moved x y source f (outcome_is verdict.Taken None (answer-part z e unended)))
+        let unended : completes (Beat.D z) (unfinished Channel.D e.past) ≡ false = cc (y_is, part) in
+        absurd (done_moved x y source f (outcome_is Verdict.Taken None (answer-part z e unended)))
     go true last =
-        let ended : completes (beat.D z) (unfinished channel.D e.past) ≡ true =
-        sym (ap (λ (i : Beat w). completes i (unfinished channel.D e.past)) y_is) ∙ last in
-        let o : outcome.Done x source f ≡ outcome.Done y z.source (finish_at z e) =
-        outcome_is (verdict.Done z.source (finish_at z e)) (acked z.opcode z.sink) (answer-last z e ended) in
+        let same : x ≡ y → source ≡ z.source → f ≡ finish_at z e → completes y (unfinished Channel.D e.past) ≡ true
+        → IsEnding config log link Channel.D h x source f =
+        λ x_is i j whole. subst (λ (b : Beat w). IsEnding config log link Channel.D h b source f) (sym x_is)
+        (record {
+          on_d = refl;
+          queue = queue;
+          first = first;
+          response = m.0;
+          response_is = m.1;
+          last = whole;
+          beat_is = y_is;
+          source_is = i;
+          finish_is = j;
+          follows = followed-moving config link Channel.D sys h y queue moving beats
+              ∙ ap (λ (b : Bool). if b then packet_taken config (next_tracker sys) c (h.state.link c).d h else h) whole
+              ∙ ap (λ (l : List Packet). packet_taken config (next_tracker sys) c l h) first.tokens;
+        }) in
+        let ended : completes (Beat.D z) (unfinished Channel.D e.past) ≡ true = cc (y_is, last) in
+        let o = outcome_is (Verdict.Done z.source (finish_at z e)) (acked z.opcode z.sink) (answer-last z e ended) in
         let x_is : x ≡ y = done_beat x y source z.source f (finish_at z e) o in
         same x_is (done_source x y source z.source f (finish_at z e) o)
         (done_finish x y source z.source f (finish_at z e) o) last
-      where
-        same : x ≡ y → source ≡ z.source → f ≡ finish_at z e → completes y (unfinished channel.D e.past) ≡ true
-            → IsEnding config log link channel.D h x source f
-        same x_is i j whole = subst (λ (b : Beat w). IsEnding config log link channel.D h b source f) (sym x_is)
-            (record {
-              on_d = refl;
-              queue = queue;
-              first = first;
-              response = m.0;
-              response_is = m.1;
-              last = whole;
-              beat_is = y_is;
-              source_is = i;
-              finish_is = j;
-              follows = followed-moving config link channel.D sys h y queue moving beats
-                  ∙ ap (λ (b : Bool). if b then packet_taken config (next_tracker sys) c (h.state.link c).d h else h)
-                  whole
-                  ∙ ap (λ (l : List Packet). packet_taken config (next_tracker sys) c l h) first.tokens;
-            })
 
 pub ending : {w : ℕ} (config : Config) (log : Log w) (link : Link) (ch : Channel) (h : AbstractState w) (x : Beat w)
-    (source : ℕ) (f : Finish) → IsWidth w
-    → SimulationRelation config log h.mail h.request h.state (system_after config log)
-    → (stepped config (Deliver link ch) (system_after config log)).outcome ≡ outcome.Done x source f
-    → IsEnding config log link ch h x source f
+    (source : ℕ) (f : Finish) → IsWidth w → SimulationRelation config log h.mail h.request h.state
+    (system_after config log) → (stepped config (Deliver link ch) (system_after config log)).outcome
+    ≡ Outcome.Done x source f → IsEnding config log link ch h x source f
 ending {w} config log link ch h x source f width is done = found (terms_at config link.0) refl
   where
     sys : System w
@@ -167,35 +143,33 @@ ending {w} config log link ch h x source f width is done = found (terms_at confi
 
     up : (at : Channel) (terms : EndConfig) (y : Beat w) (queue : List (Beat w)) → terms_at config link.0 ≡ Some terms
         → sys.channels link.0 at ≡ y ∷ queue
-        → is_to_client at ≡ false → (stepped config (Deliver link at) sys).outcome ≡ outcome.Done x source f → ⊥
+        → is_to_client at ≡ false → (stepped config (Deliver link at) sys).outcome ≡ Outcome.Done x source f → ⊥
     up at terms y queue known beats down o =
         let t = manager-moves config link at sys terms y queue known beats down (ap is_moving o) in
         done_moved x y source f (sym o ∙ ap (λ (s : Step w). s.outcome) t.step_is)
 
     probe : (terms : EndConfig) (y : Beat w) (queue : List (Beat w)) → terms_at config link.0 ≡ Some terms
-        → sys.channels link.0 channel.B ≡ y ∷ queue
-        → (stepped config (Deliver link channel.B) sys).outcome ≡ outcome.Done x source f → ⊥
+        → sys.channels link.0 Channel.B ≡ y ∷ queue
+        → (stepped config (Deliver link Channel.B) sys).outcome ≡ Outcome.Done x source f → ⊥
     probe terms y queue known beats o =
-        let p = delivered-b config log h.mail h.request h.state sys terms (next_tracker sys) link.0 y queue width is
+        let p = delivered-b terms (next_tracker sys) link.0 y queue width is
         known beats in
-        let t = client-moves config link channel.B sys terms y queue known beats refl (ap is_moving o) in
+        let t = client-moves config link Channel.B sys terms y queue known beats refl (ap is_moving o) in
         done_moved x y source f (sym o ∙ ap (λ (s : Step w). s.outcome) t.step_is
-        ∙ ap (outcome_of y) (same_answers t.verdict_is verdict.Taken t.message _
+        ∙ ap (outcome_of y) (same_answers t.verdict_is Verdict.Taken t.message _
         (offer.taken y (sys.clients link.0)).answer t.answer
         (ap (λ (i : Beat w). (offer.taken i (sys.clients link.0)).answer) p.1.beat_is)).0)
 
     moves : (at : Channel) (terms : EndConfig) (beats : List (Beat w)) → terms_at config link.0 ≡ Some terms
-        → sys.channels link.0 at ≡ beats
-        → (stepped config (Deliver link at) sys).outcome ≡ outcome.Done x source f
+        → sys.channels link.0 at ≡ beats → (stepped config (Deliver link at) sys).outcome ≡ Outcome.Done x source f
         → IsEnding config log link at h x source f
     moves at terms [] known none o =
         absurd (not_moving _ _ (stepped-empty config link at sys terms known none) (ap is_moving o) refl)
-    moves channel.A terms (y ∷ queue) known beats o = absurd (up channel.A terms y queue known beats refl o)
-    moves channel.B terms (y ∷ queue) known beats o = absurd (probe terms y queue known beats o)
-    moves channel.C terms (y ∷ queue) known beats o = absurd (up channel.C terms y queue known beats refl o)
-    moves channel.D terms (y ∷ queue) known beats o = ending_d config log link h terms y queue x source f width is known
-        beats o
-    moves channel.E terms (y ∷ queue) known beats o = absurd (up channel.E terms y queue known beats refl o)
+    moves Channel.A terms (y ∷ queue) known beats o = absurd (up Channel.A terms y queue known beats refl o)
+    moves Channel.B terms (y ∷ queue) known beats o = absurd (probe terms y queue known beats o)
+    moves Channel.C terms (y ∷ queue) known beats o = absurd (up Channel.C terms y queue known beats refl o)
+    moves Channel.D terms (y ∷ queue) known beats o = ending_d link h terms y queue x source f width is known beats o
+    moves Channel.E terms (y ∷ queue) known beats o = absurd (up Channel.E terms y queue known beats refl o)
 
     found : (o : Option EndConfig) → terms_at config link.0 ≡ o → IsEnding config log link ch h x source f
     found None none = absurd (not_moving _ _ (stepped-nobody config (Deliver link ch) sys none) (ap is_moving done)

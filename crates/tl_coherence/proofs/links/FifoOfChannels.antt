@@ -5,53 +5,36 @@ use Rattle.tl_coherence.proofs.links.Imports.{stepped, is_to_client, System, ter
 use Rattle.std.proofs.Common.{◌≡◌, ℕ, Bool, true, false, List, [], ◌∷◌, Option, Some, None, refl, sym, ◌∙◌, ap, subst}
 use Rattle.std.proofs.Common.{inl, inr}
 use Rattle.std.specs.Prelude.{◌++◌, ◌==◌, if◌then◌else◌, All, map, Ok, ⊤}
-use Rattle.std.proofs.lemmas.Bool.{cases_eq, ne_eqb}
-use Rattle.std.proofs.lemmas.List.Elements.{All-head}
-use Rattle.tl_beat.specs.declared.beat.Beat.TheVariants as beat
-use Rattle.tl_beat.specs.declared.channel.Channel.TheVariants as channel
-use Rattle.tl_burst.specs.declared.message.Message.TheVariants as message
+use Rattle.std.{proofs.lemmas.Bool.cases_eq, proofs.lemmas.Bool.ne_eqb, proofs.lemmas.List.Elements.All-head}
 use Rattle.tl_burst.specs.statement.Burst.{burst_of}
 use Rattle.tl_burst.specs.statement.Messages.{History, carried_on}
 use Rattle.tl_rules.specs.statement.Admission.{sent_if_any}
 use Rattle.tl_rules.specs.statement.Conformance.{Trace, on_link}
-use Rattle.tl_client.specs.declared.verdict.Verdict.TheVariants as verdict
 use Rattle.tl_client.specs.laws.After as client_after
 use Rattle.tl_client.specs.statement.Ask as ask
 use Rattle.tl_client.specs.statement.Offer as offer
-use Rattle.tl_client.proofs.endpoint.AfterAsked.{past-asked}
-use Rattle.tl_client.proofs.endpoint.AfterOffered.{past-offered}
-use Rattle.tl_manager.specs.statement.Handing.{Handed, with_handed}
+use Rattle.tl_client.{proofs.endpoint.AfterAsked.past-asked, proofs.endpoint.AfterOffered.past-offered}
+use Rattle.tl_manager.{specs.statement.Handing.Handed, specs.statement.Handing.with_handed, specs.code.Kept.Each}
+use Rattle.tl_manager.{specs.statement.Offer.is_from_client, proofs.calls.Reactions.reaction_handable}
+use Rattle.tl_manager.{proofs.pending.Handed.beats_on_link, proofs.messages.Lawful.IsHandable}
 use Rattle.tl_manager.specs.code.Kept as manager
-use Rattle.tl_manager.specs.code.Kept.{Each}
 use Rattle.tl_manager.specs.statement.Reaction as manager_reaction
 use Rattle.tl_manager.specs.statement.End as manager_end
 use Rattle.tl_manager.specs.statement.Offer as manager_offer
-use Rattle.tl_manager.specs.statement.Offer.{is_from_client}
-use Rattle.tl_manager.proofs.calls.Reactions.{reaction_handable}
-use Rattle.tl_manager.proofs.pending.Handed.{beats_on_link}
-use Rattle.tl_manager.proofs.messages.Lawful.{IsHandable}
-use Rattle.tl_coherence.specs.declared.event.Event.{Event}
-use Rattle.tl_coherence.specs.declared.event.Event.TheVariants.{Ask}
-use Rattle.tl_coherence.specs.declared.event.Outcome.{Outcome}
-use Rattle.tl_coherence.specs.declared.event.Outcome.TheVariants as outcome
-use Rattle.tl_coherence.specs.statement.Delivery.{IsFifo}
-use Rattle.tl_coherence.specs.statement.Flow.{flow, taken_on}
-use Rattle.tl_coherence.specs.statement.Headline.{IsTyped, AreTyped}
-use Rattle.tl_coherence.specs.statement.Log.{IsLog}
-use Rattle.tl_coherence.specs.statement.Step.{handed_by, outcome_of}
+use Rattle.tl_coherence.specs.{declared.event.Event.Event, declared.event.Event.TheVariants.Ask}
+use Rattle.tl_coherence.specs.{declared.event.Outcome.Outcome, statement.Delivery.IsFifo, statement.Flow.flow}
+use Rattle.tl_coherence.specs.{statement.Flow.taken_on, statement.Headline.IsTyped, statement.Headline.AreTyped}
+use Rattle.tl_coherence.specs.{statement.Log.IsLog, statement.Step.handed_by, statement.Step.outcome_of}
 use Rattle.tl_coherence.specs.statement.System.{fresh, with_client, with_manager, with_channel, with_message}
 use Rattle.tl_coherence.specs.statement.System.{with_messages}
-use Rattle.tl_coherence.proofs.links.HeadsOfLinks.{first-of}
+use Rattle.tl_coherence.proofs.{links.HeadsOfLinks.first-of, deliveries.DeliverDUnmoved.unmoved, queues.Landed.IsOn}
+use Rattle.tl_coherence.proofs.{simulation.SoundAfter.copy-long, queues.Tokens.same_number}
 use Rattle.tl_coherence.proofs.simulation.BeatsInFlight.{IsOfClient, IsFitIfAny, IsFitAnswer, fit-asked, fit-taken}
-use Rattle.tl_coherence.proofs.deliveries.DeliverDUnmoved.{unmoved}
-use Rattle.tl_coherence.proofs.queues.Landed.{IsOn}
 use Rattle.tl_coherence.proofs.deliveries.Matching.{shadow, matched, not_moving, stepped-nobody}
 use Rattle.tl_coherence.proofs.simulation.Moved.{IsTakenByClient, IsTakenByManager, client-moves, manager-moves}
-use Rattle.tl_coherence.proofs.links.FifoSteps.{ArePassing, said_at, heard_at, queued_at, client-says, manager-says}
+use Rattle.tl_coherence.proofs.links.FifoSteps.{ArePassing, heard_at, queued_at, client-says, manager-says}
 use Rattle.tl_coherence.proofs.links.FifoSteps.{client-hears, manager-hears, passing-same}
-use Rattle.tl_coherence.proofs.simulation.SoundAfter.{copy-long}
 use Rattle.tl_coherence.proofs.queues.Steps.{clients-with_messages, manager-with_messages, stepped-asked, stepped-empty}
-use Rattle.tl_coherence.proofs.queues.Tokens.{same_number}
 
 -- ---- the whole
 
@@ -61,83 +44,79 @@ IsPassing sys f = ArePassing (λ d. (sys.clients d).past) (λ d. on_link d sys.m
 -- ---- a client hands out a message, or none
 
 ours_from : {w : ℕ} (m : Message w) → IsOfClient m → is_from_client (beat_of m 0) ≡ true
-ours_from (message.A m) is = refl
-ours_from (message.C m) is = refl
-ours_from (message.E m) is = refl
-ours_from (message.B m) is = absurd is
-ours_from (message.D m) is = absurd is
+ours_from (Message.B m) is = absurd is
+ours_from (Message.D m) is = absurd is
+ours_from m is = refl
 
 abbrev IsOurs : {w : ℕ} → Option (Message w) → Type 0
 IsOurs None = ⊤
 IsOurs (Some m) = is_from_client (beat_of m 0) ≡ true
 
 -- the client's end is then with all beats of it
-says-passing : {w : ℕ} (c : ℕ) (m : Option (Message w)) (e : Endpoint w) (t : History w) (sys : System w) (p : ℕ
-    → History w) (f : ℕ → History w) → IsOurs m
+says-passing : {w : ℕ} (c : ℕ) (m : Option (Message w)) (e : Endpoint w) (t : History w) (sys : System w) {p : ℕ
+    → History w} {f : ℕ → History w} → IsOurs m
     → e.past ≡ sent_if_any m (p c) → ((d : ℕ) → (d ≡ c → ⊥) → p d ≡ (sys.clients d).past)
     → ArePassing p (λ d. on_link d sys.manager.trace) sys.channels f
     → IsPassing (with_messages (handed_by c m) (with_client c e sys)) f
 unfolding with_messages
-says-passing {w} c None e t sys p f ours past others is =
-    passing-same p (λ d. on_link d sys.manager.trace) (λ d. ((with_client c e sys).clients d).past)
-    (λ d. on_link d sys.manager.trace) sys.channels sys.channels f f
+says-passing {w} c None e t sys {p} {f} ours past others is =
+    passing-same (λ d. ((with_client c e sys).clients d).past)
+    (λ d. on_link d sys.manager.trace) sys.channels f
     (λ d. elim (cases_eq d c) [
       | inl same ↦ rw (same, same_number c) past
       | inr other ↦ rw (ne_eqb d c other) (sym (others d other))
     ]) (λ d. refl) (λ d at. refl) (λ d. refl) is
-says-passing {w} c (Some m) e t sys p f ours past others is =
-    passing-same (said_at c m p) (λ d. on_link d sys.manager.trace) (λ d. ((with_client c e sys).clients d).past)
+says-passing {w} c (Some m) e t sys {p} {f} ours past others is =
+    passing-same (λ d. ((with_client c e sys).clients d).past)
     (λ d. on_link d sys.manager.trace)
-    (queued_at c m sys.channels) (queued_at c m sys.channels) f f
+    (queued_at c m sys.channels) f
     (λ d. elim (cases_eq d c) [
       | inl same ↦ rw (same, same_number c) past
       | inr other ↦ rw (ne_eqb d c other, ne_eqb c d (λ i. other (sym i))) (sym (others d other))
-    ]) (λ d. refl) (λ d at. refl) (λ d. refl) (client-says c m p (λ d. on_link d sys.manager.trace) sys.channels f ours
+    ]) (λ d. refl) (λ d at. refl) (λ d. refl) (client-says c m ours
     is)
 
 -- ---- the manager hands out messages
 
-manages-passing : {w : ℕ} (config : Config) (handed : Handed w) (t : Trace w) (s : System w) (p : ℕ → History w) (f : ℕ
-    → History w)
-    → Each (IsHandable config) handed → ArePassing p (λ d. on_link d t) s.channels f
+manages-passing : {w : ℕ} (config : Config) (handed : Handed w) (t : Trace w) (s : System w) {p : ℕ → History w} {f : ℕ
+    → History w} → Each (IsHandable config) handed → ArePassing p (λ d. on_link d t) s.channels f
     → ArePassing p (λ d. on_link d (with_handed handed t)) (with_messages handed s).channels f
 unfolding with_messages with_handed
-manages-passing config [] t s p f each is = is
-manages-passing {w} config (x ∷ handed) t s p f each is =
-    manages-passing config handed (map (λ b. (x.0, b)) (burst_of x.1) ++ t) (with_message x.0.0 x.1 s) p f each.1
-    (passing-same p (said_at x.0.0 x.1 (λ d. on_link d t)) p (λ d. on_link d (map (λ b. (x.0, b)) (burst_of x.1) ++ t))
-    (queued_at x.0.0 x.1 s.channels) (with_message x.0.0 x.1 s).channels f f
+manages-passing config [] t s each is = is
+manages-passing {w} config (x ∷ handed) t s {p} {f} each is =
+    manages-passing config handed (map (λ b. (x.0, b)) (burst_of x.1) ++ t) (with_message x.0.0 x.1 s) each.1
+    (passing-same p (λ d. on_link d (map (λ b. (x.0, b)) (burst_of x.1) ++ t)) (with_message x.0.0 x.1 s).channels f
     (λ d. refl) (λ d. beats_on_link d x.0 (burst_of x.1) t) (λ d at. refl) (λ d. refl)
-    (manager-says x.0.0 x.1 p (λ d. on_link d t) s.channels f each.0.ours is))
+    (manager-says x.0.0 x.1 each.0.ours is))
 
 -- ---- the channel of a beat
 
 pub on_it : {w : ℕ} (x : Beat w) → IsOn (channel_of x) x
-on_it (beat.A x) channel.A = refl
-on_it (beat.A x) channel.B = refl
-on_it (beat.A x) channel.C = refl
-on_it (beat.A x) channel.D = refl
-on_it (beat.A x) channel.E = refl
-on_it (beat.B x) channel.A = refl
-on_it (beat.B x) channel.B = refl
-on_it (beat.B x) channel.C = refl
-on_it (beat.B x) channel.D = refl
-on_it (beat.B x) channel.E = refl
-on_it (beat.C x) channel.A = refl
-on_it (beat.C x) channel.B = refl
-on_it (beat.C x) channel.C = refl
-on_it (beat.C x) channel.D = refl
-on_it (beat.C x) channel.E = refl
-on_it (beat.D x) channel.A = refl
-on_it (beat.D x) channel.B = refl
-on_it (beat.D x) channel.C = refl
-on_it (beat.D x) channel.D = refl
-on_it (beat.D x) channel.E = refl
-on_it (beat.E x) channel.A = refl
-on_it (beat.E x) channel.B = refl
-on_it (beat.E x) channel.C = refl
-on_it (beat.E x) channel.D = refl
-on_it (beat.E x) channel.E = refl
+on_it (Beat.A x) Channel.A = refl
+on_it (Beat.A x) Channel.B = refl
+on_it (Beat.A x) Channel.C = refl
+on_it (Beat.A x) Channel.D = refl
+on_it (Beat.A x) Channel.E = refl
+on_it (Beat.B x) Channel.A = refl
+on_it (Beat.B x) Channel.B = refl
+on_it (Beat.B x) Channel.C = refl
+on_it (Beat.B x) Channel.D = refl
+on_it (Beat.B x) Channel.E = refl
+on_it (Beat.C x) Channel.A = refl
+on_it (Beat.C x) Channel.B = refl
+on_it (Beat.C x) Channel.C = refl
+on_it (Beat.C x) Channel.D = refl
+on_it (Beat.C x) Channel.E = refl
+on_it (Beat.D x) Channel.A = refl
+on_it (Beat.D x) Channel.B = refl
+on_it (Beat.D x) Channel.C = refl
+on_it (Beat.D x) Channel.D = refl
+on_it (Beat.D x) Channel.E = refl
+on_it (Beat.E x) Channel.A = refl
+on_it (Beat.E x) Channel.B = refl
+on_it (Beat.E x) Channel.C = refl
+on_it (Beat.E x) Channel.D = refl
+on_it (Beat.E x) Channel.E = refl
 
 -- ---- what is delivered
 
@@ -146,30 +125,24 @@ pub flow_moved : {w : ℕ} (link : Link) (ch : Channel) (o : Outcome w) (x : Bea
     → taken_on d (Deliver link ch) o ≡ (if link.0 == d then x ∷ [] else [])
     → flow d ((Deliver link ch, o) ∷ log) ≡ heard_at link.0 x (λ i. flow i log) d
 unfolding flow
-flow_moved {w} link ch o x log d is = ap (λ xs. xs ++ flow d log) is ∙ go (link.0 == d)
-  where
-    go : (b : Bool) → (if b then x ∷ [] else []) ++ flow d log ≡ (if b then x ∷ flow d log else flow d log)
-    go true = refl
-    go false = refl
+flow_moved {w} link ch o x log d is =
+    let go : (b : Bool) → (if b then x ∷ [] else []) ++ flow d log ≡ (if b then x ∷ flow d log else flow d log) =
+    elim [ true ↦ refl | false ↦ refl ] in
+    ap (λ xs. xs ++ flow d log) is ∙ go (link.0 == d)
 
 -- the beat that a client takes
 pub taken_at : {w : ℕ} (link : Link) (ch : Channel) (x : Beat w) (v : Verdict) (d : ℕ)
     → is_moving (outcome_of x v) ≡ true
     → taken_on d (Deliver link ch) (outcome_of x v) ≡ (if link.0 == d then x ∷ [] else [])
-taken_at link ch x verdict.Taken d e = refl
-taken_at link ch x (verdict.Done source f) d e = refl
-taken_at link ch x verdict.Stalled d e = absurd cc
+taken_at link ch x Verdict.Stalled d e = absurd cc
+taken_at link ch x v d e = refl
 
 pub flow_still : {w : ℕ} (event : Event w) (o : Outcome w) (log : Log w) (d : ℕ) → is_moving o ≡ false
     → flow d ((event, o) ∷ log) ≡ flow d log
 unfolding flow
-flow_still (Ask c i) o log d e = refl
-flow_still (Deliver link ch) (outcome.Replied r) log d e = refl
-flow_still (Deliver link ch) outcome.Empty log d e = refl
-flow_still (Deliver link ch) outcome.Stalled log d e = refl
-flow_still (Deliver link ch) outcome.NoSuchClient log d e = refl
-flow_still (Deliver link ch) (outcome.Moved x) log d e = absurd cc
-flow_still (Deliver link ch) (outcome.Done x source f) log d e = absurd cc
+flow_still (Deliver link ch) (Outcome.Moved x) log d e = absurd cc
+flow_still (Deliver link ch) (Outcome.Done x source f) log d e = absurd cc
+flow_still event o log d e = refl
 
 -- ---- events
 
@@ -180,17 +153,17 @@ still-passing : {w : ℕ} (config : Config) (log : Log w) (link : Link) (ch : Ch
     (λ d. flow d ((Deliver link ch, (stepped config (Deliver link ch) (system_after config log)).outcome) ∷ log))
 still-passing {w} config log link ch still is =
     let same = unmoved config link ch (system_after config log) still in
-    passing-same _ _ _ _ _ _ _ _ same.pasts (λ d. ap (on_link d) same.trace) same.channels
+    passing-same _ _ _ _ same.pasts (λ d. ap (on_link d) same.trace) same.channels
     (λ d. flow_still (Deliver link ch) (stepped config (Deliver link ch) (system_after config log)).outcome log d still)
     is
 
-asked-passing : {w : ℕ} (config : Config) (log : Log w) (c : ℕ) (o : Op w) (mail : _) (request : _) (s : _)
+asked-passing : {w : ℕ} {config : Config} {log : Log w} (c : ℕ) (o : Op w) {mail : _} {request : _} {s : _}
     → SimulationRelation config log mail request s (system_after config log) → IsTyped (Ask c o)
     → IsPassing (system_after config log) (λ d. flow d log)
     → IsPassing (stepped config (Ask c o) (system_after config log)).after
     (λ d. flow d ((Ask c o, (stepped config (Ask c o) (system_after config log)).outcome) ∷ log))
 unfolding flow
-asked-passing {w} config log c o mail request s matched typed is = go (terms_at config c) refl
+asked-passing {w} {config} {log} c o {mail} {request} {s} matched typed is = go (terms_at config c) refl
   where
     sys : System w
     sys = system_after config log
@@ -203,8 +176,8 @@ asked-passing {w} config log c o mail request s matched typed is = go (terms_at 
     go (Some terms) known =
         let x = ask.asked terms o (sys.clients c) in
         subst (λ (i : Step w). IsPassing i.after f) (sym (stepped-asked config c o sys terms known))
-        (says-passing c x.message x.after (sys.clients c).past sys (λ d. (sys.clients d).past) f
-        (ours x.message (fit-asked terms o (sys.clients c) typed (copy-long config log mail request s sys matched c)))
+        (says-passing c x.message x.after (sys.clients c).past sys
+        (ours x.message (fit-asked terms o (sys.clients c) typed (copy-long matched c)))
         (past-asked terms o (sys.clients c)) (λ d other. refl) is)
       where
         ours : (m : Option (Message w)) → IsFitIfAny terms.blocks m → IsOurs m
@@ -212,15 +185,16 @@ asked-passing {w} config log c o mail request s matched typed is = go (terms_at 
         ours (Some m) fit = ours_from m fit.ours
 
 moved-passing : {w : ℕ} (config : Config) (log : Log w) (link : Link) (ch : Channel) (terms : EndConfig) (x : Beat w)
-    (queue : List (Beat w)) → IsWidth w
-    → AreTyped log → IsLog config log → terms_at config link.0 ≡ Some terms
+    (queue : List (Beat w)) → IsWidth w → AreTyped log → IsLog config log → terms_at config link.0 ≡ Some terms
     → (system_after config log).channels link.0 ch ≡ x ∷ queue
     → is_moving (stepped config (Deliver link ch) (system_after config log)).outcome ≡ true
     → IsPassing (system_after config log) (λ d. flow d log)
     → IsPassing (stepped config (Deliver link ch) (system_after config log)).after
     (λ d. flow d ((Deliver link ch, (stepped config (Deliver link ch) (system_after config log)).outcome) ∷ log))
 unfolding on_link
-moved-passing {w} config log link ch terms x queue width typed logged known beats moving is = go (is_to_client ch) refl
+moved-passing {w} config log link ch terms x queue width typed logged known beats moving is =
+    let f : ℕ → History w = λ d. flow d log in
+    go (is_to_client ch) refl
   where
     sys : System w
     sys = system_after config log
@@ -232,8 +206,7 @@ moved-passing {w} config log link ch terms x queue width typed logged known beat
     h = matched config log width typed logged
 
     on_ch : IsOn ch x
-    on_ch = subst (λ (i : Channel). IsOn i x) (first-of config log (shadow config log) c terms ch x queue width h known
-        beats).on (on_it x)
+    on_ch = rw (← (first-of config log (shadow config log) c terms ch x queue width h known beats).on) (on_it x)
 
     head : manager.IsSound config (record { 0 = c }, x)
     head = All-head (λ y. manager.IsSound config (record { 0 = c }, y)) x queue (same beats (h.sound c ch))
@@ -241,9 +214,6 @@ moved-passing {w} config log link ch terms x queue width typed logged known beat
         same : sys.channels c ch ≡ x ∷ queue → All (λ y. manager.IsSound config (record { 0 = c }, y))
             (sys.channels c ch) → All (λ y. manager.IsSound config (record { 0 = c }, y)) (x ∷ queue)
         same e i = rw e at i
-
-    f : ℕ → History w
-    f d = flow d log
 
     -- what is delivered then
     f' : ℕ → History w
@@ -263,61 +233,48 @@ moved-passing {w} config log link ch terms x queue width typed logged known beat
                 → IsPassing (with_messages (handed_by c m) (with_client c (offer.taken x (sys.clients c)).after
                 (with_channel c ch queue sys))) (λ d. flow d ((Deliver link ch, outcome_of x v) ∷ log))
             took v m answer moves =
-                passing-same _ _ _ _ _ _ (heard_at c x f) _ (λ d. refl) (λ d. refl) (λ d at. refl)
-                (λ d. flow_moved link ch (outcome_of x v) x log d (taken_at link ch x v d moves))
-                (says-passing c m (offer.taken x (sys.clients c)).after (sys.clients c).past
-                (with_channel c ch queue sys) (heard_at c x (λ d. (sys.clients d).past)) (heard_at c x f)
-                (ours v m answer)
-                (ap (λ (o : offer.Offered w). o.after.past) (sym t.takes) ∙ past-offered terms ch x (sys.clients c)
-                ∙ ap (sent_if_any (client_after.handed (offer.offered terms ch x (sys.clients c)).answer)) t.heard
-                ∙ ap (λ a. sent_if_any (client_after.handed a) (x ∷ (sys.clients c).past))
-                (ap (λ (o : offer.Offered w). o.answer) t.takes ∙ answer) ∙ handed_is v m moves ∙ rw (same_number c)
-                refl)
-                (λ d other. rw (ne_eqb c d (λ i. other (sym i))) refl)
-                (client-hears c ch x queue (λ d. (sys.clients d).past) (λ d. on_link d sys.manager.trace) sys.channels f
-                up on_ch beats is))
+                let handed_is : (v : Verdict) (m : Option (Message w)) → is_moving (outcome_of x v) ≡ true
+                → sent_if_any (client_after.handed (Ok (v, m))) (x ∷ (sys.clients c).past)
+                ≡ sent_if_any m (x ∷ (sys.clients c).past) =
+                elim [ Verdict.Stalled ↦ λ m e. absurd cc | v ↦ λ m e. refl ] in
+                passing-same _ _ _ _ (λ d. refl) (λ d. refl) (λ d at. refl) (λ d. flow_moved link ch (outcome_of x v) x
+                log d (taken_at link ch x v d moves)) (says-passing c m (offer.taken x (sys.clients c)).after
+                (sys.clients c).past (with_channel c ch queue sys) (ours v m answer) (ap (λ (o : offer.Offered w).
+                o.after.past) (sym t.takes) ∙ past-offered terms ch x (sys.clients c) ∙ ap (sent_if_any
+                (client_after.handed (offer.offered terms ch x (sys.clients c)).answer)) t.heard ∙ ap (λ a.
+                sent_if_any (client_after.handed a) (x ∷ (sys.clients c).past)) (ap (λ (o : offer.Offered w).
+                o.answer) t.takes ∙ answer) ∙ handed_is v m moves ∙ rw (same_number c) refl) (λ d other. rw (ne_eqb
+                c d (λ i. other (sym i))) refl) (client-hears c ch x queue up on_ch beats is))
               where
-                handed_is : (v : Verdict) (m : Option (Message w)) → is_moving (outcome_of x v) ≡ true
-                    → sent_if_any (client_after.handed (Ok (v, m))) (x ∷ (sys.clients c).past) ≡ sent_if_any m
-                    (x ∷ (sys.clients c).past)
-                handed_is verdict.Taken m e = refl
-                handed_is (verdict.Done source fin) m e = refl
-                handed_is verdict.Stalled m e = absurd cc
-
                 ours : (v : Verdict) (m : Option (Message w)) → (offer.taken x (sys.clients c)).answer ≡ Ok (v, m)
                     → IsOurs m
                 ours v None e = tt
                 ours v (Some m) e =
                     let fit : IsFitAnswer config.blocks (Ok (v, Some m)) =
                     subst (IsFitAnswer config.blocks) e (fit-taken config.blocks x (sys.clients c) head.inside
-                    (copy-long config log (shadow config log).mail (shadow config log).request (shadow config log).state
-                    sys h c)) in
+                    (copy-long h c)) in
                     ours_from m fit.ours
     go false down = by_manager (manager-moves config link ch sys terms x queue known beats down moving)
       where
         by_manager : IsTakenByManager config link ch x queue sys (stepped config (Deliver link ch) sys)
             → IsPassing (stepped config (Deliver link ch) sys).after f'
         by_manager t =
+            let e = manager_offer.taken link x (manager_reaction.reaction config link x sys.manager) sys.manager in
+            let now : System w = with_manager e (with_channel c ch queue sys) in
             subst (λ (y : Step w). IsPassing y.after (λ d. flow d ((Deliver link ch, y.outcome) ∷ log))) (sym t.step_is)
-            (passing-same (λ d. (sys.clients d).past) (λ d. on_link d e.trace) _ _ (with_messages handed now).channels
+            (passing-same _ _
             (with_messages handed now).channels
-            (heard_at c x f) _ (λ d. ap (λ (i : ℕ → Endpoint w). (i d).past) (clients-with_messages handed now))
+            _ (λ d. ap (λ (i : ℕ → Endpoint w). (i d).past) (clients-with_messages handed now))
             (λ d. ap (λ (i : manager_end.End w). on_link d i.trace) (manager-with_messages handed now)) (λ d at. refl)
-            (λ d. flow_moved link ch (outcome.Moved x) x log d refl)
-            (manages-passing config handed ((link, x) ∷ sys.manager.trace) now (λ d. (sys.clients d).past)
-            (heard_at c x f) (reaction_handable config link x sys.manager width head h.manager_kept.sound)
-            (passing-same _ _ _ _ _ _ _ _ (λ d. refl) (λ d. refl) (λ d at. refl) (λ d. refl)
-            (manager-hears c ch x queue (λ d. (sys.clients d).past) (λ d. on_link d sys.manager.trace) sys.channels f
+            (λ d. flow_moved link ch (Outcome.Moved x) x log d refl)
+            (manages-passing config handed ((link, x) ∷ sys.manager.trace) now
+            (reaction_handable config link x sys.manager width head h.manager_kept.sound)
+            (passing-same _ _ _ _ (λ d. refl) (λ d. refl) (λ d at. refl) (λ d. refl)
+            (manager-hears c ch x queue
             down on_ch beats is))))
           where
             handed : Handed w
             handed = (manager_reaction.reaction config link x sys.manager).handed
-
-            e : manager_end.End w
-            e = manager_offer.taken link x (manager_reaction.reaction config link x sys.manager) sys.manager
-
-            now : System w
-            now = with_manager e (with_channel c ch queue sys)
 
 -- ---- after every log
 
@@ -330,8 +287,7 @@ passing-event : {w : ℕ} (config : Config) (log : Log w) (event : Event w) → 
     → IsPassing (stepped config event (system_after config log)).after
     (λ d. flow d ((event, (stepped config event (system_after config log)).outcome) ∷ log))
 passing-event config log (Ask c o) width typed logged ok before =
-    asked-passing config log c o (shadow config log).mail (shadow config log).request (shadow config log).state
-    (matched config log width typed logged) ok before
+    asked-passing c o (matched config log width typed logged) ok before
 passing-event {w} config log (Deliver link ch) width typed logged ok before =
     delivered (is_moving (stepped config (Deliver link ch) sys).outcome) refl
   where
@@ -363,19 +319,18 @@ pub passing : {w : ℕ} (config : Config) (log : Log w) → IsWidth w → AreTyp
 unfolding system_after AreTyped IsLog
 passing {w} config [] width typed logged = first-passing w
 passing {w} config (x ∷ log) width typed logged =
-    subst (λ (o : Outcome w). IsPassing (stepped config x.0 (system_after config log)).after
-    (λ d. flow d ((x.0, o) ∷ log))) (sym logged.0)
-    (passing-event config log x.0 width typed.1 logged.1 typed.0 (passing config log width typed.1 logged.1))
+    rw logged.0 (passing-event config log x.0 width typed.1 logged.1 typed.0
+    (passing config log width typed.1 logged.1))
 
 pub carried-passing : {w : ℕ} (config : Config) (log : Log w) (link : ℕ) (ch : Channel)
     → IsPassing (system_after config log) (λ d. flow d log) → IsFifo (system_after config log) log link ch
-carried-passing config log link channel.A is = let both = is.up link channel.A refl in
+carried-passing config log link Channel.A is = let both = is.up link Channel.A refl in
     record { under_way = both.0; delivered = both.1 }
-carried-passing config log link channel.B is = let both = is.down link channel.B refl in
+carried-passing config log link Channel.B is = let both = is.down link Channel.B refl in
     record { under_way = both.0; delivered = both.1 }
-carried-passing config log link channel.C is = let both = is.up link channel.C refl in
+carried-passing config log link Channel.C is = let both = is.up link Channel.C refl in
     record { under_way = both.0; delivered = both.1 }
-carried-passing config log link channel.D is = let both = is.down link channel.D refl in
+carried-passing config log link Channel.D is = let both = is.down link Channel.D refl in
     record { under_way = both.0; delivered = both.1 }
-carried-passing config log link channel.E is = let both = is.up link channel.E refl in
+carried-passing config log link Channel.E is = let both = is.up link Channel.E refl in
     record { under_way = both.0; delivered = both.1 }

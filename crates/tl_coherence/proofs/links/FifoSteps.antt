@@ -4,17 +4,14 @@ use Rattle.std.proofs.Common.{◌≡◌, ℕ, zero, suc, Bool, true, false, not,
 use Rattle.std.specs.Prelude.{◌++◌, ◌==◌, ◌&&◌, if◌then◌else◌, reverse}
 use Rattle.std.proofs.lemmas.Bool.{cases_eq, ne_eqb}
 use Rattle.std.proofs.lemmas.List.{append_assoc, reverse-append}
-use Rattle.tl_burst.specs.declared.message.Message.TheVariants as message
 use Rattle.tl_burst.specs.statement.Burst.{beats_of, begun, burst_of}
 use Rattle.tl_burst.specs.statement.Messages.{History, carried_on, on}
 use Rattle.tl_rules.specs.statement.Legality.{beats_from}
 use Rattle.tl_manager.specs.statement.Offer.{is_from_client}
 use Rattle.tl_coherence.specs.statement.System.{same_channel, channel_of_message}
-use Rattle.tl_coherence.proofs.queues.Beats.{reverse-beats_from}
-use Rattle.tl_coherence.proofs.queues.Landed.{IsOn}
-use Rattle.tl_coherence.proofs.deliveries.ManagersAfter.{on_message}
-use Rattle.tl_coherence.proofs.queues.Tokens.{same_number}
-use Rattle.tl_coherence.proofs.queues.Channels.{same_channel-is}
+use Rattle.tl_coherence.proofs.{queues.Beats.reverse-beats_from, queues.Landed.IsOn}
+use Rattle.tl_coherence.proofs.{deliveries.ManagersAfter.on_message, queues.Tokens.same_number}
+use Rattle.tl_coherence.proofs.{queues.Channels.same_channel-is}
 
 -- ---- lists
 
@@ -26,31 +23,31 @@ push_order : {w : ℕ} (b : Bool) (m : Message w) (sent queue own taken : List (
     → IsInOrder sent queue taken
     → IsInOrder (if b then burst_of m ++ sent else sent) (if b then own ++ beats_from m 0 (beats_of m) else queue) taken
 push_order true m sent queue own taken same is =
-    ap (λ xs. burst_of m ++ xs) is ∙ sym (append_assoc (burst_of m) (reverse queue) taken)
-    ∙ ap (λ xs. xs ++ taken) (ap (λ xs. xs ++ reverse queue) (sym (reverse-beats_from m (beats_of m)))
-    ∙ sym (reverse-append queue (beats_from m 0 (beats_of m))) ∙ ap (λ xs. reverse (xs ++ beats_from m 0 (beats_of m)))
-    (sym (same refl)))
+    cc (
+      is,
+      append_assoc (burst_of m) (reverse queue) taken,
+      reverse-beats_from m (beats_of m),
+      reverse-append queue
+          (beats_from m 0 (beats_of m)),
+      same refl,
+    )
 push_order false m sent queue own taken same is = is
 
 pop_order : {w : ℕ} (b : Bool) (x : Beat w) (rest sent queue taken : List (Beat w)) → (b ≡ true → queue ≡ x ∷ rest)
-    → IsInOrder sent queue taken
-    → IsInOrder sent (if b then rest else queue) (if b then x ∷ taken else taken)
+    → IsInOrder sent queue taken → IsInOrder sent (if b then rest else queue) (if b then x ∷ taken else taken)
 pop_order true x rest sent queue taken first is =
-    is ∙ ap (λ xs. reverse xs ++ taken) (first refl) ∙ ap (λ xs. xs ++ taken) (reverse-append (x ∷ []) rest)
-    ∙ append_assoc (reverse rest) (x ∷ []) taken
+    cc (is, first refl, reverse-append (x ∷ []) rest, append_assoc (reverse rest) (x ∷ []) taken)
 pop_order false x rest sent queue taken first is = is
 
 -- ---- the beats of a channel
 
-carried-begun : {w : ℕ} (m : Message w) (k : ℕ) (at : Channel) (t : History w)
-    → carried_on at (begun m k ++ t) ≡ (if same_channel at (channel_of_message m) then begun m k ++ carried_on at t else
-    carried_on at t)
+carried-begun : {w : ℕ} (m : Message w) (k : ℕ) (at : Channel) (t : History w) → carried_on at (begun m k ++ t)
+    ≡ (if same_channel at (channel_of_message m) then begun m k ++ carried_on at t else carried_on at t)
 unfolding carried_on
-carried-begun {w} m zero at t = go (same_channel at (channel_of_message m))
-  where
-    go : (b : Bool) → carried_on at t ≡ (if b then carried_on at t else carried_on at t)
-    go true = refl
-    go false = refl
+carried-begun {w} m zero at t =
+    let go : (b : Bool) → carried_on at t ≡ (if b then carried_on at t else carried_on at t) =
+    elim [ true ↦ refl | false ↦ refl ] in
+    go (same_channel at (channel_of_message m))
 carried-begun {w} m (suc k) at t = go (on at (beat_of m k)) (same_channel at (channel_of_message m)) (on_message m k at)
     (carried-begun m k at t)
   where
@@ -60,8 +57,7 @@ carried-begun {w} m (suc k) at t = go (on at (beat_of m k)) (same_channel at (ch
         ≡ (if b then beat_of m k ∷ (begun m k ++ carried_on at t) else carried_on at t)
     go true true e f = ap (λ xs. beat_of m k ∷ xs) f
     go false false e f = f
-    go true false e f = absurd cc
-    go false true e f = absurd cc
+    go a b e f = absurd cc
 
 carried-beat : {w : ℕ} (x : Beat w) (ch at : Channel) (t : History w) → IsOn ch x
     → carried_on at (x ∷ t) ≡ (if same_channel at ch then x ∷ carried_on at t else carried_on at t)
@@ -72,18 +68,13 @@ apart : (at ch : Channel) (b : Bool) → is_to_client at ≡ b → is_to_client 
 apart at ch b e f = go (same_channel at ch) refl
   where
     differ : (x y : Bool) → x ≡ y → x ≡ b → y ≡ not b → ⊥
-    differ true true e f g = absurd (differs b f g)
-      where
-        differs : (b : Bool) → true ≡ b → true ≡ not b → ⊥
-        differs true f g = cc
-        differs false f g = cc
-    differ false false e f g = absurd (differs b f g)
-      where
-        differs : (b : Bool) → false ≡ b → false ≡ not b → ⊥
-        differs true f g = cc
-        differs false f g = cc
-    differ true false e f g = cc
-    differ false true e f g = cc
+    differ true true e f g =
+        let differs : (b : Bool) → true ≡ b → true ≡ not b → ⊥ = elim [ true ↦ λ f g. cc | false ↦ λ f g. cc ] in
+        absurd (differs b f g)
+    differ false false e f g =
+        let differs : (b : Bool) → false ≡ b → false ≡ not b → ⊥ = elim [ true ↦ λ f g. cc | false ↦ λ f g. cc ] in
+        absurd (differs b f g)
+    differ x y e f g = cc
 
     go : (x : Bool) → same_channel at ch ≡ x → x ≡ false
     go false g = refl
@@ -91,16 +82,12 @@ apart at ch b e f = go (same_channel at ch) refl
 
 sends : {w : ℕ} (m : Message w) (b : Bool) → is_from_client (beat_of m 0) ≡ not b
     → is_to_client (channel_of_message m) ≡ b
-sends (message.A m) true e = absurd cc
-sends (message.A m) false e = refl
-sends (message.B m) true e = refl
-sends (message.B m) false e = absurd cc
-sends (message.C m) true e = absurd cc
-sends (message.C m) false e = refl
-sends (message.D m) true e = refl
-sends (message.D m) false e = absurd cc
-sends (message.E m) true e = absurd cc
-sends (message.E m) false e = refl
+sends (Message.A m) false e = refl
+sends (Message.B m) true e = refl
+sends (Message.C m) false e = refl
+sends (Message.D m) true e = refl
+sends (Message.E m) false e = refl
+sends m b e = absurd cc
 
 -- ---- the two ends of each link
 
@@ -142,12 +129,10 @@ said_here {w} l m p q d at taken is = elim (cases_eq d l) [
 -- on a channel on which it doesn't send, nothing changes
 unsaid_history : {w : ℕ} (l : ℕ) (m : Message w) (p : ℕ → History w) (d : ℕ) (at : Channel)
     → same_channel at (channel_of_message m) ≡ false → carried_on at (said_at l m p d) ≡ carried_on at (p d)
-unsaid_history {w} l m p d at differs = go (l == d)
-  where
-    go : (b : Bool) → carried_on at (if b then burst_of m ++ p d else p d) ≡ carried_on at (p d)
-    go true = carried-begun m (beats_of m) at (p d) ∙ ap (λ b. if b then burst_of m ++ carried_on at (p d) else
-        carried_on at (p d)) differs
-    go false = refl
+unsaid_history {w} l m p d at differs =
+    let go : (b : Bool) → carried_on at (if b then burst_of m ++ p d else p d) ≡ carried_on at (p d) =
+    elim [ true ↦ cc (carried-begun m (beats_of m) at (p d), differs) | false ↦ refl ] in
+    go (l == d)
 
 unsaid_queue : {w : ℕ} (l : ℕ) (m : Message w) (q : ℕ → Channel → List (Beat w)) (d : ℕ) (at : Channel)
     → same_channel at (channel_of_message m) ≡ false → queued_at l m q d at ≡ q d at
@@ -159,20 +144,20 @@ unsaid_queue {w} l m q d at differs = go (d == l) (same_channel at (channel_of_m
     go false false e = refl
     go a true e = absurd cc
 
-pub client-says : {w : ℕ} (l : ℕ) (m : Message w) (p t : ℕ → History w) (q : ℕ → Channel → List (Beat w)) (f : ℕ
-    → History w)
+pub client-says : {w : ℕ} (l : ℕ) (m : Message w) {p t : ℕ → History w} {q : ℕ → Channel → List (Beat w)} {f : ℕ
+    → History w}
     → is_from_client (beat_of m 0) ≡ true → ArePassing p t q f → ArePassing (said_at l m p) t (queued_at l m q) f
-client-says {w} l m p t q f ours is = record {
+client-says {w} l m {p} {t} {q} ours is = record {
   down = λ d at e.
       let differs = apart at (channel_of_message m) true e (sends m false ours) in
       rw (unsaid_queue l m q d at differs, unsaid_history l m p d at differs) (is.down d at e);
   up = λ d at e. (said_here l m p q d at (carried_on at (t d)) (is.up d at e).0, (is.up d at e).1);
 }
 
-pub manager-says : {w : ℕ} (l : ℕ) (m : Message w) (p t : ℕ → History w) (q : ℕ → Channel → List (Beat w)) (f : ℕ
-    → History w)
+pub manager-says : {w : ℕ} (l : ℕ) (m : Message w) {p t : ℕ → History w} {q : ℕ → Channel → List (Beat w)} {f : ℕ
+    → History w}
     → is_from_client (beat_of m 0) ≡ false → ArePassing p t q f → ArePassing p (said_at l m t) (queued_at l m q) f
-manager-says {w} l m p t q f ours is = record {
+manager-says {w} l m {p} {t} {q} ours is = record {
   up = λ d at e.
       let differs = apart at (channel_of_message m) false e (sends m true ours) in
       rw (unsaid_queue l m q d at differs, unsaid_history l m t d at differs) (is.up d at e);
@@ -183,32 +168,27 @@ manager-says {w} l m p t q f ours is = record {
 heard_history : {w : ℕ} (c : ℕ) (ch : Channel) (x : Beat w) (p : ℕ → History w) (d : ℕ) (at : Channel) → IsOn ch x
     → carried_on at (heard_at c x p d) ≡ (if (c == d) && same_channel at ch then x ∷ carried_on at (p d) else carried_on
     at (p d))
-heard_history {w} c ch x p d at is = go (c == d)
-  where
-    go : (b : Bool) → carried_on at (if b then x ∷ p d else p d) ≡ (if b && same_channel at ch then x ∷ carried_on at
-        (p d) else carried_on at (p d))
-    go true = carried-beat x ch at (p d) is
-    go false = refl
+heard_history {w} c ch x p d at is =
+    let go : (b : Bool) → carried_on at (if b then x ∷ p d else p d)
+    ≡ (if b && same_channel at ch then x ∷ carried_on at (p d) else carried_on at (p d)) =
+    elim [ true ↦ carried-beat x ch at (p d) is | false ↦ refl ] in
+    go (c == d)
 
 heard_here : {w : ℕ} (c : ℕ) (ch : Channel) (x : Beat w) (queue : List (Beat w)) (p : ℕ → History w) (q : ℕ → Channel
-    → List (Beat w)) (f : ℕ → History w)
-    (d : ℕ) (at : Channel) (sent : List (Beat w)) → IsOn ch x → q c ch ≡ x ∷ queue
+    → List (Beat w)) (f : ℕ → History w) (d : ℕ) (at : Channel) (sent : List (Beat w)) → IsOn ch x → q c ch ≡ x ∷ queue
     → IsInOrder sent (q d at) (carried_on at (p d)) × (carried_on at (p d) ≡ carried_on at (f d))
     → IsInOrder sent (popped_at c ch queue q d at) (carried_on at (heard_at c x p d))
     × (carried_on at (heard_at c x p d) ≡ carried_on at (heard_at c x f d))
-heard_here {w} c ch x queue p q f d at sent on first is = (order, same)
-  where
-    order : IsInOrder sent (popped_at c ch queue q d at) (carried_on at (heard_at c x p d))
-    order = elim (cases_eq d c) [
+heard_here {w} c ch x queue p q f d at sent on first is =
+    let order : IsInOrder sent (popped_at c ch queue q d at) (carried_on at (heard_at c x p d)) = elim (cases_eq d c) [
       | inl here ↦ rw (here, heard_history c ch x p c at on, same_number c)
           (pop_order (same_channel at ch) x queue sent (q c at) (carried_on at (p c))
           (λ e. ap (q c) (same_channel-is at ch e) ∙ first) (rw here at is.0))
       | inr other ↦ rw (heard_history c ch x p d at on, ne_eqb d c other, ne_eqb c d (λ e. other (sym e))) is.0
-    ]
-
-    same : carried_on at (heard_at c x p d) ≡ carried_on at (heard_at c x f d)
-    same = heard_history c ch x p d at on ∙ ap (λ xs. if (c == d) && same_channel at ch then x ∷ xs else xs) is.1 ∙ sym
-        (heard_history c ch x f d at on)
+    ] in
+    let same : carried_on at (heard_at c x p d) ≡ carried_on at (heard_at c x f d) =
+    cc (heard_history c ch x p d at on, is.1, heard_history c ch x f d at on) in
+    (order, same)
 
 unheard : {w : ℕ} (c : ℕ) (ch : Channel) (x : Beat w) (p : ℕ → History w) (d : ℕ) (at : Channel) → IsOn ch x
     → same_channel at ch ≡ false → carried_on at (heard_at c x p d) ≡ carried_on at (p d)
@@ -229,11 +209,10 @@ unpopped {w} c ch queue q d at differs = go (d == c) (same_channel at ch) differ
     go false false e = refl
     go a true e = absurd cc
 
-pub client-hears : {w : ℕ} (c : ℕ) (ch : Channel) (x : Beat w) (queue : List (Beat w)) (p t : ℕ → History w) (q : ℕ
-    → Channel → List (Beat w))
-    (f : ℕ → History w) → is_to_client ch ≡ true → IsOn ch x → q c ch ≡ x ∷ queue
+pub client-hears : {w : ℕ} (c : ℕ) (ch : Channel) (x : Beat w) (queue : List (Beat w)) {p t : ℕ → History w} {q : ℕ
+    → Channel → List (Beat w)} {f : ℕ → History w} → is_to_client ch ≡ true → IsOn ch x → q c ch ≡ x ∷ queue
     → ArePassing p t q f → ArePassing (heard_at c x p) t (popped_at c ch queue q) (heard_at c x f)
-client-hears {w} c ch x queue p t q f theirs on first is = record {
+client-hears {w} c ch x queue {p} {t} {q} {f} theirs on first is = record {
   down = λ d at e. heard_here c ch x queue p q f d at (carried_on at (t d)) on first (is.down d at e);
   up = λ d at e.
       let differs = apart at ch false e theirs in
@@ -241,11 +220,10 @@ client-hears {w} c ch x queue p t q f theirs on first is = record {
       (is.up d at e);
 }
 
-pub manager-hears : {w : ℕ} (c : ℕ) (ch : Channel) (x : Beat w) (queue : List (Beat w)) (p t : ℕ → History w) (q : ℕ
-    → Channel → List (Beat w))
-    (f : ℕ → History w) → is_to_client ch ≡ false → IsOn ch x → q c ch ≡ x ∷ queue
+pub manager-hears : {w : ℕ} (c : ℕ) (ch : Channel) (x : Beat w) (queue : List (Beat w)) {p t : ℕ → History w} {q : ℕ
+    → Channel → List (Beat w)} {f : ℕ → History w} → is_to_client ch ≡ false → IsOn ch x → q c ch ≡ x ∷ queue
     → ArePassing p t q f → ArePassing p (heard_at c x t) (popped_at c ch queue q) (heard_at c x f)
-manager-hears {w} c ch x queue p t q f theirs on first is = record {
+manager-hears {w} c ch x queue {p} {t} {q} {f} theirs on first is = record {
   up = λ d at e. heard_here c ch x queue t q f d at (carried_on at (p d)) on first (is.up d at e);
   down = λ d at e.
       let differs = apart at ch true e theirs in
@@ -254,11 +232,12 @@ manager-hears {w} c ch x queue p t q f theirs on first is = record {
 }
 
 -- the same histories and channels
-pub passing-same : {w : ℕ} (p t p' t' : ℕ → History w) (q q' : ℕ → Channel → List (Beat w)) (f f' : ℕ → History w)
+pub passing-same : {w : ℕ} {p t : ℕ → History w} (p' t' : ℕ → History w) {q : ℕ → Channel → List (Beat w)} (q' : ℕ
+    → Channel → List (Beat w)) {f : ℕ → History w} (f' : ℕ → History w)
     → ((d : ℕ) → p' d ≡ p d)
     → ((d : ℕ) → t' d ≡ t d) → ((d : ℕ) (at : Channel) → q' d at ≡ q d at) → ((d : ℕ) → f' d ≡ f d)
     → ArePassing p t q f → ArePassing p' t' q' f'
-passing-same p t p' t' q q' f f' ps ts qs fs is = record {
+passing-same p' t' q' f' ps ts qs fs is = record {
   down = λ d at e. rw (ps d, ts d, qs d at, fs d) (is.down d at e);
   up = λ d at e. rw (ps d, ts d, qs d at, fs d) (is.up d at e);
 }

@@ -4,26 +4,18 @@ use Rattle.tl_coherence.proofs.links.Imports.{system_after, one_memory_after, te
 use Rattle.std.proofs.Common.{◌≡◌, ◌∙◌, ℕ, true, ◌∷◌, Option, Some, None, refl, sym, ap₂}
 use Rattle.std.specs.Prelude.{◌≤◌, ◌/◌, is_some, length}
 use Rattle.tl_params.specs.declared.perm.Perm.{Perm}
-use Rattle.tl_client.specs.declared.verdict.Finish.TheVariants.{Granted}
-use Rattle.tl_client.specs.statement.Ask.{op_block}
-use Rattle.tl_client.specs.statement.Endpoint.{held_at}
+use Rattle.tl_client.{specs.declared.verdict.Finish.TheVariants.Granted, specs.statement.Ask.op_block}
+use Rattle.tl_client.{specs.statement.Endpoint.held_at}
 use Rattle.tl_manager.specs.statement.Holders.{recorded}
-use Rattle.tl_coherence.specs.declared.event.Outcome.TheVariants as outcome
-use Rattle.tl_coherence.specs.statement.Coherent.{IsCoherent}
+use Rattle.tl_coherence.specs.{declared.event.Outcome.Outcome, statement.Coherent.IsCoherent, statement.Log.IsLog}
+use Rattle.tl_coherence.specs.{statement.Machine.Requests, statement.Machine.is_client, statement.Permissions.perm_le}
+use Rattle.tl_coherence.specs.{protocol.Protocol.view}
 use Rattle.tl_coherence.specs.statement.Delivery.{IsFifo, IsExact, capacity, sources_of}
 use Rattle.tl_coherence.specs.statement.Headline.{AreTyped, IsGiven, IsUnrefused}
-use Rattle.tl_coherence.specs.statement.Log.{IsLog}
-use Rattle.tl_coherence.specs.statement.Machine.{Requests, is_client}
-use Rattle.tl_coherence.specs.statement.Permissions.{perm_le}
-use Rattle.tl_coherence.specs.protocol.Protocol.{view}
-use Rattle.tl_coherence.proofs.memory.Coherence.{coherent-matched}
-use Rattle.tl_coherence.proofs.links.FifoOfChannels.{carried-passing, passing}
-use Rattle.tl_coherence.proofs.links.HeadsOfLinks.{first-of}
-use Rattle.tl_coherence.proofs.links.Granting.{granted-holds}
-use Rattle.tl_coherence.proofs.deliveries.Matching.{shadow, matched}
-use Rattle.tl_coherence.proofs.simulation.Owned.{channels-few}
-use Rattle.tl_coherence.proofs.links.Stalling.{exact}
-use Rattle.tl_coherence.proofs.queues.Facts.{held_at_most}
+use Rattle.tl_coherence.proofs.{memory.Coherence.coherent-matched, links.FifoOfChannels.carried-passing}
+use Rattle.tl_coherence.proofs.{links.FifoOfChannels.passing, links.HeadsOfLinks.first-of, links.Granting.granted-holds}
+use Rattle.tl_coherence.proofs.{deliveries.Matching.shadow, deliveries.Matching.matched, simulation.Owned.channels-few}
+use Rattle.tl_coherence.proofs.{links.Stalling.exact, queues.Facts.held_at_most}
 
 pub matched-given : {w : ℕ} (config : Config) (log : Log w) → IsGiven config log
     → SimulationRelation config log (shadow config log).mail (shadow config log).request (shadow config log).state
@@ -37,23 +29,19 @@ unrefused config log given = let is = matched-given config log given in
 pub channels : {w : ℕ} (config : Config) (log : Log w) → IsGiven config log → (link : ℕ) (ch : Channel)
     → length ((system_after config log).channels link ch) ≤ capacity (64 / w) (sources_of (terms_at config link))
     config.trackers ch
-channels config log given link ch = channels-few config log (shadow config log).mail (shadow config log).request
-    (shadow config log).state given.width (matched-given config log given) link ch
+channels config log given link ch = channels-few given.width (matched-given config log given) link ch
 
 pub coherent : {w : ℕ} (config : Config) (log : Log w) → IsGiven config log
     → IsCoherent (system_after config log) log (one_memory_after config log)
-coherent config log given = coherent-matched config log (shadow config log).mail (shadow config log).request
-    (shadow config log).state (matched-given config log given)
+coherent config log given = coherent-matched (matched-given config log given)
 
 -- a client has terms
 client_terms : (config : Config) (c : ℕ) → is_client config c ≡ true → (terms : EndConfig)
     × (terms_at config c ≡ Some terms)
-client_terms config c is = go (terms_at config c) refl is
-  where
-    go : (o : Option EndConfig) → terms_at config c ≡ o → is_some o ≡ true → (terms : EndConfig)
-        × (terms_at config c ≡ Some terms)
-    go (Some terms) e f = (terms, e)
-    go None e f = absurd cc
+client_terms config c is =
+    let go : (o : Option EndConfig) → terms_at config c ≡ o → is_some o ≡ true → (terms : EndConfig)
+    × (terms_at config c ≡ Some terms) = elim [ Some terms ↦ λ e f. (terms, e) | None ↦ λ e f. absurd cc ] in
+    go (terms_at config c) refl is
 
 pub stalls : {w : ℕ} (config : Config) (log : Log w) → IsGiven config log → (link : ℕ) (ch : Channel)
     → is_client config link ≡ true → IsExact config log link ch
@@ -70,15 +58,13 @@ carries config log given link ch =
     carried-passing config log link ch (passing config log given.width given.typed given.is_log)
 
 pub grants : {w : ℕ} (config : Config) (log : Log w) (link : Link) (ch : Channel) (x : Beat w) (source : ℕ) (p : Perm)
-    (op : Op w)
-    → IsGiven config ((Deliver link ch, outcome.Done x source (Granted p)) ∷ log)
+    (op : Op w) → IsGiven config ((Deliver link ch, Outcome.Done x source (Granted p)) ∷ log)
     → started link.0 Requests source log ≡ Some op
-    → held_at ((system_after config ((Deliver link ch, outcome.Done x source (Granted p)) ∷ log)).clients link.0)
+    → held_at ((system_after config ((Deliver link ch, Outcome.Done x source (Granted p)) ∷ log)).clients link.0)
     (op_block op) ≡ p
 unfolding system_after AreTyped IsLog
-grants config log link ch x source p op given asked =
-    granted-holds config log link ch (shadow config log) x source p op given.width
-    (matched config log given.width given.typed.1 given.is_log.1) (sym given.is_log.0) asked
+grants config log link ch x source p op given asked = granted-holds link ch (shadow config log) x source p op
+    given.width (matched config log given.width given.typed.1 given.is_log.1) (sym given.is_log.0) asked
 
 -- No client holds more of a block than is recorded for it.
 pub at_most_recorded : {w : ℕ} (config : Config) (log : Log w) → IsGiven config log → (link block : ℕ)

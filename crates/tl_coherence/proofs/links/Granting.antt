@@ -2,96 +2,74 @@
 use Rattle.tl_coherence.proofs.links.Imports.{IsWidth, Beat, Link, Channel, unfinished, Config, Op, Endpoint, Deliver}
 use Rattle.tl_coherence.proofs.links.Imports.{started, AbstractState, Log, system_after, is_on, packet}
 use Rattle.tl_coherence.proofs.links.Imports.{one_memory_after, message_of_kind, block_message, stepped, System, Kind}
-use Rattle.tl_coherence.proofs.links.Imports.{Request, Acquire, Probe, ProbeAck, Release, Answer, Grant, ReleaseAck}
-use Rattle.tl_coherence.proofs.links.Imports.{GrantAck, SimulationRelation, is_caching}
+use Rattle.tl_coherence.proofs.links.Imports.{Answer, Grant, ReleaseAck, SimulationRelation, is_caching, Message}
 use Rattle.std.proofs.Common.{◌≡◌, ℕ, Bool, true, false, List, ◌∷◌, Option, Some, None, refl, sym, ◌∙◌, ap}
 use Rattle.std.specs.Prelude.{option_map}
-use Rattle.tl_beat.specs.declared.beat.Beat.TheVariants as beat
-use Rattle.tl_beat.specs.declared.beat.BeatD.{BeatD}
-use Rattle.tl_beat.specs.declared.channel.Channel.TheVariants as channel
-use Rattle.tl_beat.specs.declared.opcode.OpD.{OpD}
-use Rattle.tl_beat.specs.declared.opcode.OpD.TheVariants as opd
-use Rattle.tl_burst.specs.declared.message.Message.TheVariants as message
-use Rattle.tl_burst.specs.declared.message.MessageD.{MessageD}
-use Rattle.tl_burst.specs.statement.Burst.{d_beat_of}
-use Rattle.tl_params.specs.declared.param.Cap.{Cap}
-use Rattle.tl_params.specs.declared.perm.Perm.{Perm}
-use Rattle.tl_params.specs.statement.Param.{cap_code, cap_right}
+use Rattle.tl_beat.{specs.declared.beat.BeatD.BeatD, specs.declared.opcode.OpD.OpD}
+use Rattle.tl_burst.{specs.declared.message.MessageD.MessageD, specs.statement.Burst.d_beat_of}
+use Rattle.tl_params.{specs.declared.param.Cap.Cap, specs.declared.perm.Perm.Perm, specs.statement.Param.cap_code}
+use Rattle.tl_params.{specs.statement.Param.cap_right}
 use Rattle.tl_rules.specs.statement.Admission.{payload_of}
 use Rattle.tl_rules.specs.statement.History.{held, request_of}
-use Rattle.tl_client.specs.declared.verdict.Finish.TheVariants as finish
-use Rattle.tl_client.specs.statement.Ask.{op_block}
-use Rattle.tl_client.specs.statement.Offer.{address_asked, finish_of}
-use Rattle.tl_manager.specs.statement.Handing.{grant_opcode}
-use Rattle.tl_manager.specs.statement.Service.{is_access_answer}
-use Rattle.tl_manager.proofs.blocks.Recording.{cap-gives}
-use Rattle.tl_coherence.specs.declared.event.Outcome.TheVariants as outcome
-use Rattle.tl_coherence.specs.refinement.MemoryRelation.{IsOpened, op_of}
+use Rattle.tl_client.{specs.declared.verdict.Finish.Finish, specs.statement.Ask.op_block}
+use Rattle.tl_client.{specs.statement.Offer.address_asked, specs.statement.Offer.finish_of}
+use Rattle.tl_manager.{specs.statement.Handing.grant_opcode, specs.statement.Service.is_access_answer}
+use Rattle.tl_manager.{proofs.blocks.Recording.cap-gives}
+use Rattle.tl_coherence.specs.{declared.event.Outcome.Outcome, refinement.MemoryRelation.IsOpened}
+use Rattle.tl_coherence.specs.{refinement.MemoryRelation.op_of, statement.Machine.Open, statement.Machine.Requests}
+use Rattle.tl_coherence.specs.{protocol.PhaseSteps.after_grant, protocol.Packet.Packet}
 use Rattle.tl_coherence.specs.refinement.AbstractStep.{abstract_step, kind_taken, taken_by_client}
-use Rattle.tl_coherence.specs.statement.Machine.{Open, Requests}
-use Rattle.tl_coherence.specs.protocol.Phase.{ClientBlock, AcquirePhase, NoAcquire, AcquireOpen, is_whole}
-use Rattle.tl_coherence.specs.protocol.PhaseSteps.{after_grant}
+use Rattle.tl_coherence.specs.protocol.Phase.{ClientBlock, AcquirePhase, AcquireOpen, is_whole}
 use Rattle.tl_coherence.specs.protocol.Protocol.{Service, Block, SourceState, Acquires, taken_block}
-use Rattle.tl_coherence.specs.protocol.Packet.{Packet}
-use Rattle.tl_coherence.proofs.memory.Coherence.{opened-started}
+use Rattle.tl_coherence.proofs.{memory.Coherence.opened-started, links.Ending.IsEnding, links.Ending.ending}
+use Rattle.tl_coherence.proofs.{client.DeliverD.finish_at, deliveries.Matching.matched-event}
+use Rattle.tl_coherence.proofs.{manager.UnwaitedRequests.next_tracker, queues.Tokens.set-same}
 use Rattle.tl_coherence.proofs.protocol.HeadOfD.{IsGrantDue, ack_message, answer-due, grant-due, grant-rendered}
 use Rattle.tl_coherence.proofs.protocol.HeadOfD.{grant_message}
-use Rattle.tl_coherence.proofs.links.Ending.{IsEnding, ending}
-use Rattle.tl_coherence.proofs.client.DeliverD.{finish_at}
-use Rattle.tl_coherence.proofs.deliveries.Matching.{matched-event}
-use Rattle.tl_coherence.proofs.manager.UnwaitedRequests.{next_tracker}
-use Rattle.tl_coherence.proofs.queues.Tokens.{set-same}
 
 -- ---- how a response ends its operation
 
-pub same-response : {w : ℕ} (m n : MessageD w) → message.D m ≡ message.D n → m ≡ n
+pub same-response : {w : ℕ} (m n : MessageD w) → Message.D m ≡ Message.D n → m ≡ n
 same-response m n e = cc
 
 pub granted-finish : (w : ℕ) (d : Bool) (k : Cap) (size address : ℕ) (payload : List ℕ)
-    → finish_of w (grant_opcode d) (cap_code k) size address payload ≡ finish.Granted (cap_right k)
-granted-finish w true k size address payload = ap finish.Granted (cap-gives k)
-granted-finish w false k size address payload = ap finish.Granted (cap-gives k)
+    → finish_of w (grant_opcode d) (cap_code k) size address payload ≡ Finish.Granted (cap_right k)
+granted-finish w true k size address payload = ap Finish.Granted (cap-gives k)
+granted-finish w false k size address payload = ap Finish.Granted (cap-gives k)
 
 answer_grants : (w : ℕ) (o : OpD) (param size address : ℕ) (payload : List ℕ) (p : Perm) → is_access_answer o ≡ true
-    → finish.Granted p ≡ finish_of w o param size address payload → ⊥
-answer_grants w opd.AccessAck param size address payload p e f = absurd cc
-answer_grants w opd.AccessAckData param size address payload p e f = absurd cc
-answer_grants w opd.HintAck param size address payload p e f = absurd cc
-answer_grants w opd.Grant param size address payload p e f = absurd cc
-answer_grants w opd.GrantData param size address payload p e f = absurd cc
-answer_grants w opd.ReleaseAck param size address payload p e f = absurd cc
+    → Finish.Granted p ≡ finish_of w o param size address payload → ⊥
+answer_grants w OpD.AccessAck param size address payload p e f = absurd cc
+answer_grants w o param size address payload p e f = absurd cc
 
-ack_grants : (p : Perm) → finish.Granted p ≡ finish.Released → ⊥
+ack_grants : (p : Perm) → Finish.Granted p ≡ Finish.Released → ⊥
 ack_grants p e = absurd cc
 
 -- at a beat
 pub granted-at : {w : ℕ} (y : BeatD w) (e : Endpoint w) (d : Bool) (k : Cap) → y.opcode ≡ grant_opcode d
-    → y.param ≡ cap_code k → finish_at y e ≡ finish.Granted (cap_right k)
+    → y.param ≡ cap_code k → finish_at y e ≡ Finish.Granted (cap_right k)
 granted-at {w} y e d k opcode param =
     let address = address_asked (request_of y.source e.past) in
-    let payload = payload_of (beat.D y ∷ unfinished channel.D e.past) in
+    let payload = payload_of (Beat.D y ∷ unfinished Channel.D e.past) in
     ap (λ o. finish_of w o y.param y.size address payload) opcode ∙ ap
     (λ i. finish_of w (grant_opcode d) i y.size address payload) param ∙ granted-finish w d k y.size address payload
 
 answer_at : {w : ℕ} (y : BeatD w) (e : Endpoint w) (p : Perm) → is_access_answer y.opcode ≡ true
-    → finish.Granted p ≡ finish_at y e → ⊥
+    → Finish.Granted p ≡ finish_at y e → ⊥
 answer_at {w} y e p is f = answer_grants w y.opcode y.param y.size (address_asked (request_of y.source e.past))
-    (payload_of (beat.D y ∷ unfinished channel.D e.past)) p is f
+    (payload_of (Beat.D y ∷ unfinished Channel.D e.past)) p is f
 
-pub released-at : {w : ℕ} (y : BeatD w) (e : Endpoint w) → y.opcode ≡ opd.ReleaseAck → finish_at y e ≡ finish.Released
-released-at {w} y e opcode =
-    ap (λ o. finish_of w o y.param y.size (address_asked (request_of y.source e.past))
-    (payload_of (beat.D y ∷ unfinished channel.D e.past))) opcode
+pub released-at : {w : ℕ} (y : BeatD w) (e : Endpoint w) → y.opcode ≡ OpD.ReleaseAck → finish_at y e ≡ Finish.Released
+released-at {w} y e opcode = cc opcode
 
-same_grant : (p q : Perm) → finish.Granted p ≡ finish.Granted q → p ≡ q
+same_grant : (p q : Perm) → Finish.Granted p ≡ Finish.Granted q → p ≡ q
 same_grant p q e = cc
 
 -- ---- the operation that it answers
 
 acquired_block : (w : ℕ) (x : AcquirePhase) (n : ℕ) (bytes : List ℕ) → op_block (op_of {w = w} x n bytes) ≡ n
 acquired_block w (AcquireOpen true g) n bytes = refl
-acquired_block w (AcquireOpen false g) n bytes = refl
-acquired_block w NoAcquire n bytes = refl
+acquired_block w x n bytes = refl
 
 pub opened-acquire : {w : ℕ} (config : Config) (log : Log w) (h : AbstractState w) (sys : System w) (c source n : ℕ)
     (u : SourceState)
@@ -99,43 +77,38 @@ pub opened-acquire : {w : ℕ} (config : Config) (log : Log w) (h : AbstractStat
     → (one_memory_after config log).opened c Requests source ≡ Some
     (record { asked = op_of ((h.state.block n).pair c).acquiring n ((h.state.block n).waiting c); answer = None })
 opened-acquire {w} config log h sys c source n u is e f =
+    let go : (v : SourceState) → v ≡ Acquires n
+    → IsOpened c source h.mail h.state v ((one_memory_after config log).opened c Requests source)
+    → (one_memory_after config log).opened c Requests source
+    ≡ Some (record {
+      asked = op_of ((h.state.block n).pair c).acquiring n ((h.state.block n).waiting c);
+      answer = None;
+    }) = λ v g i. rw g at i in
     go (h.state.uses c source) (e ∙ f) (is.beside.requests c source)
-  where
-    go : (v : SourceState) → v ≡ Acquires n
-        → IsOpened c source h.mail h.state v ((one_memory_after config log).opened c Requests source)
-        → (one_memory_after config log).opened c Requests source ≡ Some
-        (record {
-          asked = op_of ((h.state.block n).pair c).acquiring n ((h.state.block n).waiting c);
-          answer =
-              None;
-        })
-    go v g i = rw g at i
 
 same_op : {w : ℕ} (x y : Op w) → Some x ≡ Some y → x ≡ y
 same_op x y e = cc
 
 -- ---- what the client holds then
 
-pub held_granted : {w : ℕ} (config : Config) (tracker c n : ℕ) (rest : List Packet) (h : AbstractState w)
+pub held_granted : {w : ℕ} (config : Config) (tracker : ℕ) {c n : ℕ} (rest : List Packet) (h : AbstractState w)
     (due : IsGrantDue c n h.state)
     → (((kind_taken config tracker c Grant n rest h).state.block n).pair c).held ≡ cap_right due.k
-held_granted {w} config tracker c n rest h due =
+held_granted {w} config tracker {c} {n} rest h due =
+    let b : Block (List ℕ) = h.state.block n in
     ap (λ (v : Service). ((((taken_by_client c n v rest h).state).block n).pair c).held) due.service
     ∙ ap (λ (i : Block (List ℕ)). (i.pair c).held)
     (set-same n (taken_block c (is_whole (b.pair c).acquiring) due.data_too due.k b) h.state.block)
     ∙ ap (λ (p : ClientBlock). p.held) (set-same c (after_grant due.k (b.pair c)) b.pair)
-  where
-    b : Block (List ℕ)
-    b = h.state.block n
 
-pub granted-holds : {w : ℕ} (config : Config) (log : Log w) (link : Link) (ch : Channel) (h : AbstractState w)
+pub granted-holds : {w : ℕ} {config : Config} {log : Log w} (link : Link) (ch : Channel) (h : AbstractState w)
     (x : Beat w) (source : ℕ) (p : Perm) (op : Op w)
     → IsWidth w → SimulationRelation config log h.mail h.request h.state (system_after config log)
-    → (stepped config (Deliver link ch) (system_after config log)).outcome ≡ outcome.Done x source (finish.Granted p)
+    → (stepped config (Deliver link ch) (system_after config log)).outcome ≡ Outcome.Done x source (Finish.Granted p)
     → started link.0 Requests source log ≡ Some op
     → held (op_block op) ((stepped config (Deliver link ch) (system_after config log)).after.clients link.0).past ≡ p
 unfolding block_message
-granted-holds {w} config log link ch h x source p op width is done asked = go end.first.kind refl end.first.own
+granted-holds {w} {config} {log} link ch h x source p op width is done asked = go end.first.kind refl end.first.own
   where
     sys : System w
     sys = system_after config log
@@ -143,8 +116,8 @@ granted-holds {w} config log link ch h x source p op width is done asked = go en
     c : ℕ
     c = link.0
 
-    end : IsEnding config log link ch h x source (finish.Granted p)
-    end = ending config log link ch h x source (finish.Granted p) width is done
+    end : IsEnding config log link ch h x source (Finish.Granted p)
+    end = ending config log link ch h x source (Finish.Granted p) width is done
 
     n : ℕ
     n = end.first.number
@@ -152,14 +125,13 @@ granted-holds {w} config log link ch h x source p op width is done asked = go en
     tokens : (k : Kind) → end.first.kind ≡ k → (h.state.link c).d ≡ packet k n ∷ end.first.rest
     tokens k e = end.first.tokens ∙ ap (λ (i : Kind). packet i n ∷ end.first.rest) e
 
-    response_is : (k : Kind) → end.first.kind ≡ k → message_of_kind k h.mail h.state c n ≡ message.D end.response
+    response_is : (k : Kind) → end.first.kind ≡ k → message_of_kind k h.mail h.state c n ≡ Message.D end.response
     response_is k e = ap (λ (i : Kind). message_of_kind i h.mail h.state c n) (sym e) ∙ end.response_is
 
     then_matched : SimulationRelation config ((Deliver link ch, (stepped config (Deliver link ch) sys).outcome) ∷ log)
-        (abstract_step config (Deliver link ch) sys h).mail
-        (abstract_step config (Deliver link ch) sys h).request (abstract_step config (Deliver link ch) sys h).state
-        (stepped config (Deliver link ch) sys).after
-    then_matched = matched-event config log h (Deliver link ch) width tt is
+        (abstract_step config (Deliver link ch) sys h).mail (abstract_step config (Deliver link ch) sys h).request
+        (abstract_step config (Deliver link ch) sys h).state (stepped config (Deliver link ch) sys).after
+    then_matched = matched-event h (Deliver link ch) width tt is
 
     grant : (e : end.first.kind ≡ Grant)
         → held (op_block op) ((stepped config (Deliver link ch) sys).after.clients c).past ≡ p
@@ -167,17 +139,15 @@ granted-holds {w} config log link ch h x source p op width is done asked = go en
         let due = grant-due (is_caching config) c n end.first.rest h.state is.invariant (tokens Grant e) in
         let m : MessageD w = grant_message due.data_too due.k ((h.state.block n).source c) (h.state.block n).tracker
         (h.state.block n).truth in
-        let same : end.response ≡ m =
-        same-response end.response m (sym (response_is Grant e) ∙ grant-rendered c n h.state due) in
+        let same = same-response end.response m (sym (response_is Grant e) ∙ grant-rendered c n h.state due) in
         let cap_is : p ≡ cap_right due.k = same_grant p (cap_right due.k)
         (end.finish_is ∙ granted-at (d_beat_of end.response end.first.next.k) (sys.clients c) due.data_too due.k
         (ap (λ (i : MessageD w). i.opcode) same) (ap (λ (i : MessageD w). i.param) same)) in
         let from : source ≡ (h.state.block n).source c = end.source_is ∙ ap (λ (i : MessageD w). i.source) same in
         let opened = opened-acquire config log h sys c source n (h.state.uses c source) is refl
         (ap (h.state.uses c) from ∙ due.used) in
-        let op_is : op ≡ op_of ((h.state.block n).pair c).acquiring n ((h.state.block n).waiting c) =
-        same_op op _ (sym asked ∙ sym (opened-started config log c Requests source) ∙ ap
-        (λ (o : Option (Open w)). option_map (λ i. i.asked) o) opened) in
+        let op_is = same_op op _ (sym asked ∙ sym (opened-started config log c Requests source)
+        ∙ ap (λ (o : Option (Open w)). option_map (λ i. i.asked) o) opened) in
         let block_is : op_block op ≡ n = ap op_block op_is ∙ acquired_block w ((h.state.block n).pair c).acquiring n
         ((h.state.block n).waiting c) in
         ap (λ (i : ℕ). held i ((stepped config (Deliver link ch) sys).after.clients c).past)
@@ -186,16 +156,15 @@ granted-holds {w} config log link ch h x source p op width is done asked = go en
         ∙ ap (λ (i : AbstractState w). ((i.state.block n).pair c).held) end.follows ∙ ap
         (λ (k : Kind). (((kind_taken config (next_tracker sys) c k n end.first.rest h).state.block n).pair c).held)
         e
-        ∙ held_granted config (next_tracker sys) c n end.first.rest h due ∙ sym cap_is
+        ∙ held_granted config (next_tracker sys) end.first.rest h due ∙ sym cap_is
 
-    go : (k : Kind) → end.first.kind ≡ k → is_on channel.D end.first.kind ≡ true
+    go : (k : Kind) → end.first.kind ≡ k → is_on Channel.D end.first.kind ≡ true
         → held (op_block op) ((stepped config (Deliver link ch) sys).after.clients c).past ≡ p
     go Grant e own = grant e
     go Answer e own =
         let due = answer-due (is_caching config) c n end.first.rest h.mail h.state is.invariant (is.answered c n)
         (tokens Answer e) in
-        let same : end.response ≡ due.answer =
-        same-response end.response due.answer (sym (response_is Answer e) ∙ due.answer_is) in
+        let same = same-response end.response due.answer (sym (response_is Answer e) ∙ due.answer_is) in
         absurd (answer_at (d_beat_of end.response end.first.next.k) (sys.clients c) p
         (ap (λ (i : MessageD w). is_access_answer i.opcode) same ∙ due.answers_access) end.finish_is)
     go ReleaseAck e own =
@@ -203,9 +172,4 @@ granted-holds {w} config log link ch h x source p op width is done asked = go en
         let same : end.response ≡ m = same-response end.response m (sym (response_is ReleaseAck e)) in
         absurd (ack_grants p (end.finish_is ∙ released-at (d_beat_of end.response end.first.next.k) (sys.clients c)
         (ap (λ (i : MessageD w). i.opcode) same)))
-    go Request e own = absurd (let f : false ≡ true = rw e at own in cc)
-    go Acquire e own = absurd (let f : false ≡ true = rw e at own in cc)
-    go Probe e own = absurd (let f : false ≡ true = rw e at own in cc)
-    go ProbeAck e own = absurd (let f : false ≡ true = rw e at own in cc)
-    go Release e own = absurd (let f : false ≡ true = rw e at own in cc)
-    go GrantAck e own = absurd (let f : false ≡ true = rw e at own in cc)
+    go k e own = absurd (let f : false ≡ true = rw e at own in cc)

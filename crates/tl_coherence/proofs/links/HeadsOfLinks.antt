@@ -2,91 +2,74 @@
 -- on channel B it is a Probe.
 use Rattle.tl_coherence.proofs.links.Imports.{IsWidth, Beat, Channel, Message, beat_of, channel_of, unfinished, Config}
 use Rattle.tl_coherence.proofs.links.Imports.{Verdict, EndConfig, AbstractState, Log, system_after, packet, is_on}
-use Rattle.tl_coherence.proofs.links.Imports.{message_of_kind, block_message, System, terms_at, Kind, Request, Acquire}
-use Rattle.tl_coherence.proofs.links.Imports.{Probe, ProbeAck, Release, Answer, Grant, ReleaseAck, GrantAck}
-use Rattle.tl_coherence.proofs.links.Imports.{SimulationRelation, is_caching}
+use Rattle.tl_coherence.proofs.links.Imports.{message_of_kind, block_message, System, terms_at, Kind, Answer, Grant}
+use Rattle.tl_coherence.proofs.links.Imports.{ReleaseAck, SimulationRelation, is_caching}
 use Rattle.std.proofs.Common.{◌≡◌, ℕ, Bool, true, false, List, ◌∷◌, Option, Some, refl, sym, ◌∙◌, ap, subst}
 use Rattle.std.specs.Prelude.{map, Result, Ok, Err}
-use Rattle.tl_beat.specs.declared.beat.Beat.TheVariants as beat
 use Rattle.tl_beat.specs.declared.beat.BeatB.{BeatB}
-use Rattle.tl_beat.specs.declared.channel.Channel.TheVariants as channel
-use Rattle.tl_params.specs.declared.param.Cap.{Cap}
-use Rattle.tl_params.specs.declared.rule.Rule.{Rule}
+use Rattle.tl_params.{specs.declared.param.Cap.Cap, specs.declared.rule.Rule.Rule}
 use Rattle.tl_rules.specs.statement.History.{is_probe}
-use Rattle.tl_client.specs.declared.verdict.Verdict.TheVariants as verdict
-use Rattle.tl_client.specs.laws.After.{is_refused}
+use Rattle.tl_client.{specs.laws.After.is_refused, proofs.messages.Calls.kept_up}
 use Rattle.tl_client.specs.statement.Offer.{Offered, offered, silent, taken}
 use Rattle.tl_manager.specs.statement.End as manager_end
 use Rattle.tl_manager.specs.statement.Offer as manager
 use Rattle.tl_coherence.specs.protocol.Phase.{is_unreleased}
 use Rattle.tl_coherence.specs.refinement.PacketMessages.{cap_sent, message_of, probe_beat, prune_told, report_told}
-use Rattle.tl_coherence.proofs.queues.Carried.{IsNext}
-use Rattle.tl_coherence.proofs.client.ClientDelivered.{shadow_of, delivered-d}
-use Rattle.tl_client.proofs.messages.Calls.{kept_up}
+use Rattle.tl_coherence.proofs.{queues.Carried.IsNext, client.ClientDelivered.shadow_of}
+use Rattle.tl_coherence.proofs.{client.ClientDelivered.delivered-d, queues.FirstToken.first-token}
+use Rattle.tl_coherence.proofs.{manager.ManagerTakes.by-first_c, manager.ManagerTakes.by-first_e}
+use Rattle.tl_coherence.proofs.{client.ProbeDelivered.IsProbed, client.ProbeDelivered.delivered-b}
+use Rattle.tl_coherence.proofs.{manager.Reporting.report-about, manager.Reporting.release-about}
+use Rattle.tl_coherence.proofs.{manager.UnwaitedRequests.next_tracker, memory.Runs.IsTakenUp, memory.Runs.IsTakenIn}
+use Rattle.tl_coherence.proofs.{links.Stalling.IsFirst}
 use Rattle.tl_coherence.proofs.protocol.HeadOfD.{answer-due, grant-due, grant-rendered}
 use Rattle.tl_coherence.proofs.queues.FirstToken as packet
-use Rattle.tl_coherence.proofs.queues.FirstToken.{first-token}
 use Rattle.tl_coherence.proofs.deliveries.ManagerDelivered.{channel_c-delivered, channel_e-delivered}
-use Rattle.tl_coherence.proofs.manager.ManagerTakes.{by-first_c, by-first_e}
-use Rattle.tl_coherence.proofs.client.ProbeDelivered.{IsProbed, delivered-b}
-use Rattle.tl_coherence.proofs.manager.Reporting.{report-about, release-about}
 use Rattle.tl_coherence.proofs.deliveries.FirstRequest.{IsArrival, arrival-first, request-taken, request-stalled}
-use Rattle.tl_coherence.proofs.manager.UnwaitedRequests.{next_tracker}
-use Rattle.tl_coherence.proofs.memory.Runs.{IsTakenUp, IsTakenIn}
-use Rattle.tl_coherence.proofs.links.Stalling.{IsFirst}
 
 -- ---- the channel of the first beat
 
-on_a : {w : ℕ} (config : Config) (log : Log w) (h : AbstractState w) (sys : System w) (c : ℕ) (x : Beat w)
-    (queue : List (Beat w)) → IsWidth w
-    → SimulationRelation config log h.mail h.request h.state sys → sys.channels c channel.A ≡ x ∷ queue
-    → channel_of x ≡ channel.A
-on_a {w} config log h sys c x queue width is beats = let arrives =
-    arrival-first config log h sys c x queue width is beats in ap (λ (y : Beat w). channel_of y) arrives.next.beat_is
+on_a : {w : ℕ} {config : Config} {log : Log w} (h : AbstractState w) {sys : System w} (c : ℕ) (x : Beat w)
+    (queue : List (Beat w)) → IsWidth w → SimulationRelation config log h.mail h.request h.state sys
+    → sys.channels c Channel.A ≡ x ∷ queue → channel_of x ≡ Channel.A
+on_a {w} {config} {log} h {sys} c x queue width is beats = let arrives =
+    arrival-first h c x queue width is beats in ap (λ (y : Beat w). channel_of y) arrives.next.beat_is
 
-on_c : {w : ℕ} (config : Config) (log : Log w) (h : AbstractState w) (sys : System w) (c : ℕ) (x : Beat w)
-    (queue : List (Beat w)) → IsWidth w
-    → SimulationRelation config log h.mail h.request h.state sys → sys.channels c channel.C ≡ x ∷ queue
-    → channel_of x ≡ channel.C
+on_c : {w : ℕ} {config : Config} {log : Log w} (h : AbstractState w) {sys : System w} (c : ℕ) (x : Beat w)
+    (queue : List (Beat w)) → IsWidth w → SimulationRelation config log h.mail h.request h.state sys
+    → sys.channels c Channel.C ≡ x ∷ queue → channel_of x ≡ Channel.C
 unfolding block_message
-on_c {w} config log h sys c x queue width is beats =
-    by-first_c (λ i. channel_of x ≡ channel.C) c h.mail h.state sys x queue
-    (first-token (is_caching config) channel.C c h.mail h.state sys x queue width is.invariant is.carried beats)
-    (λ n rest tokens next.
-    let m = report-about (report_told ((h.state.block n).pair c).probing) n (h.state.block n).truth width
-    (is.sized n).truth in
-    ap (λ (y : Beat w). channel_of y) (next.beat_is ∙ ap (λ (i : Message w). beat_of i next.k) m.1))
-    (λ n rest tokens next.
-    let m = release-about (prune_told ((h.state.block n).pair c).letting) ((h.state.block n).release_source c) n
-    (h.state.block n).truth width (is.sized n).truth in
-    ap (λ (y : Beat w). channel_of y) (next.beat_is ∙ ap (λ (i : Message w). beat_of i next.k) m.1))
+on_c {w} {config} h {sys} c x queue width is beats = cc (by-first_c (λ i. channel_of x ≡ Channel.C) c h.mail h.state sys
+    x queue (first-token (is_caching config) Channel.C c h.mail h.state sys x queue width is.invariant is.carried beats)
+    (λ n rest tokens next. let m = report-about (report_told ((h.state.block n).pair c).probing) n (h.state.block
+    n).truth width (is.sized n).truth in ap (λ (y : Beat w). channel_of y) (next.beat_is ∙ ap (λ (i : Message w).
+    beat_of i next.k) m.1)) (λ n rest tokens next. let m = release-about (prune_told ((h.state.block n).pair c).letting)
+    ((h.state.block n).release_source c) n (h.state.block n).truth width (is.sized n).truth in ap (λ (y : Beat w).
+    channel_of y) (next.beat_is ∙ ap (λ (i : Message w). beat_of i next.k) m.1)))
 
-on_e : {w : ℕ} (config : Config) (log : Log w) (h : AbstractState w) (sys : System w) (c : ℕ) (x : Beat w)
-    (queue : List (Beat w)) → IsWidth w
-    → SimulationRelation config log h.mail h.request h.state sys → sys.channels c channel.E ≡ x ∷ queue
-    → channel_of x ≡ channel.E
+on_e : {w : ℕ} {config : Config} {log : Log w} (h : AbstractState w) {sys : System w} (c : ℕ) (x : Beat w)
+    (queue : List (Beat w)) → IsWidth w → SimulationRelation config log h.mail h.request h.state sys
+    → sys.channels c Channel.E ≡ x ∷ queue → channel_of x ≡ Channel.E
 unfolding block_message
-on_e {w} config log h sys c x queue width is beats =
-    by-first_e (λ i. channel_of x ≡ channel.E) c h.mail h.state sys x queue
-    (first-token (is_caching config) channel.E c h.mail h.state sys x queue width is.invariant is.carried beats)
-    (λ n rest tokens next. ap (λ (y : Beat w). channel_of y) next.beat_is)
+on_e {w} {config} h {sys} c x queue width is beats =
+    by-first_e (λ i. channel_of x ≡ Channel.E) (first-token (is_caching config) Channel.E c h.mail h.state sys x queue
+    width is.invariant is.carried beats) (λ n rest tokens next. ap (λ (y : Beat w). channel_of y) next.beat_is)
 
-on_d : {w : ℕ} (config : Config) (log : Log w) (h : AbstractState w) (sys : System w) (c : ℕ) (x : Beat w)
-    (queue : List (Beat w)) → IsWidth w
-    → SimulationRelation config log h.mail h.request h.state sys → sys.channels c channel.D ≡ x ∷ queue
-    → channel_of x ≡ channel.D
+on_d : {w : ℕ} {config : Config} {log : Log w} (h : AbstractState w) {sys : System w} (c : ℕ) (x : Beat w)
+    (queue : List (Beat w)) → IsWidth w → SimulationRelation config log h.mail h.request h.state sys
+    → sys.channels c Channel.D ≡ x ∷ queue → channel_of x ≡ Channel.D
 unfolding block_message
-on_d {w} config log h sys c x queue width is beats = go first.kind first.number first.tokens first.own first.next
+on_d {w} {config} h {sys} c x queue width is beats = go first.kind first.number first.tokens first.own first.next
   where
-    first : packet.IsFirst channel.D c h.mail h.state sys x queue
-    first = first-token (is_caching config) channel.D c h.mail h.state sys x queue width is.invariant is.carried beats
+    first : packet.IsFirst Channel.D c h.mail h.state sys x queue
+    first = first-token (is_caching config) Channel.D c h.mail h.state sys x queue width is.invariant is.carried beats
 
     Next : Kind → ℕ → Type 0
-    Next k i = IsNext x (unfinished channel.D (sys.clients c).past) (message_of_kind k h.mail h.state c i)
+    Next k i = IsNext x (unfinished Channel.D (sys.clients c).past) (message_of_kind k h.mail h.state c i)
         (map (message_of h.mail h.state c) first.rest) queue
 
-    go : (k : Kind) (i : ℕ) → (h.state.link c).d ≡ packet k i ∷ first.rest → is_on channel.D k ≡ true → Next k i
-        → channel_of x ≡ channel.D
+    go : (k : Kind) (i : ℕ) → (h.state.link c).d ≡ packet k i ∷ first.rest → is_on Channel.D k ≡ true → Next k i
+        → channel_of x ≡ Channel.D
     go Answer i tokens own next =
         let due = answer-due (is_caching config) c i first.rest h.mail h.state is.invariant (is.answered c i) tokens in
         ap (λ (y : Beat w). channel_of y) (next.beat_is ∙ ap (λ (m : Message w). beat_of m next.k) due.answer_is)
@@ -95,19 +78,14 @@ on_d {w} config log h sys c x queue width is beats = go first.kind first.number 
         ap (λ (y : Beat w). channel_of y) (next.beat_is ∙ ap (λ (m : Message w). beat_of m next.k)
         (grant-rendered c n h.state due))
     go ReleaseAck n tokens own next = ap (λ (y : Beat w). channel_of y) next.beat_is
-    go Request i tokens own next = absurd cc
-    go Acquire i tokens own next = absurd cc
-    go Probe i tokens own next = absurd cc
-    go ProbeAck i tokens own next = absurd cc
-    go Release i tokens own next = absurd cc
-    go GrantAck i tokens own next = absurd cc
+    go k i tokens own next = absurd cc
 
 -- a beat of another channel is none of B
-not_probe : {w : ℕ} (x : Beat w) (y : BeatB w) (ch : Channel) → channel_of x ≡ ch → (ch ≡ channel.B → ⊥) → x ≡ beat.B y
+not_probe : {w : ℕ} (x : Beat w) (y : BeatB w) (ch : Channel) → channel_of x ≡ ch → (ch ≡ Channel.B → ⊥) → x ≡ Beat.B y
     → is_probe y.opcode ≡ true
 not_probe {w} x y ch on other e = absurd (other (sym on ∙ ap (λ (z : Beat w). channel_of z) e))
 
-same_b : {w : ℕ} (x y : BeatB w) → beat.B x ≡ beat.B y → x ≡ y
+same_b : {w : ℕ} (x y : BeatB w) → Beat.B x ≡ Beat.B y → x ≡ y
 same_b x y e = cc
 
 -- ---- no rule refuses it
@@ -125,35 +103,32 @@ taken_up {w} a b e is = subst (λ (o : Offered w). IsTakenUp o.answer) (sym e) i
 -- ---- each channel
 
 pub first-of : {w : ℕ} (config : Config) (log : Log w) (h : AbstractState w) (c : ℕ) (terms : EndConfig) (ch : Channel)
-    (x : Beat w) (queue : List (Beat w)) → IsWidth w
-    → SimulationRelation config log h.mail h.request h.state (system_after config log)
-    → terms_at config c ≡ Some terms → (system_after config log).channels c ch ≡ x ∷ queue
+    (x : Beat w) (queue : List (Beat w)) → IsWidth w → SimulationRelation config log h.mail h.request h.state
+    (system_after config log) → terms_at config c ≡ Some terms → (system_after config log).channels c ch ≡ x ∷ queue
     → IsFirst config terms c ch x (system_after config log)
-first-of {w} config log h c terms channel.A x queue width is at beats =
+first-of {w} config log h c terms Channel.A x queue width is at beats =
     let sys : System w = system_after config log in
-    let on = on_a config log h sys c x queue width is beats in
+    let on = on_a h c x queue width is beats in
     record {
       on = on;
-      taken =
-          (λ e. absurd cc, λ e. either (manager.must_wait config (record { 0 = c }) x sys.manager.trace) refl);
-      probes =
-          λ y e. not_probe x y channel.A on (λ f. absurd cc) e;
+      taken = (λ e. absurd cc, λ e. either (manager.must_wait config (record { 0 = c }) x sys.manager.trace) refl);
+      probes = λ y e. not_probe x y Channel.A on (λ f. absurd cc) e;
     }
   where
     arrives : IsArrival config h (system_after config log) c x queue
-    arrives = arrival-first config log h (system_after config log) c x queue width is beats
+    arrives = arrival-first h c x queue width is beats
 
     either : (b : Bool) → manager.must_wait config (record { 0 = c }) x (system_after config log).manager.trace ≡ b
-        → IsTakenIn (manager.offered config (record { 0 = c }) channel.A x (system_after config log).manager)
-    either true e = taken_in _ _ (request-stalled config log h (system_after config log) c x queue is beats arrives e)
-        tt
-    either false e = taken_in _ _ (request-taken config log h (system_after config log) c x queue width is beats arrives
-        e) tt
-first-of {w} config log h c terms channel.B x queue width is at beats =
+        → IsTakenIn (manager.offered config (record { 0 = c }) Channel.A x (system_after config log).manager)
+    either true e = taken_in _ _ (request-stalled is beats arrives e) tt
+    either false e = taken_in _ _ (request-taken width is beats arrives e) tt
+first-of {w} config log h c terms Channel.B x queue width is at beats =
+    let k : Cap = cap_sent ((h.state.block probed.0).pair c).probing in
+    let is_one : (y : BeatB w) → Beat.B (probe_beat probed.0 k) ≡ Beat.B y → is_probe y.opcode ≡ true =
+    λ y e. ap (λ (z : BeatB w). is_probe z.opcode) (sym (same_b (probe_beat probed.0 k) y e)) in
     record {
       on = ap (λ (y : Beat w). channel_of y) probed.1.beat_is;
-      taken =
-          (λ e. either (is_unreleased ((h.state.block probed.0).pair c).letting) refl, λ e. absurd cc);
+      taken = (λ e. either (is_unreleased ((h.state.block probed.0).pair c).letting) refl, λ e. absurd cc);
       probes = λ y e. is_one y (sym probed.1.beat_is ∙ e);
     }
   where
@@ -162,50 +137,42 @@ first-of {w} config log h c terms channel.B x queue width is at beats =
 
     probed : (n : ℕ) × IsProbed config terms (next_tracker sys) c n (shadow_of h.mail h.request h.state) x
         (sys.clients c)
-    probed = delivered-b config log h.mail h.request h.state sys terms (next_tracker sys) c x queue width is at beats
+    probed = delivered-b terms (next_tracker sys) c x queue width is at beats
 
     either : (b : Bool) → is_unreleased ((h.state.block probed.0).pair c).letting ≡ b
-        → IsTakenUp (offered terms channel.B x (sys.clients c)).answer
-    either true e = taken_up (offered terms channel.B x (sys.clients c)) (taken x (sys.clients c)) (probed.1.takes e)
+        → IsTakenUp (offered terms Channel.B x (sys.clients c)).answer
+    either true e = taken_up (offered terms Channel.B x (sys.clients c)) (taken x (sys.clients c)) (probed.1.takes e)
         (unrefused_up (taken x (sys.clients c)).answer (kept_up x (sys.clients c)))
-    either false e = taken_up (offered terms channel.B x (sys.clients c)) (silent verdict.Stalled (sys.clients c))
+    either false e = taken_up (offered terms Channel.B x (sys.clients c)) (silent Verdict.Stalled (sys.clients c))
         (probed.1.waits_for e) tt
-
-    k : Cap
-    k = cap_sent ((h.state.block probed.0).pair c).probing
-
-    is_one : (y : BeatB w) → beat.B (probe_beat probed.0 k) ≡ beat.B y → is_probe y.opcode ≡ true
-    is_one y e = ap (λ (z : BeatB w). is_probe z.opcode) (sym (same_b (probe_beat probed.0 k) y e))
-first-of {w} config log h c terms channel.C x queue width is at beats =
+first-of {w} config log h c terms Channel.C x queue width is at beats =
     let sys : System w = system_after config log in
-    let on = on_c config log h sys c x queue width is beats in
-    let d = channel_c-delivered config log (next_tracker sys) h sys c x queue width is beats in
+    let on = on_c h c x queue width is beats in
+    let d = channel_c-delivered (next_tracker sys) h c x queue width is beats in
     record {
       on = on;
       taken = (λ e. absurd cc, λ e. taken_in _ _ d.up.answer tt);
-      probes =
-          λ y e. not_probe x y channel.C on (λ f. absurd cc) e;
+      probes = λ y e. not_probe x y Channel.C on (λ f. absurd cc) e;
     }
-first-of {w} config log h c terms channel.D x queue width is at beats =
+first-of {w} config log h c terms Channel.D x queue width is at beats =
     let sys : System w = system_after config log in
-    let on = on_d config log h sys c x queue width is beats in
-    let d = delivered-d config log h.mail h.request h.state sys terms (next_tracker sys) c x queue width is at beats in
+    let on = on_d h c x queue width is beats in
+    let d = delivered-d terms (next_tracker sys) c x queue width is at beats in
     record {
       on = on;
       taken = (
-        λ e. taken_up (offered terms channel.D x (sys.clients c)) (taken x (sys.clients c)) d.takes
+        λ e. taken_up (offered terms Channel.D x (sys.clients c)) (taken x (sys.clients c)) d.takes
             (unrefused_up (taken x (sys.clients c)).answer (kept_up x (sys.clients c))),
         λ e. absurd cc,
       );
-      probes = λ y e. not_probe x y channel.D on (λ f. absurd cc) e;
+      probes = λ y e. not_probe x y Channel.D on (λ f. absurd cc) e;
     }
-first-of {w} config log h c terms channel.E x queue width is at beats =
+first-of {w} config log h c terms Channel.E x queue width is at beats =
     let sys : System w = system_after config log in
-    let on = on_e config log h sys c x queue width is beats in
-    let d = channel_e-delivered config log (next_tracker sys) h sys c x queue width is beats in
+    let on = on_e h c x queue width is beats in
+    let d = channel_e-delivered (next_tracker sys) h c x queue width is beats in
     record {
       on = on;
       taken = (λ e. absurd cc, λ e. taken_in _ _ d.up.answer tt);
-      probes =
-          λ y e. not_probe x y channel.E on (λ f. absurd cc) e;
+      probes = λ y e. not_probe x y Channel.E on (λ f. absurd cc) e;
     }

@@ -6,43 +6,31 @@ use Rattle.tl_coherence.proofs.links.Imports.{is_to_client, stepped, System, ter
 use Rattle.std.proofs.Common.{◌≡◌, ℕ, Bool, true, false, List, [], ◌∷◌, refl, sym, ◌∙◌, ap}
 use Rattle.std.specs.Prelude.{not, ◌&&◌, if◌then◌else◌, Option, Some, None, is_none, is_some, option_map, Result, Ok}
 use Rattle.std.specs.Prelude.{Err}
-use Rattle.std.proofs.Math.Bool.{and-false}
-use Rattle.std.proofs.lemmas.Bool.{not-true, not-false}
-use Rattle.tl_beat.specs.declared.beat.Beat.TheVariants as beat
+use Rattle.std.{proofs.Math.Bool.and-false, proofs.lemmas.Bool.not-true, proofs.lemmas.Bool.not-false}
 use Rattle.tl_beat.specs.declared.beat.BeatB.{BeatB}
-use Rattle.tl_beat.specs.declared.channel.Channel.TheVariants as channel
-use Rattle.tl_burst.specs.declared.message.MessageA.{MessageA}
-use Rattle.tl_burst.specs.statement.Part.{is_empty}
-use Rattle.tl_params.specs.declared.level.Level.{Level}
-use Rattle.tl_params.specs.declared.param.Prune.{Prune}
-use Rattle.tl_params.specs.declared.rule.Rule.{Rule}
-use Rattle.tl_params.specs.declared.key.Key.TheVariants.{ReleaseOf}
+use Rattle.tl_burst.{specs.declared.message.MessageA.MessageA, specs.statement.Part.is_empty}
+use Rattle.tl_params.{specs.declared.level.Level.Level, specs.declared.param.Prune.Prune, specs.declared.rule.Rule.Rule}
+use Rattle.tl_params.{specs.declared.key.Key.TheVariants.ReleaseOf}
 use Rattle.tl_rules.specs.statement.History.{block_at, is_probe, pending}
-use Rattle.tl_client.specs.declared.verdict.Verdict.TheVariants as verdict
-use Rattle.tl_client.specs.declared.operation.Op.TheVariants.{Release}
+use Rattle.tl_client.{specs.declared.operation.Op.TheVariants.Release, specs.statement.Offer.offered}
 use Rattle.tl_client.specs.statement.Endpoint as client
 use Rattle.tl_client.specs.statement.Offer as offer
-use Rattle.tl_client.specs.statement.Offer.{offered}
 use Rattle.tl_manager.specs.statement.End as manager_end
 use Rattle.tl_manager.specs.statement.Offer as manager
-use Rattle.tl_manager.specs.statement.Offer.{must_wait, Judgement, Breaks, Waits, Passes, breaks_or, waits_or}
-use Rattle.tl_manager.specs.statement.Offer.{is_waiting, offered_as, judged_on, judged_at, open_level}
+use Rattle.tl_manager.specs.statement.Offer.{must_wait, Judgement, Passes, breaks_or, waits_or, is_waiting, offered_as}
+use Rattle.tl_manager.specs.statement.Offer.{judged_on, judged_at, open_level}
 use Rattle.tl_manager.proofs.judging.Stalls.{never-stalled}
-use Rattle.tl_coherence.specs.refinement.MemoryRelation.{IsLet}
-use Rattle.tl_coherence.specs.statement.Coherent.{IsCoherent}
+use Rattle.tl_coherence.specs.{refinement.MemoryRelation.IsLet, statement.Coherent.IsCoherent, protocol.Invariant.is_of}
+use Rattle.tl_coherence.specs.{protocol.Invariant.releases_with, protocol.Phase.is_unreleased, protocol.Protocol.State}
+use Rattle.tl_coherence.specs.{refinement.PacketMessages.AccessMessages}
 use Rattle.tl_coherence.specs.statement.Delivery.{IsExact, IsReleasing, Moves, is_emptiness, is_stall}
 use Rattle.tl_coherence.specs.statement.Delivery.{outcome_of_delivery}
-use Rattle.tl_coherence.specs.protocol.Invariant.{is_of, releases_with}
 use Rattle.tl_coherence.specs.statement.Machine.{Open, Releases, is_client}
 use Rattle.tl_coherence.specs.statement.Movable.{is_movable, moves, stalls}
-use Rattle.tl_coherence.specs.protocol.Phase.{is_unreleased}
-use Rattle.tl_coherence.specs.protocol.Protocol.{State}
-use Rattle.tl_coherence.specs.refinement.PacketMessages.{AccessMessages}
 use Rattle.tl_coherence.specs.statement.Step.{delivered, judged, manager_took, stepped_at}
-use Rattle.tl_coherence.proofs.protocol.TokenNames.{source_of_release}
+use Rattle.tl_coherence.proofs.{protocol.TokenNames.source_of_release, queues.Tokens.same_number}
+use Rattle.tl_coherence.proofs.{queues.Phases.and_left}
 use Rattle.tl_coherence.proofs.memory.Runs.{IsTaken, IsTakenUp, IsTakenIn, stall-delivered}
-use Rattle.tl_coherence.proofs.queues.Tokens.{same_number}
-use Rattle.tl_coherence.proofs.queues.Phases.{and_left}
 
 -- ---- a request at the manager
 
@@ -50,10 +38,9 @@ waits-as-it-must : {w : ℕ} (config : Config) (link : _) (x : Beat w) (e : mana
     (must : Bool) (rest : Judgement) → is_waiting rest ≡ false
     → IsTakenIn (offered_as (breaks_or a (breaks_or b (waits_or must rest))) config link x e)
     → is_waiting (breaks_or a (breaks_or b (waits_or must rest))) ≡ must
-waits-as-it-must config link x e (Some r) b must rest silent taken = absurd taken
-waits-as-it-must config link x e None (Some r) must rest silent taken = absurd taken
 waits-as-it-must config link x e None None true rest silent taken = refl
 waits-as-it-must config link x e None None false rest silent taken = silent
+waits-as-it-must config link x e a b must rest silent taken = absurd taken
 
 passes-or-breaks : (a b : Option Rule) → is_waiting (breaks_or a (breaks_or b Passes)) ≡ false
 passes-or-breaks (Some r) b = refl
@@ -76,11 +63,10 @@ stalled-as-it-must config link ch x e taken = go (open_level config link e) take
 up-unbroken : {w : ℕ} (terms : EndConfig) (ch : Channel) (x : Beat w) (e : client.Endpoint w)
     → IsTakenUp (offered terms ch x e).answer → is_none (offer.broken_before terms ch x e) ≡ true
 unfolding offered
-up-unbroken terms ch x e taken = go (offer.broken_before terms ch x e) taken
-  where
-    go : (o : Option Rule) → IsTakenUp (offer.judged o terms x e).answer → is_none o ≡ true
-    go None is = refl
-    go (Some r) refused = absurd refused
+up-unbroken terms ch x e taken =
+    let go : (o : Option Rule) → IsTakenUp (offer.judged o terms x e).answer → is_none o ≡ true =
+    elim [ None ↦ λ is. refl | Some r ↦ λ refused. absurd refused ] in
+    go (offer.broken_before terms ch x e) taken
 
 stalled-as-it-waits : {w : ℕ} (terms : EndConfig) (ch : Channel) (x : Beat w) (e : client.Endpoint w)
     → IsTakenUp (offered terms ch x e).answer → offer.stalls terms ch x e ≡ offer.waits x e.past
@@ -96,24 +82,21 @@ module _ {w : ℕ} (config : Config) (log : Log w) (mail : AccessMessages w) (re
     (s : State (List ℕ)) (matched : SimulationRelation config log mail request s (system_after config log))
     (coherent : IsCoherent (system_after config log) log (one_memory_after config log)) (c n : ℕ) where
   pub releasing-started : pending (ReleaseOf n) ((system_after config log).clients c).past ≡ true → IsReleasing c n log
-  releasing-started p = let found = of_let (rw let_by at (matched.beside.releases c source)) in
+  releasing-started p =
+      let not_kept = not-true (is_unreleased ((s.block n).pair c).letting) (sym ((matched.known c).releases n) ∙ p) in
+      let let_by : s.lets c source ≡ Some n = source_of_release c n matched.invariant not_kept in
+      let found = of_let (rw let_by at (matched.beside.releases c source)) in
       (source, found.0, found.1)
     where
-      not_kept : is_unreleased ((s.block n).pair c).letting ≡ false
-      not_kept = not-true (is_unreleased ((s.block n).pair c).letting) (sym ((matched.known c).releases n) ∙ p)
-
       source : ℕ
       source = (s.block n).release_source c
-
-      let_by : s.lets c source ≡ Some n
-      let_by = source_of_release _ s c n matched.invariant not_kept
 
       of_let : IsLet (Some n) ((one_memory_after config log).opened c Releases source)
           → (prune : Prune) × (started c Releases source log ≡ Some (Release n prune))
       of_let (p, is) = (
         p,
-        sym (coherent.opened c Releases source) ∙ ap
-            (λ (o : Option (Open w)). option_map (λ x. x.asked) o) is,
+        sym (coherent.opened c Releases source)
+            ∙ ap (λ (o : Option (Open w)). option_map (λ x. x.asked) o) is,
       )
 
   pub started-releasing : IsReleasing c n log → pending (ReleaseOf n) ((system_after config log).clients c).past ≡ true
@@ -137,9 +120,8 @@ module _ {w : ℕ} (config : Config) (log : Log w) (mail : AccessMessages w) (re
           let asked : option_map (λ x. x.asked) ((one_memory_after config log).opened c Releases source) ≡ Some
           (Release m p) = rw opened refl in
           let same : m ≡ n = same_release m p _ _ asked asked_is refl in
-          let named : releases_with c source (s.block n) ≡ true =
-          sym (matched.invariant.named.releases c source n) ∙ is_some_of n (s.lets c source)
-          (e ∙ ap (λ (i : ℕ). Some i) same) in
+          let named : releases_with c source (s.block n) ≡ true = sym (matched.invariant.named.releases c source n)
+          ∙ is_some_of n (s.lets c source) (e ∙ ap (λ (i : ℕ). Some i) same) in
           (matched.known c).releases n ∙ and_left (not (is_unreleased ((s.block n).pair c).letting)) _ named
 
 -- ---- deliveries
@@ -152,15 +134,14 @@ emptiness {w} config terms link ch (x ∷ rest) s = go (is_to_client ch)
     of_client : (r : Result (Verdict × Option (Message w)) Rule) (e : client.Endpoint w)
         → is_emptiness (judged r link ch x rest e s).outcome ≡ false
     of_client (Err rule) e = refl
-    of_client (Ok (verdict.Stalled, m)) e = refl
-    of_client (Ok (verdict.Taken, m)) e = refl
-    of_client (Ok (verdict.Done source f, m)) e = refl
+    of_client (Ok (Verdict.Stalled, m)) e = refl
+    of_client (Ok (Verdict.Taken, m)) e = refl
+    of_client (Ok (Verdict.Done source f, m)) e = refl
 
     of_manager : (a : manager.Reception w × manager_end.End w)
         → is_emptiness (manager_took link ch x rest a s).outcome ≡ false
     of_manager (manager.Refused rule, e) = refl
-    of_manager (manager.Stalled, e) = refl
-    of_manager (manager.Sent handed, e) = refl
+    of_manager a = refl
 
     go : (b : Bool) → is_emptiness (if b then judged (offered terms ch x (s.clients link)).answer link ch x rest
         (offered terms ch x (s.clients link)).after s else manager_took link ch x rest
@@ -170,8 +151,7 @@ emptiness {w} config terms link ch (x ∷ rest) s = go (is_to_client ch)
 
 -- one that is neither empty nor stalled moves a beat
 moving-else : {w : ℕ} (config : Config) (terms : EndConfig) (link : ℕ) (ch : Channel) (beats : List (Beat w))
-    (s : System w)
-    → is_emptiness (delivered config terms link ch beats s).outcome ≡ false
+    (s : System w) → is_emptiness (delivered config terms link ch beats s).outcome ≡ false
     → is_stall (delivered config terms link ch beats s).outcome ≡ false
     → is_moving (delivered config terms link ch beats s).outcome ≡ true
 moving-else config terms link ch [] s some unstalled = absurd cc
@@ -180,17 +160,14 @@ moving-else {w} config terms link ch (x ∷ rest) s some unstalled = go (is_to_c
     of_client : (r : Result (Verdict × Option (Message w)) Rule) (e : client.Endpoint w)
         → is_stall (judged r link ch x rest e s).outcome ≡ false
         → is_moving (judged r link ch x rest e s).outcome ≡ true
-    of_client (Err rule) e f = absurd cc
-    of_client (Ok (verdict.Stalled, m)) e f = absurd cc
-    of_client (Ok (verdict.Taken, m)) e f = refl
-    of_client (Ok (verdict.Done source finish, m)) e f = refl
+    of_client (Ok (Verdict.Taken, m)) e f = refl
+    of_client (Ok (Verdict.Done source finish, m)) e f = refl
+    of_client r e f = absurd cc
 
-    of_manager : (a : manager.Reception w × manager_end.End w)
-        → is_stall (manager_took link ch x rest a s).outcome ≡ false
-        → is_moving (manager_took link ch x rest a s).outcome ≡ true
-    of_manager (manager.Refused rule, e) f = absurd cc
-    of_manager (manager.Stalled, e) f = absurd cc
+    of_manager : (a : manager.Reception w × manager_end.End w) → is_stall (manager_took link ch x rest a s).outcome
+        ≡ false → is_moving (manager_took link ch x rest a s).outcome ≡ true
     of_manager (manager.Sent handed, e) f = refl
+    of_manager a f = absurd cc
 
     step : Bool → Step w
     step b = if b then judged (offered terms ch x (s.clients link)).answer link ch x rest
@@ -213,20 +190,16 @@ movable-moves {w} config log c ch exactly movable =
     sys = system_after config log
 
     go : (o : Option EndConfig) → terms_at config c ≡ o → (beats : List (Beat w)) → sys.channels c ch ≡ beats
-        → moves config o c ch beats sys ≡ true
-        → is_moving (outcome_of_delivery config log c ch) ≡ true
-    go None e beats f g = absurd cc
-    go (Some terms) e [] f g = absurd cc
+        → moves config o c ch beats sys ≡ true → is_moving (outcome_of_delivery config log c ch) ≡ true
     go (Some terms) e (x ∷ rest) f g =
         let is : IsExact config log c ch = exactly (ap is_some e) in
-        let same : outcome_of_delivery config log c ch ≡ (delivered config terms c ch (sys.channels c ch) sys).outcome =
-        ap (λ (o : Option EndConfig). (stepped_at config o (Deliver (record { 0 = c }) ch) sys).outcome) e in
+        let same = ap (λ (o : Option EndConfig). (stepped_at config o (Deliver (record { 0 = c }) ch) sys).outcome) e in
         let some : is_emptiness (outcome_of_delivery config log c ch) ≡ false = is.empty ∙ ap is_empty f in
-        let unstalled : is_stall (outcome_of_delivery config log c ch) ≡ false = is.stalled
-        ∙ ap (λ (b : Bool). not (is_empty (sys.channels c ch)) && not b) movable ∙ and-false
-        (not (is_empty (sys.channels c ch))) in
+        let unstalled : is_stall (outcome_of_delivery config log c ch) ≡ false =
+        cc (is.stalled, movable, and-false (not (is_empty (sys.channels c ch)))) in
         ap is_moving same ∙ moving-else config terms c ch (sys.channels c ch) sys (sym (ap is_emptiness same) ∙ some)
         (sym (ap is_stall same) ∙ unstalled)
+    go o e beats f g = absurd cc
 
 -- ---- exact stalls
 
@@ -235,7 +208,7 @@ pub record IsFirst {w : ℕ} (config : Config) (terms : EndConfig) (c : ℕ) (ch
     (sys : System w) : Type 0 where
   pub on : channel_of x ≡ ch
   pub taken : IsTaken config terms c ch x sys
-  pub probes : (y : BeatB w) → x ≡ beat.B y → is_probe y.opcode ≡ true
+  pub probes : (y : BeatB w) → x ≡ Beat.B y → is_probe y.opcode ≡ true
 
 module _ {w : ℕ} (config : Config) (log : Log w) (mail : AccessMessages w) (request : ℕ → MessageA w)
     (s : State (List ℕ)) (matched : SimulationRelation config log mail request s (system_after config log))
@@ -246,41 +219,36 @@ module _ {w : ℕ} (config : Config) (log : Log w) (mail : AccessMessages w) (re
   unfolding is_movable
   movable-is ch x rest e = rw (is, e) refl
 
-  outcome-is : (ch : Channel)
-      → outcome_of_delivery config log c ch ≡ (delivered config terms c ch ((system_after config log).channels c ch)
-      (system_after config log)).outcome
+  outcome-is : (ch : Channel) → outcome_of_delivery config log c ch
+      ≡ (delivered config terms c ch ((system_after config log).channels c ch) (system_after config log)).outcome
   unfolding stepped
   outcome-is ch = rw (outcome_of_delivery, is) refl
 
-  moves-exactly : (ch : Channel) (x : Beat w) (rest : List (Beat w))
-      → (system_after config log).channels c ch ≡ x ∷ rest → IsFirst config terms c ch x (system_after config log)
-      → Moves config log c x
-  moves-exactly channel.A (beat.A y) rest e first =
-      movable-is channel.A (beat.A y) rest e ∙ ap not (stalled-as-it-must config (record { 0 = c }) channel.A (beat.A y)
+  moves-exactly : (ch : Channel) (x : Beat w) (rest : List (Beat w)) → (system_after config log).channels c ch
+      ≡ x ∷ rest → IsFirst config terms c ch x (system_after config log) → Moves config log c x
+  moves-exactly Channel.A (Beat.A y) rest e first =
+      movable-is Channel.A (Beat.A y) rest e ∙ ap not (stalled-as-it-must config (record { 0 = c }) Channel.A (Beat.A y)
       (system_after config log).manager (first.taken.1 refl))
-  moves-exactly channel.C (beat.C y) rest e first =
-      movable-is channel.C (beat.C y) rest e ∙ ap not (never-stalled config (record { 0 = c }) channel.C (beat.C y)
-      (system_after config log).manager refl)
-  moves-exactly channel.E (beat.E y) rest e first =
-      movable-is channel.E (beat.E y) rest e ∙ ap not (never-stalled config (record { 0 = c }) channel.E (beat.E y)
-      (system_after config log).manager refl)
-  moves-exactly channel.D (beat.D y) rest e first =
-      movable-is channel.D (beat.D y) rest e ∙ ap not
-      (stalled-as-it-waits terms channel.D (beat.D y) ((system_after config log).clients c) (first.taken.0 refl))
-  moves-exactly channel.B (beat.B y) rest e first = (there, back)
-    where
-      waits : is_movable config c channel.B (system_after config log) ≡ not
-          (pending (ReleaseOf (block_at y.address)) ((system_after config log).clients c).past)
-      waits = movable-is channel.B (beat.B y) rest e ∙ ap not
-          (stalled-as-it-waits terms channel.B (beat.B y) ((system_after config log).clients c) (first.taken.0 refl)
-          ∙ rw (first.probes y refl) refl)
-
-      there : is_movable config c channel.B (system_after config log) ≡ false → IsReleasing c (block_at y.address) log
-      there h = releasing-started config log mail request s matched coherent c (block_at y.address)
-          (not-false _ (sym waits ∙ h))
-
-      back : IsReleasing c (block_at y.address) log → is_movable config c channel.B (system_after config log) ≡ false
-      back h = waits ∙ ap not (started-releasing config log mail request s matched coherent c (block_at y.address) h)
+  moves-exactly Channel.C (Beat.C y) rest e first = movable-is Channel.C (Beat.C y) rest e
+      ∙ ap not (never-stalled config (record { 0 = c }) Channel.C (Beat.C y) (system_after config log).manager refl)
+  moves-exactly Channel.E (Beat.E y) rest e first = movable-is Channel.E (Beat.E y) rest e
+      ∙ ap not (never-stalled config (record { 0 = c }) Channel.E (Beat.E y) (system_after config log).manager refl)
+  moves-exactly Channel.D (Beat.D y) rest e first =
+      movable-is Channel.D (Beat.D y) rest e ∙ ap not
+      (stalled-as-it-waits terms Channel.D (Beat.D y) ((system_after config log).clients c) (first.taken.0 refl))
+  moves-exactly Channel.B (Beat.B y) rest e first =
+      let waits : is_movable config c Channel.B (system_after config log)
+      ≡ not (pending (ReleaseOf (block_at y.address)) ((system_after config log).clients c).past) =
+      movable-is Channel.B (Beat.B y) rest e
+      ∙ ap not (stalled-as-it-waits terms Channel.B (Beat.B y) ((system_after config log).clients c)
+      (first.taken.0 refl) ∙ rw (first.probes y refl) refl) in
+      let there : is_movable config c Channel.B (system_after config log) ≡ false
+      → IsReleasing c (block_at y.address) log = λ h. releasing-started config log mail request s matched coherent c
+      (block_at y.address) (not-false _ (sym waits ∙ h)) in
+      let back : IsReleasing c (block_at y.address) log → is_movable config c Channel.B (system_after config log)
+      ≡ false = λ h. waits ∙ ap not (started-releasing config log mail request s matched coherent c
+      (block_at y.address) h) in
+      (there, back)
   moves-exactly ch x rest e first = absurd (let on = first.on in cc)
 
   pub exact : (ch : Channel) → ((x : Beat w) (rest : List (Beat w)) → (system_after config log).channels c ch ≡ x ∷ rest
@@ -300,7 +268,6 @@ module _ {w : ℕ} (config : Config) (log : Log w) (mail : AccessMessages w) (re
           → is_stall (outcome_of_delivery config log c ch) ≡ not (is_empty ((system_after config log).channels c ch))
           && not (is_movable config c ch (system_after config log))
       stall [] e = rw (outcome-is ch, e) refl
-      stall (x ∷ rest) e =
-          ap is_stall (outcome-is ch) ∙ rw (movable-is ch x rest e, e)
-          (stall-delivered config terms c ch x rest (system_after config log) (firsts x rest e).taken ∙ not_not
-          (stalls config terms c ch x (system_after config log)))
+      stall (x ∷ rest) e = ap is_stall (outcome-is ch)
+          ∙ rw (movable-is ch x rest e, e) (stall-delivered config terms c ch x rest (system_after config log)
+          (firsts x rest e).taken ∙ not_not (stalls config terms c ch x (system_after config log)))

@@ -1,32 +1,24 @@
 -- What the manager knows follows from five things: what it recorded, which ProbeAcks it misses, which service each
 -- block has, and which request that is. This is for all of its events alike.
-use Rattle.tl_coherence.proofs.manager.Imports.{MessageA, unfinished, Config, Cap, Trace, on_link}
-use Rattle.tl_coherence.proofs.manager.Imports.{comes_in_request, probe_of}
-use Rattle.tl_coherence.proofs.manager.Imports.{cap_probed, IsKept, services, service_of_block, End}
-use Rattle.tl_coherence.proofs.manager.Imports.{View, Own, Other, Granting, Acknowledging, GrantedOther}
-use Rattle.tl_coherence.proofs.manager.Imports.{is_unprobed, Service, Free, Waits, GrantSent, GrantTaken, State}
-use Rattle.tl_coherence.proofs.manager.Imports.{SourceState, SourceFree, Asked, InService, Replied, Acquires, view}
-use Rattle.tl_coherence.proofs.manager.Imports.{is_granting, is_acknowledging, is_wanting, IsInvariant, is_busy}
-use Rattle.tl_coherence.proofs.manager.Imports.{ManagerRelation, is_own, client_in, service_with, ServedSourceRelation}
-use Rattle.tl_coherence.proofs.manager.Imports.{IsFor, is_served, is_granted, cap_waited, probe_beat}
-use Rattle.std.proofs.Common.{◌≡◌, ℕ, ◌==◌, Bool, true, false, not, ◌&&◌, ◌||◌, Option, Some, None, refl}
-use Rattle.std.proofs.Common.{sym, ◌∙◌, ap}
-use Rattle.std.specs.Prelude.{if◌then◌else◌}
-use Rattle.std.specs.Cmp.Derive.{one_truth}
-use Rattle.std.proofs.Math.Bool.{or_comm}
-use Rattle.std.proofs.lemmas.Bool.{eqb-true}
-use Rattle.std.proofs.lemmas.Option.{same_Some}
-use Rattle.tl_beat.specs.declared.channel.Channel.TheVariants as channel
+use Rattle.tl_coherence.proofs.manager.Imports.{MessageA, unfinished, Config, Cap, Trace, on_link, comes_in_request}
+use Rattle.tl_coherence.proofs.manager.Imports.{probe_of, cap_probed, IsKept, services, service_of_block, End, View}
+use Rattle.tl_coherence.proofs.manager.Imports.{Own, Other, Granting, Acknowledging, GrantedOther, is_unprobed, Service}
+use Rattle.tl_coherence.proofs.manager.Imports.{Free, Waits, GrantSent, GrantTaken, State, SourceState, SourceFree}
+use Rattle.tl_coherence.proofs.manager.Imports.{Asked, InService, Replied, Acquires, view, is_granting}
+use Rattle.tl_coherence.proofs.manager.Imports.{is_acknowledging, is_wanting, IsInvariant, is_busy, ManagerRelation}
+use Rattle.tl_coherence.proofs.manager.Imports.{is_own, client_in, service_with, ServedSourceRelation, IsFor, is_served}
+use Rattle.tl_coherence.proofs.manager.Imports.{is_granted, cap_waited, probe_beat, Channel}
+use Rattle.std.proofs.Common.{◌≡◌, ℕ, ◌==◌, Bool, true, false, not, ◌&&◌, ◌||◌, Option, Some, None, refl, sym, ◌∙◌, ap}
+use Rattle.std.{specs.Prelude.if◌then◌else◌, specs.Cmp.Derive.one_truth, proofs.Math.Bool.or_comm}
+use Rattle.std.{proofs.lemmas.Bool.eqb-true, proofs.lemmas.Option.same_Some}
 use Rattle.tl_manager.specs.laws.Pending as waits
-use Rattle.tl_manager.specs.laws.Pending.{is_any, is_asking, is_granted_with}
-use Rattle.tl_manager.specs.laws.Pending.{IsProbed}
+use Rattle.tl_manager.specs.laws.Pending.{is_any, is_asking, is_granted_with, IsProbed}
 use Rattle.tl_manager.specs.statement.Service as manager
 use Rattle.tl_manager.proofs.services.Serving.{some_is}
 use Rattle.tl_manager.proofs.pending.Sources.{source-pending, sink-pending}
 use Rattle.tl_coherence.specs.protocol.Invariant.{IsOwnSource, is_serving, tracks_with}
-use Rattle.tl_coherence.proofs.queues.Facts.{own_wants}
-use Rattle.tl_coherence.proofs.queues.Phases.{and_left, and_right}
-use Rattle.tl_coherence.proofs.queues.Tokens.{same_number}
+use Rattle.tl_coherence.proofs.{queues.Facts.own_wants, queues.Phases.and_left, queues.Phases.and_right}
+use Rattle.tl_coherence.proofs.{queues.Tokens.same_number}
 use Rattle.tl_coherence.proofs.protocol.BothParts.{is_of-is, acquires_of-is, serves_of-is, not-calm}
 use Rattle.tl_coherence.proofs.manager.BlockAccounts.{any-of, any-found, is_granted_in, IsTraced, at_service}
 use Rattle.tl_coherence.proofs.manager.BlockAccounts.{granted-is}
@@ -34,16 +26,14 @@ use Rattle.tl_coherence.proofs.manager.BlockAccounts.{granted-is}
 -- ---- sources
 
 -- a source that is served is that of a service that isn't granted, and the other way
-asking-served : {w : ℕ} {X : Type 0} (caching : ℕ → Bool) (request : ℕ → MessageA w) (s : State X)
-    (c source n tracker : ℕ) (service : Service)
-    → IsInvariant caching s → (s.block n).service ≡ service → IsFor service n (request n)
-    → is_granted_in service ≡ false
-    → (r : ℕ) → client_in service ≡ Some r → (r == c) ≡ true → ((request n).source == source) ≡ true
-    → is_served c (s.uses c source) s ≡ true
-asking-served caching request s c source n tracker Free inv f for ungranted r client same here = absurd cc
-asking-served caching request s c source n tracker (GrantSent q d k) inv f for ungranted r client same here = absurd cc
-asking-served caching request s c source n tracker (GrantTaken q) inv f for ungranted r client same here = absurd cc
-asking-served {w} {X} caching request s c source n tracker (Waits q own src k) inv f for ungranted r client same here =
+asking-served : {w : ℕ} {X : Type 0} {caching : ℕ → Bool} (request : ℕ → MessageA w) {s : State X}
+    (c source n tracker : ℕ) (service : Service) → IsInvariant caching s → (s.block n).service ≡ service
+    → IsFor service n (request n) → is_granted_in service ≡ false → (r : ℕ) → client_in service ≡ Some r
+    → (r == c) ≡ true → ((request n).source == source) ≡ true → is_served c (s.uses c source) s ≡ true
+asking-served request c source n tracker Free inv f for ungranted r client same here = absurd cc
+asking-served request c source n tracker (GrantSent q d k) inv f for ungranted r client same here = absurd cc
+asking-served request c source n tracker (GrantTaken q) inv f for ungranted r client same here = absurd cc
+asking-served {w} {X} request {s} c source n tracker (Waits q own src k) inv f for ungranted r client same here =
     go own refl
   where
     q_is : q ≡ c
@@ -58,8 +48,7 @@ asking-served {w} {X} caching request s c source n tracker (Waits q own src k) i
         let sourced : IsOwnSource (Waits c true source k) (s.block n).source =
         rw waits_so at (inv.blocks n).own_source in
         let own_view : view (s.block n).service c ≡ Own = rw (waits_so, same_number c) refl in
-        let wants : is_wanting ((s.block n).pair c).acquiring ≡ true =
-        not-calm ((s.block n).pair c).acquiring (own_wants ((s.block n).pair c) (view (s.block n).service c)
+        let wants = not-calm ((s.block n).pair c).acquiring (own_wants ((s.block n).pair c) (view (s.block n).service c)
         ((inv.blocks n).phases c) own_view) in
         let used = acquires_of-is n (s.uses c source)
         (inv.named.acquires c source n ∙ rw (wants, ← sourced, same_number source) refl) in
@@ -77,24 +66,21 @@ pub record IsServing {X : Type 0} (c source : ℕ) (s : State X) : Type 0 where
   pub cap : Cap
   pub waits_so : (s.block block).service ≡ Waits c own source cap
 
-served-waits : {X : Type 0} (caching : ℕ → Bool) (s : State X) (c source : ℕ) (u : SourceState) → IsInvariant caching s
+served-waits : {X : Type 0} {caching : ℕ → Bool} {s : State X} (c source : ℕ) (u : SourceState) → IsInvariant caching s
     → s.uses c source ≡ u → is_served c u s ≡ true → IsServing c source s
-served-waits caching s c source SourceFree inv f e = absurd cc
-served-waits caching s c source Asked inv f e = absurd cc
-served-waits caching s c source Replied inv f e = absurd cc
-served-waits {X} caching s c source (InService n) inv f e =
+served-waits c source SourceFree inv f e = absurd cc
+served-waits c source Asked inv f e = absurd cc
+served-waits c source Replied inv f e = absurd cc
+served-waits {X} {s} c source (InService n) inv f e =
     go (s.block n).service refl (sym (inv.named.serves c source n) ∙ rw (f, same_number n) refl)
   where
     go : (service : Service) → (s.block n).service ≡ service → is_serving c source service ≡ true → IsServing c source s
-    go Free g h = absurd cc
-    go (Waits r true src k) g h = absurd cc
     go (Waits r false src k) g h =
         let client = eqb-true c r (and_left (c == r) (source == src) h) in
         let number = eqb-true source src (and_right (c == r) (source == src) h) in
         record { block = n; own = false; cap = k; waits_so = g ∙ rw (client, number) refl }
-    go (GrantSent q d k) g h = absurd cc
-    go (GrantTaken q) g h = absurd cc
-served-waits {X} caching s c source (Acquires n) inv f e = go (s.block n).service refl e
+    go service g h = absurd cc
+served-waits {X} {s} c source (Acquires n) inv f e = go (s.block n).service refl e
   where
     only : (b : Bool) (k : Cap) → is_own (if b then Own else Other k) ≡ true → b ≡ true
     only true k g = refl
@@ -120,14 +106,13 @@ served-waits {X} caching s c source (Acquires n) inv f e = go (s.block n).servic
         let mine = and_left own (c == r) both in
         let client = eqb-true c r (and_right own (c == r) both) in
         let sourced : IsOwnSource (Waits r true src k) (s.block n).source = rw (g, mine) at (inv.blocks n).own_source in
-        let number : source ≡ src = eqb-true source ((s.block n).source c) named ∙ ap (s.block n).source client ∙ sym
-        sourced in
+        let number : source ≡ src = cc (eqb-true source ((s.block n).source c) named, client, sourced) in
         record { block = n; own = true; cap = k; waits_so = g ∙ rw (client, number, mine) refl }
 
-sources-traced : {w : ℕ} {X : Type 0} (caching : ℕ → Bool) (config : Config) (request : ℕ → MessageA w) (s : State X)
-    (e : End w) → IsInvariant caching s → IsKept config e → IsTraced request s e.trace
+sources-traced : {w : ℕ} {X : Type 0} {caching : ℕ → Bool} {config : Config} {request : ℕ → MessageA w} {s : State X}
+    {e : End w} → IsInvariant caching s → IsKept config e → IsTraced request s e.trace
     → (c source : ℕ) → is_any (is_asking c source e.trace) (services e.trace) ≡ is_served c (s.uses c source) s
-sources-traced {w} {X} caching config request s e inv kept is c source = one_truth _ _ asking serving_it
+sources-traced {w} {X} {caching} {config} {request} {s} {e} inv kept is c source = one_truth _ _ asking serving_it
   where
     t : Trace w
     t = e.trace
@@ -138,25 +123,22 @@ sources-traced {w} {X} caching config request s e inv kept is c source = one_tru
     at_block n v Free f found asks granted = absurd (let no : None ≡ Some v = found in cc)
     at_block n v (Waits r own src k) f found asks granted =
         let v_is = some_is (at_service r (s.block n).tracker (request n)) v found in
-        let here : is_asking c source t (at_service r (s.block n).tracker (request n)) ≡ true =
-        ap (is_asking c source t) v_is ∙ asks in
-        asking-served caching request s c source n (s.block n).tracker (Waits r own src k) inv f
+        let here : is_asking c source t (at_service r (s.block n).tracker (request n)) ≡ true = cc (v_is, asks) in
+        asking-served request c source n (s.block n).tracker (Waits r own src k) inv f
         (rw f at (is.requests n)) refl r refl
         (and_left (r == c) _ here) (and_left ((request n).source == source) _ (and_right (r == c) _ here))
     at_block n v (GrantSent q d k) f found asks granted = absurd (ungranted v asks granted)
       where
         ungranted : (u : manager.Service w) → is_asking c source t u ≡ true → waits.is_granted t u ≡ true → ⊥
         ungranted u g h =
-            let none : not (waits.is_granted t u) ≡ true =
-            and_right (u.request.source == source) _ (and_right (u.link.0 == c) _ g) in
+            let none = and_right (u.request.source == source) _ (and_right (u.link.0 == c) _ g) in
             let no : false ≡ true = rw h at none in
             cc
     at_block n v (GrantTaken q) f found asks granted = absurd (ungranted v asks granted)
       where
         ungranted : (u : manager.Service w) → is_asking c source t u ≡ true → waits.is_granted t u ≡ true → ⊥
         ungranted u g h =
-            let none : not (waits.is_granted t u) ≡ true =
-            and_right (u.request.source == source) _ (and_right (u.link.0 == c) _ g) in
+            let none = and_right (u.request.source == source) _ (and_right (u.link.0 == c) _ g) in
             let no : false ≡ true = rw h at none in
             cc
 
@@ -165,17 +147,16 @@ sources-traced {w} {X} caching config request s e inv kept is c source = one_tru
         let one = any-found (is_asking c source t) (services t) kept.blocks_apart any in
         at_block one.block one.service (s.block one.block).service refl (sym (is.serving_is one.block) ∙ one.serves)
         one.passes
-        (granted-is caching config request s e inv kept is one.block one.service one.serves)
+        (granted-is inv kept is one.block one.service one.serves)
 
     serving_it : is_served c (s.uses c source) s ≡ true → is_any (is_asking c source t) (services t) ≡ true
     serving_it served =
-        let one = served-waits caching s c source (s.uses c source) inv refl served in
+        let one = served-waits c source (s.uses c source) inv refl served in
         let v : manager.Service w = at_service c (s.block one.block).tracker (request one.block) in
         let found : service_of_block one.block (services t) ≡ Some v = is.serving_is one.block ∙ rw one.waits_so refl in
         let for : IsFor (Waits c one.own source one.cap) one.block (request one.block) =
         rw one.waits_so at (is.requests one.block) in
-        let granted : waits.is_granted t v ≡ false = granted-is caching config request s e inv kept is one.block v
-        found ∙ rw one.waits_so refl in
+        let granted : waits.is_granted t v ≡ false = granted-is inv kept is one.block v found ∙ rw one.waits_so refl in
         any-of one.block (is_asking c source t) (services t) v found
         (rw (same_number c, for.1, same_number source, granted) refl)
 
@@ -188,45 +169,37 @@ is_grant_to c service = is_granting (view service c) || is_acknowledging (view s
 granted-to : (c : ℕ) (service : Service) → is_grant_to c service ≡ true → (is_granted_in service ≡ true)
     × (client_in service ≡ Some c)
 granted-to c Free e = absurd cc
-granted-to c (Waits r own source k) e = absurd (never (own && (c == r)) e)
-  where
-    never : (b : Bool) → (is_granting (if b then Own else Other k) || is_acknowledging (if b then Own else Other k))
-        ≡ true → ⊥
-    never true g = cc
-    never false g = cc
-granted-to c (GrantSent q d k) e = let same = eqb-true c q (own (c == q) e) in (refl, rw same refl)
-  where
-    own : (b : Bool) → (is_granting (if b then Granting d k else GrantedOther) || is_acknowledging
-        (if b then Granting d k else GrantedOther)) ≡ true → b ≡ true
-    own true g = refl
-    own false g = absurd cc
-granted-to c (GrantTaken q) e = let same = eqb-true c q (own (c == q) e) in (refl, rw same refl)
-  where
-    own : (b : Bool) → (is_granting (if b then Acknowledging else GrantedOther) || is_acknowledging
-        (if b then Acknowledging else GrantedOther)) ≡ true → b ≡ true
-    own true g = refl
-    own false g = absurd cc
+granted-to c (Waits r own source k) e =
+    let never : (b : Bool) → (is_granting (if b then Own else Other k) || is_acknowledging (if b then Own else Other k))
+    ≡ true → ⊥ = elim [ true ↦ λ g. cc | false ↦ λ g. cc ] in
+    absurd (never (own && (c == r)) e)
+granted-to c (GrantSent q d k) e =
+    let own : (b : Bool) → (is_granting (if b then Granting d k else GrantedOther) || is_acknowledging
+    (if b then Granting d k else GrantedOther)) ≡ true → b ≡ true =
+    elim [ true ↦ λ g. refl | false ↦ λ g. absurd cc ] in
+    let same = eqb-true c q (own (c == q) e) in (refl, rw same refl)
+granted-to c (GrantTaken q) e =
+    let own : (b : Bool) → (is_granting (if b then Acknowledging else GrantedOther) || is_acknowledging
+    (if b then Acknowledging else GrantedOther)) ≡ true → b ≡ true =
+    elim [ true ↦ λ g. refl | false ↦ λ g. absurd cc ] in
+    let same = eqb-true c q (own (c == q) e) in (refl, rw same refl)
 
 to-granted : (c : ℕ) (service : Service) → is_granted_in service ≡ true → client_in service ≡ Some c
     → is_grant_to c service ≡ true
-to-granted c Free e f = absurd cc
-to-granted c (Waits r own source k) e f = absurd cc
-to-granted c (GrantSent q d k) e f = let same : q ≡ c = same_Some q c f in rw (same, same_number c) refl
-  where
-    same_Some : (i j : ℕ) → Some i ≡ Some j → i ≡ j
-    same_Some i j g = cc
+to-granted c (GrantSent q d k) e f =
+    let same_Some : (i j : ℕ) → Some i ≡ Some j → i ≡ j = λ i j g. cc in
+    let same : q ≡ c = same_Some q c f in rw (same, same_number c) refl
 to-granted c (GrantTaken q) e f = let same : q ≡ c = same_Some q c f in rw (same, same_number c) refl
+to-granted c service e f = absurd cc
 
 busy-granted : (service : Service) → is_granted_in service ≡ true → is_busy service ≡ true
 busy-granted Free e = absurd cc
-busy-granted (Waits r own source k) e = refl
-busy-granted (GrantSent q d k) e = refl
-busy-granted (GrantTaken q) e = refl
+busy-granted service e = refl
 
-sinks-traced : {w : ℕ} {X : Type 0} (caching : ℕ → Bool) (config : Config) (request : ℕ → MessageA w) (s : State X)
-    (e : End w) → IsInvariant caching s → IsKept config e → IsTraced request s e.trace
+sinks-traced : {w : ℕ} {X : Type 0} {caching : ℕ → Bool} {config : Config} {request : ℕ → MessageA w} {s : State X}
+    {e : End w} → IsInvariant caching s → IsKept config e → IsTraced request s e.trace
     → (c sink : ℕ) → is_any (is_granted_with c sink e.trace) (services e.trace) ≡ is_granted c (s.tracked sink) s
-sinks-traced {w} {X} caching config request s e inv kept is c sink =
+sinks-traced {w} {X} {caching} {config} {request} {s} {e} inv kept is c sink =
     one_truth _ _ granted_with (with_granted (s.tracked sink) refl)
   where
     t : Trace w
@@ -246,10 +219,8 @@ sinks-traced {w} {X} caching config request s e inv kept is c sink =
         let client = eqb-true v.link.0 c (and_left (v.link.0 == c) _ one.passes) in
         let number = eqb-true v.tracker sink (and_left (v.tracker == sink) _ (and_right (v.link.0 == c) _ one.passes))
         in
-        let yes : waits.is_granted t v ≡ true = and_right (v.tracker == sink) _ (and_right (v.link.0 == c) _ one.passes)
-        in
-        let granted : is_granted_in (s.block n).service ≡ true =
-        sym (granted-is caching config request s e inv kept is n v one.serves) ∙ yes in
+        let yes = and_right (v.tracker == sink) _ (and_right (v.link.0 == c) _ one.passes) in
+        let granted : is_granted_in (s.block n).service ≡ true = sym (granted-is inv kept is n v one.serves) ∙ yes in
         let of = client_of (client_in (s.block n).service) (s.block n).tracker (request n) v
         (sym (is.serving_is n) ∙ one.serves) in
         let tracker_is : sink ≡ (s.block n).tracker = sym number ∙ of.1 in
@@ -265,10 +236,8 @@ sinks-traced {w} {X} caching config request s e inv kept is c sink =
     with_granted (Some n) f g =
         let to = granted-to c (s.block n).service g in
         let v : manager.Service w = at_service c (s.block n).tracker (request n) in
-        let found : service_of_block n (services t) ≡ Some v =
-        is.serving_is n ∙ ap (λ (o : Option ℕ). service_with o (s.block n).tracker (request n)) to.1 in
-        let granted : waits.is_granted t v ≡ true = granted-is caching config request s e inv kept is n v found ∙ to.0
-        in
+        let found : service_of_block n (services t) ≡ Some v = cc (is.serving_is n, to.1) in
+        let granted : waits.is_granted t v ≡ true = granted-is inv kept is n v found ∙ to.0 in
         let tracks : tracks_with sink (s.block n) ≡ true = sym (inv.named.trackers sink n) ∙ rw (f, same_number n) refl
         in
         let number = eqb-true sink (s.block n).tracker
@@ -283,8 +252,7 @@ cap-of : {w : ℕ} (service : Service) (n : ℕ) (m : MessageA w) (k : Cap) → 
     → cap_probed m.opcode m.param ≡ Some k → k ≡ cap_waited service
 cap-of Free n m k for ungranted busy e = absurd (busy refl)
 cap-of (Waits r own source j) n m k for ungranted busy e = same_Some k j (sym e ∙ for.3)
-cap-of (GrantSent q d j) n m k for ungranted busy e = absurd cc
-cap-of (GrantTaken q) n m k for ungranted busy e = absurd cc
+cap-of service n m k for ungranted busy e = absurd cc
 
 request-with : {w : ℕ} (service : Service) (tracker : ℕ) (m : MessageA w) (v : manager.Service w)
     → service_with (client_in service) tracker m ≡ Some v → (v.request ≡ m) × (service ≡ Free → ⊥)
@@ -296,39 +264,41 @@ request-with {w} (GrantSent q d k) tracker m v f =
 request-with {w} (GrantTaken q) tracker m v f =
     (sym (ap (λ (u : manager.Service w). u.request) (some_is (at_service q tracker m) v f)), λ e. cc)
 
-probes-traced : {w : ℕ} {X : Type 0} (caching : ℕ → Bool) (config : Config) (request : ℕ → MessageA w) (s : State X)
-    (e : End w) → IsInvariant caching s → IsKept config e → IsTraced request s e.trace
+probes-traced : {w : ℕ} {X : Type 0} {caching : ℕ → Bool} {config : Config} {request : ℕ → MessageA w} {s : State X}
+    {e : End w} → IsInvariant caching s → IsKept config e → IsTraced request s e.trace
     → (c n : ℕ) → is_unprobed ((s.block n).pair c).probing ≡ false
     → probe_of n (on_link c e.trace) ≡ Some (probe_beat n (cap_waited (s.block n).service))
-probes-traced {w} {X} caching config request s e inv kept is c n sent =
+probes-traced {w} {X} {caching} {config} {request} {s} {e} inv kept is c n sent =
     let probed : IsProbed c n e.trace = (kept.steady.accounted.blocks n).probes c (is.probes c n ∙ ap not sent) in
     let granted : is_granted_in (s.block n).service ≡ false =
-    sym (granted-is caching config request s e inv kept is n probed.service probed.serves) ∙ probed.unanswered in
+    sym (granted-is inv kept is n probed.service probed.serves) ∙ probed.unanswered in
     let of = request-with (s.block n).service (s.block n).tracker (request n) probed.service
     (sym (is.serving_is n) ∙ probed.serves) in
     let caps : cap_probed (request n).opcode (request n).param ≡ Some probed.cap = rw (← of.0) probed.caps in
     probed.probe ∙ ap (λ (k : Cap). Some (probe_beat n k)) (cap-of (s.block n).service n (request n) probed.cap
     (is.requests n) granted of.1 caps)
 
-pub are_served-traced : {w : ℕ} {X : Type 0} (caching : ℕ → Bool) (config : Config) (request : ℕ → MessageA w)
-    (s : State X) (e : End w) → IsInvariant caching s
+pub are_served-traced : {w : ℕ} {X : Type 0} {caching : ℕ → Bool} {config : Config} {request : ℕ → MessageA w}
+    {s : State X} {e : End w} → IsInvariant caching s
     → IsKept config e → IsTraced request s e.trace → ServedSourceRelation request s e.trace
-are_served-traced {w} {X} caching config request s e inv kept is = record {
-  sources = λ c source.
-      source-pending c source e.trace kept.steady.accounted
-      ∙ ap (λ b. comes_in_request source (unfinished channel.A (on_link c e.trace)) || b)
-      (sources-traced caching config request s e inv kept is c source)
-      ∙ or_comm (comes_in_request source (unfinished channel.A (on_link c e.trace))) (is_served c (s.uses c source) s);
-  sinks = λ c sink. sink-pending c sink e.trace kept.sinks ∙ sinks-traced caching config request s e inv kept is c sink;
+are_served-traced {w} {X} {caching} {config} {request} {s} {e} inv kept is = record {
+  sources = λ c source. cc (
+    source-pending c source e.trace kept.steady.accounted,
+    sources-traced
+        inv kept is c source,
+    or_comm (comes_in_request source (unfinished Channel.A (on_link c e.trace)))
+        (is_served c (s.uses c source) s),
+  );
+  sinks = λ c sink. sink-pending c sink e.trace kept.sinks ∙ sinks-traced inv kept is c sink;
   requests = is.requests;
   asked = is.asked;
-  probes = probes-traced caching config request s e inv kept is;
+  probes = probes-traced inv kept is;
 }
 
 -- the other way
-pub traced-known : {w : ℕ} {X : Type 0} (request : ℕ → MessageA w) (s : State X) (t : Trace w)
+pub traced-known : {w : ℕ} {X : Type 0} {request : ℕ → MessageA w} {s : State X} {t : Trace w}
     → ManagerRelation request s t → ServedSourceRelation request s t → IsTraced request s t
-traced-known request s t managed served = record {
+traced-known managed served = record {
   recorded_is = managed.recorded_is;
   probes = managed.probes;
   serving_is = managed.serving_is;

@@ -5,76 +5,55 @@ use Rattle.tl_coherence.proofs.manager.Imports.{broken_order, broken_in_order, s
 use Rattle.tl_coherence.proofs.manager.Imports.{held, same_block, Link, first_if, Level, reaction, End, Passes}
 use Rattle.tl_coherence.proofs.manager.Imports.{level_of, must_wait, judged, offered, taken, services, service_of_block}
 use Rattle.tl_coherence.proofs.manager.Imports.{least_untaken, trackers_of, acquire_opcode, Log, ClientBlock, View, Own}
-use Rattle.tl_coherence.proofs.manager.Imports.{Other, Granting, Acknowledging, GrantedOther, is_unprobed, ok}
-use Rattle.tl_coherence.proofs.manager.Imports.{is_served, ManagerRelation, is_own, client_in, service_with}
-use Rattle.tl_coherence.proofs.manager.Imports.{IsInvariant, is_busy, Service, Free, Waits, GrantSent, GrantTaken}
-use Rattle.tl_coherence.proofs.manager.Imports.{Asked, State, packet, is_on, view, AccessMessages, block_message}
-use Rattle.tl_coherence.proofs.manager.Imports.{System, Kind, Request, Acquire, Probe, ProbeAck, Release, Answer, Grant}
-use Rattle.tl_coherence.proofs.manager.Imports.{ReleaseAck, GrantAck, Packet, SimulationRelation}
+use Rattle.tl_coherence.proofs.manager.Imports.{is_unprobed, ok, is_served, ManagerRelation, is_own, client_in}
+use Rattle.tl_coherence.proofs.manager.Imports.{service_with, IsInvariant, is_busy, Service, Free, Waits, GrantSent}
+use Rattle.tl_coherence.proofs.manager.Imports.{GrantTaken, Asked, State, packet, is_on, view, AccessMessages}
+use Rattle.tl_coherence.proofs.manager.Imports.{block_message, System, Kind, ProbeAck, Release, Packet}
+use Rattle.tl_coherence.proofs.manager.Imports.{SimulationRelation, Message}
 use Rattle.std.proofs.Common.{◌≡◌, ℕ, zero, suc, ◌==◌, Bool, true, false, not, ◌&&◌, ◌||◌, List, [], ◌∷◌, Option, Some}
 use Rattle.std.proofs.Common.{None, refl, sym, ◌∙◌, ap, arith}
 use Rattle.std.specs.Prelude.{map, is_some, All}
 use Rattle.std.proofs.lemmas.Bool.{ne_eqb, eqb-true}
-use Rattle.tl_beat.specs.declared.beat.Beat.TheVariants as beat
-use Rattle.tl_beat.specs.declared.channel.Channel.TheVariants as channel
-use Rattle.tl_beat.specs.declared.opcode.OpB.TheVariants as b
-use Rattle.tl_burst.specs.declared.message.Message.TheVariants as message
-use Rattle.tl_params.specs.declared.key.Key.TheVariants as key
-use Rattle.tl_params.specs.declared.param.Grow.TheVariants as grow
-use Rattle.tl_params.specs.declared.param.Prune.TheVariants as prune
-use Rattle.tl_params.specs.declared.perm.Perm.TheVariants as perm
-use Rattle.tl_params.specs.statement.Param.{grow_code}
-use Rattle.tl_rules.specs.statement.Conformance.{grows_from}
+use Rattle.tl_beat.specs.declared.opcode.OpB.{OpB}
+use Rattle.tl_params.{specs.declared.key.Key.Key, specs.statement.Param.grow_code}
+use Rattle.tl_rules.{specs.statement.Conformance.grows_from, specs.statement.Admission.is_outside}
+use Rattle.tl_rules.{specs.statement.Admission.is_spoiled, specs.statement.Legality.illegal}
+use Rattle.tl_rules.{specs.statement.Legality.is_one_of, proofs.Later.later-legal}
 use Rattle.tl_client.specs.statement.Send.{acquisition, probe_ack, release}
-use Rattle.tl_rules.specs.statement.Admission.{is_outside, is_spoiled}
-use Rattle.tl_rules.specs.statement.Legality.{illegal, is_one_of}
-use Rattle.tl_rules.proofs.Later.{later-legal}
 use Rattle.tl_params.specs.declared.rule.Rule.TheVariants.{H4, H5}
-use Rattle.tl_manager.specs.code.Kept.{IsSound, IsTyped}
+use Rattle.tl_manager.{specs.code.Kept.IsSound, specs.code.Kept.IsTyped, proofs.judging.Judged.judged-passes}
+use Rattle.tl_manager.{proofs.messages.Sound.leveled, specs.code.Releases.comes_of}
+use Rattle.tl_manager.{specs.statement.Service.is_in_service, proofs.words_of_clients.Free.least_free-is_free}
+use Rattle.tl_manager.{proofs.services.Serving.tracker_among, specs.laws.Pending.one_if}
 use Rattle.tl_manager.specs.statement.Offer as manager
 use Rattle.tl_manager.specs.statement.Offer.{open_level, before_stall, judged_at, offered_as}
-use Rattle.tl_manager.proofs.judging.Judged.{judged-passes}
-use Rattle.tl_manager.proofs.messages.Sound.{leveled}
-use Rattle.tl_manager.specs.code.Releases.{comes_of}
-use Rattle.tl_manager.specs.statement.Service.{is_in_service}
-use Rattle.tl_manager.proofs.words_of_clients.Free.{least_free-is_free}
-use Rattle.tl_manager.proofs.services.Serving.{tracker_among}
-use Rattle.tl_coherence.specs.protocol.Phase.{Idle, AcquireOpen, ReleasePhase, NoRelease, ReleaseSent, ReleaseAcked}
-use Rattle.tl_coherence.specs.protocol.Phase.{is_unreleased, grow_fits}
-use Rattle.tl_coherence.specs.protocol.Invariant.{tracks_with}
+use Rattle.tl_coherence.specs.protocol.Phase.{Idle, AcquireOpen, ReleasePhase, NoRelease, is_unreleased, grow_fits}
+use Rattle.tl_coherence.specs.{protocol.Invariant.tracks_with, refinement.Carried.IsCarried, protocol.Packet.count}
+use Rattle.tl_coherence.specs.{protocol.Packet.is, refinement.SimulationRelation.AreLanes}
 use Rattle.tl_coherence.specs.protocol.Tokens.{is_releasing, is_unserved, shown}
-use Rattle.tl_coherence.specs.refinement.Carried.{IsCarried}
 use Rattle.tl_coherence.specs.refinement.PacketMessages.{message_of, report_told, prune_told}
-use Rattle.tl_manager.specs.laws.Pending.{one_if}
-use Rattle.tl_coherence.specs.protocol.Packet.{count, is}
-use Rattle.tl_coherence.specs.refinement.SimulationRelation.{AreLanes}
-use Rattle.tl_coherence.proofs.manager.Arrivals.{link_of}
-use Rattle.tl_coherence.proofs.queues.Facts.{acquire_fits}
-use Rattle.tl_coherence.proofs.queues.PhaseFacts.{asked_alone}
-use Rattle.tl_coherence.proofs.protocol.Heads.{IsWanted}
-use Rattle.tl_coherence.proofs.manager.Orders.{acquire-legal}
-use Rattle.tl_coherence.proofs.queues.Phases.{and_left, and_right}
-use Rattle.tl_coherence.proofs.queues.Rendered.{same_kind_again}
-use Rattle.tl_coherence.proofs.queues.Tokens.{same_number, holds-first}
-use Rattle.tl_coherence.proofs.queues.Codes.{acquires-so}
+use Rattle.tl_coherence.proofs.{manager.Arrivals.link_of, queues.Facts.acquire_fits, queues.PhaseFacts.asked_alone}
+use Rattle.tl_coherence.proofs.{protocol.Heads.IsWanted, manager.Orders.acquire-legal, queues.Phases.and_left}
+use Rattle.tl_coherence.proofs.{queues.Phases.and_right, queues.Rendered.same_kind_again, queues.Tokens.same_number}
+use Rattle.tl_coherence.proofs.{queues.Tokens.holds-first, queues.Codes.acquires-so}
 
 -- ---- a Release that is unfinished at the manager is on its way
 
 -- the beats of a ProbeAck are of no Release
 ack_comes : (w : ℕ) (p : Perm) (r : Report) (i n k : ℕ) (payload : List ℕ)
-    → comes_of n (begun (probe_ack {w = w} b.ProbeBlock p r i payload) k) ≡ false
+    → comes_of n (begun (probe_ack {w = w} OpB.ProbeBlock p r i payload) k) ≡ false
 ack_comes w p r i n zero payload = refl
-ack_comes w perm.Trunk r i n (suc k) payload = refl
-ack_comes w perm.Branch r i n (suc k) payload = refl
-ack_comes w perm.None r i n (suc k) payload = refl
+ack_comes w Perm.Trunk r i n (suc k) payload = refl
+ack_comes w Perm.Branch r i n (suc k) payload = refl
+ack_comes w Perm.None r i n (suc k) payload = refl
 
 -- those of a Release are of its block
 release_comes : (w : ℕ) (r : Prune) (source i n k : ℕ) (payload : List ℕ) → (i ≡ n → ⊥)
     → comes_of n (begun (release {w = w} r source i payload) k) ≡ false
 release_comes w r source i n zero payload ne = refl
-release_comes w prune.TtoB source i n (suc k) payload ne = rw (same_block i) (ne_eqb i n ne)
-release_comes w prune.TtoN source i n (suc k) payload ne = rw (same_block i) (ne_eqb i n ne)
-release_comes w prune.BtoN source i n (suc k) payload ne = rw (same_block i) (ne_eqb i n ne)
+release_comes w Prune.TtoB source i n (suc k) payload ne = rw (same_block i) (ne_eqb i n ne)
+release_comes w Prune.TtoN source i n (suc k) payload ne = rw (same_block i) (ne_eqb i n ne)
+release_comes w Prune.BtoN source i n (suc k) payload ne = rw (same_block i) (ne_eqb i n ne)
 
 -- the first token of a list stands there
 pub first_counts : (x : Packet) (xs : List Packet) → count x.kind x.number (x ∷ xs) ≡ 0 → ⊥
@@ -82,22 +61,22 @@ unfolding count
 first_counts x xs none = let one : one_if (is x.kind x.number x) ≡ 1 =
     rw (same_kind_again x.kind, same_number x.number) refl in absurd (omega (arith, none, one))
 
-pub release-comes : {w : ℕ} (config : Config) (log : Log w) (mail : AccessMessages w) (request : ℕ → MessageA w)
-    (s : State (List ℕ)) (sys : System w) (c n : ℕ)
+pub release-comes : {w : ℕ} {config : Config} {log : Log w} {mail : AccessMessages w} {request : ℕ → MessageA w}
+    {s : State (List ℕ)} {sys : System w} (c n : ℕ)
     → SimulationRelation config log mail request s sys → is_releasing ((s.block n).pair c).letting ≡ false
-    → comes_of n (unfinished channel.C (on_link c sys.manager.trace)) ≡ false
+    → comes_of n (unfinished Channel.C (on_link c sys.manager.trace)) ≡ false
 unfolding block_message
-release-comes {w} config log mail request s sys c n is kept = go (s.link c).c refl
+release-comes {w} {mail} {s} {sys} c n is kept = go (s.link c).c refl
   where
     t : List (Beat w)
-    t = unfinished channel.C (on_link c sys.manager.trace)
+    t = unfinished Channel.C (on_link c sys.manager.trace)
 
     carried : (xs : List Packet) → (s.link c).c ≡ xs
-        → IsCarried t (map (message_of mail s c) xs) (sys.channels c channel.C)
-    carried xs e = rw e at (is.carried c channel.C)
+        → IsCarried t (map (message_of mail s c) xs) (sys.channels c Channel.C)
+    carried xs e = rw e at (is.carried c Channel.C)
 
-    apart : (x : Packet) (xs : List Packet) → (s.link c).c ≡ x ∷ xs → is_on channel.C x.kind ≡ false → ⊥
-    apart x xs e off = first_counts x xs (rw e at (is.invariant.own_kinds c channel.C x.kind x.number off))
+    apart : (x : Packet) (xs : List Packet) → (s.link c).c ≡ x ∷ xs → is_on Channel.C x.kind ≡ false → ⊥
+    apart x xs e off = first_counts x xs (rw e at (is.invariant.own_kinds c Channel.C x.kind x.number off))
 
     kinds : (k : Kind) (x : Packet) (xs : List Packet) → (s.link c).c ≡ x ∷ xs → x.kind ≡ k → (i : ℕ)
         → comes_of n (begun (message_of mail s c x) i) ≡ false
@@ -108,18 +87,11 @@ release-comes {w} config log mail request s sys c n is kept = go (s.link c).c re
         rw f (release_comes w (prune_told ((s.block x.number).pair c).letting) ((s.block x.number).release_source c)
         x.number n i (s.block x.number).truth (λ same.
         let first : (s.link c).c ≡ packet Release x.number ∷ xs = e ∙ ap (λ (k : Kind). packet k x.number ∷ xs) f in
-        let shows : is_releasing ((s.block x.number).pair c).letting ≡ true =
-        holds-first Release (s.link c).c xs (packet Release x.number) (λ j. shown Release c (s.block j)) first refl
-        (is.invariant.transfers c Release refl) in
+        let shows = holds-first Release (s.link c).c xs (packet Release x.number) (λ j. shown Release c (s.block j))
+        first refl (is.invariant.transfers c Release refl) in
         let no : true ≡ false = sym shows ∙ ap (λ j. is_releasing ((s.block j).pair c).letting) same ∙ kept in
         cc))
-    kinds Request x xs e f i = absurd (apart x xs e (rw f refl))
-    kinds Acquire x xs e f i = absurd (apart x xs e (rw f refl))
-    kinds Probe x xs e f i = absurd (apart x xs e (rw f refl))
-    kinds Answer x xs e f i = absurd (apart x xs e (rw f refl))
-    kinds Grant x xs e f i = absurd (apart x xs e (rw f refl))
-    kinds ReleaseAck x xs e f i = absurd (apart x xs e (rw f refl))
-    kinds GrantAck x xs e f i = absurd (apart x xs e (rw f refl))
+    kinds k x xs e f i = absurd (apart x xs e (rw f refl))
 
     go : (xs : List Packet) → (s.link c).c ≡ xs → comes_of n t ≡ false
     go [] e = rw (carried [] e).0 refl
@@ -128,124 +100,105 @@ release-comes {w} config log mail request s sys c n is kept = go (s.link c).c re
 -- ---- the order of messages
 
 -- a source that isn't in service, and of which no burst is unfinished, is free
-source-free : {w : ℕ} (config : Config) (log : Log w) (mail : AccessMessages w) (request : ℕ → MessageA w)
-    (s : State (List ℕ)) (sys : System w) (c source : ℕ)
-    → SimulationRelation config log mail request s sys → is_served c (s.uses c source) s ≡ false
-    → unfinished channel.A (on_link c sys.manager.trace) ≡ []
-    → pending (key.RequestSource source) (on_link c sys.manager.trace) ≡ false
-source-free config log mail request s sys c source is unserved none =
-    is.served.sources c source ∙ rw (unserved, none) refl
+source-free : {w : ℕ} {config : Config} {log : Log w} {mail : AccessMessages w} {request : ℕ → MessageA w}
+    {s : State (List ℕ)} {sys : System w} (c source : ℕ) → SimulationRelation config log mail request s sys
+    → is_served c (s.uses c source) s ≡ false → unfinished Channel.A (on_link c sys.manager.trace) ≡ []
+    → pending (Key.RequestSource source) (on_link c sys.manager.trace) ≡ false
+source-free c source is unserved none = is.served.sources c source ∙ rw (unserved, none) refl
 
 access-order : {w : ℕ} (p : Profile) (x : BeatA w) (t : History w) → is_acquire x.opcode ≡ false
-    → unfinished channel.A t ≡ []
-    → pending (key.RequestSource x.source) t ≡ false → broken_in_order p (beat.A x) t ≡ None
+    → unfinished Channel.A t ≡ []
+    → pending (Key.RequestSource x.source) t ≡ false → broken_in_order p (Beat.A x) t ≡ None
 unfolding broken_order
 access-order p x t access none free = rw (none, free, access) refl
 
 -- a beat of an access that was asked
-pub order-access : {w : ℕ} (config : Config) (log : Log w) (mail : AccessMessages w) (request : ℕ → MessageA w)
-    (s : State (List ℕ)) (sys : System w) (c source : ℕ) (m : MessageA w) (k : ℕ)
+pub order-access : {w : ℕ} {config : Config} {log : Log w} {mail : AccessMessages w} {request : ℕ → MessageA w}
+    {s : State (List ℕ)} {sys : System w} (c source : ℕ) (m : MessageA w) (k : ℕ)
     → SimulationRelation config log mail request s sys → s.uses c source ≡ Asked → m.source ≡ source
-    → is_acquire m.opcode ≡ false → unfinished channel.A (on_link c sys.manager.trace) ≡ begun (message.A m) k
-    → broken_in_order config.profile (beat.A (a_beat_of m k)) (on_link c sys.manager.trace) ≡ None
-order-access {w} config log mail request s sys c source m zero is used source_is access burst =
+    → is_acquire m.opcode ≡ false → unfinished Channel.A (on_link c sys.manager.trace) ≡ begun (Message.A m) k
+    → broken_in_order config.profile (Beat.A (a_beat_of m k)) (on_link c sys.manager.trace) ≡ None
+order-access {w} {config} {log} {mail} {request} {s} {sys} c source m zero is used source_is access burst =
     access-order config.profile (a_beat_of m 0) (on_link c sys.manager.trace) access burst
-    (rw source_is (source-free config log mail request s sys c source is (rw used refl) burst))
-order-access config log mail request s sys c source m (suc i) is used source_is access burst =
-    later-legal config.profile (message.A m) i (on_link c sys.manager.trace) burst
+    (rw source_is (source-free c source is (rw used refl) burst))
+order-access {config} {sys} c source m (suc i) is used source_is access burst =
+    later-legal config.profile (Message.A m) i (on_link c sys.manager.trace) burst
 
 pub grows : (g : Grow) (p q : Perm) (whole : Bool) → grow_fits q (AcquireOpen whole g) ≡ true → same_perm p q ≡ true
     → grows_from (grow_code g) p ≡ true
-grows grow.NtoB perm.None perm.None whole e f = refl
-grows grow.NtoT perm.None perm.None whole e f = refl
-grows grow.BtoT perm.None perm.None whole e f = refl
-grows grow.BtoT perm.Branch perm.Branch whole e f = refl
-grows grow.NtoB perm.Branch perm.Branch true e f = absurd cc
-grows grow.NtoB perm.Branch perm.Branch false e f = absurd cc
-grows grow.NtoB perm.Trunk perm.Trunk true e f = absurd cc
-grows grow.NtoB perm.Trunk perm.Trunk false e f = absurd cc
-grows grow.NtoT perm.Branch perm.Branch true e f = absurd cc
-grows grow.NtoT perm.Branch perm.Branch false e f = absurd cc
-grows grow.NtoT perm.Trunk perm.Trunk true e f = absurd cc
-grows grow.NtoT perm.Trunk perm.Trunk false e f = absurd cc
-grows grow.BtoT perm.Trunk perm.Trunk true e f = absurd cc
-grows grow.BtoT perm.Trunk perm.Trunk false e f = absurd cc
-grows g perm.None perm.Branch whole e f = absurd cc
-grows g perm.None perm.Trunk whole e f = absurd cc
-grows g perm.Branch perm.None whole e f = absurd cc
-grows g perm.Branch perm.Trunk whole e f = absurd cc
-grows g perm.Trunk perm.None whole e f = absurd cc
-grows g perm.Trunk perm.Branch whole e f = absurd cc
+grows Grow.NtoB Perm.None Perm.None whole e f = refl
+grows Grow.NtoT Perm.None Perm.None whole e f = refl
+grows Grow.BtoT Perm.None Perm.None whole e f = refl
+grows Grow.BtoT Perm.Branch Perm.Branch whole e f = refl
+grows Grow.NtoB Perm.Branch Perm.Branch true e f = absurd cc
+grows Grow.NtoB Perm.Branch Perm.Branch false e f = absurd cc
+grows Grow.NtoB Perm.Trunk Perm.Trunk true e f = absurd cc
+grows Grow.NtoB Perm.Trunk Perm.Trunk false e f = absurd cc
+grows Grow.NtoT Perm.Branch Perm.Branch true e f = absurd cc
+grows Grow.NtoT Perm.Branch Perm.Branch false e f = absurd cc
+grows Grow.NtoT Perm.Trunk Perm.Trunk true e f = absurd cc
+grows Grow.NtoT Perm.Trunk Perm.Trunk false e f = absurd cc
+grows Grow.BtoT Perm.Trunk Perm.Trunk true e f = absurd cc
+grows Grow.BtoT Perm.Trunk Perm.Trunk false e f = absurd cc
+grows g Perm.None Perm.Branch whole e f = absurd cc
+grows g Perm.None Perm.Trunk whole e f = absurd cc
+grows g Perm.Branch Perm.None whole e f = absurd cc
+grows g Perm.Branch Perm.Trunk whole e f = absurd cc
+grows g Perm.Trunk Perm.None whole e f = absurd cc
+grows g Perm.Trunk Perm.Branch whole e f = absurd cc
 
 kept-is : (x : ReleasePhase) → is_unreleased x ≡ true → is_releasing x ≡ false
 kept-is NoRelease e = refl
-kept-is (ReleaseSent r) e = absurd cc
-kept-is ReleaseAcked e = absurd cc
+kept-is x e = absurd cc
 
 pub first_three : (x y z more : Bool) → (x && (y && (z && more))) ≡ true → ((x && y) && z) ≡ true
 first_three true true true more e = refl
-first_three true true false more e = absurd cc
-first_three true false z more e = absurd cc
-first_three false y z more e = absurd cc
+first_three x y z more e = absurd cc
 
 -- a beat of an Acquire that is wanted, whose block isn't in service
-pub order-acquire : {w : ℕ} (config : Config) (log : Log w) (mail : AccessMessages w) (request : ℕ → MessageA w)
-    (s : State (List ℕ)) (sys : System w) (c n : ℕ) (k : ℕ)
-    → SimulationRelation config log mail request s sys → (is_it : IsWanted w c n s) → (s.block n).service ≡ Free
-    → unfinished channel.A (on_link c sys.manager.trace) ≡ begun
-    (message.A (acquisition (acquire_opcode is_it.whole) is_it.grow ((s.block n).source c) n)) k
+pub order-acquire : {w : ℕ} {config : Config} {log : Log w} {mail : AccessMessages w} {request : ℕ → MessageA w}
+    {s : State (List ℕ)} {sys : System w} {c n : ℕ} (k : ℕ) → SimulationRelation config log mail request s sys
+    → (is_it : IsWanted w c n s) → (s.block n).service ≡ Free → unfinished Channel.A (on_link c sys.manager.trace)
+    ≡ begun (Message.A (acquisition (acquire_opcode is_it.whole) is_it.grow ((s.block n).source c) n)) k
     → broken_in_order config.profile
-    (beat.A (a_beat_of (acquisition (acquire_opcode is_it.whole) is_it.grow ((s.block n).source c) n) k))
+    (Beat.A (a_beat_of (acquisition (acquire_opcode is_it.whole) is_it.grow ((s.block n).source c) n) k))
     (on_link c sys.manager.trace) ≡ None
-order-acquire {w} config log mail request s sys c n zero is is_it free burst =
+order-acquire {w} {config} {log} {mail} {request} {s} {sys} {c} {n} zero is is_it free burst =
+    let p : ClientBlock = (s.block n).pair c in
+    let well : ok p (view (s.block n).service c) ≡ true = (is.invariant.blocks n).phases c in
+    let idle : view (s.block n).service c ≡ Idle = rw free refl in
+    let settled = first_three (is_unprobed p.probing) (is_unreleased p.letting) (same_perm p.recorded p.held) _
+    (asked_alone is_it.whole is_it.grow p (view (s.block n).service c) well idle is_it.wants) in
     acquire-legal config.profile n p.recorded
     (a_beat_of (acquisition (acquire_opcode is_it.whole) is_it.grow ((s.block n).source c) n) 0)
     (on_link c sys.manager.trace) (acquires-so is_it.whole) (same_block n) burst
-    (source-free config log mail request s sys c ((s.block n).source c) is (rw (is_it.used, idle) refl) burst)
+    (source-free c ((s.block n).source c) is (rw (is_it.used, idle) refl) burst)
     (is.managed.acquires c n ∙ rw idle refl)
-    ((is.manager_kept.releases c).blocks n ∙ release-comes config log mail request s sys c n is
+    ((is.manager_kept.releases c).blocks n ∙ release-comes c n is
     (kept-is p.letting (and_right (is_unprobed p.probing) (is_unreleased p.letting)
     (and_left (is_unprobed p.probing && is_unreleased p.letting) (same_perm p.recorded p.held) settled))))
     (is.managed.recorded_is c n)
     (grows is_it.grow p.recorded p.held is_it.whole (acquire_fits is_it.whole is_it.grow p (view (s.block n).service c)
     well is_it.wants)
     (and_right (is_unprobed p.probing && is_unreleased p.letting) (same_perm p.recorded p.held) settled))
-  where
-    p : ClientBlock
-    p = (s.block n).pair c
-
-    well : ok p (view (s.block n).service c) ≡ true
-    well = (is.invariant.blocks n).phases c
-
-    idle : view (s.block n).service c ≡ Idle
-    idle = rw free refl
-
-    settled : ((is_unprobed p.probing && is_unreleased p.letting) && same_perm p.recorded p.held) ≡ true
-    settled = first_three (is_unprobed p.probing) (is_unreleased p.letting) (same_perm p.recorded p.held) _
-        (asked_alone is_it.whole is_it.grow p (view (s.block n).service c) well idle is_it.wants)
-order-acquire {w} config log mail request s sys c n (suc i) is is_it free burst =
+order-acquire {w} {config} {s} {sys} {c} {n} (suc i) is is_it free burst =
     later-legal config.profile
-    (message.A (acquisition (acquire_opcode is_it.whole) is_it.grow ((s.block n).source c) n)) i
+    (Message.A (acquisition (acquire_opcode is_it.whole) is_it.grow ((s.block n).source c) n)) i
     (on_link c sys.manager.trace) burst
 
 -- ---- what a beat that needn't wait finds
 
-pub unserved-free : {w : ℕ} {X : Type 0} (request : ℕ → MessageA w) (s : State X) (t : Trace w) (n : ℕ)
+pub unserved-free : {w : ℕ} {X : Type 0} {request : ℕ → MessageA w} {s : State X} {t : Trace w} (n : ℕ)
     → ManagerRelation request s t → is_in_service n (services t) ≡ false → (s.block n).service ≡ Free
-unserved-free {w} request s t n is none = go (s.block n).service (ap is_some (sym (is.serving_is n)) ∙ none)
-  where
-    go : (service : Service) → is_some (service_with (client_in service) (s.block n).tracker (request n)) ≡ false
-        → service ≡ Free
-    go Free e = refl
-    go (Waits r own source k) e = absurd cc
-    go (GrantSent q d k) e = absurd cc
-    go (GrantTaken q) e = absurd cc
+unserved-free {w} {request} {s} n is none =
+    let go : (service : Service) → is_some (service_with (client_in service) (s.block n).tracker (request n)) ≡ false
+    → service ≡ Free = elim [ Free ↦ λ e. refl | service ↦ λ e. absurd cc ] in
+    go (s.block n).service (ap is_some (sym (is.serving_is n)) ∙ none)
 
 -- the tracker of the next service is of no block
-pub free-untracked : {w : ℕ} {X : Type 0} (caching : ℕ → Bool) (request : ℕ → MessageA w) (s : State X) (t : Trace w)
-    → IsInvariant caching s
-    → ManagerRelation request s t → s.tracked (least_untaken (trackers_of (services t))) ≡ None
-free-untracked {w} caching request s t inv is = go (s.tracked i) refl
+pub free-untracked : {w : ℕ} {X : Type 0} {caching : ℕ → Bool} {request : ℕ → MessageA w} {s : State X} {t : Trace w}
+    → IsInvariant caching s → ManagerRelation request s t → s.tracked (least_untaken (trackers_of (services t))) ≡ None
+free-untracked {w} {request} {s} {t} inv is = go (s.tracked i) refl
   where
     i : ℕ
     i = least_untaken (trackers_of (services t))
@@ -257,12 +210,10 @@ free-untracked {w} caching request s t inv is = go (s.tracked i) refl
         tracker_among n (services t) (record {
           tracker = (s.block n).tracker;
           link = record { 0 = r };
-          request =
-              request n;
+          request = request n;
         }) found in
         let none : is_one_of (s.block n).tracker (trackers_of (services t)) ≡ false =
-        ap (λ j. is_one_of j (trackers_of (services t))) (sym same) ∙ least_free-is_free (trackers_of (services t))
-        in
+        cc (same, least_free-is_free (trackers_of (services t))) in
         cc
 
     taken : (n : ℕ) (service : Service) → (s.block n).service ≡ service → is_busy service ≡ true
@@ -289,55 +240,51 @@ open-level config l c e live level = rw live level
 
 -- the first of the beats that are on a channel
 pub head_all : {X : Type 0} (P : X → Type 0) (x : X) (xs ys : List X) → ys ≡ x ∷ xs → All P ys → P x
-head_all P x xs ys e h = first (rw e at h)
-  where
-    first : All P (x ∷ xs) → P x
-    first h = h 0 x (omega arith)
+head_all P x xs ys e h =
+    let first : All P (x ∷ xs) → P x = λ h. h 0 x (omega arith) in
+    first (rw e at h)
 
 -- what the first beat of a channel of a client is by itself
 pub record IsFirstBeat {w : ℕ} (config : Config) (c : ℕ) (x : BeatA w) (sys : System w) : Type 0 where
   pub level : Level
   pub level_is : level_of config c ≡ Some level
-  pub lawful : illegal level channel.A (beat.A x) ≡ None
-  pub inside : is_outside config.blocks (beat.A x) ≡ false
-  pub clean : is_spoiled (beat.A x) ≡ false
-  pub typed : IsTyped (beat.A x)
+  pub lawful : illegal level Channel.A (Beat.A x) ≡ None
+  pub inside : is_outside config.blocks (Beat.A x) ≡ false
+  pub clean : is_spoiled (Beat.A x) ≡ false
+  pub typed : IsTyped (Beat.A x)
 
-pub first-beat : {w : ℕ} (config : Config) (log : Log w) (mail : AccessMessages w) (request : ℕ → MessageA w)
-    (s : State (List ℕ)) (sys : System w) (c : ℕ) (x : BeatA w) (queue : List (Beat w))
-    → SimulationRelation config log mail request s sys → sys.channels c channel.A ≡ beat.A x ∷ queue
+pub first-beat : {w : ℕ} {config : Config} {log : Log w} {mail : AccessMessages w} {request : ℕ → MessageA w}
+    {s : State (List ℕ)} {sys : System w} (c : ℕ) (x : BeatA w) (queue : List (Beat w))
+    → SimulationRelation config log mail request s sys → sys.channels c Channel.A ≡ Beat.A x ∷ queue
     → IsFirstBeat config c x sys
-first-beat {w} config log mail request s sys c x queue is beats =
-    let sound : IsSound config (link_of c, beat.A x) = head_all (λ y. IsSound config (link_of c, y)) (beat.A x) queue
-    (sys.channels c channel.A) beats (is.sound c channel.A) in
-    let typed : AreLanes (beat.A x) = head_all AreLanes (beat.A x) queue (sys.channels c channel.A) beats
-    (is.typed c channel.A) in
-    let l = leveled (level_of config c) (beat.A x) sound.lawful in
+first-beat {w} {config} {sys} c x queue is beats =
+    let sound : IsSound config (link_of c, Beat.A x) = head_all (λ y. IsSound config (link_of c, y)) (Beat.A x) queue
+    (sys.channels c Channel.A) beats (is.sound c Channel.A) in
+    let typed = head_all AreLanes (Beat.A x) queue (sys.channels c Channel.A) beats (is.typed c Channel.A) in
+    let l = leveled (level_of config c) (Beat.A x) sound.lawful in
     record { level = l.0; level_is = l.1; lawful = l.2; inside = sound.inside; clean = sound.clean; typed = typed }
 
-pub passes-first : {w : ℕ} (config : Config) (c : ℕ) (x : BeatA w) (sys : System w) → sys.manager.closed ≡ []
-    → IsFirstBeat config c x sys
-    → broken_in_order config.profile (beat.A x) (on_link c sys.manager.trace) ≡ None
-    → must_wait config (link_of c) (beat.A x) sys.manager.trace ≡ false
-    → judged config (link_of c) channel.A (beat.A x) sys.manager ≡ Passes
-passes-first config c x sys live is order moves =
-    judged-passes config is.level (link_of c) channel.A (beat.A x) sys.manager
-    (open-level config is.level c sys.manager live is.level_is) is.lawful order moves is.inside is.clean
+pub passes-first : {w : ℕ} {config : Config} {c : ℕ} {x : BeatA w} {sys : System w} → sys.manager.closed ≡ []
+    → IsFirstBeat config c x sys → broken_in_order config.profile (Beat.A x) (on_link c sys.manager.trace) ≡ None
+    → must_wait config (link_of c) (Beat.A x) sys.manager.trace ≡ false
+    → judged config (link_of c) Channel.A (Beat.A x) sys.manager ≡ Passes
+passes-first {config} {c} {x} {sys} live is order moves = judged-passes config is.level (link_of c) Channel.A (Beat.A x)
+    sys.manager (open-level config is.level c sys.manager live is.level_is) is.lawful order moves is.inside is.clean
 
 waits_at : {w : ℕ} (config : Config) (l : Level) (link : Link) (x : BeatA w) (t : Trace w)
-    → illegal l channel.A (beat.A x) ≡ None
-    → before_stall (broken_in_order config.profile (beat.A x) (on_link link.0 t)) ≡ None
-    → must_wait config link (beat.A x) t ≡ true → judged_at config l link channel.A (beat.A x) t ≡ manager.Waits
+    → illegal l Channel.A (Beat.A x) ≡ None
+    → before_stall (broken_in_order config.profile (Beat.A x) (on_link link.0 t)) ≡ None
+    → must_wait config link (Beat.A x) t ≡ true → judged_at config l link Channel.A (Beat.A x) t ≡ manager.Waits
 unfolding judged_at
 waits_at config l link x t lawful order waits = rw (lawful, order, waits) refl
 
 -- one that has to wait is stalled, and not refused
-pub waits-first : {w : ℕ} (config : Config) (c : ℕ) (x : BeatA w) (sys : System w) → sys.manager.closed ≡ []
+pub waits-first : {w : ℕ} {config : Config} {c : ℕ} {x : BeatA w} {sys : System w} → sys.manager.closed ≡ []
     → IsFirstBeat config c x sys
-    → before_stall (broken_in_order config.profile (beat.A x) (on_link c sys.manager.trace)) ≡ None
-    → must_wait config (link_of c) (beat.A x) sys.manager.trace ≡ true
-    → judged config (link_of c) channel.A (beat.A x) sys.manager ≡ manager.Waits
-waits-first config c x sys live is order waits = rw (open-level config is.level c sys.manager live is.level_is)
+    → before_stall (broken_in_order config.profile (Beat.A x) (on_link c sys.manager.trace)) ≡ None
+    → must_wait config (link_of c) (Beat.A x) sys.manager.trace ≡ true
+    → judged config (link_of c) Channel.A (Beat.A x) sys.manager ≡ manager.Waits
+waits-first {config} {c} {x} {sys} live is order waits = rw (open-level config is.level c sys.manager live is.level_is)
     (waits_at config is.level (link_of c) x sys.manager.trace is.lawful order waits)
 
 -- what is judged before the stall is none of an Acquire either
@@ -346,49 +293,39 @@ early_none true y = refl
 early_none false true = refl
 early_none false false = refl
 
-early_first : {w : ℕ} (p : Profile) (x : BeatA w) (t : History w) → unfinished channel.A t ≡ []
-    → pending (key.RequestSource x.source) t ≡ false → before_stall (broken_in_order p (beat.A x) t) ≡ None
+early_first : {w : ℕ} (p : Profile) (x : BeatA w) (t : History w) → unfinished Channel.A t ≡ []
+    → pending (Key.RequestSource x.source) t ≡ false → before_stall (broken_in_order p (Beat.A x) t) ≡ None
 unfolding broken_order
 early_first p x t none free = rw (none, free) (early_none
-    (is_acquire x.opcode && (pending (key.AcquireOf (block_at x.address)) t || pending
-    (key.ReleaseOf (block_at x.address)) t))
+    (is_acquire x.opcode && (pending (Key.AcquireOf (block_at x.address)) t || pending
+    (Key.ReleaseOf (block_at x.address)) t))
     (is_acquire x.opcode && not (grows_from x.param (held (block_at x.address) t))))
 
-pub early-acquire : {w : ℕ} (config : Config) (log : Log w) (mail : AccessMessages w) (request : ℕ → MessageA w)
-    (s : State (List ℕ)) (sys : System w) (c n k : ℕ)
-    → SimulationRelation config log mail request s sys → (is_it : IsWanted w c n s)
-    → unfinished channel.A (on_link c sys.manager.trace) ≡ begun
-    (message.A (acquisition (acquire_opcode is_it.whole) is_it.grow ((s.block n).source c) n)) k
+pub early-acquire : {w : ℕ} {config : Config} {log : Log w} {mail : AccessMessages w} {request : ℕ → MessageA w}
+    {s : State (List ℕ)} {sys : System w} {c n : ℕ} (k : ℕ) → SimulationRelation config log mail request s sys
+    → (is_it : IsWanted w c n s) → unfinished Channel.A (on_link c sys.manager.trace)
+    ≡ begun (Message.A (acquisition (acquire_opcode is_it.whole) is_it.grow ((s.block n).source c) n)) k
     → before_stall (broken_in_order config.profile
-    (beat.A (a_beat_of (acquisition (acquire_opcode is_it.whole) is_it.grow ((s.block n).source c) n) k))
+    (Beat.A (a_beat_of (acquisition (acquire_opcode is_it.whole) is_it.grow ((s.block n).source c) n) k))
     (on_link c sys.manager.trace)) ≡ None
-early-acquire {w} config log mail request s sys c n zero is is_it burst =
+early-acquire {w} {config} {log} {mail} {request} {s} {sys} {c} {n} zero is is_it burst =
+    let unserved_own : (v : View) → is_unserved v ≡ true → is_own v ≡ false =
+    elim [ Own ↦ λ e. absurd cc | v ↦ λ e. refl ] in
     early_first config.profile (a_beat_of (acquisition (acquire_opcode is_it.whole) is_it.grow ((s.block n).source c) n)
     0) (on_link c sys.manager.trace) burst
-    (source-free config log mail request s sys c ((s.block n).source c) is
+    (source-free c ((s.block n).source c) is
     (rw is_it.used (unserved_own (view (s.block n).service c) is_it.unserved)) burst)
-  where
-    unserved_own : (v : View) → is_unserved v ≡ true → is_own v ≡ false
-    unserved_own Idle e = refl
-    unserved_own Own e = absurd cc
-    unserved_own (Other k) e = refl
-    unserved_own (Granting d k) e = refl
-    unserved_own Acknowledging e = refl
-    unserved_own GrantedOther e = refl
-early-acquire {w} config log mail request s sys c n (suc i) is is_it burst =
+early-acquire {w} {config} {s} {sys} {c} {n} (suc i) is is_it burst =
     ap before_stall (later-legal config.profile
-    (message.A (acquisition (acquire_opcode is_it.whole) is_it.grow ((s.block n).source c) n)) i
+    (Message.A (acquisition (acquire_opcode is_it.whole) is_it.grow ((s.block n).source c) n)) i
     (on_link c sys.manager.trace) burst)
 
 -- ---- the answers
 
 pub offered-taken : {w : ℕ} (config : Config) (link : Link) (ch : Channel) (x : Beat w) (e : End w)
     → judged config link ch x e ≡ Passes
-    → offered config link ch x e ≡ (
-      manager.Sent (reaction config link x e).handed,
-      taken link x
-          (reaction config link x e) e,
-    )
+    → offered config link ch x e
+    ≡ (manager.Sent (reaction config link x e).handed, taken link x (reaction config link x e) e)
 unfolding offered
 offered-taken config link ch x e f = ap (λ j. offered_as j config link x e) f
 

@@ -2,32 +2,23 @@
 use Rattle.tl_coherence.proofs.manager.Imports.{IsWidth, Beat, BeatA, Link, A, MessageA, a_beat_of, beats_of, begun}
 use Rattle.tl_coherence.proofs.manager.Imports.{History, unfinished, Config, Trace, on_link, ends, request_of, block_at}
 use Rattle.tl_coherence.proofs.manager.Imports.{is_last, IsKept, services, least_untaken, trackers_of, End, Passes}
-use Rattle.tl_coherence.proofs.manager.Imports.{judged}
+use Rattle.tl_coherence.proofs.manager.Imports.{judged, Channel}
 use Rattle.std.proofs.Common.{◌≡◌, subst, ℕ, zero, suc, ◌+◌, ◌-◌, ◌*◌, ◌<◌, ◌≤◌, ◌==◌, Bool, true, false, ◌&&◌, List}
 use Rattle.std.proofs.Common.{[], ◌∷◌, Option, Some, None, length, refl, sym, ◌∙◌, ap, arith}
-use Rattle.std.specs.Prelude.{if◌then◌else◌, replicate, drop, option_map, slice_range, min, ⊤, IfSome}
+use Rattle.std.specs.Prelude.{if◌then◌else◌, replicate, drop, slice_range, min, ⊤, IfSome}
 use Rattle.std.proofs.lemmas.List.{length-take, length-drop, length-replicate}
 use Rattle.tl_beat.specs.statement.Opcode.{a_carries_data}
-use Rattle.tl_beat.specs.declared.beat.Beat.TheVariants as beat
-use Rattle.tl_beat.specs.declared.channel.Channel.TheVariants as channel
 use Rattle.tl_burst.specs.statement.Burst.{lanes_at, IsBlankAfter, IsZeroFrom}
-use Rattle.tl_burst.specs.statement.Messages.{grown, burst_length}
-use Rattle.tl_rules.specs.statement.History.{begins}
-use Rattle.tl_manager.specs.code.Kept.{IsTyped}
-use Rattle.tl_rules.proofs.Checks.{beats_room}
-use Rattle.tl_burst.proofs.Begun.{length-begun}
-use Rattle.tl_manager.specs.statement.Request.{request_carried}
-use Rattle.tl_manager.specs.statement.Service.{Service}
-use Rattle.tl_manager.proofs.messages.Assembled.{request-again}
-use Rattle.tl_manager.proofs.judging.Judged.{passed}
-use Rattle.tl_manager.proofs.calls.Keeping.{is_taken}
-use Rattle.tl_manager.proofs.pending.Requested.{service_made, made}
-use Rattle.tl_manager.proofs.services.Serving.{some_is}
-use Rattle.tl_manager.proofs.pending.Steady.{request-ready}
+use Rattle.tl_burst.{specs.statement.Messages.grown, specs.statement.Messages.burst_length, proofs.Begun.length-begun}
+use Rattle.tl_rules.{specs.statement.History.begins, proofs.Checks.beats_room}
+use Rattle.tl_manager.{specs.code.Kept.IsTyped, specs.statement.Service.Service}
+use Rattle.tl_manager.{proofs.messages.Assembled.request-again, proofs.judging.Judged.passed}
+use Rattle.tl_manager.{proofs.calls.Keeping.is_taken, proofs.pending.Requested.service_made}
+use Rattle.tl_manager.{proofs.pending.Requested.made, proofs.services.Serving.some_is}
+use Rattle.tl_manager.{proofs.pending.Steady.request-ready}
 use Rattle.std.proofs.lemmas.Bool.{le-leb, ne_eqb}
 use Rattle.tl_manager.specs.code.Ready.{IsReady, IsServed, IsTaken}
-use Rattle.tl_coherence.proofs.queues.Tokens.{same_number}
-use Rattle.tl_coherence.proofs.protocol.Room.{positive}
+use Rattle.tl_coherence.proofs.{queues.Tokens.same_number, protocol.Room.positive}
 
 -- ---- the request that an unfinished burst began with (to stand in tl_rules)
 
@@ -39,77 +30,72 @@ oldest (x ∷ y ∷ beats) = oldest (y ∷ beats)
 
 -- it is the last request that began with its source
 abbrev IsOpened : {w : ℕ} → History w → Option (Beat w) → Type 0
-IsOpened t (Some (beat.A x)) = request_of x.source t ≡ Some x
+IsOpened t (Some (Beat.A x)) = request_of x.source t ≡ Some x
 IsOpened t _ = ⊤
 
 opened-other : {w : ℕ} (t u : History w) (o : Option (Beat w)) → ((s : ℕ) → request_of s u ≡ request_of s t)
     → IsOpened t o → IsOpened u o
-opened-other t u None same ok = tt
-opened-other t u (Some (beat.A x)) same ok = same x.source ∙ ok
-opened-other t u (Some (beat.B x)) same ok = tt
-opened-other t u (Some (beat.C x)) same ok = tt
-opened-other t u (Some (beat.D x)) same ok = tt
-opened-other t u (Some (beat.E x)) same ok = tt
+opened-other t u (Some (Beat.A x)) same ok = same x.source ∙ ok
+opened-other t u o same ok = tt
 
 -- a request that begins
-now_opened : {w : ℕ} (x : BeatA w) (t : History w) → begins (beat.A x) t ≡ true
-    → request_of x.source (beat.A x ∷ t) ≡ Some x
+now_opened : {w : ℕ} (x : BeatA w) (t : History w) → begins (Beat.A x) t ≡ true
+    → request_of x.source (Beat.A x ∷ t) ≡ Some x
 unfolding request_of
 now_opened x t b = rw (b, same_number x.source) refl
 
-still_opened : {w : ℕ} (x : BeatA w) (t : History w) (s : ℕ) → begins (beat.A x) t ≡ false
-    → request_of s (beat.A x ∷ t) ≡ request_of s t
+still_opened : {w : ℕ} (x : BeatA w) (t : History w) (s : ℕ) → begins (Beat.A x) t ≡ false
+    → request_of s (Beat.A x ∷ t) ≡ request_of s t
 unfolding request_of
 still_opened x t s b = rw b refl
 
-grown_opened : {w : ℕ} (x : BeatA w) (t : History w) (burst : List (Beat w)) → unfinished channel.A t ≡ burst
-    → IsOpened t (oldest burst) → IsOpened (beat.A x ∷ t) (oldest (grown (beat.A x) burst))
-grown_opened {w} x t burst is ok = go burst is ok (length burst + 1 == burst_length (beat.A x))
+grown_opened : {w : ℕ} (x : BeatA w) (t : History w) (burst : List (Beat w)) → unfinished Channel.A t ≡ burst
+    → IsOpened t (oldest burst) → IsOpened (Beat.A x ∷ t) (oldest (grown (Beat.A x) burst))
+grown_opened {w} x t burst is ok = go burst is ok (length burst + 1 == burst_length (Beat.A x))
   where
-    go : (burst : List (Beat w)) → unfinished channel.A t ≡ burst → IsOpened t (oldest burst) → (b : Bool)
-        → IsOpened (beat.A x ∷ t) (oldest (if b then [] else beat.A x ∷ burst))
+    go : (burst : List (Beat w)) → unfinished Channel.A t ≡ burst → IsOpened t (oldest burst) → (b : Bool)
+        → IsOpened (Beat.A x ∷ t) (oldest (if b then [] else Beat.A x ∷ burst))
     go burst is ok true = tt
     go [] is ok false = now_opened x t (rw is refl)
-    go (y ∷ beats) is ok false = opened-other t (beat.A x ∷ t) (oldest (y ∷ beats))
+    go (y ∷ beats) is ok false = opened-other t (Beat.A x ∷ t) (oldest (y ∷ beats))
         (λ s. still_opened x t s (rw is refl)) ok
 
-opened-always : {w : ℕ} (t : History w) → IsOpened t (oldest (unfinished channel.A t))
+opened-always : {w : ℕ} (t : History w) → IsOpened t (oldest (unfinished Channel.A t))
 unfolding unfinished request_of
 opened-always [] = tt
-opened-always (beat.A x ∷ t) = grown_opened x t (unfinished channel.A t) refl (opened-always t)
-opened-always (beat.B x ∷ t) = opened-other t (beat.B x ∷ t) (oldest (unfinished channel.A t)) (λ s. refl)
+opened-always (Beat.A x ∷ t) = grown_opened x t (unfinished Channel.A t) refl (opened-always t)
+opened-always (Beat.B x ∷ t) = opened-other t (Beat.B x ∷ t) (oldest (unfinished Channel.A t)) (λ s. refl)
     (opened-always t)
-opened-always (beat.C x ∷ t) = opened-other t (beat.C x ∷ t) (oldest (unfinished channel.A t)) (λ s. refl)
+opened-always (Beat.C x ∷ t) = opened-other t (Beat.C x ∷ t) (oldest (unfinished Channel.A t)) (λ s. refl)
     (opened-always t)
-opened-always (beat.D x ∷ t) = opened-other t (beat.D x ∷ t) (oldest (unfinished channel.A t)) (λ s. refl)
+opened-always (Beat.D x ∷ t) = opened-other t (Beat.D x ∷ t) (oldest (unfinished Channel.A t)) (λ s. refl)
     (opened-always t)
-opened-always (beat.E x ∷ t) = opened-other t (beat.E x ∷ t) (oldest (unfinished channel.A t)) (λ s. refl)
+opened-always (Beat.E x ∷ t) = opened-other t (Beat.E x ∷ t) (oldest (unfinished Channel.A t)) (λ s. refl)
     (opened-always t)
 
-oldest-begun : {w : ℕ} (m : MessageA w) (i : ℕ) → oldest (begun (A m) (suc i)) ≡ Some (beat.A (a_beat_of m 0))
+oldest-begun : {w : ℕ} (m : MessageA w) (i : ℕ) → oldest (begun (A m) (suc i)) ≡ Some (Beat.A (a_beat_of m 0))
 oldest-begun m zero = refl
 oldest-begun m (suc i) = oldest-begun m i
 
 -- the last request with the source of one that is unfinished is that one
-pub request-begun : {w : ℕ} (m : MessageA w) (i : ℕ) (t : History w) → unfinished channel.A t ≡ begun (A m) (suc i)
+pub request-begun : {w : ℕ} (m : MessageA w) (i : ℕ) (t : History w) → unfinished Channel.A t ≡ begun (A m) (suc i)
     → request_of m.source t ≡ Some (a_beat_of m 0)
 request-begun {w} m i t burst = subst (IsOpened t) (ap oldest burst ∙ oldest-begun m i) (opened-always t)
 
 -- the last request with each source after a beat of a request
-pub request-taken : {w : ℕ} (m : MessageA w) (k : ℕ) (t : History w) → unfinished channel.A t ≡ begun (A m) k
-    → request_of m.source (beat.A (a_beat_of m k) ∷ t) ≡ Some (a_beat_of m 0)
+pub request-taken : {w : ℕ} (m : MessageA w) (k : ℕ) (t : History w) → unfinished Channel.A t ≡ begun (A m) k
+    → request_of m.source (Beat.A (a_beat_of m k) ∷ t) ≡ Some (a_beat_of m 0)
 request-taken m zero t burst = now_opened (a_beat_of m 0) t (rw burst refl)
 request-taken m (suc i) t burst = still_opened (a_beat_of m (suc i)) t m.source (rw burst refl) ∙ request-begun m i t
     burst
 
 pub request-else : {w : ℕ} (x : BeatA w) (t : History w) (s : ℕ) → (x.source ≡ s → ⊥)
-    → request_of s (beat.A x ∷ t) ≡ request_of s t
+    → request_of s (Beat.A x ∷ t) ≡ request_of s t
 unfolding request_of
-request-else {w} x t s other = rw (ne_eqb x.source s other) (go (begins (beat.A x) t))
-  where
-    go : (b : Bool) → (if b && false then Some x else request_of s t) ≡ request_of s t
-    go true = refl
-    go false = refl
+request-else {w} x t s other =
+    let go : (b : Bool) → (if b && false then Some x else request_of s t) ≡ request_of s t =
+    elim [ true ↦ refl | false ↦ refl ] in
+    rw (ne_eqb x.source s other) (go (begins (Beat.A x) t))
 
 -- ---- its payload has 64 bytes
 
@@ -138,7 +124,7 @@ payload-length w k n false payload some last room lanes blank =
     omega (arith, zeros, total)
 
 pub request-filled : {w : ℕ} (m : MessageA w) (k : ℕ) → IsWidth w → beats_of (A m) ≡ suc k
-    → IsTyped (beat.A (a_beat_of m k)) → IsBlankAfter (beats_of (A m)) (A m) → length m.payload ≡ 64
+    → IsTyped (Beat.A (a_beat_of m k)) → IsBlankAfter (beats_of (A m)) (A m) → length m.payload ≡ 64
 request-filled {w} m k width last typed blank = payload-length w k (beats_of (A m)) (a_carries_data m.opcode) m.payload
     (positive w width) last (beats_room (A m) width) typed.1 blank.0
 
@@ -149,53 +135,52 @@ link_of c = record { 0 = c }
 
 -- the trace with one more beat of a request
 abbrev pub with_beat : {w : ℕ} → ℕ → MessageA w → ℕ → Trace w → Trace w
-with_beat c m k t = (link_of c, beat.A (a_beat_of m k)) ∷ t
+with_beat c m k t = (link_of c, Beat.A (a_beat_of m k)) ∷ t
 
 -- Beat k of this request comes on the link of client c, and the manager takes it.
 pub record IsComing {w : ℕ} (config : Config) (c k : ℕ) (m : MessageA w) (e : End w) : Type 0 where
   pub width : IsWidth w
   pub kept : IsKept config e
   pub within : k < beats_of (A m)
-  pub burst : unfinished channel.A (on_link c e.trace) ≡ begun (A m) k
-  pub typed : IsTyped (beat.A (a_beat_of m k))
+  pub burst : unfinished Channel.A (on_link c e.trace) ≡ begun (A m) k
+  pub typed : IsTyped (Beat.A (a_beat_of m k))
   pub blank : IsBlankAfter (beats_of (A m)) (A m)
-  pub passes : judged config (link_of c) channel.A (beat.A (a_beat_of m k)) e ≡ Passes
+  pub passes : judged config (link_of c) Channel.A (Beat.A (a_beat_of m k)) e ≡ Passes
 
-pub taken-coming : {w : ℕ} (config : Config) (c k : ℕ) (m : MessageA w) (e : End w) → IsComing config c k m e
-    → IsTaken config (link_of c) (beat.A (a_beat_of m k)) e
-taken-coming config c k m e is = is_taken config (link_of c) (beat.A (a_beat_of m k)) e is.width
-    (passed config (link_of c) channel.A (beat.A (a_beat_of m k)) e is.typed is.passes) is.kept
+pub taken-coming : {w : ℕ} {config : Config} {c k : ℕ} {m : MessageA w} {e : End w} → IsComing config c k m e
+    → IsTaken config (link_of c) (Beat.A (a_beat_of m k)) e
+taken-coming {config} {c} {k} {m} {e} is = is_taken config (link_of c) (Beat.A (a_beat_of m k)) e is.width
+    (passed config (link_of c) Channel.A (Beat.A (a_beat_of m k)) e is.typed is.passes) is.kept
 
-pub ends-coming : {w : ℕ} (config : Config) (c k : ℕ) (m : MessageA w) (e : End w) → IsComing config c k m e
-    → ends (beat.A (a_beat_of m k)) (on_link c e.trace) ≡ (k + 1 == beats_of (A m))
-ends-coming config c k m e is = rw (is.burst, length-begun (A m) k) refl
+pub ends-coming : {w : ℕ} {config : Config} {c k : ℕ} {m : MessageA w} {e : End w} → IsComing config c k m e
+    → ends (Beat.A (a_beat_of m k)) (on_link c e.trace) ≡ (k + 1 == beats_of (A m))
+ends-coming {k} {m} is = rw (is.burst, length-begun (A m) k) refl
 
 -- the service of the request that it completes
 abbrev pub service_for : {w : ℕ} → ℕ → MessageA w → Trace w → Service w
 service_for c m t = record { tracker = least_untaken (trackers_of (services t)); link = link_of c; request = m }
 
-pub served-last : {w : ℕ} (config : Config) (c k : ℕ) (m : MessageA w) (e : End w) → IsComing config c k m e
-    → beats_of (A m) ≡ suc k
-    → IsServed (link_of c) (a_beat_of m k) (service_for c m e.trace) e.trace
-served-last {w} config c k m e is last = record {
-  last = ends-coming config c k m e is ∙ rw last (is_last k (suc k) (omega arith));
-  made = ap (option_map with_tracker) (ap (λ (b : List (Beat w)). request_carried (beat.A (a_beat_of m k) ∷ b)) is.burst
-      ∙ request-again m (begun (A m) (suc k)) is.width (request-filled m k is.width last is.typed is.blank)
-      (ap (begun (A m)) (sym last), is.blank));
+pub served-last : {w : ℕ} {config : Config} {c k : ℕ} {m : MessageA w} {e : End w} → IsComing config c k m e
+    → beats_of (A m) ≡ suc k → IsServed (link_of c) (a_beat_of m k) (service_for c m e.trace) e.trace
+served-last {w} {config} {c} {k} {m} {e} is last = record {
+  last = ends-coming is ∙ rw last (is_last k (suc k) (omega arith));
+  made = cc (
+    is.burst,
+    request-again m (begun (A m) (suc k)) is.width
+        (request-filled m k is.width last is.typed is.blank) (ap (begun (A m)) (sym last), is.blank),
+  );
 }
   where
     with_tracker : MessageA w → Service w
     with_tracker r = record { tracker = least_untaken (trackers_of (services e.trace)); link = link_of c; request = r }
 
 -- and it may be performed
-pub ready-last : {w : ℕ} (config : Config) (c k : ℕ) (m : MessageA w) (e : End w) → IsComing config c k m e
-    → beats_of (A m) ≡ suc k
-    → IsReady config (block_at m.address) (service_for c m e.trace) (with_beat c m k e.trace)
-ready-last {w} config c k m e is last =
-    let served = served-last config c k m e is last in
+pub ready-last : {w : ℕ} {config : Config} {c k : ℕ} {m : MessageA w} {e : End w} → IsComing config c k m e
+    → beats_of (A m) ≡ suc k → IsReady config (block_at m.address) (service_for c m e.trace) (with_beat c m k e.trace)
+ready-last {w} {config} {c} {k} {m} {e} is last =
+    let served = served-last is last in
     let found = made (link_of c) (a_beat_of m k) e.trace served.last (le-leb m.size 6 m.small) in
-    let same : service_made (link_of c) (a_beat_of m k) e.trace found.0 ≡ service_for c m e.trace =
-    some_is (service_made (link_of c) (a_beat_of m k) e.trace found.0) (service_for c m e.trace)
+    let same = some_is (service_made (link_of c) (a_beat_of m k) e.trace found.0) (service_for c m e.trace)
     (sym found.1.made ∙ served.made) in
     subst (λ (v : Service w). IsReady config (block_at m.address) v (with_beat c m k e.trace)) same
-    (request-ready config (link_of c) (a_beat_of m k) e found.0 (taken-coming config c k m e is) found.1)
+    (request-ready config (link_of c) (a_beat_of m k) e found.0 (taken-coming is) found.1)

@@ -1,79 +1,71 @@
 -- The manager's end after a beat of a request: one that isn't the last, and the last one, where others are probed, the
 -- access is answered, or the Acquire is granted.
-use Rattle.tl_coherence.proofs.manager.Imports.{A, MessageA, a_beat_of, beats_of, Config, Cap, on_link, Memory}
-use Rattle.tl_coherence.proofs.manager.Imports.{bytes_from, effect, ends, block_at, Reaction, with_handed, probes}
-use Rattle.tl_coherence.proofs.manager.Imports.{performed, is_nobody, probed, cap_probed, IsKept, illegal_message_at}
-use Rattle.tl_coherence.proofs.manager.Imports.{services, least_untaken, trackers_of, reaction, End, level_of, taken}
+use Rattle.tl_coherence.proofs.manager.Imports.{A, MessageA, a_beat_of, beats_of, Config, Cap, on_link, bytes_from}
+use Rattle.tl_coherence.proofs.manager.Imports.{effect, ends, block_at, Reaction, with_handed, probes, performed}
+use Rattle.tl_coherence.proofs.manager.Imports.{is_nobody, probed, cap_probed, IsKept, illegal_message_at, services}
+use Rattle.tl_coherence.proofs.manager.Imports.{least_untaken, trackers_of, reaction, End, level_of, taken}
 use Rattle.tl_coherence.proofs.manager.Imports.{performed-access, performed-acquire, performs, IsInvariant, Waits}
-use Rattle.tl_coherence.proofs.manager.Imports.{Block, State, granted_at_once, AccessMessages, set, IsServedWith}
+use Rattle.tl_coherence.proofs.manager.Imports.{Block, State, granted_at_once, AccessMessages, set, IsServedWith, Beat}
+use Rattle.tl_coherence.proofs.manager.Imports.{Channel}
 use Rattle.std.proofs.Common.{◌≡◌, subst, ℕ, suc, ◌+◌, ◌*◌, ◌<◌, Bool, false, List, Some, None, refl, sym, ◌∙◌, ap, ap₂}
 use Rattle.std.proofs.Common.{inl, inr}
 use Rattle.std.proofs.lemmas.Bool.{cases_eq, ne_eqb}
-use Rattle.tl_beat.specs.declared.beat.Beat.TheVariants as beat
-use Rattle.tl_beat.specs.declared.channel.Channel.TheVariants as channel
 use Rattle.tl_rules.proofs.Sent.{not_last}
-use Rattle.tl_manager.specs.statement.Handing.{nothing}
-use Rattle.tl_manager.specs.statement.Offer.{Reception}
-use Rattle.tl_manager.proofs.calls.Events.{reaction-part, reaction-probes}
-use Rattle.tl_manager.proofs.calls.Keeping.{kept-offered}
-use Rattle.tl_manager.proofs.blocks.Memories.{memory-elsewhere}
+use Rattle.tl_manager.{specs.statement.Handing.nothing, specs.statement.Offer.Reception}
+use Rattle.tl_manager.{proofs.calls.Events.reaction-part, proofs.calls.Events.reaction-probes}
+use Rattle.tl_manager.{proofs.calls.Keeping.kept-offered, proofs.blocks.Memories.memory-elsewhere}
 use Rattle.tl_coherence.specs.protocol.Protocol.{served_block, performed_block}
-use Rattle.tl_coherence.proofs.manager.Accounts.{traced-known}
-use Rattle.tl_coherence.proofs.manager.Admitted.{offered-taken}
+use Rattle.tl_coherence.proofs.{manager.Accounts.traced-known, manager.Admitted.offered-taken}
+use Rattle.tl_coherence.proofs.{manager.Choices.some-clients, manager.Memories.block-same}
+use Rattle.tl_coherence.proofs.{manager.Memories.performed-block, manager.Probing.IsProbing}
+use Rattle.tl_coherence.proofs.{manager.Probing.traced-probing, manager.Requests.IsUnwaited}
+use Rattle.tl_coherence.proofs.{manager.Requests.traced-more}
 use Rattle.tl_coherence.proofs.manager.Arrivals.{link_of, with_beat, IsComing, ends-coming, service_for, served-last}
-use Rattle.tl_coherence.proofs.manager.Choices.{some-clients}
 use Rattle.tl_coherence.proofs.manager.ManagersEnd.{IsAtManager, at_manager-traced}
-use Rattle.tl_coherence.proofs.manager.Memories.{block-same, performed-block}
 use Rattle.tl_coherence.proofs.manager.Performing.{IsAnswering, traced-answered, IsGranting, traced-granted}
-use Rattle.tl_coherence.proofs.manager.Probing.{IsProbing, traced-probing}
-use Rattle.tl_coherence.proofs.manager.Requests.{IsUnwaited, traced-more}
 use Rattle.tl_coherence.proofs.queues.Tokens.{set-same, set-other, set-part}
 
 -- the manager's end after this beat
 abbrev pub end_after : {w : ℕ} → Config → ℕ → ℕ → MessageA w → End w → End w
 end_after config c k m e =
-    taken (link_of c) (beat.A (a_beat_of m k)) (reaction config (link_of c) (beat.A (a_beat_of m k)) e) e
+    taken (link_of c) (Beat.A (a_beat_of m k)) (reaction config (link_of c) (Beat.A (a_beat_of m k)) e) e
 
 -- where this is done
 abbrev pub end_with : {w : ℕ} → ℕ → ℕ → MessageA w → Reaction w → End w → End w
-end_with c k m d e = taken (link_of c) (beat.A (a_beat_of m k)) d e
+end_with c k m d e = taken (link_of c) (Beat.A (a_beat_of m k)) d e
 
-pub kept-coming : {w : ℕ} (config : Config) (c k : ℕ) (m : MessageA w) (e : End w) → IsComing config c k m e
+pub kept-coming : {w : ℕ} {config : Config} {c k : ℕ} {m : MessageA w} {e : End w} → IsComing config c k m e
     → IsKept config (end_after config c k m e)
-kept-coming {w} config c k m e is =
-    subst (λ (p : Reception w × End w). IsKept config p.1)
-    (offered-taken config (link_of c) channel.A (beat.A (a_beat_of m k)) e is.passes)
-    (kept-offered config (link_of c) channel.A (beat.A (a_beat_of m k)) e is.width is.typed is.kept)
+kept-coming {w} {config} {c} {k} {m} {e} is = subst (λ (p : Reception w × End w). IsKept config p.1)
+    (offered-taken config (link_of c) Channel.A (Beat.A (a_beat_of m k)) e is.passes)
+    (kept-offered config (link_of c) Channel.A (Beat.A (a_beat_of m k)) e is.width is.typed is.kept)
 
 -- other blocks of the memory stay
-pub memory-coming : {w : ℕ} (config : Config) (c k i : ℕ) (m : MessageA w) (e : End w) → IsComing config c k m e
+pub memory-coming : {w : ℕ} {config : Config} {c k : ℕ} (i : ℕ) {m : MessageA w} {e : End w} → IsComing config c k m e
     → (i ≡ block_at m.address → ⊥)
     → bytes_from (end_after config c k m e).memory (64 * i) 64 ≡ bytes_from e.memory (64 * i) 64
-memory-coming {w} config c k i m e is other =
-    block-same (end_after config c k m e).memory e.memory i (λ x f.
-    sym (ap (λ (p : Reception w × End w). p.1.memory x)
-    (offered-taken config (link_of c) channel.A (beat.A (a_beat_of m k)) e is.passes))
-    ∙ memory-elsewhere config (link_of c) channel.A (beat.A (a_beat_of m k)) e x is.width is.typed is.kept
-    (ne_eqb (block_at m.address) (block_at x) (λ g. other (sym (g ∙ f)))))
+memory-coming {w} {config} {c} {k} i {m} {e} is other =
+    cc (block-same (end_after config c k m e).memory e.memory i (λ x f. sym
+    (ap (λ (p : Reception w × End w). p.1.memory x) (offered-taken config (link_of c) Channel.A (Beat.A (a_beat_of m k))
+    e is.passes)) ∙ memory-elsewhere config (link_of c) Channel.A (Beat.A (a_beat_of m k)) e x is.width is.typed is.kept
+    (ne_eqb (block_at m.address) (block_at x) (λ g. other (sym (g ∙ f))))))
 
 -- ---- a beat that isn't the last
 
-pub at_manager-more : {w : ℕ} (caching : ℕ → Bool) (config : Config) (mail : AccessMessages w) (request : ℕ
-    → MessageA w) (s : State (List ℕ)) (c k : ℕ) (m : MessageA w) (e : End w)
-    → IsInvariant caching s → IsComing config c k m e → k + 1 < beats_of (A m) → IsUnwaited c m.source s
-    → IsAtManager config mail request s e
+pub at_manager-more : {w : ℕ} {caching : ℕ → Bool} {config : Config} {mail : AccessMessages w} {request : ℕ
+    → MessageA w} {s : State (List ℕ)} {c k : ℕ} {m : MessageA w} {e : End w} → IsInvariant caching s
+    → IsComing config c k m e → k + 1 < beats_of (A m) → IsUnwaited c m.source s → IsAtManager config mail request s e
     → IsAtManager config mail request s (end_after config c k m e)
 unfolding with_handed
-at_manager-more {w} caching config mail request s c k m e inv is more unwaited known =
-    let part : ends (beat.A (a_beat_of m k)) (on_link c e.trace) ≡ false =
-    ends-coming config c k m e is ∙ not_last k (beats_of (A m)) more in
-    let done : reaction config (link_of c) (beat.A (a_beat_of m k)) e ≡ nothing e.memory =
-    reaction-part config (link_of c) (beat.A (a_beat_of m k)) e part in
+at_manager-more {w} {caching} {config} {mail} {request} {s} {c} {k} {m} {e} inv is more unwaited known =
+    let part : ends (Beat.A (a_beat_of m k)) (on_link c e.trace) ≡ false =
+    ends-coming is ∙ not_last k (beats_of (A m)) more in
+    let done = reaction-part config (link_of c) (Beat.A (a_beat_of m k)) e part in
     let kept : IsKept config (end_with c k m (nothing e.memory) e) =
-    subst (λ (d : Reaction w). IsKept config (end_with c k m d e)) done (kept-coming config c k m e is) in
+    subst (λ (d : Reaction w). IsKept config (end_with c k m d e)) done (kept-coming is) in
     subst (λ (d : Reaction w). IsAtManager config mail request s (end_with c k m d e)) (sym done)
-    (at_manager-traced caching config mail request s (end_with c k m (nothing e.memory) e) inv kept
-    (traced-more config request s c k m e is more unwaited (traced-known request s e.trace known.managed known.served))
+    (at_manager-traced mail inv kept
+    (traced-more is more unwaited (traced-known known.managed known.served))
     known.served_with known.memory known.all_live)
 
 -- ---- the last one: others are probed
@@ -82,138 +74,110 @@ pub reaction-probing : {w : ℕ} (config : Config) (c k n : ℕ) (j : Cap) (m : 
     → IsComing config c k m e → beats_of (A m) ≡ suc k
     → block_at m.address ≡ n → cap_probed m.opcode m.param ≡ Some j
     → is_nobody (probed config (service_for c m e.trace) j (with_beat c m k e.trace)) ≡ false
-    → reaction config (link_of c) (beat.A (a_beat_of m k)) e ≡ record {
-      handed =
-          probes n j (probed config (service_for c m e.trace) j (with_beat c m k e.trace));
-      memory = e.memory;
-    }
-reaction-probing {w} config c k n j m e is last block caps someone =
-    let one = some-clients (probed config (service_for c m e.trace) j (with_beat c m k e.trace)) someone in
-    reaction-probes config (link_of c) (a_beat_of m k) (service_for c m e.trace) j one.0 one.1 e
-    (served-last config c k m e is last) caps one.2
-    ∙ ap₂ (λ i ds. probing_of i ds) block (sym one.2)
-  where
-    probing_of : ℕ → List ℕ → Reaction w
-    probing_of i ds = record { handed = probes i j ds; memory = e.memory }
-
-pub at_manager-probing : {w : ℕ} (caching : ℕ → Bool) (config : Config) (mail : AccessMessages w) (request : ℕ
-    → MessageA w) (c k n : ℕ) (own : Bool) (source : ℕ)
-    (j : Cap) (m : MessageA w) (s u : State (List ℕ)) (e : End w)
-    → IsInvariant caching u
-    → ((i : ℕ) → u.block i ≡ set n (served_block c own source (least_untaken (trackers_of (services e.trace))) j
-    (s.block n)) s.block i)
-    → IsProbing config c k n own source j m s e
-    → is_nobody (probed config (service_for c m e.trace) j (with_beat c m k e.trace)) ≡ false
-    → IsServedWith mail (Waits c own source j) m
-    → IsAtManager config mail request s e → IsAtManager config mail (set n m request) u (end_after config c k m e)
-at_manager-probing {w} caching config mail request c k n own source j m s u e inv blocks is someone with known =
-    let done = reaction-probing config c k n j m e is.comes is.last is.for.2 is.for.3 someone in
-    let kept : IsKept config (end_with c k m probing e) = subst (λ (d : Reaction w). IsKept config (end_with c k m d e))
-    done (kept-coming config c k m e is.comes) in
-    subst (λ (d : Reaction w). IsAtManager config mail (set n m request) u (end_with c k m d e)) (sym done)
-    (at_manager-traced caching config mail (set n m request) u (end_with c k m probing e) inv kept
-    (traced-probing config request c k n own source j m s u e blocks is
-    (traced-known request s e.trace known.managed known.served))
-    served_now (λ i. known.memory i ∙ sym (ap (λ (b : Block (List ℕ)). b.memory) (blocks i) ∙ set-part
-    (λ (b : Block (List ℕ)). b.memory) n new s.block refl i)) known.all_live)
-  where
-    probing : Reaction w
-    probing = record {
+    → reaction config (link_of c) (Beat.A (a_beat_of m k)) e ≡ record {
       handed = probes n j (probed config (service_for c m e.trace) j (with_beat c m k e.trace));
       memory = e.memory;
     }
+reaction-probing {w} config c k n j m e is last block caps someone =
+    let probing_of : ℕ → List ℕ → Reaction w = λ i ds. record { handed = probes i j ds; memory = e.memory } in
+    let one = some-clients (probed config (service_for c m e.trace) j (with_beat c m k e.trace)) someone in
+    reaction-probes config (link_of c) (a_beat_of m k) (service_for c m e.trace) j one.0 one.1 e
+    (served-last is last) caps one.2
+    ∙ ap₂ (λ i ds. probing_of i ds) block (sym one.2)
 
-    new : Block (List ℕ)
-    new = served_block c own source (least_untaken (trackers_of (services e.trace))) j (s.block n)
-
-    served_now : (i : ℕ) → IsServedWith mail (u.block i).service (set n m request i)
-    served_now i = elim (cases_eq i n) [
+pub at_manager-probing : {w : ℕ} {caching : ℕ → Bool} {config : Config} {mail : AccessMessages w} {request : ℕ
+    → MessageA w} {c k n : ℕ} {own : Bool} {source : ℕ} {j : Cap} {m : MessageA w} {s u : State (List ℕ)} {e : End w}
+    → IsInvariant caching u → ((i : ℕ)
+    → u.block i ≡ set n (served_block c own source (least_untaken (trackers_of (services e.trace))) j (s.block n))
+    s.block i) → IsProbing config c k n own source j m s e
+    → is_nobody (probed config (service_for c m e.trace) j (with_beat c m k e.trace)) ≡ false
+    → IsServedWith mail (Waits c own source j) m → IsAtManager config mail request s e
+    → IsAtManager config mail (set n m request) u (end_after config c k m e)
+at_manager-probing {w} {caching} {config} {mail} {request} {c} {k} {n} {own} {source} {j} {m} {s} {u} {e} inv blocks is
+    someone with known =
+    let probing : Reaction w = record {
+      handed = probes n j (probed config (service_for c m e.trace) j (with_beat c m k e.trace));
+      memory = e.memory;
+    } in
+    let new = served_block c own source (least_untaken (trackers_of (services e.trace))) j (s.block n) in
+    let served_now : (i : ℕ) → IsServedWith mail (u.block i).service (set n m request i) = λ i. elim (cases_eq i n) [
       | inl same ↦ rw (same, blocks n, set-same n new s.block, set-same n m request) with
       | inr other ↦ rw (blocks i, set-other n i new s.block other, set-other n i m request other) (known.served_with i)
-    ]
+    ] in
+    let done = reaction-probing config c k n j m e is.comes is.last is.for.2 is.for.3 someone in
+    let kept : IsKept config (end_with c k m probing e) = subst (λ (d : Reaction w). IsKept config (end_with c k m d e))
+    done (kept-coming is.comes) in
+    subst (λ (d : Reaction w). IsAtManager config mail (set n m request) u (end_with c k m d e)) (sym done)
+    (at_manager-traced mail inv kept
+    (traced-probing u blocks is
+    (traced-known known.managed known.served))
+    served_now (λ i. known.memory i ∙ sym (ap (λ (b : Block (List ℕ)). b.memory) (blocks i) ∙ set-part
+    (λ (b : Block (List ℕ)). b.memory) n new s.block refl i)) known.all_live)
 
 -- ---- the last one: the access is answered
 
-pub at_manager-answered : {w : ℕ} (caching : ℕ → Bool) (config : Config) (mail : AccessMessages w) (request : ℕ
-    → MessageA w) (c k n : ℕ) (m : MessageA w) (s u : State (List ℕ)) (e : End w)
+pub at_manager-answered : {w : ℕ} {caching : ℕ → Bool} {config : Config} {mail : AccessMessages w} {request : ℕ
+    → MessageA w} {c k n : ℕ} {m : MessageA w} {s u : State (List ℕ)} {e : End w}
     → IsInvariant caching u → ((i : ℕ) → u.block i ≡ set n (performed_block (performs m) (s.block n)) s.block i)
     → IsAnswering config c k n m s e → illegal_message_at (level_of config c) (A m) ≡ None
-    → reaction config (link_of c) (beat.A (a_beat_of m k)) e ≡ performed config (service_for c m e.trace)
+    → reaction config (link_of c) (Beat.A (a_beat_of m k)) e ≡ performed config (service_for c m e.trace)
     (with_beat c m k e.trace) e.memory
     → IsAtManager config mail request s e → IsAtManager config mail request u (end_after config c k m e)
-at_manager-answered {w} caching config mail request c k n m s u e inv blocks is lawful done known =
-    let kept : IsKept config (end_with c k m answering e) =
-    subst (λ (d : Reaction w). IsKept config (end_with c k m d e)) done (kept-coming config c k m e is.comes) in
-    subst (λ (d : Reaction w). IsAtManager config mail request u (end_with c k m d e)) (sym done)
-    (at_manager-traced caching config mail request u (end_with c k m answering e) inv kept
-    (traced-answered config request c k n (performs m) m s u e.memory e blocks is
-    (traced-known request s e.trace known.managed known.served)) served_now memory_now known.all_live)
-  where
-    answering : Reaction w
-    answering = performed config (service_for c m e.trace) (with_beat c m k e.trace) e.memory
-
-    new : Block (List ℕ)
-    new = performed_block (performs m) (s.block n)
-
-    served_now : (i : ℕ) → IsServedWith mail (u.block i).service (request i)
-    served_now i = rw (ap (λ (b : Block (List ℕ)). b.service) (blocks i) ∙ set-part (λ (b : Block (List ℕ)). b.service)
-        n new s.block refl i) (known.served_with i)
-
-    memory_is : answering.memory ≡ (effect (A m) e.memory).0
-    memory_is = ap (λ (d : Reaction w). d.memory) (performed-access config (service_for c m e.trace)
-        (with_beat c m k e.trace) e.memory is.access)
-
-    memory_here : bytes_from answering.memory (64 * n) 64 ≡ performs m (s.block n).memory
-    memory_here =
-        ap (λ (f : Memory). bytes_from f (64 * n) 64) memory_is ∙ ap (λ i. bytes_from (effect (A m) e.memory).0 (64 * i)
-        64) (sym is.block)
-        ∙ performed-block (level_of config c) m e.memory is.comes.width lawful ∙ ap
-        (λ i. performs m (bytes_from e.memory (64 * i) 64)) is.block ∙ ap (performs m) (known.memory n)
-
-    memory_else : (i : ℕ) → (i ≡ n → ⊥) → bytes_from answering.memory (64 * i) 64 ≡ bytes_from e.memory (64 * i) 64
-    memory_else i other = ap (λ (d : Reaction w). bytes_from d.memory (64 * i) 64) (sym done) ∙ memory-coming config c k
-        i m e is.comes (λ f. other (f ∙ is.block))
-
-    memory_now : (i : ℕ) → bytes_from answering.memory (64 * i) 64 ≡ (u.block i).memory
-    memory_now i = elim (cases_eq i n) [
+at_manager-answered {w} {caching} {config} {mail} {request} {c} {k} {n} {m} {s} {u} {e} inv blocks is lawful done
+    known =
+    let answering : Reaction w = performed config (service_for c m e.trace) (with_beat c m k e.trace) e.memory in
+    let new : Block (List ℕ) = performed_block (performs m) (s.block n) in
+    let served_now : (i : ℕ) → IsServedWith mail (u.block i).service (request i) =
+    λ i. rw (ap (λ (b : Block (List ℕ)). b.service) (blocks i) ∙ set-part (λ (b : Block (List ℕ)). b.service) n new
+    s.block refl i) (known.served_with i) in
+    let memory_is : answering.memory ≡ (effect (A m) e.memory).0 =
+    cc (performed-access config (service_for c m e.trace) (with_beat c m k e.trace) e.memory is.access) in
+    let memory_here : bytes_from answering.memory (64 * n) 64 ≡ performs m (s.block n).memory =
+    cc (
+      memory_is,
+      is.block,
+      performed-block (level_of config c) m e.memory is.comes.width lawful,
+      known.memory n,
+    ) in
+    let memory_else : (i : ℕ) → (i ≡ n → ⊥) → bytes_from answering.memory (64 * i) 64 ≡ bytes_from e.memory (64 * i)
+    64 = λ i other. cc (done, memory-coming i is.comes (λ f. other (f ∙ is.block))) in
+    let memory_now : (i : ℕ) → bytes_from answering.memory (64 * i) 64 ≡ (u.block i).memory = λ i. elim (cases_eq i n) [
       | inl same ↦ rw (same, blocks n, set-same n new s.block) memory_here
       | inr other ↦ rw (blocks i, set-other n i new s.block other) (memory_else i other ∙ known.memory i)
-    ]
+    ] in
+    let kept : IsKept config (end_with c k m answering e) =
+    subst (λ (d : Reaction w). IsKept config (end_with c k m d e)) done (kept-coming is.comes) in
+    subst (λ (d : Reaction w). IsAtManager config mail request u (end_with c k m d e)) (sym done)
+    (at_manager-traced mail inv kept
+    (traced-answered (performs m) u e.memory blocks is
+    (traced-known known.managed known.served)) served_now memory_now known.all_live)
 
 -- ---- the last one: the Acquire is granted
 
-pub at_manager-granted : {w : ℕ} (caching : ℕ → Bool) (config : Config) (mail : AccessMessages w) (request : ℕ
-    → MessageA w) (c k n : ℕ) (b : Bool) (j : Cap) (m : MessageA w) (s u : State (List ℕ)) (e : End w)
+pub at_manager-granted : {w : ℕ} {caching : ℕ → Bool} {config : Config} {mail : AccessMessages w} {request : ℕ
+    → MessageA w} {c k n : ℕ} (b : Bool) {j : Cap} {m : MessageA w} {s u : State (List ℕ)} {e : End w}
     → IsInvariant caching u → ((i : ℕ)
-    → u.block i ≡ set n (granted_at_once c (least_untaken (trackers_of (services e.trace))) b j (s.block n)) s.block
-    i)
-    → IsGranting config c k n j m s e
-    → reaction config (link_of c) (beat.A (a_beat_of m k)) e ≡ performed config (service_for c m e.trace)
-    (with_beat c m k e.trace) e.memory
+    → u.block i ≡ set n (granted_at_once c (least_untaken (trackers_of (services e.trace))) b j (s.block n)) s.block i)
+    → IsGranting config c k n j m s e → reaction config (link_of c) (Beat.A (a_beat_of m k)) e
+    ≡ performed config (service_for c m e.trace) (with_beat c m k e.trace) e.memory
     → IsAtManager config mail request s e → IsAtManager config mail (set n m request) u (end_after config c k m e)
-at_manager-granted {w} caching config mail request c k n b j m s u e inv blocks is done known =
-    let kept : IsKept config (end_with c k m granting e) =
-    subst (λ (d : Reaction w). IsKept config (end_with c k m d e)) done (kept-coming config c k m e is.comes) in
-    subst (λ (d : Reaction w). IsAtManager config mail (set n m request) u (end_with c k m d e)) (sym done)
-    (at_manager-traced caching config mail (set n m request) u (end_with c k m granting e) inv kept
-    (traced-granted config request c k n b j m s u e.memory e blocks is
-    (traced-known request s e.trace known.managed known.served)) served_now memory_now known.all_live)
-  where
-    granting : Reaction w
-    granting = performed config (service_for c m e.trace) (with_beat c m k e.trace) e.memory
-
-    new : Block (List ℕ)
-    new = granted_at_once c (least_untaken (trackers_of (services e.trace))) b j (s.block n)
-
-    served_now : (i : ℕ) → IsServedWith mail (u.block i).service (set n m request i)
-    served_now i = elim (cases_eq i n) [
+at_manager-granted {w} {caching} {config} {mail} {request} {c} {k} {n} b {j} {m} {s} {u} {e} inv blocks is done known =
+    let granting : Reaction w = performed config (service_for c m e.trace) (with_beat c m k e.trace) e.memory in
+    let new : Block (List ℕ) = granted_at_once c (least_untaken (trackers_of (services e.trace))) b j (s.block n) in
+    let served_now : (i : ℕ) → IsServedWith mail (u.block i).service (set n m request i) = λ i. elim (cases_eq i n) [
       | inl same ↦ rw (same, blocks n, set-same n new s.block) tt
       | inr other ↦ rw (blocks i, set-other n i new s.block other, set-other n i m request other) (known.served_with i)
-    ]
-
-    memory_now : (i : ℕ) → bytes_from granting.memory (64 * i) 64 ≡ (u.block i).memory
-    memory_now i =
-        ap (λ (d : Reaction w). bytes_from d.memory (64 * i) 64) (performed-acquire config (service_for c m e.trace)
-        (with_beat c m k e.trace) e.memory is.acquires) ∙ known.memory i
-        ∙ sym (ap (λ (y : Block (List ℕ)). y.memory) (blocks i) ∙ set-part (λ (y : Block (List ℕ)). y.memory) n new
-        s.block refl i)
+    ] in
+    let memory_now : (i : ℕ) → bytes_from granting.memory (64 * i) 64 ≡ (u.block i).memory =
+    λ i. cc (
+      performed-acquire config (service_for c m e.trace) (with_beat c m k e.trace) e.memory is.acquires,
+      known.memory i,
+      blocks i,
+      set-part (λ (y : Block (List ℕ)). y.memory) n new s.block refl i,
+    ) in
+    let kept : IsKept config (end_with c k m granting e) =
+    subst (λ (d : Reaction w). IsKept config (end_with c k m d e)) done (kept-coming is.comes) in
+    subst (λ (d : Reaction w). IsAtManager config mail (set n m request) u (end_with c k m d e)) (sym done)
+    (at_manager-traced mail inv kept
+    (traced-granted b u e.memory blocks is
+    (traced-known known.managed known.served)) served_now memory_now known.all_live)

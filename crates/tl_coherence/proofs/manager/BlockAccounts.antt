@@ -1,30 +1,22 @@
 -- What one block's service says of the links of its clients.
-use Rattle.tl_coherence.proofs.manager.Imports.{MessageA, a_beat_of, Config, ProbeOf, Cap, Trace, on_link}
-use Rattle.tl_coherence.proofs.manager.Imports.{pending, block_at, request_of, swapped}
-use Rattle.tl_coherence.proofs.manager.Imports.{recorded, IsKept, services, service_of_block, End}
-use Rattle.tl_coherence.proofs.manager.Imports.{ClientBlock, View, Own, Other, Granting, Acknowledging, GrantedOther}
-use Rattle.tl_coherence.proofs.manager.Imports.{is_unprobed, ok, Service, Free, Waits, GrantSent, GrantTaken, State}
-use Rattle.tl_coherence.proofs.manager.Imports.{view}
-use Rattle.tl_coherence.proofs.manager.Imports.{is_granting, is_acknowledging, IsInvariant}
-use Rattle.tl_coherence.proofs.manager.Imports.{ManagerRelation, is_own, client_in, service_with}
-use Rattle.tl_coherence.proofs.manager.Imports.{IsFor}
-use Rattle.std.proofs.Common.{◌≡◌, ℕ, ◌==◌, Bool, true, false, not, ◌&&◌, ◌||◌, List, [], ◌∷◌, Some, None, refl}
-use Rattle.std.proofs.Common.{sym, ◌∙◌, ap, inl, inr}
-use Rattle.std.specs.Prelude.{if◌then◌else◌}
-use Rattle.std.proofs.Math.Bool.{or-true}
-use Rattle.std.proofs.lemmas.Bool.{cases_eq, ne_eqb}
-use Rattle.tl_manager.specs.code.Kept.{AreApart, blocks_of}
+use Rattle.tl_coherence.proofs.manager.Imports.{MessageA, a_beat_of, Config, ProbeOf, Cap, Trace, on_link, pending}
+use Rattle.tl_coherence.proofs.manager.Imports.{block_at, request_of, swapped, recorded, IsKept, services}
+use Rattle.tl_coherence.proofs.manager.Imports.{service_of_block, End, ClientBlock, View, Own, Other, Granting}
+use Rattle.tl_coherence.proofs.manager.Imports.{Acknowledging, GrantedOther, is_unprobed, ok, Service, Free, Waits}
+use Rattle.tl_coherence.proofs.manager.Imports.{GrantSent, GrantTaken, State, view, is_granting, is_acknowledging}
+use Rattle.tl_coherence.proofs.manager.Imports.{IsInvariant, ManagerRelation, is_own, client_in, service_with, IsFor}
+use Rattle.std.proofs.Common.{◌≡◌, ℕ, ◌==◌, Bool, true, false, not, ◌&&◌, ◌||◌, List, [], ◌∷◌, Some, None, refl, sym}
+use Rattle.std.proofs.Common.{◌∙◌, ap, inl, inr}
+use Rattle.std.{specs.Prelude.if◌then◌else◌, proofs.Math.Bool.or-true, proofs.lemmas.Bool.cases_eq}
+use Rattle.std.{proofs.lemmas.Bool.ne_eqb}
+use Rattle.tl_manager.{specs.code.Kept.AreApart, specs.code.Kept.blocks_of, proofs.services.Serving.some_is}
+use Rattle.tl_manager.{proofs.services.Serving.none_of_block, proofs.pending.Settled.all-settled}
 use Rattle.tl_manager.specs.laws.Pending as waits
-use Rattle.tl_manager.specs.laws.Pending.{is_any, is_acquiring, is_granted_to, is_awaited}
-use Rattle.tl_manager.specs.laws.Pending.{IsProbed}
+use Rattle.tl_manager.specs.laws.Pending.{is_any, is_acquiring, is_granted_to, is_awaited, IsProbed}
 use Rattle.tl_manager.specs.statement.Service as manager
-use Rattle.tl_manager.proofs.services.Serving.{some_is, none_of_block}
-use Rattle.tl_manager.proofs.pending.Settled.{all-settled}
 use Rattle.tl_coherence.specs.protocol.Invariant.{IsAwaited}
-use Rattle.tl_coherence.proofs.queues.Facts.{is_other}
-use Rattle.tl_coherence.proofs.queues.Phases.{each_phase, of_phase}
-use Rattle.tl_coherence.proofs.queues.Tokens.{same_number}
-use Rattle.tl_coherence.proofs.protocol.BothParts.{not-other}
+use Rattle.tl_coherence.proofs.{queues.Facts.is_other, queues.Phases.each_phase, queues.Phases.of_phase}
+use Rattle.tl_coherence.proofs.{queues.Tokens.same_number, protocol.BothParts.not-other}
 
 -- ---- services that pass a test
 
@@ -68,8 +60,7 @@ any-found {w} test (s ∷ ss) apart e = go (test s) refl (λ f. any-found test s
     go true f more g = record {
       block = block_at s.request.address;
       service = s;
-      serves =
-          rw (same_number (block_at s.request.address)) refl;
+      serves = rw (same_number (block_at s.request.address)) refl;
       passes = f;
     }
     go false f more g = later (more g)
@@ -87,10 +78,9 @@ quiet_unless p v well e = rw e at (of_phase settled_unless refl p v well)
 -- ---- what is known
 
 abbrev pub is_granted_in : Service → Bool
-is_granted_in Free = false
-is_granted_in (Waits r own source k) = false
 is_granted_in (GrantSent q d k) = true
 is_granted_in (GrantTaken q) = true
+is_granted_in _ = false
 
 -- the values of a trace that the others follow from
 pub record IsTraced {w : ℕ} {X : Type 0} (request : ℕ → MessageA w) (s : State X) (t : Trace w) : Type 0 where
@@ -109,45 +99,38 @@ abbrev pub at_service : {w : ℕ} → ℕ → ℕ → MessageA w → manager.Ser
 at_service r tracker m = record { tracker = tracker; link = record { 0 = r }; request = m }
 
 granted_views : (s : Service) (c : ℕ) → is_granted_in s ≡ true → is_other (view s c) ≡ false
-granted_views Free c e = absurd cc
-granted_views (Waits r own source k) c e = absurd cc
 granted_views (GrantSent q d k) c e = not-other (c == q) (Granting d k) GrantedOther refl refl
 granted_views (GrantTaken q) c e = not-other (c == q) Acknowledging GrantedOther refl refl
+granted_views s c e = absurd cc
 
 -- a request is granted exactly where the protocol says so
-pub granted-is : {w : ℕ} {X : Type 0} (caching : ℕ → Bool) (config : Config) (request : ℕ → MessageA w) (s : State X)
-    (e : End w) → IsInvariant caching s → IsKept config e → IsTraced request s e.trace
-    → (n : ℕ) (v : manager.Service w) → service_of_block n (services e.trace) ≡ Some v
-    → waits.is_granted e.trace v ≡ is_granted_in (s.block n).service
-granted-is {w} {X} caching config request s e inv kept is n v found = go (s.block n).service refl
+pub granted-is : {w : ℕ} {X : Type 0} {caching : ℕ → Bool} {config : Config} {request : ℕ → MessageA w} {s : State X}
+    {e : End w} → IsInvariant caching s → IsKept config e → IsTraced request s e.trace → (n : ℕ) (v : manager.Service w)
+    → service_of_block n (services e.trace) ≡ Some v → waits.is_granted e.trace v ≡ is_granted_in (s.block n).service
+granted-is {w} {X} {config} {s} {e} inv kept is n v found = go (s.block n).service refl
   where
     t : Trace w
     t = e.trace
 
     granted : is_granted_in (s.block n).service ≡ true → waits.is_granted t v ≡ true
     granted f =
+        let only : (b : Bool) → (b || false) ≡ true → b ≡ true = elim [ true ↦ λ g. refl | false ↦ λ g. absurd cc ] in
         let settled = all-settled config n t (λ c. is.probes c n
         ∙ ap not (quiet_unless ((s.block n).pair c) (view (s.block n).service c) ((inv.blocks n).phases c)
         (granted_views (s.block n).service c f)))
         in
-        let awaited : is_awaited config n t (Some v) ≡ true =
-        ap (is_awaited config n t) (sym found) ∙ kept.steady.awaited n in
+        let awaited : is_awaited config n t (Some v) ≡ true = cc (found, kept.steady.awaited n) in
         only (waits.is_granted t v) (rw settled at awaited)
-      where
-        only : (b : Bool) → (b || false) ≡ true → b ≡ true
-        only true g = refl
-        only false g = absurd cc
 
     waiting : (service : Service) → (s.block n).service ≡ service → IsAwaited service (s.block n).pair
         → is_granted_in service ≡ false → (service ≡ Free → ⊥) → waits.is_granted t v ≡ false
     waiting Free f someone g busy = absurd (busy refl)
-    waiting (GrantSent q d k) f someone g busy = absurd cc
-    waiting (GrantTaken q) f someone g busy = absurd cc
     waiting (Waits r own source k) f someone g busy =
         let missing : pending (ProbeOf n) (on_link someone.0 t) ≡ true = is.probes someone.0 n ∙ ap not someone.1 in
         let probed : IsProbed someone.0 n t = (kept.steady.accounted.blocks n).probes someone.0 missing in
         let same : probed.service ≡ v = some_is probed.service v (sym probed.serves ∙ found) in
         rw same at probed.unanswered
+    waiting service f someone g busy = absurd cc
 
     go : (service : Service) → (s.block n).service ≡ service → waits.is_granted t v ≡ is_granted_in service
     go Free f = absurd (let none : service_of_block n (services t) ≡ None = is.serving_is n ∙ rw f refl in
@@ -155,8 +138,7 @@ granted-is {w} {X} caching config request s e inv kept is n v found = go (s.bloc
     go (Waits r own source k) f =
         let someone : IsAwaited (Waits r own source k) (s.block n).pair = rw f at (inv.blocks n).awaited in
         waiting (Waits r own source k) f someone refl (λ g. cc)
-    go (GrantSent q d k) f = granted (rw f refl)
-    go (GrantTaken q) f = granted (rw f refl)
+    go service f = granted (rw f refl)
 
 -- what a service says of the client whose request it is, and of another
 acquiring-is : {w : ℕ} (c n tracker : ℕ) (m : MessageA w) (t : Trace w) (service : Service) → IsFor service n m
@@ -169,20 +151,15 @@ acquiring-is c n tracker m t (Waits r own source k) for granted =
   where
     go : (b same : Bool) → (b && (same && true)) ≡ is_own (if b && same then Own else Other k)
     go true true = refl
-    go true false = refl
-    go false same = refl
+    go b same = refl
 acquiring-is c n tracker m t (GrantSent q d k) for granted =
+    let go : (same : Bool) → (true && (same && false)) ≡ is_own (if same then Granting d k else GrantedOther) =
+    elim [ true ↦ refl | false ↦ refl ] in
     rw (granted (at_service q tracker m) refl, for.0, swapped q c) (go (c == q))
-  where
-    go : (same : Bool) → (true && (same && false)) ≡ is_own (if same then Granting d k else GrantedOther)
-    go true = refl
-    go false = refl
-acquiring-is c n tracker m t (GrantTaken q) for granted = rw (granted (at_service q tracker m) refl, for.0, swapped q c)
-    (go (c == q))
-  where
-    go : (same : Bool) → (true && (same && false)) ≡ is_own (if same then Acknowledging else GrantedOther)
-    go true = refl
-    go false = refl
+acquiring-is c n tracker m t (GrantTaken q) for granted =
+    let go : (same : Bool) → (true && (same && false)) ≡ is_own (if same then Acknowledging else GrantedOther) =
+    elim [ true ↦ refl | false ↦ refl ] in
+    rw (granted (at_service q tracker m) refl, for.0, swapped q c) (go (c == q))
 
 abbrev is_grant_of : View → Bool
 is_grant_of v = is_granting v || is_acknowledging v
@@ -200,23 +177,19 @@ granting-is c n tracker m t (Waits r own source k) granted =
     go true false = refl
     go false true = refl
     go false false = refl
-granting-is c n tracker m t (GrantSent q d k) granted = rw (granted (at_service q tracker m) refl, swapped q c)
-    (go (c == q))
-  where
-    go : (same : Bool) → (same && true) ≡ is_grant_of (if same then Granting d k else GrantedOther)
-    go true = refl
-    go false = refl
-granting-is c n tracker m t (GrantTaken q) granted = rw (granted (at_service q tracker m) refl, swapped q c)
-    (go (c == q))
-  where
-    go : (same : Bool) → (same && true) ≡ is_grant_of (if same then Acknowledging else GrantedOther)
-    go true = refl
-    go false = refl
+granting-is c n tracker m t (GrantSent q d k) granted =
+    let go : (same : Bool) → (same && true) ≡ is_grant_of (if same then Granting d k else GrantedOther) =
+    elim [ true ↦ refl | false ↦ refl ] in
+    rw (granted (at_service q tracker m) refl, swapped q c) (go (c == q))
+granting-is c n tracker m t (GrantTaken q) granted =
+    let go : (same : Bool) → (same && true) ≡ is_grant_of (if same then Acknowledging else GrantedOther) =
+    elim [ true ↦ refl | false ↦ refl ] in
+    rw (granted (at_service q tracker m) refl, swapped q c) (go (c == q))
 
-pub managed-traced : {w : ℕ} {X : Type 0} (caching : ℕ → Bool) (config : Config) (request : ℕ → MessageA w)
-    (s : State X) (e : End w) → IsInvariant caching s
+pub managed-traced : {w : ℕ} {X : Type 0} {caching : ℕ → Bool} {config : Config} {request : ℕ → MessageA w}
+    {s : State X} {e : End w} → IsInvariant caching s
     → IsKept config e → IsTraced request s e.trace → ManagerRelation request s e.trace
-managed-traced {w} {X} caching config request s e inv kept is = record {
+managed-traced {w} {X} {caching} {config} {request} {s} {e} inv kept is = record {
   recorded_is = is.recorded_is;
   probes = is.probes;
   acquires = λ c n. (kept.steady.accounted.blocks n).acquires c ∙ ap (is_acquiring c e.trace) (is.serving_is n)
@@ -228,4 +201,4 @@ managed-traced {w} {X} caching config request s e inv kept is = record {
   where
     granted : (n : ℕ) (v : manager.Service w) → service_with (client_in (s.block n).service) (s.block n).tracker
         (request n) ≡ Some v → waits.is_granted e.trace v ≡ is_granted_in (s.block n).service
-    granted n v f = granted-is caching config request s e inv kept is n v (is.serving_is n ∙ f)
+    granted n v f = granted-is inv kept is n v (is.serving_is n ∙ f)

@@ -1,19 +1,15 @@
 -- Clients that pass a test, as the manager finds them and as the protocol does; and which source a
 -- request that waits has.
 use Rattle.tl_coherence.proofs.manager.Imports.{Config, Cap, is_nobody, some_below, IsInvariant, Own, Waits, State}
-use Rattle.tl_coherence.proofs.manager.Imports.{Acquires, InService, view, is_wanting, is_caching}
+use Rattle.tl_coherence.proofs.manager.Imports.{Acquires, InService, view, is_caching}
 use Rattle.std.proofs.Common.{◌≡◌, ℕ, zero, suc, ◌<◌, ◌≤◌, Bool, true, false, not, ◌||◌, List, [], ◌∷◌, length, refl}
 use Rattle.std.proofs.Common.{sym, ◌∙◌, ap, arith}
-use Rattle.std.specs.Prelude.{if◌then◌else◌}
-use Rattle.std.proofs.lemmas.Bool.{lt-ltb}
-use Rattle.std.proofs.lemmas.Option.{slice_get_past}
+use Rattle.std.{specs.Prelude.if◌then◌else◌, proofs.lemmas.Bool.lt-ltb, proofs.lemmas.Option.slice_get_past}
 use Rattle.tl_rules.specs.statement.Legality.{is_one_of}
 use Rattle.tl_manager.specs.statement.Holders.{clients_where}
 use Rattle.tl_manager.proofs.words_of_clients.Clients.{among-where, nobody-is, nobody-where, where-same}
 use Rattle.tl_coherence.specs.protocol.Invariant.{IsOwnSource}
-use Rattle.tl_coherence.proofs.queues.Facts.{own_wants}
-use Rattle.tl_coherence.proofs.protocol.RequestsKept.{some-none}
-use Rattle.tl_coherence.proofs.queues.Tokens.{same_number}
+use Rattle.tl_coherence.proofs.{queues.Facts.own_wants, protocol.RequestsKept.some-none, queues.Tokens.same_number}
 use Rattle.tl_coherence.proofs.protocol.BothParts.{acquires_of-is, serves_of-is, not-calm}
 
 -- ---- clients that pass a test
@@ -40,8 +36,7 @@ nobody-some config test = go (some_below (length config.clients.items) test) ref
         let one = some-found (length config.clients.items) test e in
         let among : is_one_of one.0 (clients_where config test) ≡ true =
         among-where config test one.0 ∙ rw (lt-ltb one.0 (length config.clients.items) one.1, one.2) refl in
-        let none : is_one_of one.0 (clients_where config test) ≡ false =
-        nobody-is (clients_where config test) f one.0 in
+        let none = nobody-is (clients_where config test) f one.0 in
         absurd cc
     go true e false f = refl
     go false e x f = sym f ∙ (nobody-where config test).1 (some-none (length config.clients.items) test e)
@@ -65,15 +60,14 @@ plain-past config d past = rw (slice_get_past config.clients.items d past) refl
 
 -- ---- the source of a request that waits
 
-pub waits-used : {X : Type 0} (caching : ℕ → Bool) (s : State X) (n r source : ℕ) (own : Bool) (k : Cap)
+pub waits-used : {X : Type 0} {caching : ℕ → Bool} {s : State X} (n r source : ℕ) (own : Bool) (k : Cap)
     → IsInvariant caching s → (s.block n).service ≡ Waits r own source k
     → s.uses r source ≡ (if own then Acquires n else InService n)
-waits-used caching s n r source true k inv e =
+waits-used {s} n r source true k inv e =
     let sourced : IsOwnSource (Waits r true source k) (s.block n).source = rw e at (inv.blocks n).own_source in
     let own_view : view (s.block n).service r ≡ Own = rw (e, same_number r) refl in
-    let wants : is_wanting ((s.block n).pair r).acquiring ≡ true =
-    not-calm ((s.block n).pair r).acquiring (own_wants ((s.block n).pair r) (view (s.block n).service r)
+    let wants = not-calm ((s.block n).pair r).acquiring (own_wants ((s.block n).pair r) (view (s.block n).service r)
     ((inv.blocks n).phases r) own_view) in
     acquires_of-is n (s.uses r source) (inv.named.acquires r source n ∙ rw (wants, ← sourced, same_number source) refl)
-waits-used caching s n r source false k inv e =
+waits-used {s} n r source false k inv e =
     serves_of-is n (s.uses r source) (inv.named.serves r source n ∙ rw (e, same_number r, same_number source) refl)

@@ -1,23 +1,19 @@
 -- What the manager knows after the last ProbeAck that an Acquire waited for, whose Grant is handed out.
-use Rattle.tl_coherence.proofs.manager.Imports.{BeatC, D, MessageA, MessageD, a_beat_of, unfinished}
-use Rattle.tl_coherence.proofs.manager.Imports.{Cap, Report, cap_right, report_right, Trace, on_link}
-use Rattle.tl_coherence.proofs.manager.Imports.{comes_in_request, block_at, capped, is_probe_ack}
-use Rattle.tl_coherence.proofs.manager.Imports.{pending, probe_of, request_of, swapped, recorded}
-use Rattle.tl_coherence.proofs.manager.Imports.{IsAccounted, service_of_block, after_sent}
-use Rattle.tl_coherence.proofs.manager.Imports.{reply-quiet, burst-reply, request-reply, probe-reply, AreNamed}
-use Rattle.tl_coherence.proofs.manager.Imports.{ManagerRelation, is_own, ClientBlock, Own, Other, Granting}
-use Rattle.tl_coherence.proofs.manager.Imports.{GrantedOther, is_unprobed, after_report, after_grant_sent, Waits}
-use Rattle.tl_coherence.proofs.manager.Imports.{GrantSent, Block, State, SourceState, SourceFree, Asked, InService}
-use Rattle.tl_coherence.proofs.manager.Imports.{Replied, Acquires, view, is_granting, is_acknowledging, is_wanting}
+use Rattle.tl_coherence.proofs.manager.Imports.{BeatC, D, MessageA, MessageD, a_beat_of, unfinished, Cap, Report}
+use Rattle.tl_coherence.proofs.manager.Imports.{cap_right, report_right, Trace, on_link, comes_in_request, block_at}
+use Rattle.tl_coherence.proofs.manager.Imports.{capped, is_probe_ack, pending, probe_of, request_of, swapped, recorded}
+use Rattle.tl_coherence.proofs.manager.Imports.{IsAccounted, service_of_block, after_sent, reply-quiet, burst-reply}
+use Rattle.tl_coherence.proofs.manager.Imports.{request-reply, probe-reply, AreNamed, ManagerRelation, is_own}
+use Rattle.tl_coherence.proofs.manager.Imports.{ClientBlock, Own, Other, Granting, GrantedOther, is_unprobed}
+use Rattle.tl_coherence.proofs.manager.Imports.{after_report, after_grant_sent, Waits, GrantSent, Block, State}
+use Rattle.tl_coherence.proofs.manager.Imports.{SourceState, Acquires, view, is_granting, is_acknowledging, is_wanting}
 use Rattle.tl_coherence.proofs.manager.Imports.{report_grants, granted_block, reported_block, ServedSourceRelation}
-use Rattle.tl_coherence.proofs.manager.Imports.{is_served, is_granted, cap_waited, probe_beat, Packet, set}
+use Rattle.tl_coherence.proofs.manager.Imports.{is_served, is_granted, cap_waited, probe_beat, Packet, set, Channel}
 use Rattle.std.proofs.Common.{◌≡◌, ℕ, ◌==◌, Bool, true, false, not, ◌&&◌, ◌||◌, List, Option, Some, None, refl, sym}
 use Rattle.std.proofs.Common.{◌∙◌, ap, ◌⊎◌, inl, inr}
 use Rattle.std.specs.Prelude.{if◌then◌else◌}
 use Rattle.std.proofs.lemmas.Bool.{cases_eq, eqb-true, ne_eqb, and_parts}
-use Rattle.tl_beat.specs.declared.channel.Channel.TheVariants as channel
-use Rattle.tl_params.specs.declared.key.Key.TheVariants as key
-use Rattle.tl_rules.specs.statement.History.{asks_for}
+use Rattle.tl_params.specs.declared.key.Key.{Key}
 use Rattle.tl_manager.proofs.pending.Granted.{IsGrant, services-grant, accounted-grant}
 use Rattle.tl_manager.proofs.pending.Replied.{source-reply}
 use Rattle.tl_coherence.proofs.manager.QuiescentManager.{quiet-c, IsLastOf}
@@ -47,18 +43,21 @@ pub record IsConceded {w : ℕ} {X : Type 0} (c q n source : ℕ) (k gift : Cap)
   pub asked : request_of source (on_link q t) ≡ Some (a_beat_of (request n) 0)
   pub cap_is : capped m.param ≡ cap_right gift
 
-conceded-given : {w : ℕ} {X : Type 0} (c q n source : ℕ) (k gift : Cap) (r : Report) (x : BeatC w) (m : MessageD w)
-    (request : ℕ → MessageA w) (s : State X) (t : Trace w)
+conceded-given : {w : ℕ} {X : Type 0} {c q n source : ℕ} {k gift : Cap} {r : Report} {x : BeatC w} {m : MessageD w}
+    {request : ℕ → MessageA w} {s : State X} {t : Trace w}
     → IsConceded c q n source k gift r x m request s t → IsGiven q n (s.block n).tracker m (taken c x t)
-conceded-given c q n source k gift r x m request s t is = record {
+conceded-given {c} {q} {source} {x} {t} is = record {
   width = is.grant.reply.width;
   whole = is.grant.reply.whole;
   grants = is.grant.grants;
   sink = is.grant.sink;
-  asks = λ i.
-      ap (λ j. asks_for i (request_of j (on_link q (taken c x t)))) (is.grant.reply.source ∙ is.source_is) ∙ ap
-      (asks_for i) ((quiet-c (record { 0 = c }) x t).requests q source ∙ is.asked)
-      ∙ ap (λ j. j == i) is.block_is;
+  asks = λ i. cc (
+    is.grant.reply.source,
+    is.source_is,
+    (quiet-c (record { 0 = c }) x t).requests q source,
+    is.asked,
+    is.block_is,
+  );
 }
 
 -- nobody sees its own Acquire served then, and who is granted sees that
@@ -98,29 +97,32 @@ if_always : {A : Type 0} (b : Bool) (p q : A) → (if b && true then p else q) �
 if_always true p q = refl
 if_always false p q = refl
 
-pub managed-conceded : {w : ℕ} {X : Type 0} (request : ℕ → MessageA w) (c q n source : ℕ) (k gift : Cap) (r : Report)
-    (dt : Bool) (rest : List Packet)
-    (x : BeatC w) (m : MessageD w) (s : State X) (t : Trace w)
+pub managed-conceded : {w : ℕ} {X : Type 0} {request : ℕ → MessageA w} {c q n source : ℕ} {k gift : Cap} {r : Report}
+    (dt : Bool) (rest : List Packet) {x : BeatC w} {m : MessageD w} {s : State X} {t : Trace w}
     → IsConceded c q n source k gift r x m request s t → ManagerRelation request s t
     → ManagerRelation request (report_grants c q n r dt gift rest s) (after_sent (record { 0 = q }) (D m) (taken c x t))
-managed-conceded {w} {X} request c q n source k gift r dt rest x m s t is known = record {
-  recorded_is = λ d i. given-records q n (s.block n).tracker m u given d i ∙ records_now d i ∙ sym
-      (pair-over (λ p. p.recorded) q n gives new mid s.block (λ j. refl) d i);
-  probes = λ d i.
-      reply-quiet (key.ProbeOf i) (record { 0 = q }) m u d given.width given.whole (λ e. (refl, refl))
-      ∙ reported-missing request c n r mid x s t is.last is.report (λ j. refl) known d i
-      ∙ sym (pair-over (λ p. not (is_unprobed p.probing)) q n gives new mid s.block (λ j. refl) d i ∙ probing_same d i
-      ((q == d) && (n == i)) refl);
-  acquires = λ d i. given-acquires q n (s.block n).tracker m u given d i ∙ acquires_now d i;
-  grant_acks = λ d i. given-acks q n (s.block n).tracker m u given d i ∙ acks_now d i;
-  serving_is = λ i.
-      ap (service_of_block i) (services-grant (record { 0 = q }) m u given.width given.whole given.grants
-      ∙ (quiet-c (record { 0 = c }) x t).serves) ∙ known.serving_is i
-      ∙ sym (elim (cases_eq i n) [
-        | inl same ↦ rw (same, set-same n new s.block, is.waits) refl
-        | inr other ↦ rw (set-other n i new s.block other) refl
-      ]);
-}
+managed-conceded {w} {X} {request} {c} {q} {n} {source} {k} {gift} {r} dt rest {x} {m} {s} {t} is known =
+    let given : IsGiven q n (s.block n).tracker m u = conceded-given is in
+    let records_now : (d i : ℕ) → (if (q == d) && (n == i) then capped m.param else recorded d i u)
+    ≡ (if (q == d) && (n == i) then cap_right gift else ((set n mid s.block i).pair d).recorded) =
+    λ d i. rw (is.cap_is, reported-records r mid is.last (λ j. refl) known d i) refl in
+    record {
+      recorded_is = λ d i. given-records given d i ∙ records_now d i ∙ sym
+          (pair-over (λ p. p.recorded) q n gives new mid s.block (λ j. refl) d i);
+      probes = λ d i. reply-quiet (Key.ProbeOf i) (record { 0 = q }) m u d given.width given.whole (λ e. (refl, refl))
+          ∙ reported-missing r mid is.last is.report (λ j. refl) known d i
+          ∙ sym (pair-over (λ p. not (is_unprobed p.probing)) q n gives new mid s.block (λ j. refl) d i
+          ∙ probing_same d i ((q == d) && (n == i)) refl);
+      acquires = λ d i. given-acquires given d i ∙ acquires_now d i;
+      grant_acks = λ d i. given-acks given d i ∙ acks_now d i;
+      serving_is = λ i.
+          ap (service_of_block i) (services-grant (record { 0 = q }) m u given.width given.whole given.grants
+          ∙ (quiet-c (record { 0 = c }) x t).serves) ∙ known.serving_is i
+          ∙ sym (elim (cases_eq i n) [
+            | inl same ↦ rw (same, set-same n new s.block, is.waits) refl
+            | inr other ↦ rw (set-other n i new s.block other) refl
+          ]);
+    }
   where
     u : Trace w
     u = taken c x t
@@ -133,13 +135,6 @@ managed-conceded {w} {X} request c q n source k gift r dt rest x m s t is known 
 
     gives : ClientBlock
     gives = after_grant_sent gift ((s.block n).pair q)
-
-    given : IsGiven q n (s.block n).tracker m u
-    given = conceded-given c q n source k gift r x m request s t is
-
-    records_now : (d i : ℕ) → (if (q == d) && (n == i) then capped m.param else recorded d i u)
-        ≡ (if (q == d) && (n == i) then cap_right gift else ((set n mid s.block i).pair d).recorded)
-    records_now d i = rw (is.cap_is, reported-records request c n r mid x s t is.last (λ j. refl) known d i) refl
 
     others : q ≡ c → ⊥
     others e = is.apart (sym e)
@@ -158,7 +153,7 @@ managed-conceded {w} {X} request c q n source k gift r dt rest x m s t is known 
               (after_report r ((s.block n).pair c)) (s.block n).pair others,
         ) refl
 
-    acquires_now : (d i : ℕ) → (if (q == d) && (n == i) then false else pending (key.AcquireOf i) (on_link d u))
+    acquires_now : (d i : ℕ) → (if (q == d) && (n == i) then false else pending (Key.AcquireOf i) (on_link d u))
         ≡ is_own (view (set n new s.block i).service d)
     acquires_now d i = elim (cases_eq i n) [
       | inl same ↦ rw (
@@ -176,11 +171,11 @@ managed-conceded {w} {X} request c q n source k gift r dt rest x m s t is known 
       | inr other ↦
           let differ : n ≡ i → ⊥ = λ e. other (sym e) in
           rw (ne_eqb n i differ, set-other n i new s.block other)
-          (never_if (q == d) false (pending (key.AcquireOf i) (on_link d u)) ∙ (quiet-c (record { 0 = c }) x t).acquires
+          (never_if (q == d) false (pending (Key.AcquireOf i) (on_link d u)) ∙ (quiet-c (record { 0 = c }) x t).acquires
           d i ∙ known.acquires d i)
     ]
 
-    acks_now : (d i : ℕ) → (if (q == d) && (n == i) then true else pending (key.GrantAckOf i) (on_link d u))
+    acks_now : (d i : ℕ) → (if (q == d) && (n == i) then true else pending (Key.GrantAckOf i) (on_link d u))
         ≡ (is_granting (view (set n new s.block i).service d) || is_acknowledging
         (view (set n new s.block i).service d))
     acks_now d i = elim (cases_eq i n) [
@@ -200,16 +195,16 @@ managed-conceded {w} {X} request c q n source k gift r dt rest x m s t is known 
       | inr other ↦
           let differ : n ≡ i → ⊥ = λ e. other (sym e) in
           rw (ne_eqb n i differ, set-other n i new s.block other)
-          (never_if (q == d) true (pending (key.GrantAckOf i) (on_link d u)) ∙ (quiet-c (record { 0 = c }) x t).grants d
+          (never_if (q == d) true (pending (Key.GrantAckOf i) (on_link d u)) ∙ (quiet-c (record { 0 = c }) x t).grants d
           i ∙ known.grant_acks d i)
     ]
 
 -- ---- sources, sinks and requests
 
 -- no other source of the client is of the block
-only_source : {X : Type 0} (q n source i : ℕ) (s : State X) → AreNamed s → s.uses q source ≡ Acquires n
+only_source : {X : Type 0} (q n source i : ℕ) {s : State X} → AreNamed s → s.uses q source ≡ Acquires n
     → s.uses q i ≡ Acquires n → i ≡ source
-only_source q n source i s named used e =
+only_source q n source i {s} named used e =
     let here : (is_wanting ((s.block n).pair q).acquiring && (source == (s.block n).source q)) ≡ true =
     sym (named.acquires q source n) ∙ rw (used, same_number n) refl in
     let there : (is_wanting ((s.block n).pair q).acquiring && (i == (s.block n).source q)) ≡ true =
@@ -220,25 +215,32 @@ only_source q n source i s named used e =
     (i == (s.block n).source q) there) in
     second ∙ sym first
 
-pub are_served-conceded : {w : ℕ} {X : Type 0} (request : ℕ → MessageA w) (c q n source : ℕ) (k gift : Cap) (r : Report)
-    (dt : Bool) (rest : List Packet)
-    (x : BeatC w) (m : MessageD w) (s : State X) (t : Trace w)
+pub are_served-conceded : {w : ℕ} {X : Type 0} {request : ℕ → MessageA w} {c q n source : ℕ} {k gift : Cap} {r : Report}
+    (dt : Bool) (rest : List Packet) {x : BeatC w} {m : MessageD w} {s : State X} {t : Trace w}
     → IsConceded c q n source k gift r x m request s t → ServedSourceRelation request s t
     → ServedSourceRelation request (report_grants c q n r dt gift rest s)
     (after_sent (record { 0 = q }) (D m) (taken c x t))
-are_served-conceded {w} {X} request c q n source k gift r dt rest x m s t is known = record {
-  sources = λ d i. sources_now d i ((q == d) && (source == i)) refl;
-  sinks = λ d i. given-sinks q n (s.block n).tracker m u given d i ∙ sinks_now d i
-      ((q == d) && ((s.block n).tracker == i)) refl;
-  requests = λ i. elim (cases_eq i n) [
-    | inl same ↦ rw (same, set-same n new s.block) (is.grant.acquires, is.block_is)
-    | inr other ↦ rw (set-other n i new s.block other) (known.requests i)
-  ];
-  asked = λ i p from own low e. request-reply (record { 0 = q }) m u p from ∙ (quiet-c (record { 0 = c }) x t).requests
-      p from ∙ asked_now i p from own low e;
-  probes = λ d i e. probe-reply (record { 0 = q }) m u d i ∙ (quiet-c (record { 0 = c }) x t).probe d i ∙ probes_now d i
-      e;
-}
+are_served-conceded {w} {X} {request} {c} {q} {n} {source} {k} {gift} {r} dt rest {x} {m} {s} {t} is known =
+    let given : IsGiven q n (s.block n).tracker m u = conceded-given is in
+    let asked_now : (i p from : ℕ) (own : Bool) (low : Cap) → (set n new s.block i).service ≡ Waits p own from low
+    → request_of from (on_link p t) ≡ Some (a_beat_of (request i) 0) = λ i p from own low e. elim (cases_eq i n) [
+      | inl same ↦ absurd (let sent : GrantSent q dt gift ≡ Waits p own from low =
+          ap (λ (b : Block X). b.service) (sym (set-same n new s.block)) ∙ (rw same at e) in cc)
+      | inr other ↦ known.asked i p from own low
+          (ap (λ (b : Block X). b.service) (sym (set-other n i new s.block other)) ∙ e)
+    ] in
+    record {
+      sources = λ d i. sources_now d i ((q == d) && (source == i)) refl;
+      sinks = λ d i. given-sinks given d i ∙ sinks_now d i ((q == d) && ((s.block n).tracker == i)) refl;
+      requests = λ i. elim (cases_eq i n) [
+        | inl same ↦ rw (same, set-same n new s.block) (is.grant.acquires, is.block_is)
+        | inr other ↦ rw (set-other n i new s.block other) (known.requests i)
+      ];
+      asked = λ i p from own low e. request-reply (record { 0 = q }) m u p from
+          ∙ (quiet-c (record { 0 = c }) x t).requests p from ∙ asked_now i p from own low e;
+      probes = λ d i e. probe-reply (record { 0 = q }) m u d i ∙ (quiet-c (record { 0 = c }) x t).probe d i
+          ∙ probes_now d i e;
+    }
   where
     u : Trace w
     u = taken c x t
@@ -258,14 +260,11 @@ are_served-conceded {w} {X} request c q n source k gift r dt rest x m s t is kno
     z : State X
     z = report_grants c q n r dt gift rest s
 
-    given : IsGiven q n (s.block n).tracker m u
-    given = conceded-given c q n source k gift r x m request s t is
-
     -- a request of another client or source
     unlike : (d i j : ℕ) → ((q == d) && (source == i)) ≡ false → s.uses d i ≡ Acquires j → j ≡ n → (d == q) ≡ false
     unlike d i j apart e same = elim (cases_eq d q) [
       | inl client ↦
-          let mine : i ≡ source = only_source q n source i s is.named is.used (rw (client, same) at e) in
+          let mine : i ≡ source = only_source q n source i is.named is.used (rw (client, same) at e) in
           absurd (let yes : ((q == d) && (source == i)) ≡ true = rw (client, mine, same_number q, same_number source)
           refl in let no : false ≡ true = sym apart ∙ yes in cc)
       | inr other ↦ ne_eqb d q other
@@ -273,50 +272,43 @@ are_served-conceded {w} {X} request c q n source k gift r dt rest x m s t is kno
 
     served_now : (d i : ℕ) → ((q == d) && (source == i)) ≡ false → (y : SourceState) → s.uses d i ≡ y
         → is_served d y z ≡ is_served d y s
-    served_now d i apart SourceFree e = refl
-    served_now d i apart Asked e = refl
-    served_now d i apart (InService j) e = refl
-    served_now d i apart Replied e = refl
     served_now d i apart (Acquires j) e = elim (cases_eq j n) [
       | inl same ↦ rw (same, set-same n new s.block, is.waits, unlike d i j apart e same) refl
       | inr other ↦ rw (set-other n j new s.block other) refl
     ]
+    served_now d i apart y e = refl
 
-    source_now : (d i : ℕ) → pending (key.RequestSource i) (on_link d v) ≡ (if (q == d) && (source == i) then false else
-        pending (key.RequestSource i) (on_link d u))
-    source_now d i = source-reply n d i (service_for q n request s) m u is.grant.reply ∙ ap
-        (λ j. if (q == d) && (j == i) then false else pending (key.RequestSource i) (on_link d u)) is.source_is
+    source_now : (d i : ℕ) → pending (Key.RequestSource i) (on_link d v) ≡ (if (q == d) && (source == i) then false else
+        pending (Key.RequestSource i) (on_link d u))
+    source_now d i = cc (source-reply n d i (service_for q n request s) m u is.grant.reply, is.source_is)
 
     answered : is_served q (s.uses q source) z ≡ false
     answered = rw (is.used, set-same n new s.block) (never_own (q == q) dt gift)
 
-    sources_now : (d i : ℕ) (b : Bool) → ((q == d) && (source == i)) ≡ b
-        → pending (key.RequestSource i) (on_link d v) ≡ (is_served d (s.uses d i) z || comes_in_request i
-        (unfinished channel.A (on_link d v)))
+    sources_now : (d i : ℕ) (b : Bool) → ((q == d) && (source == i)) ≡ b → pending (Key.RequestSource i) (on_link d v)
+        ≡ (is_served d (s.uses d i) z || comes_in_request i (unfinished Channel.A (on_link d v)))
     sources_now d i true e =
         let p = and_parts (q == d) (source == i) e in
         let client : q ≡ d = eqb-true q d p.0 in
         let mine : source ≡ i = eqb-true source i p.1 in
-        let free : pending (key.RequestSource i) (on_link d v) ≡ false = source_now d i ∙ rw e refl in
-        let none : comes_in_request i (unfinished channel.A (on_link d v)) ≡ false =
-        no-burst d i v (accounted-grant n (service_for q n request s) m u is.grant is.accounted) free in
+        let free : pending (Key.RequestSource i) (on_link d v) ≡ false = source_now d i ∙ rw e refl in
+        let none = no-burst d i (accounted-grant n (service_for q n request s) m u is.grant is.accounted) free in
         let served : is_served d (s.uses d i) z ≡ false = rw (← client, ← mine) answered in
-        free ∙ sym (ap (λ b. b || comes_in_request i (unfinished channel.A (on_link d v))) served ∙ none)
-    sources_now d i false e =
-        source_now d i ∙ rw (
+        free ∙ sym (ap (λ b. b || comes_in_request i (unfinished Channel.A (on_link d v))) served ∙ none)
+    sources_now d i false e = source_now d i
+        ∙ rw (
           e,
           served_now d i e (s.uses d i) refl,
           burst-reply (record { 0 = q }) m u d,
           (quiet-c (record { 0 = c }) x t).bursts d,
-        )
-        ((quiet-c (record { 0 = c }) x t).sources d i ∙ known.sources d i)
+        ) ((quiet-c (record { 0 = c }) x t).sources d i ∙ known.sources d i)
 
     granted_now : (d i : ℕ) → ((q == d) && ((s.block n).tracker == i)) ≡ false → (o : Option ℕ) → s.tracked i ≡ o
         → is_granted d o s ≡ is_granted d o z
     granted_now d i apart None e = refl
     granted_now d i apart (Some j) e = elim (cases_eq j n) [
       | inl same ↦
-          let mine : i ≡ (s.block n).tracker = tracker-alone n i s is.named (rw same at e) in
+          let mine : i ≡ (s.block n).tracker = tracker-alone n i is.named (rw same at e) in
           rw (same, set-same n new s.block, is.waits)
           (waits_ungranted (d == q) k ∙ sym (granted_if (d == q) dt gift ∙ away (cases_eq d q) mine))
       | inr other ↦ rw (set-other n j new s.block other) refl
@@ -332,23 +324,14 @@ are_served-conceded {w} {X} request c q n source k gift r dt rest x m s t is kno
     granted_here = rw (set-same n new s.block) (granted_if (q == q) dt gift ∙ same_number q)
 
     sinks_now : (d i : ℕ) (b : Bool) → ((q == d) && ((s.block n).tracker == i)) ≡ b
-        → (if (q == d) && ((s.block n).tracker == i) then true else pending (key.GrantSink i) (on_link d u))
+        → (if (q == d) && ((s.block n).tracker == i) then true else pending (Key.GrantSink i) (on_link d u))
         ≡ is_granted d (s.tracked i) z
     sinks_now d i true e =
         let p = and_parts (q == d) ((s.block n).tracker == i) e in
         rw (e, ← eqb-true q d p.0, ← eqb-true (s.block n).tracker i p.1)
-        (sym (ap (λ o. is_granted q o z) (tracker-of n s is.named (rw is.waits refl)) ∙ granted_here))
+        (sym (ap (λ o. is_granted q o z) (tracker-of n is.named (rw is.waits refl)) ∙ granted_here))
     sinks_now d i false e = rw e ((quiet-c (record { 0 = c }) x t).sinks d i ∙ known.sinks d i ∙ granted_now d i e
         (s.tracked i) refl)
-
-    asked_now : (i p from : ℕ) (own : Bool) (low : Cap) → (set n new s.block i).service ≡ Waits p own from low
-        → request_of from (on_link p t) ≡ Some (a_beat_of (request i) 0)
-    asked_now i p from own low e = elim (cases_eq i n) [
-      | inl same ↦ absurd (let sent : GrantSent q dt gift ≡ Waits p own from low =
-          ap (λ (b : Block X). b.service) (sym (set-same n new s.block)) ∙ (rw same at e) in cc)
-      | inr other ↦ known.asked i p from own low
-          (ap (λ (b : Block X). b.service) (sym (set-other n i new s.block other)) ∙ e)
-    ]
 
     others : q ≡ c → ⊥
     others e = is.apart (sym e)

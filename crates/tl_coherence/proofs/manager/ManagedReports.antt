@@ -5,12 +5,11 @@ use Rattle.tl_coherence.proofs.manager.Imports.{IsWidth, BeatC, D, MessageA, Mes
 use Rattle.tl_coherence.proofs.manager.Imports.{prune_right, report_right, Trace, on_link, ends, is_grant, is_probe_ack}
 use Rattle.tl_coherence.proofs.manager.Imports.{is_release_ack, pending, recorded, after_sent, reply-quiet}
 use Rattle.tl_coherence.proofs.manager.Imports.{ManagerRelation, ClientBlock, is_unprobed, after_report, Block, State}
-use Rattle.tl_coherence.proofs.manager.Imports.{reported_block, let_block, ServedSourceRelation, Packet, set}
+use Rattle.tl_coherence.proofs.manager.Imports.{reported_block, let_block, ServedSourceRelation, Packet, set, Beat}
+use Rattle.tl_coherence.proofs.manager.Imports.{Channel}
 use Rattle.std.proofs.Common.{◌≡◌, ℕ, ◌==◌, Bool, true, false, not, ◌&&◌, [], ◌∷◌, refl, sym, ◌∙◌, ap}
 use Rattle.std.specs.Prelude.{if◌then◌else◌, List}
-use Rattle.tl_beat.specs.declared.beat.Beat.TheVariants as beat
-use Rattle.tl_beat.specs.declared.channel.Channel.TheVariants as channel
-use Rattle.tl_params.specs.declared.key.Key.TheVariants as key
+use Rattle.tl_params.specs.declared.key.Key.{Key}
 use Rattle.tl_coherence.specs.protocol.PhaseSteps.{after_release_taken}
 use Rattle.tl_coherence.specs.protocol.Protocol.{report_taken, release_taken}
 use Rattle.tl_coherence.proofs.manager.QuiescentManager.{AreQuiet, quiet-then, quiet-c, IsLastOf, recorded-last}
@@ -24,20 +23,17 @@ use Rattle.tl_coherence.proofs.queues.Tokens.{set-part}
 pub nothing-changes : {X : Type 0} (s : State X) → AreStill s s
 nothing-changes s = record { services = λ n. refl; trackers = λ n. refl; uses = λ c source. refl; tracked = λ i. refl }
 
-pub managed-report_part : {w : ℕ} {X : Type 0} (request : ℕ → MessageA w) (c : ℕ) (x : BeatC w) (s : State X)
-    (t : Trace w) → ends (beat.C x) (on_link c t) ≡ false
-    → ManagerRelation request s t → ManagerRelation request s ((record { 0 = c }, beat.C x) ∷ t)
-managed-report_part request c x s t part known =
-    managed-still request s s t ((record { 0 = c }, beat.C x) ∷ t) (quiet-c (record { 0 = c }) x t) (nothing-changes s)
-    (λ d i. recorded-part c x t part d i ∙ known.recorded_is d i) (λ d i. missing-part c x t part d i ∙ known.probes d
-    i) known
+pub managed-report_part : {w : ℕ} {X : Type 0} {request : ℕ → MessageA w} (c : ℕ) (x : BeatC w) {s : State X}
+    {t : Trace w} → ends (Beat.C x) (on_link c t) ≡ false
+    → ManagerRelation request s t → ManagerRelation request s ((record { 0 = c }, Beat.C x) ∷ t)
+managed-report_part {request} c x {s} {t} part known =
+    managed-still (quiet-c (record { 0 = c }) x t) (nothing-changes s) (λ d i. recorded-part c x t part d i
+    ∙ known.recorded_is d i) (λ d i. missing-part c x t part d i ∙ known.probes d i) known
 
-pub are_served-report_part : {w : ℕ} {X : Type 0} (request : ℕ → MessageA w) (c : ℕ) (x : BeatC w) (s : State X)
-    (t : Trace w)
-    → ServedSourceRelation request s t → ServedSourceRelation request s ((record { 0 = c }, beat.C x) ∷ t)
-are_served-report_part request c x s t known =
-    are_served-still request s s t ((record { 0 = c }, beat.C x) ∷ t) (quiet-c (record { 0 = c }) x t)
-    (nothing-changes s) (λ d i e. e) known
+pub are_served-report_part : {w : ℕ} {X : Type 0} {request : ℕ → MessageA w} (c : ℕ) (x : BeatC w) {s : State X}
+    {t : Trace w} → ServedSourceRelation request s t → ServedSourceRelation request s ((record { 0 = c }, Beat.C x) ∷ t)
+are_served-report_part {request} c x {s} {t} known =
+    are_served-still (quiet-c (record { 0 = c }) x t) (nothing-changes s) (λ d i e. e) known
 
 -- ---- a ProbeAck, where others are missing
 
@@ -54,25 +50,22 @@ still-reported {X} c n r rest s = record {
 same_or : {A : Type 0} (b : Bool) (p q q' : A) → q ≡ q' → (if b then p else q) ≡ (if b then p else q')
 same_or b p q q' e = ap (λ z. if b then p else z) e
 
-pub reported-records : {w : ℕ} {X : Type 0} (request : ℕ → MessageA w) (c n : ℕ) (r : Report) (new : Block X)
-    (x : BeatC w) (s : State X) (t : Trace w) → IsLastOf c n (report_right r) x t
+pub reported-records : {w : ℕ} {X : Type 0} {request : ℕ → MessageA w} {c n : ℕ} (r : Report) (new : Block X)
+    {x : BeatC w} {s : State X} {t : Trace w} → IsLastOf c n (report_right r) x t
     → ((d : ℕ) → new.pair d ≡ set c (after_report r ((s.block n).pair c)) (s.block n).pair d)
     → ManagerRelation request s t → (d i : ℕ)
-    → recorded d i ((record { 0 = c }, beat.C x) ∷ t) ≡ ((set n new s.block i).pair d).recorded
-reported-records request c n r new x s t is pairs known d i =
-    recorded-last c n (report_right r) x t is d i ∙ same_or ((c == d) && (n == i)) (report_right r) _ _
-    (known.recorded_is d i)
+    → recorded d i ((record { 0 = c }, Beat.C x) ∷ t) ≡ ((set n new s.block i).pair d).recorded
+reported-records {c} {n} r new {x} {s} {t} is pairs known d i = recorded-last is d i
+    ∙ same_or ((c == d) && (n == i)) (report_right r) _ _ (known.recorded_is d i)
     ∙ sym (pair-part (λ p. p.recorded) c n (after_report r ((s.block n).pair c)) new s.block pairs d i)
 
-pub reported-missing : {w : ℕ} {X : Type 0} (request : ℕ → MessageA w) (c n : ℕ) (r : Report) (new : Block X)
-    (x : BeatC w) (s : State X) (t : Trace w)
-    → IsLastOf c n (report_right r) x t → is_probe_ack x.opcode ≡ true
+pub reported-missing : {w : ℕ} {X : Type 0} {request : ℕ → MessageA w} {c n : ℕ} (r : Report) (new : Block X)
+    {x : BeatC w} {s : State X} {t : Trace w} → IsLastOf c n (report_right r) x t → is_probe_ack x.opcode ≡ true
     → ((d : ℕ) → new.pair d ≡ set c (after_report r ((s.block n).pair c)) (s.block n).pair d)
-    → ManagerRelation request s t → (d i : ℕ)
-    → pending (key.ProbeOf i) (on_link d ((record { 0 = c }, beat.C x) ∷ t)) ≡ not
-    (is_unprobed ((set n new s.block i).pair d).probing)
-reported-missing request c n r new x s t is report pairs known d i =
-    missing-last c n (report_right r) x t is report d i ∙ same_or ((c == d) && (n == i)) false _ _ (known.probes d i)
+    → ManagerRelation request s t → (d i : ℕ) → pending (Key.ProbeOf i) (on_link d ((record { 0 = c }, Beat.C x) ∷ t))
+    ≡ not (is_unprobed ((set n new s.block i).pair d).probing)
+reported-missing {c} {n} r new {x} {s} {t} is report pairs known d i =
+    missing-last is report d i ∙ same_or ((c == d) && (n == i)) false _ _ (known.probes d i)
     ∙ sym (pair-part (λ p. not (is_unprobed p.probing)) c n (after_report r ((s.block n).pair c)) new s.block pairs d i)
 
 -- who isn't quiet afterwards wasn't before
@@ -80,32 +73,25 @@ pub reported-probing : {X : Type 0} (c n : ℕ) (r : Report) (new : Block X) (bl
     → ((d : ℕ) → new.pair d ≡ set c (after_report r ((block n).pair c)) (block n).pair d) → (d i : ℕ)
     → is_unprobed ((set n new block i).pair d).probing ≡ false → is_unprobed ((block i).pair d).probing ≡ false
 reported-probing c n r new block pairs d i e =
+    let go : (b : Bool) → (if b then true else is_unprobed ((block i).pair d).probing) ≡ false
+    → is_unprobed ((block i).pair d).probing ≡ false = elim [ true ↦ λ f. absurd cc | false ↦ λ f. f ] in
     go ((c == d) && (n == i))
     (sym (pair-part (λ p. is_unprobed p.probing) c n (after_report r ((block n).pair c)) new block pairs d i) ∙ e)
-  where
-    go : (b : Bool) → (if b then true else is_unprobed ((block i).pair d).probing) ≡ false
-        → is_unprobed ((block i).pair d).probing ≡ false
-    go true f = absurd cc
-    go false f = f
 
-pub managed-reported : {w : ℕ} {X : Type 0} (request : ℕ → MessageA w) (c n : ℕ) (r : Report) (rest : List Packet)
-    (x : BeatC w) (s : State X) (t : Trace w)
-    → IsLastOf c n (report_right r) x t → is_probe_ack x.opcode ≡ true
+pub managed-reported : {w : ℕ} {X : Type 0} {request : ℕ → MessageA w} {c n : ℕ} (r : Report) (rest : List Packet)
+    {x : BeatC w} {s : State X} {t : Trace w} → IsLastOf c n (report_right r) x t → is_probe_ack x.opcode ≡ true
     → ManagerRelation request s t → ManagerRelation request (report_taken c n r rest s)
-    ((record { 0 = c }, beat.C x) ∷ t)
-managed-reported request c n r rest x s t is report known =
-    managed-still request s (report_taken c n r rest s) t ((record { 0 = c }, beat.C x) ∷ t)
-    (quiet-c (record { 0 = c }) x t) (still-reported c n r rest s)
-    (λ d i. reported-records request c n r (reported_block c r (s.block n)) x s t is (λ j. refl) known d i)
-    (λ d i. reported-missing request c n r (reported_block c r (s.block n)) x s t is report (λ j. refl) known d i) known
+    ((record { 0 = c }, Beat.C x) ∷ t)
+managed-reported {request} {c} {n} r rest {x} {s} {t} is report known =
+    managed-still (quiet-c (record { 0 = c }) x t) (still-reported c n r rest s)
+    (λ d i. reported-records r (reported_block c r (s.block n)) is (λ j. refl) known d i)
+    (λ d i. reported-missing r (reported_block c r (s.block n)) is report (λ j. refl) known d i) known
 
-pub are_served-reported : {w : ℕ} {X : Type 0} (request : ℕ → MessageA w) (c n : ℕ) (r : Report) (rest : List Packet)
-    (x : BeatC w) (s : State X) (t : Trace w)
-    → ServedSourceRelation request s t → ServedSourceRelation request (report_taken c n r rest s)
-    ((record { 0 = c }, beat.C x) ∷ t)
-are_served-reported request c n r rest x s t known =
-    are_served-still request s (report_taken c n r rest s) t ((record { 0 = c }, beat.C x) ∷ t)
-    (quiet-c (record { 0 = c }) x t) (still-reported c n r rest s)
+pub are_served-reported : {w : ℕ} {X : Type 0} {request : ℕ → MessageA w} (c n : ℕ) (r : Report) (rest : List Packet)
+    (x : BeatC w) {s : State X} {t : Trace w} → ServedSourceRelation request s t
+    → ServedSourceRelation request (report_taken c n r rest s) ((record { 0 = c }, Beat.C x) ∷ t)
+are_served-reported {request} c n r rest x {s} {t} known =
+    are_served-still (quiet-c (record { 0 = c }) x t) (still-reported c n r rest s)
     (λ d i e. reported-probing c n r (reported_block c r (s.block n)) s.block (λ j. refl) d i e) known
 
 -- ---- a Release
@@ -123,9 +109,8 @@ probing-released : {X A : Type 0} (part : ClientBlock → A)
     → ((r : Prune) (p : ClientBlock) → part (after_release_taken r p) ≡ part p)
     → (c n : ℕ) (r : Prune) (rest : List Packet) (s : State X) (d i : ℕ)
     → part (((release_taken c n r rest s).block i).pair d) ≡ part ((s.block i).pair d)
-probing-released part same c n r rest s d i =
-    pair-still part c n (after_release_taken r ((s.block n).pair c)) (let_block c r (s.block n)) s.block (λ j. refl)
-    (same r ((s.block n).pair c)) d i
+probing-released part same c n r rest s d i = pair-still part c n (after_release_taken r ((s.block n).pair c))
+    (let_block c r (s.block n)) s.block (λ j. refl) (same r ((s.block n).pair c)) d i
 
 -- the answer of a Release, on a link where nothing handed out is unfinished
 pub record IsReleased {w : ℕ} (c : ℕ) (x : BeatC w) (m : MessageD w) (t : Trace w) : Type 0 where
@@ -133,42 +118,37 @@ pub record IsReleased {w : ℕ} (c : ℕ) (x : BeatC w) (m : MessageD w) (t : Tr
   pub other : is_probe_ack x.opcode ≡ false
   pub ack : is_release_ack m.opcode ≡ true
   pub none : is_grant m.opcode ≡ false
-  pub whole : unfinished channel.D (on_link c ((record { 0 = c }, beat.C x) ∷ t)) ≡ []
+  pub whole : unfinished Channel.D (on_link c ((record { 0 = c }, Beat.C x) ∷ t)) ≡ []
 
-released-quiet : {w : ℕ} (c : ℕ) (x : BeatC w) (m : MessageD w) (t : Trace w) → IsReleased c x m t
-    → AreQuiet t (after_sent (record { 0 = c }) (D m) ((record { 0 = c }, beat.C x) ∷ t))
-released-quiet c x m t is =
-    quiet-then t ((record { 0 = c }, beat.C x) ∷ t)
-    (after_sent (record { 0 = c }) (D m) ((record { 0 = c }, beat.C x) ∷ t)) (quiet-c (record { 0 = c }) x t)
-    (quiet-release_ack (record { 0 = c }) m ((record { 0 = c }, beat.C x) ∷ t) is.width is.whole is.ack is.none)
+released-quiet : {w : ℕ} {c : ℕ} {x : BeatC w} {m : MessageD w} {t : Trace w} → IsReleased c x m t
+    → AreQuiet t (after_sent (record { 0 = c }) (D m) ((record { 0 = c }, Beat.C x) ∷ t))
+released-quiet {c} {x} {m} {t} is =
+    quiet-then (quiet-c (record { 0 = c }) x t)
+    (quiet-release_ack (record { 0 = c }) m ((record { 0 = c }, Beat.C x) ∷ t) is.width is.whole is.ack is.none)
 
-pub managed-released : {w : ℕ} {X : Type 0} (request : ℕ → MessageA w) (c n : ℕ) (r : Prune) (rest : List Packet)
-    (x : BeatC w) (m : MessageD w) (s : State X)
-    (t : Trace w) → IsLastOf c n (prune_right r) x t → IsReleased c x m t
+pub managed-released : {w : ℕ} {X : Type 0} {request : ℕ → MessageA w} {c n : ℕ} (r : Prune) (rest : List Packet)
+    {x : BeatC w} {m : MessageD w} {s : State X} {t : Trace w} → IsLastOf c n (prune_right r) x t → IsReleased c x m t
     → ManagerRelation request s t → ManagerRelation request (release_taken c n r rest s)
-    (after_sent (record { 0 = c }) (D m) ((record { 0 = c }, beat.C x) ∷ t))
-managed-released {w} request c n r rest x m s t is answer known =
-    managed-still request s (release_taken c n r rest s) t (after_sent (record { 0 = c }) (D m) u)
-    (released-quiet c x m t answer) (still-released c n r rest s)
-    (λ d i. recorded-answer (record { 0 = c }) m u answer.width answer.whole answer.none d i ∙ recorded-last c n
-    (prune_right r) x t is d i
+    (after_sent (record { 0 = c }) (D m) ((record { 0 = c }, Beat.C x) ∷ t))
+managed-released {w} {request} {c} {n} r rest {x} {m} {s} {t} is answer known =
+    let u : Trace w = (record { 0 = c }, Beat.C x) ∷ t in
+    managed-still
+    (released-quiet answer) (still-released c n r rest s)
+    (λ d i. recorded-answer (record { 0 = c }) m u answer.width answer.whole answer.none d i ∙ recorded-last
+    is d i
     ∙ same_or ((c == d) && (n == i)) (prune_right r) _ _ (known.recorded_is d i)
     ∙ sym (pair-part (λ p. p.recorded) c n (after_release_taken r ((s.block n).pair c)) (let_block c r (s.block n))
     s.block (λ j. refl) d i))
-    (λ d i. reply-quiet (key.ProbeOf i) (record { 0 = c }) m u d answer.width answer.whole (λ e. (refl, refl))
+    (λ d i. reply-quiet (Key.ProbeOf i) (record { 0 = c }) m u d answer.width answer.whole (λ e. (refl, refl))
     ∙ missing-release c x t answer.other d i ∙ known.probes d i
     ∙ sym (probing-released (λ p. not (is_unprobed p.probing)) (λ q p. refl) c n r rest s d i))
     known
-  where
-    u : Trace w
-    u = (record { 0 = c }, beat.C x) ∷ t
 
-pub are_served-released : {w : ℕ} {X : Type 0} (request : ℕ → MessageA w) (c n : ℕ) (r : Prune) (rest : List Packet)
-    (x : BeatC w) (m : MessageD w) (s : State X) (t : Trace w) → IsReleased c x m t
+pub are_served-released : {w : ℕ} {X : Type 0} {request : ℕ → MessageA w} {c : ℕ} (n : ℕ) (r : Prune)
+    (rest : List Packet)
+    {x : BeatC w} {m : MessageD w} {s : State X} {t : Trace w} → IsReleased c x m t
     → ServedSourceRelation request s t → ServedSourceRelation request (release_taken c n r rest s)
-    (after_sent (record { 0 = c }) (D m) ((record { 0 = c }, beat.C x) ∷ t))
-are_served-released {w} request c n r rest x m s t answer known =
-    are_served-still request s (release_taken c n r rest s) t
-    (after_sent (record { 0 = c }) (D m) ((record { 0 = c }, beat.C x) ∷ t)) (released-quiet c x m t answer)
-    (still-released c n r rest s)
+    (after_sent (record { 0 = c }) (D m) ((record { 0 = c }, Beat.C x) ∷ t))
+are_served-released {w} {request} {c} n r rest {x} {m} {s} {t} answer known =
+    are_served-still (released-quiet answer) (still-released c n r rest s)
     (λ d i e. sym (probing-released (λ p. is_unprobed p.probing) (λ q p. refl) c n r rest s d i) ∙ e) known

@@ -12,20 +12,12 @@ use Rattle.tl_coherence.proofs.manager.Imports.{Block, State, reported_block, le
 use Rattle.tl_coherence.proofs.manager.Imports.{IsServedWith}
 use Rattle.std.proofs.Common.{◌≡◌, ℕ, suc, ◌+◌, Bool, true, false, not, ◌&&◌, ◌||◌, List, [], ◌∷◌, length, refl, sym}
 use Rattle.std.proofs.Common.{◌∙◌, ap, subst, inl, inr, arith}
-use Rattle.std.specs.Prelude.{◌==◌, if◌then◌else◌}
-use Rattle.std.proofs.lemmas.Bool.{cases_eq, ne_eqb}
-use Rattle.tl_beat.specs.declared.beat.Beat.TheVariants as beat
-use Rattle.tl_beat.specs.declared.channel.Channel.TheVariants as channel
-use Rattle.tl_burst.specs.declared.message.Message.TheVariants as message
-use Rattle.tl_burst.specs.statement.Burst.{burst_of}
-use Rattle.tl_params.specs.declared.key.Key.TheVariants as key
-use Rattle.tl_params.specs.declared.perm.Perm.TheVariants as perm
-use Rattle.tl_rules.specs.statement.Admission.{payload_of}
-use Rattle.tl_rules.proofs.Payload.{payload-c}
-use Rattle.tl_burst.proofs.Begun.{length-begun}
+use Rattle.std.{specs.Prelude.◌==◌, specs.Prelude.if◌then◌else◌, proofs.lemmas.Bool.cases_eq, proofs.lemmas.Bool.ne_eqb}
+use Rattle.tl_burst.{specs.statement.Burst.burst_of, proofs.Begun.length-begun}
+use Rattle.tl_params.specs.declared.key.Key.{Key}
+use Rattle.tl_rules.{specs.statement.Admission.payload_of, proofs.Payload.payload-c}
 use Rattle.tl_manager.specs.statement.Handing.{nothing, release_ack}
 use Rattle.tl_manager.specs.statement.Holders.{is_settled, is_missing}
-use Rattle.tl_manager.specs.statement.Offer as manager_offer
 use Rattle.tl_manager.proofs.calls.Events.{reaction-part, reaction-release, reaction-report, reaction-ack, memory_with}
 use Rattle.tl_manager.proofs.calls.Keeping.{kept-offered}
 use Rattle.tl_coherence.specs.refinement.AbstractStep.{with_state}
@@ -34,12 +26,11 @@ use Rattle.tl_coherence.proofs.manager.ManagedAcks.{IsAcked, managed-acked, are_
 use Rattle.tl_coherence.proofs.manager.ManagedReports.{managed-report_part, are_served-report_part, managed-reported}
 use Rattle.tl_coherence.proofs.manager.ManagedReports.{are_served-reported, IsReleased, managed-released}
 use Rattle.tl_coherence.proofs.manager.ManagedReports.{are_served-released}
-use Rattle.tl_coherence.proofs.manager.ManagersEnd.{IsAtManager}
+use Rattle.tl_coherence.proofs.{manager.ManagersEnd.IsAtManager, manager.Choices.nobody-same}
+use Rattle.tl_coherence.proofs.{manager.ManagerTakes.IsTakenUp, manager.Reporting.IsAbout}
+use Rattle.tl_coherence.proofs.{manager.Reporting.reported-prune}
 use Rattle.tl_coherence.proofs.manager.ManagerMemory.{block_in, other-blocks, blocks-now, block-taken}
-use Rattle.tl_coherence.proofs.manager.Choices.{nobody-same}
-use Rattle.tl_coherence.proofs.manager.ManagerTakes.{IsTakenUp}
 use Rattle.tl_coherence.proofs.manager.QuiescentManager.{IsLastOf, missing-last}
-use Rattle.tl_coherence.proofs.manager.Reporting.{IsAbout, reported-prune}
 use Rattle.tl_client.proofs.endpoint.HeldAfter.{reported-report}
 use Rattle.tl_coherence.proofs.queues.Tokens.{same_number, set-same, set-other, set-part}
 
@@ -52,40 +43,37 @@ IsManagerOf config h e = IsAtManager config h.mail h.request h.state e
 abbrev pub left : {w : ℕ} → ℕ → Beat w → Reaction w → End w → End w
 left c x d e = taken (record { 0 = c }) x d e
 
-pub left-is : {w : ℕ} (config : Config) (c : ℕ) (ch : Channel) (x : Beat w) (d : Reaction w) (e : End w)
+pub left-is : {w : ℕ} {config : Config} {c : ℕ} {ch : Channel} {x : Beat w} (d : Reaction w) {e : End w}
     → IsTakenUp config c ch x e
     → reaction config (record { 0 = c }) x e ≡ d → (offered config (record { 0 = c }) ch x e).1 ≡ left c x d e
-left-is {w} config c ch x d e up is = ap (λ (p : manager_offer.Reception w × End w). p.1) up.answer ∙ ap
-    (λ (i : Reaction w). left c x i e) is
+left-is {w} d up is = cc (up.answer, is)
 
-pub kept-left : {w : ℕ} (config : Config) (c : ℕ) (x : BeatC w) (d : Reaction w) (e : End w) → IsWidth w
-    → IsTakenUp config c channel.C (beat.C x) e
-    → reaction config (record { 0 = c }) (beat.C x) e ≡ d → IsKept config e → IsKept config (left c (beat.C x) d e)
-kept-left config c x d e width up is kept = subst (IsKept config) (left-is config c channel.C (beat.C x) d e up is)
-    (kept-offered config (record { 0 = c }) channel.C (beat.C x) e width tt kept)
+pub kept-left : {w : ℕ} {config : Config} {c : ℕ} (x : BeatC w) (d : Reaction w) {e : End w} → IsWidth w
+    → IsTakenUp config c Channel.C (Beat.C x) e
+    → reaction config (record { 0 = c }) (Beat.C x) e ≡ d → IsKept config e → IsKept config (left c (Beat.C x) d e)
+kept-left {config} {c} x d {e} width up is kept = subst (IsKept config) (left-is d up is)
+    (kept-offered config (record { 0 = c }) Channel.C (Beat.C x) e width tt kept)
 
-pub others-left : {w : ℕ} (config : Config) (c n : ℕ) (x : BeatC w) (d : Reaction w) (e : End w) → IsWidth w
-    → IsTakenUp config c channel.C (beat.C x) e
-    → reaction config (record { 0 = c }) (beat.C x) e ≡ d → IsKept config e → block_at x.address ≡ n
-    → (i : ℕ) → (i ≡ n → ⊥) → block_in d.memory i ≡ block_in e.memory i
-others-left {w} config c n x d e width up is kept block i other =
-    ap (λ (z : End w). block_in z.memory i) (sym (left-is config c channel.C (beat.C x) d e up is)) ∙ other-blocks
-    config (record { 0 = c }) channel.C x e n width kept block i other
+pub others-left : {w : ℕ} {config : Config} {c : ℕ} (n : ℕ) (x : BeatC w) (d : Reaction w) {e : End w} → IsWidth w
+    → IsTakenUp config c Channel.C (Beat.C x) e → reaction config (record { 0 = c }) (Beat.C x) e ≡ d → IsKept config e
+    → block_at x.address ≡ n → (i : ℕ) → (i ≡ n → ⊥) → block_in d.memory i ≡ block_in e.memory i
+others-left {w} {config} {c} n x d {e} width up is kept block i other =
+    ap (λ (z : End w). block_in z.memory i) (sym (left-is d up is)) ∙ other-blocks
+    (record { 0 = c }) Channel.C x n width kept block i other
 
 -- ---- a beat of channel C that isn't the last of its message
 
-pub report_part-left : {w : ℕ} (config : Config) (c : ℕ) (x : BeatC w) (h : AbstractState w) (e : End w) → IsWidth w
-    → IsTakenUp config c channel.C (beat.C x) e
-    → ends (beat.C x) (on_link c e.trace) ≡ false → IsManagerOf config h e
-    → IsManagerOf config h (left c (beat.C x) (reaction config (record { 0 = c }) (beat.C x) e) e)
+pub report_part-left : {w : ℕ} {config : Config} {c : ℕ} (x : BeatC w) (h : AbstractState w) {e : End w} → IsWidth w
+    → IsTakenUp config c Channel.C (Beat.C x) e → ends (Beat.C x) (on_link c e.trace) ≡ false → IsManagerOf config h e
+    → IsManagerOf config h (left c (Beat.C x) (reaction config (record { 0 = c }) (Beat.C x) e) e)
 unfolding with_handed
-report_part-left {w} config c x h e width up part is =
-    let done = reaction-part config (record { 0 = c }) (beat.C x) e part in
-    subst (λ (d : Reaction w). IsManagerOf config h (left c (beat.C x) d e)) (sym done) (record {
-      managed = managed-report_part h.request c x h.state e.trace part is.managed;
-      served = are_served-report_part h.request c x h.state e.trace is.served;
+report_part-left {w} {config} {c} x h {e} width up part is =
+    let done = reaction-part config (record { 0 = c }) (Beat.C x) e part in
+    subst (λ (d : Reaction w). IsManagerOf config h (left c (Beat.C x) d e)) (sym done) (record {
+      managed = managed-report_part c x part is.managed;
+      served = are_served-report_part c x is.served;
       served_with = is.served_with;
-      manager_kept = kept-left config c x (nothing e.memory) e width up done is.manager_kept;
+      manager_kept = kept-left x (nothing e.memory) width up done is.manager_kept;
       memory = is.memory;
       all_live = is.all_live;
     })
@@ -97,141 +85,109 @@ pub record IsEnd {w : ℕ} (is_report : Bool) (c n param : ℕ) (carries : Bool)
     (e : End w) : Type 0 where
   pub width : IsWidth w
   pub about : IsAbout is_report n param carries truth m
-  pub rest : unfinished channel.C (on_link c e.trace) ≡ begun (message.C m) k
-  pub last : k + 1 ≡ beats_of (message.C m)
+  pub rest : unfinished Channel.C (on_link c e.trace) ≡ begun (Message.C m) k
+  pub last : k + 1 ≡ beats_of (Message.C m)
   pub long : length truth ≡ 64
 
-pub ends-it : {w : ℕ} (b : Bool) (c n param : ℕ) (carries : Bool) (truth : List ℕ) (k : ℕ) (m : MessageC w) (e : End w)
-    → IsEnd b c n param carries truth k m e
-    → ends (beat.C (c_beat_of m k)) (on_link c e.trace) ≡ true
-ends-it b c n param carries truth k m e is =
-    rw (is.rest, length-begun (message.C m) k) (is_last k (beats_of (message.C m)) is.last)
+pub ends-it : {w : ℕ} {b : Bool} {c n param : ℕ} {carries : Bool} {truth : List ℕ} {k : ℕ} {m : MessageC w} {e : End w}
+    → IsEnd b c n param carries truth k m e → ends (Beat.C (c_beat_of m k)) (on_link c e.trace) ≡ true
+ends-it {k} {m} is = rw (is.rest, length-begun (Message.C m) k) (is_last k (beats_of (Message.C m)) is.last)
 
 -- the bytes that it carries
-pub payload-end : {w : ℕ} (b : Bool) (c n param : ℕ) (carries : Bool) (truth : List ℕ) (k : ℕ) (m : MessageC w)
-    (e : End w) → IsEnd b c n param carries truth k m e → carries ≡ true
-    → payload_of (beat.C (c_beat_of m k) ∷ unfinished channel.C (on_link c e.trace)) ≡ truth
-payload-end {w} b c n param carries truth k m e is some =
-    ap (λ (beats : List (Beat w)). payload_of (beat.C (c_beat_of m k) ∷ beats)) is.rest
-    ∙ payload-c m (begun (message.C m) (suc k)) is.width is.about.long (whole, is.about.blank) ∙ is.about.payload_is
-    some
+pub payload-end : {w : ℕ} {b : Bool} {c n param : ℕ} {carries : Bool} {truth : List ℕ} {k : ℕ} {m : MessageC w}
+    {e : End w} → IsEnd b c n param carries truth k m e → carries ≡ true
+    → payload_of (Beat.C (c_beat_of m k) ∷ unfinished Channel.C (on_link c e.trace)) ≡ truth
+payload-end {w} {k} {m} is some =
+    cc (
+      is.rest,
+      payload-c m (begun (Message.C m) (suc k)) is.width is.about.long (whole, is.about.blank),
+      is.about.payload_is some,
+    )
   where
-    whole : begun (message.C m) (suc k) ≡ burst_of (message.C m)
-    whole = let all : suc k ≡ beats_of (message.C m) = omega (arith, is.last) in
-        ap (λ (i : ℕ). begun (message.C m) i) all
+    whole : begun (Message.C m) (suc k) ≡ burst_of (Message.C m)
+    whole = let all : suc k ≡ beats_of (Message.C m) = omega (arith, is.last) in
+        ap (λ (i : ℕ). begun (Message.C m) i) all
 
-pub last-of : {w : ℕ} (b : Bool) (c n param : ℕ) (carries : Bool) (truth : List ℕ) (k : ℕ) (right : Perm)
-    (m : MessageC w) (e : End w)
+pub last-of : {w : ℕ} {b : Bool} {c n param : ℕ} {carries : Bool} {truth : List ℕ} {k : ℕ} (right : Perm)
+    {m : MessageC w} {e : End w}
     → IsEnd b c n param carries truth k m e → reported param ≡ right → IsLastOf c n right (c_beat_of m k) e.trace
-last-of b c n param carries truth k right m e is said = record {
-  last = ends-it b c n param carries truth k m e is;
-  kind = rw (is.about.reports, is.about.releases) (either b);
-  block = is.about.block;
-  right_is = ap reported is.about.param_is ∙ said;
-}
-  where
-    either : (b : Bool) → (b || not b) ≡ true
-    either true = refl
-    either false = refl
+last-of {b} {c} {n} {param} {carries} {truth} {k} right {m} {e} is said =
+    let either : (b : Bool) → (b || not b) ≡ true = elim [ true ↦ refl | false ↦ refl ] in
+    record {
+      last = ends-it is;
+      kind = rw (is.about.reports, is.about.releases) (either b);
+      block = is.about.block;
+      right_is = ap reported is.about.param_is ∙ said;
+    }
 
 -- the memory with it
-pub memory-end : {w : ℕ} (b : Bool) (c n param : ℕ) (carries : Bool) (truth : List ℕ) (k : ℕ) (m : MessageC w)
-    (e : End w) → IsEnd b c n param carries truth k m e
+pub memory-end : {w : ℕ} {b : Bool} {c n param : ℕ} {carries : Bool} {truth : List ℕ} {k : ℕ} {m : MessageC w}
+    {e : End w} → IsEnd b c n param carries truth k m e
     → block_in (memory_with (record { 0 = c }) (c_beat_of m k) e) n ≡ (if carries then truth else block_in e.memory n)
-memory-end {w} b c n param carries truth k m e is =
-    block-taken (c_beat_of m k) (beat.C (c_beat_of m k) ∷ unfinished channel.C (on_link c e.trace)) e.memory n carries
-    truth is.about.block is.about.carries_is
-    (payload-end b c n param carries truth k m e is) is.long
+memory-end {w} {b} {c} {n} {param} {carries} {truth} {k} {m} {e} is =
+    block-taken (c_beat_of m k) (Beat.C (c_beat_of m k) ∷ unfinished Channel.C (on_link c e.trace)) e.memory n carries
+    truth is.about.block is.about.carries_is (payload-end is) is.long
 
 -- ---- a Release
 
-release_is : {w : ℕ} (source : ℕ) → (m : MessageD w) × (release_ack source ≡ message.D m)
+release_is : {w : ℕ} (source : ℕ) → (m : MessageD w) × (release_ack source ≡ Message.D m)
     × (is_release_ack m.opcode ≡ true) × (is_grant m.opcode ≡ false)
 release_is source = (_, refl, refl, refl)
 
-pub reaction-released : {w : ℕ} (config : Config) (c n k : ℕ) (r : Prune) (m : MessageC w) (h : AbstractState w)
-    (e : End w)
-    → IsEnd false c n (prune_code r) (same_perm (prune_left r) perm.Trunk) (h.state.block n).truth k m e
-    → reaction config (record { 0 = c }) (beat.C (c_beat_of m k)) e ≡ record {
-      handed =
-          (record { 0 = c }, release_ack m.source) ∷ [];
+pub reaction-released : {w : ℕ} (config : Config) {c n k : ℕ} (r : Prune) {m : MessageC w} (h : AbstractState w)
+    {e : End w}
+    → IsEnd false c n (prune_code r) (same_perm (prune_left r) Perm.Trunk) (h.state.block n).truth k m e
+    → reaction config (record { 0 = c }) (Beat.C (c_beat_of m k)) e ≡ record {
+      handed = (record { 0 = c }, release_ack m.source) ∷ [];
       memory = memory_with (record { 0 = c }) (c_beat_of m k) e;
     }
-reaction-released config c n k r m h e end =
-    reaction-release config (record { 0 = c }) (c_beat_of m k) e
-    (ends-it false c n (prune_code r) (same_perm (prune_left r) perm.Trunk) (h.state.block n).truth k m e end)
-    end.about.releases
+reaction-released config {c} {n} {k} r {m} h {e} end = reaction-release config (record { 0 = c }) (c_beat_of m k) e
+    (ends-it end) end.about.releases
 
-pub released-left : {w : ℕ} (config : Config) (c n k : ℕ) (r : Prune) (rest : List Packet) (m : MessageC w)
-    (h : AbstractState w) (e : End w) → IsTakenUp config c channel.C (beat.C (c_beat_of m k)) e
-    → IsEnd false c n (prune_code r) (same_perm (prune_left r) perm.Trunk) (h.state.block n).truth k m e
-    → IsManagerOf config h e
-    → IsManagerOf config (with_state (release_taken c n r rest h.state) h)
-    (left c (beat.C (c_beat_of m k)) (reaction config (record { 0 = c }) (beat.C (c_beat_of m k)) e) e)
+pub released-left : {w : ℕ} {config : Config} {c n k : ℕ} (r : Prune) (rest : List Packet) {m : MessageC w}
+    (h : AbstractState w) {e : End w} → IsTakenUp config c Channel.C (Beat.C (c_beat_of m k)) e
+    → IsEnd false c n (prune_code r) (same_perm (prune_left r) Perm.Trunk) (h.state.block n).truth k m e
+    → IsManagerOf config h e → IsManagerOf config (with_state (release_taken c n r rest h.state) h)
+    (left c (Beat.C (c_beat_of m k)) (reaction config (record { 0 = c }) (Beat.C (c_beat_of m k)) e) e)
 unfolding with_handed
-released-left {w} config c n k r rest m h e up end is =
-    subst (λ (d : Reaction w). IsManagerOf config (with_state after h) (left c (beat.C x) d e)) (sym done) (record {
-      managed =
-          subst (λ (i : Message w). ManagerRelation h.request after
-          (with_handed ((record { 0 = c }, i) ∷ []) ((record { 0 = c }, beat.C x) ∷ e.trace))) (sym answer.1)
-          (managed-released h.request c n r rest x answer.0 h.state e.trace
-          (last-of false c n (prune_code r) carries truth k (prune_right r) m e end (reported-prune r)) released
-          is.managed);
-      served =
-          subst (λ (i : Message w). ServedSourceRelation h.request after
-          (with_handed ((record { 0 = c }, i) ∷ []) ((record { 0 = c }, beat.C x) ∷ e.trace))) (sym answer.1)
-          (are_served-released h.request c n r rest x answer.0 h.state e.trace released is.served);
-      served_with = λ i. still i;
-      manager_kept = kept-left config c x does e end.width up done is.manager_kept;
-      memory = λ i.
-          blocks-now e.memory does.memory n (let_block c r (h.state.block n)) h.state
-          (memory-end false c n (prune_code r) carries truth k m e end ∙ ap (λ z. if carries then truth else z)
-          (is.memory n))
-          (others-left config c n x does e end.width up done is.manager_kept end.about.block) is.memory i;
-      all_live = is.all_live;
-    })
-  where
-    x : BeatC w
-    x = c_beat_of m k
-
-    truth : List ℕ
-    truth = (h.state.block n).truth
-
-    carries : Bool
-    carries = same_perm (prune_left r) perm.Trunk
-
-    after : State (List ℕ)
-    after = release_taken c n r rest h.state
-
-    does : Reaction w
-    does = record {
+released-left {w} {config} {c} {n} {k} r rest {m} h {e} up end is =
+    let x : BeatC w = c_beat_of m k in
+    let carries : Bool = same_perm (prune_left r) Perm.Trunk in
+    let after : State (List ℕ) = release_taken c n r rest h.state in
+    let does : Reaction w = record {
       handed = (record { 0 = c }, release_ack x.source) ∷ [];
-      memory =
-          memory_with (record { 0 = c }) x e;
-    }
-
-    done : reaction config (record { 0 = c }) (beat.C x) e ≡ does
-    done = reaction-released config c n k r m h e end
-
-    answer : (i : MessageD w) × (release_ack x.source ≡ message.D i) × (is_release_ack i.opcode ≡ true)
-        × (is_grant i.opcode ≡ false)
-    answer = release_is x.source
-
-    released : IsReleased c x answer.0 e.trace
-    released = record {
+      memory = memory_with (record { 0 = c }) x e;
+    } in
+    let done : reaction config (record { 0 = c }) (Beat.C x) e ≡ does = reaction-released config r h end in
+    let answer = release_is x.source in
+    let released : IsReleased c x answer.0 e.trace = record {
       width = end.width;
       other = end.about.reports;
       ack = answer.2;
       none = answer.3;
-      whole =
-          (whole-taken c (record { 0 = c }) (beat.C x) e.trace refl (is.manager_kept.whole c)).1;
-    }
-
-    still : (i : ℕ) → IsServedWith h.mail (after.block i).service (h.request i)
-    still i = elim (cases_eq i n) [
+      whole = (whole-taken c (record { 0 = c }) (Beat.C x) e.trace refl (is.manager_kept.whole c)).1;
+    } in
+    let still : (i : ℕ) → IsServedWith h.mail (after.block i).service (h.request i) = λ i. elim (cases_eq i n) [
       | inl same ↦ rw (same, set-same n (let_block c r (h.state.block n)) h.state.block) (is.served_with n)
       | inr other ↦ rw (set-other n i (let_block c r (h.state.block n)) h.state.block other) (is.served_with i)
-    ]
+    ] in
+    subst (λ (d : Reaction w). IsManagerOf config (with_state after h) (left c (Beat.C x) d e)) (sym done) (record {
+      managed = subst (λ (i : Message w). ManagerRelation h.request after
+          (with_handed ((record { 0 = c }, i) ∷ []) ((record { 0 = c }, Beat.C x) ∷ e.trace))) (sym answer.1)
+          (managed-released r rest (last-of (prune_right r) end (reported-prune r)) released is.managed);
+      served = subst (λ (i : Message w). ServedSourceRelation h.request after
+          (with_handed ((record { 0 = c }, i) ∷ []) ((record { 0 = c }, Beat.C x) ∷ e.trace))) (sym answer.1)
+          (are_served-released n r rest released is.served);
+      served_with = λ i. still i;
+      manager_kept = kept-left x does end.width up done is.manager_kept;
+      memory = λ i. cc (blocks-now e.memory does.memory n (let_block c r (h.state.block n)) h.state (memory-end end
+          ∙ ap (λ z. if carries then truth else z) (is.memory n))
+          (others-left n x does end.width up done is.manager_kept end.about.block) is.memory i);
+      all_live = is.all_live;
+    })
+  where
+    truth : List ℕ
+    truth = (h.state.block n).truth
 
 -- ---- which ProbeAcks are missing
 
@@ -239,16 +195,15 @@ released-left {w} config c n k r rest m h e up end is =
 abbrev pub others_probed : ℕ → (ℕ → ClientBlock) → ℕ → Bool
 others_probed c pair d = not (d == c) && not (is_unprobed (pair d).probing)
 
-pub settled-is : {w : ℕ} (config : Config) (c n : ℕ) (right : Perm) (x : BeatC w) (h : AbstractState w) (e : End w)
-    → IsLastOf c n right x e.trace
-    → is_probe_ack x.opcode ≡ true → ManagerRelation h.request h.state e.trace
-    → is_settled config n ((record { 0 = c }, beat.C x) ∷ e.trace) ≡ not
-    (some_below (length config.clients.items) (others_probed c (h.state.block n).pair))
-settled-is {w} config c n right x h e last report managed =
-    nobody-same config (λ d. is_missing d n ((record { 0 = c }, beat.C x) ∷ e.trace))
-    (others_probed c (h.state.block n).pair) (λ d. missing-last c n right x e.trace last report d n ∙ now d)
+pub settled-is : {w : ℕ} (config : Config) {c n : ℕ} {right : Perm} {x : BeatC w} (h : AbstractState w) (e : End w)
+    → IsLastOf c n right x e.trace → is_probe_ack x.opcode ≡ true → ManagerRelation h.request h.state e.trace
+    → is_settled config n ((record { 0 = c }, Beat.C x) ∷ e.trace)
+    ≡ not (some_below (length config.clients.items) (others_probed c (h.state.block n).pair))
+settled-is {w} config {c} {n} {right} {x} h e last report managed =
+    nobody-same config (λ d. is_missing d n ((record { 0 = c }, Beat.C x) ∷ e.trace))
+    (others_probed c (h.state.block n).pair) (λ d. missing-last last report d n ∙ now d)
   where
-    now : (d : ℕ) → (if (c == d) && (n == n) then false else pending (key.ProbeOf n) (on_link d e.trace))
+    now : (d : ℕ) → (if (c == d) && (n == n) then false else pending (Key.ProbeOf n) (on_link d e.trace))
         ≡ others_probed c (h.state.block n).pair d
     now d = elim (cases_eq c d) [
       | inl same ↦ rw (same, same_number d, same_number n) refl
@@ -258,105 +213,76 @@ settled-is {w} config c n right x h e last report managed =
 
 -- ---- a ProbeAck that isn't the last one missing
 
-pub reaction-reported : {w : ℕ} (config : Config) (c n k : ℕ) (r : Report) (m : MessageC w) (h : AbstractState w)
-    (e : End w)
-    → IsEnd true c n (report_code r) (same_perm (report_left r) perm.Trunk) (h.state.block n).truth k m e
+pub reaction-reported : {w : ℕ} (config : Config) {c n k : ℕ} (r : Report) {m : MessageC w} (h : AbstractState w)
+    {e : End w} → IsEnd true c n (report_code r) (same_perm (report_left r) Perm.Trunk) (h.state.block n).truth k m e
     → some_below (length config.clients.items) (others_probed c (h.state.block n).pair) ≡ true
-    → ManagerRelation h.request h.state e.trace
-    → reaction config (record { 0 = c }) (beat.C (c_beat_of m k)) e ≡ nothing
-    (memory_with (record { 0 = c }) (c_beat_of m k) e)
-reaction-reported {w} config c n k r m h e end others managed =
-    reaction-report config (record { 0 = c }) x e (ends-it true c n (report_code r) carries truth k m e end)
+    → ManagerRelation h.request h.state e.trace → reaction config (record { 0 = c }) (Beat.C (c_beat_of m k)) e
+    ≡ nothing (memory_with (record { 0 = c }) (c_beat_of m k) e)
+reaction-reported {w} config {c} {n} {k} r {m} h {e} end others managed =
+    let x : BeatC w = c_beat_of m k in
+    let carries : Bool = same_perm (report_left r) Perm.Trunk in
+    reaction-report config (record { 0 = c }) x e (ends-it end)
     end.about.releases end.about.reports
-    (ap (λ i. is_settled config i ((record { 0 = c }, beat.C x) ∷ e.trace)) end.about.block
-    ∙ settled-is config c n (report_right r) x h e (last-of true c n (report_code r) carries truth k (report_right r) m
-    e end (reported-report r)) end.about.reports managed ∙ rw others refl)
+    (ap (λ i. is_settled config i ((record { 0 = c }, Beat.C x) ∷ e.trace)) end.about.block
+    ∙ settled-is config h e (last-of (report_right r)
+    end (reported-report r)) end.about.reports managed ∙ rw others refl)
   where
-    x : BeatC w
-    x = c_beat_of m k
-
     truth : List ℕ
     truth = (h.state.block n).truth
 
-    carries : Bool
-    carries = same_perm (report_left r) perm.Trunk
-
-pub reported-left : {w : ℕ} (config : Config) (c n k : ℕ) (r : Report) (rest : List Packet) (m : MessageC w)
-    (h : AbstractState w) (e : End w) → IsTakenUp config c channel.C (beat.C (c_beat_of m k)) e
-    → IsEnd true c n (report_code r) (same_perm (report_left r) perm.Trunk) (h.state.block n).truth k m e
+pub reported-left : {w : ℕ} {config : Config} {c n k : ℕ} (r : Report) (rest : List Packet) {m : MessageC w}
+    (h : AbstractState w) {e : End w} → IsTakenUp config c Channel.C (Beat.C (c_beat_of m k)) e
+    → IsEnd true c n (report_code r) (same_perm (report_left r) Perm.Trunk) (h.state.block n).truth k m e
     → some_below (length config.clients.items) (others_probed c (h.state.block n).pair) ≡ true → IsManagerOf config h e
     → IsManagerOf config (with_state (report_taken c n r rest h.state) h)
-    (left c (beat.C (c_beat_of m k)) (reaction config (record { 0 = c }) (beat.C (c_beat_of m k)) e) e)
+    (left c (Beat.C (c_beat_of m k)) (reaction config (record { 0 = c }) (Beat.C (c_beat_of m k)) e) e)
 unfolding with_handed
-reported-left {w} config c n k r rest m h e up end others is =
-    subst (λ (d : Reaction w). IsManagerOf config (with_state after h) (left c (beat.C x) d e)) (sym done) (record {
-      managed = managed-reported h.request c n r rest x h.state e.trace last end.about.reports is.managed;
-      served = are_served-reported h.request c n r rest x h.state e.trace is.served;
+reported-left {w} {config} {c} {n} {k} r rest {m} h {e} up end others is =
+    let x : BeatC w = c_beat_of m k in
+    let carries : Bool = same_perm (report_left r) Perm.Trunk in
+    let after : State (List ℕ) = report_taken c n r rest h.state in
+    let does : Reaction w = nothing (memory_with (record { 0 = c }) x e) in
+    let last = last-of (report_right r) end (reported-report r) in
+    let done = reaction-reported config r h end others is.managed in
+    let still : (i : ℕ) → IsServedWith h.mail (after.block i).service (h.request i) = λ i. elim (cases_eq i n) [
+      | inl same ↦ rw (same, set-same n (reported_block c r (h.state.block n)) h.state.block) (is.served_with n)
+      | inr other ↦ rw (set-other n i (reported_block c r (h.state.block n)) h.state.block other) (is.served_with i)
+    ] in
+    subst (λ (d : Reaction w). IsManagerOf config (with_state after h) (left c (Beat.C x) d e)) (sym done) (record {
+      managed = managed-reported r rest last end.about.reports is.managed;
+      served = are_served-reported c n r rest x is.served;
       served_with = λ i. still i;
-      manager_kept = kept-left config c x does e end.width up done is.manager_kept;
-      memory = λ i.
-          blocks-now e.memory does.memory n (reported_block c r (h.state.block n)) h.state
-          (memory-end true c n (report_code r) carries truth k m e end ∙ ap (λ z. if carries then truth else z)
-          (is.memory n))
-          (others-left config c n x does e end.width up done is.manager_kept end.about.block) is.memory i;
+      manager_kept = kept-left x does end.width up done is.manager_kept;
+      memory = λ i. cc (blocks-now e.memory does.memory n (reported_block c r (h.state.block n)) h.state (memory-end end
+          ∙ ap (λ z. if carries then truth else z) (is.memory n))
+          (others-left n x does end.width up done is.manager_kept end.about.block) is.memory i);
       all_live = is.all_live;
     })
   where
-    x : BeatC w
-    x = c_beat_of m k
-
     truth : List ℕ
     truth = (h.state.block n).truth
 
-    carries : Bool
-    carries = same_perm (report_left r) perm.Trunk
-
-    after : State (List ℕ)
-    after = report_taken c n r rest h.state
-
-    does : Reaction w
-    does = nothing (memory_with (record { 0 = c }) x e)
-
-    last : IsLastOf c n (report_right r) x e.trace
-    last = last-of true c n (report_code r) carries truth k (report_right r) m e end (reported-report r)
-
-    done : reaction config (record { 0 = c }) (beat.C x) e ≡ does
-    done = reaction-reported config c n k r m h e end others is.managed
-
-    still : (i : ℕ) → IsServedWith h.mail (after.block i).service (h.request i)
-    still i = elim (cases_eq i n) [
-      | inl same ↦ rw (same, set-same n (reported_block c r (h.state.block n)) h.state.block) (is.served_with n)
-      | inr other ↦ rw (set-other n i (reported_block c r (h.state.block n)) h.state.block other) (is.served_with i)
-    ]
-
 -- ---- a GrantAck
 
-pub acked-left : {w : ℕ} (config : Config) (c n : ℕ) (rest : List Packet) (x : BeatE) (h : AbstractState w) (e : End w)
-    → IsWidth w
-    → IsTakenUp config c channel.E (beat.E x) e → IsAcked c n x h.request h.state e.trace → IsManagerOf config h e
-    → IsManagerOf config (with_state (grant_ack_taken c n rest h.state) h)
-    (left c (beat.E x) (reaction config (record { 0 = c }) (beat.E x) e) e)
+pub acked-left : {w : ℕ} {config : Config} {c n : ℕ} (rest : List Packet) {x : BeatE} (h : AbstractState w) {e : End w}
+    → IsWidth w → IsTakenUp config c Channel.E (Beat.E x) e → IsAcked c n x h.request h.state e.trace
+    → IsManagerOf config h e → IsManagerOf config (with_state (grant_ack_taken c n rest h.state) h)
+    (left c (Beat.E x) (reaction config (record { 0 = c }) (Beat.E x) e) e)
 unfolding with_handed
-acked-left {w} config c n rest x h e width up acks is =
-    subst (λ (d : Reaction w). IsManagerOf config (with_state after h) (left c (beat.E x) d e)) (sym done) (record {
-      managed = managed-acked h.request c n rest x h.state e.trace acks is.managed;
-      served = are_served-acked h.request c n rest x h.state e.trace acks is.served;
+acked-left {w} {config} {c} {n} rest {x} h {e} width up acks is =
+    let after : State (List ℕ) = grant_ack_taken c n rest h.state in
+    let done = reaction-ack config (record { 0 = c }) x e in
+    let still : (i : ℕ) → IsServedWith h.mail (after.block i).service (h.request i) = λ i. elim (cases_eq i n) [
+      | inl same ↦ rw (same, set-same n (freed_block (h.state.block n)) h.state.block) tt
+      | inr other ↦ rw (set-other n i (freed_block (h.state.block n)) h.state.block other) (is.served_with i)
+    ] in
+    subst (λ (d : Reaction w). IsManagerOf config (with_state after h) (left c (Beat.E x) d e)) (sym done) (record {
+      managed = managed-acked rest acks is.managed;
+      served = are_served-acked rest acks is.served;
       served_with = λ i. still i;
-      manager_kept = subst (IsKept config) (left-is config c channel.E (beat.E x) (nothing e.memory) e up done)
-          (kept-offered config (record { 0 = c }) channel.E (beat.E x) e width tt is.manager_kept);
+      manager_kept = subst (IsKept config) (left-is (nothing e.memory) up done)
+          (kept-offered config (record { 0 = c }) Channel.E (Beat.E x) e width tt is.manager_kept);
       memory = λ i. is.memory i ∙ sym (set-part (λ (b : Block (List ℕ)). b.memory) n (freed_block (h.state.block n))
           h.state.block refl i);
       all_live = is.all_live;
     })
-  where
-    after : State (List ℕ)
-    after = grant_ack_taken c n rest h.state
-
-    done : reaction config (record { 0 = c }) (beat.E x) e ≡ nothing e.memory
-    done = reaction-ack config (record { 0 = c }) x e
-
-    still : (i : ℕ) → IsServedWith h.mail (after.block i).service (h.request i)
-    still i = elim (cases_eq i n) [
-      | inl same ↦ rw (same, set-same n (freed_block (h.state.block n)) h.state.block) tt
-      | inr other ↦ rw (set-other n i (freed_block (h.state.block n)) h.state.block other) (is.served_with i)
-    ]

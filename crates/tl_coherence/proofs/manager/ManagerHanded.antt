@@ -1,27 +1,22 @@
 -- What the manager hands out at a beat of channel C or E: the messages of the tokens that the protocol pushes.
 use Rattle.tl_coherence.proofs.manager.Imports.{Config, Cap, Grow, Report, cap_right, same_perm, AbstractState}
-use Rattle.tl_coherence.proofs.manager.Imports.{ClientBlock, after_report, after_grant_sent, is_granted_data}
-use Rattle.tl_coherence.proofs.manager.Imports.{Block, granted_block}
-use Rattle.tl_coherence.proofs.manager.Imports.{block_message, Grant, set}
+use Rattle.tl_coherence.proofs.manager.Imports.{ClientBlock, after_report, after_grant_sent, is_granted_data, Block}
+use Rattle.tl_coherence.proofs.manager.Imports.{granted_block, block_message, Grant, set, Perm}
 use Rattle.std.proofs.Common.{◌≡◌, ℕ, Bool, false, List, refl, ap}
-use Rattle.tl_params.specs.declared.perm.Perm.TheVariants as perm
-use Rattle.tl_coherence.specs.protocol.Invariant.{IsWell}
+use Rattle.tl_coherence.specs.{protocol.Invariant.IsWell}
 use Rattle.tl_coherence.specs.protocol.Protocol as protocol
-use Rattle.tl_coherence.specs.protocol.Protocol.{granted_pair}
-use Rattle.tl_coherence.proofs.manager.ManagerSettles.{gift_after, grant_after}
-use Rattle.tl_coherence.proofs.queues.Tokens.{set-same}
-use Rattle.tl_coherence.proofs.queues.Codes.{gives-some}
-use Rattle.tl_coherence.proofs.manager.RequestsHanded.{memory-granted}
+use Rattle.tl_coherence.proofs.{manager.ManagerSettles.gift_after, manager.ManagerSettles.grant_after}
+use Rattle.tl_coherence.proofs.{queues.Tokens.set-same, queues.Codes.gives-some, manager.RequestsHanded.memory-granted}
 
 -- ---- the Grant
 
 -- who is granted the block is recorded with what it is given, so that nobody else has it to write: the
 -- memory is its truth
-pub granted-memory : (caching : ℕ → Bool) (c q : ℕ) (r : Report) (d : Bool) (k : Cap) (b : Block (List ℕ))
-    → same_perm (cap_right k) perm.None ≡ false → IsWell caching (granted_block c q r d k b)
+pub granted-memory : {caching : ℕ → Bool} (c q : ℕ) (r : Report) (d : Bool) (k : Cap) (b : Block (List ℕ))
+    → same_perm (cap_right k) Perm.None ≡ false → IsWell caching (granted_block c q r d k b)
     → protocol.written r b.truth b.memory ≡ b.truth
-granted-memory caching c q r d k b some well =
-    memory-granted caching q d k (granted_block c q r d k b) well refl
+granted-memory {caching} c q r d k b some well =
+    memory-granted q d k well refl
     (ap (λ (p : ClientBlock). p.recorded)
     (set-same q (after_grant_sent k (b.pair q)) (set c (after_report r (b.pair c)) b.pair))) some
 
@@ -29,15 +24,13 @@ granted-memory caching c q r d k b some well =
 pub grant-rendered : {w : ℕ} (config : Config) (caching : ℕ → Bool) (c q n source : ℕ) (r : Report) (whole : Bool)
     (g : Grow) (h : AbstractState w) → source ≡ (h.state.block n).source q
     → IsWell caching (granted_block c q r (is_granted_data whole g ((h.state.block n).pair q).recorded)
-    (gift_after config c n r whole g h) (h.state.block n))
-    → grant_after config c q n source r whole g h ≡ block_message Grant q n
-    (granted_block c q r (is_granted_data whole g ((h.state.block n).pair q).recorded)
+    (gift_after config c n r whole g h) (h.state.block n)) → grant_after config c q n source r whole g h
+    ≡ block_message Grant q n (granted_block c q r (is_granted_data whole g ((h.state.block n).pair q).recorded)
     (gift_after config c n r whole g h) (h.state.block n))
 unfolding block_message
 grant-rendered config caching c q n source r whole g h own well =
     rw (
       own,
-      granted-memory caching c q r (is_granted_data whole g ((h.state.block n).pair q).recorded)
-          (gift_after config c n r whole g h) (h.state.block n)
-          (gives-some config.profile whole g _) well,
+      granted-memory c q r (is_granted_data whole g ((h.state.block n).pair q).recorded)
+          (gift_after config c n r whole g h) (h.state.block n) (gives-some config.profile whole g _) well,
     ) refl

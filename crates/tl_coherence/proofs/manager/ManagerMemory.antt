@@ -2,25 +2,20 @@
 use Rattle.tl_coherence.proofs.manager.Imports.{IsWidth, c_carries_data, Beat, BeatC, Link, Channel, MessageA, Config}
 use Rattle.tl_coherence.proofs.manager.Imports.{Level, Memory, answer_of, bytes_from, effect, block_at, access_answer}
 use Rattle.tl_coherence.proofs.manager.Imports.{IsKept, illegal_message_at, offered, answers, performs, Block, State}
-use Rattle.tl_coherence.proofs.manager.Imports.{set}
+use Rattle.tl_coherence.proofs.manager.Imports.{set, Message}
 use Rattle.std.proofs.Common.{◌≡◌, ℕ, ◌+◌, ◌*◌, ◌%◌, ◌^◌, ◌<◌, ◌≤◌, Bool, true, false, List, length, Option, Some, None}
 use Rattle.std.proofs.Common.{refl, sym, ◌∙◌, ap, arith, inl, inr}
 use Rattle.std.specs.Prelude.{◌-◌, if◌then◌else◌}
 use Rattle.std.proofs.lemmas.Bool.{cases_eq, eqb-true, ne_eqb}
-use Rattle.tl_beat.specs.declared.beat.Beat.TheVariants as beat
-use Rattle.tl_burst.specs.declared.message.Message.TheVariants as message
-use Rattle.tl_rules.specs.statement.Admission.{payload_of}
-use Rattle.tl_rules.specs.statement.Effect.{AccessResult, SameBlock}
-use Rattle.tl_rules.proofs.Bursts.{control_of_legal, control_aligned}
-use Rattle.tl_rules.proofs.Local.{after-local, reply-local, bytes_same}
-use Rattle.tl_rules.proofs.Rooms.{room_in_block}
+use Rattle.tl_rules.{specs.statement.Admission.payload_of, specs.statement.Effect.AccessResult}
+use Rattle.tl_rules.{specs.statement.Effect.SameBlock, proofs.Bursts.control_of_legal, proofs.Bursts.control_aligned}
+use Rattle.tl_rules.{proofs.Local.after-local, proofs.Local.reply-local, proofs.Local.bytes_same}
+use Rattle.tl_rules.{proofs.Rooms.room_in_block}
 use Rattle.tl_manager.specs.statement.End as manager_end
-use Rattle.tl_manager.specs.statement.Reaction.{with_block, written}
-use Rattle.tl_manager.proofs.blocks.Memories.{memory-elsewhere}
-use Rattle.tl_manager.proofs.blocks.Written.{block-written}
+use Rattle.tl_manager.{specs.statement.Reaction.with_block, specs.statement.Reaction.written}
+use Rattle.tl_manager.{proofs.blocks.Memories.memory-elsewhere, proofs.blocks.Written.block-written}
 use Rattle.tl_coherence.specs.refinement.AbstractStep.{bytes_at}
-use Rattle.tl_coherence.proofs.queues.Tokens.{set-same, set-other}
-use Rattle.tl_coherence.proofs.manager.Memories.{byte_in}
+use Rattle.tl_coherence.proofs.{queues.Tokens.set-same, queues.Tokens.set-other, manager.Memories.byte_in}
 
 -- ---- the bytes of a block
 
@@ -36,11 +31,11 @@ block-alike n f g same = bytes_same f g (64 * n) 64 (λ i lt. same (64 * n + i) 
 
 -- ---- other blocks than the one of a beat
 
-pub other-blocks : {w : ℕ} (config : Config) (link : Link) (ch : Channel) (x : BeatC w) (e : manager_end.End w) (n : ℕ)
+pub other-blocks : {w : ℕ} {config : Config} (link : Link) (ch : Channel) (x : BeatC w) {e : manager_end.End w} (n : ℕ)
     → IsWidth w → IsKept config e → block_at x.address ≡ n → (i : ℕ) → (i ≡ n → ⊥)
-    → block_in (offered config link ch (beat.C x) e).1.memory i ≡ block_in e.memory i
-other-blocks config link ch x e n width kept block i other =
-    block-alike i _ _ (λ address here. memory-elsewhere config link ch (beat.C x) e address width tt kept
+    → block_in (offered config link ch (Beat.C x) e).1.memory i ≡ block_in e.memory i
+other-blocks {config} link ch x {e} n width kept block i other =
+    block-alike i _ _ (λ address here. memory-elsewhere config link ch (Beat.C x) e address width tt kept
     (rw (block, here) (ne_eqb n i (λ f. other (sym f)))))
 
 -- what holds of the block of the event, and of the others as before, holds of all
@@ -59,18 +54,17 @@ pub block-taken : {w : ℕ} (x : BeatC w) (beats : List (Beat w)) (memory : Memo
     (truth : List ℕ) → block_at x.address ≡ n
     → c_carries_data x.opcode ≡ carries → (carries ≡ true → payload_of beats ≡ truth) → length truth ≡ 64
     → block_in (written x beats memory) n ≡ (if carries then truth else block_in memory n)
-block-taken x beats memory n carries truth block is payload long = rw is (go carries payload)
-  where
-    go : (b : Bool) → (b ≡ true → payload_of beats ≡ truth)
-        → block_in (if b then with_block (block_at x.address) (payload_of beats) memory else memory)
-        n ≡ (if b then truth else block_in memory n)
-    go true p = rw (block, p refl) (block-written n truth memory long)
-    go false p = refl
+block-taken x beats memory n carries truth block is payload long =
+    let go : (b : Bool) → (b ≡ true → payload_of beats ≡ truth)
+    → block_in (if b then with_block (block_at x.address) (payload_of beats) memory else memory) n
+    ≡ (if b then truth else block_in memory n) =
+    elim [ true ↦ λ p. rw (block, p refl) (block-written n truth memory long) | false ↦ λ p. refl ] in
+    rw is (go carries payload)
 
 -- ---- an access
 
 -- a lawful request ends within its block
-pub room-lawful : {w : ℕ} (o : Option Level) (m : MessageA w) → IsWidth w → illegal_message_at o (message.A m) ≡ None
+pub room-lawful : {w : ℕ} (o : Option Level) (m : MessageA w) → IsWidth w → illegal_message_at o (Message.A m) ≡ None
     → m.address % 64 + 2 ^ m.size ≤ 64
 room-lawful None m width e = absurd cc
 room-lawful {w} (Some l) m width e =
@@ -86,22 +80,20 @@ bytes_at-same n memory address here =
 
 -- what it does to the block depends on the block alone
 pub block-performed : {w : ℕ} (o : Option Level) (m : MessageA w) (memory : Memory) (n : ℕ) → IsWidth w
-    → illegal_message_at o (message.A m) ≡ None → block_at m.address ≡ n
-    → block_in (effect (message.A m) memory).0 n ≡ performs m (block_in memory n)
+    → illegal_message_at o (Message.A m) ≡ None → block_at m.address ≡ n
+    → block_in (effect (Message.A m) memory).0 n ≡ performs m (block_in memory n)
 unfolding effect
 block-performed {w} o m memory n width lawful block =
     rw (← block) (block-alike (block_at m.address) _ _
     (after-local m.opcode m memory (bytes_at (block_at m.address) (block_in memory (block_at m.address)))
-    (room-lawful o m width lawful)
-    (bytes_at-same (block_at m.address) memory)))
+    (room-lawful o m width lawful) (bytes_at-same (block_at m.address) memory)))
 
 -- and so does what it is answered
 pub answer-performed : {w : ℕ} (o : Option Level) (m : MessageA w) (memory : Memory) (n : ℕ) → IsWidth w
-    → illegal_message_at o (message.A m) ≡ None → block_at m.address ≡ n
-    → access_answer m (answer_of (message.A m) (effect (message.A m) memory).1) ≡ answers m (block_in memory n)
+    → illegal_message_at o (Message.A m) ≡ None → block_at m.address ≡ n
+    → access_answer m (answer_of (Message.A m) (effect (Message.A m) memory).1) ≡ answers m (block_in memory n)
 unfolding effect
 answer-performed {w} o m memory n width lawful block =
-    rw (← block)
-    (ap (λ (r : AccessResult). access_answer m (answer_of (message.A m) r))
+    rw (← block) (ap (λ (r : AccessResult). access_answer m (answer_of (Message.A m) r))
     (reply-local m.opcode m memory (bytes_at (block_at m.address) (block_in memory (block_at m.address)))
     (room-lawful o m width lawful) (bytes_at-same (block_at m.address) memory)))

@@ -2,163 +2,117 @@
 use Rattle.tl_manager.specs.statement.Holders as holders
 use Rattle.tl_manager.specs.statement.Handing as handing
 use Rattle.tl_coherence.proofs.manager.Imports.{is_granted_data, after_report, Perm, Grow, BeatC, Message, MessageA}
-use Rattle.tl_coherence.proofs.manager.Imports.{MessageC, MessageD, c_beat_of, Config, Cap, Report}
-use Rattle.tl_coherence.proofs.manager.Imports.{Trace, same_perm, effect, Memory}
-use Rattle.tl_coherence.proofs.manager.Imports.{block_at, is_release_ack, is_grant, capped, Reaction}
-use Rattle.tl_coherence.proofs.manager.Imports.{access_answer, with_handed, cap_granted, recorded}
-use Rattle.tl_coherence.proofs.manager.Imports.{reaction, End, level_of, performed-access}
-use Rattle.tl_coherence.proofs.manager.Imports.{performed-acquire, AbstractState, answers, performs}
-use Rattle.tl_coherence.proofs.manager.Imports.{acquire_opcode, gift, is_unheld, ManagerRelation}
-use Rattle.tl_coherence.proofs.manager.Imports.{ClientBlock, Waits, GrantSent, Block, State, Acquires}
-use Rattle.tl_coherence.proofs.manager.Imports.{report_grants, granted_block, reported_block, ServedSourceRelation}
-use Rattle.tl_coherence.proofs.manager.Imports.{IsFor, set, Packet, IsServedWith}
-use Rattle.tl_coherence.proofs.manager.ManagedReports.{reported-records}
+use Rattle.tl_coherence.proofs.manager.Imports.{MessageC, MessageD, c_beat_of, Config, Cap, Report, Trace, same_perm}
+use Rattle.tl_coherence.proofs.manager.Imports.{effect, Memory, block_at, is_release_ack, is_grant, capped, Reaction}
+use Rattle.tl_coherence.proofs.manager.Imports.{access_answer, with_handed, cap_granted, recorded, reaction, End}
+use Rattle.tl_coherence.proofs.manager.Imports.{level_of, performed-access, performed-acquire, AbstractState, answers}
+use Rattle.tl_coherence.proofs.manager.Imports.{performs, acquire_opcode, gift, is_unheld, ManagerRelation, ClientBlock}
+use Rattle.tl_coherence.proofs.manager.Imports.{GrantSent, Block, State, Acquires, report_grants, granted_block}
+use Rattle.tl_coherence.proofs.manager.Imports.{reported_block, ServedSourceRelation, set, Packet, IsServedWith}
+use Rattle.tl_coherence.proofs.manager.Imports.{Beat}
+use Rattle.tl_coherence.proofs.{manager.ManagedReports.reported-records, manager.Choices.nobody-same}
+use Rattle.tl_coherence.proofs.{queues.Tokens.set-same, queues.Tokens.set-other, queues.Codes.data-same}
 use Rattle.tl_coherence.proofs.manager.ManagedGrants.{IsConceded, managed-conceded, are_served-conceded}
 use Rattle.tl_coherence.specs.refinement.PacketMessages.{grant_of}
-use Rattle.std.proofs.Common.{◌≡◌, ℕ, Bool, true, false, not, List, [], ◌∷◌, length, refl, sym, ◌∙◌, ap}
-use Rattle.std.proofs.Common.{ap₂, subst, inl, inr}
+use Rattle.std.proofs.Common.{◌≡◌, ℕ, Bool, true, false, not, List, [], ◌∷◌, length, refl, sym, ◌∙◌, ap, ap₂, subst}
+use Rattle.std.proofs.Common.{inl, inr}
 use Rattle.std.proofs.lemmas.Bool.{cases_eq}
-use Rattle.tl_beat.specs.declared.beat.Beat.TheVariants as beat
-use Rattle.tl_burst.specs.declared.message.Message.TheVariants as message
-use Rattle.tl_params.specs.declared.perm.Perm.TheVariants as perm
 use Rattle.tl_params.specs.statement.Param.{cap_code, grow_code}
 use Rattle.tl_rules.specs.declared.answer.Answer.{Answer}
-use Rattle.tl_rules.specs.declared.answer.Answer.TheVariants as answer
-use Rattle.tl_manager.specs.statement.Handing.{grant}
-use Rattle.tl_manager.specs.statement.Holders.{has_copy}
-use Rattle.tl_manager.specs.statement.Service.{is_access_answer}
-use Rattle.tl_manager.proofs.calls.Events.{memory_with}
-use Rattle.tl_manager.proofs.blocks.Recording.{cap-gives}
+use Rattle.tl_manager.{specs.statement.Handing.grant, specs.statement.Holders.has_copy}
+use Rattle.tl_manager.{specs.statement.Service.is_access_answer, proofs.calls.Events.memory_with}
+use Rattle.tl_manager.{proofs.blocks.Recording.cap-gives, proofs.pending.Performed.grants_by_opcode}
 use Rattle.tl_coherence.specs.refinement.AbstractStep.{with_answer, with_state}
 use Rattle.tl_coherence.specs.protocol.Protocol as protocol
 use Rattle.tl_coherence.specs.protocol.Protocol.{report_answers, ended_block}
 use Rattle.tl_coherence.proofs.manager.ManagedEndings.{IsEnding, managed-ended, are_served-ended, service_for}
-use Rattle.tl_coherence.proofs.manager.Choices.{nobody-same}
 use Rattle.tl_coherence.proofs.manager.ManagerAfter.{IsManagerOf, left, kept-left, others-left}
 use Rattle.tl_coherence.proofs.manager.ManagerMemory.{block_in, blocks-now, block-performed, answer-performed}
-use Rattle.tl_coherence.proofs.queues.Tokens.{set-same, set-other}
-use Rattle.tl_coherence.proofs.queues.Codes.{data-same}
-use Rattle.tl_manager.proofs.pending.Performed.{grants_by_opcode}
 use Rattle.tl_coherence.proofs.manager.SettlingService.{IsSettling, trace_with, settling-last, settling-ready}
 use Rattle.tl_coherence.proofs.manager.SettlingService.{settling-reaction, settling-quiet, settling-lawful}
 use Rattle.tl_coherence.proofs.manager.SettlingService.{settling-for, settling-reply, settling-memory}
 
 -- ---- an access
 
-answer_is : {w : ℕ} (r : MessageA w) (kind : Answer) → (m : MessageD w) × (access_answer r kind ≡ message.D m)
-    × (is_access_answer m.opcode ≡ true)
-    × (is_release_ack m.opcode ≡ false) × (m.source ≡ r.source)
-answer_is r answer.Ack = (_, refl, refl, refl, refl)
-answer_is r answer.Hint = (_, refl, refl, refl, refl)
-answer_is r (answer.Data payload) = (_, refl, refl, refl, refl)
+answer_is : {w : ℕ} (r : MessageA w) (kind : Answer) → (m : MessageD w) × (access_answer r kind ≡ Message.D m)
+    × (is_access_answer m.opcode ≡ true) × (is_release_ack m.opcode ≡ false) × (m.source ≡ r.source)
+answer_is r Answer.Ack = (_, refl, refl, refl, refl)
+answer_is r kind = (_, refl, refl, refl, refl)
 
 -- what is done: the access is performed on what the ProbeAcks left of the block, and its answer is handed out
-pub reaction-ended : {w : ℕ} (config : Config) (c q n source k : ℕ) (low : Cap) (r : Report) (m : MessageC w)
-    (h : AbstractState w) (e : End w) → IsSettling config c q n source k false low r m h e
-    → reaction config (record { 0 = c }) (beat.C (c_beat_of m k)) e
+pub reaction-ended : {w : ℕ} {config : Config} {c q n source k : ℕ} {low : Cap} {r : Report} {m : MessageC w}
+    {h : AbstractState w} {e : End w} → IsSettling config c q n source k false low r m h e
+    → reaction config (record { 0 = c }) (Beat.C (c_beat_of m k)) e
     ≡ record {
       handed = (
         record { 0 = q },
         answers (h.request n)
             (protocol.written r (h.state.block n).truth (h.state.block n).memory),
       ) ∷ [];
-      memory = (effect (message.A (h.request n)) (memory_with (record { 0 = c }) (c_beat_of m k) e)).0;
+      memory = (effect (Message.A (h.request n)) (memory_with (record { 0 = c }) (c_beat_of m k) e)).0;
     }
-reaction-ended {w} config c q n source k low r m h e at =
-    let for = settling-for config c q n source k false low r m h e at in
+reaction-ended {w} {config} {c} {q} {n} {source} {k} {low} {r} {m} {h} {e} at =
+    let for = settling-for at in
     let memory = memory_with (record { 0 = c }) (c_beat_of m k) e in
-    settling-reaction config c q n source k false low r m h e at ∙ performed-access config
+    settling-reaction at ∙ performed-access config
     (service_for q n h.request h.state) (trace_with c k m e) memory for.0
     ∙ ap (λ (i : Message w). record {
       handed = (record { 0 = q }, i) ∷ [];
-      memory =
-          (effect (message.A (h.request n)) memory).0;
+      memory = (effect (Message.A (h.request n)) memory).0;
     })
     (answer-performed (level_of config q) (h.request n) memory n at.end.width
-    (settling-lawful config c q n source k false low r m h e at).lawful for.2
-    ∙ ap (answers (h.request n)) (settling-memory config c q n source k false low r m h e at))
+    (settling-lawful at).lawful for.2
+    ∙ ap (answers (h.request n)) (settling-memory at))
 
-pub ended-left : {w : ℕ} (config : Config) (c q n source k : ℕ) (low : Cap) (r : Report) (rest : List Packet)
-    (m : MessageC w) (h : AbstractState w) (e : End w)
-    → IsSettling config c q n source k false low r m h e
+pub ended-left : {w : ℕ} {config : Config} {c q n source k : ℕ} {low : Cap} {r : Report} (rest : List Packet)
+    {m : MessageC w} {h : AbstractState w} {e : End w} → IsSettling config c q n source k false low r m h e
     → IsManagerOf config (with_answer q source
     (answers (h.request n) (protocol.written r (h.state.block n).truth (h.state.block n).memory))
     (with_state (report_answers c q n source r (performs (h.request n)) rest h.state) h))
-    (left c (beat.C (c_beat_of m k)) (reaction config (record { 0 = c }) (beat.C (c_beat_of m k)) e) e)
+    (left c (Beat.C (c_beat_of m k)) (reaction config (record { 0 = c }) (Beat.C (c_beat_of m k)) e) e)
 unfolding with_handed
-ended-left {w} config c q n source k low r rest m h e at =
-    subst (λ (d : Reaction w). IsManagerOf config (with_answer q source said (with_state after h))
-    (left c (beat.C x) d e)) (sym done) (record {
-      managed =
-          subst (λ (i : Message w). ManagerRelation h.request after
-          (with_handed ((record { 0 = q }, i) ∷ []) (trace_with c k m e))) (sym reply.1)
-          (managed-ended h.request c q n source low r (performs (h.request n)) rest x reply.0 h.state e.trace ending
-          at.is.managed);
-      served =
-          subst (λ (i : Message w). ServedSourceRelation h.request after
-          (with_handed ((record { 0 = q }, i) ∷ []) (trace_with c k m e))) (sym reply.1)
-          (are_served-ended h.request c q n source low r (performs (h.request n)) rest x reply.0 h.state e.trace ending
-          at.is.served);
-      served_with = λ i. still i;
-      manager_kept = kept-left config c x does e at.end.width at.up done at.is.manager_kept;
-      memory = λ i.
-          blocks-now e.memory does.memory n new h.state
-          (block-performed (level_of config q) (h.request n) (memory_with (record { 0 = c }) x e) n at.end.width
-          (settling-lawful config c q n source k false low r m h e at).lawful for.2
-          ∙ ap (performs (h.request n)) (settling-memory config c q n source k false low r m h e at))
-          (others-left config c n x does e at.end.width at.up done at.is.manager_kept at.end.about.block) at.is.memory
-          i;
-      all_live = at.is.all_live;
-    })
-  where
-    x : BeatC w
-    x = c_beat_of m k
-
-    new : Block (List ℕ)
-    new = ended_block c r (performs (h.request n)) (h.state.block n)
-
-    after : State (List ℕ)
-    after = report_answers c q n source r (performs (h.request n)) rest h.state
-
-    said : Message w
-    said = answers (h.request n) (protocol.written r (h.state.block n).truth (h.state.block n).memory)
-
-    does : Reaction w
-    does = record {
+ended-left {w} {config} {c} {q} {n} {source} {k} {low} {r} rest {m} {h} {e} at =
+    let x : BeatC w = c_beat_of m k in
+    let new : Block (List ℕ) = ended_block c r (performs (h.request n)) (h.state.block n) in
+    let after : State (List ℕ) = report_answers c q n source r (performs (h.request n)) rest h.state in
+    let said = answers (h.request n) (protocol.written r (h.state.block n).truth (h.state.block n).memory) in
+    let does : Reaction w = record {
       handed = (record { 0 = q }, said) ∷ [];
-      memory =
-          (effect (message.A (h.request n)) (memory_with (record { 0 = c }) x e)).0;
-    }
-
-    done : reaction config (record { 0 = c }) (beat.C x) e ≡ does
-    done = reaction-ended config c q n source k low r m h e at
-
-    for : IsFor (Waits q false source low) n (h.request n)
-    for = settling-for config c q n source k false low r m h e at
-
-    reply : (i : MessageD w) × (said ≡ message.D i) × (is_access_answer i.opcode ≡ true)
-        × (is_release_ack i.opcode ≡ false) × (i.source ≡ (h.request n).source)
-    reply = answer_is (h.request n) _
-
-    ending : IsEnding c q n source low r x reply.0 h.request h.state e.trace
-    ending = record {
-      last = settling-last config c q n source k false low r m h e at;
+      memory = (effect (Message.A (h.request n)) (memory_with (record { 0 = c }) x e)).0;
+    } in
+    let done = reaction-ended at in
+    let for = settling-for at in
+    let reply = answer_is (h.request n) _ in
+    let ending : IsEnding c q n source low r x reply.0 h.request h.state e.trace = record {
+      last = settling-last at;
       report = at.end.about.reports;
       waits = at.waits;
-      settled = settling-quiet config c q n source k false low r m h e at;
+      settled = settling-quiet at;
       named = at.named;
-      reply = settling-reply config c q n source k false low r m reply.0 h e at reply.4 reply.3;
+      reply = settling-reply reply.0 at reply.4 reply.3;
       answers = reply.2;
-      accounted = (settling-ready config c q n source k false low r m h e at).accounted;
+      accounted = (settling-ready at).accounted;
       access = for.0;
       source_is = for.1;
-    }
-
-    still : (i : ℕ) → IsServedWith h.mail (after.block i).service (h.request i)
-    still i = elim (cases_eq i n) [
+    } in
+    let still : (i : ℕ) → IsServedWith h.mail (after.block i).service (h.request i) = λ i. elim (cases_eq i n) [
       | inl same ↦ rw (same, set-same n new h.state.block) tt
       | inr other ↦ rw (set-other n i new h.state.block other) (at.is.served_with i)
-    ]
+    ] in
+    subst (λ (d : Reaction w). IsManagerOf config (with_answer q source said (with_state after h))
+    (left c (Beat.C x) d e)) (sym done) (record {
+      managed = subst (λ (i : Message w). ManagerRelation h.request after
+          (with_handed ((record { 0 = q }, i) ∷ []) (trace_with c k m e))) (sym reply.1)
+          (managed-ended (performs (h.request n)) rest ending at.is.managed);
+      served = rw reply.1 (are_served-ended (performs (h.request n)) rest ending at.is.served);
+      served_with = λ i. still i;
+      manager_kept = kept-left x does at.end.width at.up done at.is.manager_kept;
+      memory = λ i. cc (blocks-now e.memory does.memory n new h.state (block-performed (level_of config q) (h.request n)
+          (memory_with (record { 0 = c }) x e) n at.end.width (settling-lawful at).lawful for.2
+          ∙ ap (performs (h.request n)) (settling-memory at))
+          (others-left n x does at.end.width at.up done at.is.manager_kept at.end.about.block) at.is.memory i);
+      all_live = at.is.all_live;
+    })
 
 -- ---- an Acquire
 
@@ -170,41 +124,35 @@ pub grant-made : {w : ℕ} (config : Config) (q n tracker : ℕ) (v : MessageA w
     → grant config (record { tracker = tracker; link = record { 0 = q }; request = v }) t memory ≡ grant_of
     (GrantSent q (is_granted_data whole g p) (gift config.profile whole g unheld)) v.source tracker (block_in memory n)
 grant-made {w} config q n tracker v t memory whole g unheld p opcode param block none held_is =
+    let go : (d : Bool) → handing.grant_with (record { tracker = tracker; link = record { 0 = q }; request = v })
+    (gift config.profile whole g unheld) d memory ≡ grant_of (GrantSent q d (gift config.profile whole g unheld))
+    v.source tracker (block_in memory n) = elim [ true ↦ rw block refl | false ↦ refl ] in
     let cap_is : cap_granted config.profile v.opcode v.param (holders.is_unheld config (block_at v.address) t) ≡ gift
     config.profile whole g unheld = rw (opcode, param, block, none) refl in
     let data_is : handing.is_granted_data v.opcode v.param (recorded q (block_at v.address) t) ≡ is_granted_data whole g
     p = rw (opcode, param, block, held_is) (data-same whole g p) in
     ap₂ (λ k d. handing.grant_with (record { tracker = tracker; link = record { 0 = q }; request = v }) k d memory)
     cap_is data_is ∙ go (is_granted_data whole g p)
-  where
-    go : (d : Bool) → handing.grant_with (record { tracker = tracker; link = record { 0 = q }; request = v })
-        (gift config.profile whole g unheld) d memory ≡ grant_of (GrantSent q d (gift config.profile whole g unheld))
-        v.source tracker (block_in memory n)
-    go true = rw block refl
-    go false = refl
 
 given_is : {w : ℕ} (q : ℕ) (d : Bool) (k : Cap) (source sink : ℕ) (payload : List ℕ)
-    → (m : MessageD w) × (grant_of (GrantSent q d k) source sink payload ≡ message.D m) × (is_grant m.opcode ≡ true)
-    × (is_release_ack m.opcode ≡ false)
-    × (m.source ≡ source) × (m.sink ≡ sink) × (m.param ≡ cap_code k)
+    → (m : MessageD w) × (grant_of (GrantSent q d k) source sink payload ≡ Message.D m) × (is_grant m.opcode ≡ true)
+    × (is_release_ack m.opcode ≡ false) × (m.source ≡ source) × (m.sink ≡ sink) × (m.param ≡ cap_code k)
 given_is q d k source sink payload = let kinds = grants_by_opcode d in (_, refl, kinds.0, kinds.1, refl, refl, refl)
 
 -- what is recorded of the block before the Grant
 abbrev pub pairs_after : ℕ → Report → (ℕ → ClientBlock) → ℕ → ClientBlock
 pairs_after c r pair = set c (after_report r (pair c)) pair
 
-settling-records : {w : ℕ} (config : Config) (c q n source k : ℕ) (own : Bool) (low : Cap) (r : Report) (m : MessageC w)
-    (h : AbstractState w) (e : End w) → IsSettling config c q n source k own low r m h e
+settling-records : {w : ℕ} {config : Config} {c q n source k : ℕ} {own : Bool} {low : Cap} {r : Report} {m : MessageC w}
+    {h : AbstractState w} {e : End w} → IsSettling config c q n source k own low r m h e
     → (d : ℕ) → recorded d n (trace_with c k m e) ≡ (pairs_after c r (h.state.block n).pair d).recorded
-settling-records {w} config c q n source k own low r m h e at d =
-    reported-records h.request c n r (reported_block c r (h.state.block n)) (c_beat_of m k) h.state e.trace
-    (settling-last config c q n source k own low r m h e at) (λ j. refl) at.is.managed d n
+settling-records {w} {config} {c} {q} {n} {source} {k} {own} {low} {r} {m} {h} {e} at d =
+    reported-records r (reported_block c r (h.state.block n)) (settling-last at) (λ j. refl) at.is.managed d n
     ∙ ap (λ (b : Block (List ℕ)). (b.pair d).recorded) (set-same n (reported_block c r (h.state.block n)) h.state.block)
 
-has_copy-is : (p : Perm) → has_copy p ≡ not (same_perm p perm.None)
-has_copy-is perm.None = refl
-has_copy-is perm.Branch = refl
-has_copy-is perm.Trunk = refl
+has_copy-is : (p : Perm) → has_copy p ≡ not (same_perm p Perm.None)
+has_copy-is Perm.None = refl
+has_copy-is p = refl
 
 -- the Acquire that is granted is the one that client q has open
 pub record IsWanted {w : ℕ} (c q n source : ℕ) (whole : Bool) (g : Grow) (h : AbstractState w) : Type 0 where
@@ -225,140 +173,93 @@ grant_after config c q n source r whole g h =
     (protocol.written r (h.state.block n).truth (h.state.block n).memory)
 
 -- what is done: the Grant is handed out, with what the ProbeAcks left of the block
-pub reaction-conceded : {w : ℕ} (config : Config) (c q n source k : ℕ) (low : Cap) (r : Report) (whole : Bool)
-    (g : Grow) (m : MessageC w) (h : AbstractState w)
-    (e : End w) → IsSettling config c q n source k true low r m h e → IsWanted c q n source whole g h
-    → reaction config (record { 0 = c }) (beat.C (c_beat_of m k)) e ≡ record {
+pub reaction-conceded : {w : ℕ} {config : Config} {c q n source k : ℕ} {low : Cap} {r : Report} {whole : Bool}
+    {g : Grow} {m : MessageC w} {h : AbstractState w}
+    {e : End w} → IsSettling config c q n source k true low r m h e → IsWanted c q n source whole g h
+    → reaction config (record { 0 = c }) (Beat.C (c_beat_of m k)) e ≡ record {
       handed = (record { 0 = q }, grant_after config c q n source r whole g h) ∷ [];
-      memory =
-          memory_with (record { 0 = c }) (c_beat_of m k) e;
+      memory = memory_with (record { 0 = c }) (c_beat_of m k) e;
     }
-reaction-conceded {w} config c q n source k low r whole g m h e at wanted =
-    settling-reaction config c q n source k true low r m h e at ∙ performed-acquire config
-    (service_for q n h.request h.state) u memory for.0
-    ∙ ap (λ (i : Message w). record { handed = (record { 0 = q }, i) ∷ []; memory = memory })
-    (grant-made config q n (h.state.block n).tracker (h.request n) u memory whole g unheld
-    ((h.state.block n).pair q).recorded wanted.opcode_is wanted.param_is for.2 none
-    (settling-records config c q n source k true low r m h e at q ∙ mine)
-    ∙ sent)
-  where
-    u : Trace w
-    u = trace_with c k m e
+reaction-conceded {w} {config} {c} {q} {n} {source} {k} {low} {r} {whole} {g} {m} {h} {e} at wanted =
+    let u : Trace w = trace_with c k m e in
+    let memory : Memory = memory_with (record { 0 = c }) (c_beat_of m k) e in
+    let unheld : Bool = is_unheld (length config.clients.items) (pairs_after c r (h.state.block n).pair) in
+    let for = settling-for at in
+    let none : holders.is_unheld config n u ≡ unheld =
+    cc (nobody-same config (λ d. has_copy (recorded d n u))
+    (λ d. not (same_perm (pairs_after c r (h.state.block n).pair d).recorded Perm.None))
+    (λ d. ap has_copy (settling-records at d) ∙ has_copy-is (pairs_after c r (h.state.block n).pair d).recorded)) in
+    let mine = ap (λ (p : ClientBlock). p.recorded) (set-other c q (after_report r ((h.state.block n).pair c))
+    (h.state.block n).pair (λ f. wanted.apart (sym f))) in
+    let sent : grant_of (GrantSent q (is_granted_data whole g ((h.state.block n).pair q).recorded)
+    (gift config.profile whole g unheld)) (h.request n).source (h.state.block n).tracker (block_in memory n)
+    ≡ grant_after config c q n source r whole g h = rw (for.1, settling-memory at) refl in
+    cc (
+      settling-reaction at,
+      performed-acquire config
+          (service_for q n h.request h.state) u memory for.0,
+      grant-made config q n (h.state.block n).tracker (h.request n) u
+          memory whole g unheld ((h.state.block n).pair q).recorded wanted.opcode_is wanted.param_is for.2 none
+          (settling-records at q ∙ mine),
+      sent,
+    )
 
-    memory : Memory
-    memory = memory_with (record { 0 = c }) (c_beat_of m k) e
-
-    unheld : Bool
-    unheld = is_unheld (length config.clients.items) (pairs_after c r (h.state.block n).pair)
-
-    for : IsFor (Waits q true source low) n (h.request n)
-    for = settling-for config c q n source k true low r m h e at
-
-    none : holders.is_unheld config n u ≡ unheld
-    none =
-        nobody-same config (λ d. has_copy (recorded d n u))
-        (λ d. not (same_perm (pairs_after c r (h.state.block n).pair d).recorded perm.None))
-        (λ d. ap has_copy (settling-records config c q n source k true low r m h e at d) ∙ has_copy-is
-        (pairs_after c r (h.state.block n).pair d).recorded)
-
-    mine : (pairs_after c r (h.state.block n).pair q).recorded ≡ ((h.state.block n).pair q).recorded
-    mine = ap (λ (p : ClientBlock). p.recorded) (set-other c q (after_report r ((h.state.block n).pair c))
-        (h.state.block n).pair (λ f. wanted.apart (sym f)))
-
-    sent : grant_of (GrantSent q (is_granted_data whole g ((h.state.block n).pair q).recorded)
-        (gift config.profile whole g unheld)) (h.request n).source
-        (h.state.block n).tracker (block_in memory n) ≡ grant_after config c q n source r whole g h
-    sent = rw (for.1, settling-memory config c q n source k true low r m h e at) refl
-
-pub conceded-left : {w : ℕ} (config : Config) (c q n source k : ℕ) (low : Cap) (r : Report) (whole : Bool) (g : Grow)
-    (rest : List Packet) (m : MessageC w)
-    (h : AbstractState w) (e : End w) → IsSettling config c q n source k true low r m h e
-    → IsWanted c q n source whole g h
+pub conceded-left : {w : ℕ} {config : Config} {c q n source k : ℕ} {low : Cap} {r : Report} {whole : Bool} {g : Grow}
+    (rest : List Packet) {m : MessageC w} {h : AbstractState w} {e : End w}
+    → IsSettling config c q n source k true low r m h e → IsWanted c q n source whole g h
     → IsManagerOf config (with_state
     (report_grants c q n r (is_granted_data whole g ((h.state.block n).pair q).recorded)
     (gift_after config c n r whole g h) rest h.state) h)
-    (left c (beat.C (c_beat_of m k)) (reaction config (record { 0 = c }) (beat.C (c_beat_of m k)) e) e)
+    (left c (Beat.C (c_beat_of m k)) (reaction config (record { 0 = c }) (Beat.C (c_beat_of m k)) e) e)
 unfolding with_handed
-conceded-left {w} config c q n source k low r whole g rest m h e at wanted =
-    subst (λ (d : Reaction w). IsManagerOf config (with_state after h) (left c (beat.C x) d e)) (sym done) (record {
-      managed =
-          subst (λ (i : Message w). ManagerRelation h.request after
-          (with_handed ((record { 0 = q }, i) ∷ []) (trace_with c k m e))) (sym reply.1)
-          (managed-conceded h.request c q n source low given r data_too rest x reply.0 h.state e.trace conceded
-          at.is.managed);
-      served =
-          subst (λ (i : Message w). ServedSourceRelation h.request after
-          (with_handed ((record { 0 = q }, i) ∷ []) (trace_with c k m e))) (sym reply.1)
-          (are_served-conceded h.request c q n source low given r data_too rest x reply.0 h.state e.trace conceded
-          at.is.served);
-      served_with = λ i. still i;
-      manager_kept = kept-left config c x does e at.end.width at.up done at.is.manager_kept;
-      memory = λ i.
-          blocks-now e.memory does.memory n new h.state (settling-memory config c q n source k true low r m h e at)
-          (others-left config c n x does e at.end.width at.up done at.is.manager_kept at.end.about.block) at.is.memory
-          i;
-      all_live = at.is.all_live;
-    })
-  where
-    x : BeatC w
-    x = c_beat_of m k
-
-    data_too : Bool
-    data_too = is_granted_data whole g ((h.state.block n).pair q).recorded
-
-    given : Cap
-    given = gift_after config c n r whole g h
-
-    new : Block (List ℕ)
-    new = granted_block c q r data_too given (h.state.block n)
-
-    after : State (List ℕ)
-    after = report_grants c q n r data_too given rest h.state
-
-    does : Reaction w
-    does = record {
+conceded-left {w} {config} {c} {q} {n} {source} {k} {low} {r} {whole} {g} rest {m} {h} {e} at wanted =
+    let x : BeatC w = c_beat_of m k in
+    let data_too : Bool = is_granted_data whole g ((h.state.block n).pair q).recorded in
+    let given : Cap = gift_after config c n r whole g h in
+    let new : Block (List ℕ) = granted_block c q r data_too given (h.state.block n) in
+    let after : State (List ℕ) = report_grants c q n r data_too given rest h.state in
+    let does : Reaction w = record {
       handed = (record { 0 = q }, grant_after config c q n source r whole g h) ∷ [];
-      memory =
-          memory_with (record { 0 = c }) x e;
-    }
-
-    done : reaction config (record { 0 = c }) (beat.C x) e ≡ does
-    done = reaction-conceded config c q n source k low r whole g m h e at wanted
-
-    for : IsFor (Waits q true source low) n (h.request n)
-    for = settling-for config c q n source k true low r m h e at
-
-    reply : (i : MessageD w) × (grant_after config c q n source r whole g h ≡ message.D i) × (is_grant i.opcode ≡ true)
-        × (is_release_ack i.opcode ≡ false)
-        × (i.source ≡ source) × (i.sink ≡ (h.state.block n).tracker) × (i.param ≡ cap_code given)
-    reply = given_is q data_too given source (h.state.block n).tracker
-        (protocol.written r (h.state.block n).truth (h.state.block n).memory)
-
-    conceded : IsConceded c q n source low given r x reply.0 h.request h.state e.trace
-    conceded = record {
-      last = settling-last config c q n source k true low r m h e at;
+      memory = memory_with (record { 0 = c }) x e;
+    } in
+    let done = reaction-conceded at wanted in
+    let for = settling-for at in
+    let reply = given_is q data_too given source (h.state.block n).tracker
+    (protocol.written r (h.state.block n).truth (h.state.block n).memory) in
+    let conceded : IsConceded c q n source low given r x reply.0 h.request h.state e.trace = record {
+      last = settling-last at;
       report = at.end.about.reports;
       waits = at.waits;
-      settled = settling-quiet config c q n source k true low r m h e at;
+      settled = settling-quiet at;
       apart = wanted.apart;
       named = at.named;
       used = wanted.used;
       grant = record {
-        reply = settling-reply config c q n source k true low r m reply.0 h e at (reply.4 ∙ sym for.1)
-            reply.3;
+        reply = settling-reply reply.0 at (reply.4 ∙ sym for.1) reply.3;
         grants = reply.2;
         sink = reply.5;
         acquires = for.0;
       };
-      accounted = (settling-ready config c q n source k true low r m h e at).accounted;
+      accounted = (settling-ready at).accounted;
       source_is = for.1;
       block_is = for.2;
       asked = at.is.served.asked n q source true low at.waits;
       cap_is = ap capped reply.6 ∙ cap-gives given;
-    }
-
-    still : (i : ℕ) → IsServedWith h.mail (after.block i).service (h.request i)
-    still i = elim (cases_eq i n) [
+    } in
+    let still : (i : ℕ) → IsServedWith h.mail (after.block i).service (h.request i) = λ i. elim (cases_eq i n) [
       | inl same ↦ rw (same, set-same n new h.state.block) tt
       | inr other ↦ rw (set-other n i new h.state.block other) (at.is.served_with i)
-    ]
+    ] in
+    subst (λ (d : Reaction w). IsManagerOf config (with_state after h) (left c (Beat.C x) d e)) (sym done) (record {
+      managed = subst (λ (i : Message w). ManagerRelation h.request after
+          (with_handed ((record { 0 = q }, i) ∷ []) (trace_with c k m e))) (sym reply.1)
+          (managed-conceded data_too rest conceded at.is.managed);
+      served = subst (λ (i : Message w). ServedSourceRelation h.request after
+          (with_handed ((record { 0 = q }, i) ∷ []) (trace_with c k m e))) (sym reply.1)
+          (are_served-conceded data_too rest conceded at.is.served);
+      served_with = λ i. still i;
+      manager_kept = kept-left x does at.end.width at.up done at.is.manager_kept;
+      memory = λ i. blocks-now e.memory does.memory n new h.state (settling-memory at)
+          (others-left n x does at.end.width at.up done at.is.manager_kept at.end.about.block) at.is.memory i;
+      all_live = at.is.all_live;
+    })

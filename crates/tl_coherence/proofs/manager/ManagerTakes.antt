@@ -8,117 +8,81 @@ use Rattle.tl_coherence.proofs.manager.Imports.{ManagerRelation, is_own, View, O
 use Rattle.tl_coherence.proofs.manager.Imports.{GrantedOther, is_unprobed, Service, Free, Waits, GrantSent, GrantTaken}
 use Rattle.tl_coherence.proofs.manager.Imports.{Block, State, view, is_granting, is_acknowledging, is_on, packet}
 use Rattle.tl_coherence.proofs.manager.Imports.{AccessMessages, block_message, ServedSourceRelation, cap_waited}
-use Rattle.tl_coherence.proofs.manager.Imports.{is_granted, System, Kind, Request, Acquire, Probe, ProbeAck, Release}
-use Rattle.tl_coherence.proofs.manager.Imports.{Answer, Grant, ReleaseAck, GrantAck, Packet}
-use Rattle.tl_coherence.proofs.queues.FirstToken.{IsFirst}
+use Rattle.tl_coherence.proofs.manager.Imports.{is_granted, System, Kind, ProbeAck, Release, GrantAck, Packet, Message}
+use Rattle.tl_coherence.proofs.{queues.FirstToken.IsFirst, queues.Carried.IsNext, queues.Facts.is_other}
+use Rattle.tl_coherence.proofs.{queues.Facts.release_begins, queues.PhaseFacts.report_fits, queues.PhaseFacts.own_alone}
+use Rattle.tl_coherence.proofs.{manager.Orders.report-legal, queues.Phases.and_left, queues.Phases.and_right}
+use Rattle.tl_coherence.proofs.{queues.PhaseSteps.on_other, manager.ManagedEndings.tracker-of}
+use Rattle.tl_coherence.proofs.{manager.Reporting.IsAbout, queues.Tokens.same_number, queues.Tokens.ordered-first}
 use Rattle.std.proofs.Common.{sym, subst, ◌≡◌, ℕ, zero, suc, Bool, true, false, not, ◌&&◌, ◌||◌, List, [], ◌∷◌, Option}
 use Rattle.std.proofs.Common.{Some, None, refl, ◌∙◌, ap, arith}
 use Rattle.std.specs.Prelude.{◌==◌, if◌then◌else◌, map}
-use Rattle.tl_beat.specs.declared.beat.Beat.TheVariants as beat
-use Rattle.tl_beat.specs.declared.channel.Channel.TheVariants as channel
-use Rattle.tl_burst.specs.declared.message.Message.TheVariants as message
 use Rattle.tl_burst.specs.statement.Messages.{channel_of}
-use Rattle.tl_params.specs.declared.key.Key.TheVariants as key
-use Rattle.tl_params.specs.declared.param.Prune.TheVariants as prune
-use Rattle.tl_params.specs.declared.param.Report.TheVariants as report
+use Rattle.tl_params.{specs.declared.key.Key.Key, specs.statement.Param.prune_of, specs.statement.Param.report_at}
 use Rattle.tl_params.specs.declared.rule.Rule.TheVariants.{H1, H8, H13}
-use Rattle.tl_params.specs.statement.Param.{prune_of, report_at}
-use Rattle.tl_rules.specs.statement.Conformance.{prunes_from}
-use Rattle.tl_rules.proofs.Later.{later-legal}
-use Rattle.tl_manager.specs.code.Kept.{IsSound, illegal_at}
+use Rattle.tl_rules.{specs.statement.Conformance.prunes_from, proofs.Later.later-legal}
+use Rattle.tl_manager.{specs.code.Kept.IsSound, specs.code.Kept.illegal_at, proofs.judging.Judged.judged-passes}
+use Rattle.tl_manager.{proofs.judging.Judged.manager-takes, proofs.pending.LinkHistories.whole-e}
+use Rattle.tl_manager.{specs.laws.Pending.one_if}
 use Rattle.tl_manager.specs.statement.Offer as manager_offer
 use Rattle.tl_manager.specs.statement.Offer.{is_from_client, open_level, unlawful}
-use Rattle.tl_manager.proofs.judging.Judged.{judged-passes, manager-takes}
-use Rattle.tl_manager.proofs.pending.LinkHistories.{whole-e}
 use Rattle.tl_coherence.specs.protocol.Phase.{ProbeAnswered, ReleaseSent, is_unreleased, same_report}
-use Rattle.tl_coherence.specs.protocol.Tokens.{is_answered}
+use Rattle.tl_coherence.specs.{protocol.Tokens.is_answered, protocol.Packet.is, protocol.Packet.count}
 use Rattle.tl_coherence.specs.refinement.PacketMessages.{message_of, message_of_kind}
-use Rattle.tl_manager.specs.laws.Pending.{one_if}
-use Rattle.tl_coherence.specs.protocol.Packet.{is, count}
-use Rattle.tl_coherence.proofs.queues.Carried.{IsNext}
-use Rattle.tl_coherence.proofs.queues.Facts.{is_other, release_begins}
-use Rattle.tl_coherence.proofs.queues.PhaseFacts.{report_fits, own_alone}
-use Rattle.tl_coherence.proofs.manager.Orders.{report-legal}
-use Rattle.tl_coherence.proofs.queues.Phases.{and_left, and_right}
-use Rattle.tl_coherence.proofs.queues.PhaseSteps.{on_other}
-use Rattle.tl_coherence.proofs.manager.ManagedEndings.{tracker-of}
-use Rattle.tl_coherence.proofs.manager.Reporting.{IsAbout}
-use Rattle.tl_coherence.proofs.queues.Tokens.{same_number, ordered-first}
 
 -- ---- the first message of channel C or E
 
 -- it is a ProbeAck or a Release
 pub by-first_c : {w : ℕ} (P : List Packet → Type 0) (c : ℕ) (mail : AccessMessages w) (s : State (List ℕ))
-    (sys : System w) (x : Beat w) (queue : List (Beat w)) → IsFirst channel.C c mail s sys x queue
+    (sys : System w) (x : Beat w) (queue : List (Beat w)) → IsFirst Channel.C c mail s sys x queue
     → ((n : ℕ) (rest : List Packet) → (s.link c).c ≡ packet ProbeAck n ∷ rest
-    → IsNext x (unfinished channel.C (on_link c sys.manager.trace)) (block_message ProbeAck c n (s.block n))
-    (map (message_of mail s c) rest) queue
-    → P (packet ProbeAck n ∷ rest))
+    → IsNext x (unfinished Channel.C (on_link c sys.manager.trace)) (block_message ProbeAck c n (s.block n))
+    (map (message_of mail s c) rest) queue → P (packet ProbeAck n ∷ rest))
     → ((n : ℕ) (rest : List Packet) → (s.link c).c ≡ packet Release n ∷ rest
-    → IsNext x (unfinished channel.C (on_link c sys.manager.trace)) (block_message Release c n (s.block n))
-    (map (message_of mail s c) rest) queue
-    → P (packet Release n ∷ rest))
-    → P (s.link c).c
+    → IsNext x (unfinished Channel.C (on_link c sys.manager.trace)) (block_message Release c n (s.block n))
+    (map (message_of mail s c) rest) queue → P (packet Release n ∷ rest)) → P (s.link c).c
 by-first_c {w} P c mail s sys x queue at report release = subst P (sym at.tokens) (go at.kind at.own at.tokens at.next)
   where
     Next : Kind → Type 0
-    Next k = IsNext x (unfinished channel.C (on_link c sys.manager.trace)) (message_of_kind k mail s c at.number)
+    Next k = IsNext x (unfinished Channel.C (on_link c sys.manager.trace)) (message_of_kind k mail s c at.number)
         (map (message_of mail s c) at.rest) queue
 
-    go : (k : Kind) → is_on channel.C k ≡ true → (s.link c).c ≡ packet k at.number ∷ at.rest → Next k
+    go : (k : Kind) → is_on Channel.C k ≡ true → (s.link c).c ≡ packet k at.number ∷ at.rest → Next k
         → P (packet k at.number ∷ at.rest)
     go ProbeAck e first next = report at.number at.rest first next
     go Release e first next = release at.number at.rest first next
-    go Request e first next = absurd cc
-    go Acquire e first next = absurd cc
-    go Probe e first next = absurd cc
-    go Answer e first next = absurd cc
-    go Grant e first next = absurd cc
-    go ReleaseAck e first next = absurd cc
-    go GrantAck e first next = absurd cc
+    go k e first next = absurd cc
 
 -- or a GrantAck
-pub by-first_e : {w : ℕ} (P : List Packet → Type 0) (c : ℕ) (mail : AccessMessages w) (s : State (List ℕ))
-    (sys : System w) (x : Beat w) (queue : List (Beat w)) → IsFirst channel.E c mail s sys x queue
+pub by-first_e : {w : ℕ} (P : List Packet → Type 0) {c : ℕ} {mail : AccessMessages w} {s : State (List ℕ)}
+    {sys : System w} {x : Beat w} {queue : List (Beat w)} → IsFirst Channel.E c mail s sys x queue
     → ((n : ℕ) (rest : List Packet) → (s.link c).e ≡ packet GrantAck n ∷ rest
-    → IsNext x (unfinished channel.E (on_link c sys.manager.trace)) (block_message GrantAck c n (s.block n))
-    (map (message_of mail s c) rest) queue
-    → P (packet GrantAck n ∷ rest))
-    → P (s.link c).e
-by-first_e {w} P c mail s sys x queue at ack = subst P (sym at.tokens) (go at.kind at.own at.tokens at.next)
-  where
-    Next : Kind → Type 0
-    Next k = IsNext x (unfinished channel.E (on_link c sys.manager.trace)) (message_of_kind k mail s c at.number)
-        (map (message_of mail s c) at.rest) queue
-
-    go : (k : Kind) → is_on channel.E k ≡ true → (s.link c).e ≡ packet k at.number ∷ at.rest → Next k
-        → P (packet k at.number ∷ at.rest)
-    go GrantAck e first next = ack at.number at.rest first next
-    go ProbeAck e first next = absurd cc
-    go Release e first next = absurd cc
-    go Request e first next = absurd cc
-    go Acquire e first next = absurd cc
-    go Probe e first next = absurd cc
-    go Answer e first next = absurd cc
-    go Grant e first next = absurd cc
-    go ReleaseAck e first next = absurd cc
+    → IsNext x (unfinished Channel.E (on_link c sys.manager.trace)) (block_message GrantAck c n (s.block n))
+    (map (message_of mail s c) rest) queue → P (packet GrantAck n ∷ rest)) → P (s.link c).e
+by-first_e {w} P {c} {mail} {s} {sys} {x} {queue} at ack =
+    let Next : Kind → Type 0 = λ k. IsNext x (unfinished Channel.E (on_link c sys.manager.trace))
+    (message_of_kind k mail s c at.number) (map (message_of mail s c) at.rest) queue in
+    let go : (k : Kind) → is_on Channel.E k ≡ true → (s.link c).e ≡ packet k at.number ∷ at.rest → Next k
+    → P (packet k at.number ∷ at.rest) =
+    elim [ GrantAck ↦ λ e first next. ack at.number at.rest first next | k ↦ λ e first next. absurd cc ] in
+    subst P (sym at.tokens) (go at.kind at.own at.tokens at.next)
 
 -- ---- a beat that breaks no rule of order is taken
 
 pub record IsTakenUp {w : ℕ} (config : Config) (c : ℕ) (ch : Channel) (x : Beat w) (e : End w) : Type 0 where
   pub passes : judged config (record { 0 = c }) ch x e ≡ Passes
-  pub answer : offered config (record { 0 = c }) ch x
-      e ≡ (
+  pub answer : offered config (record { 0 = c }) ch x e
+      ≡ (
         manager_offer.Sent (reaction config (record { 0 = c }) x e).handed,
         taken (record { 0 = c }) x
             (reaction config (record { 0 = c }) x e) e,
       )
 
-pub takes : {w : ℕ} (config : Config) (c : ℕ) (ch : Channel) (x : Beat w) (e : End w)
+pub takes : {w : ℕ} {config : Config} (c : ℕ) (ch : Channel) (x : Beat w) (e : End w)
     → IsSound config (record { 0 = c }, x) → is_from_client x ≡ true → channel_of x ≡ ch → e.closed ≡ []
     → broken_in_order config.profile x (on_link c e.trace) ≡ None
     → must_wait config (record { 0 = c }) x e.trace ≡ false → IsTakenUp config c ch x e
-takes {w} config c ch x e sound theirs own live order free = go (level_of config c) refl sound.lawful
+takes {w} {config} c ch x e sound theirs own live order free = go (level_of config c) refl sound.lawful
   where
     go : (o : Option Level) → level_of config c ≡ o → illegal_at o x ≡ None → IsTakenUp config c ch x e
     go None f lawful = absurd cc
@@ -133,55 +97,48 @@ takes {w} config c ch x e sound theirs own live order free = go (level_of config
 -- ---- a ProbeAck
 
 pub same_report-is : (p q : Report) → same_report p q ≡ true → p ≡ q
-same_report-is report.TtoB report.TtoB e = refl
-same_report-is report.TtoN report.TtoN e = refl
-same_report-is report.BtoN report.BtoN e = refl
-same_report-is report.TtoT report.TtoT e = refl
-same_report-is report.BtoB report.BtoB e = refl
-same_report-is report.NtoN report.NtoN e = refl
+same_report-is Report.TtoB Report.TtoB e = refl
+same_report-is Report.TtoN Report.TtoN e = refl
+same_report-is Report.BtoN Report.BtoN e = refl
+same_report-is Report.TtoT Report.TtoT e = refl
+same_report-is Report.BtoB Report.BtoB e = refl
+same_report-is Report.NtoN Report.NtoN e = refl
 same_report-is p q e = absurd cc
 
 -- what holds of the cap that a client sees holds of that of the service
 pub seen_cap : (test : Cap → Bool) (s : Service) (c : ℕ) → (on_other (view s c) test && is_other (view s c)) ≡ true
     → test (cap_waited s) ≡ true
 seen_cap test Free c e = absurd cc
-seen_cap test (Waits r own source k) c e = go (own && (c == r)) e
-  where
-    go : (b : Bool) → (on_other (if b then Own else Other k) test && is_other (if b then Own else Other k)) ≡ true
-        → test k ≡ true
-    go true f = absurd cc
-    go false f = and_left (test k) true f
-seen_cap test (GrantSent r d k) c e = absurd (go (c == r) e)
-  where
-    go : (b : Bool) → (on_other (if b then Granting d k else GrantedOther) test && is_other
-        (if b then Granting d k else GrantedOther)) ≡ true → ⊥
-    go true f = cc
-    go false f = cc
-seen_cap test (GrantTaken r) c e = absurd (go (c == r) e)
-  where
-    go : (b : Bool) → (on_other (if b then Acknowledging else GrantedOther) test && is_other
-        (if b then Acknowledging else GrantedOther)) ≡ true → ⊥
-    go true f = cc
-    go false f = cc
+seen_cap test (Waits r own source k) c e =
+    let go : (b : Bool) → (on_other (if b then Own else Other k) test && is_other (if b then Own else Other k)) ≡ true
+    → test k ≡ true = elim [ true ↦ λ f. absurd cc | false ↦ λ f. and_left (test k) true f ] in
+    go (own && (c == r)) e
+seen_cap test (GrantSent r d k) c e =
+    let go : (b : Bool) → (on_other (if b then Granting d k else GrantedOther) test && is_other
+    (if b then Granting d k else GrantedOther)) ≡ true → ⊥ = elim [ true ↦ λ f. cc | false ↦ λ f. cc ] in
+    absurd (go (c == r) e)
+seen_cap test (GrantTaken r) c e =
+    let go : (b : Bool) → (on_other (if b then Acknowledging else GrantedOther) test && is_other
+    (if b then Acknowledging else GrantedOther)) ≡ true → ⊥ = elim [ true ↦ λ f. cc | false ↦ λ f. cc ] in
+    absurd (go (c == r) e)
 
 -- the place of a beat in its message
 abbrev NextOrder : {w : ℕ} → Profile → MessageC w → ℕ → History w → Type 0
-NextOrder {w} profile m k t = broken_in_order profile (beat.C (c_beat_of m k)) t ≡ None
+NextOrder {w} profile m k t = broken_in_order profile (Beat.C (c_beat_of m k)) t ≡ None
 
 by_place : {w : ℕ} (profile : Profile) (m : MessageC w) (k : ℕ) (t : History w)
-    → unfinished channel.C t ≡ begun (message.C m) k
-    → (unfinished channel.C t ≡ [] → NextOrder profile m 0 t) → NextOrder profile m k t
+    → unfinished Channel.C t ≡ begun (Message.C m) k
+    → (unfinished Channel.C t ≡ [] → NextOrder profile m 0 t) → NextOrder profile m k t
 by_place profile m zero t rest first = first rest
-by_place profile m (suc k) t rest first = later-legal profile (message.C m) k t rest
+by_place profile m (suc k) t rest first = later-legal profile (Message.C m) k t rest
 
-pub report-order : {w : ℕ} (config : Config) (caching : ℕ → Bool) (request : ℕ → MessageA w) (c n k : ℕ) (r : Report)
-    (truth : List ℕ) (carries : Bool)
-    (m : MessageC w) (s : State (List ℕ)) (e : End w) → IsInvariant caching s
-    → ManagerRelation request s e.trace → ServedSourceRelation request s e.trace → IsKept config e
-    → ((s.block n).pair c).probing ≡ ProbeAnswered r → IsAbout true n (report_code r) carries truth m
-    → unfinished channel.C (on_link c e.trace) ≡ begun (message.C m) k
-    → broken_in_order config.profile (beat.C (c_beat_of m k)) (on_link c e.trace) ≡ None
-report-order {w} config caching request c n k r truth carries m s e inv managed served kept answered about rest =
+pub report-order : {w : ℕ} {config : Config} {caching : ℕ → Bool} {request : ℕ → MessageA w} (c : ℕ) {n : ℕ} (k : ℕ)
+    (r : Report) {truth : List ℕ} {carries : Bool} {m : MessageC w} {s : State (List ℕ)} {e : End w}
+    → IsInvariant caching s → ManagerRelation request s e.trace → ServedSourceRelation request s e.trace
+    → IsKept config e → ((s.block n).pair c).probing ≡ ProbeAnswered r → IsAbout true n (report_code r) carries truth m
+    → unfinished Channel.C (on_link c e.trace) ≡ begun (Message.C m) k
+    → broken_in_order config.profile (Beat.C (c_beat_of m k)) (on_link c e.trace) ≡ None
+report-order {w} {config} c {n} k r {m} {s} {e} inv managed served kept answered about rest =
     by_place config.profile m k t rest first
   where
     t : History w
@@ -191,15 +148,14 @@ report-order {w} config caching request c n k r truth carries m s e inv managed 
     b = s.block n
 
     told : r ≡ report_at (cap_waited b.service) (b.pair c).recorded
-    told =
-        same_report-is r (report_at (cap_waited b.service) (b.pair c).recorded)
+    told = cc (same_report-is r (report_at (cap_waited b.service) (b.pair c).recorded)
         (seen_cap (λ k. same_report r (report_at k (b.pair c).recorded)) b.service c
-        (report_fits r (b.pair c) (view b.service c) ((inv.blocks n).phases c) answered))
+        (report_fits r (b.pair c) (view b.service c) ((inv.blocks n).phases c) answered)))
 
-    first : unfinished channel.C t ≡ [] → NextOrder config.profile m 0 t
+    first : unfinished Channel.C t ≡ [] → NextOrder config.profile m 0 t
     first none =
-        let missing : pending (key.ProbeOf n) t ≡ true = managed.probes c n ∙ rw answered refl in
-        let released : pending (key.ReleaseOf n) t ≡ false = (kept.releases c).blocks n ∙ rw none refl in
+        let missing : pending (Key.ProbeOf n) t ≡ true = managed.probes c n ∙ rw answered refl in
+        let released : pending (Key.ReleaseOf n) t ≡ false = (kept.releases c).blocks n ∙ rw none refl in
         let probe = served.probes c n (rw answered refl) in
         report-legal config.profile n (cap_waited b.service) r (b.pair c).recorded
         (c_beat_of m 0) t about.reports about.releases about.block about.param_is none missing released probe
@@ -216,36 +172,31 @@ release_rules : (used acquires releases fits : Bool) → used ≡ false → acqu
 release_rules used acquires releases fits e f g h = rw (e, f, g, h) refl
 
 pruned : (r : Prune) (p : Perm) → same_perm (prune_left r) p ≡ true → prunes_from (prune_of (prune_code r)) p ≡ true
-pruned prune.TtoB p e = e
-pruned prune.TtoN p e = e
-pruned prune.BtoN p e = e
+pruned Prune.TtoB p e = e
+pruned r p e = e
 
 -- a Release that is first has no ProbeAck of its block behind it
 pub unanswered : (caching : ℕ → Bool) (c n : ℕ) (rest : List Packet) (s : State (List ℕ)) → IsInvariant caching s
-    → (s.link c).c ≡ packet Release n ∷ rest
-    → is_answered ((s.block n).pair c).probing ≡ false
+    → (s.link c).c ≡ packet Release n ∷ rest → is_answered ((s.block n).pair c).probing ≡ false
 unfolding count
 unanswered caching c n rest s inv first =
+    let none : (b : Bool) → one_if b ≡ 0 → b ≡ false =
+    elim [ true ↦ λ e. absurd (omega (arith, e)) | false ↦ λ e. refl ] in
     let behind = ordered-first n (s.link c).c rest (packet Release n) first (rw (same_number n) refl) (inv.ordered c n)
     in
     let all : count ProbeAck n (packet Release n ∷ rest) ≡ one_if (is_answered ((s.block n).pair c).probing) =
     rw first at (inv.transfers c ProbeAck refl n) in
     let release : one_if (is ProbeAck n (packet Release n)) ≡ 0 = refl in
     none (is_answered ((s.block n).pair c).probing) (omega (arith, all, behind, release))
-  where
-    none : (b : Bool) → one_if b ≡ 0 → b ≡ false
-    none true e = absurd (omega (arith, e))
-    none false e = refl
 
-pub release-order : {w : ℕ} (config : Config) (caching : ℕ → Bool) (request : ℕ → MessageA w) (c n k : ℕ) (r : Prune)
-    (rest : List Packet) (truth : List ℕ)
-    (carries : Bool) (m : MessageC w) (s : State (List ℕ)) (e : End w) → IsInvariant caching s
-    → ManagerRelation request s e.trace → IsKept config e → (s.link c).c ≡ packet Release n ∷ rest
-    → ((s.block n).pair c).letting ≡ ReleaseSent r → IsAbout false n (prune_code r) carries truth m
-    → unfinished channel.C (on_link c e.trace) ≡ begun (message.C m) k
-    → broken_in_order config.profile (beat.C (c_beat_of m k)) (on_link c e.trace) ≡ None
+pub release-order : {w : ℕ} {config : Config} {caching : ℕ → Bool} {request : ℕ → MessageA w} (c : ℕ) {n : ℕ} (k : ℕ)
+    (r : Prune) (rest : List Packet) {truth : List ℕ} {carries : Bool} {m : MessageC w} {s : State (List ℕ)} {e : End w}
+    → IsInvariant caching s → ManagerRelation request s e.trace → IsKept config e
+    → (s.link c).c ≡ packet Release n ∷ rest → ((s.block n).pair c).letting ≡ ReleaseSent r
+    → IsAbout false n (prune_code r) carries truth m → unfinished Channel.C (on_link c e.trace) ≡ begun (Message.C m) k
+    → broken_in_order config.profile (Beat.C (c_beat_of m k)) (on_link c e.trace) ≡ None
 unfolding broken_order
-release-order {w} config caching request c n k r rest truth carries m s e inv managed kept tokens releasing about
+release-order {w} {config} {caching} c {n} k r rest {m} {s} {e} inv managed kept tokens releasing about
     before = by_place config.profile m k t before first
   where
     t : History w
@@ -266,16 +217,16 @@ release-order {w} config caching request c n k r rest truth carries m s e inv ma
     fits = release_begins r (b.pair c) (view b.service c) ((inv.blocks n).phases c) releasing
         (unanswered caching c n rest s inv tokens)
 
-    first : unfinished channel.C t ≡ [] → NextOrder config.profile m 0 t
+    first : unfinished Channel.C t ≡ [] → NextOrder config.profile m 0 t
     first none =
-        let used : pending (key.ReleaseSource m.source) t ≡ false = (kept.releases c).sources m.source ∙ rw none refl in
-        let acquires : pending (key.AcquireOf n) t ≡ false = managed.acquires c n ∙ not_own (view b.service c) refl in
-        let releases : pending (key.ReleaseOf n) t ≡ false = (kept.releases c).blocks n ∙ rw none refl in
+        let used : pending (Key.ReleaseSource m.source) t ≡ false = (kept.releases c).sources m.source ∙ rw none refl in
+        let acquires : pending (Key.AcquireOf n) t ≡ false = managed.acquires c n ∙ not_own (view b.service c) refl in
+        let releases : pending (Key.ReleaseOf n) t ≡ false = (kept.releases c).blocks n ∙ rw none refl in
         let legal : prunes_from (prune_of (prune_code r)) (held n t) ≡ true =
         rw (managed.recorded_is c n) (pruned r (b.pair c).recorded fits) in
         rw (none, about.releases, about.block, about.param_is)
-        (release_rules (pending (key.ReleaseSource m.source) t) (pending (key.AcquireOf n) t)
-        (pending (key.ReleaseOf n) t)
+        (release_rules (pending (Key.ReleaseSource m.source) t) (pending (Key.AcquireOf n) t)
+        (pending (Key.ReleaseOf n) t)
         (prunes_from (prune_of (prune_code r)) (held n t)) used acquires releases legal)
 
 -- ---- a GrantAck
@@ -283,25 +234,21 @@ release-order {w} config caching request c n k r rest truth carries m s e inv ma
 ack_rule : (pends coming : Bool) → pends ≡ true → coming ≡ false → first_if (not pends || coming) H8 None ≡ None
 ack_rule pends coming e f = rw (e, f) refl
 
-pub ack-order : {w : ℕ} (config : Config) (request : ℕ → MessageA w) (c n : ℕ) (x : BeatE) (s : State (List ℕ))
-    (e : End w) → AreNamed s
+pub ack-order : {w : ℕ} {config : Config} {request : ℕ → MessageA w} (c n : ℕ) (x : BeatE) {s : State (List ℕ)}
+    {e : End w} → AreNamed s
     → ServedSourceRelation request s e.trace → IsKept config e → (s.block n).service ≡ GrantTaken c
-    → x.sink ≡ (s.block n).tracker → (pending (key.GrantSink x.sink) (on_link c e.trace) ≡ true)
-    × (broken_in_order {w = w} config.profile (beat.E x) (on_link c e.trace) ≡ None)
+    → x.sink ≡ (s.block n).tracker → (pending (Key.GrantSink x.sink) (on_link c e.trace) ≡ true)
+    × (broken_in_order {w = w} config.profile (Beat.E x) (on_link c e.trace) ≡ None)
 unfolding broken_order
-ack-order {w} config request c n x s e named served kept taken_is sink = (
-  pends,
-  rw ((whole-e {w = w} x (on_link c e.trace)).0, (kept.whole c).1)
-      (ack_rule (pending (key.GrantSink x.sink) (on_link c e.trace)) false pends refl),
-)
-  where
-    awaits : (b : Bool) → b ≡ true
-        → (is_granting (if b then Acknowledging else GrantedOther) || is_acknowledging
-        (if b then Acknowledging else GrantedOther)) ≡ true
-    awaits b f = rw f refl
-
-    pends : pending (key.GrantSink x.sink) (on_link c e.trace) ≡ true
-    pends =
-        served.sinks c x.sink ∙ ap (λ i. is_granted c (s.tracked i) s) sink ∙ ap (λ o. is_granted c o s)
-        (tracker-of n s named (rw taken_is refl))
-        ∙ rw taken_is (awaits (c == c) (same_number c))
+ack-order {w} c n x {s} {e} named served kept taken_is sink =
+    let awaits : (b : Bool) → b ≡ true
+    → (is_granting (if b then Acknowledging else GrantedOther) || is_acknowledging
+    (if b then Acknowledging else GrantedOther)) ≡ true = λ b f. rw f refl in
+    let pends : pending (Key.GrantSink x.sink) (on_link c e.trace) ≡ true = served.sinks c x.sink
+    ∙ ap (λ i. is_granted c (s.tracked i) s) sink
+    ∙ ap (λ o. is_granted c o s) (tracker-of n named (rw taken_is refl))
+    ∙ rw taken_is (awaits (c == c) (same_number c)) in (
+      pends,
+      rw ((whole-e {w = w} x (on_link c e.trace)).0, (kept.whole c).1)
+          (ack_rule (pending (Key.GrantSink x.sink) (on_link c e.trace)) false pends refl),
+    )

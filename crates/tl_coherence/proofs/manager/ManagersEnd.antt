@@ -18,10 +18,10 @@ pub record IsAtManager {w : ℕ} (config : Config) (mail : AccessMessages w) (re
   pub memory : (n : ℕ) → bytes_from e.memory (64 * n) 64 ≡ (s.block n).memory
   pub all_live : e.closed ≡ []
 
-pub at_manager-matched : {w : ℕ} (config : Config) (log : Log w) (mail : AccessMessages w) (request : ℕ → MessageA w)
-    (s : State (List ℕ)) (sys : System w)
+pub at_manager-matched : {w : ℕ} {config : Config} {log : Log w} {mail : AccessMessages w} {request : ℕ → MessageA w}
+    {s : State (List ℕ)} {sys : System w}
     → SimulationRelation config log mail request s sys → IsAtManager config mail request s sys.manager
-at_manager-matched config log mail request s sys is = record {
+at_manager-matched is = record {
   managed = is.managed;
   served = is.served;
   served_with = is.served_with;
@@ -31,15 +31,14 @@ at_manager-matched config log mail request s sys is = record {
 }
 
 -- the values of the trace give all else
-pub at_manager-traced : {w : ℕ} (caching : ℕ → Bool) (config : Config) (mail : AccessMessages w) (request : ℕ
-    → MessageA w) (s : State (List ℕ)) (e : End w)
-    → IsInvariant caching s → IsKept config e → IsTraced request s e.trace
-    → ((n : ℕ) → IsServedWith mail (s.block n).service (request n))
+pub at_manager-traced : {w : ℕ} {caching : ℕ → Bool} {config : Config} (mail : AccessMessages w) {request : ℕ
+    → MessageA w} {s : State (List ℕ)} {e : End w} → IsInvariant caching s → IsKept config e
+    → IsTraced request s e.trace → ((n : ℕ) → IsServedWith mail (s.block n).service (request n))
     → ((n : ℕ) → bytes_from e.memory (64 * n) 64 ≡ (s.block n).memory) → e.closed ≡ []
     → IsAtManager config mail request s e
-at_manager-traced caching config mail request s e inv kept is with memory live = record {
-  managed = managed-traced caching config request s e inv kept is;
-  served = are_served-traced caching config request s e inv kept is;
+at_manager-traced {caching} {config} mail {request} {s} {e} inv kept is with memory live = record {
+  managed = managed-traced inv kept is;
+  served = are_served-traced inv kept is;
   served_with = with;
   manager_kept = kept;
   memory = memory;
@@ -50,21 +49,18 @@ at_manager-traced caching config mail request s e inv kept is with memory live =
 
 same_with : {w : ℕ} (mail : AccessMessages w) (service after : Service) (m : MessageA w) → SameService service after
     → IsServedWith mail service m → IsServedWith mail after m
-same_with mail (GrantSent q d k) (GrantTaken r) m e ok = tt
-same_with mail (GrantSent q d k) Free m e ok = tt
 same_with mail (GrantSent q d k) (Waits r own source j) m e ok = absurd cc
-same_with mail (GrantSent q d k) (GrantSent r b j) m e ok = tt
 same_with mail Free after m e ok = rw e ok
 same_with mail (Waits r own source k) after m e ok = rw e ok
 same_with mail (GrantTaken r) after m e ok = rw e ok
+same_with mail (GrantSent q d k) after m e ok = tt
 
 -- what the manager's end knows stays, where the blocks are the same to it
-pub at_manager-same : {w : ℕ} (caching : ℕ → Bool) (config : Config) (mail : AccessMessages w) (request : ℕ
-    → MessageA w) (s u : State (List ℕ)) (e : End w)
+pub at_manager-same : {w : ℕ} {caching : ℕ → Bool} {config : Config} {mail : AccessMessages w} {request : ℕ
+    → MessageA w} {s u : State (List ℕ)} {e : End w}
     → IsInvariant caching u → IsSameToManager s u → ((n : ℕ) → (u.block n).memory ≡ (s.block n).memory)
     → IsAtManager config mail request s e → IsAtManager config mail request u e
-at_manager-same caching config mail request s u e inv same memory is =
-    at_manager-traced caching config mail request u e inv is.manager_kept
-    (traced-same request s u e.trace same (traced-known request s e.trace is.managed is.served))
+at_manager-same {caching} {config} {mail} {request} {s} {u} {e} inv same memory is =
+    at_manager-traced mail inv is.manager_kept (traced-same same (traced-known is.managed is.served))
     (λ n. same_with mail (s.block n).service (u.block n).service (request n) (same.service_same n) (is.served_with n))
     (λ n. is.memory n ∙ sym (memory n)) is.all_live

@@ -3,12 +3,10 @@ use Rattle.tl_coherence.proofs.manager.Imports.{IsWidth, A, MessageA, Level, Mem
 use Rattle.tl_coherence.proofs.manager.Imports.{illegal_message_at, performs}
 use Rattle.std.proofs.Common.{◌≡◌, ℕ, zero, suc, ◌+◌, ◌-◌, ◌*◌, ◌%◌, ◌^◌, ◌<◌, ◌≤◌, Option, Some, None, sym, ◌∙◌, ap}
 use Rattle.std.proofs.Common.{arith}
-use Rattle.std.specs.Prelude.{slice_index}
-use Rattle.std.proofs.lemmas.Bool.{eqb-true}
-use Rattle.tl_rules.specs.statement.Effect.{SameBlock}
-use Rattle.tl_rules.proofs.Bursts.{control_of_legal, control_aligned}
-use Rattle.tl_rules.proofs.Local.{after-local, reply-local, bytes_same}
-use Rattle.tl_rules.proofs.Rooms.{room_in_block}
+use Rattle.std.{specs.Prelude.slice_index, proofs.lemmas.Bool.eqb-true}
+use Rattle.tl_rules.{specs.statement.Effect.SameBlock, proofs.Bursts.control_of_legal, proofs.Bursts.control_aligned}
+use Rattle.tl_rules.{proofs.Local.after-local, proofs.Local.reply-local, proofs.Local.bytes_same}
+use Rattle.tl_rules.{proofs.Rooms.room_in_block}
 use Rattle.tl_coherence.specs.refinement.AbstractStep.{bytes_at}
 
 -- the bytes of a block that no byte of is changed
@@ -38,14 +36,12 @@ access-room {w} (Some l) m width lawful = room_in_block m.size m.address m.small
 
 -- the memory's bytes of the block after the access are those that the protocol gives the block
 pub performed-block : {w : ℕ} (o : Option Level) (m : MessageA w) (f : Memory) → IsWidth w
-    → illegal_message_at o (A m) ≡ None
-    → bytes_from (effect (A m) f).0 (64 * block_at m.address) 64 ≡ performs m
-    (bytes_from f (64 * block_at m.address) 64)
+    → illegal_message_at o (A m) ≡ None → bytes_from (effect (A m) f).0 (64 * block_at m.address) 64
+    ≡ performs m (bytes_from f (64 * block_at m.address) 64)
 unfolding effect
 performed-block {w} o m f width lawful =
     block-same (effect (A m) f).0
-    (effect (A m) (bytes_at (block_at m.address) (bytes_from f (64 * block_at m.address) 64))).0
-    (block_at m.address)
+    (effect (A m) (bytes_at (block_at m.address) (bytes_from f (64 * block_at m.address) 64))).0 (block_at m.address)
     (after-local m.opcode m f (bytes_at (block_at m.address) (bytes_from f (64 * block_at m.address) 64))
     (access-room o m width lawful) (again-same f (block_at m.address)))
 

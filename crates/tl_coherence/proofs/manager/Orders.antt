@@ -3,18 +3,14 @@
 use Rattle.tl_coherence.proofs.manager.Imports.{BeatA, BeatC, c_carries_data, first_if, History, unfinished, Cap}
 use Rattle.tl_coherence.proofs.manager.Imports.{Report, Perm, Profile, report_code, broken_order, broken_in_order}
 use Rattle.tl_coherence.proofs.manager.Imports.{block_at, is_acquire, is_probe_ack, is_release, held, pending, probe_of}
-use Rattle.tl_coherence.proofs.manager.Imports.{probe_beat}
+use Rattle.tl_coherence.proofs.manager.Imports.{probe_beat, Beat, Channel}
 use Rattle.std.proofs.Common.{◌≡◌, ℕ, Bool, true, false, not, ◌&&◌, ◌||◌, [], Option, Some, None, refl}
 use Rattle.std.proofs.Math.Bool.{and-false}
-use Rattle.tl_beat.specs.declared.beat.Beat.TheVariants as beat
 use Rattle.tl_beat.specs.declared.beat.BeatB.{BeatB}
-use Rattle.tl_beat.specs.declared.channel.Channel.TheVariants as channel
-use Rattle.tl_params.specs.declared.key.Key.TheVariants as key
+use Rattle.tl_params.{specs.declared.key.Key.Key, specs.statement.Param.report_at}
 use Rattle.tl_params.specs.declared.rule.Rule.TheVariants.{H1, H4, H5, H10, H11, H12}
-use Rattle.tl_params.specs.statement.Param.{report_at}
 use Rattle.tl_rules.specs.statement.Conformance.{answers_wrong_probe, misreports, grows_from}
-use Rattle.tl_coherence.proofs.queues.Tokens.{same_number}
-use Rattle.tl_coherence.proofs.queues.Codes.{cap-again}
+use Rattle.tl_coherence.proofs.{queues.Tokens.same_number, queues.Codes.cap-again}
 
 -- ---- a ProbeAck: H10, H11 and H12
 
@@ -31,22 +27,21 @@ reports_it : {w : ℕ} (x : BeatC w) (n : ℕ) (k : Cap) (r : Report) (p : Perm)
 reports_it x n k r p o e param told = rw (e, cap-again k, param, told, same_number (report_code (report_at k p))) refl
 
 pub report-legal : {w : ℕ} (profile : Profile) (n : ℕ) (k : Cap) (r : Report) (p : Perm) (x : BeatC w) (t : History w)
-    → is_probe_ack x.opcode ≡ true → is_release x.opcode ≡ false
-    → block_at x.address ≡ n → x.param ≡ report_code r
-    → unfinished channel.C t ≡ [] → pending (key.ProbeOf n) t ≡ true → pending (key.ReleaseOf n) t ≡ false
-    → probe_of n t ≡ Some (probe_beat n k) → held n t ≡ p → r ≡ report_at k p
-    → broken_in_order profile (beat.C x) t ≡ None
+    → is_probe_ack x.opcode ≡ true → is_release x.opcode ≡ false → block_at x.address ≡ n → x.param ≡ report_code r
+    → unfinished Channel.C t ≡ [] → pending (Key.ProbeOf n) t ≡ true → pending (Key.ReleaseOf n) t ≡ false
+    → probe_of n t ≡ Some (probe_beat n k) → held n t ≡ p → r ≡ report_at k p → broken_in_order profile (Beat.C x) t
+    ≡ None
 unfolding broken_order
 report-legal {w} profile n k r p x t acks not_release block param none probed released probe is told =
     let found : probe_of (block_at x.address) t ≡ Some (probe_beat n k) = rw block probe in
-    let wrong : (not (pending (key.ProbeOf (block_at x.address)) t) || answers_wrong_probe x
+    let wrong : (not (pending (Key.ProbeOf (block_at x.address)) t) || answers_wrong_probe x
     (probe_of (block_at x.address) t)) ≡ false = rw (block, probed) (answers_it x n k (probe_of n t) probe) in
-    let late : pending (key.ReleaseOf (block_at x.address)) t ≡ false = rw block released in
+    let late : pending (Key.ReleaseOf (block_at x.address)) t ≡ false = rw block released in
     let bad : misreports x (probe_of (block_at x.address) t) (held (block_at x.address) t) ≡ false =
     rw (block, is) (reports_it x n k r p (probe_of n t) probe param told) in
     rw (none, not_release, acks)
-    (rules (not (pending (key.ProbeOf (block_at x.address)) t) || answers_wrong_probe x
-    (probe_of (block_at x.address) t)) (pending (key.ReleaseOf (block_at x.address)) t)
+    (rules (not (pending (Key.ProbeOf (block_at x.address)) t) || answers_wrong_probe x
+    (probe_of (block_at x.address) t)) (pending (Key.ReleaseOf (block_at x.address)) t)
     (misreports x (probe_of (block_at x.address) t) (held (block_at x.address) t)) wrong late bad)
 
 -- ---- an Acquire: H1, H4 and H5
@@ -56,12 +51,12 @@ requests : (taken twice low : Bool) → taken ≡ false → twice ≡ false → 
 requests taken twice low e f g = rw (e, f, g) refl
 
 pub acquire-legal : {w : ℕ} (profile : Profile) (n : ℕ) (p : Perm) (x : BeatA w) (t : History w)
-    → is_acquire x.opcode ≡ true → block_at x.address ≡ n → unfinished channel.A t ≡ []
-    → pending (key.RequestSource x.source) t ≡ false → pending (key.AcquireOf n) t ≡ false
-    → pending (key.ReleaseOf n) t ≡ false → held n t ≡ p → grows_from x.param p ≡ true
-    → broken_in_order profile (beat.A x) t ≡ None
+    → is_acquire x.opcode ≡ true → block_at x.address ≡ n → unfinished Channel.A t ≡ []
+    → pending (Key.RequestSource x.source) t ≡ false → pending (Key.AcquireOf n) t ≡ false
+    → pending (Key.ReleaseOf n) t ≡ false → held n t ≡ p → grows_from x.param p ≡ true
+    → broken_in_order profile (Beat.A x) t ≡ None
 unfolding broken_order
 acquire-legal profile n p x t acquires block none free once released is grows =
-    rw (none, acquires, block, is) (requests (pending (key.RequestSource x.source) t)
-    (pending (key.AcquireOf n) t || pending (key.ReleaseOf n) t)
+    rw (none, acquires, block, is) (requests (pending (Key.RequestSource x.source) t)
+    (pending (Key.AcquireOf n) t || pending (Key.ReleaseOf n) t)
     (grows_from x.param p) free (rw (once, released) refl) grows)

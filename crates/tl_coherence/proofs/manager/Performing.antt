@@ -9,30 +9,22 @@ use Rattle.tl_coherence.proofs.manager.Imports.{services, service_of_block, leas
 use Rattle.tl_coherence.proofs.manager.Imports.{performed-access, performed-acquire, after_sent, own_link, other_link}
 use Rattle.tl_coherence.proofs.manager.Imports.{whole-taken, reply-quiet, request-reply, after_grant_sent, set, Free}
 use Rattle.tl_coherence.proofs.manager.Imports.{Waits, GrantSent, Block, State, granted_at_once, client_in}
-use Rattle.tl_coherence.proofs.manager.Imports.{service_with}
+use Rattle.tl_coherence.proofs.manager.Imports.{service_with, Beat, Channel}
 use Rattle.std.proofs.Common.{◌≡◌, ℕ, suc, ◌==◌, Bool, true, false, not, ◌&&◌, [], ◌∷◌, Some, None, refl, sym, ◌∙◌, ap}
 use Rattle.std.proofs.Common.{inl, inr}
 use Rattle.std.specs.Prelude.{if◌then◌else◌, unwrap_or}
 use Rattle.std.proofs.lemmas.Bool.{cases_eq, ne_eqb}
-use Rattle.tl_beat.specs.declared.beat.Beat.TheVariants as beat
-use Rattle.tl_beat.specs.declared.channel.Channel.TheVariants as channel
-use Rattle.tl_rules.specs.declared.answer.Answer.{Answer}
-use Rattle.tl_rules.specs.declared.answer.Answer.TheVariants as answer
-use Rattle.tl_rules.specs.statement.History.{asks_for}
-use Rattle.tl_manager.specs.statement.Handing.{grant, is_granted_data}
+use Rattle.tl_rules.{specs.declared.answer.Answer.Answer, specs.statement.History.asks_for}
+use Rattle.tl_manager.{specs.statement.Handing.grant, specs.statement.Handing.is_granted_data}
+use Rattle.tl_manager.{specs.statement.Service.Service, proofs.pending.LinkHistories.sent-keeps}
+use Rattle.tl_manager.{proofs.pending.Performed.performed-serving, proofs.blocks.Recording.cap-gives}
 use Rattle.tl_manager.specs.statement.Holders as holders
-use Rattle.tl_manager.specs.statement.Service.{Service}
-use Rattle.tl_manager.proofs.pending.LinkHistories.{sent-keeps}
-use Rattle.tl_manager.proofs.pending.Performed.{performed-serving}
-use Rattle.tl_manager.proofs.blocks.Recording.{cap-gives}
 use Rattle.tl_coherence.specs.protocol.Protocol.{performed_block}
-use Rattle.tl_coherence.proofs.manager.BlockAccounts.{IsTraced}
-use Rattle.tl_coherence.proofs.manager.Traces.{traced-at}
+use Rattle.tl_coherence.proofs.{manager.BlockAccounts.IsTraced, manager.Traces.traced-at, queues.Codes.grants-so}
 use Rattle.tl_coherence.proofs.manager.Arrivals.{link_of, with_beat, IsComing, service_for, ready-last}
 use Rattle.tl_coherence.proofs.manager.Requests.{recorded-beat, missing-beat, request-beat, request-own, IsUnwaited}
 use Rattle.tl_coherence.proofs.manager.Requests.{serving-last, serving-others}
 use Rattle.tl_coherence.proofs.queues.Tokens.{same_number, set-same, set-other, set-part}
-use Rattle.tl_coherence.proofs.queues.Codes.{grants-so}
 
 -- the trace after the last beat of a request, which is performed, and its answer
 abbrev pub with_answer : {w : ℕ} → Config → ℕ → ℕ → MessageA w → Memory → Trace w → Trace w
@@ -43,9 +35,8 @@ with_answer config c k m memory t = with_handed (performed config (service_for c
 
 answer_of_d : {w : ℕ} (r : MessageA w) (kind : Answer) → (m : MessageD w) × (access_answer r kind ≡ D m)
     × (is_grant m.opcode ≡ false)
-answer_of_d r answer.Ack = (_, refl, refl)
-answer_of_d r answer.Hint = (_, refl, refl)
-answer_of_d r (answer.Data payload) = (_, refl, refl)
+answer_of_d r Answer.Ack = (_, refl, refl)
+answer_of_d r kind = (_, refl, refl)
 
 one-handed : {w : ℕ} (c : ℕ) (m : Message w) (t : Trace w) → with_handed ((link_of c, m) ∷ []) t ≡ after_sent
     (link_of c) m t
@@ -54,10 +45,10 @@ one-handed c m t = refl
 
 -- what is recorded after a message of channel D that is no Grant
 recorded-reply : {w : ℕ} (link : ℕ) (m : MessageD w) (t : Trace w) (d i : ℕ) → IsWidth w
-    → ((c : ℕ) → unfinished channel.D (on_link c t) ≡ []) → is_grant m.opcode ≡ false
+    → ((c : ℕ) → unfinished Channel.D (on_link c t) ≡ []) → is_grant m.opcode ≡ false
     → recorded d i (after_sent (link_of link) (D m) t) ≡ recorded d i t
 recorded-reply link m t d i width whole other =
-    sent-keeps (held i) d (link_of link) (D m) t (λ h f. held-sent_d i m h (ap (unfinished channel.D) f ∙ whole d)
+    sent-keeps (held i) d (link_of link) (D m) t (λ h f. held-sent_d i m h (ap (unfinished Channel.D) f ∙ whole d)
     (beats-positive (D m) width) ∙ rw other refl)
 
 -- ---- an access
@@ -71,13 +62,35 @@ pub record IsAnswering {w : ℕ} {X : Type 0} (config : Config) (c k n : ℕ) (m
   pub free : (s.block n).service ≡ Free
   pub unwaited : IsUnwaited c m.source s
 
-pub traced-answered : {w : ℕ} {X : Type 0} (config : Config) (request : ℕ → MessageA w) (c k n : ℕ) (f : X → X)
-    (m : MessageA w) (s u : State X) (memory : Memory) (e : End w)
-    → ((i : ℕ) → u.block i ≡ set n (performed_block f (s.block n)) s.block i)
-    → IsAnswering config c k n m s e → IsTraced request s e.trace
-    → IsTraced request u (with_answer config c k m memory e.trace)
-traced-answered {w} {X} config request c k n f m s u memory e blocks is known =
-    traced-at n request request s u e.trace after (record {
+pub traced-answered : {w : ℕ} {X : Type 0} {config : Config} {request : ℕ → MessageA w} {c k n : ℕ} (f : X → X)
+    {m : MessageA w} {s : State X} (u : State X) (memory : Memory) {e : End w}
+    → ((i : ℕ) → u.block i ≡ set n (performed_block f (s.block n)) s.block i) → IsAnswering config c k n m s e
+    → IsTraced request s e.trace → IsTraced request u (with_answer config c k m memory e.trace)
+traced-answered {w} {X} {config} {request} {c} {k} {n} f {m} {s} u memory {e} blocks is known =
+    let after : Trace w = with_answer config c k m memory e.trace in
+    let new : Block X = performed_block f (s.block n) in
+    let here : u.block n ≡ new = blocks n ∙ set-same n new s.block in
+    let reply = answer_of_d m (answer_of (A m) (effect (A m) memory).1) in
+    let after_is : after ≡ after_sent (link_of c) (D reply.0) t =
+    ap (λ (d : Reaction w). with_handed d.handed t) (performed-access config (service_for c m e.trace) t memory
+    is.access) ∙ one-handed c (access_answer m (answer_of (A m) (effect (A m) memory).1)) t
+    ∙ ap (λ (i : Message w). after_sent (link_of c) i t) reply.1 in
+    let recorded_same : (d i : ℕ) → recorded d i after ≡ recorded d i e.trace = λ d i. ap (recorded d i) after_is
+    ∙ recorded-reply c reply.0 t d i is.comes.width whole reply.2 ∙ recorded-beat c k m e.trace d i in
+    let missing_same : (d i : ℕ) → pending (ProbeOf i) (on_link d after) ≡ pending (ProbeOf i) (on_link d e.trace) =
+    λ d i. cc (
+      after_is,
+      reply-quiet (ProbeOf i) (link_of c) reply.0 t d is.comes.width (whole c)
+          (λ g. (refl, refl)),
+      missing-beat c k m e.trace d i,
+    ) in
+    let asked_same : (r src : ℕ) → request_of src (on_link r after) ≡ request_of src (on_link r t) =
+    λ r src. cc (after_is, request-reply (link_of c) reply.0 t r src) in
+    let served : (i : ℕ) → service_of_block i (services after)
+    ≡ (if not (is_acquire m.opcode) && (block_at m.address == i) then None else service_of_block i (services t)) =
+    λ i. performed-serving config (block_at m.address) i (service_for c m e.trace) t memory
+    (ready-last is.comes is.last) in
+    traced-at (record {
       other_blocks = λ i ne. blocks i ∙ set-other n i new s.block ne;
       other_requests = λ i ne. refl;
       recorded_here = λ d. recorded_same d n ∙ known.recorded_is d n ∙ sym
@@ -89,7 +102,7 @@ traced-answered {w} {X} config request c k n f m s u memory e blocks is known =
       serving_here = served n ∙ rw (is.access, is.block, same_number n)
           (sym (ap (λ (b : Block X). service_with (client_in b.service) b.tracker (request n)) here ∙ rw is.free refl));
       serving_else = λ i ne. let differ : n ≡ i → ⊥ = λ g. ne (sym g) in
-          served i ∙ rw (is.access, is.block, ne_eqb n i differ) (serving-others config c k n i m e is.comes is.last
+          served i ∙ rw (is.access, is.block, ne_eqb n i differ) (serving-others n i is.comes is.last
           is.block ne);
       request_here = rw (here, is.free) tt;
       asked_here = λ r src o l g. absurd (let no : Free ≡ Waits r o src l =
@@ -101,45 +114,8 @@ traced-answered {w} {X} config request c k n f m s u memory e blocks is known =
     t : Trace w
     t = with_beat c m k e.trace
 
-    after : Trace w
-    after = with_answer config c k m memory e.trace
-
-    new : Block X
-    new = performed_block f (s.block n)
-
-    here : u.block n ≡ new
-    here = blocks n ∙ set-same n new s.block
-
-    reply : (r : MessageD w) × (access_answer m (answer_of (A m) (effect (A m) memory).1) ≡ D r)
-        × (is_grant r.opcode ≡ false)
-    reply = answer_of_d m (answer_of (A m) (effect (A m) memory).1)
-
-    after_is : after ≡ after_sent (link_of c) (D reply.0) t
-    after_is =
-        ap (λ (d : Reaction w). with_handed d.handed t) (performed-access config (service_for c m e.trace) t memory
-        is.access) ∙ one-handed c (access_answer m (answer_of (A m) (effect (A m) memory).1)) t
-        ∙ ap (λ (i : Message w). after_sent (link_of c) i t) reply.1
-
-    whole : (d : ℕ) → unfinished channel.D (on_link d t) ≡ []
-    whole d = (whole-taken d (link_of c) (beat.A (a_beat_of m k)) e.trace refl (is.comes.kept.whole d)).1
-
-    recorded_same : (d i : ℕ) → recorded d i after ≡ recorded d i e.trace
-    recorded_same d i = ap (recorded d i) after_is ∙ recorded-reply c reply.0 t d i is.comes.width whole
-        reply.2 ∙ recorded-beat c k m e.trace d i
-
-    missing_same : (d i : ℕ) → pending (ProbeOf i) (on_link d after) ≡ pending (ProbeOf i) (on_link d e.trace)
-    missing_same d i = ap (λ (v : Trace w). pending (ProbeOf i) (on_link d v)) after_is
-        ∙ reply-quiet (ProbeOf i) (link_of c) reply.0 t d is.comes.width (whole c) (λ g. (refl, refl)) ∙ missing-beat c
-        k m e.trace d i
-
-    asked_same : (r src : ℕ) → request_of src (on_link r after) ≡ request_of src (on_link r t)
-    asked_same r src = ap (λ (v : Trace w). request_of src (on_link r v)) after_is ∙ request-reply (link_of c) reply.0 t
-        r src
-
-    served : (i : ℕ) → service_of_block i (services after) ≡ (if not (is_acquire m.opcode) && (block_at m.address == i)
-        then None else service_of_block i (services t))
-    served i = performed-serving config (block_at m.address) i (service_for c m e.trace) t memory
-        (ready-last config c k m e is.comes is.last)
+    whole : (d : ℕ) → unfinished Channel.D (on_link d t) ≡ []
+    whole d = (whole-taken d (link_of c) (Beat.A (a_beat_of m k)) e.trace refl (is.comes.kept.whole d)).1
 
 -- ---- an Acquire
 
@@ -154,10 +130,9 @@ pub record IsGranting {w : ℕ} {X : Type 0} (config : Config) (c k n : ℕ) (j 
 
 -- a Grant, with the cap that it names
 grant_of_d : {w : ℕ} (config : Config) (n : ℕ) (j : Cap) (s : Service w) (t : Trace w) (memory : Memory)
-    → block_at s.request.address ≡ n
-    → cap_granted config.profile s.request.opcode s.request.param (holders.is_unheld config n t) ≡ j
-    → (m : MessageD w) × (grant config s t memory ≡ D m) × (is_grant m.opcode ≡ true) × (m.source ≡ s.request.source)
-    × (capped m.param ≡ cap_right j)
+    → block_at s.request.address ≡ n → cap_granted config.profile s.request.opcode s.request.param
+    (holders.is_unheld config n t) ≡ j → (m : MessageD w) × (grant config s t memory ≡ D m) × (is_grant m.opcode ≡ true)
+    × (m.source ≡ s.request.source) × (capped m.param ≡ cap_right j)
 grant_of_d config n j s t memory block given = (
   _,
   refl,
@@ -167,14 +142,39 @@ grant_of_d config n j s t memory block given = (
   rw (block, given) (cap-gives j),
 )
 
-pub traced-granted : {w : ℕ} {X : Type 0} (config : Config) (request : ℕ → MessageA w) (c k n : ℕ) (b : Bool) (j : Cap)
-    (m : MessageA w) (s u : State X) (memory : Memory) (e : End w)
+pub traced-granted : {w : ℕ} {X : Type 0} {config : Config} {request : ℕ → MessageA w} {c k n : ℕ} (b : Bool) {j : Cap}
+    {m : MessageA w} {s : State X} (u : State X) (memory : Memory) {e : End w}
     → ((i : ℕ) → u.block i ≡ set n (granted_at_once c (least_untaken (trackers_of (services e.trace))) b j (s.block n))
-    s.block i)
-    → IsGranting config c k n j m s e → IsTraced request s e.trace
+    s.block i) → IsGranting config c k n j m s e → IsTraced request s e.trace
     → IsTraced (set n m request) u (with_answer config c k m memory e.trace)
-traced-granted {w} {X} config request c k n b j m s u memory e blocks is known =
-    traced-at n request (set n m request) s u e.trace after (record {
+traced-granted {w} {X} {config} {request} {c} {k} {n} b {j} {m} {s} u memory {e} blocks is known =
+    let tracker : ℕ = least_untaken (trackers_of (services e.trace)) in
+    let new : Block X = granted_at_once c tracker b j (s.block n) in
+    let here : u.block n ≡ new = blocks n ∙ set-same n new s.block in
+    let recorded_now : (d : ℕ)
+    → recorded d n after ≡ (set c (after_grant_sent j ((s.block n).pair c)) (s.block n).pair d).recorded =
+    λ d. elim (cases_eq d c) [
+      | inl same ↦ rw (same, set-same c (after_grant_sent j ((s.block n).pair c)) (s.block n).pair)
+          (recorded_own n ∙ rw (same_number n) refl)
+      | inr ne ↦ recorded_apart d n ne ∙ known.recorded_is d n ∙ ap (λ (p : ClientBlock). p.recorded)
+          (sym (set-other c d (after_grant_sent j ((s.block n).pair c)) (s.block n).pair ne))
+    ] in
+    let missing_same : (d i : ℕ) → pending (ProbeOf i) (on_link d after) ≡ pending (ProbeOf i) (on_link d e.trace) =
+    λ d i. cc (
+      after_is,
+      reply-quiet (ProbeOf i) (link_of c) reply.0 t d is.comes.width (whole c)
+          (λ g. (refl, refl)),
+      missing-beat c k m e.trace d i,
+    ) in
+    let quiet_same : (d : ℕ) → is_unprobed (set c (after_grant_sent j ((s.block n).pair c)) (s.block n).pair d).probing
+    ≡ is_unprobed ((s.block n).pair d).probing = λ d. set-part (λ (p : ClientBlock). is_unprobed p.probing) c
+    (after_grant_sent j ((s.block n).pair c)) (s.block n).pair refl d in
+    let asked_same : (r src : ℕ) → request_of src (on_link r after) ≡ request_of src (on_link r t) =
+    λ r src. cc (after_is, request-reply (link_of c) reply.0 t r src) in
+    let served : (i : ℕ) → service_of_block i (services after) ≡ service_of_block i (services t) =
+    λ i. performed-serving config (block_at m.address) i (service_for c m e.trace) t memory
+    (ready-last is.comes is.last) ∙ rw is.acquires refl in
+    traced-at (record {
       other_blocks = λ i ne. blocks i ∙ set-other n i new s.block ne;
       other_requests = λ i ne. set-other n i m request ne;
       recorded_here = λ d. recorded_now d ∙ sym (ap (λ (y : Block X). (y.pair d).recorded) here);
@@ -183,11 +183,11 @@ traced-granted {w} {X} config request c k n b j m s u memory e blocks is known =
           (ap (λ (y : Block X). not (is_unprobed (y.pair d).probing)) here ∙ ap not (quiet_same d));
       probes_else = λ d i ne. missing_same d i;
       serving_here =
-          served n ∙ serving-last config c k n m e is.comes is.last is.block
+          served n ∙ serving-last n is.comes is.last is.block
           ∙ sym (ap (λ (y : Block X). service_with (client_in y.service) y.tracker (set n m request n)) here
           ∙ ap (λ (r : MessageA w). Some (record { tracker = tracker; link = link_of c; request = r }))
           (set-same n m request));
-      serving_else = λ i ne. served i ∙ serving-others config c k n i m e is.comes is.last is.block ne;
+      serving_else = λ i ne. served i ∙ serving-others n i is.comes is.last is.block ne;
       request_here = rw (here, set-same n m request) (is.acquires, is.block);
       asked_here = λ r src o l g. absurd (let no : GrantSent c b j ≡ Waits r o src l =
           ap (λ (y : Block X). y.service) (sym here) ∙ g in cc);
@@ -195,43 +195,32 @@ traced-granted {w} {X} config request c k n b j m s u memory e blocks is known =
           (λ same h. is.unwaited i src o l (g ∙ ap (λ z. Waits z o src l) same) h);
     }) known
   where
-    tracker : ℕ
-    tracker = least_untaken (trackers_of (services e.trace))
-
     t : Trace w
     t = with_beat c m k e.trace
 
     after : Trace w
     after = with_answer config c k m memory e.trace
 
-    new : Block X
-    new = granted_at_once c tracker b j (s.block n)
-
-    here : u.block n ≡ new
-    here = blocks n ∙ set-same n new s.block
-
     reply : (r : MessageD w) × (grant config (service_for c m e.trace) t memory ≡ D r) × (is_grant r.opcode ≡ true)
         × (r.source ≡ m.source) × (capped r.param ≡ cap_right j)
     reply = grant_of_d config n j (service_for c m e.trace) t memory is.block is.given
 
     after_is : after ≡ after_sent (link_of c) (D reply.0) t
-    after_is =
-        ap (λ (d : Reaction w). with_handed d.handed t) (performed-acquire config (service_for c m e.trace) t memory
-        is.acquires) ∙ one-handed c (grant config (service_for c m e.trace) t memory) t
+    after_is = ap (λ (d : Reaction w). with_handed d.handed t) (performed-acquire config (service_for c m e.trace) t
+        memory is.acquires) ∙ one-handed c (grant config (service_for c m e.trace) t memory) t
         ∙ ap (λ (i : Message w). after_sent (link_of c) i t) reply.1
 
-    whole : (d : ℕ) → unfinished channel.D (on_link d t) ≡ []
-    whole d = (whole-taken d (link_of c) (beat.A (a_beat_of m k)) e.trace refl (is.comes.kept.whole d)).1
+    whole : (d : ℕ) → unfinished Channel.D (on_link d t) ≡ []
+    whole d = (whole-taken d (link_of c) (Beat.A (a_beat_of m k)) e.trace refl (is.comes.kept.whole d)).1
 
     -- what the Grant says of each block
     asks : (i : ℕ) → asks_for i (request_of reply.0.source (on_link c t)) ≡ (n == i)
-    asks i = rw (reply.3, request-own config c k m e is.comes, is.block) refl
+    asks i = rw (reply.3, request-own is.comes, is.block) refl
 
     recorded_own : (i : ℕ) → recorded c i after ≡ unwrap_or (if true && (n == i) then Some (cap_right j) else None)
         (recorded c i e.trace)
-    recorded_own i =
-        ap (recorded c i) after_is ∙ ap (held i) (own_link c (link_of c) (D reply.0) t (same_number c)) ∙ held-sent_d i
-        reply.0 (on_link c t) (whole c) (beats-positive (D reply.0) is.comes.width)
+    recorded_own i = ap (recorded c i) after_is ∙ ap (held i) (own_link c (link_of c) (D reply.0) t (same_number c))
+        ∙ held-sent_d i reply.0 (on_link c t) (whole c) (beats-positive (D reply.0) is.comes.width)
         ∙ rw (reply.2, asks i, reply.4, recorded-beat c k m e.trace c i) refl
 
     recorded_apart : (d i : ℕ) → (d ≡ c → ⊥) → recorded d i after ≡ recorded d i e.trace
@@ -240,15 +229,6 @@ traced-granted {w} {X} config request c k n b j m s u memory e blocks is known =
         ap (recorded d i) after_is ∙ ap (held i) (other_link d (link_of c) (D reply.0) t (ne_eqb c d differ))
         ∙ recorded-beat c k m e.trace d i
 
-    recorded_now : (d : ℕ) → recorded d n after ≡ (set c (after_grant_sent j ((s.block n).pair c)) (s.block n).pair
-        d).recorded
-    recorded_now d = elim (cases_eq d c) [
-      | inl same ↦ rw (same, set-same c (after_grant_sent j ((s.block n).pair c)) (s.block n).pair)
-          (recorded_own n ∙ rw (same_number n) refl)
-      | inr ne ↦ recorded_apart d n ne ∙ known.recorded_is d n ∙ ap (λ (p : ClientBlock). p.recorded)
-          (sym (set-other c d (after_grant_sent j ((s.block n).pair c)) (s.block n).pair ne))
-    ]
-
     recorded_other : (d i : ℕ) → (i ≡ n → ⊥) → recorded d i after ≡ recorded d i e.trace
     recorded_other d i ne =
         let differ : n ≡ i → ⊥ = λ f. ne (sym f) in
@@ -256,21 +236,3 @@ traced-granted {w} {X} config request c k n b j m s u memory e blocks is known =
           | inl same ↦ rw same (recorded_own i ∙ rw (ne_eqb n i differ) refl)
           | inr apart ↦ recorded_apart d i apart
         ]
-
-    missing_same : (d i : ℕ) → pending (ProbeOf i) (on_link d after) ≡ pending (ProbeOf i) (on_link d e.trace)
-    missing_same d i = ap (λ (v : Trace w). pending (ProbeOf i) (on_link d v)) after_is
-        ∙ reply-quiet (ProbeOf i) (link_of c) reply.0 t d is.comes.width (whole c) (λ g. (refl, refl)) ∙ missing-beat c
-        k m e.trace d i
-
-    quiet_same : (d : ℕ) → is_unprobed (set c (after_grant_sent j ((s.block n).pair c)) (s.block n).pair d).probing
-        ≡ is_unprobed ((s.block n).pair d).probing
-    quiet_same d = set-part (λ (p : ClientBlock). is_unprobed p.probing) c (after_grant_sent j ((s.block n).pair c))
-        (s.block n).pair refl d
-
-    asked_same : (r src : ℕ) → request_of src (on_link r after) ≡ request_of src (on_link r t)
-    asked_same r src = ap (λ (v : Trace w). request_of src (on_link r v)) after_is ∙ request-reply (link_of c) reply.0 t
-        r src
-
-    served : (i : ℕ) → service_of_block i (services after) ≡ service_of_block i (services t)
-    served i = performed-serving config (block_at m.address) i (service_for c m e.trace) t memory
-        (ready-last config c k m e is.comes is.last) ∙ rw is.acquires refl

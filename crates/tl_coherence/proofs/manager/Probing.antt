@@ -1,36 +1,28 @@
 -- What the manager knows after a request for which others are probed: an Acquire, or an access.
 use Rattle.tl_coherence.proofs.manager.Imports.{A, MessageA, a_beat_of, beats_of, unfinished, Config, ProbeOf, Cap}
 use Rattle.tl_coherence.proofs.manager.Imports.{Trace, on_link, pending, held, block_at, request_of, held_unsaid}
-use Rattle.tl_coherence.proofs.manager.Imports.{swapped, with_handed, probes, recorded, is_spared, probed}
-use Rattle.tl_coherence.proofs.manager.Imports.{services, service_of_block, least_untaken, trackers_of, End}
-use Rattle.tl_coherence.proofs.manager.Imports.{whole-taken, ClientBlock, is_unprobed, is_above, set, Free, Waits}
-use Rattle.tl_coherence.proofs.manager.Imports.{Block, State, client_in, service_with, IsFor}
+use Rattle.tl_coherence.proofs.manager.Imports.{swapped, with_handed, probes, recorded, is_spared, probed, services}
+use Rattle.tl_coherence.proofs.manager.Imports.{service_of_block, least_untaken, trackers_of, End, whole-taken}
+use Rattle.tl_coherence.proofs.manager.Imports.{ClientBlock, is_unprobed, is_above, set, Free, Waits, Block, State}
+use Rattle.tl_coherence.proofs.manager.Imports.{client_in, service_with, IsFor, Beat, Channel, Perm}
 use Rattle.std.proofs.Common.{◌≡◌, ℕ, suc, ◌≤◌, ◌==◌, Bool, true, false, not, ◌&&◌, List, [], Option, Some, length}
 use Rattle.std.proofs.Common.{refl, sym, ◌∙◌, ap, inl, inr, arith}
-use Rattle.std.specs.Prelude.{if◌then◌else◌}
-use Rattle.std.proofs.lemmas.Bool.{cases_lt, ne_eqb}
-use Rattle.std.proofs.Math.Bool.{and-false}
-use Rattle.tl_beat.specs.declared.beat.Beat.TheVariants as beat
-use Rattle.tl_beat.specs.declared.channel.Channel.TheVariants as channel
-use Rattle.tl_params.specs.declared.perm.Perm.TheVariants as perm
+use Rattle.std.{specs.Prelude.if◌then◌else◌, proofs.lemmas.Bool.cases_lt, proofs.lemmas.Bool.ne_eqb}
+use Rattle.std.{proofs.Math.Bool.and-false}
 use Rattle.tl_rules.specs.statement.Admission.{sent}
-use Rattle.tl_manager.specs.statement.Handing.{probe_beat, probe_of_block}
+use Rattle.tl_manager.{specs.statement.Handing.probe_beat, specs.statement.Handing.probe_of_block}
+use Rattle.tl_manager.{specs.statement.Service.Service, proofs.pending.Probed.probes-keep}
 use Rattle.tl_manager.specs.statement.Holders as holders
-use Rattle.tl_manager.specs.statement.Service.{Service}
-use Rattle.tl_manager.proofs.pending.Probed.{probes-keep}
 use Rattle.tl_manager.proofs.pending.Probes.{probes-within, probes-beyond, services-probes}
 use Rattle.tl_manager.proofs.pending.Probing.{missing-own_b, missing-else_b, request_of-b}
-use Rattle.tl_coherence.specs.protocol.Phase.{ProbeSent}
-use Rattle.tl_coherence.specs.protocol.PhaseSteps.{after_served}
-use Rattle.tl_coherence.specs.protocol.Protocol.{served_pair, served_block}
-use Rattle.tl_coherence.proofs.manager.BlockAccounts.{IsTraced}
-use Rattle.tl_coherence.proofs.manager.Traces.{traced-at}
+use Rattle.tl_coherence.specs.{protocol.Phase.ProbeSent, protocol.PhaseSteps.after_served}
+use Rattle.tl_coherence.specs.{protocol.Protocol.served_pair, protocol.Protocol.served_block}
+use Rattle.tl_coherence.proofs.{manager.BlockAccounts.IsTraced, manager.Traces.traced-at}
+use Rattle.tl_coherence.proofs.{manager.ManagedServed.same_above, queues.Tokens.set-same, queues.Tokens.set-other}
+use Rattle.tl_coherence.proofs.{queues.Perms.nothing-above}
 use Rattle.tl_coherence.proofs.manager.Arrivals.{link_of, with_beat, IsComing, service_for}
-use Rattle.tl_coherence.proofs.manager.ManagedServed.{same_above}
 use Rattle.tl_coherence.proofs.manager.Requests.{recorded-beat, missing-beat, request-beat, request-own, IsUnwaited}
 use Rattle.tl_coherence.proofs.manager.Requests.{serving-last, serving-others}
-use Rattle.tl_coherence.proofs.queues.Tokens.{set-same, set-other}
-use Rattle.tl_coherence.proofs.queues.Perms.{nothing-above}
 
 -- the trace after the last beat of a request, and the Probes
 abbrev pub with_probes : {w : ℕ} → Config → ℕ → ℕ → MessageA w → ℕ → Cap → Trace w → Trace w
@@ -45,17 +37,57 @@ pub record IsProbing {w : ℕ} {X : Type 0} (config : Config) (c k n : ℕ) (own
   pub for : IsFor (Waits c own source j) n m
   pub free : (s.block n).service ≡ Free
   pub quiet : (d : ℕ) → is_unprobed ((s.block n).pair d).probing ≡ true
-  pub beyond : (d : ℕ) → length config.clients.items ≤ d → ((s.block n).pair d).recorded ≡ perm.None
+  pub beyond : (d : ℕ) → length config.clients.items ≤ d → ((s.block n).pair d).recorded ≡ Perm.None
   pub unwaited : IsUnwaited c source s
 
-pub traced-probing : {w : ℕ} {X : Type 0} (config : Config) (request : ℕ → MessageA w) (c k n : ℕ) (own : Bool)
-    (source : ℕ) (j : Cap) (m : MessageA w) (s u : State X) (e : End w)
+pub traced-probing : {w : ℕ} {X : Type 0} {config : Config} {request : ℕ → MessageA w} {c k n : ℕ} {own : Bool}
+    {source : ℕ} {j : Cap} {m : MessageA w} {s : State X} (u : State X) {e : End w}
     → ((i : ℕ) → u.block i ≡ set n (served_block c own source (least_untaken (trackers_of (services e.trace))) j
-    (s.block n)) s.block i)
-    → IsProbing config c k n own source j m s e → IsTraced request s e.trace
+    (s.block n)) s.block i) → IsProbing config c k n own source j m s e → IsTraced request s e.trace
     → IsTraced (set n m request) u (with_probes config c k m n j e.trace)
-traced-probing {w} {X} config request c k n own source j m s u e blocks is known =
-    traced-at n request (set n m request) s u e.trace after (record {
+traced-probing {w} {X} {config} {request} {c} {k} {n} {own} {source} {j} {m} {s} u {e} blocks is known =
+    let spared : (b : Bool) (p : ClientBlock) → (if b then p else after_served j p).recorded ≡ p.recorded =
+    elim [ true ↦ λ p. refl | false ↦ λ p. refl ] in
+    let missing_before : (d : ℕ) → pending (ProbeOf n) (on_link d t) ≡ false = λ d. missing-beat c k m e.trace d n
+    ∙ known.probes d n ∙ ap not (is.quiet d) in
+    let whole_b : (d : ℕ) → unfinished Channel.B (on_link d t) ≡ [] =
+    λ d. (whole-taken d (link_of c) (Beat.A (a_beat_of m k)) e.trace refl (is.comes.kept.whole d)).0 in
+    let probed_or : (d : ℕ) (b : Bool)
+    → pending (ProbeOf n) (if b then sent (probe_of_block n j) (on_link d t) else on_link d t) ≡ b =
+    λ d. elim [ true ↦ missing-own_b n j (on_link d t) (whole_b d) | false ↦ missing_before d ] in
+    let tracker : ℕ = least_untaken (trackers_of (services e.trace)) in
+    let new : Block X = served_block c own source tracker j (s.block n) in
+    let service_now : Block X → Option (Service w) =
+    λ b. service_with (client_in b.service) b.tracker (set n m request n) in
+    let here : u.block n ≡ new = blocks n ∙ set-same n new s.block in
+    let recorded_same : (d i : ℕ) → recorded d i after ≡ recorded d i e.trace =
+    λ d i. probes-keep (held i) d n j asked_clients t (λ h. held_unsaid i (Beat.B (probe_beat n j)) h refl)
+    ∙ recorded-beat c k m e.trace d i in
+    -- who is probed
+    let test : ℕ → Bool = λ d. holders.is_above j (recorded d (block_at m.address) t) && not
+    (is_spared (service_for c m e.trace) d) in
+    let test_is : (d : ℕ) → test d ≡ (is_above j ((s.block n).pair d).recorded && not (own && (d == c))) =
+    λ d. rw (
+      is.for.2,
+      recorded-beat c k m e.trace d n,
+      known.recorded_is d n,
+      is.for.0,
+      same_above j
+          ((s.block n).pair d).recorded,
+      swapped c d,
+    ) refl in
+    let missing_now : (d : ℕ) → pending (ProbeOf n) (on_link d after)
+    ≡ not (is_unprobed (served_pair c own j (s.block n).pair d).probing) =
+    λ d. elim (cases_lt d (length config.clients.items)) [
+      | inl lt ↦
+          ap (pending (ProbeOf n)) (probes-within d n j 0 (length config.clients.items) test t (omega arith)
+          (omega (arith, lt))) ∙ probed_or d (test d) ∙ test_is d ∙ quiet_now d (own && (d == c))
+      | inr le ↦
+          ap (pending (ProbeOf n)) (probes-beyond d n j 0 (length config.clients.items) test t (omega (arith, le)))
+          ∙ missing_before d
+          ∙ sym (rw (is.beyond d le, nothing-above j) refl) ∙ quiet_now d (own && (d == c))
+    ] in
+    traced-at (record {
       other_blocks = λ i ne. blocks i ∙ set-other n i new s.block ne;
       other_requests = λ i ne. set-other n i m request ne;
       recorded_here = λ d. recorded_same d n ∙ known.recorded_is d n ∙ sym
@@ -67,23 +99,19 @@ traced-probing {w} {X} config request c k n own source j m s u e blocks is known
           probes-keep (pending (ProbeOf i)) d n j asked_clients t (λ h. missing-else_b i n j h (ne_eqb n i differ))
           ∙ missing-beat c k m e.trace d i;
       serving_here =
-          ap (service_of_block n) (services-probes n j asked_clients t) ∙ serving-last config c k n m e is.comes is.last
+          ap (service_of_block n) (services-probes n j asked_clients t) ∙ serving-last n is.comes is.last
           is.for.2
           ∙ sym (ap (λ (b : Block X). service_now b) here ∙ ap
           (λ (r : MessageA w). Some (record { tracker = tracker; link = link_of c; request = r }))
           (set-same n m request));
-      serving_else = λ i ne. ap (service_of_block i) (services-probes n j asked_clients t) ∙ serving-others config c k n
-          i m
-          e is.comes is.last is.for.2 ne;
+      serving_else = λ i ne. ap (service_of_block i) (services-probes n j asked_clients t)
+          ∙ serving-others n i is.comes is.last is.for.2 ne;
       request_here = rw (here, set-same n m request) is.for;
       asked_here = λ r src o l f. asked_now r src o l (ap (λ (b : Block X). b.service) (sym here) ∙ f);
       asked_else = λ i r src o l ne f. asked_same r src ∙ request-beat c k m e.trace r src
           (λ same g. is.unwaited i src o l (f ∙ ap (λ z. Waits z o src l) same) (sym is.for.1 ∙ g));
     }) known
   where
-    tracker : ℕ
-    tracker = least_untaken (trackers_of (services e.trace))
-
     t : Trace w
     t = with_beat c m k e.trace
 
@@ -93,62 +121,18 @@ traced-probing {w} {X} config request c k n own source j m s u e blocks is known
     after : Trace w
     after = with_probes config c k m n j e.trace
 
-    new : Block X
-    new = served_block c own source tracker j (s.block n)
-
-    service_now : Block X → Option (Service w)
-    service_now b = service_with (client_in b.service) b.tracker (set n m request n)
-
-    here : u.block n ≡ new
-    here = blocks n ∙ set-same n new s.block
-
-    spared : (b : Bool) (p : ClientBlock) → (if b then p else after_served j p).recorded ≡ p.recorded
-    spared true p = refl
-    spared false p = refl
-
-    recorded_same : (d i : ℕ) → recorded d i after ≡ recorded d i e.trace
-    recorded_same d i = probes-keep (held i) d n j asked_clients t (λ h. held_unsaid i (beat.B (probe_beat n j)) h refl)
-        ∙ recorded-beat c k m e.trace d i
-
     asked_same : (r src : ℕ) → request_of src (on_link r after) ≡ request_of src (on_link r t)
     asked_same r src = probes-keep (request_of src) r n j asked_clients t (request_of-b src n j)
 
     asked_now : (r src : ℕ) (o : Bool) (l : Cap) → Waits c own source j ≡ Waits r o src l
         → request_of src (on_link r after) ≡ Some (a_beat_of (set n m request n) 0)
     asked_now r src o l f =
+        let number_is : (r src : ℕ) (o : Bool) (l : Cap) → Waits c own source j ≡ Waits r o src l → src ≡ source =
+        λ r src o l f. cc in
         let client : r ≡ c = cc in
         let number : src ≡ m.source = number_is r src o l f ∙ sym is.for.1 in
-        rw (client, number) (asked_same c m.source ∙ request-own config c k m e is.comes) ∙ ap
+        rw (client, number) (asked_same c m.source ∙ request-own is.comes) ∙ ap
         (λ (i : MessageA w). Some (a_beat_of i 0)) (sym (set-same n m request))
-      where
-        number_is : (r src : ℕ) (o : Bool) (l : Cap) → Waits c own source j ≡ Waits r o src l → src ≡ source
-        number_is r src o l f = cc
-
-    -- who is probed
-    test : ℕ → Bool
-    test d = holders.is_above j (recorded d (block_at m.address) t) && not (is_spared (service_for c m e.trace) d)
-
-    test_is : (d : ℕ) → test d ≡ (is_above j ((s.block n).pair d).recorded && not (own && (d == c)))
-    test_is d = rw (
-      is.for.2,
-      recorded-beat c k m e.trace d n,
-      known.recorded_is d n,
-      is.for.0,
-      same_above j
-          ((s.block n).pair d).recorded,
-      swapped c d,
-    ) refl
-
-    missing_before : (d : ℕ) → pending (ProbeOf n) (on_link d t) ≡ false
-    missing_before d = missing-beat c k m e.trace d n ∙ known.probes d n ∙ ap not (is.quiet d)
-
-    whole_b : (d : ℕ) → unfinished channel.B (on_link d t) ≡ []
-    whole_b d = (whole-taken d (link_of c) (beat.A (a_beat_of m k)) e.trace refl (is.comes.kept.whole d)).0
-
-    probed_or : (d : ℕ) (b : Bool)
-        → pending (ProbeOf n) (if b then sent (probe_of_block n j) (on_link d t) else on_link d t) ≡ b
-    probed_or d true = missing-own_b n j (on_link d t) (whole_b d)
-    probed_or d false = missing_before d
 
     quiet_now : (d : ℕ) (b : Bool) → (is_above j ((s.block n).pair d).recorded && not b) ≡ not
         (is_unprobed (if b then (s.block n).pair d else after_served j ((s.block n).pair d)).probing)
@@ -158,15 +142,3 @@ traced-probing {w} {X} config request c k n own source j m s u e blocks is known
         sent_or : (b : Bool) → (b && true) ≡ not (is_unprobed (if b then ProbeSent j else ((s.block n).pair d).probing))
         sent_or true = refl
         sent_or false = sym (ap not (is.quiet d))
-
-    missing_now : (d : ℕ) → pending (ProbeOf n) (on_link d after) ≡ not
-        (is_unprobed (served_pair c own j (s.block n).pair d).probing)
-    missing_now d = elim (cases_lt d (length config.clients.items)) [
-      | inl lt ↦
-          ap (pending (ProbeOf n)) (probes-within d n j 0 (length config.clients.items) test t (omega arith)
-          (omega (arith, lt))) ∙ probed_or d (test d) ∙ test_is d ∙ quiet_now d (own && (d == c))
-      | inr le ↦
-          ap (pending (ProbeOf n)) (probes-beyond d n j 0 (length config.clients.items) test t (omega (arith, le)))
-          ∙ missing_before d
-          ∙ sym (rw (is.beyond d le, nothing-above j) refl) ∙ quiet_now d (own && (d == c))
-    ]

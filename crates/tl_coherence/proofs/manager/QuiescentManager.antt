@@ -7,19 +7,15 @@ use Rattle.tl_coherence.proofs.manager.Imports.{held-sent_d, pending-quiet, beat
 use Rattle.tl_coherence.proofs.manager.Imports.{service_of_block, after_sent, own_link, other_link, own_beat}
 use Rattle.tl_coherence.proofs.manager.Imports.{other_beat, beat-keeps, reply-quiet, burst-reply, request-reply}
 use Rattle.tl_coherence.proofs.manager.Imports.{probe-reply, ManagerRelation, is_own, ClientBlock, is_unprobed, Service}
-use Rattle.tl_coherence.proofs.manager.Imports.{Block, State, SourceState, SourceFree, Asked, InService, Replied}
-use Rattle.tl_coherence.proofs.manager.Imports.{Acquires, view, is_granting, is_acknowledging, ServedSourceRelation}
-use Rattle.tl_coherence.proofs.manager.Imports.{is_served, is_granted, set}
+use Rattle.tl_coherence.proofs.manager.Imports.{Block, State, SourceState, Acquires, view, ServedSourceRelation}
+use Rattle.tl_coherence.proofs.manager.Imports.{is_served, is_granted, set, Beat, Channel}
 use Rattle.std.proofs.Common.{◌≡◌, ℕ, ◌==◌, Bool, true, false, not, ◌&&◌, ◌||◌, [], ◌∷◌, Option, Some, None, refl, sym}
 use Rattle.std.proofs.Common.{◌∙◌, ap, subst, inl, inr}
 use Rattle.std.specs.Prelude.{if◌then◌else◌, unwrap_or}
 use Rattle.std.proofs.lemmas.Bool.{cases_eq, eqb-true, ne_eqb}
-use Rattle.tl_beat.specs.declared.beat.Beat.TheVariants as beat
-use Rattle.tl_beat.specs.declared.channel.Channel.TheVariants as channel
-use Rattle.tl_params.specs.declared.key.Key.TheVariants as key
-use Rattle.tl_manager.proofs.pending.Accesses.{services-release_ack}
-use Rattle.tl_manager.proofs.pending.Handed.{recorded-taken}
-use Rattle.tl_manager.proofs.pending.LinkHistories.{pending-closed}
+use Rattle.tl_params.specs.declared.key.Key.{Key}
+use Rattle.tl_manager.{proofs.pending.Accesses.services-release_ack, proofs.pending.Handed.recorded-taken}
+use Rattle.tl_manager.{proofs.pending.LinkHistories.pending-closed}
 use Rattle.tl_manager.proofs.pending.Probing.{services-c, burst-c, probe_of-c, request_of-c}
 use Rattle.tl_coherence.proofs.queues.Tokens.{same_number, set-same, set-other}
 
@@ -27,17 +23,17 @@ use Rattle.tl_coherence.proofs.queues.Tokens.{same_number, set-same, set-other}
 
 pub record AreQuiet {w : ℕ} (t u : Trace w) : Type 0 where
   pub serves : services u ≡ services t
-  pub acquires : (c n : ℕ) → pending (key.AcquireOf n) (on_link c u) ≡ pending (key.AcquireOf n) (on_link c t)
-  pub grants : (c n : ℕ) → pending (key.GrantAckOf n) (on_link c u) ≡ pending (key.GrantAckOf n) (on_link c t)
-  pub sources : (c q : ℕ) → pending (key.RequestSource q) (on_link c u) ≡ pending (key.RequestSource q) (on_link c t)
-  pub sinks : (c q : ℕ) → pending (key.GrantSink q) (on_link c u) ≡ pending (key.GrantSink q) (on_link c t)
-  pub bursts : (c : ℕ) → unfinished channel.A (on_link c u) ≡ unfinished channel.A (on_link c t)
+  pub acquires : (c n : ℕ) → pending (Key.AcquireOf n) (on_link c u) ≡ pending (Key.AcquireOf n) (on_link c t)
+  pub grants : (c n : ℕ) → pending (Key.GrantAckOf n) (on_link c u) ≡ pending (Key.GrantAckOf n) (on_link c t)
+  pub sources : (c q : ℕ) → pending (Key.RequestSource q) (on_link c u) ≡ pending (Key.RequestSource q) (on_link c t)
+  pub sinks : (c q : ℕ) → pending (Key.GrantSink q) (on_link c u) ≡ pending (Key.GrantSink q) (on_link c t)
+  pub bursts : (c : ℕ) → unfinished Channel.A (on_link c u) ≡ unfinished Channel.A (on_link c t)
   pub requests : (c q : ℕ) → request_of q (on_link c u) ≡ request_of q (on_link c t)
   pub probe : (c n : ℕ) → probe_of n (on_link c u) ≡ probe_of n (on_link c t)
 
 -- one after another
-pub quiet-then : {w : ℕ} (t u v : Trace w) → AreQuiet t u → AreQuiet u v → AreQuiet t v
-quiet-then t u v a b = record {
+pub quiet-then : {w : ℕ} {t u v : Trace w} → AreQuiet t u → AreQuiet u v → AreQuiet t v
+quiet-then a b = record {
   serves = b.serves ∙ a.serves;
   acquires = λ c n. b.acquires c n ∙ a.acquires c n;
   grants = λ c n. b.grants c n ∙ a.grants c n;
@@ -50,56 +46,53 @@ quiet-then t u v a b = record {
 
 -- ---- a beat of channel C
 
-pub quiet-c : {w : ℕ} (link : Link) (x : BeatC w) (t : Trace w) → AreQuiet t ((link, beat.C x) ∷ t)
+pub quiet-c : {w : ℕ} (link : Link) (x : BeatC w) (t : Trace w) → AreQuiet t ((link, Beat.C x) ∷ t)
 quiet-c link x t = record {
   serves = services-c link x t;
-  acquires = λ c n. beat-keeps (pending (key.AcquireOf n)) c link (beat.C x) t
-      (λ h. pending-quiet (key.AcquireOf n) (beat.C x) h refl refl);
-  grants = λ c n. beat-keeps (pending (key.GrantAckOf n)) c link (beat.C x) t
-      (λ h. pending-quiet (key.GrantAckOf n) (beat.C x) h refl refl);
-  sources = λ c q. beat-keeps (pending (key.RequestSource q)) c link (beat.C x) t
-      (λ h. pending-quiet (key.RequestSource q) (beat.C x) h refl refl);
-  sinks = λ c q. beat-keeps (pending (key.GrantSink q)) c link (beat.C x) t
-      (λ h. pending-quiet (key.GrantSink q) (beat.C x) h refl refl);
-  bursts = λ c. beat-keeps (unfinished channel.A) c link (beat.C x) t (burst-c x);
-  requests = λ c q. beat-keeps (request_of q) c link (beat.C x) t (request_of-c q x);
-  probe = λ c n. beat-keeps (probe_of n) c link (beat.C x) t (probe_of-c n x);
+  acquires = λ c n. beat-keeps (pending (Key.AcquireOf n)) c link (Beat.C x) t
+      (λ h. pending-quiet (Key.AcquireOf n) (Beat.C x) h refl refl);
+  grants = λ c n. beat-keeps (pending (Key.GrantAckOf n)) c link (Beat.C x) t
+      (λ h. pending-quiet (Key.GrantAckOf n) (Beat.C x) h refl refl);
+  sources = λ c q. beat-keeps (pending (Key.RequestSource q)) c link (Beat.C x) t
+      (λ h. pending-quiet (Key.RequestSource q) (Beat.C x) h refl refl);
+  sinks = λ c q. beat-keeps (pending (Key.GrantSink q)) c link (Beat.C x) t
+      (λ h. pending-quiet (Key.GrantSink q) (Beat.C x) h refl refl);
+  bursts = λ c. beat-keeps (unfinished Channel.A) c link (Beat.C x) t (burst-c x);
+  requests = λ c q. beat-keeps (request_of q) c link (Beat.C x) t (request_of-c q x);
+  probe = λ c n. beat-keeps (probe_of n) c link (Beat.C x) t (probe_of-c n x);
 }
 
 -- what is recorded after it
-recorded-c : {w : ℕ} (link : Link) (x : BeatC w) (t : Trace w) (d i : ℕ)
-    → recorded d i ((link, beat.C x) ∷ t) ≡ unwrap_or (if (link.0 == d)
-    && (ends (beat.C x) (on_link d t) && ((is_probe_ack x.opcode || is_release x.opcode) && (block_at x.address == i)))
-    then Some
-    (reported x.param) else None) (recorded d i t)
-recorded-c link x t d i = recorded-taken d link i (beat.C x) t refl
+recorded-c : {w : ℕ} (link : Link) (x : BeatC w) (t : Trace w) (d i : ℕ) → recorded d i ((link, Beat.C x) ∷ t)
+    ≡ unwrap_or (if (link.0 == d)
+    && (ends (Beat.C x) (on_link d t) && ((is_probe_ack x.opcode || is_release x.opcode) && (block_at x.address == i)))
+    then Some (reported x.param) else None) (recorded d i t)
+recorded-c link x t d i = recorded-taken d link i (Beat.C x) t refl
 
 -- the last beat of a ProbeAck or Release of a block
 pub record IsLastOf {w : ℕ} (c n : ℕ) (right : Perm) (x : BeatC w) (t : Trace w) : Type 0 where
-  pub last : ends (beat.C x) (on_link c t) ≡ true
+  pub last : ends (Beat.C x) (on_link c t) ≡ true
   pub kind : (is_probe_ack x.opcode || is_release x.opcode) ≡ true
   pub block : block_at x.address ≡ n
   pub right_is : reported x.param ≡ right
 
-pub recorded-last : {w : ℕ} (c n : ℕ) (right : Perm) (x : BeatC w) (t : Trace w) → IsLastOf c n right x t → (d i : ℕ)
-    → recorded d i ((record { 0 = c }, beat.C x) ∷ t) ≡ (if (c == d) && (n == i) then right else recorded d i t)
-recorded-last {w} c n right x t is d i = recorded-c (record { 0 = c }) x t d i ∙ elim (cases_eq c d) [
-  | inl same ↦ rw (← same, is.last, is.kind, is.block, is.right_is, same_number c) (go (n == i))
-  | inr other ↦ rw (ne_eqb c d other) refl
-]
-  where
-    go : (b : Bool) → unwrap_or (if b then Some right else None) (recorded c i t)
-        ≡ (if b then right else recorded c i t)
-    go true = refl
-    go false = refl
+pub recorded-last : {w : ℕ} {c n : ℕ} {right : Perm} {x : BeatC w} {t : Trace w} → IsLastOf c n right x t → (d i : ℕ)
+    → recorded d i ((record { 0 = c }, Beat.C x) ∷ t) ≡ (if (c == d) && (n == i) then right else recorded d i t)
+recorded-last {w} {c} {n} {right} {x} {t} is d i =
+    let go : (b : Bool) → unwrap_or (if b then Some right else None) (recorded c i t)
+    ≡ (if b then right else recorded c i t) = elim [ true ↦ refl | false ↦ refl ] in
+    recorded-c (record { 0 = c }) x t d i ∙ elim (cases_eq c d) [
+      | inl same ↦ rw (← same, is.last, is.kind, is.block, is.right_is, same_number c) (go (n == i))
+      | inr other ↦ rw (ne_eqb c d other) refl
+    ]
 
 part_or : (p : Perm) (b : Bool) (q : Perm) → unwrap_or (if b && false then Some p else None) q ≡ q
 part_or p true q = refl
 part_or p false q = refl
 
 -- a beat that isn't the last one
-pub recorded-part : {w : ℕ} (c : ℕ) (x : BeatC w) (t : Trace w) → ends (beat.C x) (on_link c t) ≡ false → (d i : ℕ)
-    → recorded d i ((record { 0 = c }, beat.C x) ∷ t) ≡ recorded d i t
+pub recorded-part : {w : ℕ} (c : ℕ) (x : BeatC w) (t : Trace w) → ends (Beat.C x) (on_link c t) ≡ false → (d i : ℕ)
+    → recorded d i ((record { 0 = c }, Beat.C x) ∷ t) ≡ recorded d i t
 recorded-part c x t part d i = recorded-c (record { 0 = c }) x t d i ∙ elim (cases_eq c d) [
   | inl same ↦ rw (← same, part) (part_or (reported x.param) (c == c) (recorded c i t))
   | inr other ↦ rw (ne_eqb c d other) refl
@@ -108,63 +101,57 @@ recorded-part c x t part d i = recorded-c (record { 0 = c }) x t d i ∙ elim (c
 -- ---- which ProbeAcks are missing after it
 
 missing-c : {w : ℕ} (c : ℕ) (x : BeatC w) (t : Trace w) (d i : ℕ)
-    → pending (key.ProbeOf i) (on_link d ((record { 0 = c }, beat.C x) ∷ t))
-    ≡ (if (c == d) && (ends (beat.C x) (on_link d t) && (is_probe_ack x.opcode && (block_at x.address == i))) then false
-    else pending (key.ProbeOf i)
-    (on_link d t))
+    → pending (Key.ProbeOf i) (on_link d ((record { 0 = c }, Beat.C x) ∷ t))
+    ≡ (if (c == d) && (ends (Beat.C x) (on_link d t) && (is_probe_ack x.opcode && (block_at x.address == i))) then false
+    else pending (Key.ProbeOf i) (on_link d t))
 missing-c {w} c x t d i = go (c == d) refl
   where
-    go : (b : Bool) → (c == d) ≡ b
-        → pending (key.ProbeOf i) (on_link d ((record { 0 = c }, beat.C x) ∷ t))
-        ≡ (if b && (ends (beat.C x) (on_link d t) && (is_probe_ack x.opcode && (block_at x.address == i))) then false
-        else pending (key.ProbeOf i)
-        (on_link d t))
-    go true e = ap (pending (key.ProbeOf i)) (own_beat d (record { 0 = c }) (beat.C x) t e) ∙ pending-closed
-        (key.ProbeOf i) (beat.C x) (on_link d t) refl
-    go false e = ap (pending (key.ProbeOf i)) (other_beat d (record { 0 = c }) (beat.C x) t e)
+    go : (b : Bool) → (c == d) ≡ b → pending (Key.ProbeOf i) (on_link d ((record { 0 = c }, Beat.C x) ∷ t))
+        ≡ (if b && (ends (Beat.C x) (on_link d t) && (is_probe_ack x.opcode && (block_at x.address == i))) then false
+        else pending (Key.ProbeOf i) (on_link d t))
+    go true e = ap (pending (Key.ProbeOf i)) (own_beat d (record { 0 = c }) (Beat.C x) t e) ∙ pending-closed
+        (Key.ProbeOf i) (Beat.C x) (on_link d t) refl
+    go false e = ap (pending (Key.ProbeOf i)) (other_beat d (record { 0 = c }) (Beat.C x) t e)
 
-pub missing-last : {w : ℕ} (c n : ℕ) (right : Perm) (x : BeatC w) (t : Trace w) → IsLastOf c n right x t
-    → is_probe_ack x.opcode ≡ true → (d i : ℕ)
-    → pending (key.ProbeOf i) (on_link d ((record { 0 = c }, beat.C x) ∷ t)) ≡ (if (c == d) && (n == i) then false else
-    pending (key.ProbeOf i) (on_link d t))
-missing-last c n right x t is report d i = missing-c c x t d i ∙ elim (cases_eq c d) [
+pub missing-last : {w : ℕ} {c n : ℕ} {right : Perm} {x : BeatC w} {t : Trace w} → IsLastOf c n right x t
+    → is_probe_ack x.opcode ≡ true → (d i : ℕ) → pending (Key.ProbeOf i) (on_link d ((record { 0 = c }, Beat.C x) ∷ t))
+    ≡ (if (c == d) && (n == i) then false else pending (Key.ProbeOf i) (on_link d t))
+missing-last {c} {x} {t} is report d i = missing-c c x t d i ∙ elim (cases_eq c d) [
   | inl same ↦ rw (← same, is.last, report, is.block, same_number c) refl
   | inr other ↦ rw (ne_eqb c d other) refl
 ]
 
 none_or : (a b p : Bool) → (if a && (b && false) then false else p) ≡ p
 none_or true true p = refl
-none_or true false p = refl
-none_or false b p = refl
+none_or a b p = refl
 
 pub missing-release : {w : ℕ} (c : ℕ) (x : BeatC w) (t : Trace w) → is_probe_ack x.opcode ≡ false → (d i : ℕ)
-    → pending (key.ProbeOf i) (on_link d ((record { 0 = c }, beat.C x) ∷ t)) ≡ pending (key.ProbeOf i) (on_link d t)
-missing-release {w} c x t kind d i =
-    missing-c c x t d i ∙ rw kind
-    (none_or (c == d) (ends (beat.C x) (on_link d t)) (pending (key.ProbeOf i) (on_link d t)))
+    → pending (Key.ProbeOf i) (on_link d ((record { 0 = c }, Beat.C x) ∷ t)) ≡ pending (Key.ProbeOf i) (on_link d t)
+missing-release {w} c x t kind d i = missing-c c x t d i
+    ∙ rw kind (none_or (c == d) (ends (Beat.C x) (on_link d t)) (pending (Key.ProbeOf i) (on_link d t)))
 
 pub part_none : (a b : Bool) → (if a && false then false else b) ≡ b
 part_none true b = refl
 part_none false b = refl
 
-pub missing-part : {w : ℕ} (c : ℕ) (x : BeatC w) (t : Trace w) → ends (beat.C x) (on_link c t) ≡ false → (d i : ℕ)
-    → pending (key.ProbeOf i) (on_link d ((record { 0 = c }, beat.C x) ∷ t)) ≡ pending (key.ProbeOf i) (on_link d t)
+pub missing-part : {w : ℕ} (c : ℕ) (x : BeatC w) (t : Trace w) → ends (Beat.C x) (on_link c t) ≡ false → (d i : ℕ)
+    → pending (Key.ProbeOf i) (on_link d ((record { 0 = c }, Beat.C x) ∷ t)) ≡ pending (Key.ProbeOf i) (on_link d t)
 missing-part {w} c x t part d i = missing-c c x t d i ∙ elim (cases_eq c d) [
-  | inl same ↦ rw (← same, part) (part_none (c == c) (pending (key.ProbeOf i) (on_link c t)))
+  | inl same ↦ rw (← same, part) (part_none (c == c) (pending (Key.ProbeOf i) (on_link c t)))
   | inr other ↦ rw (ne_eqb c d other) refl
 ]
 
 -- ---- an answer to a Release
 
 pub quiet-release_ack : {w : ℕ} (link : Link) (m : MessageD w) (t : Trace w) → IsWidth w
-    → unfinished channel.D (on_link link.0 t) ≡ [] → is_release_ack m.opcode ≡ true → is_grant m.opcode ≡ false
+    → unfinished Channel.D (on_link link.0 t) ≡ [] → is_release_ack m.opcode ≡ true → is_grant m.opcode ≡ false
     → AreQuiet t (after_sent link (D m) t)
 quiet-release_ack link m t width none ack other = record {
   serves = services-release_ack link m t width none ack;
-  acquires = λ c n. reply-quiet (key.AcquireOf n) link m t c width none (λ e. (refl, rw other refl));
-  grants = λ c n. reply-quiet (key.GrantAckOf n) link m t c width none (λ e. (rw other refl, refl));
-  sources = λ c q. reply-quiet (key.RequestSource q) link m t c width none (λ e. (refl, rw ack refl));
-  sinks = λ c q. reply-quiet (key.GrantSink q) link m t c width none (λ e. (rw other refl, refl));
+  acquires = λ c n. reply-quiet (Key.AcquireOf n) link m t c width none (λ e. (refl, rw other refl));
+  grants = λ c n. reply-quiet (Key.GrantAckOf n) link m t c width none (λ e. (rw other refl, refl));
+  sources = λ c q. reply-quiet (Key.RequestSource q) link m t c width none (λ e. (refl, rw ack refl));
+  sinks = λ c q. reply-quiet (Key.GrantSink q) link m t c width none (λ e. (rw other refl, refl));
   bursts = λ c. burst-reply link m t c;
   requests = λ c q. request-reply link m t c q;
   probe = λ c n. probe-reply link m t c n;
@@ -172,15 +159,14 @@ quiet-release_ack link m t width none ack other = record {
 
 -- what is recorded after an answer that is no Grant
 pub recorded-answer : {w : ℕ} (link : Link) (m : MessageD w) (t : Trace w) → IsWidth w
-    → unfinished channel.D (on_link link.0 t) ≡ [] → is_grant m.opcode ≡ false → (d i : ℕ)
+    → unfinished Channel.D (on_link link.0 t) ≡ [] → is_grant m.opcode ≡ false → (d i : ℕ)
     → recorded d i (after_sent link (D m) t) ≡ recorded d i t
 recorded-answer {w} link m t width none other d i = go (link.0 == d) refl
   where
     go : (b : Bool) → (link.0 == d) ≡ b → recorded d i (after_sent link (D m) t) ≡ recorded d i t
-    go true e =
-        ap (held i) (own_link d link (D m) t e) ∙ held-sent_d i m (on_link d t)
-        (subst (λ (j : ℕ). unfinished channel.D (on_link j t) ≡ []) (eqb-true link.0 d e) none)
-        (beats-positive (D m) width) ∙ rw other refl
+    go true e = ap (held i) (own_link d link (D m) t e)
+        ∙ held-sent_d i m (on_link d t) (subst (λ (j : ℕ). unfinished Channel.D (on_link j t) ≡ [])
+        (eqb-true link.0 d e) none) (beats-positive (D m) width) ∙ rw other refl
     go false e = ap (held i) (other_link d link (D m) t e)
 
 -- ---- the protocol: no service, source or tracker changes
@@ -191,47 +177,40 @@ pub record AreStill {X : Type 0} (s z : State X) : Type 0 where
   pub uses : (c source : ℕ) → z.uses c source ≡ s.uses c source
   pub tracked : (i : ℕ) → z.tracked i ≡ s.tracked i
 
-pub managed-still : {w : ℕ} {X : Type 0} (request : ℕ → MessageA w) (s z : State X) (t u : Trace w) → AreQuiet t u
-    → AreStill s z
-    → ((c n : ℕ) → recorded c n u ≡ ((z.block n).pair c).recorded)
-    → ((c n : ℕ) → pending (key.ProbeOf n) (on_link c u) ≡ not (is_unprobed ((z.block n).pair c).probing))
+pub managed-still : {w : ℕ} {X : Type 0} {request : ℕ → MessageA w} {s z : State X} {t u : Trace w} → AreQuiet t u
+    → AreStill s z → ((c n : ℕ) → recorded c n u ≡ ((z.block n).pair c).recorded)
+    → ((c n : ℕ) → pending (Key.ProbeOf n) (on_link c u) ≡ not (is_unprobed ((z.block n).pair c).probing))
     → ManagerRelation request s t → ManagerRelation request z u
-managed-still request s z t u quiet still records missing known = record {
+managed-still quiet still records missing known = record {
   recorded_is = records;
   probes = missing;
-  acquires = λ c n. quiet.acquires c n ∙ known.acquires c n ∙ ap (λ (v : Service). is_own (view v c))
-      (sym (still.services n));
-  grant_acks = λ c n. quiet.grants c n ∙ known.grant_acks c n ∙ ap
-      (λ (v : Service). is_granting (view v c) || is_acknowledging (view v c)) (sym (still.services n));
+  acquires = λ c n. cc (quiet.acquires c n, known.acquires c n, still.services n);
+  grant_acks = λ c n. cc (quiet.grants c n, known.grant_acks c n, still.services n);
   serving_is = λ n. ap (service_of_block n) quiet.serves ∙ known.serving_is n ∙ rw (still.services n, still.trackers n)
       refl;
 }
 
-served-still : {X : Type 0} (s z : State X) → AreStill s z → (c : ℕ) (u : SourceState)
+served-still : {X : Type 0} {s z : State X} → AreStill s z → (c : ℕ) (u : SourceState)
     → is_served c u z ≡ is_served c u s
-served-still s z still c SourceFree = refl
-served-still s z still c Asked = refl
-served-still s z still c (InService n) = refl
-served-still s z still c Replied = refl
-served-still s z still c (Acquires n) = ap (λ (v : Service). is_own (view v c)) (still.services n)
+served-still still c (Acquires n) = ap (λ (v : Service). is_own (view v c)) (still.services n)
+served-still still c u = refl
 
-granted-still : {X : Type 0} (s z : State X) → AreStill s z → (c : ℕ) (o : Option ℕ)
+granted-still : {X : Type 0} {s z : State X} → AreStill s z → (c : ℕ) (o : Option ℕ)
     → is_granted c o z ≡ is_granted c o s
-granted-still s z still c None = refl
-granted-still s z still c (Some n) = ap (λ (v : Service). is_granting (view v c) || is_acknowledging (view v c))
-    (still.services n)
+granted-still still c None = refl
+granted-still still c (Some n) = cc (still.services n)
 
-pub are_served-still : {w : ℕ} {X : Type 0} (request : ℕ → MessageA w) (s z : State X) (t u : Trace w) → AreQuiet t u
+pub are_served-still : {w : ℕ} {X : Type 0} {request : ℕ → MessageA w} {s z : State X} {t u : Trace w} → AreQuiet t u
     → AreStill s z
     → ((c n : ℕ) → is_unprobed ((z.block n).pair c).probing ≡ false → is_unprobed ((s.block n).pair c).probing ≡ false)
     → ServedSourceRelation request s t → ServedSourceRelation request z u
-are_served-still {w} request s z t u quiet still probing known = record {
+are_served-still {w} {s} {z} quiet still probing known = record {
   sources = λ c q. quiet.sources c q ∙ known.sources c q ∙ rw (
     still.uses c q,
-    served-still s z still c (s.uses c q),
+    served-still still c (s.uses c q),
     quiet.bursts c,
   ) refl;
-  sinks = λ c q. quiet.sinks c q ∙ known.sinks c q ∙ rw (still.tracked q, granted-still s z still c (s.tracked q)) refl;
+  sinks = λ c q. quiet.sinks c q ∙ known.sinks c q ∙ rw (still.tracked q, granted-still still c (s.tracked q)) refl;
   requests = λ n. rw (still.services n) (known.requests n);
   asked = λ n r source own k e. quiet.requests r source ∙ known.asked n r source own k (sym (still.services n) ∙ e);
   probes = λ c n e. quiet.probe c n ∙ known.probes c n (probing c n e) ∙ rw (still.services n) refl;
@@ -242,24 +221,22 @@ are_served-still {w} request s z t u quiet still probing known = record {
 pub pair-part : {X A : Type 0} (part : ClientBlock → A) (c n : ℕ) (p : ClientBlock) (new : Block X) (block : ℕ
     → Block X) → ((d : ℕ) → new.pair d ≡ set c p (block n).pair d) → (d i : ℕ)
     → part ((set n new block i).pair d) ≡ (if (c == d) && (n == i) then part p else part ((block i).pair d))
-pair-part {X} {A} part c n p new block is d i = elim (cases_eq i n) [
-  | inl same ↦ rw (same, set-same n new block, same_number n, is d) (elim (cases_eq d c) [
-    | inl mine ↦ rw (mine, set-same c p (block n).pair, same_number c) refl
-    | inr apart ↦ let differ : c ≡ d → ⊥ = λ e. apart (sym e) in
-        rw (set-other c d p (block n).pair apart, ne_eqb c d differ) refl
-  ])
-  | inr other ↦ let differ : n ≡ i → ⊥ = λ e. other (sym e) in rw (set-other n i new block other, ne_eqb n i differ)
-      (never (c == d))
-]
-  where
-    never : (b : Bool) → part ((block i).pair d) ≡ (if b && false then part p else part ((block i).pair d))
-    never true = refl
-    never false = refl
+pair-part {X} {A} part c n p new block is d i =
+    let never : (b : Bool) → part ((block i).pair d) ≡ (if b && false then part p else part ((block i).pair d)) =
+    elim [ true ↦ refl | false ↦ refl ] in
+    elim (cases_eq i n) [
+      | inl same ↦ rw (same, set-same n new block, same_number n, is d) (elim (cases_eq d c) [
+        | inl mine ↦ rw (mine, set-same c p (block n).pair, same_number c) refl
+        | inr apart ↦ let differ : c ≡ d → ⊥ = λ e. apart (sym e) in
+            rw (set-other c d p (block n).pair apart, ne_eqb c d differ) refl
+      ])
+      | inr other ↦ let differ : n ≡ i → ⊥ = λ e. other (sym e) in rw (set-other n i new block other, ne_eqb n i differ)
+          (never (c == d))
+    ]
 
 -- a part that it has as before
 pub pair-still : {X A : Type 0} (part : ClientBlock → A) (c n : ℕ) (p : ClientBlock) (new : Block X) (block : ℕ
-    → Block X) → ((d : ℕ) → new.pair d ≡ set c p (block n).pair d)
-    → part p ≡ part ((block n).pair c) → (d i : ℕ)
+    → Block X) → ((d : ℕ) → new.pair d ≡ set c p (block n).pair d) → part p ≡ part ((block n).pair c) → (d i : ℕ)
     → part ((set n new block i).pair d) ≡ part ((block i).pair d)
 pair-still {X} {A} part c n p new block is same d i = pair-part part c n p new block is d i ∙ go (c == d) (n == i) refl
     refl
@@ -267,5 +244,4 @@ pair-still {X} {A} part c n p new block is same d i = pair-part part c n p new b
     go : (a b : Bool) → (c == d) ≡ a → (n == i) ≡ b → (if a && b then part p else part ((block i).pair d)) ≡ part
         ((block i).pair d)
     go true true e f = rw (← eqb-true c d e, ← eqb-true n i f) same
-    go true false e f = refl
-    go false b e f = refl
+    go a b e f = refl

@@ -1,17 +1,12 @@
 -- What the messages of channel C say that a client has in flight, and what the manager takes of them.
 use Rattle.tl_coherence.proofs.manager.Imports.{IsWidth, c_carries_data, MessageC, beats_of, Prune, Report, prune_code}
 use Rattle.tl_coherence.proofs.manager.Imports.{prune_left, prune_right, report_code, report_left, block_at}
-use Rattle.tl_coherence.proofs.manager.Imports.{is_probe_ack, is_release, reported, same_perm, same_block}
+use Rattle.tl_coherence.proofs.manager.Imports.{is_probe_ack, is_release, reported, same_perm, same_block, Message}
+use Rattle.tl_coherence.proofs.manager.Imports.{Perm}
 use Rattle.std.proofs.Common.{◌≡◌, ℕ, ◌*◌, Bool, true, false, not, List, length, refl, arith, pow_pos, lit<}
 use Rattle.std.proofs.lemmas.List.{drop_all}
-use Rattle.tl_beat.specs.declared.opcode.OpB.TheVariants as opb
-use Rattle.tl_beat.specs.declared.opcode.OpC.{OpC}
-use Rattle.tl_beat.specs.declared.opcode.OpC.TheVariants as opc
-use Rattle.tl_burst.specs.declared.message.Message.TheVariants as message
+use Rattle.tl_beat.{specs.declared.opcode.OpB.OpB, specs.declared.opcode.OpC.OpC}
 use Rattle.tl_burst.specs.statement.Burst.{data_beats, IsZeroFrom, IsBlankAfter}
-use Rattle.tl_params.specs.declared.param.Prune.TheVariants as prune
-use Rattle.tl_params.specs.declared.param.Report.TheVariants as report
-use Rattle.tl_params.specs.declared.perm.Perm.TheVariants as perm
 use Rattle.tl_client.specs.statement.Endpoint.{zeros}
 use Rattle.tl_client.specs.statement.Send.{about, probe_ack, release}
 use Rattle.tl_rules.proofs.Widths.{whole_block}
@@ -26,11 +21,10 @@ pub record IsAbout {w : ℕ} (is_report : Bool) (n param : ℕ) (carries : Bool)
     pub carries_is : c_carries_data m.opcode ≡ carries
     pub payload_is : carries ≡ true → m.payload ≡ truth
     pub long : length m.payload ≡ 64
-    pub blank : IsBlankAfter (beats_of (message.C m)) (message.C m)
+    pub blank : IsBlankAfter (beats_of (Message.C m)) (Message.C m)
 
 about_data : {w : ℕ} (b : Bool) (opcode : OpC) (param source n : ℕ) (truth : List ℕ) → IsWidth w
-    → is_probe_ack opcode ≡ b → is_release opcode ≡ not b
-    → c_carries_data opcode ≡ true → length truth ≡ 64
+    → is_probe_ack opcode ≡ b → is_release opcode ≡ not b → c_carries_data opcode ≡ true → length truth ≡ 64
     → IsAbout {w = w} b n param true truth (about opcode param source n truth)
 about_data {w} b opcode param source n truth width reports releases carries long = record {
   reports = reports;
@@ -62,33 +56,32 @@ about_none b opcode param source n truth reports releases bare = record {
 
 -- a ProbeAck
 pub report-about : {w : ℕ} (r : Report) (n : ℕ) (truth : List ℕ) → IsWidth w → length truth ≡ 64
-    → (m : MessageC w) × (probe_ack opb.ProbeBlock (report_left r) r n truth ≡ message.C m)
-    × IsAbout true n (report_code r) (same_perm (report_left r) perm.Trunk) truth m
-report-about report.TtoB n truth width long =
-    (_, refl, about_data true opc.ProbeAckData (report_code report.TtoB) 0 n truth width refl refl refl long)
-report-about report.TtoN n truth width long =
-    (_, refl, about_data true opc.ProbeAckData (report_code report.TtoN) 0 n truth width refl refl refl long)
-report-about report.TtoT n truth width long =
-    (_, refl, about_data true opc.ProbeAckData (report_code report.TtoT) 0 n truth width refl refl refl long)
-report-about report.BtoN n truth width long =
-    (_, refl, about_none true opc.ProbeAck (report_code report.BtoN) 0 n truth refl refl refl)
-report-about report.BtoB n truth width long =
-    (_, refl, about_none true opc.ProbeAck (report_code report.BtoB) 0 n truth refl refl refl)
-report-about report.NtoN n truth width long =
-    (_, refl, about_none true opc.ProbeAck (report_code report.NtoN) 0 n truth refl refl refl)
+    → (m : MessageC w) × (probe_ack OpB.ProbeBlock (report_left r) r n truth ≡ Message.C m)
+    × IsAbout true n (report_code r) (same_perm (report_left r) Perm.Trunk) truth m
+report-about Report.TtoB n truth width long =
+    (_, refl, about_data true OpC.ProbeAckData (report_code Report.TtoB) 0 n truth width refl refl refl long)
+report-about Report.TtoN n truth width long =
+    (_, refl, about_data true OpC.ProbeAckData (report_code Report.TtoN) 0 n truth width refl refl refl long)
+report-about Report.TtoT n truth width long =
+    (_, refl, about_data true OpC.ProbeAckData (report_code Report.TtoT) 0 n truth width refl refl refl long)
+report-about Report.BtoN n truth width long =
+    (_, refl, about_none true OpC.ProbeAck (report_code Report.BtoN) 0 n truth refl refl refl)
+report-about Report.BtoB n truth width long =
+    (_, refl, about_none true OpC.ProbeAck (report_code Report.BtoB) 0 n truth refl refl refl)
+report-about Report.NtoN n truth width long =
+    (_, refl, about_none true OpC.ProbeAck (report_code Report.NtoN) 0 n truth refl refl refl)
 
 -- a Release
 pub release-about : {w : ℕ} (r : Prune) (source n : ℕ) (truth : List ℕ) → IsWidth w → length truth ≡ 64
-    → (m : MessageC w) × (release r source n truth ≡ message.C m) × IsAbout false n (prune_code r)
-    (same_perm (prune_left r) perm.Trunk) truth m × (m.source ≡ source)
-release-about prune.TtoB source n truth width long =
-    (_, refl, about_data false opc.ReleaseData (prune_code prune.TtoB) source n truth width refl refl refl long, refl)
-release-about prune.TtoN source n truth width long =
-    (_, refl, about_data false opc.ReleaseData (prune_code prune.TtoN) source n truth width refl refl refl long, refl)
-release-about prune.BtoN source n truth width long =
-    (_, refl, about_none false opc.Release (prune_code prune.BtoN) source n truth refl refl refl, refl)
+    → (m : MessageC w) × (release r source n truth ≡ Message.C m) × IsAbout false n (prune_code r)
+    (same_perm (prune_left r) Perm.Trunk) truth m × (m.source ≡ source)
+release-about Prune.TtoB source n truth width long =
+    (_, refl, about_data false OpC.ReleaseData (prune_code Prune.TtoB) source n truth width refl refl refl long, refl)
+release-about Prune.TtoN source n truth width long =
+    (_, refl, about_data false OpC.ReleaseData (prune_code Prune.TtoN) source n truth width refl refl refl long, refl)
+release-about Prune.BtoN source n truth width long =
+    (_, refl, about_none false OpC.Release (prune_code Prune.BtoN) source n truth refl refl refl, refl)
 
 pub reported-prune : (r : Prune) → reported (prune_code r) ≡ prune_right r
-reported-prune prune.TtoB = refl
-reported-prune prune.TtoN = refl
-reported-prune prune.BtoN = refl
+reported-prune Prune.TtoB = refl
+reported-prune r = refl

@@ -1,48 +1,39 @@
 -- What the manager hands out at the last beat of a request: the messages of the tokens that the protocol pushes.
 use Rattle.tl_coherence.proofs.manager.Imports.{Message, MessageA, a_beat_of, beats_of, Config, Cap, cap_right, Memory}
-use Rattle.tl_coherence.proofs.manager.Imports.{bytes_from, answer_of, block_at, Reaction}
-use Rattle.tl_coherence.proofs.manager.Imports.{access_answer, cap_granted, recorded, cap_probed, Trace}
-use Rattle.tl_coherence.proofs.manager.Imports.{same_perm, same_block, reaction, End, level_of, performed-access}
-use Rattle.tl_coherence.proofs.manager.Imports.{performed-acquire, answers, gift, is_unheld, Log, ClientBlock}
-use Rattle.tl_coherence.proofs.manager.Imports.{after_grant_sent, is_granted_data, GrantSent, Block, State, view}
-use Rattle.tl_coherence.proofs.manager.Imports.{is_granting, granted_at_once, AccessMessages, block_message, System}
-use Rattle.tl_coherence.proofs.manager.Imports.{Grant, SimulationRelation}
+use Rattle.tl_coherence.proofs.manager.Imports.{bytes_from, answer_of, block_at, Reaction, access_answer, cap_granted}
+use Rattle.tl_coherence.proofs.manager.Imports.{recorded, cap_probed, Trace, same_perm, same_block, reaction, End}
+use Rattle.tl_coherence.proofs.manager.Imports.{level_of, performed-access, performed-acquire, answers, gift, is_unheld}
+use Rattle.tl_coherence.proofs.manager.Imports.{Log, ClientBlock, after_grant_sent, is_granted_data, GrantSent, Block}
+use Rattle.tl_coherence.proofs.manager.Imports.{State, view, is_granting, granted_at_once, AccessMessages}
+use Rattle.tl_coherence.proofs.manager.Imports.{block_message, System, Grant, SimulationRelation, Beat, Perm}
 use Rattle.std.proofs.Common.{◌≡◌, ℕ, suc, ◌*◌, Bool, true, false, not, ◌&&◌, List, [], ◌∷◌, refl, sym, ◌∙◌, ap, ap₂}
 use Rattle.std.proofs.Common.{inl, inr}
-use Rattle.std.specs.Prelude.{if◌then◌else◌, length}
-use Rattle.std.proofs.lemmas.Bool.{cases_eq, false_from_ne_true}
-use Rattle.std.proofs.Math.Bool.{and-false}
-use Rattle.tl_beat.specs.declared.beat.Beat.TheVariants as beat
-use Rattle.tl_burst.specs.declared.message.Message.TheVariants as message
-use Rattle.tl_params.specs.declared.perm.Perm.TheVariants as perm
+use Rattle.std.{specs.Prelude.if◌then◌else◌, specs.Prelude.length, proofs.lemmas.Bool.cases_eq}
+use Rattle.std.{proofs.lemmas.Bool.false_from_ne_true, proofs.Math.Bool.and-false}
 use Rattle.tl_rules.specs.statement.Effect as memory
 use Rattle.tl_manager.specs.statement.Handing as handing
-use Rattle.tl_manager.specs.statement.Handing.{Handed, probe_of_block, grant_with, grant_payload}
+use Rattle.tl_manager.specs.statement.Handing.{grant_with, grant_payload}
 use Rattle.tl_manager.specs.statement.Holders as holders
 use Rattle.tl_manager.specs.statement.Service as manager
-use Rattle.tl_coherence.specs.refinement.AbstractStep.{probes_some}
-use Rattle.tl_coherence.specs.protocol.Invariant.{IsWell, is_out}
-use Rattle.tl_coherence.specs.refinement.PacketMessages.{grant_of}
+use Rattle.tl_coherence.specs.{refinement.AbstractStep.probes_some, protocol.Invariant.IsWell}
+use Rattle.tl_coherence.specs.{protocol.Invariant.is_out, refinement.PacketMessages.grant_of}
 use Rattle.tl_coherence.proofs.manager.Arrivals.{link_of, with_beat, IsComing, service_for}
-use Rattle.tl_coherence.proofs.protocol.Heads.{IsAsked, IsWanted}
-use Rattle.tl_coherence.proofs.manager.Memories.{performed-reply}
-use Rattle.tl_coherence.proofs.manager.Requests.{recorded-beat}
-use Rattle.tl_coherence.proofs.manager.RequestsTaken.{acquire_wanted}
+use Rattle.tl_coherence.proofs.{protocol.Heads.IsAsked, protocol.Heads.IsWanted, manager.Memories.performed-reply}
+use Rattle.tl_coherence.proofs.{manager.Requests.recorded-beat, manager.RequestsTaken.acquire_wanted}
+use Rattle.tl_coherence.proofs.{queues.Tokens.same_number, queues.Tokens.set-same}
 use Rattle.tl_coherence.proofs.manager.UnwaitedRequests.{next_tracker, reaction-performed, unheld-same}
-use Rattle.tl_coherence.proofs.queues.Tokens.{same_number, set-same}
 use Rattle.tl_coherence.proofs.queues.Codes.{acquires-so, gives-some, data-same}
 
 -- ---- an access that is answered
 
-pub handed-answered : {w : ℕ} (config : Config) (log : Log w) (mail : AccessMessages w) (request : ℕ → MessageA w)
-    (s : State (List ℕ)) (sys : System w) (c source k : ℕ)
-    → SimulationRelation config log mail request s sys → (asked : IsAsked config c source mail s)
-    → IsComing config c k asked.request sys.manager → beats_of (message.A asked.request) ≡ suc k
-    → probes_some (length config.clients.items) c false (cap_probed asked.request.opcode asked.request.param)
-    (s.block (block_at asked.request.address)).pair ≡ false
-    → (reaction config (link_of c) (beat.A (a_beat_of asked.request k)) sys.manager).handed
+pub handed-answered : {w : ℕ} {config : Config} {log : Log w} {mail : AccessMessages w} {request : ℕ → MessageA w}
+    {s : State (List ℕ)} {sys : System w} {c source k : ℕ} → SimulationRelation config log mail request s sys
+    → (asked : IsAsked config c source mail s) → IsComing config c k asked.request sys.manager
+    → beats_of (Message.A asked.request) ≡ suc k → probes_some (length config.clients.items) c false
+    (cap_probed asked.request.opcode asked.request.param) (s.block (block_at asked.request.address)).pair ≡ false
+    → (reaction config (link_of c) (Beat.A (a_beat_of asked.request k)) sys.manager).handed
     ≡ (link_of c, answers asked.request (s.block (block_at asked.request.address)).memory) ∷ []
-handed-answered {w} config log mail request s sys c source k is asked comes last none =
+handed-answered {w} {config} {log} {mail} {request} {s} {sys} {c} {k} is asked comes last none =
     let m : MessageA w = asked.request in
     let n : ℕ = block_at m.address in
     let e : End w = sys.manager in
@@ -51,35 +42,31 @@ handed-answered {w} config log mail request s sys c source k is asked comes last
     asked.access refl none
     ∙ performed-access config (service_for c m e.trace) (with_beat c m k e.trace) e.memory asked.access)
     ∙ ap (λ (i : Message w). (link_of c, i) ∷ [])
-    (ap (λ (r : memory.AccessResult). access_answer m (answer_of (message.A m) r))
+    (ap (λ (r : memory.AccessResult). access_answer m (answer_of (Message.A m) r))
     (performed-reply (level_of config c) m e.memory comes.width asked.lawful) ∙ ap (answers m) bytes_are)
 
 -- ---- a Grant
 
 -- who is granted a block is recorded with what it is given, so that nobody else has it to write: the
 -- memory is its truth
-pub memory-granted : (caching : ℕ → Bool) (q : ℕ) (d : Bool) (k : Cap) (new : Block (List ℕ)) → IsWell caching new
-    → new.service ≡ GrantSent q d k
-    → (new.pair q).recorded ≡ cap_right k → same_perm (cap_right k) perm.None ≡ false
+pub memory-granted : {caching : ℕ → Bool} (q : ℕ) (d : Bool) (k : Cap) {new : Block (List ℕ)} → IsWell caching new
+    → new.service ≡ GrantSent q d k → (new.pair q).recorded ≡ cap_right k → same_perm (cap_right k) Perm.None ≡ false
     → new.memory ≡ new.truth
-memory-granted caching q d k new well granted given some = well.memory nobody
+memory-granted q d k {new} well granted given some =
+    let own_view : is_granting (view new.service q) ≡ true = rw (granted, same_number q) refl in
+    let nobody : (i : ℕ) → is_out (new.pair i) (view new.service i) ≡ false = λ i. elim (cases_eq i q) [
+      | inl same ↦ rw same (ap (λ x. same_perm (new.pair q).recorded Perm.Trunk && not x) own_view ∙ and-false
+          (same_perm (new.pair q).recorded Perm.Trunk))
+      | inr other ↦ ap (λ x. x && not (is_granting (view new.service i))) (not_trunk i other)
+    ] in
+    well.memory nobody
   where
-    not_trunk : (i : ℕ) → (i ≡ q → ⊥) → same_perm (new.pair i).recorded perm.Trunk ≡ false
-    not_trunk i other = false_from_ne_true (same_perm (new.pair i).recorded perm.Trunk) (λ top.
-        let alone : same_perm (new.pair q).recorded perm.None ≡ true = well.one_owner i q top (λ f. other (sym f)) in
-        let none : same_perm (cap_right k) perm.None ≡ true = rw given at alone in
+    not_trunk : (i : ℕ) → (i ≡ q → ⊥) → same_perm (new.pair i).recorded Perm.Trunk ≡ false
+    not_trunk i other = false_from_ne_true (same_perm (new.pair i).recorded Perm.Trunk) (λ top.
+        let alone : same_perm (new.pair q).recorded Perm.None ≡ true = well.one_owner i q top (λ f. other (sym f)) in
+        let none : same_perm (cap_right k) Perm.None ≡ true = rw given at alone in
         let differ : false ≡ true = sym some ∙ none in
         cc)
-
-    own_view : is_granting (view new.service q) ≡ true
-    own_view = rw (granted, same_number q) refl
-
-    nobody : (i : ℕ) → is_out (new.pair i) (view new.service i) ≡ false
-    nobody i = elim (cases_eq i q) [
-      | inl same ↦ rw same (ap (λ x. same_perm (new.pair q).recorded perm.Trunk && not x) own_view ∙ and-false
-          (same_perm (new.pair q).recorded perm.Trunk))
-      | inr other ↦ ap (λ x. x && not (is_granting (view new.service i))) (not_trunk i other)
-    ]
 
 payload-same : (d : Bool) (f : Memory) (n : ℕ) (truth : List ℕ) → bytes_from f (64 * n) 64 ≡ truth
     → grant_payload d f n ≡ (if d then truth else handing.no_payload)
@@ -87,33 +74,50 @@ payload-same true f n truth e = e
 payload-same false f n truth e = refl
 
 grant-is : {w : ℕ} (v : manager.Service w) (q n source tracker : ℕ) (d : Bool) (k : Cap) (f : Memory) (truth : List ℕ)
-    → v.request.source ≡ source
-    → v.tracker ≡ tracker → block_at v.request.address ≡ n → bytes_from f (64 * n) 64 ≡ truth
-    → grant_with v k d f ≡ grant_of (GrantSent q d k) source tracker truth
+    → v.request.source ≡ source → v.tracker ≡ tracker → block_at v.request.address ≡ n
+    → bytes_from f (64 * n) 64 ≡ truth → grant_with v k d f ≡ grant_of (GrantSent q d k) source tracker truth
 grant-is v q n source tracker d k f truth sourced tracked block bytes =
     rw (sourced, tracked, block, payload-same d f n truth bytes) refl
 
 -- the Grant is that of the token, where the block is well afterwards
-pub handed-granted : {w : ℕ} (config : Config) (log : Log w) (mail : AccessMessages w) (request : ℕ → MessageA w)
-    (s : State (List ℕ)) (sys : System w)
-    (caching : ℕ → Bool) (c n k : ℕ) → SimulationRelation config log mail request s sys → (asked : IsWanted w c n s)
-    → IsComing config c k (acquire_wanted c n s asked) sys.manager
-    → beats_of (message.A (acquire_wanted c n s asked)) ≡ suc k
-    → probes_some (length config.clients.items) c true (cap_probed (acquire_wanted {w = w} c n s asked).opcode
+pub handed-granted : {w : ℕ} {config : Config} {log : Log w} {mail : AccessMessages w} {request : ℕ → MessageA w}
+    {s : State (List ℕ)} {sys : System w} {caching : ℕ → Bool} {c n k : ℕ}
+    → SimulationRelation config log mail request s sys → (asked : IsWanted w c n s)
+    → IsComing config c k (acquire_wanted c n s asked) sys.manager → beats_of (Message.A (acquire_wanted c n s asked))
+    ≡ suc k → probes_some (length config.clients.items) c true (cap_probed (acquire_wanted {w = w} c n s asked).opcode
     (acquire_wanted {w = w} c n s asked).param) (s.block n).pair ≡ false
     → IsWell caching (granted_at_once c (next_tracker sys)
     (is_granted_data asked.whole asked.grow ((s.block n).pair c).recorded)
     (gift config.profile asked.whole asked.grow (is_unheld (length config.clients.items) (s.block n).pair)) (s.block n))
-    → (reaction config (link_of c) (beat.A (a_beat_of (acquire_wanted c n s asked) k)) sys.manager).handed
+    → (reaction config (link_of c) (Beat.A (a_beat_of (acquire_wanted c n s asked) k)) sys.manager).handed
     ≡ (
       link_of c,
-      block_message Grant c n (granted_at_once c (next_tracker sys)
-          (is_granted_data asked.whole asked.grow ((s.block n).pair c).recorded)
+      block_message Grant c n
+          (granted_at_once c (next_tracker sys) (is_granted_data asked.whole asked.grow ((s.block n).pair c).recorded)
           (gift config.profile asked.whole asked.grow (is_unheld (length config.clients.items) (s.block n).pair))
           (s.block n)),
     ) ∷ []
 unfolding block_message
-handed-granted {w} config log mail request s sys caching c n k is asked comes last none well =
+handed-granted {w} {config} {log} {mail} {request} {s} {sys} {caching} {c} {n} {k} is asked comes last none well =
+    let b : Block (List ℕ) = s.block n in
+    let m : MessageA w = acquire_wanted c n s asked in
+    let e : End w = sys.manager in
+    let u : Trace w = with_beat c m k e.trace in
+    let unheld : Bool = is_unheld (length config.clients.items) b.pair in
+    let gift_is : Cap = gift config.profile asked.whole asked.grow unheld in
+    let data_too : Bool = is_granted_data asked.whole asked.grow (b.pair c).recorded in
+    let new : Block (List ℕ) = granted_at_once c (next_tracker sys) data_too gift_is b in
+    let recorded_now = ap (λ (p : ClientBlock). p.recorded) (set-same c (after_grant_sent gift_is (b.pair c)) b.pair) in
+    let given : cap_granted config.profile m.opcode m.param (holders.is_unheld config (block_at m.address) u)
+    ≡ gift_is = cc (same_block n, unheld-same c k n m is) in
+    let carried : handing.is_granted_data m.opcode m.param (recorded c (block_at m.address) u) ≡ data_too =
+    cc (
+      same_block n,
+      recorded-beat c k m e.trace c n,
+      is.managed.recorded_is c n,
+      data-same asked.whole asked.grow
+          (b.pair c).recorded,
+    ) in
     ap (λ (d : Reaction w). d.handed) (reaction-performed config log mail request s sys c k n true m is comes last
     (acquires-so asked.whole) (same_block n) none
     ∙ performed-acquire config (service_for c m e.trace) u e.memory (acquires-so asked.whole))
@@ -121,42 +125,5 @@ handed-granted {w} config log mail request s sys caching c n k is asked comes la
     (ap₂ (λ (j : Cap) (d : Bool). grant_with (service_for c m e.trace) j d e.memory) given carried
     ∙ grant-is (service_for c m e.trace) c n (b.source c) (next_tracker sys) data_too gift_is e.memory b.truth refl refl
     (same_block n)
-    (is.memory n ∙ memory-granted caching c data_too gift_is new well refl recorded_now
+    (is.memory n ∙ memory-granted c data_too gift_is well refl recorded_now
     (gives-some config.profile asked.whole asked.grow unheld)))
-  where
-    b : Block (List ℕ)
-    b = s.block n
-
-    m : MessageA w
-    m = acquire_wanted c n s asked
-
-    e : End w
-    e = sys.manager
-
-    u : Trace w
-    u = with_beat c m k e.trace
-
-    unheld : Bool
-    unheld = is_unheld (length config.clients.items) b.pair
-
-    gift_is : Cap
-    gift_is = gift config.profile asked.whole asked.grow unheld
-
-    data_too : Bool
-    data_too = is_granted_data asked.whole asked.grow (b.pair c).recorded
-
-    new : Block (List ℕ)
-    new = granted_at_once c (next_tracker sys) data_too gift_is b
-
-    recorded_now : (new.pair c).recorded ≡ cap_right gift_is
-    recorded_now = ap (λ (p : ClientBlock). p.recorded) (set-same c (after_grant_sent gift_is (b.pair c)) b.pair)
-
-    given : cap_granted config.profile m.opcode m.param (holders.is_unheld config (block_at m.address) u) ≡ gift_is
-    given = ap (λ i. cap_granted config.profile m.opcode m.param (holders.is_unheld config i u)) (same_block n)
-        ∙ ap (cap_granted config.profile m.opcode m.param) (unheld-same config log mail request s sys c k n m is)
-
-    carried : handing.is_granted_data m.opcode m.param (recorded c (block_at m.address) u) ≡ data_too
-    carried =
-        ap (λ i. handing.is_granted_data m.opcode m.param (recorded c i u)) (same_block n)
-        ∙ ap (handing.is_granted_data m.opcode m.param) (recorded-beat c k m e.trace c n ∙ is.managed.recorded_is c n)
-        ∙ data-same asked.whole asked.grow (b.pair c).recorded

@@ -1,47 +1,36 @@
 -- The last beat of a request that is taken: what the protocol does then is what the manager does.
-use Rattle.tl_coherence.proofs.manager.Imports.{Message, MessageA, a_beat_of, beats_of, Config, Cap, Grow}
-use Rattle.tl_coherence.proofs.manager.Imports.{block_at, is_acquire, same_block}
-use Rattle.tl_coherence.proofs.manager.Imports.{performed, cap_granted, is_nobody, probed}
-use Rattle.tl_coherence.proofs.manager.Imports.{cap_probed, reaction}
-use Rattle.tl_coherence.proofs.manager.Imports.{End, must_wait, AbstractState, some_below, acquire_opcode, is_unheld}
-use Rattle.tl_coherence.proofs.manager.Imports.{gift, kind_taken, IsInvariant, Log}
+use Rattle.tl_coherence.proofs.manager.Imports.{Message, MessageA, a_beat_of, beats_of, Config, Cap, Grow, block_at}
+use Rattle.tl_coherence.proofs.manager.Imports.{is_acquire, same_block, performed, cap_granted, is_nobody, probed}
+use Rattle.tl_coherence.proofs.manager.Imports.{cap_probed, reaction, End, must_wait, AbstractState, some_below}
+use Rattle.tl_coherence.proofs.manager.Imports.{acquire_opcode, is_unheld, gift, kind_taken, IsInvariant, Log}
 use Rattle.tl_coherence.proofs.manager.Imports.{is_granted_data, Service, Free, Waits, GrantSent, GrantTaken, Block}
-use Rattle.tl_coherence.proofs.manager.Imports.{State, Asked, InService, Acquires, packet, AccessMessages}
-use Rattle.tl_coherence.proofs.manager.Imports.{System, Request, Acquire, Packet, set, SimulationRelation}
-use Rattle.tl_coherence.proofs.manager.Imports.{IsServedWith, is_caching}
-use Rattle.std.proofs.Common.{◌≡◌, subst, ℕ, suc, Bool, true, false, not, List, ◌∷◌, Option, Some}
-use Rattle.std.proofs.Common.{None, length, refl, sym, ◌∙◌, ap}
+use Rattle.tl_coherence.proofs.manager.Imports.{State, Asked, InService, Acquires, packet, AccessMessages, System}
+use Rattle.tl_coherence.proofs.manager.Imports.{Request, Acquire, Packet, set, SimulationRelation, IsServedWith}
+use Rattle.tl_coherence.proofs.manager.Imports.{is_caching, Beat}
+use Rattle.std.proofs.Common.{◌≡◌, subst, ℕ, suc, Bool, true, false, not, List, ◌∷◌, Option, Some, None, length, refl}
+use Rattle.std.proofs.Common.{sym, ◌∙◌, ap}
 use Rattle.std.specs.Prelude.{if◌then◌else◌}
-use Rattle.tl_beat.specs.declared.beat.Beat.TheVariants as beat
-use Rattle.tl_burst.specs.declared.message.Message.TheVariants as message
-use Rattle.tl_params.specs.declared.param.Grow.TheVariants as grow
 use Rattle.tl_client.specs.statement.Send.{acquisition}
 use Rattle.tl_coherence.specs.refinement.AbstractStep.{probes_some, access_taken, request_taken, acquire_taken}
-use Rattle.tl_coherence.specs.protocol.Invariant.{cap_asked}
-use Rattle.tl_coherence.specs.protocol.Phase.{AcquirePhase, AcquireOpen}
+use Rattle.tl_coherence.specs.{protocol.Invariant.cap_asked, protocol.Phase.AcquirePhase, protocol.Phase.AcquireOpen}
 use Rattle.tl_coherence.specs.protocol.Protocol.{is_probed, acquire_served, acquire_granted}
 use Rattle.tl_coherence.proofs.manager.Arrivals.{link_of, with_beat, IsComing, service_for}
 use Rattle.tl_coherence.proofs.manager.AtRequests.{end_after, at_manager-probing, at_manager-answered}
 use Rattle.tl_coherence.proofs.manager.AtRequests.{at_manager-granted}
-use Rattle.tl_coherence.proofs.manager.Choices.{waits-used}
-use Rattle.tl_coherence.proofs.protocol.FollowKept.{IsReady}
-use Rattle.tl_coherence.proofs.protocol.Heads.{IsAsked, IsWanted}
+use Rattle.tl_coherence.proofs.{manager.Choices.waits-used, protocol.FollowKept.IsReady, protocol.Heads.IsAsked}
+use Rattle.tl_coherence.proofs.{protocol.Heads.IsWanted, manager.Performing.IsAnswering, manager.Requests.IsUnwaited}
+use Rattle.tl_coherence.proofs.{queues.Codes.acquires-so, manager.ManagerAfter.IsManagerOf}
 use Rattle.tl_coherence.proofs.manager.ManagersEnd.{IsAtManager, at_manager-matched}
-use Rattle.tl_coherence.proofs.manager.Performing.{IsAnswering}
-use Rattle.tl_coherence.proofs.manager.Requests.{IsUnwaited}
-use Rattle.tl_coherence.proofs.queues.Codes.{acquires-so}
-use Rattle.tl_coherence.proofs.manager.ManagerAfter.{IsManagerOf}
 use Rattle.tl_coherence.proofs.manager.UnwaitedRequests.{next_tracker, free-last, untracked-next, invariant-taken}
 use Rattle.tl_coherence.proofs.manager.UnwaitedRequests.{probed-some, unheld-same, quiet-free, beyond-none}
 use Rattle.tl_coherence.proofs.manager.UnwaitedRequests.{reaction-performed, somebody-probed}
 
 -- ---- an access
 
-pub unwaited-asked : {w : ℕ} (config : Config) (log : Log w) (mail : AccessMessages w) (request : ℕ → MessageA w)
-    (s : State (List ℕ)) (sys : System w) (c source : ℕ)
+pub unwaited-asked : {w : ℕ} {config : Config} {log : Log w} {mail : AccessMessages w} {request : ℕ → MessageA w}
+    {s : State (List ℕ)} {sys : System w} (c source : ℕ)
     → SimulationRelation config log mail request s sys → s.uses c source ≡ Asked → IsUnwaited c source s
-unwaited-asked {w} config log mail request s sys c source is used i src own j e same =
-    go own (waits-used (is_caching config) s i c src own j is.invariant e)
+unwaited-asked {w} {config} {s} c source is used i src own j e same = go own (waits-used i c src own j is.invariant e)
   where
     here : s.uses c src ≡ Asked
     here = ap (s.uses c) (sym same) ∙ used
@@ -59,10 +48,11 @@ with-same mail after (GrantSent q d k) m same ok = tt
 with-same mail after (GrantTaken q) m same ok = tt
 
 -- other answers change nothing
-pub at_manager-answers : {w : ℕ} (config : Config) (mail after : AccessMessages w) (request : ℕ → MessageA w)
-    (s : State (List ℕ)) (e : End w)
+pub at_manager-answers : {w : ℕ} {config : Config} {mail : AccessMessages w} (after : AccessMessages w) {request : ℕ
+    → MessageA w}
+    {s : State (List ℕ)} {e : End w}
     → after.request ≡ mail.request → IsAtManager config mail request s e → IsAtManager config after request s e
-at_manager-answers config mail after request s e same is = record {
+at_manager-answers {mail} after {request} {s} same is = record {
   managed = is.managed;
   served = is.served;
   served_with = λ n. with-same mail after (s.block n).service (request n) same (is.served_with n);
@@ -71,30 +61,25 @@ at_manager-answers config mail after request s e same is = record {
   all_live = is.all_live;
 }
 
-pub ready-request : {w : ℕ} (config : Config) (log : Log w) (h : AbstractState w) (sys : System w) (c source k : ℕ)
-    → SimulationRelation config log h.mail h.request h.state sys
-    → (asked : IsAsked config c source h.mail h.state)
-    → IsComing config c k asked.request sys.manager → beats_of (message.A asked.request) ≡ suc k
-    → must_wait config (link_of c) (beat.A (a_beat_of asked.request k)) sys.manager.trace ≡ false
+pub ready-request : {w : ℕ} {config : Config} {log : Log w} (h : AbstractState w) {sys : System w} {c source k : ℕ}
+    → SimulationRelation config log h.mail h.request h.state sys → (asked : IsAsked config c source h.mail h.state)
+    → IsComing config c k asked.request sys.manager → beats_of (Message.A asked.request) ≡ suc k
+    → must_wait config (link_of c) (Beat.A (a_beat_of asked.request k)) sys.manager.trace ≡ false
     → IsReady (next_tracker sys) c Request source h
-ready-request config log h sys c source k is asked comes last moves = (
-  asked.request,
-  asked.is_it,
-  asked.access,
-  free-last config log h.mail h.request h.state sys c k asked.request is
-      comes last moves,
-  untracked-next config log h.mail h.request h.state sys is,
-)
+ready-request {config} {log} h {sys} {c} {k} is asked comes last moves =
+    (asked.request, asked.is_it, asked.access, free-last is comes last moves, untracked-next is)
 
 -- after the last beat of an access that was taken
-pub at_manager-request_taken : {w : ℕ} (config : Config) (log : Log w) (h : AbstractState w) (sys : System w)
-    (c source k : ℕ) (rest : List Packet) → SimulationRelation config log h.mail h.request h.state sys
+pub at_manager-request_taken : {w : ℕ} {config : Config} {log : Log w} (h : AbstractState w) {sys : System w}
+    {c source k : ℕ} (rest : List Packet) → SimulationRelation config log h.mail h.request h.state sys
     → (h.state.link c).a ≡ packet Request source ∷ rest → (asked : IsAsked config c source h.mail h.state)
-    → IsComing config c k asked.request sys.manager → beats_of (message.A asked.request) ≡ suc k
-    → must_wait config (link_of c) (beat.A (a_beat_of asked.request k)) sys.manager.trace ≡ false
+    → IsComing config c k asked.request sys.manager → beats_of (Message.A asked.request) ≡ suc k
+    → must_wait config (link_of c) (Beat.A (a_beat_of asked.request k)) sys.manager.trace ≡ false
     → IsManagerOf config (kind_taken config (next_tracker sys) c Request source rest h)
     (end_after config c k asked.request sys.manager)
-at_manager-request_taken {w} config log h sys c source k rest is first asked comes last moves =
+at_manager-request_taken {w} {config} {log} h {sys} {c} {source} {k} rest is first asked comes last moves =
+    let inv = invariant-taken config log h sys c Request source rest is first
+    (ready-request h is asked comes last moves) in
     subst (λ (i : Message w). IsManagerOf config (request_taken clients c source i tracker rest h) after)
     (sym asked.is_it)
     (go (probes_some clients c false (cap_probed m.opcode m.param) b.pair) (cap_probed m.opcode m.param) refl refl
@@ -123,14 +108,10 @@ at_manager-request_taken {w} config log h sys c source k rest is first asked com
     tracker = next_tracker sys
 
     free : b.service ≡ Free
-    free = free-last config log h.mail h.request h.state sys c k m is comes last moves
+    free = free-last is comes last moves
 
     unwaited : IsUnwaited c source h.state
-    unwaited = unwaited-asked config log h.mail h.request h.state sys c source is asked.used
-
-    inv : IsInvariant (is_caching config) (kind_taken config tracker c Request source rest h).state
-    inv = invariant-taken config log h sys c Request source rest is first
-        (ready-request config log h sys c source k is asked comes last moves)
+    unwaited = unwaited-asked c source is asked.used
 
     answering : IsAnswering config c k n m h.state e
     answering = record {
@@ -139,27 +120,21 @@ at_manager-request_taken {w} config log h sys c source k rest is first asked com
       access = asked.access;
       block = refl;
       free = free;
-      unwaited =
-          λ i src own j f same. unwaited i src own j f (sym asked.source_is ∙ same);
+      unwaited = λ i src own j f same. unwaited i src own j f (sym asked.source_is ∙ same);
     }
 
     answered : (p : Bool) (o : Option Cap)
         → IsInvariant (is_caching config) (access_taken c source m tracker p o rest h).state
         → access_taken c source m tracker p o rest h ≡ access_taken c source m tracker false None rest h
-        → reaction config (link_of c) (beat.A (a_beat_of m k)) e ≡ performed config (service_for c m e.trace)
-        (with_beat c m k e.trace) e.memory
-        → IsManagerOf config (access_taken c source m tracker p o rest h) after
-    answered p o kept same done =
-        subst (λ (i : AbstractState w). IsManagerOf config i after) (sym same)
-        (at_manager-answered (is_caching config) config (access_taken c source m tracker false None rest h).mail
-        h.request c k n m h.state (access_taken c source m tracker false None rest h).state e
-        (subst (λ (i : AbstractState w). IsInvariant (is_caching config) i.state) same kept) (λ i. refl) answering
-        asked.lawful done
-        (at_manager-answers config h.mail (access_taken c source m tracker false None rest h).mail h.request h.state e
-        refl (at_manager-matched config log h.mail h.request h.state sys is)))
+        → reaction config (link_of c) (Beat.A (a_beat_of m k)) e ≡ performed config (service_for c m e.trace)
+        (with_beat c m k e.trace) e.memory → IsManagerOf config (access_taken c source m tracker p o rest h) after
+    answered p o kept same done = subst (λ (i : AbstractState w). IsManagerOf config i after) (sym same)
+        (at_manager-answered (subst (λ (i : AbstractState w). IsInvariant (is_caching config) i.state) same kept)
+        (λ i. refl) answering asked.lawful done
+        (at_manager-answers (access_taken c source m tracker false None rest h).mail refl (at_manager-matched is)))
 
     done : probes_some clients c false (cap_probed m.opcode m.param) b.pair ≡ false
-        → reaction config (link_of c) (beat.A (a_beat_of m k)) e ≡ performed config (service_for c m e.trace)
+        → reaction config (link_of c) (Beat.A (a_beat_of m k)) e ≡ performed config (service_for c m e.trace)
         (with_beat c m k e.trace) e.memory
     done none = reaction-performed config log h.mail h.request h.state sys c k n false m is comes last asked.access refl
         none
@@ -175,29 +150,28 @@ at_manager-request_taken {w} config log h sys c source k rest is first asked com
     go false None f g kept = answered false None kept refl (done f)
     go false (Some j) f g kept = answered false (Some j) kept refl (done f)
     go true (Some j) f g kept =
-        let some = somebody-probed config log h.mail h.request h.state sys c k n false m is asked.access refl f in
+        let some = somebody-probed c k n false m is asked.access refl f in
         let same : some.0 ≡ j = some_cap (cap_probed m.opcode m.param) (Some j) some.0 j some.1 g refl in
-        at_manager-probing (is_caching config) config h.mail h.request c k n false source j m h.state
-        (access_taken c source m tracker true (Some j) rest h).state e kept (λ i. refl)
+        at_manager-probing
+        kept (λ i. refl)
         (record {
           comes = comes;
           last = last;
           for = (asked.access, asked.source_is, refl, g);
           free = free;
-          quiet = quiet-free config log h.mail h.request h.state sys n is free;
-          beyond = beyond-none config log h.mail h.request h.state sys n is;
+          quiet = quiet-free n is free;
+          beyond = beyond-none n is;
           unwaited = unwaited;
         })
-        (rw same at some.2) asked.is_it (at_manager-matched config log h.mail h.request h.state sys is)
+        (rw same at some.2) asked.is_it (at_manager-matched is)
 
 -- ---- an Acquire
 
-unwaited-acquires : {w : ℕ} (config : Config) (log : Log w) (mail : AccessMessages w) (request : ℕ → MessageA w)
-    (s : State (List ℕ)) (sys : System w) (c source n : ℕ)
-    → SimulationRelation config log mail request s sys → s.uses c source ≡ Acquires n
-    → (s.block n).service ≡ Free → IsUnwaited c source s
-unwaited-acquires {w} config log mail request s sys c source n is used free i src own j e same =
-    go own e (waits-used (is_caching config) s i c src own j is.invariant e)
+unwaited-acquires : {w : ℕ} {config : Config} {log : Log w} {mail : AccessMessages w} {request : ℕ → MessageA w}
+    {s : State (List ℕ)} {sys : System w} (c source n : ℕ) → SimulationRelation config log mail request s sys
+    → s.uses c source ≡ Acquires n → (s.block n).service ≡ Free → IsUnwaited c source s
+unwaited-acquires {w} {config} {s} c source n is used free i src own j e same =
+    go own e (waits-used i c src own j is.invariant e)
   where
     here : s.uses c src ≡ Acquires n
     here = ap (s.uses c) (sym same) ∙ used
@@ -212,41 +186,38 @@ unwaited-acquires {w} config log mail request s sys c source n is used free i sr
 
 pub caps_asked : (w : ℕ) (whole : Bool) (g : Grow) (source n : ℕ)
     → cap_probed (acquisition {w = w} (acquire_opcode whole) g source n).opcode
-    (acquisition {w = w} (acquire_opcode whole) g source n).param ≡ Some
-    (cap_asked (AcquireOpen whole g))
-caps_asked w true grow.NtoB source n = refl
-caps_asked w true grow.NtoT source n = refl
-caps_asked w true grow.BtoT source n = refl
-caps_asked w false grow.NtoB source n = refl
-caps_asked w false grow.NtoT source n = refl
-caps_asked w false grow.BtoT source n = refl
+    (acquisition {w = w} (acquire_opcode whole) g source n).param ≡ Some (cap_asked (AcquireOpen whole g))
+caps_asked w true Grow.NtoB source n = refl
+caps_asked w true Grow.NtoT source n = refl
+caps_asked w true Grow.BtoT source n = refl
+caps_asked w false Grow.NtoB source n = refl
+caps_asked w false Grow.NtoT source n = refl
+caps_asked w false Grow.BtoT source n = refl
 
 -- the Acquire that is wanted
 abbrev pub acquire_wanted : {w : ℕ} (c n : ℕ) (s : State (List ℕ)) → IsWanted w c n s → MessageA w
 acquire_wanted c n s is = acquisition (acquire_opcode is.whole) is.grow ((s.block n).source c) n
 
-pub ready-acquire : {w : ℕ} (config : Config) (log : Log w) (h : AbstractState w) (sys : System w) (c n k : ℕ)
+pub ready-acquire : {w : ℕ} {config : Config} {log : Log w} (h : AbstractState w) {sys : System w} {c n k : ℕ}
     → SimulationRelation config log h.mail h.request h.state sys → (asked : IsWanted w c n h.state)
     → IsComing config c k (acquire_wanted c n h.state asked) sys.manager
-    → beats_of (message.A (acquire_wanted c n h.state asked)) ≡ suc k
-    → must_wait config (link_of c) (beat.A (a_beat_of (acquire_wanted c n h.state asked) k)) sys.manager.trace ≡ false
+    → beats_of (Message.A (acquire_wanted c n h.state asked)) ≡ suc k
+    → must_wait config (link_of c) (Beat.A (a_beat_of (acquire_wanted c n h.state asked) k)) sys.manager.trace ≡ false
     → IsReady (next_tracker sys) c Acquire n h
-ready-acquire config log h sys c n k is asked comes last moves = (
-  ap (λ i. (h.state.block i).service) (sym (same_block n))
-      ∙ free-last config log h.mail h.request h.state sys c k (acquire_wanted c n h.state asked) is comes last moves,
-  untracked-next config log h.mail h.request h.state sys is,
-)
+ready-acquire {config} {log} h {sys} {c} {n} {k} is asked comes last moves =
+    (ap (λ i. (h.state.block i).service) (sym (same_block n)) ∙ free-last is comes last moves, untracked-next is)
 
 -- after an Acquire that was taken
-pub at_manager-acquire_taken : {w : ℕ} (config : Config) (log : Log w) (h : AbstractState w) (sys : System w)
-    (c n k : ℕ) (rest : List Packet) → SimulationRelation config log h.mail h.request h.state sys
+pub at_manager-acquire_taken : {w : ℕ} {config : Config} {log : Log w} (h : AbstractState w) {sys : System w}
+    {c n k : ℕ} (rest : List Packet) → SimulationRelation config log h.mail h.request h.state sys
     → (h.state.link c).a ≡ packet Acquire n ∷ rest → (asked : IsWanted w c n h.state)
     → IsComing config c k (acquire_wanted c n h.state asked) sys.manager
-    → beats_of (message.A (acquire_wanted c n h.state asked)) ≡ suc k
-    → must_wait config (link_of c) (beat.A (a_beat_of (acquire_wanted c n h.state asked) k)) sys.manager.trace ≡ false
+    → beats_of (Message.A (acquire_wanted c n h.state asked)) ≡ suc k
+    → must_wait config (link_of c) (Beat.A (a_beat_of (acquire_wanted c n h.state asked) k)) sys.manager.trace ≡ false
     → IsManagerOf config (kind_taken config (next_tracker sys) c Acquire n rest h)
     (end_after config c k (acquire_wanted c n h.state asked) sys.manager)
-at_manager-acquire_taken {w} config log h sys c n k rest is first asked comes last moves =
+at_manager-acquire_taken {w} {config} {log} h {sys} {c} {n} {k} rest is first asked comes last moves =
+    let inv = invariant-taken config log h sys c Acquire n rest is first ready in
     subst (λ (i : AcquirePhase). IsManagerOf config (acquire_taken clients config.profile c n i tracker rest h) after)
     (sym asked.wants)
     (go (some_below clients (λ d. is_probed c true j (b.pair d).recorded d)) refl
@@ -275,10 +246,7 @@ at_manager-acquire_taken {w} config log h sys c n k rest is first asked comes la
     j = cap_asked (AcquireOpen asked.whole asked.grow)
 
     ready : IsReady tracker c Acquire n h
-    ready = ready-acquire config log h sys c n k is asked comes last moves
-
-    inv : IsInvariant (is_caching config) (kind_taken config tracker c Acquire n rest h).state
-    inv = invariant-taken config log h sys c Acquire n rest is first ready
+    ready = ready-acquire h is asked comes last moves
 
     acquires : is_acquire m.opcode ≡ true
     acquires = acquires-so asked.whole
@@ -287,7 +255,7 @@ at_manager-acquire_taken {w} config log h sys c n k rest is first asked comes la
     caps = caps_asked w asked.whole asked.grow (b.source c) n
 
     unwaited : IsUnwaited c m.source h.state
-    unwaited = unwaited-acquires config log h.mail h.request h.state sys c m.source n is asked.used ready.0
+    unwaited = unwaited-acquires c m.source n is asked.used ready.0
 
     nobody : is_nobody (probed config (service_for c m e.trace) j (with_beat c m k e.trace)) ≡ not
         (some_below clients (λ d. is_probed c true j (b.pair d).recorded d))
@@ -305,31 +273,30 @@ at_manager-acquire_taken {w} config log h sys c n k rest is first asked comes la
         → IsInvariant (is_caching config) (state_of x)
         → IsAtManager config h.mail (set n m h.request) (state_of x) after
     go true f kept =
-        at_manager-probing (is_caching config) config h.mail h.request c k n true m.source j m h.state (state_of true) e
+        at_manager-probing
         kept (λ i. refl)
         (record {
           comes = comes;
           last = last;
           for = (acquires, refl, same_block n, caps);
           free = ready.0;
-          quiet = quiet-free config log h.mail h.request h.state sys n is ready.0;
-          beyond = beyond-none config log h.mail h.request h.state sys n is;
+          quiet = quiet-free n is ready.0;
+          beyond = beyond-none n is;
           unwaited = unwaited;
         })
-        (nobody ∙ ap not f) tt (at_manager-matched config log h.mail h.request h.state sys is)
+        (nobody ∙ ap not f) tt (at_manager-matched is)
     go false f kept =
-        at_manager-granted (is_caching config) config h.mail h.request c k n
-        (is_granted_data asked.whole asked.grow (b.pair c).recorded) given m h.state (state_of false) e kept
+        at_manager-granted
+        (is_granted_data asked.whole asked.grow (b.pair c).recorded) kept
         (λ i. refl)
         (record {
           comes = comes;
           last = last;
           acquires = acquires;
           block = same_block n;
-          given = ap (cap_granted config.profile m.opcode m.param) (unheld-same config log h.mail h.request h.state sys
-              c k n m is);
+          given = ap (cap_granted config.profile m.opcode m.param) (unheld-same c k n m is);
           unwaited = unwaited;
         })
         (reaction-performed config log h.mail h.request h.state sys c k n true m is comes last acquires (same_block n)
         (rw caps f))
-        (at_manager-matched config log h.mail h.request h.state sys is)
+        (at_manager-matched is)

@@ -1,38 +1,24 @@
 -- The service that the last report of a block settles.
 
 use Rattle.tl_coherence.proofs.manager.Imports.{MessageC, MessageD, c_beat_of, Config, Cap, Report, report_code}
-use Rattle.tl_coherence.proofs.manager.Imports.{report_left, report_right, Trace, on_link, same_perm}
-use Rattle.tl_coherence.proofs.manager.Imports.{is_release_ack, pending}
-use Rattle.tl_coherence.proofs.manager.Imports.{performed, services}
-use Rattle.tl_coherence.proofs.manager.Imports.{service_of_block, reaction, End}
-use Rattle.tl_coherence.proofs.manager.Imports.{AbstractState, some_below}
-use Rattle.tl_coherence.proofs.manager.Imports.{AreNamed, is_unprobed}
-use Rattle.tl_coherence.proofs.manager.Imports.{Waits}
-use Rattle.tl_coherence.proofs.manager.Imports.{IsFor}
-use Rattle.tl_manager.specs.code.Ready.{IsReady}
-use Rattle.std.proofs.Common.{◌≡◌, ℕ, Bool, true, false, not, ◌&&◌, Some, length, refl, sym, ◌∙◌, ap}
-use Rattle.std.proofs.Common.{subst}
+use Rattle.tl_coherence.proofs.manager.Imports.{report_left, report_right, Trace, on_link, same_perm, is_release_ack}
+use Rattle.tl_coherence.proofs.manager.Imports.{pending, performed, services, service_of_block, reaction, End}
+use Rattle.tl_coherence.proofs.manager.Imports.{AbstractState, some_below, AreNamed, is_unprobed, Waits, IsFor, Beat}
+use Rattle.tl_coherence.proofs.manager.Imports.{Channel, Perm}
+use Rattle.tl_manager.{specs.code.Ready.IsReady, specs.statement.Holders.is_settled, specs.code.Kept.IsPerformable}
+use Rattle.tl_manager.{proofs.calls.Events.reaction-settled, proofs.calls.Events.memory_with}
+use Rattle.tl_manager.{proofs.pending.Granted.of_served, proofs.judging.Judged.passed, proofs.calls.Keeping.is_taken}
+use Rattle.tl_manager.{proofs.pending.Replied.IsReply, proofs.pending.SteadyReports.report-ready}
+use Rattle.std.proofs.Common.{◌≡◌, ℕ, Bool, true, false, not, ◌&&◌, Some, length, refl, sym, ◌∙◌, ap, subst}
 use Rattle.std.specs.Prelude.{◌==◌, if◌then◌else◌}
 use Rattle.std.proofs.lemmas.Bool.{ne_eqb, not-false}
-use Rattle.tl_beat.specs.declared.beat.Beat.TheVariants as beat
-use Rattle.tl_beat.specs.declared.channel.Channel.TheVariants as channel
-use Rattle.tl_params.specs.declared.key.Key.TheVariants as key
-use Rattle.tl_params.specs.declared.perm.Perm.TheVariants as perm
-use Rattle.tl_manager.specs.statement.Holders.{is_settled}
-use Rattle.tl_manager.specs.code.Kept.{IsPerformable}
-use Rattle.tl_manager.proofs.calls.Events.{reaction-settled, memory_with}
-use Rattle.tl_manager.proofs.pending.Granted.{of_served}
-use Rattle.tl_manager.proofs.judging.Judged.{passed}
-use Rattle.tl_manager.proofs.calls.Keeping.{is_taken}
-use Rattle.tl_manager.proofs.pending.Replied.{IsReply}
-use Rattle.tl_manager.proofs.pending.SteadyReports.{report-ready}
+use Rattle.tl_params.specs.declared.key.Key.{Key}
 use Rattle.tl_coherence.specs.protocol.Protocol as protocol
-use Rattle.tl_coherence.proofs.manager.ManagedEndings.{service_for}
+use Rattle.tl_coherence.proofs.{manager.ManagedEndings.service_for, manager.ManagerMemory.block_in}
+use Rattle.tl_coherence.proofs.{manager.ManagerTakes.IsTakenUp}
 use Rattle.tl_coherence.proofs.manager.ManagedEndings as endings
-use Rattle.tl_coherence.proofs.manager.ManagerAfter.{IsManagerOf, IsEnd, ends-it, last-of}
-use Rattle.tl_coherence.proofs.manager.ManagerAfter.{memory-end, others_probed, settled-is}
-use Rattle.tl_coherence.proofs.manager.ManagerMemory.{block_in}
-use Rattle.tl_coherence.proofs.manager.ManagerTakes.{IsTakenUp}
+use Rattle.tl_coherence.proofs.manager.ManagerAfter.{IsManagerOf, IsEnd, ends-it, last-of, memory-end, others_probed}
+use Rattle.tl_coherence.proofs.manager.ManagerAfter.{settled-is}
 use Rattle.tl_coherence.proofs.manager.QuiescentManager.{quiet-c, IsLastOf, missing-last}
 use Rattle.tl_client.proofs.endpoint.HeldAfter.{reported-report}
 
@@ -41,8 +27,8 @@ use Rattle.tl_client.proofs.endpoint.HeldAfter.{reported-report}
 -- the last ProbeAck of a service that waits
 pub record IsSettling {w : ℕ} (config : Config) (c q n source k : ℕ) (own : Bool) (low : Cap) (r : Report)
     (m : MessageC w) (h : AbstractState w) (e : End w) : Type 0 where
-  pub up : IsTakenUp config c channel.C (beat.C (c_beat_of m k)) e
-  pub end : IsEnd true c n (report_code r) (same_perm (report_left r) perm.Trunk) (h.state.block n).truth k m e
+  pub up : IsTakenUp config c Channel.C (Beat.C (c_beat_of m k)) e
+  pub end : IsEnd true c n (report_code r) (same_perm (report_left r) Perm.Trunk) (h.state.block n).truth k m e
   pub alone : some_below (length config.clients.items) (others_probed c (h.state.block n).pair) ≡ false
   pub waits : (h.state.block n).service ≡ Waits q own source low
   pub named : AreNamed h.state
@@ -51,89 +37,77 @@ pub record IsSettling {w : ℕ} (config : Config) (c q n source k : ℕ) (own : 
 abbrev pub trace_with : {w : ℕ} → ℕ → ℕ → MessageC w → End w → Trace w
 trace_with c k m e = endings.taken c (c_beat_of m k) e.trace
 
-pub settling-last : {w : ℕ} (config : Config) (c q n source k : ℕ) (own : Bool) (low : Cap) (r : Report) (m : MessageC w)
-    (h : AbstractState w) (e : End w)
-    → IsSettling config c q n source k own low r m h e → IsLastOf c n (report_right r) (c_beat_of m k) e.trace
-settling-last config c q n source k own low r m h e at =
-    last-of true c n (report_code r) (same_perm (report_left r) perm.Trunk) (h.state.block n).truth k
-    (report_right r) m e at.end (reported-report r)
+pub settling-last : {w : ℕ} {config : Config} {c q n source k : ℕ} {own : Bool} {low : Cap} {r : Report}
+    {m : MessageC w} {h : AbstractState w} {e : End w} → IsSettling config c q n source k own low r m h e
+    → IsLastOf c n (report_right r) (c_beat_of m k) e.trace
+settling-last {c} {n} {k} {r} {m} {h} {e} at = last-of (report_right r) at.end (reported-report r)
 
-settling-all : {w : ℕ} (config : Config) (c q n source k : ℕ) (own : Bool) (low : Cap) (r : Report) (m : MessageC w)
-    (h : AbstractState w) (e : End w)
+settling-all : {w : ℕ} {config : Config} {c q n source k : ℕ} {own : Bool} {low : Cap} {r : Report} {m : MessageC w}
+    {h : AbstractState w} {e : End w}
     → IsSettling config c q n source k own low r m h e → is_settled config n (trace_with c k m e) ≡ true
-settling-all config c q n source k own low r m h e at =
-    settled-is config c n (report_right r) (c_beat_of m k) h e (settling-last config c q n source k own low r m h e at)
-    at.end.about.reports at.is.managed ∙ ap not at.alone
+settling-all {config} {c} {q} {n} {source} {k} {own} {low} {r} {m} {h} {e} at =
+    settled-is config h e (settling-last at) at.end.about.reports at.is.managed ∙ ap not at.alone
 
-settling-found : {w : ℕ} (config : Config) (c q n source k : ℕ) (own : Bool) (low : Cap) (r : Report) (m : MessageC w)
-    (h : AbstractState w) (e : End w) → IsSettling config c q n source k own low r m h e
+settling-found : {w : ℕ} {config : Config} {c q n source k : ℕ} {own : Bool} {low : Cap} {r : Report} {m : MessageC w}
+    {h : AbstractState w} {e : End w} → IsSettling config c q n source k own low r m h e
     → service_of_block n (services (trace_with c k m e)) ≡ Some (service_for q n h.request h.state)
-settling-found config c q n source k own low r m h e at =
+settling-found {c} {n} {k} {m} {e} at =
     ap (service_of_block n) ((quiet-c (record { 0 = c }) (c_beat_of m k) e.trace).serves) ∙ at.is.managed.serving_is
     n ∙ rw at.waits refl
 
-pub settling-ready : {w : ℕ} (config : Config) (c q n source k : ℕ) (own : Bool) (low : Cap) (r : Report)
-    (m : MessageC w) (h : AbstractState w) (e : End w) → IsSettling config c q n source k own low r m h e
+pub settling-ready : {w : ℕ} {config : Config} {c q n source k : ℕ} {own : Bool} {low : Cap} {r : Report}
+    {m : MessageC w} {h : AbstractState w} {e : End w} → IsSettling config c q n source k own low r m h e
     → IsReady config n (service_for q n h.request h.state) (trace_with c k m e)
-settling-ready {w} config c q n source k own low r m h e at =
-    subst (λ (i : ℕ). IsReady config i (service_for q n h.request h.state) (trace_with c k m e)) at.end.about.block
-    (report-ready config (record { 0 = c }) (c_beat_of m k) (service_for q n h.request h.state) e
-    (is_taken config (record { 0 = c }) (beat.C (c_beat_of m k)) e at.end.width
-    (passed config (record { 0 = c }) channel.C (beat.C (c_beat_of m k)) e tt at.up.passes) at.is.manager_kept)
-    at.end.about.reports
-    (ap (λ (i : ℕ). service_of_block i (services (trace_with c k m e))) at.end.about.block ∙ settling-found config c q n
-    source k own low r m h e at)
-    (ap (λ (i : ℕ). is_settled config i (trace_with c k m e)) at.end.about.block ∙ settling-all config c q n source k
-    own low r m h e at))
+settling-ready {w} {config} {c} {q} {n} {source} {k} {own} {low} {r} {m} {h} {e} at =
+    rw at.end.about.block at (report-ready config (record { 0 = c }) (c_beat_of m k) (service_for q n h.request h.state)
+    e (is_taken config (record { 0 = c }) (Beat.C (c_beat_of m k)) e at.end.width
+    (passed config (record { 0 = c }) Channel.C (Beat.C (c_beat_of m k)) e tt at.up.passes) at.is.manager_kept)
+    at.end.about.reports (ap (λ (i : ℕ). service_of_block i (services (trace_with c k m e))) at.end.about.block
+    ∙ settling-found at) (ap (λ (i : ℕ). is_settled config i (trace_with c k m e)) at.end.about.block
+    ∙ settling-all at))
 
-pub settling-reaction : {w : ℕ} (config : Config) (c q n source k : ℕ) (own : Bool) (low : Cap) (r : Report)
-    (m : MessageC w) (h : AbstractState w) (e : End w) → IsSettling config c q n source k own low r m h e
-    → reaction config (record { 0 = c }) (beat.C (c_beat_of m k)) e ≡ performed config
+pub settling-reaction : {w : ℕ} {config : Config} {c q n source k : ℕ} {own : Bool} {low : Cap} {r : Report}
+    {m : MessageC w} {h : AbstractState w} {e : End w} → IsSettling config c q n source k own low r m h e
+    → reaction config (record { 0 = c }) (Beat.C (c_beat_of m k)) e ≡ performed config
     (service_for q n h.request h.state) (trace_with c k m e) (memory_with (record { 0 = c }) (c_beat_of m k) e)
-settling-reaction {w} config c q n source k own low r m h e at =
-    reaction-settled config (record { 0 = c }) (c_beat_of m k) (service_for q n h.request h.state) e
-    (ends-it true c n (report_code r) (same_perm (report_left r) perm.Trunk) (h.state.block n).truth k m e at.end)
-    at.end.about.releases
-    at.end.about.reports
-    (ap (λ (i : ℕ). is_settled config i (trace_with c k m e)) at.end.about.block ∙ settling-all config c q n source k
-    own low r m h e at)
-    (ap (λ (i : ℕ). service_of_block i (services (trace_with c k m e))) at.end.about.block ∙ settling-found config c q n
-    source k own low r m h e at)
+settling-reaction {w} {config} {c} {q} {n} {source} {k} {own} {low} {r} {m} {h} {e} at =
+    cc (reaction-settled config (record { 0 = c }) (c_beat_of m k) (service_for q n h.request h.state) e
+    (ends-it at.end) at.end.about.releases at.end.about.reports
+    (ap (λ (i : ℕ). is_settled config i (trace_with c k m e)) at.end.about.block ∙ settling-all at)
+    (ap (λ (i : ℕ). service_of_block i (services (trace_with c k m e))) at.end.about.block ∙ settling-found at))
 
 -- nobody else's Probe is under way
-pub settling-quiet : {w : ℕ} (config : Config) (c q n source k : ℕ) (own : Bool) (low : Cap) (r : Report)
-    (m : MessageC w) (h : AbstractState w) (e : End w) → IsSettling config c q n source k own low r m h e
+pub settling-quiet : {w : ℕ} {config : Config} {c q n source k : ℕ} {own : Bool} {low : Cap} {r : Report}
+    {m : MessageC w} {h : AbstractState w} {e : End w} → IsSettling config c q n source k own low r m h e
     → (d : ℕ) → (d ≡ c → ⊥) → is_unprobed ((h.state.block n).pair d).probing ≡ true
-settling-quiet config c q n source k own low r m h e at d other =
+settling-quiet {config} {c} {q} {n} {source} {k} {own} {low} {r} {m} {h} {e} at d other =
     let differ : c ≡ d → ⊥ = λ f. other (sym f) in
-    let now = missing-last c n (report_right r) (c_beat_of m k) e.trace
-    (settling-last config c q n source k own low r m h e at) at.end.about.reports d n in
-    let none : (if (c == d) && (n == n) then false else pending (key.ProbeOf n) (on_link d e.trace)) ≡ false =
-    sym now ∙ (settling-ready config c q n source k own low r m h e at).settled d in
-    let before : pending (key.ProbeOf n) (on_link d e.trace) ≡ false = rw (ne_eqb c d differ) at none in
+    let now = missing-last
+    (settling-last at) at.end.about.reports d n in
+    let none : (if (c == d) && (n == n) then false else pending (Key.ProbeOf n) (on_link d e.trace)) ≡ false =
+    sym now ∙ (settling-ready at).settled d in
+    let before : pending (Key.ProbeOf n) (on_link d e.trace) ≡ false = rw (ne_eqb c d differ) at none in
     not-false (is_unprobed ((h.state.block n).pair d).probing) (sym (at.is.managed.probes d n) ∙ before)
 
 -- the request is lawful
-pub settling-lawful : {w : ℕ} (config : Config) (c q n source k : ℕ) (own : Bool) (low : Cap) (r : Report) (m : MessageC w)
-    (h : AbstractState w) (e : End w) → IsSettling config c q n source k own low r m h e
+pub settling-lawful : {w : ℕ} {config : Config} {c q n source k : ℕ} {own : Bool} {low : Cap} {r : Report}
+    {m : MessageC w} {h : AbstractState w} {e : End w} → IsSettling config c q n source k own low r m h e
     → IsPerformable config (service_for q n h.request h.state)
-settling-lawful config c q n source k own low r m h e at = of_served (IsPerformable config) n (services e.trace)
-    (service_for q n h.request h.state)
-    (at.is.managed.serving_is n ∙ rw at.waits refl) at.is.manager_kept.requests
+settling-lawful {config} {q} {n} {h} {e} at = of_served (IsPerformable config) n (services e.trace)
+    (service_for q n h.request h.state) (at.is.managed.serving_is n ∙ rw at.waits refl) at.is.manager_kept.requests
 
-pub settling-for : {w : ℕ} (config : Config) (c q n source k : ℕ) (own : Bool) (low : Cap) (r : Report) (m : MessageC w)
-    (h : AbstractState w) (e : End w)
+pub settling-for : {w : ℕ} {config : Config} {c q n source k : ℕ} {own : Bool} {low : Cap} {r : Report} {m : MessageC w}
+    {h : AbstractState w} {e : End w}
     → IsSettling config c q n source k own low r m h e → IsFor (Waits q own source low) n (h.request n)
-settling-for config c q n source k own low r m h e at = rw at.waits at (at.is.served.requests n)
+settling-for {n} at = rw at.waits at (at.is.served.requests n)
 
 -- the answer is the reply of the service
-pub settling-reply : {w : ℕ} (config : Config) (c q n source k : ℕ) (own : Bool) (low : Cap) (r : Report) (m : MessageC w)
-    (i : MessageD w) (h : AbstractState w)
-    (e : End w) → IsSettling config c q n source k own low r m h e
-    → i.source ≡ (h.request n).source → is_release_ack i.opcode ≡ false
-    → IsReply n (service_for q n h.request h.state) i (trace_with c k m e)
-settling-reply config c q n source k own low r m i h e at source_is other =
-    let ready = settling-ready config c q n source k own low r m h e at in
+pub settling-reply : {w : ℕ} {config : Config} {c q n source k : ℕ} {own : Bool} {low : Cap} {r : Report}
+    {m : MessageC w} (i : MessageD w) {h : AbstractState w} {e : End w}
+    → IsSettling config c q n source k own low r m h e → i.source ≡ (h.request n).source
+    → is_release_ack i.opcode ≡ false → IsReply n (service_for q n h.request h.state) i (trace_with c k m e)
+settling-reply {config} {c} {q} {n} {source} {k} {own} {low} {r} {m} i {h} {e} at source_is other =
+    let ready = settling-ready at in
     record {
       width = at.end.width;
       serves = ready.serves;
@@ -147,10 +121,9 @@ settling-reply config c q n source k own low r m i h e at source_is other =
     }
 
 -- the memory that the request finds
-pub settling-memory : {w : ℕ} (config : Config) (c q n source k : ℕ) (own : Bool) (low : Cap) (r : Report) (m : MessageC w)
-    (h : AbstractState w) (e : End w) → IsSettling config c q n source k own low r m h e
+pub settling-memory : {w : ℕ} {config : Config} {c q n source k : ℕ} {own : Bool} {low : Cap} {r : Report}
+    {m : MessageC w} {h : AbstractState w} {e : End w} → IsSettling config c q n source k own low r m h e
     → block_in (memory_with (record { 0 = c }) (c_beat_of m k) e) n ≡ protocol.written r (h.state.block n).truth
     (h.state.block n).memory
-settling-memory config c q n source k own low r m h e at =
-    memory-end true c n (report_code r) (same_perm (report_left r) perm.Trunk) (h.state.block n).truth k m e at.end
-    ∙ ap (λ z. if same_perm (report_left r) perm.Trunk then (h.state.block n).truth else z) (at.is.memory n)
+settling-memory {c} {n} {k} {r} {m} {h} {e} at = memory-end at.end
+    ∙ ap (λ z. if same_perm (report_left r) Perm.Trunk then (h.state.block n).truth else z) (at.is.memory n)

@@ -27,9 +27,9 @@ pub record IsTracedAt {w : ℕ} {X : Type 0} (n : ℕ) (request after : ℕ → 
   pub asked_else : (i r source : ℕ) (own : Bool) (k : Cap) → (i ≡ n → ⊥) → (s.block i).service ≡ Waits r own source k
       → request_of source (on_link r v) ≡ request_of source (on_link r t)
 
-pub traced-at : {w : ℕ} {X : Type 0} (n : ℕ) (request after : ℕ → MessageA w) (s u : State X) (t v : Trace w)
+pub traced-at : {w : ℕ} {X : Type 0} {n : ℕ} {request after : ℕ → MessageA w} {s u : State X} {t v : Trace w}
     → IsTracedAt n request after s u t v → IsTraced request s t → IsTraced after u v
-traced-at {w} {X} n request after s u t v at is = record {
+traced-at {w} {X} {n} {s} {u} at is = record {
   recorded_is = λ c i. elim (cases_eq i n) [
     | inl same ↦ rw same (at.recorded_here c)
     | inr other ↦ at.recorded_else c i other ∙ is.recorded_is c i ∙ ap (λ (b : Block X). (b.pair c).recorded)
@@ -55,8 +55,7 @@ traced-at {w} {X} n request after s u t v at is = record {
     | inl same ↦ let here : (u.block n).service ≡ Waits r own source k = rw same at e in
         rw same (at.asked_here r source own k here)
     | inr other ↦
-        let before : (s.block i).service ≡ Waits r own source k =
-        ap (λ (b : Block X). b.service) (sym (at.other_blocks i other)) ∙ e in
+        let before : (s.block i).service ≡ Waits r own source k = cc (at.other_blocks i other, e) in
         at.asked_else i r source own k other before ∙ is.asked i r source own k before ∙ ap
         (λ (m : MessageA w). Some (a_beat_of m 0)) (sym (at.other_requests i other))
   ];
@@ -80,20 +79,14 @@ same_client : (service after : Service) → SameService service after → client
 same_client (GrantSent q d k) (GrantTaken r) e = ap Some e
 same_client (GrantSent q d k) Free e = absurd cc
 same_client (GrantSent q d k) (Waits r own source j) e = absurd cc
-same_client (GrantSent q d k) (GrantSent r b j) e = ap client_in e
-same_client Free after e = ap client_in e
-same_client (Waits r own source k) after e = ap client_in e
-same_client (GrantTaken r) after e = ap client_in e
+same_client service after e = ap client_in e
 
 same_for : {w : ℕ} (service after : Service) (n : ℕ) (m : MessageA w) → SameService service after → IsFor service n m
     → IsFor after n m
-same_for (GrantSent q d k) (GrantTaken r) n m e ok = ok
 same_for (GrantSent q d k) Free n m e ok = absurd cc
 same_for (GrantSent q d k) (Waits r own source j) n m e ok = absurd cc
-same_for (GrantSent q d k) (GrantSent r b j) n m e ok = ok
-same_for Free after n m e ok = rw e ok
-same_for (Waits r own source k) after n m e ok = rw e ok
-same_for (GrantTaken r) after n m e ok = rw e ok
+same_for (GrantSent q d k) after n m e ok = ok
+same_for service after n m e ok = rw e ok
 
 pub same_waits : (service after : Service) (r source : ℕ) (own : Bool) (k : Cap) → SameService service after
     → after ≡ Waits r own source k → service ≡ Waits r own source k
@@ -105,9 +98,9 @@ same_waits Free after r source own k e f = sym e ∙ f
 same_waits (Waits i o src l) after r source own k e f = sym e ∙ f
 same_waits (GrantTaken i) after r source own k e f = sym e ∙ f
 
-pub traced-same : {w : ℕ} {X : Type 0} (request : ℕ → MessageA w) (s u : State X) (t : Trace w) → IsSameToManager s u
+pub traced-same : {w : ℕ} {X : Type 0} {request : ℕ → MessageA w} {s u : State X} {t : Trace w} → IsSameToManager s u
     → IsTraced request s t → IsTraced request u t
-traced-same {w} {X} request s u t same is = record {
+traced-same {w} {X} {request} {s} {u} same is = record {
   recorded_is = λ c n. is.recorded_is c n ∙ sym (same.recorded_same c n);
   probes = λ c n. is.probes c n ∙ ap not (sym (same.quiet_same c n));
   serving_is = λ n. is.serving_is n ∙ ap₂ (λ (o : Option ℕ) (i : ℕ). service_with o i (request n))

@@ -7,39 +7,27 @@ use Rattle.tl_coherence.proofs.manager.Imports.{Acquire, Probe, ProbeAck, Releas
 use Rattle.tl_coherence.proofs.manager.Imports.{Packet, set, IsServedWith}
 use Rattle.std.proofs.Common.{◌≡◌, ℕ, Bool, true, false, ◌==◌, List, ◌∷◌, refl, sym, ◌∙◌, ap, ap₂, inl, inr}
 use Rattle.std.proofs.lemmas.Bool.{cases_eq, eqb-true}
-use Rattle.tl_burst.specs.declared.message.Message.TheVariants as message
-use Rattle.tl_client.specs.declared.operation.Op.{Op}
-use Rattle.tl_client.specs.declared.operation.Op.TheVariants as op
-use Rattle.tl_client.specs.declared.reply.Reply.{Reply}
-use Rattle.tl_client.specs.declared.reply.Reply.TheVariants as reply
-use Rattle.tl_client.specs.statement.Ask.{copy_stored, whole_grow}
-use Rattle.tl_client.specs.statement.Send.{access}
-use Rattle.tl_coherence.specs.refinement.AbstractStep.{asked, taken_by_client}
-use Rattle.tl_coherence.specs.protocol.Phase.{ProbeSent, is_whole}
+use Rattle.tl_client.{specs.declared.operation.Op.Op, specs.declared.reply.Reply.Reply, specs.statement.Ask.copy_stored}
+use Rattle.tl_client.{specs.statement.Ask.whole_grow, specs.statement.Send.access}
+use Rattle.tl_coherence.specs.{refinement.AbstractStep.asked, refinement.AbstractStep.taken_by_client}
+use Rattle.tl_coherence.specs.{protocol.Phase.ProbeSent, protocol.Phase.is_whole, protocol.Tokens.shown}
+use Rattle.tl_coherence.specs.{refinement.PacketMessages.cap_sent, protocol.Packet.set_at}
 use Rattle.tl_coherence.specs.protocol.PhaseSteps.{after_acquire, after_release, after_probe, after_grant}
 use Rattle.tl_coherence.specs.protocol.PhaseSteps.{after_release_ack}
 use Rattle.tl_coherence.specs.protocol.Protocol.{acquiring_block, releasing_block, stored_block, probed_block}
-use Rattle.tl_coherence.specs.protocol.Tokens.{shown}
-use Rattle.tl_coherence.specs.protocol.Protocol.{taken_block, let_go_block, access_asked, acquire_asked, release_asked}
-use Rattle.tl_coherence.specs.protocol.Protocol.{block_stored, probe_taken, answer_taken, grant_taken}
-use Rattle.tl_coherence.specs.protocol.Protocol.{release_ack_taken}
-use Rattle.tl_coherence.specs.refinement.PacketMessages.{cap_sent}
-use Rattle.tl_coherence.specs.protocol.Packet.{set_at}
-use Rattle.tl_coherence.proofs.manager.Traces.{IsSameToManager, SameService}
-use Rattle.tl_coherence.proofs.manager.Choices.{waits-used}
-use Rattle.tl_coherence.proofs.protocol.FollowKept.{IsAskable, asked-kept}
-use Rattle.tl_coherence.proofs.manager.ManagersEnd.{IsAtManager, at_manager-same}
+use Rattle.tl_coherence.specs.protocol.Protocol.{taken_block, let_go_block, access_asked}
+use Rattle.tl_coherence.proofs.{manager.Traces.IsSameToManager, manager.Traces.SameService, manager.Choices.waits-used}
+use Rattle.tl_coherence.proofs.{protocol.FollowKept.IsAskable, protocol.FollowKept.asked-kept}
+use Rattle.tl_coherence.proofs.{manager.ManagersEnd.IsAtManager, manager.ManagersEnd.at_manager-same}
+use Rattle.tl_coherence.proofs.{protocol.BothParts.granting-own, protocol.BothParts.sent-is}
+use Rattle.tl_coherence.proofs.{manager.ManagerAfter.IsManagerOf}
 use Rattle.tl_coherence.proofs.queues.Tokens.{set-same, set-other, set-part, holds-first}
-use Rattle.tl_coherence.proofs.protocol.BothParts.{granting-own, sent-is}
-use Rattle.tl_coherence.proofs.manager.ManagerAfter.{IsManagerOf}
 
 -- ---- one block changes, and not to the manager
 
 same-again : (service : Service) → SameService service service
 same-again Free = refl
-same-again (Waits r own source k) = refl
-same-again (GrantSent q d k) = refl
-same-again (GrantTaken q) = refl
+same-again service = refl
 
 -- the block is the same to the manager
 pub record IsSameBlock {X : Type 0} (b new : Block X) : Type 0 where
@@ -49,10 +37,9 @@ pub record IsSameBlock {X : Type 0} (b new : Block X) : Type 0 where
   pub service_same : SameService b.service new.service
   pub memory_same : new.memory ≡ b.memory
 
-pub same-blocks : {X : Type 0} (n : ℕ) (new : Block X) (s u : State X) → ((i : ℕ) → u.block i ≡ set n new s.block i)
-    → IsSameBlock (s.block n) new
-    → IsSameToManager s u × ((i : ℕ) → (u.block i).memory ≡ (s.block i).memory)
-same-blocks {X} n new s u blocks is = (
+pub same-blocks : {X : Type 0} (n : ℕ) {new : Block X} (s u : State X) → ((i : ℕ) → u.block i ≡ set n new s.block i)
+    → IsSameBlock (s.block n) new → IsSameToManager s u × ((i : ℕ) → (u.block i).memory ≡ (s.block i).memory)
+same-blocks {X} n {new} s u blocks is = (
   record {
     recorded_same = λ c i. same (λ (b : Block X). (b.pair c).recorded) (is.recorded_same c) i;
     quiet_same = λ c i. same (λ (b : Block X). is_unprobed (b.pair c).probing) (is.quiet_same c) i;
@@ -70,22 +57,20 @@ same-blocks {X} n new s u blocks is = (
     same part e i = ap part (blocks i) ∙ set-part part n new s.block e i
 
 -- and what is kept of the manager's end stays
-pub at_manager-unseen : {w : ℕ} (caching : ℕ → Bool) (config : Config) (mail : AccessMessages w) (request : ℕ
-    → MessageA w) (n : ℕ) (new : Block (List ℕ))
-    (s u : State (List ℕ)) (e : End w) → IsInvariant caching u
+pub at_manager-unseen : {w : ℕ} {caching : ℕ → Bool} {config : Config} {mail : AccessMessages w} {request : ℕ
+    → MessageA w} (n : ℕ) {new : Block (List ℕ)} {s u : State (List ℕ)} {e : End w} → IsInvariant caching u
     → ((i : ℕ) → u.block i ≡ set n new s.block i) → IsSameBlock (s.block n) new → IsAtManager config mail request s e
     → IsAtManager config mail request u e
-at_manager-unseen caching config mail request n new s u e inv blocks same is =
-    let all = same-blocks n new s u blocks same in
-    at_manager-same caching config mail request s u e inv all.0 all.1 is
+at_manager-unseen {caching} {config} {mail} {request} n {new} {s} {u} {e} inv blocks same is =
+    let all = same-blocks n s u blocks same in
+    at_manager-same inv all.0 all.1 is
 
 -- where no block changes at all
-pub at_manager-untouched : {w : ℕ} (caching : ℕ → Bool) (config : Config) (mail : AccessMessages w) (request : ℕ
-    → MessageA w) (s u : State (List ℕ)) (e : End w)
-    → IsInvariant caching u → ((i : ℕ) → u.block i ≡ s.block i)
+pub at_manager-untouched : {w : ℕ} {caching : ℕ → Bool} {config : Config} {mail : AccessMessages w} {request : ℕ
+    → MessageA w} {s u : State (List ℕ)} {e : End w} → IsInvariant caching u → ((i : ℕ) → u.block i ≡ s.block i)
     → IsAtManager config mail request s e → IsAtManager config mail request u e
-at_manager-untouched caching config mail request s u e inv blocks is =
-    at_manager-same caching config mail request s u e inv
+at_manager-untouched {caching} {config} {mail} {request} {s} {u} {e} inv blocks is =
+    at_manager-same inv
     (record {
       recorded_same = λ c i. ap (λ (b : Block (List ℕ)). (b.pair c).recorded) (blocks i);
       quiet_same = λ c i. ap (λ (b : Block (List ℕ)). is_unprobed (b.pair c).probing) (blocks i);
@@ -96,14 +81,11 @@ at_manager-untouched caching config mail request s u e inv blocks is =
 
 -- a client's pair in place of one that is the same to the manager
 same-pair : {X : Type 0} (c : ℕ) (p : ClientBlock) (b : Block X) → p.recorded ≡ (b.pair c).recorded
-    → is_unprobed p.probing ≡ is_unprobed (b.pair c).probing
-    → (new : Block X) → new.pair ≡ set c p b.pair → new.tracker ≡ b.tracker
-    → SameService b.service new.service → new.memory ≡ b.memory → IsSameBlock b new
+    → is_unprobed p.probing ≡ is_unprobed (b.pair c).probing → (new : Block X) → new.pair ≡ set c p b.pair
+    → new.tracker ≡ b.tracker → SameService b.service new.service → new.memory ≡ b.memory → IsSameBlock b new
 same-pair c p b recorded quiet new pairs tracker service memory = record {
-  recorded_same = λ d. ap (λ (f : ℕ → ClientBlock). (f d).recorded) pairs ∙ set-part (λ (q : ClientBlock). q.recorded) c
-      p b.pair recorded d;
-  quiet_same = λ d. ap (λ (f : ℕ → ClientBlock). is_unprobed (f d).probing) pairs ∙ set-part
-      (λ (q : ClientBlock). is_unprobed q.probing) c p b.pair quiet d;
+  recorded_same = λ d. cc (pairs, set-part (λ (q : ClientBlock). q.recorded) c p b.pair recorded d);
+  quiet_same = λ d. cc (pairs, set-part (λ (q : ClientBlock). is_unprobed q.probing) c p b.pair quiet d);
   tracker_same = tracker;
   service_same = service;
   memory_same = memory;
@@ -123,8 +105,7 @@ same-stored c bytes b = record {
   recorded_same = λ d. refl;
   quiet_same = λ d. refl;
   tracker_same = refl;
-  service_same =
-      same-again b.service;
+  service_same = same-again b.service;
   memory_same = refl;
 }
 
@@ -145,16 +126,16 @@ same-let_go c b = same-pair c (after_release_ack (b.pair c)) b refl refl (let_go
 -- ---- a client is asked
 
 -- an access that starts has a source of which no request waits
-asked_with : {w : ℕ} (caching : ℕ → Bool) (c source n : ℕ) (i : Message w) (mail : AccessMessages w)
-    (s : State (List ℕ)) (m : MessageA w) → IsInvariant caching s → s.uses c source ≡ SourceFree
+asked_with : {w : ℕ} {caching : ℕ → Bool} (c source n : ℕ) (i : Message w) (mail : AccessMessages w)
+    {s : State (List ℕ)} (m : MessageA w) → IsInvariant caching s → s.uses c source ≡ SourceFree
     → (service : Service) → (s.block n).service ≡ service → IsServedWith mail service m
     → IsServedWith (record { request = set_at c source i mail.request; answer = mail.answer }) service m
-asked_with caching c source n i mail s m inv closed Free e ok = tt
-asked_with caching c source n i mail s m inv closed (Waits r true src k) e ok = tt
-asked_with {w} caching c source n i mail s m inv closed (Waits r false src k) e ok = elim (cases_eq r c) [
+asked_with c source n i mail m inv closed Free e ok = tt
+asked_with c source n i mail m inv closed (Waits r true src k) e ok = tt
+asked_with {w} {caching} c source n i mail {s} m inv closed (Waits r false src k) e ok = elim (cases_eq r c) [
   | inl client ↦ elim (cases_eq src source) [
     | inl number ↦
-        absurd (let used : s.uses r src ≡ InService n = waits-used caching s n r src false k inv e in
+        absurd (let used : s.uses r src ≡ InService n = waits-used n r src false k inv e in
         let no : SourceFree ≡ InService n = sym closed ∙ ap₂ s.uses (sym client) (sym number) ∙ used in cc)
     | inr other ↦
         rw client (ap (λ (f : ℕ → Message w). f src) (set-same c (set source i (mail.request c)) mail.request)
@@ -164,21 +145,20 @@ asked_with {w} caching c source n i mail s m inv closed (Waits r false src k) e 
   | inr other ↦ ap (λ (f : ℕ → Message w). f src) (set-other c r (set source i (mail.request c)) mail.request other)
       ∙ ok
 ]
-asked_with caching c source n i mail s m inv closed (GrantSent q d k) e ok = tt
-asked_with caching c source n i mail s m inv closed (GrantTaken q) e ok = tt
+asked_with c source n i mail m inv closed (GrantSent q d k) e ok = tt
+asked_with c source n i mail m inv closed (GrantTaken q) e ok = tt
 
-at_manager-access : {w : ℕ} (caching : ℕ → Bool) (config : Config) (c source : ℕ) (m : MessageA w) (h : AbstractState w)
+at_manager-access : {w : ℕ} {caching : ℕ → Bool} (config : Config) (c source : ℕ) (m : MessageA w) (h : AbstractState w)
     (e : End w) → IsInvariant caching h.state
     → h.state.uses c source ≡ SourceFree → IsInvariant caching (access_asked c source h.state)
-    → IsManagerOf config h e → IsManagerOf config (asked c (op.Access (message.A m)) (reply.Started source) h) e
-at_manager-access {w} caching config c source m h e inv closed after is =
-    let now : IsAtManager config h.mail h.request (access_asked c source h.state) e =
-    at_manager-untouched caching config h.mail h.request h.state (access_asked c source h.state) e after (λ i. refl) is
-    in
+    → IsManagerOf config h e → IsManagerOf config (asked c (Op.Access (Message.A m)) (Reply.Started source) h) e
+at_manager-access {w} {caching} config c source m h e inv closed after is =
+    let now = at_manager-untouched after
+    (λ i. refl) is in
     record {
       managed = now.managed;
       served = now.served;
-      served_with = λ n. asked_with caching c source n (access source m) h.mail h.state (h.request n) inv closed
+      served_with = λ n. asked_with c source n (access source m) h.mail (h.request n) inv closed
           (h.state.block n).service refl (is.served_with n);
       manager_kept = now.manager_kept;
       memory = now.memory;
@@ -186,60 +166,31 @@ at_manager-access {w} caching config c source m h e inv closed after is =
     }
 
 -- what is kept of the manager's end stays as a client is asked
-pub at_manager-asked : {w : ℕ} (caching : ℕ → Bool) (config : Config) (c : ℕ) (o : Op w) (r : Reply)
+pub at_manager-asked : {w : ℕ} {caching : ℕ → Bool} (config : Config) (c : ℕ) (o : Op w) (r : Reply)
     (h : AbstractState w) (e : End w) → IsInvariant caching h.state
     → IsAskable caching c o r h → IsManagerOf config h e → IsManagerOf config (asked c o r h) e
-at_manager-asked {w} caching config c o r h e inv may is = go o r may (asked-kept caching c o r h inv may)
+at_manager-asked {w} {caching} config c o r h e inv may is = go o r may (asked-kept c o r h inv may)
   where
     go : (o : Op w) (r : Reply) → IsAskable caching c o r h → IsInvariant caching (asked c o r h).state
         → IsManagerOf config (asked c o r h) e
-    go (op.Load address size) r may after = is
-    go (op.Store address size value) reply.Stored may after =
+    go (Op.Store address size value) Reply.Stored may after =
         let bytes = copy_stored address size value ((h.state.block (block_at address)).copy c) in
-        at_manager-unseen caching config h.mail h.request (block_at address)
-        (stored_block c bytes (h.state.block (block_at address))) h.state
-        (block_stored c (block_at address) bytes h.state) e after (λ i. refl)
+        at_manager-unseen (block_at address)
+        after (λ i. refl)
         (same-stored c bytes (h.state.block (block_at address))) is
-    go (op.Acquire n g) (reply.Started source) may after =
-        at_manager-unseen caching config h.mail h.request n
-        (acquiring_block c source false g ((h.state.block n).waiting c) (h.state.block n)) h.state
-        (acquire_asked c n source false g ((h.state.block n).waiting c) h.state) e after (λ i. refl)
-        (same-acquiring c source false g ((h.state.block n).waiting c) (h.state.block n)) is
-    go (op.AcquireWhole n bytes) (reply.Started source) may after =
+    go (Op.Acquire n g) (Reply.Started source) may after =
+        at_manager-unseen n after (λ i. refl) (same-acquiring c source false g ((h.state.block n).waiting c)
+        (h.state.block n)) is
+    go (Op.AcquireWhole n bytes) (Reply.Started source) may after =
         let g = whole_grow ((h.state.block n).pair c).held in
-        at_manager-unseen caching config h.mail h.request n (acquiring_block c source true g bytes (h.state.block n))
-        h.state (acquire_asked c n source true g bytes h.state) e after (λ i. refl)
+        at_manager-unseen n
+        after (λ i. refl)
         (same-acquiring c source true g bytes (h.state.block n)) is
-    go (op.Release n p) (reply.Started source) may after =
-        at_manager-unseen caching config h.mail h.request n (releasing_block c source p (h.state.block n)) h.state
-        (release_asked c n source p h.state) e after
-        (λ i. refl) (same-releasing c source p (h.state.block n)) is
-    go (op.Access (message.A m)) (reply.Started source) may after = at_manager-access caching config c source m h e inv
+    go (Op.Release n p) (Reply.Started source) may after =
+        at_manager-unseen n after (λ i. refl) (same-releasing c source p (h.state.block n)) is
+    go (Op.Access (Message.A m)) (Reply.Started source) may after = at_manager-access config c source m h e inv
         may after is
-    go (op.Store address size value) (reply.Value v) may after = is
-    go (op.Store address size value) reply.Miss may after = is
-    go (op.Store address size value) (reply.Started source) may after = is
-    go (op.Store address size value) (reply.Busy why) may after = is
-    go (op.Acquire n g) (reply.Value v) may after = is
-    go (op.Acquire n g) reply.Stored may after = is
-    go (op.Acquire n g) reply.Miss may after = is
-    go (op.Acquire n g) (reply.Busy why) may after = is
-    go (op.AcquireWhole n bytes) (reply.Value v) may after = is
-    go (op.AcquireWhole n bytes) reply.Stored may after = is
-    go (op.AcquireWhole n bytes) reply.Miss may after = is
-    go (op.AcquireWhole n bytes) (reply.Busy why) may after = is
-    go (op.Release n p) (reply.Value v) may after = is
-    go (op.Release n p) reply.Stored may after = is
-    go (op.Release n p) reply.Miss may after = is
-    go (op.Release n p) (reply.Busy why) may after = is
-    go (op.Access (message.A m)) (reply.Value v) may after = is
-    go (op.Access (message.A m)) reply.Stored may after = is
-    go (op.Access (message.A m)) reply.Miss may after = is
-    go (op.Access (message.A m)) (reply.Busy why) may after = is
-    go (op.Access (message.B m)) r may after = is
-    go (op.Access (message.C m)) r may after = is
-    go (op.Access (message.D m)) r may after = is
-    go (op.Access (message.E m)) r may after = is
+    go o r may after = is
 
 -- ---- a client takes a message
 
@@ -252,44 +203,39 @@ is_to_clients ReleaseAck = true
 is_to_clients _ = false
 
 -- what is kept of the manager's end stays as a client takes a message
-pub at_manager-client_taken : {w : ℕ} (caching : ℕ → Bool) (config : Config) (tracker c : ℕ) (kind : Kind) (n : ℕ)
-    (rest : List Packet) (h : AbstractState w)
-    (e : End w) → is_to_clients kind ≡ true → IsInvariant caching h.state
+pub at_manager-client_taken : {w : ℕ} {caching : ℕ → Bool} (config : Config) (tracker c : ℕ) (kind : Kind) (n : ℕ)
+    (rest : List Packet) (h : AbstractState w) (e : End w) → is_to_clients kind ≡ true → IsInvariant caching h.state
     → on kind (h.state.link c) ≡ packet kind n ∷ rest
     → IsInvariant caching (kind_taken config tracker c kind n rest h).state → IsManagerOf config h e
     → IsManagerOf config (kind_taken config tracker c kind n rest h) e
-at_manager-client_taken caching config tracker c Request n rest h e kind inv first after is = absurd cc
-at_manager-client_taken caching config tracker c Acquire n rest h e kind inv first after is = absurd cc
-at_manager-client_taken caching config tracker c ProbeAck n rest h e kind inv first after is = absurd cc
-at_manager-client_taken caching config tracker c Release n rest h e kind inv first after is = absurd cc
-at_manager-client_taken caching config tracker c GrantAck n rest h e kind inv first after is = absurd cc
-at_manager-client_taken caching config tracker c Probe n rest h e kind inv first after is =
+at_manager-client_taken config tracker c Request n rest h e kind inv first after is = absurd cc
+at_manager-client_taken config tracker c Acquire n rest h e kind inv first after is = absurd cc
+at_manager-client_taken config tracker c ProbeAck n rest h e kind inv first after is = absurd cc
+at_manager-client_taken config tracker c Release n rest h e kind inv first after is = absurd cc
+at_manager-client_taken config tracker c GrantAck n rest h e kind inv first after is = absurd cc
+at_manager-client_taken {caching} config tracker c Probe n rest h e kind inv first after is =
     let k = cap_sent ((h.state.block n).pair c).probing in
     let sent = sent-is ((h.state.block n).pair c).probing (holds-first Probe (h.state.link c).b rest (packet Probe n)
     (λ i. shown Probe c (h.state.block i)) first refl (inv.transfers c Probe refl)) in
-    at_manager-unseen caching config h.mail h.request n (probed_block c k (h.state.block n)) h.state
-    (probe_taken c n k rest h.state) e after (λ i. refl) (same-probed c k k (h.state.block n) sent) is
-at_manager-client_taken caching config tracker c Answer n rest h e kind inv first after is =
-    at_manager-untouched caching config h.mail h.request h.state (answer_taken c n rest h.state) e after (λ i. refl) is
-at_manager-client_taken caching config tracker c ReleaseAck n rest h e kind inv first after is =
-    at_manager-unseen caching config h.mail h.request n (let_go_block c (h.state.block n)) h.state
-    (release_ack_taken c n rest h.state) e after (λ i. refl) (same-let_go c (h.state.block n)) is
-at_manager-client_taken {w} caching config tracker c Grant n rest h e kind inv first after is =
+    at_manager-unseen n
+    after (λ i. refl) (same-probed c k k (h.state.block n) sent) is
+at_manager-client_taken {caching} config tracker c Answer n rest h e kind inv first after is =
+    at_manager-untouched after (λ i. refl) is
+at_manager-client_taken {caching} config tracker c ReleaseAck n rest h e kind inv first after is =
+    at_manager-unseen n after (λ i. refl) (same-let_go c (h.state.block n)) is
+at_manager-client_taken {w} {caching} config tracker c Grant n rest h e kind inv first after is =
     go (h.state.block n).service refl after
   where
     go : (service : Service) → (h.state.block n).service ≡ service
         → IsInvariant caching (taken_by_client c n service rest h).state
         → IsManagerOf config (taken_by_client c n service rest h) e
-    go Free f kept = is
-    go (Waits r own source k) f kept = is
-    go (GrantTaken q) f kept = is
     go (GrantSent q d k) f kept =
         let seen : is_granting (view (GrantSent q d k) c) ≡ true =
-        rw f at (holds-first Grant (h.state.link c).d rest (packet Grant n) (λ i. shown Grant c (h.state.block i)) first
-        refl
-        (inv.transfers c Grant refl)) in
+        rw f at (holds-first Grant (h.state.link c).d rest (packet Grant n) (λ i. shown Grant c (h.state.block i))
+        first refl (inv.transfers c Grant refl)) in
         let same : c ≡ q = eqb-true c q (granting-own (c == q) d k seen) in
         let whole = is_whole ((h.state.block n).pair c).acquiring in
-        at_manager-unseen caching config h.mail h.request n (taken_block c whole d k (h.state.block n)) h.state
-        (grant_taken c n whole d k rest h.state) e kept
+        at_manager-unseen n
+        kept
         (λ i. refl) (same-taken c whole d k k (h.state.block n) (f ∙ rw same refl)) is
+    go service f kept = is

@@ -1,80 +1,69 @@
 -- Steps of the whole that the manager doesn't see: an event of a client that there isn't, a client that is asked, and a
 -- delivery to a client.
 use Rattle.tl_coherence.proofs.manager.Imports.{Beat, Link, Channel, Message, unfinished, Config, AbstractState}
-use Rattle.tl_coherence.proofs.manager.Imports.{IsInvariant, Log, packet, is_on, on, System, Kind, Request}
-use Rattle.tl_coherence.proofs.manager.Imports.{Acquire, Probe, ProbeAck, Release, Answer, Grant, ReleaseAck, GrantAck}
-use Rattle.tl_coherence.proofs.manager.Imports.{Packet, SimulationRelation, is_caching}
+use Rattle.tl_coherence.proofs.manager.Imports.{IsInvariant, Log, packet, is_on, on, System, Kind, Request, Acquire}
+use Rattle.tl_coherence.proofs.manager.Imports.{Probe, ProbeAck, Release, Answer, Grant, ReleaseAck, GrantAck, Packet}
+use Rattle.tl_coherence.proofs.manager.Imports.{SimulationRelation, is_caching}
 use Rattle.std.proofs.Common.{◌≡◌, subst, ℕ, Bool, true, false, ◌&&◌, List, [], ◌∷◌, Option, Some, None, refl, sym, ◌∙◌}
 use Rattle.std.proofs.Common.{ap}
 use Rattle.std.proofs.lemmas.Bool.{true_from_ne_false}
-use Rattle.std.specs.Prelude.{if◌then◌else◌, Result, Ok, Err}
-use Rattle.tl_beat.specs.declared.channel.Channel.TheVariants as channel
+use Rattle.std.specs.Prelude.{if◌then◌else◌, Result, Ok}
 use Rattle.tl_params.specs.declared.rule.Rule.{Rule}
-use Rattle.tl_client.specs.declared.operation.Op.{Op}
-use Rattle.tl_client.specs.declared.verdict.Verdict.{Verdict}
-use Rattle.tl_client.specs.declared.verdict.Verdict.TheVariants as verdict
+use Rattle.tl_client.{specs.declared.operation.Op.Op, specs.declared.verdict.Verdict.Verdict}
+use Rattle.tl_client.{specs.statement.Offer.offered}
 use Rattle.tl_client.specs.statement.Ask as client_ask
 use Rattle.tl_client.specs.statement.Endpoint as client
-use Rattle.tl_client.specs.statement.Offer.{offered}
-use Rattle.tl_coherence.specs.declared.event.Event.{Event}
+use Rattle.tl_coherence.specs.{declared.event.Event.Event, declared.event.Outcome.Outcome, statement.Draining.is_moving}
+use Rattle.tl_coherence.specs.{statement.Delivery.receiver, protocol.Protocol.packets_on}
 use Rattle.tl_coherence.specs.declared.event.Event.TheVariants.{Ask, Deliver}
-use Rattle.tl_coherence.specs.declared.event.Outcome.TheVariants as outcome
-use Rattle.tl_coherence.specs.statement.Draining.{is_moving}
 use Rattle.tl_coherence.specs.refinement.AbstractStep as follow
-use Rattle.tl_coherence.specs.refinement.AbstractStep.{abstract_step_by, is_last, packet_taken, abstract_delivery}
-use Rattle.tl_coherence.specs.refinement.AbstractStep.{abstract_step}
-use Rattle.tl_coherence.specs.statement.Delivery.{receiver}
+use Rattle.tl_coherence.specs.refinement.AbstractStep.{abstract_step_by, is_last, packet_taken, abstract_step}
 use Rattle.tl_coherence.specs.protocol.Protocol as protocol
-use Rattle.tl_coherence.specs.protocol.Protocol.{packets_on}
 use Rattle.tl_coherence.specs.statement.Step.{Step, handed_by, judged, is_to_client, client_of, stepped}
 use Rattle.tl_coherence.specs.statement.System.{terms_at, with_client, with_channel}
-use Rattle.tl_coherence.proofs.manager.Admitted.{first_counts}
-use Rattle.tl_coherence.proofs.protocol.FollowKept.{IsAskable}
-use Rattle.tl_coherence.proofs.manager.ManagersEnd.{at_manager-matched}
-use Rattle.tl_coherence.proofs.manager.UnwaitedRequests.{next_tracker}
+use Rattle.tl_coherence.proofs.{manager.Admitted.first_counts, protocol.FollowKept.IsAskable}
+use Rattle.tl_coherence.proofs.{manager.ManagersEnd.at_manager-matched, manager.UnwaitedRequests.next_tracker}
+use Rattle.tl_coherence.proofs.{manager.ManagerAfter.IsManagerOf}
 use Rattle.tl_coherence.proofs.queues.Steps.{manager-with_messages, stepped-asked, stepped-to-client, stepped-empty}
 use Rattle.tl_coherence.proofs.manager.Unseen.{at_manager-asked, is_to_clients, at_manager-client_taken}
-use Rattle.tl_coherence.proofs.manager.ManagerAfter.{IsManagerOf}
 
 -- ---- there is no client of this number
 
-pub at_manager-nobody : {w : ℕ} (config : Config) (log : Log w) (h : AbstractState w) (sys : System w) (event : Event w)
+pub at_manager-nobody : {w : ℕ} {config : Config} {log : Log w} (h : AbstractState w) {sys : System w} (event : Event w)
     → SimulationRelation config log h.mail h.request h.state sys → terms_at config (client_of event) ≡ None
     → IsManagerOf config (abstract_step config event sys h) (stepped config event sys).after.manager
 unfolding stepped
-at_manager-nobody {w} config log h sys event is none = rw none (go event)
-  where
-    go : (event : Event w) → IsManagerOf config (abstract_step_by config event outcome.NoSuchClient sys h) sys.manager
-    go (Ask c o) = at_manager-matched config log h.mail h.request h.state sys is
-    go (Deliver link ch) = at_manager-matched config log h.mail h.request h.state sys is
+at_manager-nobody {w} {config} {log} h {sys} event is none =
+    let go : (event : Event w) → IsManagerOf config (abstract_step_by config event Outcome.NoSuchClient sys h)
+    sys.manager = elim [ Ask c o ↦ at_manager-matched is | Deliver link ch ↦ at_manager-matched is ] in
+    rw none (go event)
 
 -- ---- a client is asked
 
-pub at_manager-ask : {w : ℕ} (config : Config) (log : Log w) (h : AbstractState w) (sys : System w) (c : ℕ) (o : Op w)
+pub at_manager-ask : {w : ℕ} {config : Config} {log : Log w} (h : AbstractState w) {sys : System w} (c : ℕ) (o : Op w)
     (terms : client.EndConfig)
     → SimulationRelation config log h.mail h.request h.state sys → terms_at config c ≡ Some terms
     → IsAskable (is_caching config) c o (client_ask.asked terms o (sys.clients c)).reply h
     → IsManagerOf config (abstract_step config (Ask c o) sys h) (stepped config (Ask c o) sys).after.manager
-at_manager-ask {w} config log h sys c o terms is there may =
+at_manager-ask {w} {config} {log} h {sys} c o terms is there may =
     let a = client_ask.asked terms o (sys.clients c) in
     subst (λ (s : Step w). IsManagerOf config (abstract_step_by config (Ask c o) s.outcome sys h) s.after.manager)
     (sym (stepped-asked config c o sys terms there))
     (subst (IsManagerOf config (follow.asked c o a.reply h))
     (sym (manager-with_messages (handed_by c a.message) (with_client c a.after sys)))
-    (at_manager-asked (is_caching config) config c o a.reply h sys.manager is.invariant may
-    (at_manager-matched config log h.mail h.request h.state sys is)))
+    (at_manager-asked config c o a.reply h sys.manager is.invariant may
+    (at_manager-matched is)))
 
 -- ---- a delivery to a client
 
 manager-judged : {w : ℕ} (r : Result (Verdict × Option (Message w)) Rule) (link : ℕ) (ch : Channel) (x : Beat w)
     (rest : List (Beat w)) (e : client.Endpoint w)
     (s : System w) → (judged r link ch x rest e s).after.manager ≡ s.manager
-manager-judged (Err rule) link ch x rest e s = refl
-manager-judged (Ok (verdict.Stalled, m)) link ch x rest e s = refl
-manager-judged (Ok (verdict.Taken, m)) link ch x rest e s =
+manager-judged (Ok (Verdict.Taken, m)) link ch x rest e s =
     manager-with_messages (handed_by link m) (with_client link e (with_channel link ch rest s))
-manager-judged (Ok (verdict.Done source f, m)) link ch x rest e s =
+manager-judged (Ok (Verdict.Done source f, m)) link ch x rest e s =
     manager-with_messages (handed_by link m) (with_client link e (with_channel link ch rest s))
+manager-judged r link ch x rest e s = refl
 
 pub manager-to-client : {w : ℕ} (config : Config) (link : Link) (ch : Channel) (sys : System w)
     (terms : client.EndConfig) → terms_at config link.0 ≡ Some terms
@@ -91,50 +80,41 @@ manager-to-client {w} config link ch sys terms there up = go (sys.channels link.
 
 -- the kinds of a channel to clients
 to_clients : (ch : Channel) (k : Kind) → is_to_client ch ≡ true → (is_on ch k ≡ false → ⊥) → is_to_clients k ≡ true
-to_clients channel.B Probe up on_it = refl
-to_clients channel.D Answer up on_it = refl
-to_clients channel.D Grant up on_it = refl
-to_clients channel.D ReleaseAck up on_it = refl
-to_clients channel.B Request up on_it = absurd (on_it refl)
-to_clients channel.B Acquire up on_it = absurd (on_it refl)
-to_clients channel.B ProbeAck up on_it = absurd (on_it refl)
-to_clients channel.B Release up on_it = absurd (on_it refl)
-to_clients channel.B Answer up on_it = absurd (on_it refl)
-to_clients channel.B Grant up on_it = absurd (on_it refl)
-to_clients channel.B ReleaseAck up on_it = absurd (on_it refl)
-to_clients channel.B GrantAck up on_it = absurd (on_it refl)
-to_clients channel.D Request up on_it = absurd (on_it refl)
-to_clients channel.D Acquire up on_it = absurd (on_it refl)
-to_clients channel.D Probe up on_it = absurd (on_it refl)
-to_clients channel.D ProbeAck up on_it = absurd (on_it refl)
-to_clients channel.D Release up on_it = absurd (on_it refl)
-to_clients channel.D GrantAck up on_it = absurd (on_it refl)
-to_clients channel.A k up on_it = absurd cc
-to_clients channel.C k up on_it = absurd cc
-to_clients channel.E k up on_it = absurd cc
+to_clients Channel.B Probe up on_it = refl
+to_clients Channel.D Answer up on_it = refl
+to_clients Channel.D Grant up on_it = refl
+to_clients Channel.D ReleaseAck up on_it = refl
+to_clients Channel.A k up on_it = absurd cc
+to_clients Channel.C k up on_it = absurd cc
+to_clients Channel.E k up on_it = absurd cc
+to_clients ch k up on_it = absurd (on_it refl)
 
 -- such a kind is on its channel
 on-channel : (ch : Channel) (k : Kind) (l : protocol.Link) → is_on ch k ≡ true → on k l ≡ packets_on ch l
-on-channel channel.A Request l e = refl
-on-channel channel.A Acquire l e = refl
-on-channel channel.B Probe l e = refl
-on-channel channel.C ProbeAck l e = refl
-on-channel channel.C Release l e = refl
-on-channel channel.D Answer l e = refl
-on-channel channel.D Grant l e = refl
-on-channel channel.D ReleaseAck l e = refl
-on-channel channel.E GrantAck l e = refl
+on-channel Channel.A Request l e = refl
+on-channel Channel.A Acquire l e = refl
+on-channel Channel.B Probe l e = refl
+on-channel Channel.C ProbeAck l e = refl
+on-channel Channel.C Release l e = refl
+on-channel Channel.D Answer l e = refl
+on-channel Channel.D Grant l e = refl
+on-channel Channel.D ReleaseAck l e = refl
+on-channel Channel.E GrantAck l e = refl
 on-channel ch k l e = absurd cc
 
 -- where the invariant is kept, so is what is kept of the manager's end
-pub at_manager-to_client : {w : ℕ} (config : Config) (log : Log w) (h : AbstractState w) (sys : System w) (link : Link)
-    (ch : Channel) (terms : client.EndConfig)
-    → SimulationRelation config log h.mail h.request h.state sys → terms_at config link.0 ≡ Some terms
-    → is_to_client ch ≡ true
+pub at_manager-to_client : {w : ℕ} {config : Config} {log : Log w} (h : AbstractState w) {sys : System w} (link : Link)
+    (ch : Channel) (terms : client.EndConfig) → SimulationRelation config log h.mail h.request h.state sys
+    → terms_at config link.0 ≡ Some terms → is_to_client ch ≡ true
     → IsInvariant (is_caching config) (abstract_step config (Deliver link ch) sys h).state
     → IsManagerOf config (abstract_step config (Deliver link ch) sys h)
     (stepped config (Deliver link ch) sys).after.manager
-at_manager-to_client {w} config log h sys link ch terms is there up kept =
+at_manager-to_client {w} {config} {log} h {sys} link ch terms is there up kept =
+    let go : (b : Bool) → IsInvariant (is_caching config) (if b then packet_taken config (next_tracker sys) c
+    (packets_on ch (h.state.link c)) h else h).state
+    → IsManagerOf config (if b then packet_taken config (next_tracker sys) c (packets_on ch (h.state.link c)) h else
+    h) sys.manager = elim [ true ↦ λ inv. taken (packets_on ch (h.state.link c)) refl inv | false ↦ λ inv. known ]
+    in
     subst (IsManagerOf config (abstract_step config (Deliver link ch) sys h))
     (sym (manager-to-client config link ch sys terms there up))
     (go (is_moving (stepped config (Deliver link ch) sys).outcome && is_last (sys.channels c ch)
@@ -144,25 +124,16 @@ at_manager-to_client {w} config log h sys link ch terms is there up kept =
     c = link.0
 
     known : IsManagerOf config h sys.manager
-    known = at_manager-matched config log h.mail h.request h.state sys is
+    known = at_manager-matched is
 
     taken : (xs : List Packet) → packets_on ch (h.state.link c) ≡ xs
         → IsInvariant (is_caching config) (packet_taken config (next_tracker sys) c xs h).state
         → IsManagerOf config (packet_taken config (next_tracker sys) c xs h) sys.manager
     taken [] e inv = known
     taken (y ∷ ys) e inv =
-        at_manager-client_taken (is_caching config) config (next_tracker sys) c y.kind y.number ys h sys.manager
+        let here : is_on ch y.kind ≡ false → ⊥ =
+        λ off. first_counts y ys (rw e at (is.invariant.own_kinds c ch y.kind y.number off)) in
+        let first : on y.kind (h.state.link c) ≡ packet y.kind y.number ∷ ys =
+        on-channel ch y.kind (h.state.link c) (true_from_ne_false (is_on ch y.kind) here) ∙ e in
+        at_manager-client_taken config (next_tracker sys) c y.kind y.number ys h sys.manager
         (to_clients ch y.kind up here) is.invariant first inv known
-      where
-        here : is_on ch y.kind ≡ false → ⊥
-        here off = first_counts y ys (rw e at (is.invariant.own_kinds c ch y.kind y.number off))
-
-        first : on y.kind (h.state.link c) ≡ packet y.kind y.number ∷ ys
-        first = on-channel ch y.kind (h.state.link c) (true_from_ne_false (is_on ch y.kind) here) ∙ e
-
-    go : (b : Bool) → IsInvariant (is_caching config) (if b then packet_taken config (next_tracker sys) c
-        (packets_on ch (h.state.link c)) h else h).state
-        → IsManagerOf config (if b then packet_taken config (next_tracker sys) c (packets_on ch (h.state.link c)) h else
-        h) sys.manager
-    go true inv = taken (packets_on ch (h.state.link c)) refl inv
-    go false inv = known

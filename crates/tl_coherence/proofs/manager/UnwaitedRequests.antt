@@ -1,34 +1,25 @@
 -- What a request finds that needn't wait, whom it probes, and what the manager does for it.
-use Rattle.tl_coherence.proofs.manager.Imports.{MessageA, a_beat_of, beats_of, Config, Cap, Perm}
-use Rattle.tl_coherence.proofs.manager.Imports.{on_link, same_perm, ends, block_at, is_acquire, is_last}
-use Rattle.tl_coherence.proofs.manager.Imports.{swapped, performed, recorded, is_nobody, probed}
-use Rattle.tl_coherence.proofs.manager.Imports.{cap_probed, is_spared, services, least_untaken, trackers_of, reaction}
-use Rattle.tl_coherence.proofs.manager.Imports.{End, must_wait, AbstractState, some_below, is_unheld}
-use Rattle.tl_coherence.proofs.manager.Imports.{kind_taken, IsInvariant, Log, ClientBlock, is_unprobed, is_above}
-use Rattle.tl_coherence.proofs.manager.Imports.{Service, Free, Waits, GrantSent, GrantTaken}
-use Rattle.tl_coherence.proofs.manager.Imports.{State, on, packet, view, AccessMessages}
-use Rattle.tl_coherence.proofs.manager.Imports.{IsFor, System, Kind, Packet, SimulationRelation}
-use Rattle.tl_coherence.proofs.manager.Imports.{is_caching}
-use Rattle.std.proofs.Common.{◌≡◌, ℕ, suc, ◌≤◌, ◌==◌, Bool, true, false, not, ◌&&◌, List, ◌∷◌, Option, Some}
-use Rattle.std.proofs.Common.{None, length, refl, ◌∙◌, ap, arith}
-use Rattle.std.specs.Prelude.{nat_le}
-use Rattle.std.proofs.lemmas.Bool.{or_parts}
-use Rattle.std.proofs.Math.Bool.{and_comm}
-use Rattle.tl_beat.specs.declared.beat.Beat.TheVariants as beat
-use Rattle.tl_burst.specs.declared.message.Message.TheVariants as message
-use Rattle.tl_params.specs.declared.perm.Perm.TheVariants as perm
+use Rattle.tl_coherence.proofs.manager.Imports.{MessageA, a_beat_of, beats_of, Config, Cap, Perm, on_link, same_perm}
+use Rattle.tl_coherence.proofs.manager.Imports.{ends, block_at, is_acquire, is_last, swapped, performed, recorded}
+use Rattle.tl_coherence.proofs.manager.Imports.{is_nobody, probed, cap_probed, is_spared, services, least_untaken}
+use Rattle.tl_coherence.proofs.manager.Imports.{trackers_of, reaction, End, must_wait, AbstractState, some_below}
+use Rattle.tl_coherence.proofs.manager.Imports.{is_unheld, kind_taken, IsInvariant, Log, ClientBlock, is_unprobed}
+use Rattle.tl_coherence.proofs.manager.Imports.{is_above, Service, Free, Waits, State, on, packet, view, AccessMessages}
+use Rattle.tl_coherence.proofs.manager.Imports.{IsFor, System, Kind, Packet, SimulationRelation, is_caching, Beat}
+use Rattle.tl_coherence.proofs.manager.Imports.{Message}
+use Rattle.std.proofs.Common.{◌≡◌, ℕ, suc, ◌≤◌, ◌==◌, Bool, true, false, not, ◌&&◌, List, ◌∷◌, Option, Some, None}
+use Rattle.std.proofs.Common.{length, refl, ◌∙◌, ap, arith}
+use Rattle.std.{specs.Prelude.nat_le, proofs.lemmas.Bool.or_parts, proofs.Math.Bool.and_comm}
 use Rattle.tl_manager.specs.statement.Holders as holders
 use Rattle.tl_manager.specs.statement.Service.{is_in_service}
 use Rattle.tl_manager.proofs.calls.Events.{reaction-unprobed, reaction-intent}
-use Rattle.tl_coherence.specs.refinement.AbstractStep.{probes_some}
-use Rattle.tl_coherence.specs.protocol.Protocol.{is_probed}
-use Rattle.tl_coherence.proofs.manager.Admitted.{unserved-free, free-untracked}
+use Rattle.tl_coherence.specs.{refinement.AbstractStep.probes_some, protocol.Protocol.is_probed}
+use Rattle.tl_coherence.proofs.{manager.Admitted.unserved-free, manager.Admitted.free-untracked}
+use Rattle.tl_coherence.proofs.{queues.PhaseFacts.quiet_at_rest, manager.ManagedServed.same_above}
+use Rattle.tl_coherence.proofs.{manager.Requests.recorded-beat}
 use Rattle.tl_coherence.proofs.manager.Arrivals.{link_of, with_beat, IsComing, ends-coming, service_for, served-last}
 use Rattle.tl_coherence.proofs.manager.Choices.{nobody-same, no-clients, plain-past}
-use Rattle.tl_coherence.proofs.queues.PhaseFacts.{quiet_at_rest}
 use Rattle.tl_coherence.proofs.protocol.FollowKept.{IsReady, IsServing, kind_taken-kept}
-use Rattle.tl_coherence.proofs.manager.ManagedServed.{same_above}
-use Rattle.tl_coherence.proofs.manager.Requests.{recorded-beat}
 
 -- ---- what a request that needn't wait finds
 
@@ -36,32 +27,28 @@ use Rattle.tl_coherence.proofs.manager.Requests.{recorded-beat}
 abbrev pub next_tracker : {w : ℕ} → System w → ℕ
 next_tracker sys = least_untaken (trackers_of (services sys.manager.trace))
 
-pub free-last : {w : ℕ} (config : Config) (log : Log w) (mail : AccessMessages w) (request : ℕ → MessageA w)
-    (s : State (List ℕ)) (sys : System w) (c k : ℕ) (m : MessageA w)
+pub free-last : {w : ℕ} {config : Config} {log : Log w} {mail : AccessMessages w} {request : ℕ → MessageA w}
+    {s : State (List ℕ)} {sys : System w} {c k : ℕ} {m : MessageA w}
     → SimulationRelation config log mail request s sys → IsComing config c k m sys.manager
-    → beats_of (message.A m) ≡ suc k → must_wait config (link_of c) (beat.A (a_beat_of m k)) sys.manager.trace ≡ false
+    → beats_of (Message.A m) ≡ suc k → must_wait config (link_of c) (Beat.A (a_beat_of m k)) sys.manager.trace ≡ false
     → (s.block (block_at m.address)).service ≡ Free
-free-last {w} config log mail request s sys c k m is comes last moves =
-    let ended : ends (beat.A (a_beat_of m k)) (on_link c sys.manager.trace) ≡ true =
-    ends-coming config c k m sys.manager comes ∙ rw last (is_last k (suc k) (omega arith)) in
-    unserved-free request s sys.manager.trace (block_at m.address) is.managed
+free-last {w} {config} {request} {s} {sys} {c} {k} {m} is comes last moves =
+    let ended : ends (Beat.A (a_beat_of m k)) (on_link c sys.manager.trace) ≡ true =
+    ends-coming comes ∙ rw last (is_last k (suc k) (omega arith)) in
+    unserved-free (block_at m.address) is.managed
     (or_parts (is_in_service (block_at m.address) (services sys.manager.trace))
     (nat_le config.trackers (length (services sys.manager.trace)))
     (rw ended at moves)).0
 
-pub untracked-next : {w : ℕ} (config : Config) (log : Log w) (mail : AccessMessages w) (request : ℕ → MessageA w)
-    (s : State (List ℕ)) (sys : System w)
+pub untracked-next : {w : ℕ} {config : Config} {log : Log w} {mail : AccessMessages w} {request : ℕ → MessageA w}
+    {s : State (List ℕ)} {sys : System w}
     → SimulationRelation config log mail request s sys → s.tracked (next_tracker sys) ≡ None
-untracked-next config log mail request s sys is = free-untracked (is_caching config) request s sys.manager.trace
-    is.invariant is.managed
+untracked-next {config} {request} {s} {sys} is = free-untracked is.invariant is.managed
 
 -- the access that has a block in service
 serving-for : {w : ℕ} (service : Service) (n : ℕ) (m : MessageA w) → IsFor service n m → IsServing service m
-serving-for Free n m for = tt
-serving-for (Waits r true source k) n m for = tt
 serving-for (Waits r false source k) n m for = (for.0, for.3)
-serving-for (GrantSent q d k) n m for = tt
-serving-for (GrantTaken q) n m for = tt
+serving-for service n m for = tt
 
 pub serving-matched : {w : ℕ} (config : Config) (log : Log w) (mail : AccessMessages w) (request : ℕ → MessageA w)
     (s : State (List ℕ)) (sys : System w)
@@ -76,8 +63,7 @@ pub invariant-taken : {w : ℕ} (config : Config) (log : Log w) (h : AbstractSta
     → IsInvariant (is_caching config) (kind_taken config (next_tracker sys) c k i rest h).state
 invariant-taken config log h sys c k i rest is first ready =
     kind_taken-kept (is_caching config) config (next_tracker sys) c k i rest h is.invariant (plain-past config)
-    (λ n. (is.sized n).truth)
-    (serving-matched config log h.mail h.request h.state sys is) first ready
+    (λ n. (is.sized n).truth) (serving-matched config log h.mail h.request h.state sys is) first ready
 
 -- ---- who is probed
 
@@ -98,77 +84,73 @@ probed-some {w} config log mail request s sys c k n own j m is kind block =
       same_above j
           ((s.block n).pair d).recorded,
       swapped c d,
-    )
-    (and_comm (is_above j ((s.block n).pair d).recorded) (not (own && (d == c)))))
+    ) (and_comm (is_above j ((s.block n).pair d).recorded)
+    (not (own && (d == c)))))
 
-copies_so : (p : Perm) → holders.has_copy p ≡ not (same_perm p perm.None)
-copies_so perm.None = refl
-copies_so perm.Branch = refl
-copies_so perm.Trunk = refl
+copies_so : (p : Perm) → holders.has_copy p ≡ not (same_perm p Perm.None)
+copies_so Perm.None = refl
+copies_so p = refl
 
 -- nobody has a copy, as the manager's record says, where the protocol says so
-pub unheld-same : {w : ℕ} (config : Config) (log : Log w) (mail : AccessMessages w) (request : ℕ → MessageA w)
-    (s : State (List ℕ)) (sys : System w) (c k n : ℕ)
-    (m : MessageA w) → SimulationRelation config log mail request s sys
-    → holders.is_unheld config n (with_beat c m k sys.manager.trace) ≡ is_unheld (length config.clients.items)
-    (s.block n).pair
-unheld-same {w} config log mail request s sys c k n m is =
+pub unheld-same : {w : ℕ} {config : Config} {log : Log w} {mail : AccessMessages w} {request : ℕ → MessageA w}
+    {s : State (List ℕ)} {sys : System w} (c k n : ℕ) (m : MessageA w)
+    → SimulationRelation config log mail request s sys → holders.is_unheld config n (with_beat c m k sys.manager.trace)
+    ≡ is_unheld (length config.clients.items) (s.block n).pair
+unheld-same {w} {config} {s} {sys} c k n m is =
     nobody-same config (λ d. holders.has_copy (recorded d n (with_beat c m k sys.manager.trace)))
-    (λ d. not (same_perm ((s.block n).pair d).recorded perm.None))
+    (λ d. not (same_perm ((s.block n).pair d).recorded Perm.None))
     (λ d. rw (recorded-beat c k m sys.manager.trace d n, is.managed.recorded_is d n)
     (copies_so ((s.block n).pair d).recorded))
 
 -- nothing is under way of a block that is free
-pub quiet-free : {w : ℕ} (config : Config) (log : Log w) (mail : AccessMessages w) (request : ℕ → MessageA w)
-    (s : State (List ℕ)) (sys : System w) (n : ℕ)
-    → SimulationRelation config log mail request s sys → (s.block n).service ≡ Free
-    → (d : ℕ) → is_unprobed ((s.block n).pair d).probing ≡ true
-quiet-free config log mail request s sys n is free d = quiet_at_rest ((s.block n).pair d) (view (s.block n).service d)
+pub quiet-free : {w : ℕ} {config : Config} {log : Log w} {mail : AccessMessages w} {request : ℕ → MessageA w}
+    {s : State (List ℕ)} {sys : System w} (n : ℕ) → SimulationRelation config log mail request s sys
+    → (s.block n).service ≡ Free → (d : ℕ) → is_unprobed ((s.block n).pair d).probing ≡ true
+quiet-free {s} n is free d = quiet_at_rest ((s.block n).pair d) (view (s.block n).service d)
     ((is.invariant.blocks n).phases d) (rw free refl)
 
-pub beyond-none : {w : ℕ} (config : Config) (log : Log w) (mail : AccessMessages w) (request : ℕ → MessageA w)
-    (s : State (List ℕ)) (sys : System w) (n : ℕ) → SimulationRelation config log mail request s sys
-    → (d : ℕ) → length config.clients.items ≤ d → ((s.block n).pair d).recorded ≡ perm.None
-beyond-none config log mail request s sys n is d past =
+pub beyond-none : {w : ℕ} {config : Config} {log : Log w} {mail : AccessMessages w} {request : ℕ → MessageA w}
+    {s : State (List ℕ)} {sys : System w} (n : ℕ) → SimulationRelation config log mail request s sys
+    → (d : ℕ) → length config.clients.items ≤ d → ((s.block n).pair d).recorded ≡ Perm.None
+beyond-none {config} n is d past =
     ap (λ (p : ClientBlock). p.recorded) ((is.invariant.blocks n).outside d (plain-past config d past))
 
 -- ---- what is done
 
 -- nobody is probed: the request is performed
 pub reaction-performed : {w : ℕ} (config : Config) (log : Log w) (mail : AccessMessages w) (request : ℕ → MessageA w)
-    (s : State (List ℕ)) (sys : System w) (c k n : ℕ)
-    (own : Bool) (m : MessageA w) → SimulationRelation config log mail request s sys
-    → IsComing config c k m sys.manager → beats_of (message.A m) ≡ suc k → is_acquire m.opcode ≡ own
-    → block_at m.address ≡ n
+    (s : State (List ℕ)) (sys : System w) (c k n : ℕ) (own : Bool) (m : MessageA w)
+    → SimulationRelation config log mail request s sys → IsComing config c k m sys.manager
+    → beats_of (Message.A m) ≡ suc k → is_acquire m.opcode ≡ own → block_at m.address ≡ n
     → probes_some (length config.clients.items) c own (cap_probed m.opcode m.param) (s.block n).pair ≡ false
-    → reaction config (link_of c) (beat.A (a_beat_of m k)) sys.manager ≡ performed config
-    (service_for c m sys.manager.trace) (with_beat c m k sys.manager.trace) sys.manager.memory
+    → reaction config (link_of c) (Beat.A (a_beat_of m k)) sys.manager
+    ≡ performed config (service_for c m sys.manager.trace) (with_beat c m k sys.manager.trace) sys.manager.memory
 reaction-performed {w} config log mail request s sys c k n own m is comes last kind block none =
     go (cap_probed m.opcode m.param) refl
   where
     e : End w
     e = sys.manager
 
-    go : (o : Option Cap) → cap_probed m.opcode m.param ≡ o → reaction config (link_of c) (beat.A (a_beat_of m k))
+    go : (o : Option Cap) → cap_probed m.opcode m.param ≡ o → reaction config (link_of c) (Beat.A (a_beat_of m k))
         e ≡ performed config (service_for c m e.trace) (with_beat c m k e.trace) e.memory
     go None f = reaction-intent config (link_of c) (a_beat_of m k) (service_for c m e.trace) e
-        (served-last config c k m e comes last) f
+        (served-last comes last) f
     go (Some j) f =
         let nobody : is_nobody (probed config (service_for c m e.trace) j (with_beat c m k e.trace)) ≡ true =
         probed-some config log mail request s sys c k n own j m is kind block ∙ ap not (rw f at none) in
         reaction-unprobed config (link_of c) (a_beat_of m k) (service_for c m e.trace) j e
-        (served-last config c k m e comes last) f
+        (served-last comes last) f
         (no-clients (probed config (service_for c m e.trace) j (with_beat c m k e.trace)) nobody)
 
 -- somebody is, with this cap
-pub somebody-probed : {w : ℕ} (config : Config) (log : Log w) (mail : AccessMessages w) (request : ℕ → MessageA w)
-    (s : State (List ℕ)) (sys : System w) (c k n : ℕ)
-    (own : Bool) (m : MessageA w) → SimulationRelation config log mail request s sys
-    → is_acquire m.opcode ≡ own → block_at m.address ≡ n
+pub somebody-probed : {w : ℕ} {config : Config} {log : Log w} {mail : AccessMessages w} {request : ℕ → MessageA w}
+    {s : State (List ℕ)} {sys : System w} (c k n : ℕ) (own : Bool) (m : MessageA w)
+    → SimulationRelation config log mail request s sys → is_acquire m.opcode ≡ own → block_at m.address ≡ n
     → probes_some (length config.clients.items) c own (cap_probed m.opcode m.param) (s.block n).pair ≡ true
     → (j : Cap) × (cap_probed m.opcode m.param ≡ Some j)
     × (is_nobody (probed config (service_for c m sys.manager.trace) j (with_beat c m k sys.manager.trace)) ≡ false)
-somebody-probed {w} config log mail request s sys c k n own m is kind block some = go (cap_probed m.opcode m.param) refl
+somebody-probed {w} {config} {log} {mail} {request} {s} {sys} c k n own m is kind block some =
+    go (cap_probed m.opcode m.param) refl
   where
     go : (o : Option Cap) → cap_probed m.opcode m.param ≡ o → (j : Cap) × (cap_probed m.opcode m.param ≡ Some j)
         × (is_nobody (probed config (service_for c m sys.manager.trace) j (with_beat c m k sys.manager.trace)) ≡ false)
@@ -176,6 +158,6 @@ somebody-probed {w} config log mail request s sys c k n own m is kind block some
     go (Some j) f = (
       j,
       f,
-      probed-some config log mail request s sys c k n own j m is kind block ∙ ap not
-          (rw f at some),
+      probed-some config log mail request s sys c k n own j m is kind block
+          ∙ ap not (rw f at some),
     )

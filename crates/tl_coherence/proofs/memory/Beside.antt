@@ -2,12 +2,11 @@
 use Rattle.tl_coherence.proofs.memory.Imports.{Message, IsBlock, effect, IsAccess, MemoryRelation, Machine, Open, Pool}
 use Rattle.tl_coherence.proofs.memory.Imports.{Requests, Releases, same_pool, with_open, with_memory, performed, State}
 use Rattle.tl_coherence.proofs.memory.Imports.{SourceState, SourceFree, Asked, InService, Replied, Acquires, performing}
-use Rattle.tl_coherence.proofs.memory.Imports.{AccessMessages, set_at}
+use Rattle.tl_coherence.proofs.memory.Imports.{AccessMessages, set_at, Op}
 use Rattle.std.proofs.Common.{◌≡◌, ℕ, Bool, true, false, ◌&&◌, List, [], ◌∷◌, Option, Some, None, refl, sym, ◌∙◌, subst}
 use Rattle.std.proofs.Common.{◌⊎◌, inl, inr}
 use Rattle.std.specs.Prelude.{◌==◌, if◌then◌else◌, ⊤}
 use Rattle.std.proofs.lemmas.Bool.{cases_eq, ne_eqb}
-use Rattle.tl_client.specs.declared.operation.Op.TheVariants as op
 use Rattle.tl_coherence.specs.refinement.MemoryRelation.{Answers, IsOpened, IsLet}
 use Rattle.tl_coherence.proofs.queues.Tokens.{same_number, set_at-same}
 
@@ -26,9 +25,9 @@ place-cases c source d i = elim (cases_eq d c) [
   | inr other ↦ inr (λ e f. other e)
 ]
 
-pub set_at-there : {X : Type 0} (c source : ℕ) (x : X) (f : ℕ → ℕ → X) (d i : ℕ) → IsElsewhere c source d i
+pub set_at-there : {X : Type 0} {c source : ℕ} (x : X) (f : ℕ → ℕ → X) {d i : ℕ} → IsElsewhere c source d i
     → set_at c source x f d i ≡ f d i
-set_at-there c source x f d i else_ = elim (cases_eq d c) [
+set_at-there {c} {source} x f {d} {i} else_ = elim (cases_eq d c) [
   | inl same ↦ elim (cases_eq i source) [
     | inl also ↦ absurd (else_ same also)
     | inr other ↦ rw (same, same_number c, ne_eqb i source other) refl
@@ -42,8 +41,7 @@ open-here c Requests source o m = rw (same_number c, same_number source) refl
 open-here c Releases source o m = rw (same_number c, same_number source) refl
 
 pub open-there : {w : ℕ} (c : ℕ) (pool : Pool) (source : ℕ) (o : Option (Open w)) (m : Machine w) (d i : ℕ)
-    → IsElsewhere c source d i
-    → (with_open c pool source o m).opened d pool i ≡ m.opened d pool i
+    → IsElsewhere c source d i → (with_open c pool source o m).opened d pool i ≡ m.opened d pool i
 open-there {w} c pool source o m d i else_ = elim (cases_eq d c) [
   | inl same ↦ elim (cases_eq i source) [
     | inl also ↦ absurd (else_ same also)
@@ -54,24 +52,21 @@ open-there {w} c pool source o m d i else_ = elim (cases_eq d c) [
   where
     none : (a b : Bool) (x : Option (Open w)) → (if a && (b && false) then o else x) ≡ x
     none true true x = refl
-    none true false x = refl
-    none false b x = refl
+    none a b x = refl
 
 pub open-releases : {w : ℕ} (c source : ℕ) (o : Option (Open w)) (m : Machine w) (d i : ℕ)
     → (with_open c Requests source o m).opened d Releases i ≡ m.opened d Releases i
-open-releases {w} c source o m d i = go (d == c)
-  where
-    go : (b : Bool) → (if b && false then o else m.opened d Releases i) ≡ m.opened d Releases i
-    go true = refl
-    go false = refl
+open-releases {w} c source o m d i =
+    let go : (b : Bool) → (if b && false then o else m.opened d Releases i) ≡ m.opened d Releases i =
+    elim [ true ↦ refl | false ↦ refl ] in
+    go (d == c)
 
 pub open-requests : {w : ℕ} (c source : ℕ) (o : Option (Open w)) (m : Machine w) (d i : ℕ)
     → (with_open c Releases source o m).opened d Requests i ≡ m.opened d Requests i
-open-requests {w} c source o m d i = go (d == c)
-  where
-    go : (b : Bool) → (if b && false then o else m.opened d Requests i) ≡ m.opened d Requests i
-    go true = refl
-    go false = refl
+open-requests {w} c source o m d i =
+    let go : (b : Bool) → (if b && false then o else m.opened d Requests i) ≡ m.opened d Requests i =
+    elim [ true ↦ refl | false ↦ refl ] in
+    go (d == c)
 
 -- ---- what is open with a source
 
@@ -91,14 +86,13 @@ pub opened-still : {w : ℕ} (c source : ℕ) (mail mail' : AccessMessages w) (s
     → mail'.request c source ≡ mail.request c source → IsSameAnswer u (mail.answer c source) (mail'.answer c source)
     → IsSameAcquire c s s' u → IsOpened c source mail s u o → IsOpened c source mail' s' u o
 opened-still c source mail mail' s s' SourceFree o request answer acquire h = h
-opened-still {w} c source mail mail' s s' Asked o request answer acquire h =
-    subst (λ (m : Message w). IsAccess source m None o) (sym request) h
-opened-still {w} c source mail mail' s s' (InService n) o request answer acquire h =
-    subst (λ (m : Message w). IsAccess source m None o) (sym request) h
+opened-still {w} c source mail mail' s s' Asked o request answer acquire h = rw request h
+opened-still {w} c source mail mail' s s' (InService n) o request answer acquire h = rw request h
 opened-still {w} c source mail mail' s s' Replied o request answer acquire h = (
   h.0,
   subst (λ (m : Message w). IsAccess source m (Some h.0) o) (sym request) h.1,
-  subst (λ (m : Message w). Answers m h.0 (mail'.answer c source)) (sym request)
+  subst
+      (λ (m : Message w). Answers m h.0 (mail'.answer c source)) (sym request)
       (subst (λ (x : Message w). Answers (mail.request c source) h.0 x) (sym answer) h.2),
 )
 opened-still {w} c source mail mail' s s' (Acquires n) o request answer acquire h = h ∙ rw (acquire.0, acquire.1) refl
@@ -116,20 +110,13 @@ pub record IsStill {w : ℕ} (mail : AccessMessages w) (s s' : State (List ℕ))
 
 pub same_acquire : (c : ℕ) (s s' : State (List ℕ)) (u : SourceState)
     → ((n : ℕ) → (((s'.block n).pair c).acquiring ≡ ((s.block n).pair c).acquiring)
-    × ((s'.block n).waiting c ≡ (s.block n).waiting c))
-    → IsSameAcquire c s s' u
-same_acquire c s s' SourceFree e = tt
-same_acquire c s s' Asked e = tt
-same_acquire c s s' (InService n) e = tt
-same_acquire c s s' Replied e = tt
+    × ((s'.block n).waiting c ≡ (s.block n).waiting c)) → IsSameAcquire c s s' u
 same_acquire c s s' (Acquires n) e = e n
+same_acquire c s s' u e = tt
 
 same_answer : {w : ℕ} (u : SourceState) (x : Message w) → IsSameAnswer u x x
-same_answer SourceFree x = tt
-same_answer Asked x = tt
-same_answer (InService n) x = tt
 same_answer Replied x = refl
-same_answer (Acquires n) x = tt
+same_answer u x = tt
 
 moved_opened : {w : ℕ} (c source : ℕ) (mail : AccessMessages w) (s : State (List ℕ)) (u v : SourceState)
     (o p : Option (Open w)) → v ≡ u → p ≡ o → IsOpened c source mail s u o → IsOpened c source mail s v p
@@ -138,16 +125,14 @@ moved_opened c source mail s u v o p e f h = rw (e, f) h
 moved_let : {w : ℕ} (u v : Option ℕ) (o p : Option (Open w)) → v ≡ u → p ≡ o → IsLet u o → IsLet v p
 moved_let u v o p e f h = rw (e, f) h
 
-pub beside-still : {w : ℕ} (mail : AccessMessages w) (s s' : State (List ℕ)) (m m' : Machine w) → IsStill mail s s' m m'
+pub beside-still : {w : ℕ} {mail : AccessMessages w} {s s' : State (List ℕ)} {m m' : Machine w} → IsStill mail s s' m m'
     → MemoryRelation mail s m → MemoryRelation mail s' m'
-beside-still {w} mail s s' m m' is h = record {
+beside-still {w} {mail} {s} {s'} {m} {m'} is h = record {
   memory = is.memory;
-  requests = λ d i.
-      moved_opened d i mail s' (s.uses d i) (s'.uses d i) (m.opened d Requests i) (m'.opened d Requests i) (is.uses d i)
-      (is.opened d Requests i)
-      (opened-still d i mail mail s s' (s.uses d i) (m.opened d Requests i) refl
-      (same_answer (s.uses d i) (mail.answer d i))
-      (same_acquire d s s' (s.uses d i) (λ n. is.acquires d n)) (h.requests d i));
+  requests = λ d i. moved_opened d i mail s' (s.uses d i) (s'.uses d i) (m.opened d Requests i) (m'.opened d Requests i)
+      (is.uses d i) (is.opened d Requests i) (opened-still d i mail mail s s' (s.uses d i) (m.opened d Requests i) refl
+      (same_answer (s.uses d i) (mail.answer d i)) (same_acquire d s s' (s.uses d i) (λ n. is.acquires d n))
+      (h.requests d i));
   releases = λ d i. moved_let (s.lets d i) (s'.lets d i) (m.opened d Releases i) (m'.opened d Releases i) (is.lets d i)
       (is.opened d Releases i) (h.releases d i);
 }
@@ -166,15 +151,12 @@ pub record IsUsed {w : ℕ} (c source : ℕ) (u : SourceState) (mail mail' : Acc
   pub acquires : (d i : ℕ) → IsElsewhere c source d i → IsSameAcquire d s s' (s.uses d i)
 
 answer_as : {w : ℕ} (u : SourceState) (x y : Message w) → y ≡ x → IsSameAnswer u x y
-answer_as SourceFree x y e = tt
-answer_as Asked x y e = tt
-answer_as (InService n) x y e = tt
 answer_as Replied x y e = e
-answer_as (Acquires n) x y e = tt
+answer_as u x y e = tt
 
-pub beside-used : {w : ℕ} (c source : ℕ) (u : SourceState) (mail mail' : AccessMessages w) (s s' : State (List ℕ))
-    (m m' : Machine w) → IsUsed c source u mail mail' s s' m m' → MemoryRelation mail s m → MemoryRelation mail' s' m'
-beside-used {w} c source u mail mail' s s' m m' is h = record {
+pub beside-used : {w : ℕ} {c source : ℕ} {u : SourceState} {mail mail' : AccessMessages w} {s s' : State (List ℕ)}
+    {m m' : Machine w} → IsUsed c source u mail mail' s s' m m' → MemoryRelation mail s m → MemoryRelation mail' s' m'
+beside-used {w} {c} {source} {u} {mail} {mail'} {s} {s'} {m} {m'} is h = record {
   memory = is.memory;
   requests = λ d i. elim (place-cases c source d i) [
     | inl same ↦ rw (same.0, same.1) (moved_opened c source mail' s' u (s'.uses c source) (m'.opened c Requests source)
@@ -182,7 +164,7 @@ beside-used {w} c source u mail mail' s s' m m' is h = record {
         (is.uses c source ∙ set_at-same c source u s.uses) refl is.here)
     | inr else_ ↦
         moved_opened d i mail' s' (s.uses d i) (s'.uses d i) (m.opened d Requests i) (m'.opened d Requests i)
-        (is.uses d i ∙ set_at-there c source u s.uses d i else_) (is.there d i else_)
+        (is.uses d i ∙ set_at-there u s.uses else_) (is.there d i else_)
         (opened-still d i mail mail' s s' (s.uses d i) (m.opened d Requests i) (is.requests d i else_)
         (answer_as (s.uses d i) (mail.answer d i) (mail'.answer d i) (is.answers d i else_)) (is.acquires d i else_)
         (h.requests d i))
@@ -203,21 +185,19 @@ pub record IsLetGo {w : ℕ} (c source : ℕ) (l : Option ℕ) (mail : AccessMes
   pub acquires : (d n : ℕ) → (((s'.block n).pair d).acquiring ≡ ((s.block n).pair d).acquiring)
       × ((s'.block n).waiting d ≡ (s.block n).waiting d)
 
-pub beside-let : {w : ℕ} (c source : ℕ) (l : Option ℕ) (mail : AccessMessages w) (s s' : State (List ℕ))
-    (m m' : Machine w) → IsLetGo c source l mail s s' m m' → MemoryRelation mail s m → MemoryRelation mail s' m'
-beside-let {w} c source l mail s s' m m' is h = record {
+pub beside-let : {w : ℕ} {c source : ℕ} {l : Option ℕ} {mail : AccessMessages w} {s s' : State (List ℕ)}
+    {m m' : Machine w} → IsLetGo c source l mail s s' m m' → MemoryRelation mail s m → MemoryRelation mail s' m'
+beside-let {w} {c} {source} {l} {mail} {s} {s'} {m} {m'} is h = record {
   memory = is.memory;
-  requests = λ d i.
-      moved_opened d i mail s' (s.uses d i) (s'.uses d i) (m.opened d Requests i) (m'.opened d Requests i) (is.uses d i)
-      (is.requests d i)
-      (opened-still d i mail mail s s' (s.uses d i) (m.opened d Requests i) refl
-      (same_answer (s.uses d i) (mail.answer d i))
-      (same_acquire d s s' (s.uses d i) (λ n. is.acquires d n)) (h.requests d i));
+  requests = λ d i. moved_opened d i mail s' (s.uses d i) (s'.uses d i) (m.opened d Requests i) (m'.opened d Requests i)
+      (is.uses d i) (is.requests d i) (opened-still d i mail mail s s' (s.uses d i) (m.opened d Requests i) refl
+      (same_answer (s.uses d i) (mail.answer d i)) (same_acquire d s s' (s.uses d i) (λ n. is.acquires d n))
+      (h.requests d i));
   releases = λ d i. elim (place-cases c source d i) [
     | inl same ↦ rw (same.0, same.1) (moved_let l (s'.lets c source) (m'.opened c Releases source)
         (m'.opened c Releases source) (is.lets c source ∙ set_at-same c source l s.lets) refl is.here)
     | inr else_ ↦ moved_let (s.lets d i) (s'.lets d i) (m.opened d Releases i) (m'.opened d Releases i)
-        (is.lets d i ∙ set_at-there c source l s.lets d i else_) (is.there d i else_) (h.releases d i)
+        (is.lets d i ∙ set_at-there l s.lets else_) (is.there d i else_) (h.releases d i)
   ];
 }
 
@@ -226,15 +206,15 @@ beside-let {w} c source l mail s s' m m' is h = record {
 -- the machine after it
 abbrev pub done_at : {w : ℕ} → ℕ → ℕ → Message w → Machine w → Machine w
 done_at c source a m = with_open c Requests source
-    (Some (record { asked = op.Access a; answer = Some (effect a m.memory).1 })) (with_memory (effect a m.memory).0 m)
+    (Some (record { asked = Op.Access a; answer = Some (effect a m.memory).1 })) (with_memory (effect a m.memory).0 m)
 
 pub performed-open : {w : ℕ} (c source : ℕ) (a : Message w) (m : Machine w)
-    → m.opened c Requests source ≡ Some (record { asked = op.Access a; answer = None })
+    → m.opened c Requests source ≡ Some (record { asked = Op.Access a; answer = None })
     → performed c source m ≡ Some (done_at c source a m)
 performed-open c source a m e = rw e refl
 
 pub performing-one : {w : ℕ} (c source : ℕ) (a : Message w) (m : Machine w)
-    → m.opened c Requests source ≡ Some (record { asked = op.Access a; answer = None })
+    → m.opened c Requests source ≡ Some (record { asked = Op.Access a; answer = None })
     → performing ((c, source) ∷ []) m ≡ done_at c source a m
 unfolding performing
 performing-one c source a m e = rw e refl

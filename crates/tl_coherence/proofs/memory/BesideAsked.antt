@@ -2,39 +2,26 @@
 use Rattle.tl_coherence.proofs.memory.Imports.{MessageA, Memory, IsBlock, block_at, same_perm, Op, Reply}
 use Rattle.tl_coherence.proofs.memory.Imports.{MemoryRelation, AbstractState, Machine, Open, Requests, Releases}
 use Rattle.tl_coherence.proofs.memory.Imports.{with_open, after_reply, ClientBlock, AcquireOpen, Block, State}
-use Rattle.tl_coherence.proofs.memory.Imports.{SourceState, SourceFree, Asked, InService, Replied, Acquires}
-use Rattle.tl_coherence.proofs.memory.Imports.{AccessMessages, set_at}
+use Rattle.tl_coherence.proofs.memory.Imports.{SourceState, Acquires, AccessMessages, set_at, Message}
 use Rattle.std.proofs.Common.{◌≡◌, ℕ, Bool, true, false, ◌&&◌, List, Option, Some, None, length, refl, sym, ◌∙◌, ap}
 use Rattle.std.proofs.Common.{subst, ◌⊎◌, inl, inr}
-use Rattle.std.specs.Prelude.{◌==◌, ⊤}
-use Rattle.std.proofs.lemmas.Bool.{cases_eq}
-use Rattle.tl_burst.specs.declared.message.Message.TheVariants as message
-use Rattle.tl_params.specs.declared.param.Grow.{Grow}
-use Rattle.tl_params.specs.declared.perm.Perm.TheVariants as perm
-use Rattle.tl_params.specs.declared.param.Prune.{Prune}
-use Rattle.tl_client.specs.declared.operation.Op.TheVariants as op
-use Rattle.tl_client.specs.declared.reply.Reply.TheVariants as reply
+use Rattle.std.{specs.Prelude.◌==◌, specs.Prelude.⊤, proofs.lemmas.Bool.cases_eq}
+use Rattle.tl_params.{specs.declared.param.Grow.Grow, specs.declared.perm.Perm.Perm, specs.declared.param.Prune.Prune}
 use Rattle.tl_client.specs.statement.Ask.{copy_stored, is_word, whole_grow}
-use Rattle.tl_client.specs.statement.Send.{access}
-use Rattle.tl_client.proofs.caching_client.Stores.{word_room}
-use Rattle.tl_coherence.specs.refinement.MemoryRelation.{op_of}
-use Rattle.tl_coherence.specs.refinement.AbstractStep.{asked}
-use Rattle.tl_coherence.specs.protocol.Invariant.{acquires_of, IsInvariant}
-use Rattle.tl_coherence.specs.statement.Machine.{with_number}
-use Rattle.tl_coherence.specs.protocol.Phase.{AcquirePhase, NoAcquire}
-use Rattle.tl_coherence.specs.protocol.PhaseSteps.{after_acquire, after_release}
-use Rattle.tl_coherence.specs.protocol.Protocol.{access_asked, acquiring_block, acquire_asked}
-use Rattle.tl_coherence.specs.protocol.Tokens.{is_wanting}
-use Rattle.tl_coherence.specs.protocol.Protocol.{releasing_block, release_asked, stored_block, block_stored}
-use Rattle.tl_coherence.specs.protocol.Packet.{set}
-use Rattle.tl_coherence.specs.refinement.SimulationRelation.{AreSized}
+use Rattle.tl_client.{specs.statement.Send.access, proofs.caching_client.Stores.word_room}
+use Rattle.tl_coherence.specs.{refinement.MemoryRelation.op_of, refinement.AbstractStep.asked}
+use Rattle.tl_coherence.specs.{protocol.Invariant.acquires_of, protocol.Invariant.IsInvariant}
+use Rattle.tl_coherence.specs.{statement.Machine.with_number, protocol.Phase.AcquirePhase, protocol.Phase.NoAcquire}
+use Rattle.tl_coherence.specs.{protocol.PhaseSteps.after_acquire, protocol.PhaseSteps.after_release}
+use Rattle.tl_coherence.specs.{protocol.Tokens.is_wanting, protocol.Packet.set, refinement.SimulationRelation.AreSized}
+use Rattle.tl_coherence.specs.protocol.Protocol.{access_asked, acquiring_block, acquire_asked, releasing_block}
+use Rattle.tl_coherence.specs.protocol.Protocol.{release_asked, stored_block, block_stored}
 use Rattle.tl_coherence.proofs.memory.Beside.{IsElsewhere, IsSameAcquire, set_at-there, open-here, open-there}
 use Rattle.tl_coherence.proofs.memory.Beside.{open-releases, open-requests, beside-still, beside-used, beside-let}
-use Rattle.tl_coherence.proofs.protocol.FollowKept.{IsAskable}
-use Rattle.tl_coherence.proofs.memory.OneMemory.{block-stored, block-unstored}
-use Rattle.tl_coherence.proofs.simulation.SizedAfter.{IsSizedAsk}
+use Rattle.tl_coherence.proofs.{protocol.FollowKept.IsAskable, memory.OneMemory.block-stored}
+use Rattle.tl_coherence.proofs.{memory.OneMemory.block-unstored, simulation.SizedAfter.IsSizedAsk}
+use Rattle.tl_coherence.proofs.{queues.Perms.trunk-some}
 use Rattle.tl_coherence.proofs.queues.Tokens.{same_number, set-same, set-other, set-part, set_at-same}
-use Rattle.tl_coherence.proofs.queues.Perms.{trunk-some}
 
 -- ---- Acquires of other sources
 
@@ -66,51 +53,51 @@ acquires-else c n source new p s s' blocks pairs waits alone d i else_ = go (s.u
     apart k e same at = alone i (λ f. else_ at f) (rw (at, same) at e)
 
     go : (u : SourceState) → s.uses d i ≡ u → IsSameAcquire d s s' u
-    go SourceFree e = tt
-    go Asked e = tt
-    go (InService k) e = tt
-    go Replied e = tt
     go (Acquires k) e = elim (cases_eq k n) [
       | inl same ↦ subst (λ (j : ℕ). (((s'.block j).pair d).acquiring ≡ ((s.block j).pair d).acquiring)
           × ((s'.block j).waiting d ≡ (s.block j).waiting d)) (sym same) (here (apart k e same))
       | inr other ↦ there k other
     ]
+    go u e = tt
 
 -- who acquires nothing of a block has no source for it
-pub calm-none : (caching : ℕ → Bool) (s : State (List ℕ)) (c n i : ℕ) → IsInvariant caching s
+pub calm-none : {caching : ℕ → Bool} {s : State (List ℕ)} (c n i : ℕ) → IsInvariant caching s
     → ((s.block n).pair c).acquiring ≡ NoAcquire → s.uses c i ≡ Acquires n → ⊥
-calm-none caching s c n i inv calm e =
+calm-none {s} c n i inv calm e =
     let named = inv.named.acquires c i n in
     let yes : acquires_of n (s.uses c i) ≡ true = ap (acquires_of n) e ∙ same_number n in
-    let no : (is_wanting ((s.block n).pair c).acquiring && (i == (s.block n).source c)) ≡ false =
-    ap (λ (x : AcquirePhase). is_wanting x && (i == (s.block n).source c)) calm in
+    let no = ap (λ (x : AcquirePhase). is_wanting x && (i == (s.block n).source c)) calm in
     let differ : true ≡ false = sym yes ∙ named ∙ no in cc
 
 -- ---- what is asked
 
 -- a client answers a Load and a Store at once, and no message of another channel starts
 abbrev pub IsReply : {w : ℕ} → Op w → Reply → Type 0
-IsReply (op.Load address size) (reply.Started source) = ⊥
-IsReply (op.Store address size value) (reply.Started source) = ⊥
-IsReply (op.Access (message.B m)) (reply.Started source) = ⊥
-IsReply (op.Access (message.C m)) (reply.Started source) = ⊥
-IsReply (op.Access (message.D m)) (reply.Started source) = ⊥
-IsReply (op.Access (message.E m)) (reply.Started source) = ⊥
+IsReply (Op.Load address size) (Reply.Started source) = ⊥
+IsReply (Op.Store address size value) (Reply.Started source) = ⊥
+IsReply (Op.Access (Message.B m)) (Reply.Started source) = ⊥
+IsReply (Op.Access (Message.C m)) (Reply.Started source) = ⊥
+IsReply (Op.Access (Message.D m)) (Reply.Started source) = ⊥
+IsReply (Op.Access (Message.E m)) (Reply.Started source) = ⊥
 IsReply o r = ⊤
 
 truth_as : (f : Memory) (n i : ℕ) (new : Block (List ℕ)) (block : ℕ → Block (List ℕ)) → new.truth ≡ (block n).truth
     → IsBlock f i (block i).truth → IsBlock f i (set n new block i).truth
-truth_as f n i new block e h =
-    subst (λ (bytes : List ℕ). IsBlock f i bytes) (sym (set-part (λ (b : Block (List ℕ)). b.truth) n new block e i)) h
+truth_as f n i new block e h = rw (set-part (λ (b : Block (List ℕ)). b.truth) n new block e i) h
 
-pub beside-acquire_asked : {w : ℕ} (caching : ℕ → Bool) (c n source : ℕ) (whole : Bool) (g : Grow) (bytes : List ℕ)
-    (o : Op w) (mail : AccessMessages w)
-    (s : State (List ℕ)) (m : Machine w) → IsInvariant caching s → ((s.block n).pair c).acquiring ≡ NoAcquire
-    → op_of (AcquireOpen whole g) n bytes ≡ o → MemoryRelation mail s m
+pub beside-acquire_asked : {w : ℕ} {caching : ℕ → Bool} (c n source : ℕ) (whole : Bool) (g : Grow) (bytes : List ℕ)
+    (o : Op w) {mail : AccessMessages w} {s : State (List ℕ)} {m : Machine w} → IsInvariant caching s
+    → ((s.block n).pair c).acquiring ≡ NoAcquire → op_of (AcquireOpen whole g) n bytes ≡ o → MemoryRelation mail s m
     → MemoryRelation mail (acquire_asked c n source whole g bytes s)
     (with_open c Requests source (Some (record { asked = o; answer = None })) m)
-beside-acquire_asked {w} caching c n source whole g bytes o mail s m inv calm is h =
-    beside-used c source (Acquires n) mail mail s s' m m' (record {
+beside-acquire_asked {w} {caching} c n source whole g bytes o {mail} {s} {m} inv calm is h =
+    let after : ClientBlock = after_acquire whole g ((s.block n).pair c) in
+    let new : Block (List ℕ) = acquiring_block c source whole g bytes (s.block n) in
+    let s' : State (List ℕ) = acquire_asked c n source whole g bytes s in
+    let m' : Machine w = with_open c Requests source (Some (record { asked = o; answer = None })) m in
+    let opened_as : AcquirePhase → List ℕ → Option (Open w) =
+    λ x y. Some (record { asked = op_of x n y; answer = None }) in
+    beside-used (record {
       memory = λ i. truth_as m.memory n i new s.block refl (h.memory i);
       uses = λ d i. refl;
       lets = λ d i. refl;
@@ -126,38 +113,23 @@ beside-acquire_asked {w} caching c n source whole g bytes o mail s m inv calm is
       requests = λ d i else_. refl;
       answers = λ d i else_. refl;
       acquires = acquires-else c n source new after s s' (λ i. refl) (λ d. refl)
-          (λ d ne. set-other c d bytes (s.block n).waiting ne) (λ i ne e. calm-none caching s c n i inv calm e);
+          (λ d ne. set-other c d bytes (s.block n).waiting ne) (λ i ne e. calm-none c n i inv calm e);
     }) h
-  where
-    after : ClientBlock
-    after = after_acquire whole g ((s.block n).pair c)
 
-    new : Block (List ℕ)
-    new = acquiring_block c source whole g bytes (s.block n)
-
-    s' : State (List ℕ)
-    s' = acquire_asked c n source whole g bytes s
-
-    m' : Machine w
-    m' = with_open c Requests source (Some (record { asked = o; answer = None })) m
-
-    opened_as : AcquirePhase → List ℕ → Option (Open w)
-    opened_as x y = Some (record { asked = op_of x n y; answer = None })
-
-pub beside-release_asked : {w : ℕ} (c n source : ℕ) (r : Prune) (mail : AccessMessages w) (s : State (List ℕ))
-    (m : Machine w) → MemoryRelation mail s m
-    → MemoryRelation mail (release_asked c n source r s)
-    (with_open c Releases source (Some (record { asked = op.Release n r; answer = None })) m)
-beside-release_asked {w} c n source r mail s m h =
-    beside-let c source (Some n) mail s (release_asked c n source r s) m
-    (with_open c Releases source (Some (record { asked = op.Release n r; answer = None })) m) (record {
+pub beside-release_asked : {w : ℕ} (c n source : ℕ) (r : Prune) {mail : AccessMessages w} {s : State (List ℕ)}
+    {m : Machine w} → MemoryRelation mail s m → MemoryRelation mail (release_asked c n source r s)
+    (with_open c Releases source (Some (record { asked = Op.Release n r; answer = None })) m)
+beside-release_asked {w} c n source r {mail} {s} {m} h =
+    let new : Block (List ℕ) = releasing_block c source r (s.block n) in
+    beside-let
+    (record {
       memory = λ i. truth_as m.memory n i new s.block refl (h.memory i);
       uses = λ d i. refl;
       lets = λ d i. refl;
-      here = (r, open-here c Releases source (Some (record { asked = op.Release n r; answer = None })) m);
-      there = λ d i else_. open-there c Releases source (Some (record { asked = op.Release n r; answer = None })) m d i
+      here = (r, open-here c Releases source (Some (record { asked = Op.Release n r; answer = None })) m);
+      there = λ d i else_. open-there c Releases source (Some (record { asked = Op.Release n r; answer = None })) m d i
           else_;
-      requests = λ d i. open-requests c source (Some (record { asked = op.Release n r; answer = None })) m d i;
+      requests = λ d i. open-requests c source (Some (record { asked = Op.Release n r; answer = None })) m d i;
       acquires = λ d i. (
         set-part (λ (b : Block (List ℕ)). (b.pair d).acquiring) n new s.block
             (set-part (λ (p : ClientBlock). p.acquiring) c (after_release r ((s.block n).pair c)) (s.block n).pair refl
@@ -165,22 +137,17 @@ beside-release_asked {w} c n source r mail s m h =
         set-part (λ (b : Block (List ℕ)). b.waiting d) n new s.block refl i,
       );
     }) h
-  where
-    new : Block (List ℕ)
-    new = releasing_block c source r (s.block n)
 
-pub beside-access_asked : {w : ℕ} (c source : ℕ) (a : MessageA w) (mail : AccessMessages w) (s : State (List ℕ))
-    (m : Machine w) → MemoryRelation mail s m
+pub beside-access_asked : {w : ℕ} (c source : ℕ) (a : MessageA w) {mail : AccessMessages w} {s : State (List ℕ)}
+    {m : Machine w} → MemoryRelation mail s m
     → MemoryRelation (record { request = set_at c source (access source a) mail.request; answer = mail.answer })
     (access_asked c source s)
-    (with_open c Requests source (Some (record { asked = op.Access (message.A a); answer = None })) m)
-beside-access_asked {w} c source a mail s m h =
-    beside-used c source Asked mail (record {
-      request = set_at c source (access source a) mail.request;
-      answer =
-          mail.answer;
-    }) s (access_asked c source s) m
-    (with_open c Requests source (Some (record { asked = op.Access (message.A a); answer = None })) m) (record {
+    (with_open c Requests source (Some (record { asked = Op.Access (Message.A a); answer = None })) m)
+beside-access_asked {w} c source a {mail} {s} {m} h =
+    let same_blocks : (d : ℕ) (u : SourceState) → IsSameAcquire d s (access_asked c source s) u =
+    λ d. elim [ Acquires n ↦ (refl, refl) | u ↦ tt ] in
+    beside-used
+    (record {
       memory = h.memory;
       uses = λ d i. refl;
       lets = λ d i. refl;
@@ -188,32 +155,26 @@ beside-access_asked {w} c source a mail s m h =
         a,
         set_at-same c source (access source a) mail.request,
         open-here c Requests source
-            (Some (record { asked = op.Access (message.A a); answer = None })) m,
+            (Some (record { asked = Op.Access (Message.A a); answer = None })) m,
       );
       there = λ d i else_. open-there c Requests source
-          (Some (record { asked = op.Access (message.A a); answer = None })) m d i else_;
-      releases = λ d i. open-releases c source (Some (record { asked = op.Access (message.A a); answer = None })) m d i;
-      requests = λ d i else_. set_at-there c source (access source a) mail.request d i else_;
+          (Some (record { asked = Op.Access (Message.A a); answer = None })) m d i else_;
+      releases = λ d i. open-releases c source (Some (record { asked = Op.Access (Message.A a); answer = None })) m d i;
+      requests = λ d i else_. set_at-there (access source a) mail.request else_;
       answers = λ d i else_. refl;
       acquires = λ d i else_. same_blocks d (s.uses d i);
     }) h
-  where
-    same_blocks : (d : ℕ) (u : SourceState) → IsSameAcquire d s (access_asked c source s) u
-    same_blocks d SourceFree = tt
-    same_blocks d Asked = tt
-    same_blocks d (InService n) = tt
-    same_blocks d Replied = tt
-    same_blocks d (Acquires n) = (refl, refl)
 
-pub beside-block_stored : {w : ℕ} (caching : ℕ → Bool) (c address size value : ℕ) (mail : AccessMessages w)
-    (s : State (List ℕ)) (m : Machine w) → IsInvariant caching s
+pub beside-block_stored : {w : ℕ} {caching : ℕ → Bool} (c address size value : ℕ) {mail : AccessMessages w}
+    {s : State (List ℕ)} {m : Machine w} → IsInvariant caching s
     → AreSized (s.block (block_at address)) → is_word address size ≡ true
-    → same_perm ((s.block (block_at address)).pair c).held perm.Trunk ≡ true → MemoryRelation mail s m
+    → same_perm ((s.block (block_at address)).pair c).held Perm.Trunk ≡ true → MemoryRelation mail s m
     → MemoryRelation mail (block_stored c (block_at address)
     (copy_stored address size value ((s.block (block_at address)).copy c)) s)
     (record m { memory = with_number address size value m.memory })
-beside-block_stored {w} caching c address size value mail s m inv sized word trunk h =
-    beside-still mail s s' m (record m { memory = with_number address size value m.memory }) (record {
+beside-block_stored {w} c address size value {mail} {s} {m} inv sized word trunk h =
+    let s' : State (List ℕ) = block_stored c n (copy_stored address size value copy) s in
+    beside-still (record {
       memory = λ i. bytes i (cases_eq i n);
       uses = λ d i. refl;
       lets = λ d i. refl;
@@ -234,9 +195,6 @@ beside-block_stored {w} caching c address size value mail s m inv sized word tru
     new : Block (List ℕ)
     new = stored_block c (copy_stored address size value copy) (s.block n)
 
-    s' : State (List ℕ)
-    s' = block_stored c n (copy_stored address size value copy) s
-
     same : copy ≡ (s.block n).truth
     same = (inv.blocks n).copies c (trunk-some ((s.block n).pair c).held trunk)
 
@@ -246,74 +204,26 @@ beside-block_stored {w} caching c address size value mail s m inv sized word tru
 
     bytes : (i : ℕ) → (i ≡ n) ⊎ (i ≡ n → ⊥) → IsBlock (with_number address size value m.memory) i
         (set n new s.block i).truth
-    bytes i (inl at) =
-        subst (λ (j : ℕ). IsBlock (with_number address size value m.memory) j (set n new s.block j).truth) (sym at)
+    bytes i (inl at) = rw at
         (subst (λ (b : Block (List ℕ)). IsBlock (with_number address size value m.memory) n b.truth)
         (sym (set-same n new s.block)) here)
-    bytes i (inr other) =
-        subst (λ (b : Block (List ℕ)). IsBlock (with_number address size value m.memory) i b.truth)
-        (sym (set-other n i new s.block other))
-        (block-unstored address size value i (s.block i).truth m.memory (word_room address size word) other
-        (h.memory i))
+    bytes i (inr other) = rw (set-other n i new s.block other) (block-unstored address size value i (s.block i).truth
+        m.memory (word_room address size word) other (h.memory i))
 
 pub beside-asked : {w : ℕ} (caching : ℕ → Bool) (c : ℕ) (o : Op w) (r : Reply) (h : AbstractState w) (m : Machine w)
     → IsInvariant caching h.state
     → ((n : ℕ) → AreSized (h.state.block n)) → IsReply o r → IsAskable caching c o r h → IsSizedAsk c o r h
     → MemoryRelation h.mail h.state m → MemoryRelation (asked c o r h).mail (asked c o r h).state (after_reply c o r m)
-beside-asked caching c (op.Load address size) (reply.Value v) h m inv sized is may word b = b
-beside-asked caching c (op.Load address size) reply.Stored h m inv sized is may word b = b
-beside-asked caching c (op.Load address size) reply.Miss h m inv sized is may word b = b
-beside-asked caching c (op.Load address size) (reply.Started source) h m inv sized is may word b = absurd is
-beside-asked caching c (op.Load address size) (reply.Busy why) h m inv sized is may word b = b
-beside-asked caching c (op.Store address size value) reply.Stored h m inv sized is may word b =
-    beside-block_stored caching c address size value h.mail h.state m inv (sized (block_at address)) word.0 word.1 b
-beside-asked caching c (op.Store address size value) (reply.Value v) h m inv sized is may word b = b
-beside-asked caching c (op.Store address size value) reply.Miss h m inv sized is may word b = b
-beside-asked caching c (op.Store address size value) (reply.Started source) h m inv sized is may word b = absurd is
-beside-asked caching c (op.Store address size value) (reply.Busy why) h m inv sized is may word b = b
-beside-asked caching c (op.Acquire n g) (reply.Started source) h m inv sized is may word b =
-    beside-acquire_asked caching c n source false g ((h.state.block n).waiting c) (op.Acquire n g) h.mail h.state m inv
-    may.2 refl b
-beside-asked caching c (op.Acquire n g) (reply.Value v) h m inv sized is may word b = b
-beside-asked caching c (op.Acquire n g) reply.Stored h m inv sized is may word b = b
-beside-asked caching c (op.Acquire n g) reply.Miss h m inv sized is may word b = b
-beside-asked caching c (op.Acquire n g) (reply.Busy why) h m inv sized is may word b = b
-beside-asked caching c (op.AcquireWhole n bytes) (reply.Started source) h m inv sized is may word b =
-    beside-acquire_asked caching c n source true (whole_grow ((h.state.block n).pair c).held) bytes
-    (op.AcquireWhole n bytes) h.mail h.state m inv may.2 refl b
-beside-asked caching c (op.AcquireWhole n bytes) (reply.Value v) h m inv sized is may word b = b
-beside-asked caching c (op.AcquireWhole n bytes) reply.Stored h m inv sized is may word b = b
-beside-asked caching c (op.AcquireWhole n bytes) reply.Miss h m inv sized is may word b = b
-beside-asked caching c (op.AcquireWhole n bytes) (reply.Busy why) h m inv sized is may word b = b
-beside-asked caching c (op.Release n p) (reply.Started source) h m inv sized is may word b =
-    beside-release_asked c n source p h.mail h.state m b
-beside-asked caching c (op.Release n p) (reply.Value v) h m inv sized is may word b = b
-beside-asked caching c (op.Release n p) reply.Stored h m inv sized is may word b = b
-beside-asked caching c (op.Release n p) reply.Miss h m inv sized is may word b = b
-beside-asked caching c (op.Release n p) (reply.Busy why) h m inv sized is may word b = b
-beside-asked caching c (op.Access (message.A a)) (reply.Started source) h m inv sized is may word b =
-    beside-access_asked c source a h.mail h.state m b
-beside-asked caching c (op.Access (message.A a)) (reply.Value v) h m inv sized is may word b = b
-beside-asked caching c (op.Access (message.A a)) reply.Stored h m inv sized is may word b = b
-beside-asked caching c (op.Access (message.A a)) reply.Miss h m inv sized is may word b = b
-beside-asked caching c (op.Access (message.A a)) (reply.Busy why) h m inv sized is may word b = b
-beside-asked caching c (op.Access (message.B a)) (reply.Started source) h m inv sized is may word b = absurd is
-beside-asked caching c (op.Access (message.B a)) (reply.Value v) h m inv sized is may word b = b
-beside-asked caching c (op.Access (message.B a)) reply.Stored h m inv sized is may word b = b
-beside-asked caching c (op.Access (message.B a)) reply.Miss h m inv sized is may word b = b
-beside-asked caching c (op.Access (message.B a)) (reply.Busy why) h m inv sized is may word b = b
-beside-asked caching c (op.Access (message.C a)) (reply.Started source) h m inv sized is may word b = absurd is
-beside-asked caching c (op.Access (message.C a)) (reply.Value v) h m inv sized is may word b = b
-beside-asked caching c (op.Access (message.C a)) reply.Stored h m inv sized is may word b = b
-beside-asked caching c (op.Access (message.C a)) reply.Miss h m inv sized is may word b = b
-beside-asked caching c (op.Access (message.C a)) (reply.Busy why) h m inv sized is may word b = b
-beside-asked caching c (op.Access (message.D a)) (reply.Started source) h m inv sized is may word b = absurd is
-beside-asked caching c (op.Access (message.D a)) (reply.Value v) h m inv sized is may word b = b
-beside-asked caching c (op.Access (message.D a)) reply.Stored h m inv sized is may word b = b
-beside-asked caching c (op.Access (message.D a)) reply.Miss h m inv sized is may word b = b
-beside-asked caching c (op.Access (message.D a)) (reply.Busy why) h m inv sized is may word b = b
-beside-asked caching c (op.Access (message.E a)) (reply.Started source) h m inv sized is may word b = absurd is
-beside-asked caching c (op.Access (message.E a)) (reply.Value v) h m inv sized is may word b = b
-beside-asked caching c (op.Access (message.E a)) reply.Stored h m inv sized is may word b = b
-beside-asked caching c (op.Access (message.E a)) reply.Miss h m inv sized is may word b = b
-beside-asked caching c (op.Access (message.E a)) (reply.Busy why) h m inv sized is may word b = b
+beside-asked caching c (Op.Store address size value) Reply.Stored h m inv sized is may word b =
+    beside-block_stored c address size value inv (sized (block_at address)) word.0 word.1 b
+beside-asked caching c (Op.Acquire n g) (Reply.Started source) h m inv sized is may word b =
+    beside-acquire_asked c n source false g ((h.state.block n).waiting c) (Op.Acquire n g) inv may.2 refl b
+beside-asked caching c (Op.AcquireWhole n bytes) (Reply.Started source) h m inv sized is may word b =
+    beside-acquire_asked c n source true (whole_grow ((h.state.block n).pair c).held) bytes
+    (Op.AcquireWhole n bytes) inv may.2 refl b
+beside-asked caching c (Op.Release n p) (Reply.Started source) h m inv sized is may word b =
+    beside-release_asked c n source p b
+beside-asked caching c (Op.Access (Message.A a)) (Reply.Started source) h m inv sized is may word b =
+    beside-access_asked c source a b
+beside-asked caching c o (Reply.Started source) h m inv sized is may word b = absurd is
+beside-asked caching c o r h m inv sized is may word b = b

@@ -1,31 +1,23 @@
 -- The one-memory machine beside the protocol, after each message that is taken.
-use Rattle.tl_coherence.proofs.memory.Imports.{Message, MessageA, Config, Cap, IsBlock, effect, block_at}
-use Rattle.tl_coherence.proofs.memory.Imports.{cap_probed, MemoryRelation, AbstractState, some_below, bytes_at}
-use Rattle.tl_coherence.proofs.memory.Imports.{performs, Machine}
-use Rattle.tl_coherence.proofs.memory.Imports.{ClientBlock, AcquireOpen, Block, State}
-use Rattle.tl_coherence.proofs.memory.Imports.{InService, is_probed}
-use Rattle.tl_coherence.proofs.memory.Imports.{performing, AccessMessages, set_at}
+use Rattle.tl_coherence.proofs.memory.Imports.{Message, MessageA, Config, Cap, IsBlock, effect, block_at, cap_probed}
+use Rattle.tl_coherence.proofs.memory.Imports.{MemoryRelation, AbstractState, some_below, bytes_at, performs, Machine}
+use Rattle.tl_coherence.proofs.memory.Imports.{ClientBlock, AcquireOpen, Block, State, is_probed, performing}
+use Rattle.tl_coherence.proofs.memory.Imports.{AccessMessages, set_at}
 use Rattle.std.proofs.Common.{◌≡◌, subst, ℕ, ◌≤◌, Bool, true, false, not, ◌&&◌, List, [], ◌∷◌, Option, Some, None}
 use Rattle.std.proofs.Common.{length, refl, sym, ◌∙◌, ap, ◌⊎◌, inl, inr}
-use Rattle.std.specs.Prelude.{◌==◌, if◌then◌else◌, ⊤}
-use Rattle.std.proofs.lemmas.Bool.{cases_eq}
-use Rattle.tl_burst.specs.declared.message.Message.TheVariants as message
-use Rattle.tl_params.specs.declared.param.Report.{Report}
-use Rattle.tl_params.specs.declared.profile.Profile.{Profile}
+use Rattle.std.{specs.Prelude.◌==◌, specs.Prelude.if◌then◌else◌, specs.Prelude.⊤, proofs.lemmas.Bool.cases_eq}
+use Rattle.tl_params.{specs.declared.param.Report.Report, specs.declared.profile.Profile.Profile}
 use Rattle.tl_coherence.specs.refinement.AbstractStep.{answers, probes_some, access_taken, request_taken, acquire_taken}
 use Rattle.tl_coherence.specs.refinement.AbstractStep.{granted_after, last_taken, ack_taken}
 use Rattle.tl_coherence.specs.protocol.Invariant.{IsInvariant}
-use Rattle.tl_coherence.specs.protocol.Phase.{ProbeAnswered, AcquirePhase, NoAcquire}
-use Rattle.tl_coherence.specs.protocol.Phase.{is_unprobed}
+use Rattle.tl_coherence.specs.protocol.Phase.{ProbeAnswered, AcquirePhase, NoAcquire, is_unprobed}
 use Rattle.tl_coherence.specs.protocol.PhaseSteps.{after_served, after_grant_sent, after_report}
-use Rattle.tl_coherence.specs.protocol.Protocol.{Service, Free, Waits, GrantSent, GrantTaken, written}
-use Rattle.tl_coherence.specs.protocol.Protocol.{performed_block, served_block, granted_at_once, reported_block}
-use Rattle.tl_coherence.specs.protocol.Protocol.{ended_block, granted_block, granted_pair}
-use Rattle.tl_coherence.specs.protocol.Protocol.{access_answered, access_served, report_taken}
-use Rattle.tl_coherence.specs.protocol.Protocol.{report_answers}
+use Rattle.tl_coherence.specs.protocol.Protocol.{Service, Free, Waits, GrantSent, GrantTaken, written, performed_block}
+use Rattle.tl_coherence.specs.protocol.Protocol.{served_block, granted_at_once, reported_block, ended_block}
+use Rattle.tl_coherence.specs.protocol.Protocol.{granted_block, granted_pair, access_answered, access_served}
+use Rattle.tl_coherence.specs.protocol.Protocol.{report_taken, report_answers}
 use Rattle.tl_coherence.specs.protocol.Packet.{Kind, Request, ProbeAck, Packet, set}
-use Rattle.tl_coherence.proofs.memory.Beside.{beside-still}
-use Rattle.tl_coherence.proofs.memory.Beside.{beside-used, same_acquire}
+use Rattle.tl_coherence.proofs.memory.Beside.{beside-still, beside-used, same_acquire}
 use Rattle.tl_coherence.proofs.memory.BesideTaken.{IsPerformed, beside-performed, memory-unprobed, memory-reported}
 use Rattle.tl_coherence.proofs.memory.BesideTaken.{intent-reply}
 use Rattle.tl_coherence.proofs.queues.Tokens.{set-same, set-other, set-part}
@@ -38,7 +30,7 @@ access_list c source true (Some k) = []
 access_list c source _ _ = (c, source) ∷ []
 
 abbrev pub request_accesses : {w : ℕ} → ℕ → ℕ → ℕ → Message w → AbstractState w → List (ℕ × ℕ)
-request_accesses clients c source (message.A m) h =
+request_accesses clients c source (Message.A m) h =
     access_list c source (probes_some clients c false (cap_probed m.opcode m.param)
     (h.state.block (block_at m.address)).pair) (cap_probed m.opcode m.param)
 request_accesses clients c source _ h = []
@@ -52,22 +44,21 @@ abbrev pub accesses_by : {w : ℕ} → Config → ℕ → Kind → ℕ → Abstr
 accesses_by config c Request i h = request_accesses (length config.clients.items) c i (h.mail.request c i) h
 accesses_by config c ProbeAck n h =
     if some_below (length config.clients.items)
-    (λ d. not (d == c) && not (is_unprobed ((h.state.block n).pair d).probing))
-    then []
-    else last_accesses (h.state.block n).service
+    (λ d. not (d == c) && not (is_unprobed ((h.state.block n).pair d).probing)) then [] else last_accesses
+    (h.state.block n).service
 accesses_by config c _ i h = []
 
 -- ---- one block changes, and no source
 
-pub beside_block : {w : ℕ} (n : ℕ) (new : Block (List ℕ)) (mail : AccessMessages w) (s s' : State (List ℕ))
-    (m : Machine w) → ((i : ℕ) → s'.block i ≡ set n new s.block i)
+pub beside_block : {w : ℕ} (n : ℕ) (new : Block (List ℕ)) {mail : AccessMessages w} {s : State (List ℕ)}
+    (s' : State (List ℕ))
+    {m : Machine w} → ((i : ℕ) → s'.block i ≡ set n new s.block i)
     → ((d i : ℕ) → s'.uses d i ≡ s.uses d i) → ((d i : ℕ) → s'.lets d i ≡ s.lets d i)
     → new.truth ≡ (s.block n).truth → ((d : ℕ) → (new.pair d).acquiring ≡ ((s.block n).pair d).acquiring)
     → ((d : ℕ) → new.waiting d ≡ (s.block n).waiting d) → MemoryRelation mail s m → MemoryRelation mail s' m
-beside_block {w} n new mail s s' m blocks uses lets truth acquiring waiting h = beside-still mail s s' m m (record {
-  memory = λ i. subst (λ (bytes : List ℕ). IsBlock m.memory i bytes)
-      (sym (ap (λ (b : Block (List ℕ)). b.truth) (blocks i) ∙ set-part (λ (b : Block (List ℕ)). b.truth) n new s.block
-      truth i)) (h.memory i);
+beside_block {w} n new {mail} {s} s' {m} blocks uses lets truth acquiring waiting h = beside-still (record {
+  memory = λ i. rw (ap (λ (b : Block (List ℕ)). b.truth) (blocks i) ∙ set-part (λ (b : Block (List ℕ)). b.truth) n new
+      s.block truth i) (h.memory i);
   uses = uses;
   lets = lets;
   opened = λ d pool i. refl;
@@ -86,11 +77,10 @@ same_acquiring c p f e d = set-part (λ (q : ClientBlock). q.acquiring) c p f e 
 
 served_acquiring : (r : ℕ) (own : Bool) (k : Cap) (pair : ℕ → ClientBlock) (d : ℕ)
     → (if own && (d == r) then pair d else after_served k (pair d)).acquiring ≡ (pair d).acquiring
-served_acquiring r own k pair d = go (own && (d == r))
-  where
-    go : (x : Bool) → (if x then pair d else after_served k (pair d)).acquiring ≡ (pair d).acquiring
-    go true = refl
-    go false = refl
+served_acquiring r own k pair d =
+    let go : (x : Bool) → (if x then pair d else after_served k (pair d)).acquiring ≡ (pair d).acquiring =
+    elim [ true ↦ refl | false ↦ refl ] in
+    go (own && (d == r))
 
 granted_acquiring : (c q : ℕ) (r : Report) (k : Cap) (pair : ℕ → ClientBlock) (d : ℕ)
     → (granted_pair c q r k pair d).acquiring ≡ (pair d).acquiring
@@ -106,14 +96,15 @@ granted_acquiring c q r k pair d = elim (cases_eq d q) [
 
 -- ---- a request
 
-beside_served : {w : ℕ} (config : Config) (c source : ℕ) (x : MessageA w) (tracker : ℕ) (k : Cap) (rest : List Packet)
-    (mail : AccessMessages w) (s : State (List ℕ))
-    (m : Machine w) → IsPerformed config c source x mail s m
+beside_served : {w : ℕ} {config : Config} {c source : ℕ} {x : MessageA w} (tracker : ℕ) (k : Cap) (rest : List Packet)
+    {mail : AccessMessages w} {s : State (List ℕ)} {m : Machine w} → IsPerformed config c source x mail s m
     → MemoryRelation mail s m → MemoryRelation mail (access_served c (block_at x.address) source tracker k rest s) m
-beside_served {w} config c source x tracker k rest mail s m is h =
-    beside-used c source (InService n) mail mail s s' m m (record {
-      memory = λ i. subst (λ (bytes : List ℕ). IsBlock m.memory i bytes)
-          (sym (set-part (λ (b : Block (List ℕ)). b.truth) n new s.block refl i)) (h.memory i);
+beside_served {w} {c} {source} {x} tracker k rest {mail} {s} {m} is h =
+    let n : ℕ = block_at x.address in
+    let new : Block (List ℕ) = served_block c false source tracker k (s.block n) in
+    let s' : State (List ℕ) = access_served c n source tracker k rest s in
+    beside-used (record {
+      memory = λ i. rw (set-part (λ (b : Block (List ℕ)). b.truth) n new s.block refl i) (h.memory i);
       uses = λ d i. refl;
       lets = λ d i. refl;
       here = is.opened;
@@ -125,31 +116,23 @@ beside_served {w} config c source x tracker k rest mail s m is h =
           (λ j. (
             set-part (λ (b : Block (List ℕ)). (b.pair d).acquiring) n new s.block
                 (served_acquiring c false k (s.block n).pair d) j,
-            set-part (λ (b : Block (List ℕ)). b.waiting d) n new s.block refl j,
+            set-part (λ (b : Block (List ℕ)). b.waiting d) n new
+                s.block refl j,
           ));
     }) h
-  where
-    n : ℕ
-    n = block_at x.address
 
-    new : Block (List ℕ)
-    new = served_block c false source tracker k (s.block n)
-
-    s' : State (List ℕ)
-    s' = access_served c n source tracker k rest s
-
-beside_answered : {w : ℕ} (config : Config) (c source : ℕ) (x : MessageA w) (rest : List Packet)
-    (mail : AccessMessages w) (s : State (List ℕ)) (m : Machine w) → IsPerformed config c source x mail s m
+beside_answered : {w : ℕ} {config : Config} {c source : ℕ} {x : MessageA w} (rest : List Packet)
+    {mail : AccessMessages w} {s : State (List ℕ)} {m : Machine w} → IsPerformed config c source x mail s m
     → ((s.block (block_at x.address)).memory ≡ (s.block (block_at x.address)).truth)
     ⊎ (cap_probed x.opcode x.param ≡ None) → MemoryRelation mail s m
     → MemoryRelation (record {
       request = mail.request;
-      answer =
-          set_at c source (answers x (s.block (block_at x.address)).memory) mail.answer;
+      answer = set_at c source (answers x (s.block (block_at x.address)).memory) mail.answer;
     })
     (access_answered c (block_at x.address) source (performs x) rest s) (performing ((c, source) ∷ []) m)
-beside_answered {w} config c source x rest mail s m is same h =
-    beside-performed config c source x (s.block n).memory mail s (access_answered c n source (performs x) rest s) m is
+beside_answered {w} {config} {c} {source} {x} rest {mail} {s} {m} is same h =
+    let new : Block (List ℕ) = performed_block (performs x) (s.block n) in
+    beside-performed (s.block n).memory (access_answered c n source (performs x) rest s) is
     (λ f block. reply_same same)
     (λ i ne. ap (λ (b : Block (List ℕ)). b.truth) (set-other n i new s.block ne))
     (ap (λ (b : Block (List ℕ)). b.truth) (set-same n new s.block))
@@ -163,24 +146,21 @@ beside_answered {w} config c source x rest mail s m is same h =
     n : ℕ
     n = block_at x.address
 
-    new : Block (List ℕ)
-    new = performed_block (performs x) (s.block n)
-
     reply_same : ((s.block n).memory ≡ (s.block n).truth) ⊎ (cap_probed x.opcode x.param ≡ None)
-        → (effect (message.A x) (bytes_at n (s.block n).truth)).1
-        ≡ (effect (message.A x) (bytes_at n (s.block n).memory)).1
-    reply_same (inl e) = ap (λ (b : List ℕ). (effect (message.A x) (bytes_at n b)).1) (sym e)
+        → (effect (Message.A x) (bytes_at n (s.block n).truth)).1
+        ≡ (effect (Message.A x) (bytes_at n (s.block n).memory)).1
+    reply_same (inl e) = ap (λ (b : List ℕ). (effect (Message.A x) (bytes_at n b)).1) (sym e)
     reply_same (inr e) = intent-reply x (bytes_at n (s.block n).truth) (bytes_at n (s.block n).memory) e
 
-pub beside-request : {w : ℕ} (caching : ℕ → Bool) (config : Config) (c source tracker : ℕ) (x : MessageA w)
-    (rest : List Packet) (h : AbstractState w) (m : Machine w) → IsInvariant caching h.state
+pub beside-request : {w : ℕ} {caching : ℕ → Bool} {config : Config} {c source : ℕ} (tracker : ℕ) {x : MessageA w}
+    (rest : List Packet) (h : AbstractState w) {m : Machine w} → IsInvariant caching h.state
     → ((d : ℕ) → length config.clients.items ≤ d → caching d ≡ false) → IsPerformed config c source x h.mail h.state m
     → MemoryRelation h.mail h.state m
-    → MemoryRelation (request_taken (length config.clients.items) c source (message.A x) tracker rest h).mail
-    (request_taken (length config.clients.items) c source (message.A x) tracker rest h).state
-    (performing (request_accesses (length config.clients.items) c source (message.A x) h) m)
+    → MemoryRelation (request_taken (length config.clients.items) c source (Message.A x) tracker rest h).mail
+    (request_taken (length config.clients.items) c source (Message.A x) tracker rest h).state
+    (performing (request_accesses (length config.clients.items) c source (Message.A x) h) m)
 unfolding performing
-beside-request {w} caching config c source tracker x rest h m inv plain is beside =
+beside-request {w} {caching} {config} {c} {source} tracker {x} rest h {m} inv plain is beside =
     go (probes_some clients c false (cap_probed x.opcode x.param) b.pair) (cap_probed x.opcode x.param) refl refl
   where
     clients : ℕ
@@ -190,39 +170,33 @@ beside-request {w} caching config c source tracker x rest h m inv plain is besid
     b = h.state.block (block_at x.address)
 
     go : (p : Bool) (o : Option Cap) → probes_some clients c false (cap_probed x.opcode x.param) b.pair ≡ p
-        → cap_probed x.opcode x.param ≡ o
-        → MemoryRelation (access_taken c source x tracker p o rest h).mail
+        → cap_probed x.opcode x.param ≡ o → MemoryRelation (access_taken c source x tracker p o rest h).mail
         (access_taken c source x tracker p o rest h).state (performing (access_list c source p o) m)
-    go true (Some k) e f = beside_served config c source x tracker k rest h.mail h.state m is beside
-    go true None e f = beside_answered config c source x rest h.mail h.state m is (inr f) beside
-    go false None e f = beside_answered config c source x rest h.mail h.state m is (inr f) beside
+    go true (Some k) e f = beside_served tracker k rest is beside
+    go true None e f = beside_answered rest is (inr f) beside
+    go false None e f = beside_answered rest is (inr f) beside
     go false (Some k) e f =
         let none : some_below clients (λ d. is_probed c false k (b.pair d).recorded d) ≡ false = rw f at e in
-        beside_answered config c source x rest h.mail h.state m is
-        (inl (memory-unprobed clients caching c k b plain (inv.blocks (block_at x.address))
+        beside_answered rest is
+        (inl (memory-unprobed clients c k plain (inv.blocks (block_at x.address))
         (low_cap x.opcode x.param k f) none)) beside
 
 -- ---- an Acquire
 
 pub beside-acquire : {w : ℕ} (clients : ℕ) (p : Profile) (c n : ℕ) (x : AcquirePhase) (tracker : ℕ) (rest : List Packet)
-    (h : AbstractState w) (m : Machine w) → MemoryRelation h.mail h.state m
+    (h : AbstractState w) {m : Machine w} → MemoryRelation h.mail h.state m
     → MemoryRelation (acquire_taken clients p c n x tracker rest h).mail
     (acquire_taken clients p c n x tracker rest h).state m
-beside-acquire clients p c n NoAcquire tracker rest h m beside = beside
-beside-acquire {w} clients p c n (AcquireOpen whole g) tracker rest h m beside =
-    either _ _ _ (beside_block n (served_block c true (b.source c) tracker _ b) h.mail h.state _ m (λ i. refl)
+beside-acquire clients p c n NoAcquire tracker rest h beside = beside
+beside-acquire {w} clients p c n (AcquireOpen whole g) tracker rest h {m} beside =
+    let either : (y : Bool) (s t : State (List ℕ)) → MemoryRelation h.mail s m → MemoryRelation h.mail t m
+    → MemoryRelation h.mail (if y then s else t) m = elim [ true ↦ λ s t f g. f | false ↦ λ s t f g. g ] in
+    let b : Block (List ℕ) = h.state.block n in
+    either _ _ _ (beside_block n (served_block c true (b.source c) tracker _ b) _ (λ i. refl)
     (λ d i. refl) (λ d i. refl) refl
     (λ d. served_acquiring c true _ b.pair d) (λ d. refl) beside)
-    (beside_block n (granted_at_once c tracker _ _ b) h.mail h.state _ m (λ i. refl) (λ d i. refl) (λ d i. refl) refl
+    (beside_block n (granted_at_once c tracker _ _ b) _ (λ i. refl) (λ d i. refl) (λ d i. refl) refl
     (λ d. same_acquiring c (after_grant_sent _ (b.pair c)) b.pair refl d) (λ d. refl) beside)
-  where
-    b : Block (List ℕ)
-    b = h.state.block n
-
-    either : (y : Bool) (s t : State (List ℕ)) → MemoryRelation h.mail s m → MemoryRelation h.mail t m
-        → MemoryRelation h.mail (if y then s else t) m
-    either true s t f g = f
-    either false s t f g = g
 
 -- ---- a report
 
@@ -232,22 +206,29 @@ IsWaiting config n (Waits q false source k) h m = IsPerformed config q source (h
     × (block_at (h.request n).address ≡ n)
 IsWaiting config n _ h m = ⊤
 
-beside_ended : {w : ℕ} (caching : ℕ → Bool) (config : Config) (c q n source : ℕ) (r : Report) (k : Cap)
-    (rest : List Packet) (h : AbstractState w) (m : Machine w) → IsInvariant caching h.state
+beside_ended : {w : ℕ} {caching : ℕ → Bool} {config : Config} (c : ℕ) {q : ℕ} (n : ℕ) {source : ℕ} (r : Report)
+    (k : Cap)
+    (rest : List Packet) (h : AbstractState w) {m : Machine w} → IsInvariant caching h.state
     → (h.state.block n).service ≡ Waits q false source k → ((h.state.block n).pair c).probing ≡ ProbeAnswered r
     → ((d : ℕ) → (d ≡ c → ⊥) → is_unprobed ((h.state.block n).pair d).probing ≡ true)
     → IsPerformed config q source (h.request n) h.mail h.state m → block_at (h.request n).address ≡ n
     → MemoryRelation h.mail h.state m
     → MemoryRelation (record {
       request = h.mail.request;
-      answer =
-          set_at q source (answers (h.request n) (written r (h.state.block n).truth (h.state.block n).memory))
+      answer = set_at q source (answers (h.request n) (written r (h.state.block n).truth (h.state.block n).memory))
           h.mail.answer;
     })
     (report_answers c q n source r (performs (h.request n)) rest h.state)
     (performing ((q, source) ∷ []) m)
-beside_ended {w} caching config c q n source r k rest h m inv waits answered settled is at beside =
-    beside-performed config q source x (written r b.truth b.memory) h.mail h.state s' m is (λ f block. reply_same)
+beside_ended {w} {caching} {config} c {q} n {source} r k rest h {m} inv waits answered settled is at beside =
+    let b : Block (List ℕ) = h.state.block n in
+    let x : MessageA w = h.request n in
+    let new : Block (List ℕ) = ended_block c r (performs x) b in
+    let s' : State (List ℕ) = report_answers c q n source r (performs x) rest h.state in
+    let told = memory-reported c q source r k (inv.blocks n) waits answered settled in
+    let reply_same : (effect (Message.A x) (bytes_at (block_at x.address) (h.state.block (block_at x.address)).truth)).1
+    ≡ (effect (Message.A x) (bytes_at (block_at x.address) (written r b.truth b.memory))).1 = cc (at, told) in
+    beside-performed (written r b.truth b.memory) s' is (λ f block. reply_same)
     (λ i ne. ap (λ (y : Block (List ℕ)). y.truth) (set-other n i new h.state.block (λ e. ne (e ∙ sym at))))
     (subst (λ (j : ℕ). (set n new h.state.block j).truth ≡ performs x (h.state.block j).truth) (sym at)
     (ap (λ (y : Block (List ℕ)). y.truth) (set-same n new h.state.block)))
@@ -257,63 +238,39 @@ beside_ended {w} caching config c q n source r k rest h m inv waits answered set
           (same_acquiring c (after_report r (b.pair c)) b.pair refl d) i,
       set-part (λ (y : Block (List ℕ)). y.waiting d) n new h.state.block refl i,
     )) beside
-  where
-    b : Block (List ℕ)
-    b = h.state.block n
 
-    x : MessageA w
-    x = h.request n
-
-    new : Block (List ℕ)
-    new = ended_block c r (performs x) b
-
-    s' : State (List ℕ)
-    s' = report_answers c q n source r (performs x) rest h.state
-
-    told : written r b.truth b.memory ≡ b.truth
-    told = memory-reported caching c q source r k b (inv.blocks n) waits answered settled
-
-    reply_same : (effect (message.A x) (bytes_at (block_at x.address) (h.state.block (block_at x.address)).truth)).1
-        ≡ (effect (message.A x) (bytes_at (block_at x.address) (written r b.truth b.memory))).1
-    reply_same = ap (λ (bytes : List ℕ). (effect (message.A x) (bytes_at (block_at x.address) bytes)).1)
-        (ap (λ (j : ℕ). (h.state.block j).truth) at ∙ sym told)
-
-beside_last : {w : ℕ} (caching : ℕ → Bool) (config : Config) (clients : ℕ) (p : Profile) (c n : ℕ) (r : Report)
-    (v : Service) (rest : List Packet) (h : AbstractState w)
-    (m : Machine w) → IsInvariant caching h.state → (h.state.block n).service ≡ v
-    → ((h.state.block n).pair c).probing ≡ ProbeAnswered r
+beside_last : {w : ℕ} {caching : ℕ → Bool} (config : Config) (clients : ℕ) (p : Profile) (c n : ℕ) (r : Report)
+    (v : Service) (rest : List Packet) (h : AbstractState w) {m : Machine w} → IsInvariant caching h.state
+    → (h.state.block n).service ≡ v → ((h.state.block n).pair c).probing ≡ ProbeAnswered r
     → ((d : ℕ) → (d ≡ c → ⊥) → is_unprobed ((h.state.block n).pair d).probing ≡ true) → IsWaiting config n v h m
-    → MemoryRelation h.mail h.state m
-    → MemoryRelation (last_taken clients p c n r v rest h).mail (last_taken clients p c n r v rest h).state
-    (performing (last_accesses v) m)
+    → MemoryRelation h.mail h.state m → MemoryRelation (last_taken clients p c n r v rest h).mail
+    (last_taken clients p c n r v rest h).state (performing (last_accesses v) m)
 unfolding performing
-beside_last caching config clients p c n r Free rest h m inv e answered settled is beside = beside
-beside_last caching config clients p c n r (GrantSent q d k) rest h m inv e answered settled is beside = beside
-beside_last caching config clients p c n r (GrantTaken q) rest h m inv e answered settled is beside = beside
-beside_last caching config clients p c n r (Waits q false source k) rest h m inv e answered settled is beside =
-    beside_ended caching config c q n source r k rest h m inv e answered settled is.0 is.1 beside
-beside_last {w} caching config clients p c n r (Waits q true source k) rest h m inv e answered settled is beside =
+beside_last config clients p c n r Free rest h inv e answered settled is beside = beside
+beside_last config clients p c n r (GrantSent q d k) rest h inv e answered settled is beside = beside
+beside_last config clients p c n r (GrantTaken q) rest h inv e answered settled is beside = beside
+beside_last {caching} config clients p c n r (Waits q false source k) rest h {m} inv e answered settled is beside =
+    beside_ended c n r k rest h inv e answered settled is.0 is.1 beside
+beside_last {w} config clients p c n r (Waits q true source k) rest h {m} inv e answered settled is beside =
     go ((h.state.block n).pair q).acquiring
   where
     go : (x : AcquirePhase) → MemoryRelation (granted_after clients p c q n r x rest h).mail
         (granted_after clients p c q n r x rest h).state m
     go NoAcquire = beside
-    go (AcquireOpen whole g) = beside_block n (granted_block c q r _ _ (h.state.block n)) h.mail h.state _ m (λ i. refl)
-        (λ d i. refl) (λ d i. refl) refl
-        (λ d. granted_acquiring c q r _ (h.state.block n).pair d) (λ d. refl) beside
+    go (AcquireOpen whole g) = beside_block n (granted_block c q r _ _ (h.state.block n)) _ (λ i. refl) (λ d i. refl)
+        (λ d i. refl) refl (λ d. granted_acquiring c q r _ (h.state.block n).pair d) (λ d. refl) beside
 
-pub beside-report : {w : ℕ} (caching : ℕ → Bool) (config : Config) (c n : ℕ) (r : Report) (rest : List Packet)
-    (h : AbstractState w) (m : Machine w)
-    → IsInvariant caching h.state → ((h.state.block n).pair c).probing ≡ ProbeAnswered r
-    → (some_below (length config.clients.items)
+pub beside-report : {w : ℕ} {caching : ℕ → Bool} (config : Config) (c n : ℕ) (r : Report) (rest : List Packet)
+    (h : AbstractState w) {m : Machine w} → IsInvariant caching h.state → ((h.state.block n).pair c).probing
+    ≡ ProbeAnswered r → (some_below (length config.clients.items)
     (λ d. not (d == c) && not (is_unprobed ((h.state.block n).pair d).probing)) ≡ false → (d : ℕ) → (d ≡ c → ⊥)
-    → is_unprobed ((h.state.block n).pair d).probing ≡ true)
-    → IsWaiting config n (h.state.block n).service h m → MemoryRelation h.mail h.state m
+    → is_unprobed ((h.state.block n).pair d).probing ≡ true) → IsWaiting config n (h.state.block n).service h m
+    → MemoryRelation h.mail h.state m
     → MemoryRelation (ack_taken (length config.clients.items) config.profile c n r rest h).mail
     (ack_taken (length config.clients.items) config.profile c n r rest h).state
     (performing (accesses_by config c ProbeAck n h) m)
 unfolding performing
-beside-report {w} caching config c n r rest h m inv answered settled is beside =
+beside-report {w} {caching} config c n r rest h {m} inv answered settled is beside =
     go (some_below (length config.clients.items)
     (λ d. not (d == c) && not (is_unprobed ((h.state.block n).pair d).probing))) refl
   where
@@ -327,9 +284,8 @@ beside-report {w} caching config c n r rest h m inv answered settled is beside =
         (λ d. not (d == c) && not (is_unprobed ((h.state.block n).pair d).probing)) ≡ y
         → MemoryRelation (if y then reported else last).mail (if y then reported else last).state
         (performing (if y then [] else last_accesses (h.state.block n).service) m)
-    go true e = beside_block n (reported_block c r (h.state.block n)) h.mail h.state reported.state m (λ i. refl)
-        (λ d i. refl) (λ d i. refl) refl
-        (λ d. same_acquiring c (after_report r ((h.state.block n).pair c)) (h.state.block n).pair refl d) (λ d. refl)
-        beside
-    go false e = beside_last caching config (length config.clients.items) config.profile c n r (h.state.block n).service
-        rest h m inv refl answered (settled e) is beside
+    go true e = beside_block n (reported_block c r (h.state.block n)) reported.state (λ i. refl) (λ d i. refl)
+        (λ d i. refl) refl (λ d. same_acquiring c (after_report r ((h.state.block n).pair c)) (h.state.block n).pair
+        refl d) (λ d. refl) beside
+    go false e = beside_last config (length config.clients.items) config.profile c n r (h.state.block n).service
+        rest h inv refl answered (settled e) is beside

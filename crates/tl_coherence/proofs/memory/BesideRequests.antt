@@ -6,39 +6,29 @@ use Rattle.tl_coherence.proofs.memory.Imports.{Machine, Requests, AcquireOpen, B
 use Rattle.tl_coherence.proofs.memory.Imports.{performing}
 use Rattle.std.proofs.Common.{◌≡◌, subst, ℕ, suc, Bool, true, false, not, List, [], ◌∷◌, Option, Some, None, length}
 use Rattle.std.proofs.Common.{refl, sym, ◌∙◌, ap, ◌⊎◌, inl, inr}
-use Rattle.tl_beat.specs.declared.beat.Beat.TheVariants as beat
-use Rattle.tl_burst.specs.declared.message.Message.TheVariants as message
+use Rattle.tl_beat.specs.declared.beat.Beat.{Beat}
 use Rattle.tl_burst.specs.statement.Burst.{a_beat_of, beats_of}
-use Rattle.tl_rules.specs.declared.answer.Answer.{Answer}
-use Rattle.tl_rules.specs.declared.answer.Answer.TheVariants as answer
+use Rattle.tl_rules.{specs.declared.answer.Answer.Answer, specs.statement.Conformance.Trace}
+use Rattle.tl_rules.{specs.statement.Effect.answer_of}
 use Rattle.std.specs.Prelude.{if◌then◌else◌}
-use Rattle.tl_rules.specs.statement.Conformance.{Trace}
-use Rattle.tl_rules.specs.statement.Effect.{answer_of}
 use Rattle.tl_client.proofs.endpoint.HeldAfter.{same_block}
 use Rattle.tl_manager.specs.statement.Handing.{Handed, Reaction, probes, access_answer, grant_opcode, is_granted_data}
 use Rattle.tl_manager.specs.statement.Handing.{grant}
-use Rattle.tl_manager.specs.statement.Holders.{recorded, probed}
-use Rattle.tl_manager.specs.statement.Service.{Service, is_access_answer}
-use Rattle.tl_manager.specs.statement.Reaction.{reaction}
-use Rattle.tl_manager.proofs.calls.Events.{performed-acquire}
+use Rattle.tl_manager.{specs.statement.Holders.recorded, specs.statement.Holders.probed}
+use Rattle.tl_manager.{specs.statement.Service.Service, specs.statement.Service.is_access_answer}
+use Rattle.tl_manager.{specs.statement.Reaction.reaction, proofs.calls.Events.performed-acquire}
 use Rattle.tl_coherence.specs.refinement.AbstractStep.{probes_some, request_taken, kind_taken}
-use Rattle.tl_coherence.specs.protocol.Invariant.{cap_asked}
-use Rattle.tl_coherence.specs.statement.Machine.{Performs}
-use Rattle.tl_coherence.specs.statement.System.{System}
+use Rattle.tl_coherence.specs.{protocol.Invariant.cap_asked, statement.Machine.Performs, statement.System.System}
 use Rattle.tl_coherence.specs.protocol.Packet.{Request, Acquire, Packet}
-use Rattle.tl_coherence.specs.refinement.SimulationRelation.{SimulationRelation, is_caching}
+use Rattle.tl_coherence.specs.refinement.SimulationRelation.{SimulationRelation}
 use Rattle.tl_coherence.proofs.manager.Arrivals.{link_of, with_beat, IsComing, service_for}
-use Rattle.tl_coherence.proofs.manager.AtRequests.{reaction-probing}
+use Rattle.tl_coherence.proofs.{manager.AtRequests.reaction-probing, memory.BesideTaken.IsPerformed}
+use Rattle.tl_coherence.proofs.{manager.Choices.plain-past, protocol.Heads.IsAsked, protocol.Heads.IsWanted}
+use Rattle.tl_coherence.proofs.{manager.RequestsHanded.handed-answered, queues.Codes.acquires-so}
 use Rattle.tl_coherence.proofs.memory.Beside.{done_at, performed-open, performing-one}
 use Rattle.tl_coherence.proofs.memory.BesideKinds.{access_list, beside-request, beside-acquire}
-use Rattle.tl_coherence.proofs.memory.BesideTaken.{IsPerformed}
-use Rattle.tl_coherence.proofs.manager.Choices.{plain-past}
-use Rattle.tl_coherence.proofs.protocol.Heads.{IsAsked, IsWanted}
-use Rattle.tl_coherence.proofs.manager.RequestsHanded.{handed-answered}
-use Rattle.tl_coherence.proofs.manager.RequestsTaken.{caps_asked}
+use Rattle.tl_coherence.proofs.manager.RequestsTaken.{caps_asked, acquire_wanted}
 use Rattle.tl_coherence.proofs.manager.UnwaitedRequests.{next_tracker, probed-some, reaction-performed}
-use Rattle.tl_coherence.proofs.manager.RequestsTaken.{acquire_wanted}
-use Rattle.tl_coherence.proofs.queues.Codes.{acquires-so}
 
 -- ---- which accesses are answered
 
@@ -50,22 +40,17 @@ accesses-probes w n j (d ∷ clients) = accesses-probes w n j clients
 pub accesses-answer : {w : ℕ} (c : ℕ) (m : MessageA w) (r : Answer)
     → accesses_answered ((link_of c, access_answer m r) ∷ []) ≡ (c, m.source) ∷ []
 unfolding accesses_answered
-accesses-answer c m answer.Ack = refl
-accesses-answer c m answer.Hint = refl
-accesses-answer c m (answer.Data payload) = refl
+accesses-answer c m Answer.Ack = refl
+accesses-answer c m r = refl
 
 accesses-grant : {w : ℕ} (config : Config) (c : ℕ) (v : Service w) (t : Trace w) (memory : Memory)
     → accesses_answered ((link_of c, grant config v t memory) ∷ []) ≡ []
 unfolding accesses_answered
 accesses-grant config c v t memory =
+    let one : List (ℕ × ℕ) = (c, v.request.source) ∷ [] in
+    let go : (b : Bool) → (if is_access_answer (grant_opcode b) then one else []) ≡ [] =
+    elim [ true ↦ refl | false ↦ refl ] in
     go (is_granted_data v.request.opcode v.request.param (recorded v.link.0 (block_at v.request.address) t))
-  where
-    one : List (ℕ × ℕ)
-    one = (c, v.request.source) ∷ []
-
-    go : (b : Bool) → (if is_access_answer (grant_opcode b) then one else []) ≡ []
-    go true = refl
-    go false = refl
 
 -- ---- an access
 
@@ -80,19 +65,19 @@ unfolding Performs performing
 once-performs l h m (inl none) = rw none refl
 once-performs l h m (inr (q, source, one, opened)) =
     rw one (
-      done_at q source (message.A opened.0) m,
-      performed-open q source (message.A opened.0) m opened.2,
-      performing-one q source (message.A opened.0) m opened.2,
+      done_at q source (Message.A opened.0) m,
+      performed-open q source (Message.A opened.0) m opened.2,
+      performing-one q source (Message.A opened.0) m opened.2,
     )
 
-pub request-accesses : {w : ℕ} (config : Config) (log : Log w) (h : AbstractState w) (sys : System w) (c source k : ℕ)
+pub request-accesses : {w : ℕ} {config : Config} {log : Log w} (h : AbstractState w) {sys : System w} {c source k : ℕ}
     → SimulationRelation config log h.mail h.request h.state sys → (asked : IsAsked config c source h.mail h.state)
-    → IsComing config c k asked.request sys.manager → beats_of (message.A asked.request) ≡ suc k
-    → accesses_answered (reaction config (link_of c) (beat.A (a_beat_of asked.request k)) sys.manager).handed
+    → IsComing config c k asked.request sys.manager → beats_of (Message.A asked.request) ≡ suc k
+    → accesses_answered (reaction config (link_of c) (Beat.A (a_beat_of asked.request k)) sys.manager).handed
     ≡ access_list c source (probes_some (length config.clients.items) c false
     (cap_probed asked.request.opcode asked.request.param)
     (h.state.block (block_at asked.request.address)).pair) (cap_probed asked.request.opcode asked.request.param)
-request-accesses {w} config log h sys c source k is asked comes last =
+request-accesses {w} {config} {log} h {sys} {c} {source} {k} is asked comes last =
     accesses (probes_some clients c false (cap_probed m.opcode m.param) b.pair) (cap_probed m.opcode m.param) refl refl
   where
     m : MessageA w
@@ -108,21 +93,20 @@ request-accesses {w} config log h sys c source k is asked comes last =
     clients = length config.clients.items
 
     done : Handed w
-    done = (reaction config (link_of c) (beat.A (a_beat_of m k)) sys.manager).handed
+    done = (reaction config (link_of c) (Beat.A (a_beat_of m k)) sys.manager).handed
 
     answered : probes_some clients c false (cap_probed m.opcode m.param) b.pair ≡ false
         → accesses_answered done ≡ (c, source) ∷ []
-    answered none =
-        ap accesses_answered (handed-answered config log h.mail h.request h.state sys c source k is asked comes last
-        none)
-        ∙ accesses-answer c m (answer_of (message.A m) (effect (message.A m) (bytes_at n b.memory)).1) ∙ ap
-        (λ i. (c, i) ∷ []) asked.source_is
+    answered none = cc (
+      handed-answered is asked comes last none,
+      accesses-answer c m
+          (answer_of (Message.A m) (effect (Message.A m) (bytes_at n b.memory)).1),
+      asked.source_is,
+    )
 
     accesses : (p : Bool) (o : Option Cap) → probes_some clients c false (cap_probed m.opcode m.param) b.pair ≡ p
         → cap_probed m.opcode m.param ≡ o → accesses_answered done ≡ access_list c source p o
     accesses true None f g = absurd (let no : false ≡ true = rw g at f in cc)
-    accesses false None f g = answered f
-    accesses false (Some j) f g = answered f
     accesses true (Some j) f g =
         let some : some_below clients (λ d. is_probed c false j (b.pair d).recorded d) ≡ true = rw g at f in
         ap (λ (d : Reaction w). accesses_answered d.handed) (reaction-probing config c k n j m sys.manager comes last
@@ -130,86 +114,71 @@ request-accesses {w} config log h sys c source k is asked comes last =
         (probed-some config log h.mail h.request h.state sys c k n false j m is asked.access refl ∙ ap not some))
         ∙ accesses-probes w n j (probed config (service_for c m sys.manager.trace) j
         (with_beat c m k sys.manager.trace))
+    accesses false o f g = answered f
 
-pub request-once : {w : ℕ} (config : Config) (log : Log w) (h : AbstractState w) (sys : System w) (c source k : ℕ)
-    (machine : Machine w)
-    → SimulationRelation config log h.mail h.request h.state sys → (asked : IsAsked config c source h.mail h.state)
-    → IsComing config c k asked.request sys.manager → beats_of (message.A asked.request) ≡ suc k
-    → MemoryRelation h.mail h.state machine
-    → IsOnce (accesses_answered (reaction config (link_of c) (beat.A (a_beat_of asked.request k)) sys.manager).handed) h
+pub request-once : {w : ℕ} {config : Config} {log : Log w} (h : AbstractState w) {sys : System w} {c source k : ℕ}
+    {machine : Machine w} → SimulationRelation config log h.mail h.request h.state sys
+    → (asked : IsAsked config c source h.mail h.state) → IsComing config c k asked.request sys.manager
+    → beats_of (Message.A asked.request) ≡ suc k → MemoryRelation h.mail h.state machine
+    → IsOnce (accesses_answered (reaction config (link_of c) (Beat.A (a_beat_of asked.request k)) sys.manager).handed) h
     machine
-request-once {w} config log h sys c source k machine is asked comes last beside =
+request-once {w} {config} {log} h {sys} {c} {source} {k} {machine} is asked comes last beside =
     go (probes_some (length config.clients.items) c false (cap_probed asked.request.opcode asked.request.param)
     (h.state.block (block_at asked.request.address)).pair) (cap_probed asked.request.opcode asked.request.param)
-    (request-accesses config log h sys c source k is asked comes last)
+    (request-accesses h is asked comes last)
   where
     opened : IsAccess source (h.mail.request c source) None (machine.opened c Requests source)
     opened = rw asked.used at (beside.requests c source)
 
     go : (p : Bool) (o : Option Cap)
-        → accesses_answered (reaction config (link_of c) (beat.A (a_beat_of asked.request k)) sys.manager).handed
+        → accesses_answered (reaction config (link_of c) (Beat.A (a_beat_of asked.request k)) sys.manager).handed
         ≡ access_list c source p o
-        → IsOnce (accesses_answered (reaction config (link_of c) (beat.A (a_beat_of asked.request k))
+        → IsOnce (accesses_answered (reaction config (link_of c) (Beat.A (a_beat_of asked.request k))
         sys.manager).handed) h machine
     go true (Some j) e = inl e
-    go true None e = inr (c, source, e, opened)
-    go false (Some j) e = inr (c, source, e, opened)
-    go false None e = inr (c, source, e, opened)
+    go p o e = inr (c, source, e, opened)
 
-pub beside-request_taken : {w : ℕ} (config : Config) (log : Log w) (h : AbstractState w) (sys : System w)
-    (c source k : ℕ) (rest : List Packet) (machine : Machine w)
-    → SimulationRelation config log h.mail h.request h.state sys → (asked : IsAsked config c source h.mail h.state)
-    → IsComing config c k asked.request sys.manager → beats_of (message.A asked.request) ≡ suc k
-    → MemoryRelation h.mail h.state machine
+pub beside-request_taken : {w : ℕ} {config : Config} {log : Log w} (h : AbstractState w) {sys : System w}
+    {c source k : ℕ} (rest : List Packet) {machine : Machine w} → SimulationRelation config log h.mail h.request h.state
+    sys → (asked : IsAsked config c source h.mail h.state) → IsComing config c k asked.request sys.manager
+    → beats_of (Message.A asked.request) ≡ suc k → MemoryRelation h.mail h.state machine
     → MemoryRelation (kind_taken config (next_tracker sys) c Request source rest h).mail
     (kind_taken config (next_tracker sys) c Request source rest h).state
-    (performing (accesses_answered (reaction config (link_of c) (beat.A (a_beat_of asked.request k))
+    (performing (accesses_answered (reaction config (link_of c) (Beat.A (a_beat_of asked.request k))
     sys.manager).handed) machine)
-beside-request_taken {w} config log h sys c source k rest machine is asked comes last beside =
-    subst (λ (i : Message w). MemoryRelation (request_taken clients c source i tracker rest h).mail
-    (request_taken clients c source i tracker rest h).state
-    (performing (accesses_answered done) machine)) (sym asked.is_it)
-    (subst (λ (l : List (ℕ × ℕ)). MemoryRelation (request_taken clients c source (message.A m) tracker rest h).mail
-    (request_taken clients c source (message.A m) tracker rest h).state (performing l machine))
-    (sym (request-accesses config log h sys c source k is asked comes last))
-    (beside-request (is_caching config) config c source tracker m rest h machine is.invariant (plain-past config)
-    performed_so beside))
-  where
-    m : MessageA w
-    m = asked.request
-
-    n : ℕ
-    n = block_at m.address
-
-    b : Block (List ℕ)
-    b = h.state.block n
-
-    clients : ℕ
-    clients = length config.clients.items
-
-    tracker : ℕ
-    tracker = next_tracker sys
-
-    done : Handed w
-    done = (reaction config (link_of c) (beat.A (a_beat_of m k)) sys.manager).handed
-
-    performed_so : IsPerformed config c source m h.mail h.state machine
-    performed_so = record {
+beside-request_taken {w} {config} {log} h {sys} {c} {source} {k} rest {machine} is asked comes last beside =
+    let m : MessageA w = asked.request in
+    let n : ℕ = block_at m.address in
+    let b : Block (List ℕ) = h.state.block n in
+    let tracker : ℕ = next_tracker sys in
+    let done : Handed w = (reaction config (link_of c) (Beat.A (a_beat_of m k)) sys.manager).handed in
+    let performed_so : IsPerformed config c source m h.mail h.state machine = record {
       width = comes.width;
       request = asked.is_it;
       sent = (ap Some asked.source_is, asked.lawful, asked.blank);
       access = asked.access;
       opened = rw asked.used at (beside.requests c source);
       long = (is.sized n).truth;
-    }
+    } in
+    subst (λ (i : Message w). MemoryRelation (request_taken clients c source i tracker rest h).mail
+    (request_taken clients c source i tracker rest h).state
+    (performing (accesses_answered done) machine)) (sym asked.is_it)
+    (subst (λ (l : List (ℕ × ℕ)). MemoryRelation (request_taken clients c source (Message.A m) tracker rest h).mail
+    (request_taken clients c source (Message.A m) tracker rest h).state (performing l machine))
+    (sym (request-accesses h is asked comes last))
+    (beside-request tracker rest h is.invariant (plain-past config)
+    performed_so beside))
+  where
+    clients : ℕ
+    clients = length config.clients.items
 
 -- ---- an Acquire
 
 pub acquire-accesses : {w : ℕ} (config : Config) (log : Log w) (h : AbstractState w) (sys : System w) (c n k : ℕ)
     → SimulationRelation config log h.mail h.request h.state sys → (asked : IsWanted w c n h.state)
     → IsComing config c k (acquire_wanted c n h.state asked) sys.manager
-    → beats_of (message.A (acquire_wanted c n h.state asked)) ≡ suc k
-    → accesses_answered (reaction config (link_of c) (beat.A (a_beat_of (acquire_wanted c n h.state asked) k))
+    → beats_of (Message.A (acquire_wanted c n h.state asked)) ≡ suc k
+    → accesses_answered (reaction config (link_of c) (Beat.A (a_beat_of (acquire_wanted c n h.state asked) k))
     sys.manager).handed ≡ []
 acquire-accesses {w} config log h sys c n k is asked comes last =
     none (some_below clients (λ d. is_probed c true j (b.pair d).recorded d)) refl
@@ -230,35 +199,35 @@ acquire-accesses {w} config log h sys c n k is asked comes last =
     caps = caps_asked w asked.whole asked.grow (b.source c) n
 
     none : (x : Bool) → some_below clients (λ d. is_probed c true j (b.pair d).recorded d) ≡ x
-        → accesses_answered (reaction config (link_of c) (beat.A (a_beat_of m k)) sys.manager).handed ≡ []
-    none true f =
-        ap (λ (d : Reaction w). accesses_answered d.handed)
-        (reaction-probing config c k n j m sys.manager comes last (same_block n) caps
-        (probed-some config log h.mail h.request h.state sys c k n true j m is (acquires-so asked.whole) (same_block n)
-        ∙ ap not f))
-        ∙ accesses-probes w n j (probed config (service_for c m sys.manager.trace) j
-        (with_beat c m k sys.manager.trace))
-    none false f =
-        ap (λ (d : Reaction w). accesses_answered d.handed)
-        (reaction-performed config log h.mail h.request h.state sys c k n true m is comes last (acquires-so asked.whole)
-        (same_block n) (rw caps f)
-        ∙ performed-acquire config (service_for c m sys.manager.trace) (with_beat c m k sys.manager.trace)
-        sys.manager.memory (acquires-so asked.whole))
-        ∙ accesses-grant config c (service_for c m sys.manager.trace) (with_beat c m k sys.manager.trace)
-        sys.manager.memory
+        → accesses_answered (reaction config (link_of c) (Beat.A (a_beat_of m k)) sys.manager).handed ≡ []
+    none true f = cc (
+      reaction-probing config c k n j m sys.manager comes last (same_block n) caps
+          (probed-some config log h.mail h.request h.state sys c k n true j m is (acquires-so asked.whole)
+          (same_block n)
+          ∙ ap not f),
+      accesses-probes w n j (probed config (service_for c m sys.manager.trace) j
+          (with_beat c m k sys.manager.trace)),
+    )
+    none false f = cc (
+      reaction-performed config log h.mail h.request h.state sys c k n true m is comes last
+          (acquires-so asked.whole) (same_block n) (rw caps f),
+      performed-acquire config
+          (service_for c m sys.manager.trace) (with_beat c m k sys.manager.trace) sys.manager.memory
+          (acquires-so asked.whole),
+      accesses-grant config c (service_for c m sys.manager.trace)
+          (with_beat c m k sys.manager.trace) sys.manager.memory,
+    )
 
-pub beside-acquire_taken : {w : ℕ} (config : Config) (log : Log w) (h : AbstractState w) (sys : System w) (c n k : ℕ)
-    (rest : List Packet) (machine : Machine w)
-    → SimulationRelation config log h.mail h.request h.state sys → (asked : IsWanted w c n h.state)
-    → IsComing config c k (acquire_wanted c n h.state asked) sys.manager
-    → beats_of (message.A (acquire_wanted c n h.state asked)) ≡ suc k → MemoryRelation h.mail h.state machine
+pub beside-acquire_taken : {w : ℕ} {config : Config} {log : Log w} (h : AbstractState w) {sys : System w} {c n k : ℕ}
+    (rest : List Packet) {machine : Machine w} → SimulationRelation config log h.mail h.request h.state sys
+    → (asked : IsWanted w c n h.state) → IsComing config c k (acquire_wanted c n h.state asked) sys.manager
+    → beats_of (Message.A (acquire_wanted c n h.state asked)) ≡ suc k → MemoryRelation h.mail h.state machine
     → MemoryRelation (kind_taken config (next_tracker sys) c Acquire n rest h).mail
     (kind_taken config (next_tracker sys) c Acquire n rest h).state
     (performing (accesses_answered
-    (reaction config (link_of c) (beat.A (a_beat_of (acquire_wanted c n h.state asked) k)) sys.manager).handed)
-    machine)
+    (reaction config (link_of c) (Beat.A (a_beat_of (acquire_wanted c n h.state asked) k)) sys.manager).handed) machine)
 unfolding performing
-beside-acquire_taken {w} config log h sys c n k rest machine is asked comes last beside =
+beside-acquire_taken {w} {config} {log} h {sys} {c} {n} {k} rest {machine} is asked comes last beside =
     rw (acquire-accesses config log h sys c n k is asked comes last)
     (beside-acquire (length config.clients.items) config.profile c n ((h.state.block n).pair c).acquiring
-    (next_tracker sys) rest h machine beside)
+    (next_tracker sys) rest h beside)

@@ -1,61 +1,48 @@
 -- The one memory stays beside the protocol where a client takes a response.
-use Rattle.tl_coherence.proofs.memory.Imports.{Cap, IsBlock, Op}
-use Rattle.tl_coherence.proofs.memory.Imports.{MemoryRelation}
-use Rattle.tl_coherence.proofs.memory.Imports.{Machine, Open, Requests, Releases, with_open, with_memory}
-use Rattle.tl_coherence.proofs.memory.Imports.{memory_after, after_end, AcquireOpen, Block, State}
-use Rattle.tl_coherence.proofs.memory.Imports.{SourceState, SourceFree, Replied, Acquires}
-use Rattle.tl_coherence.proofs.memory.Imports.{AccessMessages}
-use Rattle.std.proofs.Common.{◌≡◌, subst, ℕ, Bool, true, false, ◌&&◌, List, Option, Some, None}
-use Rattle.std.proofs.Common.{refl, sym, ◌∙◌, ap, ◌⊎◌, inl, inr}
-use Rattle.std.specs.Prelude.{◌==◌}
-use Rattle.std.proofs.lemmas.Bool.{cases_eq, ne_eqb}
-use Rattle.std.proofs.Math.Bool.{and-false}
-use Rattle.tl_burst.specs.declared.message.Message.TheVariants as message
-use Rattle.tl_client.specs.declared.operation.Op.TheVariants as op
+use Rattle.tl_coherence.proofs.memory.Imports.{Cap, IsBlock, Op, MemoryRelation, Machine, Open, Requests, Releases}
+use Rattle.tl_coherence.proofs.memory.Imports.{with_open, with_memory, memory_after, after_end, AcquireOpen, Block}
+use Rattle.tl_coherence.proofs.memory.Imports.{State, SourceState, Replied, Acquires, AccessMessages}
+use Rattle.tl_coherence.proofs.memory.Imports.{Message}
+use Rattle.std.proofs.Common.{◌≡◌, subst, ℕ, Bool, true, false, ◌&&◌, List, Option, Some, None, refl, sym, ◌∙◌, ap, ◌⊎◌}
+use Rattle.std.proofs.Common.{inl, inr}
+use Rattle.std.{specs.Prelude.◌==◌, proofs.lemmas.Bool.cases_eq, proofs.lemmas.Bool.ne_eqb, proofs.Math.Bool.and-false}
 use Rattle.tl_coherence.specs.refinement.MemoryRelation.{op_of, IsOpened, IsLet}
-use Rattle.tl_coherence.specs.protocol.Invariant.{acquires_of, IsInvariant}
-use Rattle.tl_coherence.specs.protocol.Phase.{AcquirePhase, NoAcquire}
-use Rattle.tl_coherence.specs.protocol.Phase.{is_unreleased, is_whole}
-use Rattle.tl_coherence.specs.protocol.PhaseSteps.{after_release_ack}
-use Rattle.tl_coherence.specs.protocol.PhaseSteps.{after_grant}
-use Rattle.tl_coherence.specs.protocol.Tokens.{is_wanting}
-use Rattle.tl_coherence.specs.protocol.Protocol.{taken_block, granted_truth}
-use Rattle.tl_coherence.specs.protocol.Protocol.{let_go_block}
-use Rattle.tl_coherence.specs.protocol.Protocol.{answer_taken, grant_taken, release_ack_taken}
-use Rattle.tl_coherence.specs.protocol.Packet.{Packet, set}
-use Rattle.tl_coherence.proofs.memory.Beside.{open-here, open-there, open-releases, open-requests}
-use Rattle.tl_coherence.proofs.memory.Beside.{beside-used, beside-let, same_acquire}
-use Rattle.tl_coherence.proofs.memory.BesideAsked.{acquires-else}
-use Rattle.tl_coherence.proofs.memory.OneMemory.{block-besides}
+use Rattle.tl_coherence.specs.{protocol.Invariant.acquires_of, protocol.Invariant.IsInvariant}
+use Rattle.tl_coherence.specs.{protocol.PhaseSteps.after_release_ack, protocol.PhaseSteps.after_grant}
+use Rattle.tl_coherence.specs.{protocol.Tokens.is_wanting, protocol.Packet.Packet, protocol.Packet.set}
+use Rattle.tl_coherence.specs.protocol.Phase.{AcquirePhase, NoAcquire, is_unreleased, is_whole}
+use Rattle.tl_coherence.specs.protocol.Protocol.{taken_block, granted_truth, let_go_block, answer_taken, grant_taken}
+use Rattle.tl_coherence.specs.protocol.Protocol.{release_ack_taken}
+use Rattle.tl_coherence.proofs.memory.Beside.{open-here, open-there, open-releases, open-requests, beside-used}
+use Rattle.tl_coherence.proofs.memory.Beside.{beside-let, same_acquire}
+use Rattle.tl_coherence.proofs.{memory.BesideAsked.acquires-else, memory.OneMemory.block-besides}
+use Rattle.tl_coherence.proofs.{protocol.BothParts.is_of-is, protocol.BothParts.acquires_of-is}
+use Rattle.tl_coherence.proofs.{memory.BesideKinds.same_acquiring}
 use Rattle.tl_manager.proofs.blocks.Blocks.{block-put}
 use Rattle.tl_coherence.proofs.queues.Tokens.{same_number, set-same, set-other, set-part}
-use Rattle.tl_coherence.proofs.protocol.BothParts.{is_of-is, acquires_of-is}
-use Rattle.tl_coherence.proofs.memory.BesideKinds.{same_acquiring}
 
 -- ---- responses
 
-pub beside-answer : {w : ℕ} (c source : ℕ) (rest : List Packet) (mail : AccessMessages w) (s : State (List ℕ))
-    (m : Machine w) → s.uses c source ≡ Replied → MemoryRelation mail s m
+pub beside-answer : {w : ℕ} (c source : ℕ) (rest : List Packet) {mail : AccessMessages w} {s : State (List ℕ)}
+    {m : Machine w} → s.uses c source ≡ Replied → MemoryRelation mail s m
     → MemoryRelation mail (answer_taken c source rest s) (after_end c Requests source (m.opened c Requests source) m)
-beside-answer {w} c source rest mail s m used h =
+beside-answer {w} c source rest {mail} {s} {m} used h =
+    let replied : (u : SourceState) → u ≡ Replied → IsOpened c source mail s u (m.opened c Requests source)
+    → IsOpened c source mail s Replied (m.opened c Requests source) = λ u e i. rw e at i in
     go (m.opened c Requests source) refl (replied (s.uses c source) used (h.requests c source))
   where
-    replied : (u : SourceState) → u ≡ Replied → IsOpened c source mail s u (m.opened c Requests source)
-        → IsOpened c source mail s Replied (m.opened c Requests source)
-    replied u e i = rw e at i
-
     go : (o : Option (Open w)) → m.opened c Requests source ≡ o
         → IsOpened c source mail s Replied (m.opened c Requests source)
         → MemoryRelation mail (answer_taken c source rest s) (after_end c Requests source o m)
-    go None e i = absurd (let no : Some (record { asked = op.Access (message.A i.1.0); answer = Some i.0 }) ≡ None =
+    go None e i = absurd (let no : Some (record { asked = Op.Access (Message.A i.1.0); answer = Some i.0 }) ≡ None =
         sym i.1.2 ∙ e in cc)
     go (Some o) e i =
-        let asked : o ≡ record { asked = op.Access (message.A i.1.0); answer = Some i.0 } =
-        some_is o (record { asked = op.Access (message.A i.1.0); answer = Some i.0 }) (sym e ∙ i.1.2) in
+        let some_is : (x y : Open w) → Some x ≡ Some y → x ≡ y = λ x y e. cc in
+        let asked = some_is o (record { asked = Op.Access (Message.A i.1.0); answer = Some i.0 }) (sym e ∙ i.1.2) in
         subst (λ (y : Open w). MemoryRelation mail (answer_taken c source rest s)
         (after_end c Requests source (Some y) m)) (sym asked)
-        (beside-used c source SourceFree mail mail s (answer_taken c source rest s) m
-        (with_open c Requests source None m) (record {
+        (beside-used
+        (record {
           memory = h.memory;
           uses = λ d j. refl;
           lets = λ d j. refl;
@@ -66,30 +53,27 @@ beside-answer {w} c source rest mail s m used h =
           answers = λ d j else_. refl;
           acquires = λ d j else_. same_acquire d s (answer_taken c source rest s) (s.uses d j) (λ k. (refl, refl));
         }) h)
-      where
-        some_is : (x y : Open w) → Some x ≡ Some y → x ≡ y
-        some_is x y e = cc
 
 -- the client's Acquire of the block is the one with its source
-only_source : (caching : ℕ → Bool) (s : State (List ℕ)) (c n i : ℕ) → IsInvariant caching s
+only_source : {caching : ℕ → Bool} {s : State (List ℕ)} (c n i : ℕ) → IsInvariant caching s
     → (i ≡ (s.block n).source c → ⊥) → s.uses c i ≡ Acquires n → ⊥
-only_source caching s c n i inv ne e =
+only_source {s} c n i inv ne e =
     let yes : acquires_of n (s.uses c i) ≡ true = ap (acquires_of n) e ∙ same_number n in
-    let named : acquires_of n (s.uses c i) ≡ (is_wanting ((s.block n).pair c).acquiring && (i == (s.block n).source c))
-    = inv.named.acquires c i n in
+    let named = inv.named.acquires c i n in
     let no : (is_wanting ((s.block n).pair c).acquiring && (i == (s.block n).source c)) ≡ false =
-    ap (λ (b : Bool). is_wanting ((s.block n).pair c).acquiring && b) (ne_eqb i ((s.block n).source c) ne)
-    ∙ and-false (is_wanting ((s.block n).pair c).acquiring) in
+    cc (ne_eqb i ((s.block n).source c) ne, and-false (is_wanting ((s.block n).pair c).acquiring)) in
     let differ : true ≡ false = sym yes ∙ named ∙ no in cc
 
-pub beside-grant : {w : ℕ} (caching : ℕ → Bool) (c n : ℕ) (d : Bool) (k : Cap) (rest : List Packet)
-    (mail : AccessMessages w) (s : State (List ℕ)) (m : Machine w)
+pub beside-grant : {w : ℕ} {caching : ℕ → Bool} (c n : ℕ) (d : Bool) (k : Cap) (rest : List Packet)
+    {mail : AccessMessages w} {s : State (List ℕ)} {m : Machine w}
     → IsInvariant caching s → is_wanting ((s.block n).pair c).acquiring ≡ true → MemoryRelation mail s m
     → MemoryRelation mail (grant_taken c n (is_whole ((s.block n).pair c).acquiring) d k rest s)
     (after_end c Requests ((s.block n).source c) (m.opened c Requests ((s.block n).source c)) m)
-beside-grant {w} caching c n d k rest mail s m inv wants h =
+beside-grant {w} {caching} c n d k rest {mail} {s} {m} inv wants h =
+    let s' : State (List ℕ) = grant_taken c n whole d k rest s in
+    let ended : Machine w = with_open c Requests source None (with_memory (memory_after asked m.memory) m) in
     subst (λ (o : Option (Open w)). MemoryRelation mail s' (after_end c Requests source o m)) (sym opened)
-    (beside-used c source SourceFree mail mail s s' m ended (record {
+    (beside-used (record {
       memory = λ i. block_now i (cases_eq i n);
       uses = λ e i. refl;
       lets = λ e i. refl;
@@ -99,7 +83,7 @@ beside-grant {w} caching c n d k rest mail s m inv wants h =
       requests = λ e i else_. refl;
       answers = λ e i else_. refl;
       acquires = acquires-else c n source new (after_grant k (b.pair c)) s s' (λ i. refl) (λ e. refl) (λ e ne. refl)
-          (λ i ne e. only_source caching s c n i inv ne e);
+          (λ i ne e. only_source c n i inv ne e);
     }) h)
   where
     b : Block (List ℕ)
@@ -114,24 +98,17 @@ beside-grant {w} caching c n d k rest mail s m inv wants h =
     new : Block (List ℕ)
     new = taken_block c whole d k b
 
-    s' : State (List ℕ)
-    s' = grant_taken c n whole d k rest s
-
     asked : Op w
     asked = op_of (b.pair c).acquiring n (b.waiting c)
-
-    ended : Machine w
-    ended = with_open c Requests source None (with_memory (memory_after asked m.memory) m)
 
     used : s.uses c source ≡ Acquires n
     used = acquires_of-is n (s.uses c source) (inv.named.acquires c source n ∙ rw (wants, same_number source) refl)
 
     opened : m.opened c Requests source ≡ Some (record { asked = asked; answer = None })
-    opened = acquires (s.uses c source) used (h.requests c source)
-      where
-        acquires : (u : SourceState) → u ≡ Acquires n → IsOpened c source mail s u (m.opened c Requests source)
-            → IsOpened c source mail s (Acquires n) (m.opened c Requests source)
-        acquires u e i = rw e at i
+    opened =
+        let acquires : (u : SourceState) → u ≡ Acquires n → IsOpened c source mail s u (m.opened c Requests source)
+        → IsOpened c source mail s (Acquires n) (m.opened c Requests source) = λ u e i. rw e at i in
+        acquires (s.uses c source) used (h.requests c source)
 
     here : (x : AcquirePhase) (waits : List ℕ) → is_wanting x ≡ true
         → IsBlock (memory_after (op_of {w = w} x n waits) m.memory) n (granted_truth (is_whole x) waits b.truth)
@@ -146,24 +123,22 @@ beside-grant {w} caching c n d k rest mail s m inv wants h =
     there (AcquireOpen false g) waits i e ne = h.memory i
 
     block_now : (i : ℕ) → (i ≡ n) ⊎ (i ≡ n → ⊥) → IsBlock (memory_after asked m.memory) i (set n new s.block i).truth
-    block_now i (inl same) =
-        subst (λ (j : ℕ). IsBlock (memory_after asked m.memory) j (set n new s.block j).truth) (sym same)
-        (subst (λ (y : Block (List ℕ)). IsBlock (memory_after asked m.memory) n y.truth) (sym (set-same n new s.block))
-        (here (b.pair c).acquiring (b.waiting c) wants))
+    block_now i (inl same) = subst (λ (j : ℕ). IsBlock (memory_after asked m.memory) j (set n new s.block j).truth)
+        (sym same) (subst (λ (y : Block (List ℕ)). IsBlock (memory_after asked m.memory) n y.truth)
+        (sym (set-same n new s.block)) (here (b.pair c).acquiring (b.waiting c) wants))
     block_now i (inr other) = subst (λ (y : Block (List ℕ)). IsBlock (memory_after asked m.memory) i y.truth)
-        (sym (set-other n i new s.block other))
-        (there (b.pair c).acquiring (b.waiting c) i wants other)
+        (sym (set-other n i new s.block other)) (there (b.pair c).acquiring (b.waiting c) i wants other)
 
-pub beside-release_ack : {w : ℕ} (caching : ℕ → Bool) (c n : ℕ) (rest : List Packet) (mail : AccessMessages w)
-    (s : State (List ℕ)) (m : Machine w) → IsInvariant caching s
-    → is_unreleased ((s.block n).pair c).letting ≡ false → MemoryRelation mail s m
-    → MemoryRelation mail (release_ack_taken c n rest s) (after_end c Releases ((s.block n).release_source c)
-    (m.opened c Releases ((s.block n).release_source c)) m)
-beside-release_ack {w} caching c n rest mail s m inv acked h =
+pub beside-release_ack : {w : ℕ} {caching : ℕ → Bool} (c n : ℕ) (rest : List Packet) {mail : AccessMessages w}
+    {s : State (List ℕ)} {m : Machine w} → IsInvariant caching s → is_unreleased ((s.block n).pair c).letting ≡ false
+    → MemoryRelation mail s m → MemoryRelation mail (release_ack_taken c n rest s)
+    (after_end c Releases ((s.block n).release_source c) (m.opened c Releases ((s.block n).release_source c)) m)
+beside-release_ack {w} c n rest {mail} {s} {m} inv acked h =
+    let new : Block (List ℕ) = let_go_block c (s.block n) in
+    let s' : State (List ℕ) = release_ack_taken c n rest s in
     subst (λ (o : Option (Open w)). MemoryRelation mail s' (after_end c Releases source o m)) (sym released.1)
-    (beside-let c source None mail s s' m (with_open c Releases source None m) (record {
-      memory = λ i. subst (λ (bytes : List ℕ). IsBlock m.memory i bytes)
-          (sym (set-part (λ (y : Block (List ℕ)). y.truth) n new s.block refl i)) (h.memory i);
+    (beside-let (record {
+      memory = λ i. rw (set-part (λ (y : Block (List ℕ)). y.truth) n new s.block refl i) (h.memory i);
       uses = λ e i. refl;
       lets = λ e i. refl;
       here = open-here c Releases source None m;
@@ -179,18 +154,11 @@ beside-release_ack {w} caching c n rest mail s m inv acked h =
     source : ℕ
     source = (s.block n).release_source c
 
-    new : Block (List ℕ)
-    new = let_go_block c (s.block n)
-
-    s' : State (List ℕ)
-    s' = release_ack_taken c n rest s
-
     let_is : s.lets c source ≡ Some n
     let_is = is_of-is n (s.lets c source) (inv.named.releases c source n ∙ rw (acked, same_number source) refl)
 
     released : IsLet (Some n) (m.opened c Releases source)
-    released = go (s.lets c source) let_is (h.releases c source)
-      where
-        go : (l : Option ℕ) → l ≡ Some n → IsLet l (m.opened c Releases source)
-            → IsLet (Some n) (m.opened c Releases source)
-        go l e i = rw e at i
+    released =
+        let go : (l : Option ℕ) → l ≡ Some n → IsLet l (m.opened c Releases source)
+        → IsLet (Some n) (m.opened c Releases source) = λ l e i. rw e at i in
+        go (s.lets c source) let_is (h.releases c source)

@@ -3,122 +3,102 @@
 use Rattle.tl_coherence.proofs.memory.Imports.{OpA, Message, MessageA, Config, Cap, Memory, IsBlock, effect, block_at}
 use Rattle.tl_coherence.proofs.memory.Imports.{same_perm, cap_probed, IsAccess, MemoryRelation, some_below, bytes_at}
 use Rattle.tl_coherence.proofs.memory.Imports.{performs, Machine, Open, Requests, with_memory, ClientBlock, Block}
-use Rattle.tl_coherence.proofs.memory.Imports.{State, SourceState, SourceFree, Asked, InService, Replied, Acquires}
-use Rattle.tl_coherence.proofs.memory.Imports.{is_probed, performing, AccessMessages, set_at}
+use Rattle.tl_coherence.proofs.memory.Imports.{State, SourceState, Replied, Acquires, is_probed, performing}
+use Rattle.tl_coherence.proofs.memory.Imports.{AccessMessages, set_at, Op}
 use Rattle.std.proofs.Common.{◌≡◌, subst, ℕ, ◌^◌, ◌≤◌, Bool, true, false, not, ◌&&◌, List, [], ◌∷◌, Some, None, length}
 use Rattle.std.proofs.Common.{refl, sym, ◌∙◌, ap, ◌⊎◌, inl, inr}
 use Rattle.std.specs.Prelude.{if◌then◌else◌}
 use Rattle.std.proofs.lemmas.Bool.{cases_eq, cases_lt, not-true}
 use Rattle.tl_beat.specs.statement.Width.{IsWidth}
-use Rattle.tl_beat.specs.declared.opcode.OpA.TheVariants as a
-use Rattle.tl_burst.specs.declared.message.Message.TheVariants as message
-use Rattle.tl_params.specs.declared.param.Cap.TheVariants as cap
-use Rattle.tl_params.specs.declared.param.Report.{Report}
-use Rattle.tl_params.specs.declared.perm.Perm.{Perm}
-use Rattle.tl_params.specs.declared.perm.Perm.TheVariants as perm
-use Rattle.tl_params.specs.statement.Param.{report_left}
+use Rattle.tl_params.{specs.declared.param.Report.Report, specs.declared.perm.Perm.Perm}
+use Rattle.tl_params.{specs.statement.Param.report_left}
 use Rattle.tl_rules.specs.statement.Effect as memory
-use Rattle.tl_rules.specs.statement.Effect.{answer_of}
-use Rattle.tl_rules.specs.statement.History.{is_acquire}
-use Rattle.tl_client.specs.declared.operation.Op.TheVariants as op
+use Rattle.tl_rules.{specs.statement.Effect.answer_of, specs.statement.History.is_acquire}
 use Rattle.tl_client.specs.statement.Send.{sourced}
-use Rattle.tl_manager.specs.statement.Handing.{access_answer}
-use Rattle.tl_manager.specs.statement.Offer.{level_of}
-use Rattle.tl_manager.proofs.messages.Filled.{length-bytes}
-use Rattle.tl_coherence.specs.refinement.MemoryRelation.{IsReach, Answers}
-use Rattle.tl_coherence.specs.refinement.AbstractStep.{answers}
-use Rattle.tl_coherence.specs.protocol.Invariant.{IsWell}
-use Rattle.tl_coherence.specs.protocol.Phase.{View, ProbePhase, NoProbe, ProbeSent, ProbeAnswered, ok, same_cap}
-use Rattle.tl_coherence.specs.protocol.Phase.{is_unprobed}
-use Rattle.tl_coherence.specs.protocol.PhaseSteps.{is_above}
+use Rattle.tl_manager.{specs.statement.Handing.access_answer, specs.statement.Offer.level_of}
+use Rattle.tl_manager.{proofs.messages.Filled.length-bytes}
+use Rattle.tl_coherence.specs.{refinement.MemoryRelation.IsReach, refinement.MemoryRelation.Answers}
+use Rattle.tl_coherence.specs.{refinement.AbstractStep.answers, protocol.Invariant.IsWell, protocol.PhaseSteps.is_above}
+use Rattle.tl_coherence.specs.{protocol.Tokens.is_sent, refinement.PacketMessages.report_told}
+use Rattle.tl_coherence.specs.{refinement.SimulationRelation.IsRequest}
+use Rattle.tl_coherence.specs.protocol.Phase.{View, ProbePhase, NoProbe, ProbeAnswered, ok, same_cap, is_unprobed}
 use Rattle.tl_coherence.specs.protocol.Protocol.{Waits, view, written}
-use Rattle.tl_coherence.specs.protocol.Tokens.{is_sent}
-use Rattle.tl_coherence.specs.refinement.PacketMessages.{report_told}
-use Rattle.tl_coherence.specs.refinement.SimulationRelation.{IsRequest}
-use Rattle.tl_coherence.proofs.memory.Beside.{IsSameAcquire, done_at, set_at-there, open-here, open-there}
+use Rattle.tl_coherence.proofs.memory.Beside.{IsSameAcquire, set_at-there, open-here, open-there}
 use Rattle.tl_coherence.proofs.memory.Beside.{open-releases, performing-one, beside-used}
-use Rattle.tl_coherence.proofs.queues.Facts.{is_other}
-use Rattle.tl_coherence.proofs.protocol.RequestsKept.{some-none}
+use Rattle.tl_coherence.proofs.{queues.Facts.is_other, protocol.RequestsKept.some-none, queues.Perms.nothing-above}
+use Rattle.tl_coherence.proofs.{queues.Perms.not_out, queues.Tokens.set_at-same}
 use Rattle.tl_coherence.proofs.memory.OneMemory.{blocks-performed, reply-performed, effect-sourced}
 use Rattle.tl_coherence.proofs.queues.Phases.{each_phase, of_phase, implies, implies_is}
-use Rattle.tl_coherence.proofs.queues.Perms.{nothing-above, not_out}
-use Rattle.tl_coherence.proofs.queues.Tokens.{set_at-same}
 
 -- ---- the manager's memory is the one memory, where nobody has what he was given to write
 
-never_above : (k : Cap) (p : Perm) → same_cap k cap.ToT ≡ false → is_above k p ≡ false → same_perm p perm.Trunk ≡ false
-never_above cap.ToT p e f = absurd cc
-never_above k perm.None e f = refl
-never_above k perm.Branch e f = refl
-never_above cap.ToB perm.Trunk e f = absurd cc
-never_above cap.ToN perm.Trunk e f = absurd cc
+never_above : (k : Cap) (p : Perm) → same_cap k Cap.ToT ≡ false → is_above k p ≡ false → same_perm p Perm.Trunk ≡ false
+never_above Cap.ToT p e f = absurd cc
+never_above k Perm.None e f = refl
+never_above k Perm.Branch e f = refl
+never_above Cap.ToB Perm.Trunk e f = absurd cc
+never_above Cap.ToN Perm.Trunk e f = absurd cc
 
 -- nobody is probed
-pub memory-unprobed : (clients : ℕ) (caching : ℕ → Bool) (c : ℕ) (k : Cap) (b : Block (List ℕ))
-    → ((d : ℕ) → clients ≤ d → caching d ≡ false) → IsWell caching b → same_cap k cap.ToT ≡ false
+pub memory-unprobed : (clients : ℕ) {caching : ℕ → Bool} (c : ℕ) (k : Cap) {b : Block (List ℕ)}
+    → ((d : ℕ) → clients ≤ d → caching d ≡ false) → IsWell caching b → same_cap k Cap.ToT ≡ false
     → some_below clients (λ d. is_probed c false k (b.pair d).recorded d) ≡ false → b.memory ≡ b.truth
-memory-unprobed clients caching c k b plain well low none =
-    well.memory (λ d. not_out (b.pair d) (view b.service d) (never_above k (b.pair d).recorded low (unprobed d)))
-  where
-    unprobed : (d : ℕ) → is_above k (b.pair d).recorded ≡ false
-    unprobed d = elim (cases_lt d clients) [
+memory-unprobed clients c k {b} plain well low none =
+    let unprobed : (d : ℕ) → is_above k (b.pair d).recorded ≡ false = λ d. elim (cases_lt d clients) [
       | inl lt ↦ some-none clients (λ i. is_probed c false k (b.pair i).recorded i) none d lt
       | inr le ↦ rw (well.outside d (plain d le)) (nothing-above k)
-    ]
+    ] in
+    well.memory (λ d. not_out (b.pair d) (view b.service d) (never_above k (b.pair d).recorded low (unprobed d)))
 
 low_test : ClientBlock → View → Bool
-low_test p v = implies (is_other v && (not (same_perm (report_left (report_told p.probing)) perm.Trunk) && not
-    (is_sent p.probing))) (not (same_perm p.recorded perm.Trunk))
+low_test p v = implies (is_other v && (not (same_perm (report_left (report_told p.probing)) Perm.Trunk) && not
+    (is_sent p.probing))) (not (same_perm p.recorded Perm.Trunk))
 
 low_all : each_phase low_test ≡ true
 unfolding each_phase low_test
 low_all = refl
 
 low_recorded : (p : ClientBlock) (v : View) → ok p v ≡ true
-    → (is_other v && (not (same_perm (report_left (report_told p.probing)) perm.Trunk) && not (is_sent p.probing)))
-    ≡ true
-    → not (same_perm p.recorded perm.Trunk) ≡ true
+    → (is_other v && (not (same_perm (report_left (report_told p.probing)) Perm.Trunk) && not (is_sent p.probing)))
+    ≡ true → not (same_perm p.recorded Perm.Trunk) ≡ true
 unfolding low_test
 low_recorded p v h e = implies_is
-    (is_other v && (not (same_perm (report_left (report_told p.probing)) perm.Trunk) && not (is_sent p.probing)))
-    (not (same_perm p.recorded perm.Trunk)) (of_phase low_test low_all p v h) e
+    (is_other v && (not (same_perm (report_left (report_told p.probing)) Perm.Trunk) && not (is_sent p.probing)))
+    (not (same_perm p.recorded Perm.Trunk)) (of_phase low_test low_all p v h) e
 
 -- the last report has been told
-pub memory-reported : (caching : ℕ → Bool) (c q source : ℕ) (r : Report) (k : Cap) (b : Block (List ℕ))
-    → IsWell caching b → b.service ≡ Waits q false source k
-    → (b.pair c).probing ≡ ProbeAnswered r → ((d : ℕ) → (d ≡ c → ⊥) → is_unprobed (b.pair d).probing ≡ true)
-    → written r b.truth b.memory ≡ b.truth
-memory-reported caching c q source r k b well waits answered settled = go (same_perm (report_left r) perm.Trunk) refl
+pub memory-reported : {caching : ℕ → Bool} (c q source : ℕ) (r : Report) (k : Cap) {b : Block (List ℕ)}
+    → IsWell caching b → b.service ≡ Waits q false source k → (b.pair c).probing ≡ ProbeAnswered r
+    → ((d : ℕ) → (d ≡ c → ⊥) → is_unprobed (b.pair d).probing ≡ true) → written r b.truth b.memory ≡ b.truth
+memory-reported c q source r k {b} well waits answered settled =
+    let go : (x : Bool) → same_perm (report_left r) Perm.Trunk ≡ x → (if x then b.truth else b.memory) ≡ b.truth =
+    elim [ true ↦ λ e. refl | false ↦ λ e. well.memory (λ d. not_out (b.pair d) (view b.service d) (low d e)) ] in
+    go (same_perm (report_left r) Perm.Trunk) refl
   where
     seen : (d : ℕ) → is_other (view b.service d) ≡ true
     seen d = rw waits refl
 
     quiet_low : (x : ProbePhase) → is_unprobed x ≡ true
-        → (not (same_perm (report_left (report_told x)) perm.Trunk) && not (is_sent x)) ≡ true
+        → (not (same_perm (report_left (report_told x)) Perm.Trunk) && not (is_sent x)) ≡ true
     quiet_low NoProbe e = refl
-    quiet_low (ProbeSent j) e = absurd cc
-    quiet_low (ProbeAnswered j) e = absurd cc
+    quiet_low x e = absurd cc
 
-    told_low : same_perm (report_left r) perm.Trunk ≡ false
-        → (not (same_perm (report_left (report_told (b.pair c).probing)) perm.Trunk) && not
+    told_low : same_perm (report_left r) Perm.Trunk ≡ false
+        → (not (same_perm (report_left (report_told (b.pair c).probing)) Perm.Trunk) && not
         (is_sent (b.pair c).probing)) ≡ true
     told_low e = rw (answered, e) refl
 
-    low : (d : ℕ) → same_perm (report_left r) perm.Trunk ≡ false → same_perm (b.pair d).recorded perm.Trunk ≡ false
-    low d e = not-true (same_perm (b.pair d).recorded perm.Trunk)
+    low : (d : ℕ) → same_perm (report_left r) Perm.Trunk ≡ false → same_perm (b.pair d).recorded Perm.Trunk ≡ false
+    low d e = not-true (same_perm (b.pair d).recorded Perm.Trunk)
         (low_recorded (b.pair d) (view b.service d) (well.phases d) (both d (cases_eq d c)))
       where
         both : (d : ℕ) → (d ≡ c) ⊎ (d ≡ c → ⊥)
-            → (is_other (view b.service d) && (not (same_perm (report_left (report_told (b.pair d).probing)) perm.Trunk)
+            → (is_other (view b.service d) && (not (same_perm (report_left (report_told (b.pair d).probing)) Perm.Trunk)
             && not (is_sent (b.pair d).probing))) ≡ true
         both d (inl same) = rw (seen d)
-            (ap (λ (j : ℕ). not (same_perm (report_left (report_told (b.pair j).probing)) perm.Trunk) && not
+            (ap (λ (j : ℕ). not (same_perm (report_left (report_told (b.pair j).probing)) Perm.Trunk) && not
             (is_sent (b.pair j).probing)) same ∙ told_low e)
         both d (inr other) = rw (seen d) (quiet_low (b.pair d).probing (settled d other))
-
-    go : (x : Bool) → same_perm (report_left r) perm.Trunk ≡ x → (if x then b.truth else b.memory) ≡ b.truth
-    go true e = refl
-    go false e = well.memory (λ d. not_out (b.pair d) (view b.service d) (low d e))
 
 -- ---- an access is performed
 
@@ -126,41 +106,38 @@ memory-reported caching c q source r k b well waits answered settled = go (same_
 pub record IsPerformed {w : ℕ} (config : Config) (c source : ℕ) (a : MessageA w) (mail : AccessMessages w)
     (s : State (List ℕ)) (m : Machine w) : Type 0 where
   pub width : IsWidth w
-  pub request : mail.request c source ≡ message.A a
-  pub sent : IsRequest config c source (message.A a)
+  pub request : mail.request c source ≡ Message.A a
+  pub sent : IsRequest config c source (Message.A a)
   pub access : is_acquire a.opcode ≡ false
   pub opened : IsAccess source (mail.request c source) None (m.opened c Requests source)
   pub long : length (s.block (block_at a.address)).truth ≡ 64
 
-pub same_message : {w : ℕ} (x y : MessageA w) → message.A x ≡ message.A y → x ≡ y
+pub same_message : {w : ℕ} (x y : MessageA w) → Message.A x ≡ Message.A y → x ≡ y
 same_message x y e = cc
 
 -- the same effect, by the access as it was asked for
 effect_asked : {w : ℕ} (source : ℕ) (x b : MessageA w) (f : Memory) → x ≡ sourced source b
-    → effect (message.A b) f ≡ effect (message.A x) f
-effect_asked {w} source x b f e = sym (ap (λ (y : MessageA w). effect (message.A y) f) e ∙ effect-sourced source b f)
+    → effect (Message.A b) f ≡ effect (Message.A x) f
+effect_asked {w} source x b f e = sym (ap (λ (y : MessageA w). effect (Message.A y) f) e ∙ effect-sourced source b f)
 
 -- what is answered has as many bytes as are asked for
-reply_reach : {w : ℕ} (x : MessageA w) (f : Memory) → IsReach x (effect (message.A x) f).1
+reply_reach : {w : ℕ} (x : MessageA w) (f : Memory) → IsReach x (effect (Message.A x) f).1
 unfolding effect
 reply_reach {w} x f = go x.opcode
   where
     go : (o : OpA) → IsReach x (memory.access_result o x f)
-    go a.Get = length-bytes f x.address (2 ^ x.size)
-    go a.ArithmeticData = length-bytes f x.address (2 ^ x.size)
-    go a.LogicalData = length-bytes f x.address (2 ^ x.size)
-    go a.Intent = tt
-    go a.PutFullData = tt
-    go a.PutPartialData = tt
-    go a.AcquireBlock = tt
-    go a.AcquirePerm = tt
+    go OpA.Get = length-bytes f x.address (2 ^ x.size)
+    go OpA.ArithmeticData = length-bytes f x.address (2 ^ x.size)
+    go OpA.LogicalData = length-bytes f x.address (2 ^ x.size)
+    go o = tt
 
 -- the machine after it
-pub beside-performed : {w : ℕ} (config : Config) (c source : ℕ) (a : MessageA w) (bytes : List ℕ)
-    (mail : AccessMessages w) (s s' : State (List ℕ)) (m : Machine w) → IsPerformed config c source a mail s m
+pub beside-performed : {w : ℕ} {config : Config} {c source : ℕ} {a : MessageA w} (bytes : List ℕ)
+    {mail : AccessMessages w} {s : State (List ℕ)} (s' : State (List ℕ)) {m : Machine w}
+    → IsPerformed config c source a mail s m
     → ((f : Memory) → IsBlock f (block_at a.address) (s.block (block_at a.address)).truth
-    → (effect (message.A a) (bytes_at (block_at a.address) (s.block (block_at a.address)).truth)).1
-    ≡ (effect (message.A a) (bytes_at (block_at a.address) bytes)).1)
+    → (effect (Message.A a) (bytes_at (block_at a.address) (s.block (block_at a.address)).truth)).1
+    ≡ (effect (Message.A a) (bytes_at (block_at a.address) bytes)).1)
     → ((i : ℕ) → (i ≡ block_at a.address → ⊥) → (s'.block i).truth ≡ (s.block i).truth)
     → (s'.block (block_at a.address)).truth ≡ performs a (s.block (block_at a.address)).truth
     → ((d i : ℕ) → s'.uses d i ≡ set_at c source Replied s.uses d i) → ((d i : ℕ) → s'.lets d i ≡ s.lets d i)
@@ -169,102 +146,84 @@ pub beside-performed : {w : ℕ} (config : Config) (c source : ℕ) (a : Message
     → MemoryRelation mail s m
     → MemoryRelation (record { request = mail.request; answer = set_at c source (answers a bytes) mail.answer }) s'
     (performing ((c, source) ∷ []) m)
-beside-performed {w} config c source a bytes mail s s' m is same_reply others changed uses lets acquires h =
+beside-performed {w} {config} {c} {source} {a} bytes {mail} {s} s' {m} is same_reply others changed uses lets acquires
+    h =
+    let same_acquires : (d : ℕ) (u : SourceState) → IsSameAcquire d s s' u =
+    λ d. elim [ Acquires k ↦ acquires d k | u ↦ tt ] in
+    let mail' : AccessMessages w =
+    record { request = mail.request; answer = set_at c source (answers a bytes) mail.answer } in
+    let now : Open w = record {
+      asked = Op.Access (Message.A is.opened.0);
+      answer = Some (effect (Message.A is.opened.0) m.memory).1;
+    } in
+    let reply_is : (effect (Message.A is.opened.0) m.memory).1 ≡ (effect (Message.A a) (bytes_at n bytes)).1 =
+    cc (
+      effect_is,
+      reply-performed (level_of config c) a m.memory (s.block n).truth is.width is.sent.1 (h.memory n)
+          is.long,
+      same_reply m.memory (h.memory n),
+    ) in
+    let reaches : IsReach a (effect (Message.A is.opened.0) m.memory).1 =
+    subst (λ (y : Memory × memory.AccessResult). IsReach a y.1) (sym effect_is) (reply_reach a m.memory) in
     subst (λ (z : Machine w). MemoryRelation mail' s' z)
-    (sym (performing-one c source (message.A is.opened.0) m is.opened.2))
-    (beside-used c source Replied mail mail' s s' m (done_at c source (message.A is.opened.0) m) (record {
+    (sym (performing-one c source (Message.A is.opened.0) m is.opened.2))
+    (beside-used (record {
       memory = λ i. block_now i (cases_eq i n);
       uses = uses;
       lets = lets;
       here = (
-        (effect (message.A is.opened.0) m.memory).1,
+        (effect (Message.A is.opened.0) m.memory).1,
         (
           is.opened.0,
           is.opened.1,
           open-here c Requests source (Some now)
-              (with_memory (effect (message.A is.opened.0) m.memory).0 m),
+              (with_memory (effect (Message.A is.opened.0) m.memory).0 m),
         ),
-        subst (λ (x : Message w). Answers x (effect (message.A is.opened.0) m.memory).1
+        subst (λ (x : Message w). Answers x (effect (Message.A is.opened.0) m.memory).1
             (set_at c source (answers a bytes) mail.answer c source))
             (sym is.request) (
               set_at-same c source (answers a bytes) mail.answer
-                  ∙ ap (λ r. access_answer a (answer_of (message.A a) r)) (sym reply_is),
+                  ∙ ap (λ r. access_answer a (answer_of (Message.A a) r)) (sym reply_is),
               reaches,
             ),
       );
       there = λ d i else_. open-there c Requests source (Some now)
-          (with_memory (effect (message.A is.opened.0) m.memory).0 m) d i else_;
-      releases = λ d i. open-releases c source (Some now) (with_memory (effect (message.A is.opened.0) m.memory).0 m) d
+          (with_memory (effect (Message.A is.opened.0) m.memory).0 m) d i else_;
+      releases = λ d i. open-releases c source (Some now) (with_memory (effect (Message.A is.opened.0) m.memory).0 m) d
           i;
       requests = λ d i else_. refl;
-      answers = λ d i else_. set_at-there c source (answers a bytes) mail.answer d i else_;
+      answers = λ d i else_. set_at-there (answers a bytes) mail.answer else_;
       acquires = λ d i else_. same_acquires d (s.uses d i);
     }) h)
   where
     n : ℕ
     n = block_at a.address
 
-    mail' : AccessMessages w
-    mail' = record { request = mail.request; answer = set_at c source (answers a bytes) mail.answer }
-
-    now : Open w
-    now = record {
-      asked = op.Access (message.A is.opened.0);
-      answer =
-          Some (effect (message.A is.opened.0) m.memory).1;
-    }
-
     as_asked : a ≡ sourced source is.opened.0
     as_asked = same_message a (sourced source is.opened.0) (sym is.request ∙ is.opened.1)
 
-    effect_is : effect (message.A is.opened.0) m.memory ≡ effect (message.A a) m.memory
+    effect_is : effect (Message.A is.opened.0) m.memory ≡ effect (Message.A a) m.memory
     effect_is = effect_asked source a is.opened.0 m.memory as_asked
 
-    blocks : IsBlock (effect (message.A a) m.memory).0 n (performs a (s.block n).truth)
-        × ((i : ℕ) → (i ≡ n → ⊥) → IsBlock (effect (message.A a) m.memory).0 i (s.block i).truth)
+    blocks : IsBlock (effect (Message.A a) m.memory).0 n (performs a (s.block n).truth)
+        × ((i : ℕ) → (i ≡ n → ⊥) → IsBlock (effect (Message.A a) m.memory).0 i (s.block i).truth)
     blocks = blocks-performed (level_of config c) a m.memory (λ i. (s.block i).truth) is.width is.access is.sent.1
         is.sent.2 is.long h.memory
 
-    block_now : (i : ℕ) → (i ≡ n) ⊎ (i ≡ n → ⊥) → IsBlock (effect (message.A is.opened.0) m.memory).0 i
+    block_now : (i : ℕ) → (i ≡ n) ⊎ (i ≡ n → ⊥) → IsBlock (effect (Message.A is.opened.0) m.memory).0 i
         (s'.block i).truth
-    block_now i (inl same) =
-        subst (λ (j : ℕ). IsBlock (effect (message.A is.opened.0) m.memory).0 j (s'.block j).truth) (sym same)
-        (subst (λ (y : Memory × memory.AccessResult). IsBlock y.0 n (s'.block n).truth) (sym effect_is)
-        (subst (λ (z : List ℕ). IsBlock (effect (message.A a) m.memory).0 n z) (sym changed) blocks.0))
-    block_now i (inr other) =
-        subst (λ (y : Memory × memory.AccessResult). IsBlock y.0 i (s'.block i).truth) (sym effect_is)
-        (subst (λ (z : List ℕ). IsBlock (effect (message.A a) m.memory).0 i z) (sym (others i other))
+    block_now i (inl same) = subst (λ (j : ℕ). IsBlock (effect (Message.A is.opened.0) m.memory).0 j (s'.block j).truth)
+        (sym same) (subst (λ (y : Memory × memory.AccessResult). IsBlock y.0 n (s'.block n).truth) (sym effect_is)
+        (subst (λ (z : List ℕ). IsBlock (effect (Message.A a) m.memory).0 n z) (sym changed) blocks.0))
+    block_now i (inr other) = subst (λ (y : Memory × memory.AccessResult). IsBlock y.0 i (s'.block i).truth)
+        (sym effect_is) (subst (λ (z : List ℕ). IsBlock (effect (Message.A a) m.memory).0 i z) (sym (others i other))
         (blocks.1 i other))
-
-    reply_is : (effect (message.A is.opened.0) m.memory).1 ≡ (effect (message.A a) (bytes_at n bytes)).1
-    reply_is =
-        ap (λ (y : Memory × memory.AccessResult). y.1) effect_is
-        ∙ reply-performed (level_of config c) a m.memory (s.block n).truth is.width is.sent.1 (h.memory n)
-        is.long ∙ same_reply m.memory (h.memory n)
-
-    reaches : IsReach a (effect (message.A is.opened.0) m.memory).1
-    reaches = subst (λ (y : Memory × memory.AccessResult). IsReach a y.1) (sym effect_is) (reply_reach a m.memory)
-
-    same_acquires : (d : ℕ) (u : SourceState) → IsSameAcquire d s s' u
-    same_acquires d SourceFree = tt
-    same_acquires d Asked = tt
-    same_acquires d (InService k) = tt
-    same_acquires d Replied = tt
-    same_acquires d (Acquires k) = acquires d k
 
 -- what an Intent is answered doesn't depend on the bytes
 pub intent-reply : {w : ℕ} (x : MessageA w) (f g : Memory) → cap_probed x.opcode x.param ≡ None
-    → (effect (message.A x) f).1 ≡ (effect (message.A x) g).1
+    → (effect (Message.A x) f).1 ≡ (effect (Message.A x) g).1
 unfolding effect
-intent-reply {w} x f g e = go x.opcode refl e
-  where
-    go : (o : OpA) → x.opcode ≡ o → cap_probed o x.param ≡ None
-        → memory.access_result x.opcode x f ≡ memory.access_result x.opcode x g
-    go a.Intent e h = rw e refl
-    go a.Get e h = absurd cc
-    go a.PutFullData e h = absurd cc
-    go a.PutPartialData e h = absurd cc
-    go a.ArithmeticData e h = absurd cc
-    go a.LogicalData e h = absurd cc
-    go a.AcquireBlock e h = absurd cc
-    go a.AcquirePerm e h = absurd cc
+intent-reply {w} x f g e =
+    let go : (o : OpA) → x.opcode ≡ o → cap_probed o x.param ≡ None → memory.access_result x.opcode x f
+    ≡ memory.access_result x.opcode x g = elim [ OpA.Intent ↦ λ e h. rw e refl | o ↦ λ e h. absurd cc ] in
+    go x.opcode refl e

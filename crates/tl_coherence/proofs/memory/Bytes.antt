@@ -1,32 +1,23 @@
 -- The one memory has bytes, and so have the operations that are open and their answers.
 use Rattle.tl_coherence.proofs.memory.Imports.{OpA, Message, MessageA, Config, Memory, effect, block_at, Op, Reply, Log}
 use Rattle.tl_coherence.proofs.memory.Imports.{Machine, Open, Pool, Requests, after_end, after_reply, memory_after}
-use Rattle.tl_coherence.proofs.memory.Imports.{performed, same_pool, with_memory, with_open, accesses_answered}
+use Rattle.tl_coherence.proofs.memory.Imports.{same_pool, with_memory, with_open, accesses_answered}
 use Rattle.tl_coherence.proofs.memory.Imports.{performing, one_memory_after}
 use Rattle.std.proofs.Common.{◌≡◌, ℕ, zero, suc, ◌+◌, ◌-◌, ◌/◌, ◌%◌, ◌^◌, ◌<◌, Bool, true, false, List, [], ◌∷◌, Option}
 use Rattle.std.proofs.Common.{Some, None, length, refl, inl, inr, lit<}
 use Rattle.std.specs.Prelude.{◌==◌, ◌&&◌, if◌then◌else◌, slice_get, slice_index, unwrap_or}
-use Rattle.std.proofs.lemmas.Bool.{cases_lt}
-use Rattle.std.proofs.lemmas.List.{get_or_past}
+use Rattle.std.{proofs.lemmas.Bool.cases_lt, proofs.lemmas.List.get_or_past, proofs.lemmas.Nat.mod_below}
+use Rattle.std.{proofs.lemmas.Option.get_or_from_slice_get}
 use Rattle.std.proofs.lemmas.List.Elements.{All-nil, All-cons, All-get_or}
-use Rattle.std.proofs.lemmas.Nat.{mod_below}
-use Rattle.std.proofs.lemmas.Option.{get_or_from_slice_get}
-use Rattle.tl_beat.specs.declared.opcode.OpA.TheVariants as a
 use Rattle.tl_beat.specs.statement.Opcode.{a_carries_data}
-use Rattle.tl_burst.specs.declared.message.Message.TheVariants as message
 use Rattle.tl_burst.specs.statement.Burst.{bit, byte_if, place_of, reaches}
 use Rattle.tl_rules.specs.statement.Effect as memory
 use Rattle.tl_rules.specs.statement.Effect.{bytes_from, byte_of}
-use Rattle.tl_client.specs.declared.operation.Op.TheVariants as op
-use Rattle.tl_client.specs.declared.reply.Reply.TheVariants as reply
-use Rattle.tl_coherence.specs.declared.event.Event.{Event}
+use Rattle.tl_coherence.specs.{declared.event.Event.Event, declared.event.Outcome.Outcome, statement.Log.system_after}
+use Rattle.tl_coherence.specs.{statement.Step.stepped}
 use Rattle.tl_coherence.specs.declared.event.Event.TheVariants.{Ask, Deliver}
-use Rattle.tl_coherence.specs.declared.event.Outcome.{Outcome}
-use Rattle.tl_coherence.specs.declared.event.Outcome.TheVariants as outcome
-use Rattle.tl_coherence.specs.statement.Log.{system_after}
 use Rattle.tl_coherence.specs.statement.Machine.{first, moved, performed_op, performed_open, pool_of, pool_of_op}
 use Rattle.tl_coherence.specs.statement.Ranged.{AreBytes, AreRanged, IsRanged, IsRangedOp}
-use Rattle.tl_coherence.specs.statement.Step.{stepped}
 
 -- ---- bytes
 
@@ -47,11 +38,11 @@ either false x y h k = k
 of-number : (n i : ℕ) → byte_of n i < 2 ^ 8
 of-number n i = mod_below (n / 256 ^ i) (2 ^ 8) (lit< tt)
 
-bytes-from : (f : Memory) (x n : ℕ) → HasBytes f → AreBytes (bytes_from f x n)
+bytes-from : {f : Memory} (x n : ℕ) → HasBytes f → AreBytes (bytes_from f x n)
 unfolding bytes_from
-bytes-from f x zero are = All-nil (λ byte. byte < 2 ^ 8)
-bytes-from f x (suc n) are = All-cons (λ byte. byte < 2 ^ 8) (f x) (bytes_from f (x + 1) n) (are x)
-    (bytes-from f (x + 1) n are)
+bytes-from x zero are = All-nil (λ byte. byte < 2 ^ 8)
+bytes-from {f} x (suc n) are = All-cons (λ byte. byte < 2 ^ 8) (f x) (bytes_from f (x + 1) n) (are x)
+    (bytes-from (x + 1) n are)
 
 -- ---- an access
 
@@ -63,11 +54,10 @@ got-byte (Some x) bytes i old e are small = rw (get_or_from_slice_get bytes i x 
 put-byte : (counts : ℕ → Bool) (payload : List ℕ) (p : Option ℕ) (old : ℕ) → AreBytes payload → old < 2 ^ 8
     → unwrap_or (byte_if counts payload p) old < 2 ^ 8
 put-byte counts payload None old are small = small
-put-byte counts payload (Some p) old are small = go (counts p)
-  where
-    go : (b : Bool) → unwrap_or (if b then slice_get payload p else None) old < 2 ^ 8
-    go true = got-byte (slice_get payload p) payload p old refl are small
-    go false = small
+put-byte counts payload (Some p) old are small =
+    let go : (b : Bool) → unwrap_or (if b then slice_get payload p else None) old < 2 ^ 8 =
+    elim [ true ↦ got-byte (slice_get payload p) payload p old refl are small | false ↦ small ] in
+    go (counts p)
 
 -- what is answered are bytes
 abbrev pub IsRangedReply : memory.AccessResult → Type 0
@@ -90,33 +80,23 @@ module _ {w : ℕ} (m : MessageA w) (f : Memory) (payload : AreBytes m.payload) 
       (of-number n (address - m.address)) (are address)
 
   memory-after : (opcode : OpA) → HasBytes (memory.after opcode m f)
-  memory-after a.PutFullData address = stored-byte address
-  memory-after a.PutPartialData address = stored-byte address
-  memory-after a.ArithmeticData address = made-byte _ address
-  memory-after a.LogicalData address = made-byte _ address
-  memory-after a.Get address = are address
-  memory-after a.Intent address = are address
-  memory-after a.AcquireBlock address = are address
-  memory-after a.AcquirePerm address = are address
+  memory-after OpA.PutFullData address = stored-byte address
+  memory-after OpA.PutPartialData address = stored-byte address
+  memory-after OpA.ArithmeticData address = made-byte _ address
+  memory-after OpA.LogicalData address = made-byte _ address
+  memory-after opcode address = are address
 
   replied : (opcode : OpA) → IsRangedReply (memory.access_result opcode m f)
-  replied a.PutFullData = tt
-  replied a.PutPartialData = tt
-  replied a.ArithmeticData = bytes-from f m.address (memory.byte_count m) are
-  replied a.LogicalData = bytes-from f m.address (memory.byte_count m) are
-  replied a.Get = bytes-from f m.address (memory.byte_count m) are
-  replied a.Intent = tt
-  replied a.AcquireBlock = tt
-  replied a.AcquirePerm = tt
+  replied OpA.ArithmeticData = bytes-from m.address (memory.byte_count m) are
+  replied OpA.LogicalData = bytes-from m.address (memory.byte_count m) are
+  replied OpA.Get = bytes-from m.address (memory.byte_count m) are
+  replied opcode = tt
 
-effect-bytes : {w : ℕ} (x : Message w) (f : Memory) → IsRangedOp (op.Access x) → HasBytes f → HasBytes (effect x f).0
+effect-bytes : {w : ℕ} (x : Message w) {f : Memory} → IsRangedOp (Op.Access x) → HasBytes f → HasBytes (effect x f).0
     × IsRangedReply (effect x f).1
 unfolding effect
-effect-bytes (message.A m) f payload are = (memory-after m f payload are m.opcode, replied m f payload are m.opcode)
-effect-bytes (message.B m) f payload are = (are, tt)
-effect-bytes (message.C m) f payload are = (are, tt)
-effect-bytes (message.D m) f payload are = (are, tt)
-effect-bytes (message.E m) f payload are = (are, tt)
+effect-bytes (Message.A m) {f} payload are = (memory-after m f payload are m.opcode, replied m f payload are m.opcode)
+effect-bytes x payload are = (are, tt)
 
 -- ---- the machine
 
@@ -136,122 +116,79 @@ first-ranged : {w : ℕ} → IsRangedMachine (first {w = w})
 first-ranged = record { memory = λ address. lit< tt; opened = λ c pool source. tt }
 
 opened-ranged : {w : ℕ} (client : ℕ) (at : Pool) (n : ℕ) (o : Option (Open w)) (f : Memory) (m : Machine w) → HasBytes f
-    → IsRangedOpen o → IsRangedMachine m
-    → IsRangedMachine (with_open client at n o (with_memory f m))
+    → IsRangedOpen o → IsRangedMachine m → IsRangedMachine (with_open client at n o (with_memory f m))
 opened-ranged {w} client at n o f m bytes is was =
+    let go : (c : ℕ) (pool : Pool) (source : ℕ) (b : Bool) → IsRangedOpen (if b then o else m.opened c pool source) =
+    λ c pool source. elim [ true ↦ is | false ↦ was.opened c pool source ] in
     record {
       memory = bytes;
-      opened =
-          λ c pool source. go c pool source ((c == client) && (same_pool pool at && (source == n)));
+      opened = λ c pool source. go c pool source ((c == client) && (same_pool pool at && (source == n)));
     }
-  where
-    go : (c : ℕ) (pool : Pool) (source : ℕ) (b : Bool) → IsRangedOpen (if b then o else m.opened c pool source)
-    go c pool source true = is
-    go c pool source false = was.opened c pool source
 
-started-ranged : {w : ℕ} (client : ℕ) (o : Op w) (n : ℕ) (m : Machine w) → IsRangedOp o → IsRangedMachine m
+started-ranged : {w : ℕ} (client : ℕ) (o : Op w) (n : ℕ) {m : Machine w} → IsRangedOp o → IsRangedMachine m
     → IsRangedMachine (with_open client (pool_of_op o) n (Some (record { asked = o; answer = None })) m)
-started-ranged client o n m is was = opened-ranged client (pool_of_op o) n (Some (record { asked = o; answer = None }))
+started-ranged client o n {m} is was =
+    opened-ranged client (pool_of_op o) n (Some (record { asked = o; answer = None }))
     m.memory m was.memory (is, tt) was
 
-reply-ranged : {w : ℕ} (client : ℕ) (o : Op w) (r : Reply) (m : Machine w) → IsRangedOp o → IsRangedMachine m
+reply-ranged : {w : ℕ} (client : ℕ) (o : Op w) (r : Reply) {m : Machine w} → IsRangedOp o → IsRangedMachine m
     → IsRangedMachine (after_reply client o r m)
-reply-ranged client (op.Load address size) (reply.Started n) m is was =
-    started-ranged client (op.Load address size) n m is was
-reply-ranged client (op.Store address size value) (reply.Started n) m is was =
-    started-ranged client (op.Store address size value) n m is was
-reply-ranged client (op.Acquire k g) (reply.Started n) m is was = started-ranged client (op.Acquire k g) n m is was
-reply-ranged client (op.AcquireWhole k bytes) (reply.Started n) m is was =
-    started-ranged client (op.AcquireWhole k bytes) n m is was
-reply-ranged client (op.Release k p) (reply.Started n) m is was = started-ranged client (op.Release k p) n m is was
-reply-ranged client (op.Access x) (reply.Started n) m is was = started-ranged client (op.Access x) n m is was
-reply-ranged client (op.Store address size value) reply.Stored m is was =
+reply-ranged client (Op.Load address size) (Reply.Started n) {m} is was =
+    started-ranged client (Op.Load address size) n is was
+reply-ranged client (Op.Store address size value) (Reply.Started n) {m} is was =
+    started-ranged client (Op.Store address size value) n is was
+reply-ranged client (Op.Acquire k g) (Reply.Started n) {m} is was = started-ranged client (Op.Acquire k g) n is was
+reply-ranged client (Op.AcquireWhole k bytes) (Reply.Started n) {m} is was =
+    started-ranged client (Op.AcquireWhole k bytes) n is was
+reply-ranged client (Op.Release k p) (Reply.Started n) {m} is was = started-ranged client (Op.Release k p) n is was
+reply-ranged client (Op.Access x) (Reply.Started n) {m} is was = started-ranged client (Op.Access x) n is was
+reply-ranged client (Op.Store address size value) Reply.Stored {m} is was =
     record {
       memory = λ i. either (reaches address size i) (byte_of value (i - address)) (m.memory i)
           (of-number value (i - address)) (was.memory i);
       opened = was.opened;
     }
-reply-ranged client (op.Load address size) (reply.Value v) m is was = was
-reply-ranged client (op.Load address size) reply.Stored m is was = was
-reply-ranged client (op.Load address size) reply.Miss m is was = was
-reply-ranged client (op.Load address size) (reply.Busy why) m is was = was
-reply-ranged client (op.Store address size value) (reply.Value v) m is was = was
-reply-ranged client (op.Store address size value) reply.Miss m is was = was
-reply-ranged client (op.Store address size value) (reply.Busy why) m is was = was
-reply-ranged client (op.Acquire k g) (reply.Value v) m is was = was
-reply-ranged client (op.Acquire k g) reply.Stored m is was = was
-reply-ranged client (op.Acquire k g) reply.Miss m is was = was
-reply-ranged client (op.Acquire k g) (reply.Busy why) m is was = was
-reply-ranged client (op.AcquireWhole k bytes) (reply.Value v) m is was = was
-reply-ranged client (op.AcquireWhole k bytes) reply.Stored m is was = was
-reply-ranged client (op.AcquireWhole k bytes) reply.Miss m is was = was
-reply-ranged client (op.AcquireWhole k bytes) (reply.Busy why) m is was = was
-reply-ranged client (op.Release k p) (reply.Value v) m is was = was
-reply-ranged client (op.Release k p) reply.Stored m is was = was
-reply-ranged client (op.Release k p) reply.Miss m is was = was
-reply-ranged client (op.Release k p) (reply.Busy why) m is was = was
-reply-ranged client (op.Access x) (reply.Value v) m is was = was
-reply-ranged client (op.Access x) reply.Stored m is was = was
-reply-ranged client (op.Access x) reply.Miss m is was = was
-reply-ranged client (op.Access x) (reply.Busy why) m is was = was
+reply-ranged client o r is was = was
 
 -- a whole block is stored as it is granted
-stored-ranged : {w : ℕ} (o : Op w) (f : Memory) → IsRangedOp o → HasBytes f → HasBytes (memory_after o f)
-stored-ranged (op.AcquireWhole k bytes) f is are =
+stored-ranged : {w : ℕ} (o : Op w) {f : Memory} → IsRangedOp o → HasBytes f → HasBytes (memory_after o f)
+stored-ranged (Op.AcquireWhole k bytes) {f} is are =
     λ address. either (block_at address == k) (slice_index bytes (address % 64)) (f address)
     (byte-at bytes (address % 64) is) (are address)
-stored-ranged (op.Load address size) f is are = are
-stored-ranged (op.Store address size value) f is are = are
-stored-ranged (op.Acquire k g) f is are = are
-stored-ranged (op.Release k p) f is are = are
-stored-ranged (op.Access x) f is are = are
+stored-ranged o is are = are
 
 end-ranged : {w : ℕ} (client : ℕ) (at : Pool) (n : ℕ) (o : Option (Open w)) (m : Machine w) → IsRangedOpen o
     → IsRangedMachine m → IsRangedMachine (after_end client at n o m)
 end-ranged client at n None m is was = was
 end-ranged client at n (Some o) m is was = opened-ranged client at n None (memory_after o.asked m.memory) m
-    (stored-ranged o.asked m.memory is.0 was.memory) tt was
+    (stored-ranged o.asked is.0 was.memory) tt was
 
-moved-ranged : {w : ℕ} (e : Event w) (o : Outcome w) (m : Machine w) → IsRanged e → IsRangedMachine m
+moved-ranged : {w : ℕ} (e : Event w) (o : Outcome w) {m : Machine w} → IsRanged e → IsRangedMachine m
     → IsRangedMachine (moved e o m)
-moved-ranged (Ask client i) (outcome.Replied r) m is was = reply-ranged client i r m is was
-moved-ranged (Deliver link ch) (outcome.Done x n f) m is was =
+moved-ranged (Ask client i) (Outcome.Replied r) {m} is was = reply-ranged client i r is was
+moved-ranged (Deliver link ch) (Outcome.Done x n f) {m} is was =
     end-ranged link.0 (pool_of f) n (m.opened link.0 (pool_of f) n) m (was.opened link.0 (pool_of f) n) was
-moved-ranged (Ask client i) outcome.Empty m is was = was
-moved-ranged (Ask client i) outcome.Stalled m is was = was
-moved-ranged (Ask client i) (outcome.Moved x) m is was = was
-moved-ranged (Ask client i) (outcome.Done x n f) m is was = was
-moved-ranged (Ask client i) outcome.NoSuchClient m is was = was
-moved-ranged (Deliver link ch) (outcome.Replied r) m is was = was
-moved-ranged (Deliver link ch) outcome.Empty m is was = was
-moved-ranged (Deliver link ch) outcome.Stalled m is was = was
-moved-ranged (Deliver link ch) (outcome.Moved x) m is was = was
-moved-ranged (Deliver link ch) outcome.NoSuchClient m is was = was
+moved-ranged e o is was = was
 
-op-ranged : {w : ℕ} (client n : ℕ) (o : Op w) (r : Option memory.AccessResult) (m : Machine w) → IsRangedOp o
+op-ranged : {w : ℕ} (client n : ℕ) (o : Op w) (r : Option memory.AccessResult) {m : Machine w} → IsRangedOp o
     → IsRangedMachine m → IsRangedMachine (unwrap_or (performed_op client n o r m) m)
-op-ranged client n (op.Access x) None m is was =
-    let e = effect-bytes x m.memory is was.memory in
-    opened-ranged client Requests n (Some (record { asked = op.Access x; answer = Some (effect x m.memory).1 }))
+op-ranged client n (Op.Access x) None {m} is was =
+    let e = effect-bytes x is was.memory in
+    opened-ranged client Requests n (Some (record { asked = Op.Access x; answer = Some (effect x m.memory).1 }))
     (effect x m.memory).0 m e.0 (is, e.1) was
-op-ranged client n (op.Access x) (Some r) m is was = was
-op-ranged client n (op.Load address size) r m is was = was
-op-ranged client n (op.Store address size value) r m is was = was
-op-ranged client n (op.Acquire k g) r m is was = was
-op-ranged client n (op.AcquireWhole k bytes) r m is was = was
-op-ranged client n (op.Release k p) r m is was = was
+op-ranged client n o r is was = was
 
-one-ranged : {w : ℕ} (client n : ℕ) (m : Machine w) (o : Option (Open w)) → IsRangedOpen o → IsRangedMachine m
+one-ranged : {w : ℕ} (client n : ℕ) {m : Machine w} (o : Option (Open w)) → IsRangedOpen o → IsRangedMachine m
     → IsRangedMachine (unwrap_or (performed_open client n o m) m)
-one-ranged client n m None is was = was
-one-ranged client n m (Some o) is was = op-ranged client n o.asked o.answer m is.0 was
+one-ranged client n None is was = was
+one-ranged client n {m} (Some o) is was = op-ranged client n o.asked o.answer is.0 was
 
-performing-ranged : {w : ℕ} (accesses : List (ℕ × ℕ)) (m : Machine w) → IsRangedMachine m
+performing-ranged : {w : ℕ} (accesses : List (ℕ × ℕ)) {m : Machine w} → IsRangedMachine m
     → IsRangedMachine (performing accesses m)
 unfolding performing
-performing-ranged [] m was = was
-performing-ranged (x ∷ accesses) m was = performing-ranged accesses (unwrap_or (performed x.0 x.1 m) m)
-    (one-ranged x.0 x.1 m (m.opened x.0 Requests x.1) (was.opened x.0 Requests x.1) was)
+performing-ranged [] was = was
+performing-ranged (x ∷ accesses) {m} was = performing-ranged accesses
+    (one-ranged x.0 x.1 (m.opened x.0 Requests x.1) (was.opened x.0 Requests x.1) was)
 
 pub remembered-ranged : {w : ℕ} (config : Config) (log : Log w) → AreRanged log
     → IsRangedMachine (one_memory_after config log)
@@ -259,5 +196,4 @@ unfolding one_memory_after AreRanged
 remembered-ranged config [] ranged = first-ranged
 remembered-ranged config (x ∷ log) ranged =
     performing-ranged (accesses_answered (stepped config x.0 (system_after config log)).handed)
-    (moved x.0 x.1 (one_memory_after config log))
-    (moved-ranged x.0 x.1 (one_memory_after config log) ranged.0 (remembered-ranged config log ranged.1))
+    (moved-ranged x.0 x.1 ranged.0 (remembered-ranged config log ranged.1))

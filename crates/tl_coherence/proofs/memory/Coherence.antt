@@ -8,25 +8,15 @@ use Rattle.std.proofs.Common.{subst}
 use Rattle.std.specs.Prelude.{◌==◌, if◌then◌else◌, option_map, unwrap_or, is_some}
 use Rattle.std.proofs.lemmas.Bool.{eqb-true}
 use Rattle.tl_params.specs.declared.perm.Perm.{Perm}
-use Rattle.tl_params.specs.declared.perm.Perm.TheVariants as perm
 use Rattle.tl_rules.specs.statement.Effect as memory
-use Rattle.tl_client.specs.declared.operation.Op.TheVariants as op
-use Rattle.tl_client.specs.declared.reply.Reply.TheVariants as reply
-use Rattle.tl_client.specs.statement.EndpointInvariant.{holds}
-use Rattle.tl_client.proofs.endpoint.HeldAfter.{swapped}
-use Rattle.tl_coherence.specs.declared.event.Event.{Event}
+use Rattle.tl_client.{specs.statement.EndpointInvariant.holds, proofs.endpoint.HeldAfter.swapped}
+use Rattle.tl_coherence.specs.{declared.event.Event.Event, declared.event.Outcome.Outcome, statement.Log.system_after}
+use Rattle.tl_coherence.specs.{statement.Permissions.perm_le, protocol.Protocol.view, statement.Step.stepped}
+use Rattle.tl_coherence.specs.{refinement.SimulationRelation.SimulationRelation}
 use Rattle.tl_coherence.specs.declared.event.Event.TheVariants.{Ask, Deliver}
-use Rattle.tl_coherence.specs.declared.event.Outcome.{Outcome}
-use Rattle.tl_coherence.specs.declared.event.Outcome.TheVariants as outcome
 use Rattle.tl_coherence.specs.statement.Coherent.{started_at, started, IsCoherent}
-use Rattle.tl_coherence.specs.statement.Log.{system_after}
 use Rattle.tl_coherence.specs.statement.Machine.{pool_of, moved, performed_op, performed_open}
-use Rattle.tl_coherence.specs.statement.Permissions.{perm_le}
-use Rattle.tl_coherence.specs.protocol.Protocol.{view}
-use Rattle.tl_coherence.specs.statement.Step.{stepped}
-use Rattle.tl_coherence.specs.refinement.SimulationRelation.{SimulationRelation}
-use Rattle.tl_coherence.proofs.queues.Facts.{held_at_most}
-use Rattle.tl_coherence.proofs.queues.Perms.{held-some}
+use Rattle.tl_coherence.proofs.{queues.Facts.held_at_most, queues.Perms.held-some}
 
 -- ---- what is open, as it was asked
 
@@ -40,23 +30,20 @@ pool_swap Releases Requests = refl
 pool_swap Releases Releases = refl
 
 same_pool_is : (p q : Pool) → same_pool p q ≡ true → p ≡ q
-same_pool_is Requests Requests e = refl
-same_pool_is Releases Releases e = refl
 same_pool_is Requests Releases e = absurd cc
 same_pool_is Releases Requests e = absurd cc
+same_pool_is p q e = refl
 
 -- with another operation at one place
 opened_with : {w : ℕ} (client : ℕ) (at : Pool) (n : ℕ) (o : Option (Open w)) (m : Machine w) (c : ℕ) (pool : Pool)
     (source : ℕ)
     → asked_at c pool source (with_open client at n o m) ≡ (if (client == c) && (same_pool at pool && (n == source))
     then option_map (λ i. i.asked) o else asked_at c pool source m)
-opened_with {w} client at n o m c pool source = rw (swapped client c, pool_swap at pool, swapped n source)
+opened_with {w} client at n o m c pool source =
+    let go : (b : Bool) → option_map (λ i. i.asked) (if b then o else m.opened c pool source)
+    ≡ (if b then option_map (λ i. i.asked) o else asked_at c pool source m) = elim [ true ↦ refl | false ↦ refl ] in
+    rw (swapped client c, pool_swap at pool, swapped n source)
     (go ((c == client) && (same_pool pool at && (source == n))))
-  where
-    go : (b : Bool) → option_map (λ i. i.asked) (if b then o else m.opened c pool source)
-        ≡ (if b then option_map (λ i. i.asked) o else asked_at c pool source m)
-    go true = refl
-    go false = refl
 
 -- where that is what was there, nothing changes
 same_there : {w : ℕ} (client : ℕ) (at : Pool) (n : ℕ) (x : Option (Op w)) (m : Machine w) (c : ℕ) (pool : Pool)
@@ -69,54 +56,28 @@ same_there {w} client at n x m c pool source e = go (client == c) (same_pool at 
         → asked_at c pool source m ≡ (if a && (b && d) then x else asked_at c pool source m)
     go true true true f g h = let one = eqb-true client c f in let two = same_pool_is at pool g in let three =
         eqb-true n source h in rw (← one, ← two, ← three) e
-    go true true false f g h = refl
-    go true false d f g h = refl
-    go false b d f g h = refl
+    go a b d f g h = refl
 
 reply_opened : {w : ℕ} (client : ℕ) (o : Op w) (r : Reply) (m : Machine w) (c : ℕ) (pool : Pool) (source : ℕ)
-    → asked_at c pool source (after_reply client o r m) ≡ started_at (Ask client o) (outcome.Replied r) c pool source
+    → asked_at c pool source (after_reply client o r m) ≡ started_at (Ask client o) (Outcome.Replied r) c pool source
     (asked_at c pool source m)
-reply_opened client (op.Load address size) (reply.Started n) m c pool source =
-    opened_with client Requests n (Some (record { asked = op.Load address size; answer = None })) m c pool source
-reply_opened client (op.Store address size value) (reply.Started n) m c pool source =
-    opened_with client Requests n (Some (record { asked = op.Store address size value; answer = None })) m c pool source
-reply_opened client (op.Acquire k g) (reply.Started n) m c pool source =
-    opened_with client Requests n (Some (record { asked = op.Acquire k g; answer = None })) m c pool source
-reply_opened client (op.AcquireWhole k bytes) (reply.Started n) m c pool source =
-    opened_with client Requests n (Some (record { asked = op.AcquireWhole k bytes; answer = None })) m c pool source
-reply_opened client (op.Release k p) (reply.Started n) m c pool source =
-    opened_with client Releases n (Some (record { asked = op.Release k p; answer = None })) m c pool source
-reply_opened client (op.Access a) (reply.Started n) m c pool source =
-    opened_with client Requests n (Some (record { asked = op.Access a; answer = None })) m c pool source
-reply_opened client (op.Load address size) (reply.Value v) m c pool source = refl
-reply_opened client (op.Load address size) reply.Stored m c pool source = refl
-reply_opened client (op.Load address size) reply.Miss m c pool source = refl
-reply_opened client (op.Load address size) (reply.Busy why) m c pool source = refl
-reply_opened client (op.Store address size value) (reply.Value v) m c pool source = refl
-reply_opened client (op.Store address size value) reply.Stored m c pool source = refl
-reply_opened client (op.Store address size value) reply.Miss m c pool source = refl
-reply_opened client (op.Store address size value) (reply.Busy why) m c pool source = refl
-reply_opened client (op.Acquire k g) (reply.Value v) m c pool source = refl
-reply_opened client (op.Acquire k g) reply.Stored m c pool source = refl
-reply_opened client (op.Acquire k g) reply.Miss m c pool source = refl
-reply_opened client (op.Acquire k g) (reply.Busy why) m c pool source = refl
-reply_opened client (op.AcquireWhole k bytes) (reply.Value v) m c pool source = refl
-reply_opened client (op.AcquireWhole k bytes) reply.Stored m c pool source = refl
-reply_opened client (op.AcquireWhole k bytes) reply.Miss m c pool source = refl
-reply_opened client (op.AcquireWhole k bytes) (reply.Busy why) m c pool source = refl
-reply_opened client (op.Release k p) (reply.Value v) m c pool source = refl
-reply_opened client (op.Release k p) reply.Stored m c pool source = refl
-reply_opened client (op.Release k p) reply.Miss m c pool source = refl
-reply_opened client (op.Release k p) (reply.Busy why) m c pool source = refl
-reply_opened client (op.Access a) (reply.Value v) m c pool source = refl
-reply_opened client (op.Access a) reply.Stored m c pool source = refl
-reply_opened client (op.Access a) reply.Miss m c pool source = refl
-reply_opened client (op.Access a) (reply.Busy why) m c pool source = refl
+reply_opened client (Op.Load address size) (Reply.Started n) m c pool source =
+    opened_with client Requests n (Some (record { asked = Op.Load address size; answer = None })) m c pool source
+reply_opened client (Op.Store address size value) (Reply.Started n) m c pool source =
+    opened_with client Requests n (Some (record { asked = Op.Store address size value; answer = None })) m c pool source
+reply_opened client (Op.Acquire k g) (Reply.Started n) m c pool source =
+    opened_with client Requests n (Some (record { asked = Op.Acquire k g; answer = None })) m c pool source
+reply_opened client (Op.AcquireWhole k bytes) (Reply.Started n) m c pool source =
+    opened_with client Requests n (Some (record { asked = Op.AcquireWhole k bytes; answer = None })) m c pool source
+reply_opened client (Op.Release k p) (Reply.Started n) m c pool source =
+    opened_with client Releases n (Some (record { asked = Op.Release k p; answer = None })) m c pool source
+reply_opened client (Op.Access a) (Reply.Started n) m c pool source =
+    opened_with client Requests n (Some (record { asked = Op.Access a; answer = None })) m c pool source
+reply_opened client o r m c pool source = refl
 
 end_opened : {w : ℕ} (client : ℕ) (at : Pool) (n : ℕ) (o : Option (Open w)) (m : Machine w) (c : ℕ) (pool : Pool)
-    (source : ℕ) → m.opened client at n ≡ o
-    → asked_at c pool source (after_end client at n o m) ≡ (if (client == c) && (same_pool at pool && (n == source))
-    then None else asked_at c pool source m)
+    (source : ℕ) → m.opened client at n ≡ o → asked_at c pool source (after_end client at n o m)
+    ≡ (if (client == c) && (same_pool at pool && (n == source)) then None else asked_at c pool source m)
 end_opened client at n None m c pool source e =
     same_there client at n None m c pool source (ap (option_map (λ o. o.asked)) e)
 end_opened client at n (Some o) m c pool source e =
@@ -124,19 +85,10 @@ end_opened client at n (Some o) m c pool source e =
 
 moved_opened : {w : ℕ} (e : Event w) (o : Outcome w) (m : Machine w) (c : ℕ) (pool : Pool) (source : ℕ)
     → asked_at c pool source (moved e o m) ≡ started_at e o c pool source (asked_at c pool source m)
-moved_opened (Ask client i) (outcome.Replied r) m c pool source = reply_opened client i r m c pool source
-moved_opened (Ask client i) outcome.Empty m c pool source = refl
-moved_opened (Ask client i) outcome.Stalled m c pool source = refl
-moved_opened (Ask client i) (outcome.Moved x) m c pool source = refl
-moved_opened (Ask client i) (outcome.Done x n f) m c pool source = refl
-moved_opened (Ask client i) outcome.NoSuchClient m c pool source = refl
-moved_opened (Deliver link ch) (outcome.Replied r) m c pool source = refl
-moved_opened (Deliver link ch) outcome.Empty m c pool source = refl
-moved_opened (Deliver link ch) outcome.Stalled m c pool source = refl
-moved_opened (Deliver link ch) (outcome.Moved x) m c pool source = refl
-moved_opened (Deliver link ch) (outcome.Done x n f) m c pool source =
+moved_opened (Ask client i) (Outcome.Replied r) m c pool source = reply_opened client i r m c pool source
+moved_opened (Deliver link ch) (Outcome.Done x n f) m c pool source =
     end_opened link.0 (pool_of f) n (m.opened link.0 (pool_of f) n) m c pool source refl
-moved_opened (Deliver link ch) outcome.NoSuchClient m c pool source = refl
+moved_opened e o m c pool source = refl
 
 -- ---- performing asks for nothing else
 
@@ -147,26 +99,20 @@ op_opened {w} client n o m c pool source e = go o.asked o.answer (ap (option_map
   where
     go : (x : Op w) (r : Option memory.AccessResult) → asked_at client Requests n m ≡ Some x
         → asked_at c pool source (unwrap_or (performed_op client n x r m) m) ≡ asked_at c pool source m
-    go (op.Access a) None f =
+    go (Op.Access a) None f =
         opened_with client Requests n
-        (Some (record { asked = op.Access a; answer = Some (memory.effect a m.memory).1 }))
+        (Some (record { asked = Op.Access a; answer = Some (memory.effect a m.memory).1 }))
         (with_memory (memory.effect a m.memory).0 m) c pool source
-        ∙ sym (same_there client Requests n (Some (op.Access a)) m c pool source f)
-    go (op.Access a) (Some r) f = refl
-    go (op.Load address size) r f = refl
-    go (op.Store address size value) r f = refl
-    go (op.Acquire k g) r f = refl
-    go (op.AcquireWhole k bytes) r f = refl
-    go (op.Release k p) r f = refl
+        ∙ sym (same_there client Requests n (Some (Op.Access a)) m c pool source f)
+    go x r f = refl
 
 one_opened : {w : ℕ} (client n : ℕ) (m : Machine w) (c : ℕ) (pool : Pool) (source : ℕ)
     → asked_at c pool source (unwrap_or (performed client n m) m) ≡ asked_at c pool source m
-one_opened {w} client n m c pool source = go (m.opened client Requests n) refl
-  where
-    go : (o : Option (Open w)) → m.opened client Requests n ≡ o
-        → asked_at c pool source (unwrap_or (performed_open client n o m) m) ≡ asked_at c pool source m
-    go None e = refl
-    go (Some o) e = op_opened client n o m c pool source e
+one_opened {w} client n m c pool source =
+    let go : (o : Option (Open w)) → m.opened client Requests n ≡ o
+    → asked_at c pool source (unwrap_or (performed_open client n o m) m) ≡ asked_at c pool source m =
+    elim [ None ↦ λ e. refl | Some o ↦ λ e. op_opened client n o m c pool source e ] in
+    go (m.opened client Requests n) refl
 
 performing_opened : {w : ℕ} (accesses : List (ℕ × ℕ)) (m : Machine w) (c : ℕ) (pool : Pool) (source : ℕ)
     → asked_at c pool source (performing accesses m) ≡ asked_at c pool source m
@@ -181,50 +127,48 @@ pub opened-started : {w : ℕ} (config : Config) (log : Log w) (c : ℕ) (pool :
 unfolding one_memory_after started
 opened-started config [] c pool source = refl
 opened-started {w} config (x ∷ log) c pool source =
-    performing_opened (accesses_answered (stepped config x.0 (system_after config log)).handed)
-    (moved x.0 x.1 (one_memory_after config log)) c pool source
-    ∙ moved_opened x.0 x.1 (one_memory_after config log) c pool source
-    ∙ ap (started_at x.0 x.1 c pool source) (opened-started config log c pool source)
+    cc (
+      performing_opened (accesses_answered (stepped config x.0 (system_after config log)).handed)
+          (moved x.0 x.1 (one_memory_after config log)) c pool source,
+      moved_opened x.0 x.1 (one_memory_after config log) c
+          pool source,
+      opened-started config log c pool source,
+    )
 
 -- ---- coherent copies
 
-trunk_is : (p q : Perm) → p ≡ perm.Trunk → perm_le p q ≡ true → same_perm q perm.Trunk ≡ true
-trunk_is perm.Trunk perm.Trunk e f = refl
-trunk_is perm.Trunk perm.None e f = absurd cc
-trunk_is perm.Trunk perm.Branch e f = absurd cc
-trunk_is perm.None q e f = absurd cc
-trunk_is perm.Branch q e f = absurd cc
+trunk_is : (p q : Perm) → p ≡ Perm.Trunk → perm_le p q ≡ true → same_perm q Perm.Trunk ≡ true
+trunk_is Perm.Trunk Perm.Trunk e f = refl
+trunk_is p q e f = absurd cc
 
-none_is : (p q : Perm) → same_perm q perm.None ≡ true → perm_le p q ≡ true → p ≡ perm.None
-none_is perm.None q e f = refl
-none_is perm.Branch perm.None e f = absurd cc
-none_is perm.Trunk perm.None e f = absurd cc
-none_is perm.Branch perm.Branch e f = absurd cc
-none_is perm.Branch perm.Trunk e f = absurd cc
-none_is perm.Trunk perm.Branch e f = absurd cc
-none_is perm.Trunk perm.Trunk e f = absurd cc
+none_is : (p q : Perm) → same_perm q Perm.None ≡ true → perm_le p q ≡ true → p ≡ Perm.None
+none_is Perm.None q e f = refl
+none_is Perm.Branch Perm.None e f = absurd cc
+none_is Perm.Trunk Perm.None e f = absurd cc
+none_is Perm.Branch Perm.Branch e f = absurd cc
+none_is Perm.Branch Perm.Trunk e f = absurd cc
+none_is Perm.Trunk Perm.Branch e f = absurd cc
+none_is Perm.Trunk Perm.Trunk e f = absurd cc
 
-pub coherent-matched : {w : ℕ} (config : Config) (log : Log w) (mail : AccessMessages w) (request : ℕ → MessageA w)
-    (s : State (List ℕ))
-    → SimulationRelation config log mail request s (system_after config log)
+pub coherent-matched : {w : ℕ} {config : Config} {log : Log w} {mail : AccessMessages w} {request : ℕ → MessageA w}
+    {s : State (List ℕ)} → SimulationRelation config log mail request s (system_after config log)
     → IsCoherent (system_after config log) log (one_memory_after config log)
-coherent-matched {w} config log mail request s h = record {
-  one_writer = λ c d n differ writes.
-      let top = trunk_is ((s.block n).pair c).held ((s.block n).pair c).recorded (sym ((h.known c).held_is n) ∙ writes)
-      (held_at_most ((s.block n).pair c) (view (s.block n).service c) ((h.invariant.blocks n).phases c)) in
-      let none = (h.invariant.blocks n).one_owner c d top (λ e. differ (sym e)) in
-      (h.known d).held_is n ∙ none_is ((s.block n).pair d).held ((s.block n).pair d).recorded none
-      (held_at_most ((s.block n).pair d) (view (s.block n).service d) ((h.invariant.blocks n).phases d));
-  copies = λ c n bytes copy.
-      let some : same_perm ((s.block n).pair c).held perm.None ≡ false =
-      held-some ((s.block n).pair c).held
-      (sym (sym (ap is_some copy) ∙ (h.kept c).copies_held n ∙ ap holds ((h.known c).held_is n))) in
-      let same : (s.block n).truth ≡ bytes = sym ((h.invariant.blocks n).copies c some) ∙ some_is ((s.block n).copy c)
-      bytes (sym (h.copies c n some) ∙ copy) in
-      subst (λ (b : List ℕ). IsBlock (one_memory_after config log).memory n b) same (h.beside.memory n);
-  kept = λ c n. (h.kept c).copies_held n;
-  opened = λ c pool source. opened-started config log c pool source;
-}
-  where
-    some_is : (x y : List ℕ) → Some x ≡ Some y → x ≡ y
-    some_is x y e = cc
+coherent-matched {w} {config} {log} {s} h =
+    let some_is : (x y : List ℕ) → Some x ≡ Some y → x ≡ y = λ x y e. cc in
+    record {
+      one_writer = λ c d n differ writes.
+          let top = trunk_is ((s.block n).pair c).held ((s.block n).pair c).recorded
+          (sym ((h.known c).held_is n) ∙ writes)
+          (held_at_most ((s.block n).pair c) (view (s.block n).service c) ((h.invariant.blocks n).phases c)) in
+          let none = (h.invariant.blocks n).one_owner c d top (λ e. differ (sym e)) in
+          (h.known d).held_is n ∙ none_is ((s.block n).pair d).held ((s.block n).pair d).recorded none
+          (held_at_most ((s.block n).pair d) (view (s.block n).service d) ((h.invariant.blocks n).phases d));
+      copies = λ c n bytes copy.
+          let some = held-some ((s.block n).pair c).held
+          (sym (sym (ap is_some copy) ∙ (h.kept c).copies_held n ∙ ap holds ((h.known c).held_is n))) in
+          let same : (s.block n).truth ≡ bytes = sym ((h.invariant.blocks n).copies c some)
+          ∙ some_is ((s.block n).copy c) bytes (sym (h.copies c n some) ∙ copy) in
+          subst (λ (b : List ℕ). IsBlock (one_memory_after config log).memory n b) same (h.beside.memory n);
+      kept = λ c n. (h.kept c).copies_held n;
+      opened = λ c pool source. opened-started config log c pool source;
+    }

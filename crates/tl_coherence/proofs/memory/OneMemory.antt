@@ -5,23 +5,17 @@ use Rattle.std.proofs.Common.{[], ◌∷◌, Option, Some, None, length, refl, s
 use Rattle.std.specs.Prelude.{◌≢◌, if◌then◌else◌, slice_index, get_or, nat_le, nat_lt}
 use Rattle.std.proofs.lemmas.Bool.{cases_lt, ne_eqb, le-leb, lt-ltb, leb-true, ltb-true, and_parts}
 use Rattle.tl_beat.specs.statement.Width.{IsWidth}
-use Rattle.tl_beat.specs.declared.opcode.OpA.TheVariants as a
 use Rattle.tl_burst.specs.declared.message.Message.TheVariants.{A}
 use Rattle.tl_burst.specs.statement.Burst.{beats_of, IsBlankAfter, reaches}
 use Rattle.tl_params.specs.declared.level.Level.{Level}
-use Rattle.tl_rules.specs.statement.Effect.{bytes_from, byte_of}
-use Rattle.tl_rules.specs.statement.History.{is_acquire}
-use Rattle.tl_rules.proofs.Blocks.{effect_elsewhere}
-use Rattle.tl_rules.proofs.Legal.{access_at_uh}
-use Rattle.tl_client.specs.statement.Ask.{copy_stored}
-use Rattle.tl_client.specs.statement.Send.{sourced}
+use Rattle.tl_rules.{specs.statement.Effect.bytes_from, specs.statement.Effect.byte_of}
+use Rattle.tl_rules.{specs.statement.History.is_acquire, proofs.Blocks.effect_elsewhere, proofs.Legal.access_at_uh}
+use Rattle.tl_client.{specs.statement.Ask.copy_stored, specs.statement.Send.sourced}
 use Rattle.tl_client.proofs.caching_client.Stores.{stored-inside, stored-outside, length-stored}
-use Rattle.tl_manager.specs.code.Kept.{illegal_message_at}
-use Rattle.tl_manager.specs.statement.Reaction.{with_block}
-use Rattle.tl_manager.proofs.blocks.Written.{bytes_are}
+use Rattle.tl_manager.{specs.code.Kept.illegal_message_at, specs.statement.Reaction.with_block}
+use Rattle.tl_manager.{proofs.blocks.Written.bytes_are, proofs.blocks.Memories.access_code}
 use Rattle.tl_coherence.specs.statement.Machine.{with_number}
 use Rattle.tl_coherence.proofs.manager.Memories.{performed-block, performed-reply, byte_in}
-use Rattle.tl_manager.proofs.blocks.Memories.{access_code}
 
 -- ---- a block's bytes, as a list and by their places
 
@@ -43,45 +37,36 @@ elsewhere (Some l) m f x width access lawful blank ne =
 
 -- the blocks after an access, of which one is its own
 pub blocks-performed : {w : ℕ} (o : Option Level) (m : MessageA w) (f : Memory) (truth : ℕ → List ℕ) → IsWidth w
-    → is_acquire m.opcode ≡ false
-    → illegal_message_at o (A m) ≡ None → IsBlankAfter (beats_of (A m)) (A m)
+    → is_acquire m.opcode ≡ false → illegal_message_at o (A m) ≡ None → IsBlankAfter (beats_of (A m)) (A m)
     → length (truth (block_at m.address)) ≡ 64 → ((n : ℕ) → IsBlock f n (truth n))
     → IsBlock (effect (A m) f).0 (block_at m.address) (performs m (truth (block_at m.address)))
     × ((n : ℕ) → (n ≡ block_at m.address → ⊥) → IsBlock (effect (A m) f).0 n (truth n))
-blocks-performed {w} o m f truth width access lawful blank long is = (
-  block-of-bytes (effect (A m) f).0 (block_at m.address) (performs m (truth (block_at m.address)))
-      (performed-block o m f width lawful ∙ ap (performs m)
-      (bytes-of-block f (block_at m.address) (truth (block_at m.address)) (is (block_at m.address)) long)),
-  λ n ne i lt. elsewhere o m f (64 * n + i) width access lawful blank (apart n i lt ne) ∙ is n i lt,
-)
-  where
-    apart : (n i : ℕ) → i < 64 → (n ≡ block_at m.address → ⊥) → (64 * n + i) / 64 ≢ m.address / 64
-    apart n i lt ne e = ne (omega (arith, lt, e))
+blocks-performed {w} o m f truth width access lawful blank long is =
+    let apart : (n i : ℕ) → i < 64 → (n ≡ block_at m.address → ⊥) → (64 * n + i) / 64 ≢ m.address / 64 =
+    λ n i lt ne e. ne (omega (arith, lt, e)) in (
+      block-of-bytes (effect (A m) f).0 (block_at m.address) (performs m (truth (block_at m.address)))
+          (performed-block o m f width lawful
+          ∙ ap (performs m) (bytes-of-block f (block_at m.address) (truth (block_at m.address))
+          (is (block_at m.address))
+          long)),
+      λ n ne i lt. elsewhere o m f (64 * n + i) width access lawful blank (apart n i lt ne) ∙ is n i lt,
+    )
 
 -- its reply, by the bytes of its block
 pub reply-performed : {w : ℕ} (o : Option Level) (m : MessageA w) (f : Memory) (bytes : List ℕ) → IsWidth w
-    → illegal_message_at o (A m) ≡ None
-    → IsBlock f (block_at m.address) bytes → length bytes ≡ 64
+    → illegal_message_at o (A m) ≡ None → IsBlock f (block_at m.address) bytes → length bytes ≡ 64
     → (effect (A m) f).1 ≡ (effect (A m) (bytes_at (block_at m.address) bytes)).1
 reply-performed o m f bytes width lawful is long =
-    performed-reply o m f width lawful ∙ ap (λ (b : List ℕ). (effect (A m) (bytes_at (block_at m.address) b)).1)
-    (bytes-of-block f (block_at m.address) bytes is long)
+    cc (performed-reply o m f width lawful, bytes-of-block f (block_at m.address) bytes is long)
 
 -- the source makes no difference
 pub effect-sourced : {w : ℕ} (source : ℕ) (m : MessageA w) (f : Memory)
     → effect (A (sourced source m)) f ≡ effect (A m) f
 unfolding effect
-effect-sourced {w} source m f = go m.opcode refl
-  where
-    go : (o : OpA) → m.opcode ≡ o → effect (A (sourced source m)) f ≡ effect (A m) f
-    go a.PutFullData e = rw e refl
-    go a.PutPartialData e = rw e refl
-    go a.ArithmeticData e = rw e refl
-    go a.LogicalData e = rw e refl
-    go a.Get e = rw e refl
-    go a.Intent e = rw e refl
-    go a.AcquireBlock e = rw e refl
-    go a.AcquirePerm e = rw e refl
+effect-sourced {w} source m f =
+    let go : (o : OpA) → m.opcode ≡ o → effect (A (sourced source m)) f ≡ effect (A m) f =
+    elim [ OpA.PutFullData ↦ λ e. rw e refl | o ↦ λ e. rw e refl ] in
+    go m.opcode refl
 
 -- ---- a whole block
 
@@ -136,8 +121,7 @@ block-stored address size value copy f room long is i lt = go (reaches address s
     ]
 
 pub block-unstored : (address size value k : ℕ) (old : List ℕ) (f : Memory) → address % 64 + 2 ^ size ≤ 64
-    → (k ≡ block_at address → ⊥) → IsBlock f k old
-    → IsBlock (with_number address size value f) k old
+    → (k ≡ block_at address → ⊥) → IsBlock f k old → IsBlock (with_number address size value f) k old
 block-unstored address size value k old f room ne is i lt = go (reaches address size (64 * k + i)) refl
   where
     go : (b : Bool) → reaches address size (64 * k + i) ≡ b

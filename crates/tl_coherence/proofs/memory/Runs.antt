@@ -2,25 +2,19 @@
 use Rattle.tl_coherence.proofs.memory.Imports.{Message, Config, Log, one_memory_after}
 use Rattle.std.proofs.Common.{◌≡◌, List, [], ◌∷◌, refl, sym, ◌∙◌}
 use Rattle.std.specs.Prelude.{ℕ, Bool, true, false, Result, Ok, Err, Option, ⊤}
-use Rattle.tl_beat.specs.declared.beat.Beat.{Beat}
-use Rattle.tl_beat.specs.declared.channel.Channel.{Channel}
+use Rattle.tl_beat.{specs.declared.beat.Beat.Beat, specs.declared.channel.Channel.Channel}
 use Rattle.tl_params.specs.declared.rule.Rule.{Rule}
-use Rattle.tl_client.specs.declared.verdict.Verdict.{Verdict}
-use Rattle.tl_client.specs.declared.verdict.Verdict.TheVariants as verdict
-use Rattle.tl_client.specs.statement.Endpoint.{EndConfig}
+use Rattle.tl_client.{specs.declared.verdict.Verdict.Verdict, specs.statement.Endpoint.EndConfig}
+use Rattle.tl_client.{specs.statement.Offer.is_stalled, specs.statement.Offer.offered}
+use Rattle.tl_client.{proofs.endpoint.Stalls.stalls-offered}
 use Rattle.tl_client.specs.statement.Endpoint as client
-use Rattle.tl_client.specs.statement.Offer.{is_stalled, offered}
-use Rattle.tl_client.proofs.endpoint.Stalls.{stalls-offered}
 use Rattle.tl_manager.specs.code.Kept as kept
 use Rattle.tl_manager.specs.statement.End as manager_end
 use Rattle.tl_manager.specs.statement.Offer as manager
 use Rattle.tl_manager.proofs.judging.Stalls.{stalls-answered}
-use Rattle.tl_coherence.specs.statement.Delivery.{is_stall}
-use Rattle.tl_coherence.specs.statement.Headline.{Continues}
-use Rattle.tl_coherence.specs.statement.Machine.{Run}
-use Rattle.tl_coherence.specs.statement.Movable.{stalls}
+use Rattle.tl_coherence.specs.{statement.Delivery.is_stall, statement.Headline.Continues, statement.Machine.Run}
+use Rattle.tl_coherence.specs.{statement.Movable.stalls, statement.System.System}
 use Rattle.tl_coherence.specs.statement.Step.{delivered, is_to_client, judged, manager_took}
-use Rattle.tl_coherence.specs.statement.System.{System}
 
 -- ---- runs
 
@@ -49,29 +43,26 @@ IsTakenIn _ = ⊤
 
 -- the end that takes the beat refuses it by no rule
 abbrev pub IsTaken : {w : ℕ} → Config → EndConfig → ℕ → Channel → Beat w → System w → Type 0
-IsTaken config terms link ch x s =
-    (is_to_client ch ≡ true → IsTakenUp (offered terms ch x (s.clients link)).answer)
+IsTaken config terms link ch x s = (is_to_client ch ≡ true → IsTakenUp (offered terms ch x (s.clients link)).answer)
     × (is_to_client ch ≡ false → IsTakenIn (manager.offered config (record { 0 = link }) ch x s.manager))
 
 stall-judged : {w : ℕ} (answer : Result (Verdict × Option (Message w)) Rule) (link : ℕ) (ch : Channel) (x : Beat w)
     (rest : List (Beat w)) (e : client.Endpoint w) (s : System w)
     → IsTakenUp answer → is_stall (judged answer link ch x rest e s).outcome ≡ is_stalled answer
 stall-judged (Err rule) link ch x rest e s taken = absurd taken
-stall-judged (Ok (verdict.Stalled, m)) link ch x rest e s taken = refl
-stall-judged (Ok (verdict.Taken, m)) link ch x rest e s taken = refl
-stall-judged (Ok (verdict.Done source finish, m)) link ch x rest e s taken = refl
+stall-judged (Ok (Verdict.Stalled, m)) link ch x rest e s taken = refl
+stall-judged (Ok (Verdict.Taken, m)) link ch x rest e s taken = refl
+stall-judged (Ok (Verdict.Done source finish, m)) link ch x rest e s taken = refl
 
 stall-managed : {w : ℕ} (answer : manager.Reception w × manager_end.End w) (link : ℕ) (ch : Channel) (x : Beat w)
     (rest : List (Beat w)) (s : System w)
     → IsTakenIn answer → is_stall (manager_took link ch x rest answer s).outcome ≡ kept.is_stalled answer.0
 stall-managed (manager.Refused rule, e) link ch x rest s taken = absurd taken
-stall-managed (manager.Stalled, e) link ch x rest s taken = refl
-stall-managed (manager.Sent handed, e) link ch x rest s taken = refl
+stall-managed answer link ch x rest s taken = refl
 
 pub stall-delivered : {w : ℕ} (config : Config) (terms : EndConfig) (link : ℕ) (ch : Channel) (x : Beat w)
-    (rest : List (Beat w)) (s : System w)
-    → IsTaken config terms link ch x s → is_stall (delivered config terms link ch (x ∷ rest) s).outcome ≡ stalls config
-    terms link ch x s
+    (rest : List (Beat w)) (s : System w) → IsTaken config terms link ch x s
+    → is_stall (delivered config terms link ch (x ∷ rest) s).outcome ≡ stalls config terms link ch x s
 stall-delivered {w} config terms link ch x rest s taken = go (is_to_client ch) refl
   where
     go : (b : Bool) → is_to_client ch ≡ b → is_stall (delivered config terms link ch (x ∷ rest) s).outcome ≡ stalls

@@ -2,16 +2,13 @@
 use Rattle.tl_coherence.proofs.outstanding.Imports.{IsWidth, Config, Outcome, AbstractState, abstract_step}
 use Rattle.tl_coherence.proofs.outstanding.Imports.{starts_request, starts_release, outstanding, Log, system_after}
 use Rattle.tl_coherence.proofs.outstanding.Imports.{open_requests, open_releases, State, one_if, SimulationRelation}
-use Rattle.std.proofs.Common.{◌≡◌, ℕ, ◌+◌, Bool, true, false, [], ◌∷◌, length, refl, ◌∙◌, ap, arith}
+use Rattle.std.proofs.Common.{◌≡◌, ℕ, ◌+◌, Bool, true, false, [], ◌∷◌, length, refl, arith}
 use Rattle.std.specs.Prelude.{◌*◌, ◌/◌, if◌then◌else◌, filter}
-use Rattle.tl_coherence.specs.declared.event.Event.{Event}
-use Rattle.tl_coherence.specs.refinement.AbstractStep.{first_state}
+use Rattle.tl_coherence.specs.{declared.event.Event.Event, refinement.AbstractStep.first_state, bound.Rank.total}
+use Rattle.tl_coherence.specs.{statement.Step.stepped}
 use Rattle.tl_coherence.specs.statement.Load.{ends_request, ends_release, number, requests, releases, load}
-use Rattle.tl_coherence.specs.bound.Rank.{total}
-use Rattle.tl_coherence.specs.statement.Step.{stepped}
 use Rattle.tl_coherence.proofs.protocol.OpenCounts.{clients_in, sources_in, IsBalance}
-use Rattle.tl_coherence.proofs.outstanding.Outstanding.{counted-followed}
-use Rattle.tl_coherence.proofs.queues.Sums.{total-zero}
+use Rattle.tl_coherence.proofs.{outstanding.Outstanding.counted-followed, queues.Sums.total-zero}
 
 -- the starts of this log are its ends and what is open in this state
 pub record AreCounted {w : ℕ} {X : Type 0} (config : Config) (log : Log w) (s : State X) : Type 0 where
@@ -20,12 +17,10 @@ pub record AreCounted {w : ℕ} {X : Type 0} (config : Config) (log : Log w) (s 
 
 pub number-next : {w : ℕ} (test : Event w → Outcome w → Bool) (event : Event w) (o : Outcome w) (log : Log w)
     → number test ((event, o) ∷ log) ≡ number test log + one_if (test event o)
-number-next {w} test event o log = go (test event o)
-  where
-    go : (b : Bool) → length (if b then (event, o) ∷ filter (λ x. test x.0 x.1) log else filter (λ x. test x.0 x.1) log)
-        ≡ number test log + one_if b
-    go true = omega arith
-    go false = omega arith
+number-next {w} test event o log =
+    let go : (b : Bool) → length (if b then (event, o) ∷ filter (λ x. test x.0 x.1) log else filter (λ x. test x.0 x.1)
+    log) ≡ number test log + one_if b = elim [ true ↦ omega arith | false ↦ omega arith ] in
+    go (test event o)
 
 -- nothing has started, and nothing is open
 pub counted-first : {w : ℕ} (config : Config) → AreCounted {w = w} config [] first_state
@@ -34,16 +29,14 @@ counted-first config =
     total-zero (clients_in config) (λ c. total (sources_in config c) (λ i. 0) + 0)
     (λ c few. let none : total (sources_in config c) (λ i. 0) ≡ 0 =
     total-zero (sources_in config c) (λ i. 0) (λ i lt. refl) in omega (arith, none)) in
-    let releases_none : open_releases config first_state ≡ 0 =
-    total-zero (clients_in config) (λ c. total (sources_in config c) (λ i. 0))
+    let releases_none = total-zero (clients_in config) (λ c. total (sources_in config c) (λ i. 0))
     (λ c few. total-zero (sources_in config c) (λ i. 0) (λ i lt. refl)) in
     record { requests_are = omega (arith, requests_none); releases_are = omega (arith, releases_none) }
 
-counted-balance : {w : ℕ} {X : Type 0} (config : Config) (log : Log w) (s s' : State X) (event : Event w)
-    (o : Outcome w)
-    → IsBalance config s s' (starts_request event o) (ends_request o) (starts_release event o) (ends_release o)
-    → AreCounted config log s → AreCounted config ((event, o) ∷ log) s'
-counted-balance config log s s' event o is before = record {
+counted-balance : {w : ℕ} {X : Type 0} {config : Config} {log : Log w} {s s' : State X} (event : Event w)
+    (o : Outcome w) → IsBalance config s s' (starts_request event o) (ends_request o) (starts_release event o)
+    (ends_release o) → AreCounted config log s → AreCounted config ((event, o) ∷ log) s'
+counted-balance {log} event o is before = record {
   requests_are = omega (
     arith,
     is.requests,
@@ -63,13 +56,12 @@ counted-balance config log s s' event o is before = record {
 }
 
 -- and every event keeps it
-pub counted-next : {w : ℕ} (config : Config) (log : Log w) (h : AbstractState w) (event : Event w) → IsWidth w
+pub counted-next : {w : ℕ} {config : Config} {log : Log w} (h : AbstractState w) (event : Event w) → IsWidth w
     → SimulationRelation config log h.mail h.request h.state (system_after config log) → AreCounted config log h.state
     → AreCounted config ((event, (stepped config event (system_after config log)).outcome) ∷ log)
     (abstract_step config event (system_after config log) h).state
-counted-next config log h event width matched before =
-    counted-balance config log h.state (abstract_step config event (system_after config log) h).state event
-    (stepped config event (system_after config log)).outcome
+counted-next {config} {log} h event width matched before =
+    counted-balance event (stepped config event (system_after config log)).outcome
     (counted-followed config log h width matched event) before
 
 -- what is outstanding is what is open
@@ -83,13 +75,11 @@ pub releases-open : {w : ℕ} {X : Type 0} (config : Config) (log : Log w) (s : 
 unfolding releases
 releases-open config log s is = omega (arith, is.releases_are)
 
-pub outstanding-open : {w : ℕ} {X : Type 0} (config : Config) (log : Log w) (s : State X) → AreCounted config log s
+pub outstanding-open : {w : ℕ} {X : Type 0} {config : Config} {log : Log w} {s : State X} → AreCounted config log s
     → outstanding log ≡ open_requests config s + open_releases config s
-outstanding-open config log s is = omega (arith, requests-open config log s is, releases-open config log s is)
+outstanding-open {config} {log} {s} is = omega (arith, requests-open config log s is, releases-open config log s is)
 
 -- and the load is that of what is open
-pub load-open : {w : ℕ} {X : Type 0} (config : Config) (log : Log w) (s : State X) → AreCounted config log s
+pub load-open : {w : ℕ} {X : Type 0} {config : Config} {log : Log w} {s : State X} → AreCounted config log s
     → load log ≡ (64 / w + 33) * open_requests config s + (64 / w + 1) * open_releases config s
-load-open {w} config log s is = ap (λ (n : ℕ). (64 / w + 33) * n + (64 / w + 1) * releases log)
-    (requests-open config log s is)
-    ∙ ap (λ (n : ℕ). (64 / w + 33) * open_requests config s + (64 / w + 1) * n) (releases-open config log s is)
+load-open {w} {config} {log} {s} is = cc (requests-open config log s is, releases-open config log s is)

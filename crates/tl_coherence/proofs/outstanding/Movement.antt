@@ -5,26 +5,19 @@ use Rattle.tl_coherence.proofs.outstanding.Imports.{open_releases, State, Source
 use Rattle.tl_coherence.proofs.outstanding.Imports.{terms_at, Packet, one_if, SimulationRelation}
 use Rattle.std.proofs.Common.{◌≡◌, ℕ, zero, suc, ◌+◌, ◌<◌, Bool, true, false, List, [], ◌∷◌, length, refl, sym, ◌∙◌, ap}
 use Rattle.std.proofs.Common.{◌⊎◌, inl, inr, arith, Option, Some, None}
-use Rattle.std.specs.Prelude.{◌==◌, is_none}
-use Rattle.std.proofs.lemmas.Bool.{cases_eq, eqb-true}
+use Rattle.std.{specs.Prelude.◌==◌, specs.Prelude.is_none, proofs.lemmas.Bool.cases_eq, proofs.lemmas.Bool.eqb-true}
 use Rattle.tl_beat.specs.declared.beat.Link.{Link}
-use Rattle.tl_beat.specs.declared.channel.Channel.TheVariants as channel
-use Rattle.tl_coherence.specs.statement.Coherent.{IsCoherent}
-use Rattle.tl_coherence.specs.bound.Rank.{total}
-use Rattle.tl_coherence.specs.protocol.Protocol.{InService, Replied}
-use Rattle.tl_coherence.specs.statement.OneMemory.{one_memory_after}
-use Rattle.tl_coherence.specs.refinement.PacketMessages.{AccessMessages}
-use Rattle.tl_coherence.proofs.simulation.Bounded.{matched-bounded}
-use Rattle.tl_coherence.proofs.protocol.TokenNames.{AreBounded}
-use Rattle.tl_coherence.proofs.outstanding.Counted.{AreCounted, outstanding-open}
+use Rattle.tl_coherence.specs.{statement.Coherent.IsCoherent, bound.Rank.total, protocol.Protocol.InService}
+use Rattle.tl_coherence.specs.{protocol.Protocol.Replied, statement.OneMemory.one_memory_after}
+use Rattle.tl_coherence.specs.{refinement.PacketMessages.AccessMessages}
+use Rattle.tl_coherence.proofs.{simulation.Bounded.matched-bounded, protocol.TokenNames.AreBounded}
+use Rattle.tl_coherence.proofs.{outstanding.Counted.AreCounted, outstanding.Counted.outstanding-open}
+use Rattle.tl_coherence.proofs.{protocol.OpenCounts.clients_in, protocol.OpenCounts.sources_in}
+use Rattle.tl_coherence.proofs.{simulation.Owned.sources-own, links.Stalling.IsFirst}
+use Rattle.tl_coherence.proofs.{queues.QuiescentQueues.client_below, protocol.QuiescentProtocol.IsClosed}
+use Rattle.tl_coherence.proofs.{queues.Sums.total-zero}
 use Rattle.tl_coherence.proofs.outstanding.Moving.{bare-when-standing, closed-when-standing, standing-when-closed}
-use Rattle.tl_coherence.proofs.protocol.OpenCounts.{clients_in, sources_in}
-use Rattle.tl_coherence.proofs.simulation.Owned.{sources-own}
-use Rattle.tl_coherence.proofs.links.Stalling.{IsFirst}
-use Rattle.tl_coherence.proofs.queues.QuiescentQueues.{client_below}
-use Rattle.tl_coherence.proofs.protocol.QuiescentProtocol.{IsClosed}
 use Rattle.tl_coherence.proofs.simulation.Strangers as strangers
-use Rattle.tl_coherence.proofs.queues.Sums.{total-zero}
 
 -- a sum is 0 where each of its numbers is
 pub total-none : (n : ℕ) (f : ℕ → ℕ) → total n f ≡ 0 → (i : ℕ) → i < n → f i ≡ 0
@@ -38,10 +31,7 @@ total-none (suc n) f e i lt = go (cases_eq i n) (total-none n f (omega (arith, e
 
 not_used : (u : SourceState) → one_if (is_used u) ≡ 0 → u ≡ SourceFree
 not_used SourceFree e = refl
-not_used Asked e = absurd (omega (arith, e))
-not_used (InService n) e = absurd (omega (arith, e))
-not_used Replied e = absurd (omega (arith, e))
-not_used (Acquires n) e = absurd (omega (arith, e))
+not_used u e = absurd (omega (arith, e))
 
 not_let : (o : Option ℕ) → one_if (is_let o) ≡ 0 → o ≡ None
 not_let None e = refl
@@ -52,9 +42,9 @@ nothing_in [] e = refl
 nothing_in (x ∷ xs) e = absurd (omega (arith, e))
 
 -- nothing is counted where nothing is open
-pub none-counted : {X : Type 0} (config : Config) (s : State X) → IsClosed s → ((c : ℕ) → (s.link c).e ≡ [])
+pub none-counted : {X : Type 0} (config : Config) {s : State X} → IsClosed s → ((c : ℕ) → (s.link c).e ≡ [])
     → open_requests config s + open_releases config s ≡ 0
-none-counted config s closed no_acks =
+none-counted config {s} closed no_acks =
     let requests : open_requests config s ≡ 0 =
     total-zero (clients_in config) (λ c. total (sources_in config c) (λ i. one_if (is_used (s.uses c i))) + length
     (s.link c).e) (λ c few.
@@ -63,9 +53,8 @@ none-counted config s closed no_acks =
     (λ i lt. ap (λ (u : SourceState). one_if (is_used u)) (closed.uses c i)) in
     let acks : length (s.link c).e ≡ 0 = ap length (no_acks c) in
     omega (arith, uses, acks)) in
-    let releases : open_releases config s ≡ 0 =
-    total-zero (clients_in config) (λ c. total (sources_in config c) (λ i. one_if (is_let (s.lets c i)))) (λ c few.
-    total-zero (sources_in config c) (λ i. one_if (is_let (s.lets c i)))
+    let releases = total-zero (clients_in config) (λ c. total (sources_in config c) (λ i. one_if (is_let (s.lets c i))))
+    (λ c few. total-zero (sources_in config c) (λ i. one_if (is_let (s.lets c i)))
     (λ i lt. ap (λ (o : Option ℕ). one_if (is_let o)) (closed.lets c i))) in
     omega (arith, requests, releases)
 
@@ -77,10 +66,11 @@ module _ {w : ℕ} (config : Config) (log : Log w) (mail : AccessMessages w) (re
       → (total (sources_in config c) (λ i. one_if (is_used (s.uses c i))) + length (s.link c).e ≡ 0)
       × (total (sources_in config c) (λ i. one_if (is_let (s.lets c i))) ≡ 0)
   of_client c few = (
-    total-none (clients_in config) (λ d. total (sources_in config d) (λ i. one_if (is_used (s.uses d i))) + length
-        (s.link d).e) (omega (arith, none)) c few,
-    total-none (clients_in config) (λ d. total (sources_in config d) (λ i. one_if (is_let (s.lets d i))))
+    total-none (clients_in config)
+        (λ d. total (sources_in config d) (λ i. one_if (is_used (s.uses d i))) + length (s.link d).e)
         (omega (arith, none)) c few,
+    total-none (clients_in config)
+        (λ d. total (sources_in config d) (λ i. one_if (is_let (s.lets d i)))) (omega (arith, none)) c few,
   )
 
   bounds : (c : ℕ) → AreBounded c (sources_in config c) config.trackers s
@@ -111,8 +101,7 @@ module _ {w : ℕ} (config : Config) (log : Log w) (mail : AccessMessages w) (re
     where
       go : (o : Option ℕ) → s.lets c source ≡ o → s.lets c source ≡ None
       go None e = e
-      go (Some n) e =
-          not_let (s.lets c source) (total-none (sources_in config c) (λ i. one_if (is_let (s.lets c i)))
+      go (Some n) e = not_let (s.lets c source) (total-none (sources_in config c) (λ i. one_if (is_let (s.lets c i)))
           (of_client c (client_below config c terms at)).1 source ((bounds c).releases source n e))
 
   no_ack : (c : ℕ) (terms : EndConfig) → terms_at config c ≡ Some terms → (s.link c).e ≡ []
@@ -122,8 +111,7 @@ module _ {w : ℕ} (config : Config) (log : Log w) (mail : AccessMessages w) (re
   pub closed-when-counted : IsClosed s
   closed-when-counted = record {
     uses = λ c source. use_is c source (terms_at config c) refl;
-    lets =
-        λ c source. let_is c source (terms_at config c) refl;
+    lets = λ c source. let_is c source (terms_at config c) refl;
   }
     where
       use_is : (c source : ℕ) (o : Option EndConfig) → terms_at config c ≡ o → s.uses c source ≡ SourceFree
@@ -138,43 +126,40 @@ module _ {w : ℕ} (config : Config) (log : Log w) (mail : AccessMessages w) (re
   no-acks-counted c = go (terms_at config c) refl
     where
       go : (o : Option EndConfig) → terms_at config c ≡ o → (s.link c).e ≡ []
-      go None at = strangers.no_tokens config log mail request s matched width c at channel.E
+      go None at = strangers.no_tokens config log mail request s matched width c at Channel.E
       go (Some terms) at = no_ack c terms at
 
 -- A delivery is next exactly while something is outstanding.
-pub next-while-outstanding : {w : ℕ} (config : Config) (log : Log w) (mail : AccessMessages w) (request : ℕ
-    → MessageA w) (s : State (List ℕ)) (matched : SimulationRelation config log mail request s
-    (system_after config log))
-    → IsCoherent (system_after config log) log (one_memory_after config log) → 0 < config.trackers
-    → ((c : ℕ) (terms : EndConfig) (ch : Channel) (x : Beat w) (rest : List (Beat w)) → terms_at config c ≡ Some terms
-    → (system_after config log).channels c ch ≡ x ∷ rest
-    → IsFirst config terms c ch x (system_after config log))
-    → IsWidth w → AreCounted config log s
+pub next-while-outstanding : {w : ℕ} {config : Config} {log : Log w} {mail : AccessMessages w} {request : ℕ
+    → MessageA w} {s : State (List ℕ)} (matched : SimulationRelation config log mail request s
+    (system_after config log)) → IsCoherent (system_after config log) log (one_memory_after config log)
+    → 0 < config.trackers → ((c : ℕ) (terms : EndConfig) (ch : Channel) (x : Beat w) (rest : List (Beat w))
+    → terms_at config c ≡ Some terms → (system_after config log).channels c ch ≡ x ∷ rest
+    → IsFirst config terms c ch x (system_after config log)) → IsWidth w → AreCounted config log s
     → is_none (next_delivery config (system_after config log)) ≡ (outstanding log == 0)
-next-while-outstanding {w} config log mail request s matched coherent trackers firsts width counted =
+next-while-outstanding {w} {config} {log} {mail} {request} {s} matched coherent trackers firsts width counted =
     go (next_delivery config (system_after config log)) refl (outstanding log == 0) refl
   where
     sum : outstanding log ≡ open_requests config s + open_releases config s
-    sum = outstanding-open config log s counted
+    sum = outstanding-open counted
 
     zero_is : (n : ℕ) → n ≡ 0 → (n == 0) ≡ true
     zero_is n e = rw e refl
 
     go : (o : Option (Link × Channel)) → next_delivery config (system_after config log) ≡ o → (b : Bool)
         → (outstanding log == 0) ≡ b → is_none o ≡ b
-    go None e true f = refl
     go None e false f =
         let bare = bare-when-standing config log mail request s matched coherent trackers firsts e width in
-        let none = none-counted config s (closed-when-standing config log mail request s matched coherent trackers
+        let none = none-counted config (closed-when-standing config log mail request s matched coherent trackers
         firsts width e) bare.silent.e in
         absurd (let yes = zero_is (outstanding log) (sum ∙ none) in let both : true ≡ false = sym yes ∙ f in cc)
-    go (Some d) e false f = refl
     go (Some d) e true f =
         let none : open_requests config s + open_releases config s ≡ 0 = sym sum ∙ eqb-true (outstanding log) 0 f in
         let stands = standing-when-closed config log mail request s matched coherent trackers firsts
         (closed-when-counted config log mail request s matched width none)
         (no-acks-counted config log mail request s matched width none) in
         absurd (let both : Some d ≡ None = sym e ∙ stands in cc)
+    go o e b f = refl
 
 -- where no delivery is next, nothing is outstanding
 pub none-outstanding : {w : ℕ} (config : Config) (log : Log w)

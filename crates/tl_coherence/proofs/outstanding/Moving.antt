@@ -4,35 +4,24 @@ use Rattle.tl_coherence.proofs.outstanding.Imports.{EndConfig, Log, system_after
 use Rattle.tl_coherence.proofs.outstanding.Imports.{Packet, Release, ReleaseAck, one_if, SimulationRelation}
 use Rattle.std.proofs.Common.{◌≡◌, ℕ, ◌<◌, Bool, true, false, List, [], ◌∷◌, refl, sym, ◌∙◌, ap, arith}
 use Rattle.std.specs.Prelude.{not, map, nat_le, Option, Some, None}
-use Rattle.std.proofs.lemmas.Bool.Decides.{nat_tests}
-use Rattle.std.proofs.Math.Bool.{and-false}
-use Rattle.std.proofs.lemmas.Bool.{true_from_ne_false}
-use Rattle.tl_beat.specs.declared.beat.Beat.TheVariants as beat
-use Rattle.tl_beat.specs.declared.channel.Channel.TheVariants as channel
+use Rattle.std.{proofs.lemmas.Bool.Decides.nat_tests, proofs.Math.Bool.and-false, proofs.lemmas.Bool.true_from_ne_false}
 use Rattle.tl_burst.specs.statement.Messages.{unfinished}
 use Rattle.tl_params.specs.declared.key.Key.TheVariants.{ReleaseOf}
-use Rattle.tl_rules.specs.statement.Conformance.{on_link}
-use Rattle.tl_rules.specs.statement.History.{ends, pending}
+use Rattle.tl_rules.{specs.statement.Conformance.on_link, specs.statement.History.ends, specs.statement.History.pending}
 use Rattle.tl_manager.specs.statement.Service as manager
 use Rattle.tl_manager.specs.statement.Service.{services, service_of_block}
-use Rattle.tl_coherence.specs.refinement.Carried.{IsCarried}
-use Rattle.tl_coherence.specs.statement.Coherent.{IsCoherent}
-use Rattle.tl_coherence.specs.statement.Delivery.{Moves}
+use Rattle.tl_coherence.specs.{refinement.Carried.IsCarried, statement.Coherent.IsCoherent, statement.Delivery.Moves}
+use Rattle.tl_coherence.specs.{statement.Delivery.receiver, statement.Movable.is_movable, protocol.Protocol.Service}
+use Rattle.tl_coherence.specs.{protocol.Protocol.packets_on, protocol.Tokens.shown}
+use Rattle.tl_coherence.specs.{statement.OneMemory.one_memory_after, protocol.Packet.count}
 use Rattle.tl_coherence.specs.refinement.ManagerRelation.{client_in, service_with}
-use Rattle.tl_coherence.specs.statement.Delivery.{receiver}
-use Rattle.tl_coherence.specs.statement.Movable.{is_movable}
 use Rattle.tl_coherence.specs.protocol.Phase.{ReleasePhase, NoRelease, ReleaseSent, ReleaseAcked, is_unreleased}
-use Rattle.tl_coherence.specs.protocol.Protocol.{Service, packets_on}
-use Rattle.tl_coherence.specs.protocol.Tokens.{shown}
-use Rattle.tl_coherence.specs.statement.OneMemory.{one_memory_after}
 use Rattle.tl_coherence.specs.refinement.PacketMessages.{AccessMessages, message_of, messages_on}
-use Rattle.tl_coherence.specs.protocol.Packet.{count}
-use Rattle.tl_coherence.proofs.queues.Carried.{carried-none}
+use Rattle.tl_coherence.proofs.{queues.Carried.carried-none, queues.Tokens.same_number}
 use Rattle.tl_coherence.proofs.protocol.QuiescentBlock.{IsSilent, free-when_silent}
 use Rattle.tl_coherence.proofs.links.Stalling.{IsFirst, exact, started-releasing}
 use Rattle.tl_coherence.proofs.queues.QuiescentQueues.{nothing-moves, no-next, empty-still}
 use Rattle.tl_coherence.proofs.simulation.Strangers as strangers
-use Rattle.tl_coherence.proofs.queues.Tokens.{same_number}
 use Rattle.tl_coherence.proofs.protocol.QuiescentProtocol.{IsBare, IsClosed, bare-when-closed, closed-when_bare}
 
 no_tokens : {w : ℕ} (f : Packet → Message w) (xs : List Packet) → map f xs ≡ [] → xs ≡ []
@@ -45,9 +34,8 @@ found_first n s ss e = rw (e, same_number n) refl
 
 none_served : {w : ℕ} (ss : List (manager.Service w)) → ((n : ℕ) → service_of_block n ss ≡ None) → ss ≡ []
 none_served [] none = refl
-none_served (s ∷ ss) none =
-    absurd (let both : Some s ≡ None = sym (found_first (block_at s.request.address) s ss refl) ∙ none
-    (block_at s.request.address) in cc)
+none_served (s ∷ ss) none = absurd (let both : Some s ≡ None = sym (found_first (block_at s.request.address) s ss refl)
+    ∙ none (block_at s.request.address) in cc)
 
 few_test : (n : ℕ) → 0 < n → nat_le n 0 ≡ false
 few_test n lt = grind (arith, nat_tests, lt)
@@ -65,12 +53,11 @@ module _ {w : ℕ} (config : Config) (log : Log w) (mail : AccessMessages w) (re
 
   -- and without a message it has no beat
   no_beat : (c : ℕ) (ch : Channel) → packets_on ch (s.link c) ≡ [] → (system_after config log).channels c ch ≡ []
-  no_beat c ch none = go (messages_on ch mail s c) (ap (map (message_of mail s c)) none) (matched.carried c ch)
-    where
-      go : (ms : List (Message w)) → ms ≡ [] → IsCarried (unfinished ch (receiver ch c (system_after config log))) ms
-          ((system_after config log).channels c ch) → (system_after config log).channels c ch ≡ []
-      go [] e h = h.1
-      go (m ∷ ms) e h = absurd cc
+  no_beat c ch none =
+      let go : (ms : List (Message w)) → ms ≡ [] → IsCarried (unfinished ch (receiver ch c (system_after config log)))
+      ms ((system_after config log).channels c ch) → (system_after config log).channels c ch ≡ [] =
+      elim [ [] ↦ λ e h. h.1 | m ∷ ms ↦ λ e h. absurd cc ] in
+      go (messages_on ch mail s c) (ap (map (message_of mail s c)) none) (matched.carried c ch)
 
   -- a channel whose first beat is movable, if there is one, is empty where no delivery is next
   module _ (none : next_delivery config (system_after config log) ≡ None) where
@@ -91,43 +78,31 @@ module _ {w : ℕ} (config : Config) (log : Log w) (mail : AccessMessages w) (re
         (λ y more f. firsts c terms ch y more is f)).moves x rest e
 
     empty_e : (c : ℕ) (terms : EndConfig) → terms_at config c ≡ Some terms
-        → (system_after config log).channels c channel.E ≡ []
-    empty_e c terms is = nothing_first c terms channel.E is (λ x rest e. go x (firsts c terms channel.E x rest is e)
-        (moving c terms channel.E x rest is e))
-      where
-        go : (x : Beat w) → IsFirst config terms c channel.E x (system_after config log) → Moves config log c x
-            → is_movable config c channel.E (system_after config log) ≡ true
-        go (beat.E y) first m = m
-        go (beat.A y) first m = absurd (let on = first.on in cc)
-        go (beat.B y) first m = absurd (let on = first.on in cc)
-        go (beat.C y) first m = absurd (let on = first.on in cc)
-        go (beat.D y) first m = absurd (let on = first.on in cc)
+        → (system_after config log).channels c Channel.E ≡ []
+    empty_e c terms is =
+        let go : (x : Beat w) → IsFirst config terms c Channel.E x (system_after config log) → Moves config log c x
+        → is_movable config c Channel.E (system_after config log) ≡ true =
+        elim [ Beat.E y ↦ λ first m. m | x ↦ λ first m. absurd (let on = first.on in cc) ] in
+        nothing_first c terms Channel.E is (λ x rest e. go x (firsts c terms Channel.E x rest is e)
+        (moving c terms Channel.E x rest is e))
 
     empty_d : (c : ℕ) (terms : EndConfig) → terms_at config c ≡ Some terms
-        → (system_after config log).channels c channel.D ≡ []
-    empty_d c terms is = nothing_first c terms channel.D is (λ x rest e. go x (firsts c terms channel.D x rest is e)
-        (moving c terms channel.D x rest is e))
-      where
-        go : (x : Beat w) → IsFirst config terms c channel.D x (system_after config log) → Moves config log c x
-            → is_movable config c channel.D (system_after config log) ≡ true
-        go (beat.D y) first m = m
-        go (beat.A y) first m = absurd (let on = first.on in cc)
-        go (beat.B y) first m = absurd (let on = first.on in cc)
-        go (beat.C y) first m = absurd (let on = first.on in cc)
-        go (beat.E y) first m = absurd (let on = first.on in cc)
+        → (system_after config log).channels c Channel.D ≡ []
+    empty_d c terms is =
+        let go : (x : Beat w) → IsFirst config terms c Channel.D x (system_after config log) → Moves config log c x
+        → is_movable config c Channel.D (system_after config log) ≡ true =
+        elim [ Beat.D y ↦ λ first m. m | x ↦ λ first m. absurd (let on = first.on in cc) ] in
+        nothing_first c terms Channel.D is (λ x rest e. go x (firsts c terms Channel.D x rest is e)
+        (moving c terms Channel.D x rest is e))
 
     empty_c : (c : ℕ) (terms : EndConfig) → terms_at config c ≡ Some terms
-        → (system_after config log).channels c channel.C ≡ []
-    empty_c c terms is = nothing_first c terms channel.C is (λ x rest e. go x (firsts c terms channel.C x rest is e)
-        (moving c terms channel.C x rest is e))
-      where
-        go : (x : Beat w) → IsFirst config terms c channel.C x (system_after config log) → Moves config log c x
-            → is_movable config c channel.C (system_after config log) ≡ true
-        go (beat.C y) first m = m
-        go (beat.A y) first m = absurd (let on = first.on in cc)
-        go (beat.B y) first m = absurd (let on = first.on in cc)
-        go (beat.D y) first m = absurd (let on = first.on in cc)
-        go (beat.E y) first m = absurd (let on = first.on in cc)
+        → (system_after config log).channels c Channel.C ≡ []
+    empty_c c terms is =
+        let go : (x : Beat w) → IsFirst config terms c Channel.C x (system_after config log) → Moves config log c x
+        → is_movable config c Channel.C (system_after config log) ≡ true =
+        elim [ Beat.C y ↦ λ first m. m | x ↦ λ first m. absurd (let on = first.on in cc) ] in
+        nothing_first c terms Channel.C is (λ x rest e. go x (firsts c terms Channel.C x rest is e)
+        (moving c terms Channel.C x rest is e))
 
     -- no Release is outstanding, since neither it nor its ReleaseAck is on its way
     none_releasing : (c n : ℕ) (terms : EndConfig) → terms_at config c ≡ Some terms
@@ -135,11 +110,11 @@ module _ {w : ℕ} (config : Config) (log : Log w) (mail : AccessMessages w) (re
     unfolding count
     none_releasing c n terms is = (matched.known c).releases n ∙ go ((s.block n).pair c).letting refl
       where
-        no_c : packets_on channel.C (s.link c) ≡ []
-        no_c = no_message c channel.C (empty_c c terms is)
+        no_c : packets_on Channel.C (s.link c) ≡ []
+        no_c = no_message c Channel.C (empty_c c terms is)
 
-        no_d : packets_on channel.D (s.link c) ≡ []
-        no_d = no_message c channel.D (empty_d c terms is)
+        no_d : packets_on Channel.D (s.link c) ≡ []
+        no_d = no_message c Channel.D (empty_d c terms is)
 
         none_shown : (b : Bool) → 0 ≡ one_if b → b ≡ false
         none_shown true e = absurd (omega (arith, e))
@@ -159,19 +134,16 @@ module _ {w : ℕ} (config : Config) (log : Log w) (mail : AccessMessages w) (re
             sym it ∙ no in cc)
 
     empty_b : (c : ℕ) (terms : EndConfig) → terms_at config c ≡ Some terms
-        → (system_after config log).channels c channel.B ≡ []
-    empty_b c terms is = nothing_first c terms channel.B is (λ x rest e. go x (firsts c terms channel.B x rest is e)
-        (moving c terms channel.B x rest is e))
+        → (system_after config log).channels c Channel.B ≡ []
+    empty_b c terms is = nothing_first c terms Channel.B is (λ x rest e. go x (firsts c terms Channel.B x rest is e)
+        (moving c terms Channel.B x rest is e))
       where
-        go : (x : Beat w) → IsFirst config terms c channel.B x (system_after config log) → Moves config log c x
-            → is_movable config c channel.B (system_after config log) ≡ true
-        go (beat.B y) first m = true_from_ne_false _ (λ still.
+        go : (x : Beat w) → IsFirst config terms c Channel.B x (system_after config log) → Moves config log c x
+            → is_movable config c Channel.B (system_after config log) ≡ true
+        go (Beat.B y) first m = true_from_ne_false _ (λ still.
             let p = started-releasing config log mail request s matched coherent c (block_at y.address) (m.0 still) in
             absurd (let both : true ≡ false = sym p ∙ none_releasing c (block_at y.address) terms is in cc))
-        go (beat.A y) first m = absurd (let on = first.on in cc)
-        go (beat.C y) first m = absurd (let on = first.on in cc)
-        go (beat.D y) first m = absurd (let on = first.on in cc)
-        go (beat.E y) first m = absurd (let on = first.on in cc)
+        go x first m = absurd (let on = first.on in cc)
 
     -- so no block is in service, and each request finds a tracker
     module _ (width : IsWidth w) where
@@ -185,36 +157,32 @@ module _ {w : ℕ} (config : Config) (log : Log w) (mail : AccessMessages w) (re
 
       silent : IsSilent s
       silent = record {
-        b = by_client channel.B empty_b;
-        c = by_client channel.C empty_c;
-        d =
-            by_client channel.D empty_d;
-        e = by_client channel.E empty_e;
+        b = by_client Channel.B empty_b;
+        c = by_client Channel.C empty_c;
+        d = by_client Channel.D empty_d;
+        e = by_client Channel.E empty_e;
       }
 
       none_in_service : services (system_after config log).manager.trace ≡ []
       none_in_service = none_served (services (system_after config log).manager.trace) (λ n.
           matched.managed.serving_is n ∙ ap (λ (x : Service). service_with (client_in x) (s.block n).tracker
-          (request n)) (free-when_silent _ s n matched.invariant silent))
+          (request n)) (free-when_silent n matched.invariant silent))
 
       empty_a : (c : ℕ) (terms : EndConfig) → terms_at config c ≡ Some terms
-          → (system_after config log).channels c channel.A ≡ []
-      empty_a c terms is = nothing_first c terms channel.A is (λ x rest e. go x (firsts c terms channel.A x rest is e)
-          (moving c terms channel.A x rest is e))
+          → (system_after config log).channels c Channel.A ≡ []
+      empty_a c terms is = nothing_first c terms Channel.A is (λ x rest e. go x (firsts c terms Channel.A x rest is e)
+          (moving c terms Channel.A x rest is e))
         where
-          go : (x : Beat w) → IsFirst config terms c channel.A x (system_after config log) → Moves config log c x
-              → is_movable config c channel.A (system_after config log) ≡ true
-          go (beat.A y) first m =
+          go : (x : Beat w) → IsFirst config terms c Channel.A x (system_after config log) → Moves config log c x
+              → is_movable config c Channel.A (system_after config log) ≡ true
+          go (Beat.A y) first m =
               let free : nat_le config.trackers 0 ≡ false = few_test config.trackers trackers in
               m ∙ rw (none_in_service, free)
-              (rw (and-false (ends (beat.A y) (on_link c (system_after config log).manager.trace))) refl)
-          go (beat.B y) first m = absurd (let on = first.on in cc)
-          go (beat.C y) first m = absurd (let on = first.on in cc)
-          go (beat.D y) first m = absurd (let on = first.on in cc)
-          go (beat.E y) first m = absurd (let on = first.on in cc)
+              (rw (and-false (ends (Beat.A y) (on_link c (system_after config log).manager.trace))) refl)
+          go x first m = absurd (let on = first.on in cc)
 
       pub bare-when-standing : IsBare s
-      bare-when-standing = record { a = by_client channel.A empty_a; silent = silent }
+      bare-when-standing = record { a = by_client Channel.A empty_a; silent = silent }
 
   -- where no delivery is next, nothing is open
   pub closed-when-standing : IsWidth w → next_delivery config (system_after config log) ≡ None → IsClosed s
@@ -228,8 +196,8 @@ module _ {w : ℕ} (config : Config) (log : Log w) (mail : AccessMessages w) (re
       (no_beat c ch (bare_on ch c (bare-when-closed _ s matched.invariant closed no_acks))))
     where
       bare_on : (ch : Channel) (c : ℕ) → IsBare s → packets_on ch (s.link c) ≡ []
-      bare_on channel.A c bare = bare.a c
-      bare_on channel.B c bare = bare.silent.b c
-      bare_on channel.C c bare = bare.silent.c c
-      bare_on channel.D c bare = bare.silent.d c
-      bare_on channel.E c bare = bare.silent.e c
+      bare_on Channel.A c bare = bare.a c
+      bare_on Channel.B c bare = bare.silent.b c
+      bare_on Channel.C c bare = bare.silent.c c
+      bare_on Channel.D c bare = bare.silent.d c
+      bare_on Channel.E c bare = bare.silent.e c

@@ -3,35 +3,24 @@
 use Rattle.tl_coherence.proofs.outstanding.Imports.{Config, block_at, EndConfig, AbstractState, starts_request}
 use Rattle.tl_coherence.proofs.outstanding.Imports.{starts_release, Log, is_used, is_let, State, SourceState}
 use Rattle.tl_coherence.proofs.outstanding.Imports.{SourceFree, Asked, Acquires, packet, System, terms_at, Request}
-use Rattle.tl_coherence.proofs.outstanding.Imports.{Acquire, Release, one_if, SimulationRelation, is_caching}
+use Rattle.tl_coherence.proofs.outstanding.Imports.{Acquire, Release, one_if, SimulationRelation, is_caching, Message}
+use Rattle.tl_coherence.proofs.outstanding.Imports.{Outcome}
 use Rattle.std.proofs.Common.{◌≡◌, ℕ, ◌+◌, ◌<◌, Bool, true, false, refl, ap, arith, Option, Some, None}
-use Rattle.tl_burst.specs.declared.message.Message.TheVariants as message
 use Rattle.tl_params.specs.declared.key.Key.TheVariants.{RequestSource, ReleaseSource}
-use Rattle.tl_params.specs.declared.param.Grow.{Grow}
-use Rattle.tl_params.specs.declared.param.Prune.{Prune}
-use Rattle.tl_params.specs.declared.perm.Perm.{Perm}
-use Rattle.tl_params.specs.declared.perm.Perm.TheVariants as perm
+use Rattle.tl_params.{specs.declared.param.Grow.Grow, specs.declared.param.Prune.Prune, specs.declared.perm.Perm.Perm}
 use Rattle.tl_rules.specs.statement.History.{pending}
-use Rattle.tl_client.specs.declared.busy.Busy.{Busy}
-use Rattle.tl_client.specs.declared.operation.Op.{Op}
-use Rattle.tl_client.specs.declared.operation.Op.TheVariants as op
-use Rattle.tl_client.specs.declared.reply.Reply.{Reply}
-use Rattle.tl_client.specs.declared.reply.Reply.TheVariants as reply
+use Rattle.tl_client.{specs.declared.busy.Busy.Busy, specs.declared.operation.Op.Op, specs.declared.reply.Reply.Reply}
+use Rattle.tl_client.{specs.statement.Endpoint.Endpoint, specs.statement.Endpoint.held_at}
+use Rattle.tl_client.{proofs.endpoint.Cases.NotBusy, proofs.endpoint.Cases.asked-cases}
+use Rattle.tl_client.{proofs.pending.Free.least_free-some}
 use Rattle.tl_client.specs.statement.Ask as ask
 use Rattle.tl_client.specs.statement.Ask.{done, load, store, free_request, free_release, source_or_0}
-use Rattle.tl_client.specs.statement.Endpoint.{Endpoint, held_at}
-use Rattle.tl_client.proofs.endpoint.Cases.{NotBusy, asked-cases}
-use Rattle.tl_client.proofs.pending.Free.{least_free-some}
-use Rattle.tl_coherence.specs.declared.event.Event.TheVariants.{Ask}
-use Rattle.tl_coherence.specs.declared.event.Outcome.TheVariants as outcome
-use Rattle.tl_coherence.specs.statement.Delivery.{sources_of}
-use Rattle.tl_coherence.specs.refinement.AbstractStep.{asked}
+use Rattle.tl_coherence.specs.{declared.event.Event.TheVariants.Ask, statement.Delivery.sources_of}
+use Rattle.tl_coherence.specs.{refinement.AbstractStep.asked}
 use Rattle.tl_coherence.specs.protocol.Protocol.{with_a, with_c, access_asked, acquire_asked, release_asked}
-use Rattle.tl_coherence.proofs.client.Askable.{askable}
-use Rattle.tl_coherence.proofs.protocol.FollowKept.{IsAskable}
+use Rattle.tl_coherence.proofs.{client.Askable.askable, protocol.FollowKept.IsAskable, queues.Tokens.set-part}
 use Rattle.tl_coherence.proofs.protocol.OpenCounts.{marked-set, acks-same, clients_in, sources_in, IsBalance}
 use Rattle.tl_coherence.proofs.protocol.OpenCounts.{requests-split}
-use Rattle.tl_coherence.proofs.queues.Tokens.{set-part}
 
 module _ {X : Type 0} (config : Config) (s : State X) where
   access-asked : (c source : ℕ) → c < clients_in config → source < sources_in config c → s.uses c source ≡ SourceFree
@@ -76,8 +65,7 @@ module _ {X : Type 0} (config : Config) (s : State X) where
       }
 
   release-asked : (c n source : ℕ) (r : Prune) → c < clients_in config → source < sources_in config c
-      → s.lets c source ≡ None
-      → IsBalance config s (release_asked c n source r s) false false true false
+      → s.lets c source ≡ None → IsBalance config s (release_asked c n source r s) false false true false
   release-asked c n source r few lt free =
       let l = marked-set is_let (clients_in config) (sources_in config) c source (Some n) s.lets few lt in
       let was : one_if (is_let (s.lets c source)) ≡ 0 = ap (λ (x : Option ℕ). one_if (is_let x)) free in
@@ -97,32 +85,30 @@ module _ {X : Type 0} (config : Config) (s : State X) where
 module _ {w : ℕ} (config : Config) (c : ℕ) (h : AbstractState w) where
   -- what is open after this operation had this reply
   abbrev IsOpenAfter : Op w → Reply → Type 0
-  IsOpenAfter o r = IsBalance config h.state (asked c o r h).state (starts_request (Ask c o) (outcome.Replied r)) false
-      (starts_release (Ask c o) (outcome.Replied r)) false
+  IsOpenAfter o r = IsBalance config h.state (asked c o r h).state (starts_request (Ask c o) (Outcome.Replied r)) false
+      (starts_release (Ask c o) (Outcome.Replied r)) false
 
-  busy-opens : (o : Op w) (b : Busy) → IsOpenAfter o (reply.Busy b)
-  busy-opens (op.Load address size) b = record { requests = refl; releases = refl }
-  busy-opens (op.Store address size value) b = record { requests = refl; releases = refl }
-  busy-opens (op.Acquire n g) b = record { requests = refl; releases = refl }
-  busy-opens (op.AcquireWhole n bytes) b = record { requests = refl; releases = refl }
-  busy-opens (op.Release n r) b = record { requests = refl; releases = refl }
-  busy-opens (op.Access (message.A m)) b = record { requests = refl; releases = refl }
-  busy-opens (op.Access (message.B m)) b = record { requests = refl; releases = refl }
-  busy-opens (op.Access (message.C m)) b = record { requests = refl; releases = refl }
-  busy-opens (op.Access (message.D m)) b = record { requests = refl; releases = refl }
-  busy-opens (op.Access (message.E m)) b = record { requests = refl; releases = refl }
+  busy-opens : (o : Op w) (b : Busy) → IsOpenAfter o (Reply.Busy b)
+  busy-opens (Op.Load address size) b = record { requests = refl; releases = refl }
+  busy-opens (Op.Store address size value) b = record { requests = refl; releases = refl }
+  busy-opens (Op.Acquire n g) b = record { requests = refl; releases = refl }
+  busy-opens (Op.AcquireWhole n bytes) b = record { requests = refl; releases = refl }
+  busy-opens (Op.Release n r) b = record { requests = refl; releases = refl }
+  busy-opens (Op.Access (Message.A m)) b = record { requests = refl; releases = refl }
+  busy-opens (Op.Access (Message.B m)) b = record { requests = refl; releases = refl }
+  busy-opens (Op.Access (Message.C m)) b = record { requests = refl; releases = refl }
+  busy-opens (Op.Access (Message.D m)) b = record { requests = refl; releases = refl }
+  busy-opens (Op.Access (Message.E m)) b = record { requests = refl; releases = refl }
 
   load-opens : (address size : ℕ) (p : Perm) (e : Endpoint w)
-      → IsOpenAfter (op.Load address size) (load address size p e).reply
-  load-opens address size perm.None e = record { requests = refl; releases = refl }
-  load-opens address size perm.Branch e = record { requests = refl; releases = refl }
-  load-opens address size perm.Trunk e = record { requests = refl; releases = refl }
+      → IsOpenAfter (Op.Load address size) (load address size p e).reply
+  load-opens address size Perm.None e = record { requests = refl; releases = refl }
+  load-opens address size p e = record { requests = refl; releases = refl }
 
   store-opens : (address size value : ℕ) (p : Perm) (e : Endpoint w)
-      → IsOpenAfter (op.Store address size value) (store address size value p e).reply
-  store-opens address size value perm.None e = record { requests = refl; releases = refl }
-  store-opens address size value perm.Branch e = record { requests = refl; releases = refl }
-  store-opens address size value perm.Trunk e = record { requests = refl; releases = refl }
+      → IsOpenAfter (Op.Store address size value) (store address size value p e).reply
+  store-opens address size value Perm.None e = record { requests = refl; releases = refl }
+  store-opens address size value p e = record { requests = refl; releases = refl }
 
   module _ (terms : EndConfig) (e : Endpoint w) (at : terms_at config c ≡ Some terms) (few : c < clients_in config)
     where
@@ -132,36 +118,29 @@ module _ {w : ℕ} (config : Config) (c : ℕ) (h : AbstractState w) where
 
       done-opens : (o : Op w) → NotBusy terms o e → IsAskable (is_caching config) c o (done terms o e).reply h
           → IsOpenAfter o (done terms o e).reply
-      done-opens (op.Load address size) free may = load-opens address size (held_at e (block_at address)) e
-      done-opens (op.Store address size value) free may = store-opens address size value (held_at e (block_at address))
+      done-opens (Op.Load address size) free may = load-opens address size (held_at e (block_at address)) e
+      done-opens (Op.Store address size value) free may = store-opens address size value (held_at e (block_at address))
           e
-      done-opens (op.Acquire n g) free may =
+      done-opens (Op.Acquire n g) free may =
           acquire-asked config h.state c n (source_or_0 (free_request terms e.past)) false g _ few
           (own_source _ (least_free-some (λ s. pending (RequestSource s) e.past) 0 terms.sources free.b1).1) may.1
-      done-opens (op.AcquireWhole n bytes) free may =
+      done-opens (Op.AcquireWhole n bytes) free may =
           acquire-asked config h.state c n (source_or_0 (free_request terms e.past)) true _ bytes few
           (own_source _ (least_free-some (λ s. pending (RequestSource s) e.past) 0 terms.sources free.b1).1) may.1
-      done-opens (op.Release n r) free may =
-          release-asked config h.state c n (source_or_0 (free_release terms e.past)) r few
-          (own_source _ (least_free-some (λ s. pending (ReleaseSource s) e.past) 0 terms.sources free.b1).1) may.1
-      done-opens (op.Access (message.A m)) free may =
+      done-opens (Op.Release n r) free may = release-asked config h.state c n (source_or_0 (free_release terms e.past))
+          r few (own_source _ (least_free-some (λ s. pending (ReleaseSource s) e.past) 0 terms.sources free.b1).1) may.1
+      done-opens (Op.Access (Message.A m)) free may =
           access-asked config h.state c (source_or_0 (free_request terms e.past)) few
           (own_source _ (least_free-some (λ s. pending (RequestSource s) e.past) 0 terms.sources free.b1).1) may
-      done-opens (op.Access (message.B m)) free may = record { requests = refl; releases = refl }
-      done-opens (op.Access (message.C m)) free may = record { requests = refl; releases = refl }
-      done-opens (op.Access (message.D m)) free may = record { requests = refl; releases = refl }
-      done-opens (op.Access (message.E m)) free may = record { requests = refl; releases = refl }
+      done-opens o free may = record { requests = refl; releases = refl }
 
 -- What is open after a client is asked.
-pub balance-asked : {w : ℕ} (config : Config) (log : Log w) (h : AbstractState w) (sys : System w) (terms : EndConfig)
-    (c : ℕ) (o : Op w)
-    → SimulationRelation config log h.mail h.request h.state sys → terms_at config c ≡ Some terms
-    → c < clients_in config
-    → IsBalance config h.state (asked c o (ask.asked terms o (sys.clients c)).reply h).state
-    (starts_request (Ask c o) (outcome.Replied (ask.asked terms o (sys.clients c)).reply)) false
-    (starts_release (Ask c o) (outcome.Replied (ask.asked terms o (sys.clients c)).reply)) false
-balance-asked {w} config log h sys terms c o is at few =
+pub balance-asked : {w : ℕ} {config : Config} {log : Log w} (h : AbstractState w) {sys : System w} (terms : EndConfig)
+    (c : ℕ) (o : Op w) → SimulationRelation config log h.mail h.request h.state sys → terms_at config c ≡ Some terms
+    → c < clients_in config → IsBalance config h.state (asked c o (ask.asked terms o (sys.clients c)).reply h).state
+    (starts_request (Ask c o) (Outcome.Replied (ask.asked terms o (sys.clients c)).reply)) false
+    (starts_release (Ask c o) (Outcome.Replied (ask.asked terms o (sys.clients c)).reply)) false
+balance-asked {w} {config} {log} h {sys} terms c o is at few =
     asked-cases terms o (sys.clients c) (λ (x : ask.Asked w). IsAskable (is_caching config) c o x.reply h
     → IsOpenAfter config c h o x.reply) (λ b may. busy-opens config c h o b)
-    (λ free may. done-opens config c h terms (sys.clients c) at few o free may)
-    (askable config log h.mail h.request h.state sys terms c o is at)
+    (λ free may. done-opens config c h terms (sys.clients c) at few o free may) (askable terms c o is at)

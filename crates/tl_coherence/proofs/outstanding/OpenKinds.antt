@@ -5,15 +5,11 @@ use Rattle.tl_coherence.proofs.outstanding.Imports.{Message, MessageA, Config, b
 use Rattle.tl_coherence.proofs.outstanding.Imports.{is_let, State, SourceState, SourceFree, Asked, Acquires, packet}
 use Rattle.tl_coherence.proofs.outstanding.Imports.{System, Request, Acquire, Release, ReleaseAck, Packet, one_if}
 use Rattle.tl_coherence.proofs.outstanding.Imports.{SimulationRelation, is_caching}
-use Rattle.std.proofs.Common.{◌≡◌, subst, ℕ, suc, ◌+◌, ◌<◌, Bool, true, false, not, ◌&&◌, List, [], ◌∷◌, ◌++◌, length}
+use Rattle.std.proofs.Common.{◌≡◌, subst, ℕ, suc, ◌<◌, Bool, true, false, not, ◌&&◌, List, [], ◌∷◌, ◌++◌, length}
 use Rattle.std.proofs.Common.{refl, sym, ◌∙◌, ap, arith, Option, Some, None}
-use Rattle.std.specs.Prelude.{◌==◌, if◌then◌else◌}
-use Rattle.std.proofs.lemmas.List.{length-append}
-use Rattle.tl_burst.specs.declared.message.Message.TheVariants as message
-use Rattle.tl_params.specs.declared.param.Cap.{Cap}
-use Rattle.tl_params.specs.declared.param.Prune.{Prune}
-use Rattle.tl_params.specs.declared.param.Report.{Report}
-use Rattle.tl_params.specs.declared.profile.Profile.{Profile}
+use Rattle.std.{specs.Prelude.◌==◌, specs.Prelude.if◌then◌else◌, proofs.lemmas.List.length-append}
+use Rattle.tl_params.{specs.declared.param.Cap.Cap, specs.declared.param.Prune.Prune}
+use Rattle.tl_params.{specs.declared.param.Report.Report, specs.declared.profile.Profile.Profile}
 use Rattle.tl_manager.specs.statement.Holders.{cap_probed}
 use Rattle.tl_coherence.specs.refinement.AbstractStep as follow
 use Rattle.tl_coherence.specs.refinement.AbstractStep.{with_state, some_below, probes_some, access_taken, request_taken}
@@ -21,23 +17,19 @@ use Rattle.tl_coherence.specs.refinement.AbstractStep.{acquire_taken, is_unheld,
 use Rattle.tl_coherence.specs.refinement.AbstractStep.{ack_taken, taken_by_client, kind_taken}
 use Rattle.tl_coherence.specs.protocol.Invariant.{IsInvariant, cap_asked, serves_with}
 use Rattle.tl_coherence.specs.protocol.Phase.{AcquirePhase, NoAcquire, AcquireOpen, is_unprobed, is_whole}
-use Rattle.tl_coherence.specs.protocol.PhaseSteps.{is_granted_data}
-use Rattle.tl_coherence.specs.protocol.Protocol.{Service, Free, Waits, GrantSent, GrantTaken, Block, Link, InService}
-use Rattle.tl_coherence.specs.protocol.Protocol.{Replied, on, is_probed, with_probe, answered_link, served_link}
-use Rattle.tl_coherence.specs.protocol.Protocol.{probed_link, popped_link, ended_link, granted_link, let_link}
-use Rattle.tl_coherence.specs.protocol.Protocol.{taken_link, access_answered, access_served, acquire_granted}
-use Rattle.tl_coherence.specs.protocol.Protocol.{acquire_served, probe_taken, report_taken, report_answers}
-use Rattle.tl_coherence.specs.protocol.Protocol.{report_grants, release_taken, answer_taken, grant_taken}
-use Rattle.tl_coherence.specs.protocol.Protocol.{release_ack_taken, grant_ack_taken}
-use Rattle.tl_coherence.specs.refinement.PacketMessages.{report_told}
+use Rattle.tl_coherence.specs.{protocol.PhaseSteps.is_granted_data, refinement.PacketMessages.report_told}
+use Rattle.tl_coherence.specs.protocol.Protocol.{Service, Waits, Block, Link, InService, Replied, on, is_probed}
+use Rattle.tl_coherence.specs.protocol.Protocol.{with_probe, answered_link, served_link, probed_link, popped_link}
+use Rattle.tl_coherence.specs.protocol.Protocol.{ended_link, granted_link, let_link, taken_link, access_answered}
+use Rattle.tl_coherence.specs.protocol.Protocol.{access_served, acquire_granted, acquire_served, probe_taken}
+use Rattle.tl_coherence.specs.protocol.Protocol.{report_taken, report_answers, report_grants, release_taken}
+use Rattle.tl_coherence.specs.protocol.Protocol.{answer_taken, grant_taken, release_ack_taken, grant_ack_taken}
 use Rattle.tl_coherence.specs.protocol.Packet.{Kind, Probe, ProbeAck, Answer, Grant, GrantAck, set}
-use Rattle.tl_coherence.proofs.protocol.TokenNames.{AreBounded}
+use Rattle.tl_coherence.proofs.{protocol.TokenNames.AreBounded, protocol.Heads.asked-first, queues.Tokens.same_number}
+use Rattle.tl_coherence.proofs.{queues.Tokens.set-part, protocol.BothParts.serves_of-is}
 use Rattle.tl_coherence.proofs.protocol.HeadOfD.{answer-due, grant-due, ack-due}
-use Rattle.tl_coherence.proofs.protocol.Heads.{asked-first}
 use Rattle.tl_coherence.proofs.protocol.OpenCounts.{marked-set, set_at-part, acks-set, acks-same, clients_in}
 use Rattle.tl_coherence.proofs.protocol.OpenCounts.{sources_in, IsBalance, requests-split, balance-same}
-use Rattle.tl_coherence.proofs.queues.Tokens.{same_number, set-part}
-use Rattle.tl_coherence.proofs.protocol.BothParts.{serves_of-is}
 
 -- ---- links whose channel E stays
 
@@ -59,12 +51,10 @@ popped_e c rest link d = set_e c (record (link c) { c = rest }) link refl d
 
 ended_e : (c q : ℕ) (x : Packet) (rest : List Packet) (link : ℕ → Link) (d : ℕ)
     → (ended_link c q x rest link d).e ≡ (link d).e
-ended_e c q x rest link d = go (d == q) ∙ popped_e c rest link d
-  where
-    go : (b : Bool) → (if b then record (popped_link c rest link d) { d = (popped_link c rest link d).d ++ x ∷ [] } else
-        popped_link c rest link d).e ≡ (popped_link c rest link d).e
-    go true = refl
-    go false = refl
+ended_e c q x rest link d =
+    let go : (b : Bool) → (if b then record (popped_link c rest link d) { d = (popped_link c rest link d).d ++ x ∷ [] }
+    else popped_link c rest link d).e ≡ (popped_link c rest link d).e = elim [ true ↦ refl | false ↦ refl ] in
+    go (d == q) ∙ popped_e c rest link d
 
 granted_e : (c q n : ℕ) (rest : List Packet) (link : ℕ → Link) (d : ℕ) → (granted_link c q n rest link d).e ≡ (link d).e
 granted_e c q n rest link d = set_e q (record (link q) { d = (link q).d ++ packet Grant n ∷ [] })
@@ -78,23 +68,20 @@ module _ {X : Type 0} (config : Config) (s : State X) where
 
   access-answered : (c n source : ℕ) (f : X → X) (rest : List Packet) → s.uses c source ≡ Asked
       → IsBalance config s (access_answered c n source f rest s) false false false false
-  access-answered c n source f rest used =
-      balance-same config s (access_answered c n source f rest s)
+  access-answered c n source f rest used = balance-same config s (access_answered c n source f rest s)
       (set_at-part is_used c source Replied s.uses (sym (ap is_used used))) (λ d i. refl)
       (set_e c (answered_link (packet Answer source) rest (s.link c)) s.link refl)
 
   access-served : (c n source tracker : ℕ) (k : Cap) (rest : List Packet) → s.uses c source ≡ Asked
       → IsBalance config s (access_served c n source tracker k rest s) false false false false
-  access-served c n source tracker k rest used =
-      balance-same config s (access_served c n source tracker k rest s)
+  access-served c n source tracker k rest used = balance-same config s (access_served c n source tracker k rest s)
       (set_at-part is_used c source (InService n) s.uses (sym (ap is_used used))) (λ d i. refl)
       (served_e c false n k rest (s.block n) s.link)
 
   acquire-granted : (c n tracker : ℕ) (d : Bool) (k : Cap) (rest : List Packet)
       → IsBalance config s (acquire_granted c n tracker d k rest s) false false false false
   acquire-granted c n tracker d k rest = balance-same config s (acquire_granted c n tracker d k rest s) (λ i j. refl)
-      (λ i j. refl)
-      (set_e c (answered_link (packet Grant n) rest (s.link c)) s.link refl)
+      (λ i j. refl) (set_e c (answered_link (packet Grant n) rest (s.link c)) s.link refl)
 
   acquire-served : (c n source tracker : ℕ) (k : Cap) (rest : List Packet)
       → IsBalance config s (acquire_served c n source tracker k rest s) false false false false
@@ -113,8 +100,7 @@ module _ {X : Type 0} (config : Config) (s : State X) where
 
   report-answers : (c q n source : ℕ) (r : Report) (f : X → X) (rest : List Packet) → s.uses q source ≡ InService n
       → IsBalance config s (report_answers c q n source r f rest s) false false false false
-  report-answers c q n source r f rest used =
-      balance-same config s (report_answers c q n source r f rest s)
+  report-answers c q n source r f rest used = balance-same config s (report_answers c q n source r f rest s)
       (set_at-part is_used q source Replied s.uses (sym (ap is_used used))) (λ d i. refl)
       (ended_e c q (packet Answer source) rest s.link)
 
@@ -131,8 +117,7 @@ module _ {X : Type 0} (config : Config) (s : State X) where
   -- ---- events that end something
 
   answer-taken : (c source : ℕ) (rest : List Packet) → c < clients_in config → source < sources_in config c
-      → s.uses c source ≡ Replied
-      → IsBalance config s (answer_taken c source rest s) false true false false
+      → s.uses c source ≡ Replied → IsBalance config s (answer_taken c source rest s) false true false false
   answer-taken c source rest few lt used =
       let u = marked-set is_used (clients_in config) (sources_in config) c source SourceFree s.uses few lt in
       let was : one_if (is_used (s.uses c source)) ≡ 1 = ap (λ (x : SourceState). one_if (is_used x)) used in
@@ -157,11 +142,9 @@ module _ {X : Type 0} (config : Config) (s : State X) where
   grant-taken c n whole d k rest few lt used =
       let u = marked-set is_used (clients_in config) (sources_in config) c ((s.block n).source c) SourceFree s.uses few
       lt in
-      let was : one_if (is_used (s.uses c ((s.block n).source c))) ≡ 1 =
-      ap (λ (x : SourceState). one_if (is_used x)) used in
+      let was = ap (λ (x : SourceState). one_if (is_used x)) used in
       let a = acks-set (clients_in config) c (taken_link n rest (s.link c)) s.link few in
-      let more : length ((s.link c).e ++ packet GrantAck n ∷ []) ≡ length (s.link c).e + 1 =
-      length-append (s.link c).e (packet GrantAck n ∷ []) in
+      let more = length-append (s.link c).e (packet GrantAck n ∷ []) in
       record {
         requests = omega (
           arith,
@@ -182,8 +165,7 @@ module _ {X : Type 0} (config : Config) (s : State X) where
   release-ack-taken c n rest few lt used =
       let l = marked-set is_let (clients_in config) (sources_in config) c ((s.block n).release_source c) None s.lets few
       lt in
-      let was : one_if (is_let (s.lets c ((s.block n).release_source c))) ≡ 1 =
-      ap (λ (x : Option ℕ). one_if (is_let x)) used in
+      let was = ap (λ (x : Option ℕ). one_if (is_let x)) used in
       let a = acks-same (clients_in config) (release_ack_taken c n rest s).link s.link
       (set_e c (record (s.link c) { d = rest }) s.link refl) in
       record {
@@ -232,7 +214,7 @@ module _ {w : ℕ} (config : Config) (h : AbstractState w) where
   Stays h' = IsBalance config h.state h'.state false false false false
 
   request-kind : (clients c source tracker : ℕ) (m : MessageA w) (rest : List Packet) → h.state.uses c source ≡ Asked
-      → Stays (request_taken clients c source (message.A m) tracker rest h)
+      → Stays (request_taken clients c source (Message.A m) tracker rest h)
   request-kind clients c source tracker m rest used =
       go (probes_some clients c false (cap_probed m.opcode m.param) (h.state.block n).pair)
       (cap_probed m.opcode m.param)
@@ -242,9 +224,7 @@ module _ {w : ℕ} (config : Config) (h : AbstractState w) where
 
       go : (b : Bool) (o : Option Cap) → Stays (access_taken c source m tracker b o rest h)
       go true (Some k) = access-served config h.state c n source tracker k rest used
-      go true None = access-answered config h.state c n source (follow.performs m) rest used
-      go false None = access-answered config h.state c n source (follow.performs m) rest used
-      go false (Some k) = access-answered config h.state c n source (follow.performs m) rest used
+      go b o = access-answered config h.state c n source (follow.performs m) rest used
 
   acquire-kind : (clients : ℕ) (p : Profile) (c n tracker : ℕ) (x : AcquirePhase) (rest : List Packet)
       → Stays (acquire_taken clients p c n x tracker rest h)
@@ -255,9 +235,8 @@ module _ {w : ℕ} (config : Config) (h : AbstractState w) where
       b : Block (List ℕ)
       b = h.state.block n
 
-      go : (x : Bool) → IsBalance config h.state
-          (if x then acquire_served c n (b.source c) tracker (cap_asked (AcquireOpen whole g)) rest h.state else
-          acquire_granted c n tracker
+      go : (x : Bool) → IsBalance config h.state (if x then acquire_served c n (b.source c) tracker
+          (cap_asked (AcquireOpen whole g)) rest h.state else acquire_granted c n tracker
           (is_granted_data whole g (b.pair c).recorded) (gift p whole g (is_unheld clients b.pair)) rest h.state) false
           false false false
       go true = acquire-served config h.state c n (b.source c) tracker (cap_asked (AcquireOpen whole g)) rest
@@ -272,15 +251,13 @@ module _ {w : ℕ} (config : Config) (h : AbstractState w) where
   last-kind : (caching : ℕ → Bool) (clients : ℕ) (p : Profile) (c n : ℕ) (r : Report) (service : Service)
       (rest : List Packet) → IsInvariant caching h.state
       → (h.state.block n).service ≡ service → Stays (last_taken clients p c n r service rest h)
-  last-kind caching clients p c n r Free rest inv e = unchanged config h.state
-  last-kind caching clients p c n r (GrantSent q d k) rest inv e = unchanged config h.state
-  last-kind caching clients p c n r (GrantTaken q) rest inv e = unchanged config h.state
   last-kind caching clients p c n r (Waits q true source k) rest inv e =
       granted-kind clients p c q n r ((h.state.block n).pair q).acquiring rest
   last-kind caching clients p c n r (Waits q false source k) rest inv e =
       let with : serves_with q source (h.state.block n) ≡ true = rw (e, same_number q, same_number source) refl in
       report-answers config h.state c q n source r (follow.performs (h.request n)) rest
       (serves_of-is n (h.state.uses q source) (inv.named.serves q source n ∙ with))
+  last-kind caching clients p c n r service rest inv e = unchanged config h.state
 
   ack-kind : (caching : ℕ → Bool) (clients : ℕ) (p : Profile) (c n : ℕ) (r : Report) (rest : List Packet)
       → IsInvariant caching h.state → Stays (ack_taken clients p c n r rest h)
@@ -293,38 +270,37 @@ module _ {w : ℕ} (config : Config) (h : AbstractState w) where
       go false = last-kind caching clients p c n r (h.state.block n).service rest inv refl
 
 -- What is open, after the first token of a channel of a client's link is taken.
-pub balance-kind : {w : ℕ} (config : Config) (log : Log w) (tracker c : ℕ) (k : Kind) (i : ℕ) (rest : List Packet)
-    (h : AbstractState w) (sys : System w)
+pub balance-kind : {w : ℕ} {config : Config} {log : Log w} (tracker : ℕ) {c : ℕ} (k : Kind) (i : ℕ) (rest : List Packet)
+    (h : AbstractState w) {sys : System w}
     → SimulationRelation config log h.mail h.request h.state sys → c < clients_in config
     → AreBounded c (sources_in config c) config.trackers h.state → on k (h.state.link c) ≡ packet k i ∷ rest
     → IsBalance config h.state (kind_taken config tracker c k i rest h).state false (is_ending k) false
     (is_letting_go k)
-balance-kind {w} config log tracker c Request i rest h sys is few own first =
-    let asked = asked-first config log h.mail h.request h.state sys c i rest is first in
+balance-kind {w} {config} {log} tracker {c} Request i rest h {sys} is few own first =
+    let asked = asked-first c i rest is first in
     subst (λ (m : Message w). IsBalance config h.state (request_taken (clients_in config) c i m tracker rest h).state
     false false false false) (sym asked.is_it)
     (request-kind config h (clients_in config) c i tracker asked.request rest asked.used)
-balance-kind config log tracker c Acquire n rest h sys is few own first =
+balance-kind {config} tracker {c} Acquire n rest h is few own first =
     acquire-kind config h (clients_in config) config.profile c n tracker ((h.state.block n).pair c).acquiring rest
-balance-kind config log tracker c Probe n rest h sys is few own first = probe-taken config h.state c n _ rest
-balance-kind config log tracker c ProbeAck n rest h sys is few own first =
+balance-kind {config} tracker {c} Probe n rest h is few own first = probe-taken config h.state c n _ rest
+balance-kind {config} tracker {c} ProbeAck n rest h is few own first =
     ack-kind config h (is_caching config) (clients_in config) config.profile c n
     (report_told ((h.state.block n).pair c).probing) rest is.invariant
-balance-kind config log tracker c Release n rest h sys is few own first = release-taken config h.state c n _ rest
-balance-kind config log tracker c Answer source rest h sys is few own first =
+balance-kind {config} tracker {c} Release n rest h is few own first = release-taken config h.state c n _ rest
+balance-kind {config} tracker {c} Answer source rest h is few own first =
     let due = answer-due (is_caching config) c source rest h.mail h.state is.invariant (is.answered c source) first in
     answer-taken config h.state c source rest few
     (own.requests source (λ closed. absurd (let both : Replied ≡ SourceFree = sym due.used ∙ closed in cc)))
     due.used
-balance-kind config log tracker c Grant n rest h sys is few own first =
+balance-kind {config} tracker {c} Grant n rest h is few own first =
     let due = grant-due (is_caching config) c n rest h.state is.invariant first in
     subst (λ (v : Service). IsBalance config h.state (taken_by_client c n v rest h).state false false false false)
     (sym due.service)
     (grant-taken config h.state c n (is_whole ((h.state.block n).pair c).acquiring) due.data_too due.k rest few
     (own.requests ((h.state.block n).source c) (λ closed. absurd (let both : Acquires n ≡ SourceFree =
     sym due.used ∙ closed in cc))) due.used)
-balance-kind config log tracker c ReleaseAck n rest h sys is few own first =
-    let let_ = ack-due (is_caching config) c n rest h.state is.invariant first in
+balance-kind {config} tracker {c} ReleaseAck n rest h is few own first =
+    let let_ = ack-due c n rest is.invariant first in
     release-ack-taken config h.state c n rest few (own.releases ((h.state.block n).release_source c) n let_) let_
-balance-kind config log tracker c GrantAck n rest h sys is few own first =
-    grant-ack-taken config h.state c n rest few first
+balance-kind {config} tracker {c} GrantAck n rest h is few own first = grant-ack-taken config h.state c n rest few first

@@ -1,39 +1,26 @@
 -- What an outcome ends of what is outstanding.
-use Rattle.tl_coherence.proofs.outstanding.Imports.{Beat, Channel, Message, Config, EndConfig, Outcome}
-use Rattle.tl_coherence.proofs.outstanding.Imports.{AbstractState}
-use Rattle.tl_coherence.proofs.outstanding.Imports.{System}
-use Rattle.tl_coherence.proofs.outstanding.Imports.{terms_at, Request, Acquire, Release, ReleaseAck}
+use Rattle.tl_coherence.proofs.outstanding.Imports.{Beat, Channel, Message, Config, EndConfig, Outcome, AbstractState}
+use Rattle.tl_coherence.proofs.outstanding.Imports.{System, terms_at, Request, Acquire, Release}
 use Rattle.std.proofs.Common.{◌≡◌, subst, ℕ, zero, suc, ◌+◌, ◌<◌, Bool, true, false, List, [], ◌∷◌, refl, sym, ◌∙◌, ap}
 use Rattle.std.proofs.Common.{arith, Option, Some, None}
 use Rattle.std.specs.Prelude.{◌==◌, map, Result, Ok, Err}
-use Rattle.tl_beat.specs.declared.beat.Beat.TheVariants as beat
-use Rattle.tl_beat.specs.declared.beat.Link.{Link}
-use Rattle.tl_beat.specs.declared.channel.Channel.TheVariants as channel
-use Rattle.tl_beat.specs.declared.opcode.OpD.{OpD}
-use Rattle.tl_beat.specs.declared.opcode.OpD.TheVariants as opd
+use Rattle.tl_beat.{specs.declared.beat.Link.Link, specs.declared.opcode.OpD.OpD}
 use Rattle.tl_burst.specs.statement.Burst.{beat_of, beats_of}
 use Rattle.tl_burst.specs.statement.Messages.{channel_of, unfinished}
 use Rattle.tl_params.specs.declared.rule.Rule.{Rule}
 use Rattle.tl_rules.specs.statement.History.{is_release_ack}
-use Rattle.tl_client.specs.declared.verdict.Verdict.{Verdict}
-use Rattle.tl_client.specs.declared.verdict.Verdict.TheVariants as verdict
+use Rattle.tl_client.{specs.declared.verdict.Verdict.Verdict, specs.statement.Offer.finish_of}
 use Rattle.tl_client.specs.statement.Endpoint as client
 use Rattle.tl_client.specs.statement.Offer as offer
-use Rattle.tl_client.specs.statement.Offer.{finish_of}
-use Rattle.tl_manager.specs.statement.Handing.{grant_opcode}
-use Rattle.tl_manager.specs.statement.Service.{is_access_answer}
-use Rattle.tl_coherence.specs.declared.event.Event.TheVariants.{Deliver}
-use Rattle.tl_coherence.specs.declared.event.Outcome.TheVariants as outcome
-use Rattle.tl_coherence.specs.statement.Draining.{is_moving}
-use Rattle.tl_coherence.specs.statement.Load.{ends_request, ends_release}
-use Rattle.tl_coherence.specs.statement.Delivery.{receiver}
-use Rattle.tl_coherence.specs.protocol.Protocol.{Block, is_on}
+use Rattle.tl_manager.{specs.statement.Handing.grant_opcode, specs.statement.Service.is_access_answer}
+use Rattle.tl_coherence.specs.{declared.event.Event.TheVariants.Deliver, statement.Draining.is_moving}
+use Rattle.tl_coherence.specs.{statement.Load.ends_request, statement.Load.ends_release, statement.Delivery.receiver}
+use Rattle.tl_coherence.specs.{protocol.Protocol.Block, protocol.Protocol.is_on}
 use Rattle.tl_coherence.specs.refinement.PacketMessages.{message_of, message_of_kind, block_message}
 use Rattle.tl_coherence.specs.statement.Step.{is_to_client, outcome_of, stepped, stepped_at, delivered}
-use Rattle.tl_coherence.specs.protocol.Packet.{Kind, Probe, ProbeAck, Answer, Grant, GrantAck}
-use Rattle.tl_coherence.proofs.queues.Carried.{IsNext}
-use Rattle.tl_coherence.proofs.queues.FirstToken.{IsFirst}
-use Rattle.tl_coherence.proofs.outstanding.OpenKinds.{is_ending, is_letting_go}
+use Rattle.tl_coherence.specs.protocol.Packet.{Kind, Probe, ProbeAck, GrantAck}
+use Rattle.tl_coherence.proofs.{queues.Carried.IsNext, queues.FirstToken.IsFirst, outstanding.OpenKinds.is_ending}
+use Rattle.tl_coherence.proofs.{outstanding.OpenKinds.is_letting_go}
 
 -- ---- what an outcome ends
 
@@ -41,67 +28,34 @@ abbrev pub Ends : {w : ℕ} → Outcome w → Bool → Bool → Type 0
 Ends o ends lets_go = (ends_request o ≡ ends) × (ends_release o ≡ lets_go)
 
 pub still-ends : {w : ℕ} (o : Outcome w) → is_moving o ≡ false → Ends o false false
-still-ends (outcome.Replied r) e = (refl, refl)
-still-ends outcome.Empty e = (refl, refl)
-still-ends outcome.Stalled e = (refl, refl)
-still-ends outcome.NoSuchClient e = (refl, refl)
-still-ends (outcome.Moved x) e = absurd cc
-still-ends (outcome.Done x source f) e = absurd cc
+still-ends (Outcome.Moved x) e = absurd cc
+still-ends (Outcome.Done x source f) e = absurd cc
+still-ends o e = (refl, refl)
 
 abbrev pub is_e : Channel → Bool
-is_e channel.E = true
+is_e Channel.E = true
 is_e _ = false
 
-pub moved-ends : {w : ℕ} (x : Beat w) → Ends (outcome.Moved x) (is_e (channel_of x)) false
-moved-ends (beat.A x) = (refl, refl)
-moved-ends (beat.B x) = (refl, refl)
-moved-ends (beat.C x) = (refl, refl)
-moved-ends (beat.D x) = (refl, refl)
-moved-ends (beat.E x) = (refl, refl)
+pub moved-ends : {w : ℕ} (x : Beat w) → Ends (Outcome.Moved x) (is_e (channel_of x)) false
+moved-ends (Beat.A x) = (refl, refl)
+moved-ends x = (refl, refl)
 
 -- a response ends what its opcode says
 pub finish-ends : {w : ℕ} (x : Beat w) (source : ℕ) (o : OpD) (param size address : ℕ) (payload : List ℕ)
-    → Ends (outcome.Done x source (finish_of w o param size address payload)) (is_access_answer o) (is_release_ack o)
-finish-ends x source opd.AccessAck param size address payload = (refl, refl)
-finish-ends x source opd.AccessAckData param size address payload = (refl, refl)
-finish-ends x source opd.HintAck param size address payload = (refl, refl)
-finish-ends x source opd.Grant param size address payload = (refl, refl)
-finish-ends x source opd.GrantData param size address payload = (refl, refl)
-finish-ends x source opd.ReleaseAck param size address payload = (refl, refl)
+    → Ends (Outcome.Done x source (finish_of w o param size address payload)) (is_access_answer o) (is_release_ack o)
+finish-ends x source OpD.AccessAck param size address payload = (refl, refl)
+finish-ends x source o param size address payload = (refl, refl)
 
 -- ---- what a message of the manager's channels ends
 
 pub manager-kind : (ch : Channel) (k : Kind) → is_to_client ch ≡ false → is_on ch k ≡ true → (is_ending k ≡ is_e ch)
     × (is_letting_go k ≡ false)
-manager-kind channel.A Request down own = (refl, refl)
-manager-kind channel.A Acquire down own = (refl, refl)
-manager-kind channel.C ProbeAck down own = (refl, refl)
-manager-kind channel.C Release down own = (refl, refl)
-manager-kind channel.E GrantAck down own = (refl, refl)
-manager-kind channel.A Probe down own = absurd cc
-manager-kind channel.A ProbeAck down own = absurd cc
-manager-kind channel.A Release down own = absurd cc
-manager-kind channel.A Answer down own = absurd cc
-manager-kind channel.A Grant down own = absurd cc
-manager-kind channel.A ReleaseAck down own = absurd cc
-manager-kind channel.A GrantAck down own = absurd cc
-manager-kind channel.C Request down own = absurd cc
-manager-kind channel.C Acquire down own = absurd cc
-manager-kind channel.C Probe down own = absurd cc
-manager-kind channel.C Answer down own = absurd cc
-manager-kind channel.C Grant down own = absurd cc
-manager-kind channel.C ReleaseAck down own = absurd cc
-manager-kind channel.C GrantAck down own = absurd cc
-manager-kind channel.E Request down own = absurd cc
-manager-kind channel.E Acquire down own = absurd cc
-manager-kind channel.E Probe down own = absurd cc
-manager-kind channel.E ProbeAck down own = absurd cc
-manager-kind channel.E Release down own = absurd cc
-manager-kind channel.E Answer down own = absurd cc
-manager-kind channel.E Grant down own = absurd cc
-manager-kind channel.E ReleaseAck down own = absurd cc
-manager-kind channel.B k down own = absurd cc
-manager-kind channel.D k down own = absurd cc
+manager-kind Channel.A Request down own = (refl, refl)
+manager-kind Channel.A Acquire down own = (refl, refl)
+manager-kind Channel.C ProbeAck down own = (refl, refl)
+manager-kind Channel.C Release down own = (refl, refl)
+manager-kind Channel.E GrantAck down own = (refl, refl)
+manager-kind ch k down own = absurd cc
 
 -- a GrantAck is one beat
 pub ack_whole : (w c n : ℕ) (b : Block (List ℕ)) → beats_of (block_message {w = w} GrantAck c n b) ≡ 1
@@ -116,74 +70,59 @@ pub grant_kind : (b : Bool) → (is_access_answer (grant_opcode b) ≡ false) ×
 grant_kind true = (refl, refl)
 grant_kind false = (refl, refl)
 
-probe_on_b : (w c n k : ℕ) (b : Block (List ℕ)) → channel_of (beat_of (block_message {w = w} Probe c n b) k) ≡ channel.B
+probe_on_b : (w c n k : ℕ) (b : Block (List ℕ)) → channel_of (beat_of (block_message {w = w} Probe c n b) k) ≡ Channel.B
 unfolding block_message
 probe_on_b w c n k b = refl
 
 -- a Probe ends nothing
 answer_verdict : {w : ℕ} → Result (Verdict × Option (Message w)) Rule → Verdict
 answer_verdict (Ok p) = p.0
-answer_verdict (Err rule) = verdict.Stalled
+answer_verdict (Err rule) = Verdict.Stalled
 
 probe-verdict : {w : ℕ} (x : Beat w) (e : client.Endpoint w) (v : Verdict) (m : Option (Message w))
-    → channel_of x ≡ channel.B → (offer.taken x e).answer ≡ Ok (v, m) → v ≡ verdict.Taken
+    → channel_of x ≡ Channel.B → (offer.taken x e).answer ≡ Ok (v, m) → v ≡ Verdict.Taken
 unfolding answer_verdict
-probe-verdict {w} (beat.B y) e v m of_b answer = sym (ap (answer_verdict {w = w}) answer)
-probe-verdict (beat.A y) e v m of_b answer = absurd cc
-probe-verdict (beat.C y) e v m of_b answer = absurd cc
-probe-verdict (beat.D y) e v m of_b answer = absurd cc
-probe-verdict (beat.E y) e v m of_b answer = absurd cc
+probe-verdict {w} (Beat.B y) e v m of_b answer = sym (ap (answer_verdict {w = w}) answer)
+probe-verdict (Beat.A y) e v m of_b answer = absurd cc
+probe-verdict (Beat.C y) e v m of_b answer = absurd cc
+probe-verdict (Beat.D y) e v m of_b answer = absurd cc
+probe-verdict (Beat.E y) e v m of_b answer = absurd cc
 
 pub probe-ends : {w : ℕ} (x : Beat w) (e : client.Endpoint w) (v : Verdict) (m : Option (Message w))
-    → channel_of x ≡ channel.B → (offer.taken x e).answer ≡ Ok (v, m) → Ends (outcome_of x v) false false
+    → channel_of x ≡ Channel.B → (offer.taken x e).answer ≡ Ok (v, m) → Ends (outcome_of x v) false false
 probe-ends {w} x e v m of_b answer =
     let ends = moved-ends x in
     subst (λ (u : Verdict). Ends (outcome_of x u) false false) (sym (probe-verdict x e v m of_b answer))
     (ends.0 ∙ ap is_e of_b, ends.1)
 
 -- the first beat of channel B is one of a Probe
-pub first-probe : {w : ℕ} (c : ℕ) (h : AbstractState w) (sys : System w) (x : Beat w) (queue : List (Beat w))
-    (first : IsFirst channel.B c h.mail h.state sys x queue)
-    → (channel_of x ≡ channel.B) × ((is_ending first.kind ≡ false) × (is_letting_go first.kind ≡ false))
-first-probe {w} c h sys x queue first = go first.kind first.own first.next
+pub first-probe : {w : ℕ} {c : ℕ} (h : AbstractState w) {sys : System w} {x : Beat w} {queue : List (Beat w)}
+    (first : IsFirst Channel.B c h.mail h.state sys x queue)
+    → (channel_of x ≡ Channel.B) × ((is_ending first.kind ≡ false) × (is_letting_go first.kind ≡ false))
+first-probe {w} {c} h {sys} {x} {queue} first = go first.kind first.own first.next
   where
-    go : (k : Kind) → is_on channel.B k ≡ true → IsNext x (unfinished channel.B (receiver channel.B c sys))
-        (message_of_kind k h.mail h.state c first.number)
-        (map (message_of h.mail h.state c) first.rest) queue
-        → (channel_of x ≡ channel.B) × ((is_ending k ≡ false) × (is_letting_go k ≡ false))
+    go : (k : Kind) → is_on Channel.B k ≡ true → IsNext x (unfinished Channel.B (receiver Channel.B c sys))
+        (message_of_kind k h.mail h.state c first.number) (map (message_of h.mail h.state c) first.rest) queue
+        → (channel_of x ≡ Channel.B) × ((is_ending k ≡ false) × (is_letting_go k ≡ false))
     go Probe own next = (
-      ap (λ (z : Beat w). channel_of z) next.beat_is ∙ probe_on_b w c first.number next.k
-          (h.state.block first.number),
+      ap (λ (z : Beat w). channel_of z) next.beat_is
+          ∙ probe_on_b w c first.number next.k (h.state.block first.number),
       (refl, refl),
     )
-    go Request own next = absurd cc
-    go Acquire own next = absurd cc
-    go ProbeAck own next = absurd cc
-    go Release own next = absurd cc
-    go Answer own next = absurd cc
-    go Grant own next = absurd cc
-    go ReleaseAck own next = absurd cc
-    go GrantAck own next = absurd cc
+    go k own next = absurd cc
 
 -- a delivery that moves a beat is one of a client's link, which has that beat
 pub first-moved : {w : ℕ} (config : Config) (link : Link) (ch : Channel) (sys : System w)
-    → is_moving (stepped config (Deliver link ch) sys).outcome ≡ true
-    → (x : Beat w) × (queue : List (Beat w)) × (terms : EndConfig)
-    × ((sys.channels link.0 ch ≡ x ∷ queue) × (terms_at config link.0 ≡ Some terms))
+    → is_moving (stepped config (Deliver link ch) sys).outcome ≡ true → (x : Beat w) × (queue : List (Beat w))
+    × (terms : EndConfig) × ((sys.channels link.0 ch ≡ x ∷ queue) × (terms_at config link.0 ≡ Some terms))
 unfolding stepped
-first-moved {w} config link ch sys moving = go (terms_at config link.0) refl moving
-  where
-    First : Type 0
-    First = (x : Beat w) × (queue : List (Beat w)) × (terms : EndConfig)
-        × ((sys.channels link.0 ch ≡ x ∷ queue) × (terms_at config link.0 ≡ Some terms))
-
-    at : (terms : EndConfig) → terms_at config link.0 ≡ Some terms → (beats : List (Beat w))
-        → sys.channels link.0 ch ≡ beats
-        → is_moving (delivered config terms link.0 ch beats sys).outcome ≡ true → First
-    at terms e [] f m = absurd cc
-    at terms e (x ∷ queue) f m = (x, queue, terms, (f, e))
-
-    go : (o : Option EndConfig) → terms_at config link.0 ≡ o
-        → is_moving (stepped_at config o (Deliver link ch) sys).outcome ≡ true → First
-    go None e m = absurd cc
-    go (Some terms) e m = at terms e (sys.channels link.0 ch) refl m
+first-moved {w} config link ch sys moving =
+    let First : Type 0 = (x : Beat w) × (queue : List (Beat w)) × (terms : EndConfig)
+    × ((sys.channels link.0 ch ≡ x ∷ queue) × (terms_at config link.0 ≡ Some terms)) in
+    let at : (terms : EndConfig) → terms_at config link.0 ≡ Some terms → (beats : List (Beat w))
+    → sys.channels link.0 ch ≡ beats → is_moving (delivered config terms link.0 ch beats sys).outcome ≡ true
+    → First = λ terms e. elim [ [] ↦ λ f m. absurd cc | x ∷ queue ↦ λ f m. (x, queue, terms, (f, e)) ] in
+    let go : (o : Option EndConfig) → terms_at config link.0 ≡ o
+    → is_moving (stepped_at config o (Deliver link ch) sys).outcome ≡ true → First =
+    elim [ None ↦ λ e m. absurd cc | Some terms ↦ λ e m. at terms e (sys.channels link.0 ch) refl m ] in
+    go (terms_at config link.0) refl moving

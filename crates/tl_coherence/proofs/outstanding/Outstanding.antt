@@ -3,55 +3,41 @@
 -- opens and closes.
 use Rattle.tl_coherence.proofs.outstanding.Imports.{IsWidth, Beat, Channel, Message, Config, EndConfig, Outcome}
 use Rattle.tl_coherence.proofs.outstanding.Imports.{AbstractState, abstract_step, starts_request, starts_release, Log}
-use Rattle.tl_coherence.proofs.outstanding.Imports.{system_after, open_requests, open_releases, packet}
-use Rattle.tl_coherence.proofs.outstanding.Imports.{terms_at, Request, Acquire, Release, ReleaseAck, Packet, one_if}
-use Rattle.tl_coherence.proofs.outstanding.Imports.{SimulationRelation, is_caching}
-use Rattle.std.proofs.Common.{◌≡◌, subst, ℕ, ◌+◌, ◌<◌, Bool, true, false, List, ◌∷◌, refl, sym, ◌∙◌, ap}
-use Rattle.std.proofs.Common.{Option, Some, None}
+use Rattle.tl_coherence.proofs.outstanding.Imports.{system_after, open_requests, open_releases, packet, terms_at}
+use Rattle.tl_coherence.proofs.outstanding.Imports.{ReleaseAck, Packet, one_if, SimulationRelation, is_caching}
+use Rattle.std.proofs.Common.{◌≡◌, subst, ℕ, ◌+◌, ◌<◌, Bool, true, false, List, ◌∷◌, refl, sym, ◌∙◌, ap, Option, Some}
+use Rattle.std.proofs.Common.{None}
 use Rattle.std.specs.Prelude.{if◌then◌else◌, map, Ok}
-use Rattle.tl_beat.specs.declared.beat.Beat.TheVariants as beat
-use Rattle.tl_beat.specs.declared.beat.BeatD.{BeatD}
-use Rattle.tl_beat.specs.declared.beat.Link.{Link}
-use Rattle.tl_beat.specs.declared.channel.Channel.TheVariants as channel
-use Rattle.tl_burst.specs.declared.message.MessageD.{MessageD}
+use Rattle.tl_beat.{specs.declared.beat.BeatD.BeatD, specs.declared.beat.Link.Link}
+use Rattle.tl_burst.{specs.declared.message.MessageD.MessageD, specs.statement.Messages.channel_of}
+use Rattle.tl_burst.{specs.statement.Messages.unfinished, specs.statement.Part.completes}
 use Rattle.tl_burst.specs.statement.Burst.{beat_of, beats_of, d_beat_of}
-use Rattle.tl_burst.specs.statement.Messages.{channel_of, unfinished}
-use Rattle.tl_burst.specs.statement.Part.{completes}
 use Rattle.tl_rules.specs.statement.History.{is_release_ack}
 use Rattle.tl_client.specs.declared.verdict.Verdict.{Verdict}
-use Rattle.tl_client.specs.declared.verdict.Verdict.TheVariants as verdict
 use Rattle.tl_client.specs.statement.Endpoint as client
 use Rattle.tl_client.specs.statement.Offer as offer
 use Rattle.tl_manager.specs.statement.Service.{is_access_answer}
-use Rattle.tl_coherence.specs.declared.event.Event.{Event}
+use Rattle.tl_coherence.specs.{declared.event.Event.Event, statement.Draining.is_moving, statement.Load.ends_request}
+use Rattle.tl_coherence.specs.{statement.Load.ends_release, statement.Delivery.receiver, protocol.Protocol.is_on}
+use Rattle.tl_coherence.specs.{protocol.Protocol.on}
 use Rattle.tl_coherence.specs.declared.event.Event.TheVariants.{Ask, Deliver}
-use Rattle.tl_coherence.specs.declared.event.Outcome.TheVariants as outcome
-use Rattle.tl_coherence.specs.statement.Draining.{is_moving}
-use Rattle.tl_coherence.specs.refinement.AbstractStep.{abstract_step_by, kind_taken, packet_taken}
-use Rattle.tl_coherence.specs.statement.Load.{ends_request, ends_release}
-use Rattle.tl_coherence.specs.statement.Delivery.{receiver}
-use Rattle.tl_coherence.specs.protocol.Protocol.{is_on, on}
+use Rattle.tl_coherence.specs.refinement.AbstractStep.{abstract_step_by, kind_taken}
 use Rattle.tl_coherence.specs.refinement.PacketMessages.{message_of, message_of_kind}
 use Rattle.tl_coherence.specs.statement.Step.{Step, is_to_client, outcome_of, stepped, stepped_at}
-use Rattle.tl_coherence.specs.protocol.Packet.{Kind, Probe, ProbeAck, Answer, Grant, GrantAck}
-use Rattle.tl_coherence.proofs.simulation.Bounded.{matched-bounded}
-use Rattle.tl_coherence.proofs.protocol.TokenNames.{AreBounded}
-use Rattle.tl_coherence.proofs.queues.Carried.{IsNext}
-use Rattle.tl_coherence.proofs.client.ManagerStep.{on_same}
+use Rattle.tl_coherence.specs.protocol.Packet.{Kind, Answer, Grant, GrantAck}
+use Rattle.tl_coherence.proofs.{simulation.Bounded.matched-bounded, protocol.TokenNames.AreBounded}
+use Rattle.tl_coherence.proofs.{queues.Carried.IsNext, client.ManagerStep.on_same, queues.FirstToken.IsFirst}
+use Rattle.tl_coherence.proofs.{queues.FirstToken.first-token, deliveries.DeliverDWhole.rendered_release_ack}
+use Rattle.tl_coherence.proofs.{simulation.Moved.IsTakenByClient, simulation.Moved.client-moves}
+use Rattle.tl_coherence.proofs.{outstanding.OpenAsks.balance-asked, simulation.Owned.sources-own}
+use Rattle.tl_coherence.proofs.{queues.QuiescentQueues.client_below, manager.UnwaitedRequests.next_tracker}
+use Rattle.tl_coherence.proofs.{queues.Codes.access_kind}
 use Rattle.tl_coherence.proofs.protocol.HeadOfD.{answer-due, grant-due, grant_message, ack_message, grant-rendered}
-use Rattle.tl_coherence.proofs.queues.FirstToken.{IsFirst, first-token}
 use Rattle.tl_coherence.proofs.client.DeliverD.{finish_at, answer-last, answer-part, same_answers, acked}
-use Rattle.tl_coherence.proofs.deliveries.DeliverDWhole.{rendered_release_ack}
 use Rattle.tl_coherence.proofs.deliveries.DeliverDAfter.{followed-moving, followed-still}
-use Rattle.tl_coherence.proofs.deliveries.ManagersAfter.{IsAtManager, at-manager}
-use Rattle.tl_coherence.proofs.simulation.Moved.{IsTakenByClient, client-moves}
-use Rattle.tl_coherence.proofs.outstanding.OpenAsks.{balance-asked}
+use Rattle.tl_coherence.proofs.deliveries.ManagersAfter.{at-manager}
 use Rattle.tl_coherence.proofs.protocol.OpenCounts.{clients_in, sources_in, IsBalance}
 use Rattle.tl_coherence.proofs.outstanding.OpenKinds.{is_ending, is_letting_go, balance-kind}
-use Rattle.tl_coherence.proofs.simulation.Owned.{sources-own}
-use Rattle.tl_coherence.proofs.queues.QuiescentQueues.{client_below}
-use Rattle.tl_coherence.proofs.manager.UnwaitedRequests.{next_tracker}
-use Rattle.tl_coherence.proofs.queues.Codes.{access_kind}
 use Rattle.tl_coherence.proofs.outstanding.OutcomeEnds.{Ends, still-ends, is_e, moved-ends, finish-ends, manager-kind}
 use Rattle.tl_coherence.proofs.outstanding.OutcomeEnds.{ack_whole, one_whole, grant_kind, probe-ends, first-probe}
 pub use Rattle.tl_coherence.proofs.outstanding.OutcomeEnds.{first-moved}
@@ -81,70 +67,52 @@ module _ {w : ℕ} (config : Config) (log : Log w) (h : AbstractState w) (width 
 
   -- the last beat of a message, or another one
   counted-either : (link : Link) (ch : Channel) (o : Outcome w) (tracker : ℕ) (k : Kind) (i : ℕ) (rest : List Packet)
-      (b : Bool) → link.0 < clients_in config
-      → on k (h.state.link link.0) ≡ packet k i ∷ rest
+      (b : Bool) → link.0 < clients_in config → on k (h.state.link link.0) ≡ packet k i ∷ rest
       → (b ≡ true → Ends o (is_ending k) (is_letting_go k)) → (b ≡ false → Ends o false false)
       → IsCounted (Deliver link ch) o (if b then kind_taken config tracker link.0 k i rest h else h)
   counted-either link ch o tracker k i rest true few first last part =
-      counted-as link ch o (kind_taken config tracker link.0 k i rest h) (is_ending k)
-      (is_letting_go k) (last refl) (balance-kind config log tracker link.0 k i rest h (system_after config log) matched
-      few (bounds link.0) first)
+      counted-as link ch o (kind_taken config tracker link.0 k i rest h) (is_ending k) (is_letting_go k) (last refl)
+      (balance-kind tracker k i rest h matched few (bounds link.0) first)
   counted-either link ch o tracker k i rest false few first last part =
       counted-as link ch o h false false (part refl) unopened
 
   -- ---- what the manager takes
 
-  whole_e : (c : ℕ) (k : Kind) (n : ℕ) → is_on channel.E k ≡ true → beats_of (message_of_kind k h.mail h.state c n) ≡ 1
+  whole_e : (c : ℕ) (k : Kind) (n : ℕ) → is_on Channel.E k ≡ true → beats_of (message_of_kind k h.mail h.state c n) ≡ 1
   whole_e c GrantAck n on_it = ack_whole w c n (h.state.block n)
-  whole_e c Request n on_it = absurd cc
-  whole_e c Acquire n on_it = absurd cc
-  whole_e c Probe n on_it = absurd cc
-  whole_e c ProbeAck n on_it = absurd cc
-  whole_e c Release n on_it = absurd cc
-  whole_e c Answer n on_it = absurd cc
-  whole_e c Grant n on_it = absurd cc
-  whole_e c ReleaseAck n on_it = absurd cc
+  whole_e c k n on_it = absurd cc
 
   part_apart : (ch : Channel) (c : ℕ) (x : Beat w) (queue : List (Beat w))
       → IsFirst ch c h.mail h.state (system_after config log) x queue
       → completes x (unfinished ch (receiver ch c (system_after config log))) ≡ false → is_e ch ≡ false
-  part_apart channel.A c x queue first part = refl
-  part_apart channel.B c x queue first part = refl
-  part_apart channel.C c x queue first part = refl
-  part_apart channel.D c x queue first part = refl
-  part_apart channel.E c x queue first part =
+  part_apart Channel.E c x queue first part =
       let one = whole_e c first.kind first.number first.own in
       let yes = first.next.completes_is ∙ one_whole first.next.k
       (beats_of (message_of_kind first.kind h.mail h.state c first.number)) one first.next.within in
       absurd (let both : true ≡ false = sym yes ∙ part in cc)
+  part_apart ch c x queue first part = refl
 
   counted-manager : (link : Link) (ch : Channel) (terms : EndConfig) (x : Beat w) (queue : List (Beat w))
-      → terms_at config link.0 ≡ Some terms
-      → is_to_client ch ≡ false → (system_after config log).channels link.0 ch ≡ x ∷ queue
-      → is_moving (stepped config (Deliver link ch) (system_after config log)).outcome ≡ true
+      → terms_at config link.0 ≡ Some terms → is_to_client ch ≡ false → (system_after config log).channels link.0 ch
+      ≡ x ∷ queue → is_moving (stepped config (Deliver link ch) (system_after config log)).outcome ≡ true
       → IsCounted (Deliver link ch) (stepped config (Deliver link ch) (system_after config log)).outcome
       (abstract_step config (Deliver link ch) (system_after config log) h)
   counted-manager link ch terms x queue known down beats moving =
+      let at = at-manager link ch h terms x queue width matched known down beats moving in
+      let ends : Ends (Outcome.Moved x) (is_e ch) false = subst (λ (i : Channel). Ends (Outcome.Moved x) (is_e i) false)
+      at.of_it (moved-ends x) in
+      let kinds = manager-kind ch at.first.kind down at.first.own in
       subst (λ (o : Outcome w). IsCounted (Deliver link ch) o
       (abstract_step config (Deliver link ch) (system_after config log) h))
       (sym (ap (λ (y : Step w). y.outcome) at.step_is))
-      (subst (λ (z : AbstractState w). IsCounted (Deliver link ch) (outcome.Moved x) z) (sym at.follows)
-      (counted-either link ch (outcome.Moved x) (next_tracker (system_after config log)) at.first.kind at.first.number
+      (subst (λ (z : AbstractState w). IsCounted (Deliver link ch) (Outcome.Moved x) z) (sym at.follows)
+      (counted-either link ch (Outcome.Moved x) (next_tracker (system_after config log)) at.first.kind at.first.number
       at.first.rest
       (completes x (unfinished ch (receiver ch link.0 (system_after config log))))
       (client_below config link.0 terms known)
       (on_same ch at.first.kind (h.state.link link.0) at.first.own ∙ at.first.tokens)
       (λ last. (ends.0 ∙ sym kinds.0, ends.1 ∙ sym kinds.1))
       (λ part. (ends.0 ∙ part_apart ch link.0 x queue at.first part, ends.1))))
-    where
-      at : IsAtManager config log link ch h x queue
-      at = at-manager config log link ch h terms x queue width matched known down beats moving
-
-      ends : Ends (outcome.Moved x) (is_e ch) false
-      ends = subst (λ (i : Channel). Ends (outcome.Moved x) (is_e i) false) at.of_it (moved-ends x)
-
-      kinds : (is_ending at.first.kind ≡ is_e ch) × (is_letting_go at.first.kind ≡ false)
-      kinds = manager-kind ch at.first.kind down at.first.own
 
   -- ---- what a client takes
 
@@ -155,15 +123,21 @@ module _ {w : ℕ} (config : Config) (log : Log w) (h : AbstractState w) (width 
       → (first : IsFirst ch link.0 h.mail h.state (system_after config log) x queue)
       → IsTakenByClient terms link.0 ch x queue (system_after config log)
       (stepped config (Deliver link ch) (system_after config log))
-      → ((v : Verdict) (m : Option (Message w)) → (offer.taken x ((system_after config log).clients link.0)).answer ≡ Ok
-      (v, m)
-      → (completes x (unfinished ch (receiver ch link.0 (system_after config log))) ≡ true
+      → ((v : Verdict) (m : Option (Message w)) → (offer.taken x ((system_after config log).clients link.0)).answer
+      ≡ Ok (v, m) → (completes x (unfinished ch (receiver ch link.0 (system_after config log))) ≡ true
       → Ends (outcome_of x v) (is_ending first.kind) (is_letting_go first.kind))
       × (completes x (unfinished ch (receiver ch link.0 (system_after config log))) ≡ false
       → Ends (outcome_of x v) false false))
       → IsCounted (Deliver link ch) (stepped config (Deliver link ch) (system_after config log)).outcome
       (abstract_step config (Deliver link ch) (system_after config log) h)
   counted-client link ch terms x queue known beats moving first t ends =
+      let done : Bool = completes x (unfinished ch (receiver ch link.0 (system_after config log))) in
+      let follows : abstract_step config (Deliver link ch) (system_after config log) h
+      ≡ (if done then kind_taken config (next_tracker (system_after config log)) link.0 first.kind first.number
+      first.rest h else h) = cc (
+        followed-moving config link ch (system_after config log) h x queue moving beats,
+        first.tokens,
+      ) in
       subst (λ (o : Outcome w). IsCounted (Deliver link ch) o
       (abstract_step config (Deliver link ch) (system_after config log) h))
       (sym (ap (λ (y : Step w). y.outcome) t.step_is))
@@ -172,45 +146,29 @@ module _ {w : ℕ} (config : Config) (log : Log w) (h : AbstractState w) (width 
       first.number first.rest done (client_below config link.0 terms known)
       (on_same ch first.kind (h.state.link link.0) first.own ∙ first.tokens) (ends t.verdict_is t.message t.answer).0
       (ends t.verdict_is t.message t.answer).1))
-    where
-      done : Bool
-      done = completes x (unfinished ch (receiver ch link.0 (system_after config log)))
-
-      follows : abstract_step config (Deliver link ch) (system_after config log)
-          h ≡ (if done then kind_taken config (next_tracker (system_after config log)) link.0 first.kind first.number
-          first.rest h else h)
-      follows =
-          followed-moving config link ch (system_after config log) h x queue moving beats
-          ∙ ap (λ (l : List Packet). if done then packet_taken config (next_tracker (system_after config log)) link.0 l
-          h else h) first.tokens
 
   counted-b : (link : Link) (terms : EndConfig) (x : Beat w) (queue : List (Beat w))
-      → terms_at config link.0 ≡ Some terms → (system_after config log).channels link.0 channel.B ≡ x ∷ queue
-      → is_moving (stepped config (Deliver link channel.B) (system_after config log)).outcome ≡ true
-      → IsCounted (Deliver link channel.B) (stepped config (Deliver link channel.B) (system_after config log)).outcome
-      (abstract_step config (Deliver link channel.B) (system_after config log) h)
+      → terms_at config link.0 ≡ Some terms → (system_after config log).channels link.0 Channel.B ≡ x ∷ queue
+      → is_moving (stepped config (Deliver link Channel.B) (system_after config log)).outcome ≡ true
+      → IsCounted (Deliver link Channel.B) (stepped config (Deliver link Channel.B) (system_after config log)).outcome
+      (abstract_step config (Deliver link Channel.B) (system_after config log) h)
   counted-b link terms x queue known beats moving =
-      counted-client link channel.B terms x queue known beats moving first
-      (client-moves config link channel.B (system_after config log) terms x queue known beats refl moving)
+      let first = first-token (is_caching config) Channel.B link.0 h.mail h.state (system_after config log) x queue
+      width matched.invariant matched.carried beats in
+      let probe = first-probe h first in
+      counted-client link Channel.B terms x queue known beats moving first
+      (client-moves config link Channel.B (system_after config log) terms x queue known beats refl moving)
       (λ v m answer.
       let none = probe-ends x ((system_after config log).clients link.0) v m probe.0 answer in
       (λ last. (none.0 ∙ sym probe.1.0, none.1 ∙ sym probe.1.1), λ part. none))
-    where
-      first : IsFirst channel.B link.0 h.mail h.state (system_after config log) x queue
-      first = first-token (is_caching config) channel.B link.0 h.mail h.state (system_after config log) x queue width
-          matched.invariant matched.carried beats
-
-      probe : (channel_of x ≡ channel.B) × ((is_ending first.kind ≡ false) × (is_letting_go first.kind ≡ false))
-      probe = first-probe link.0 h (system_after config log) x queue first
 
   -- a response, by the opcode of its message
-  response-ends : (c : ℕ) (k : Kind) (mm : MessageD w) (i : ℕ) (x : Beat w) → x ≡ beat.D (d_beat_of mm i)
+  response-ends : (c : ℕ) (k : Kind) (mm : MessageD w) (i : ℕ) (x : Beat w) → x ≡ Beat.D (d_beat_of mm i)
       → is_access_answer mm.opcode ≡ is_ending k → is_release_ack mm.opcode ≡ is_letting_go k
-      → (v : Verdict) (m : Option (Message w)) → (offer.taken x ((system_after config log).clients c)).answer ≡ Ok
-      (v, m)
-      → (completes x (unfinished channel.D ((system_after config log).clients c).past) ≡ true
+      → (v : Verdict) (m : Option (Message w)) → (offer.taken x ((system_after config log).clients c)).answer
+      ≡ Ok (v, m) → (completes x (unfinished Channel.D ((system_after config log).clients c).past) ≡ true
       → Ends (outcome_of x v) (is_ending k) (is_letting_go k))
-      × (completes x (unfinished channel.D ((system_after config log).clients c).past) ≡ false
+      × (completes x (unfinished Channel.D ((system_after config log).clients c).past) ≡ false
       → Ends (outcome_of x v) false false)
   response-ends c k mm i x x_is access ack v m answer = (last, part)
     where
@@ -220,54 +178,52 @@ module _ {w : ℕ} (config : Config) (log : Log w) (h : AbstractState w) (width 
       y : BeatD w
       y = d_beat_of mm i
 
-      at : (b : Bool) → completes x (unfinished channel.D e.past) ≡ b
-          → completes (beat.D y) (unfinished channel.D e.past) ≡ b
-      at b f = sym (ap (λ (z : Beat w). completes z (unfinished channel.D e.past)) x_is) ∙ f
+      at : (b : Bool) → completes x (unfinished Channel.D e.past) ≡ b
+          → completes (Beat.D y) (unfinished Channel.D e.past) ≡ b
+      at b f = sym (ap (λ (z : Beat w). completes z (unfinished Channel.D e.past)) x_is) ∙ f
 
-      last : completes x (unfinished channel.D e.past) ≡ true → Ends (outcome_of x v) (is_ending k) (is_letting_go k)
+      last : completes x (unfinished Channel.D e.past) ≡ true → Ends (outcome_of x v) (is_ending k) (is_letting_go k)
       last f =
-          let same = (same_answers v (verdict.Done y.source (finish_at y e)) m (acked y.opcode y.sink)
+          let same = (same_answers v (Verdict.Done y.source (finish_at y e)) m (acked y.opcode y.sink)
           (offer.taken x e).answer answer
           (ap (λ (z : Beat w). (offer.taken z e).answer) x_is ∙ answer-last y e (at true f))).0 in
           let ends = finish-ends x y.source y.opcode y.param y.size _ _ in
           subst (λ (u : Verdict). Ends (outcome_of x u) (is_ending k) (is_letting_go k)) (sym same)
           (ends.0 ∙ access, ends.1 ∙ ack)
 
-      part : completes x (unfinished channel.D e.past) ≡ false → Ends (outcome_of x v) false false
+      part : completes x (unfinished Channel.D e.past) ≡ false → Ends (outcome_of x v) false false
       part f =
-          let same = (same_answers v verdict.Taken m None (offer.taken x e).answer answer
+          let same = (same_answers v Verdict.Taken m None (offer.taken x e).answer answer
           (ap (λ (z : Beat w). (offer.taken z e).answer) x_is ∙ answer-part y e (at false f))).0 in
           let ends = moved-ends x in
           subst (λ (u : Verdict). Ends (outcome_of x u) false false) (sym same)
           (ends.0 ∙ ap (λ (z : Beat w). is_e (channel_of z)) x_is, ends.1)
 
   counted-d : (link : Link) (terms : EndConfig) (x : Beat w) (queue : List (Beat w))
-      → terms_at config link.0 ≡ Some terms → (system_after config log).channels link.0 channel.D ≡ x ∷ queue
-      → is_moving (stepped config (Deliver link channel.D) (system_after config log)).outcome ≡ true
-      → IsCounted (Deliver link channel.D) (stepped config (Deliver link channel.D) (system_after config log)).outcome
-      (abstract_step config (Deliver link channel.D) (system_after config log) h)
-  counted-d link terms x queue known beats moving =
-      counted-client link channel.D terms x queue known beats moving first
-      (client-moves config link channel.D (system_after config log) terms x queue known beats refl moving)
+      → terms_at config link.0 ≡ Some terms → (system_after config log).channels link.0 Channel.D ≡ x ∷ queue
+      → is_moving (stepped config (Deliver link Channel.D) (system_after config log)).outcome ≡ true
+      → IsCounted (Deliver link Channel.D) (stepped config (Deliver link Channel.D) (system_after config log)).outcome
+      (abstract_step config (Deliver link Channel.D) (system_after config log) h)
+  counted-d link terms x queue known beats moving = counted-client link Channel.D terms x queue known beats moving first
+      (client-moves config link Channel.D (system_after config log) terms x queue known beats refl moving)
       (kinds first.kind first.tokens first.own first.next)
     where
       c : ℕ
       c = link.0
 
-      first : IsFirst channel.D c h.mail h.state (system_after config log) x queue
-      first = first-token (is_caching config) channel.D c h.mail h.state (system_after config log) x queue width
+      first : IsFirst Channel.D c h.mail h.state (system_after config log) x queue
+      first = first-token (is_caching config) Channel.D c h.mail h.state (system_after config log) x queue width
           matched.invariant matched.carried beats
 
       Here : Kind → Type 0
       Here k = (v : Verdict) (m : Option (Message w)) → (offer.taken x ((system_after config log).clients c)).answer
-          ≡ Ok (v, m)
-          → (completes x (unfinished channel.D ((system_after config log).clients c).past) ≡ true
+          ≡ Ok (v, m) → (completes x (unfinished Channel.D ((system_after config log).clients c).past) ≡ true
           → Ends (outcome_of x v) (is_ending k) (is_letting_go k))
-          × (completes x (unfinished channel.D ((system_after config log).clients c).past) ≡ false
+          × (completes x (unfinished Channel.D ((system_after config log).clients c).past) ≡ false
           → Ends (outcome_of x v) false false)
 
-      kinds : (k : Kind) → (h.state.link c).d ≡ packet k first.number ∷ first.rest → is_on channel.D k ≡ true
-          → IsNext x (unfinished channel.D (receiver channel.D c (system_after config log)))
+      kinds : (k : Kind) → (h.state.link c).d ≡ packet k first.number ∷ first.rest → is_on Channel.D k ≡ true
+          → IsNext x (unfinished Channel.D (receiver Channel.D c (system_after config log)))
           (message_of_kind k h.mail h.state c first.number) (map (message_of h.mail h.state c) first.rest) queue
           → Here k
       kinds Answer tokens own next =
@@ -285,12 +241,7 @@ module _ {w : ℕ} (config : Config) (log : Log w) (h : AbstractState w) (width 
           response-ends c ReleaseAck (ack_message ((h.state.block first.number).release_source c)) next.k x
           (next.beat_is ∙ ap (λ (m : Message w). beat_of m next.k)
           (rendered_release_ack c first.number (h.state.block first.number))) refl refl
-      kinds Request tokens own next = absurd cc
-      kinds Acquire tokens own next = absurd cc
-      kinds Probe tokens own next = absurd cc
-      kinds ProbeAck tokens own next = absurd cc
-      kinds Release tokens own next = absurd cc
-      kinds GrantAck tokens own next = absurd cc
+      kinds k tokens own next = absurd cc
 
   -- ---- any event
 
@@ -298,10 +249,7 @@ module _ {w : ℕ} (config : Config) (log : Log w) (h : AbstractState w) (width 
       → is_moving (stepped config (Deliver link ch) (system_after config log)).outcome ≡ b
       → IsCounted (Deliver link ch) (stepped config (Deliver link ch) (system_after config log)).outcome
       (abstract_step config (Deliver link ch) (system_after config log) h)
-  counted-delivery link ch false still =
-      subst (λ (z : AbstractState w). IsCounted (Deliver link ch)
-      (stepped config (Deliver link ch) (system_after config log)).outcome z)
-      (sym (followed-still config link ch (system_after config log) h still))
+  counted-delivery link ch false still = rw (followed-still config link ch (system_after config log) h still)
       (counted-as link ch (stepped config (Deliver link ch) (system_after config log)).outcome h false false
       (still-ends (stepped config (Deliver link ch) (system_after config log)).outcome still) unopened)
   counted-delivery link ch true moving = go ch (first-moved config link ch (system_after config log) moving) moving
@@ -311,11 +259,11 @@ module _ {w : ℕ} (config : Config) (log : Log w) (h : AbstractState w) (width 
           → is_moving (stepped config (Deliver link i) (system_after config log)).outcome ≡ true
           → IsCounted (Deliver link i) (stepped config (Deliver link i) (system_after config log)).outcome
           (abstract_step config (Deliver link i) (system_after config log) h)
-      go channel.A p m = counted-manager link channel.A p.2 p.0 p.1 p.3.1 refl p.3.0 m
-      go channel.B p m = counted-b link p.2 p.0 p.1 p.3.1 p.3.0 m
-      go channel.C p m = counted-manager link channel.C p.2 p.0 p.1 p.3.1 refl p.3.0 m
-      go channel.D p m = counted-d link p.2 p.0 p.1 p.3.1 p.3.0 m
-      go channel.E p m = counted-manager link channel.E p.2 p.0 p.1 p.3.1 refl p.3.0 m
+      go Channel.A p m = counted-manager link Channel.A p.2 p.0 p.1 p.3.1 refl p.3.0 m
+      go Channel.B p m = counted-b link p.2 p.0 p.1 p.3.1 p.3.0 m
+      go Channel.C p m = counted-manager link Channel.C p.2 p.0 p.1 p.3.1 refl p.3.0 m
+      go Channel.D p m = counted-d link p.2 p.0 p.1 p.3.1 p.3.0 m
+      go Channel.E p m = counted-manager link Channel.E p.2 p.0 p.1 p.3.1 refl p.3.0 m
 
   -- What an event starts and ends is what it opens and closes.
   pub counted-followed : (event : Event w) → IsCounted event (stepped config event (system_after config log)).outcome
@@ -330,5 +278,4 @@ module _ {w : ℕ} (config : Config) (log : Log w) (h : AbstractState w) (width 
           (abstract_step_by config (Ask c o) (stepped_at config t (Ask c o) (system_after config log)).outcome
           (system_after config log) h)
       go None e = record { requests = refl; releases = refl }
-      go (Some terms) e = balance-asked config log h (system_after config log) terms c o matched e
-          (client_below config c terms e)
+      go (Some terms) e = balance-asked h terms c o matched e (client_below config c terms e)

@@ -4,18 +4,15 @@
 use Rattle.tl_coherence.proofs.outstanding.Imports.{IsWidth, Config, Outcome, abstract_step, outstanding, Log}
 use Rattle.tl_coherence.proofs.outstanding.Imports.{system_after, next_delivery}
 use Rattle.std.proofs.Common.{◌≡◌, subst, ℕ, ◌<◌, true, [], ◌∷◌, None, length, sym, arith}
-use Rattle.std.specs.Prelude.{◌==◌, is_none}
-use Rattle.std.proofs.lemmas.Bool.Decides.{nat_tests}
+use Rattle.std.{specs.Prelude.◌==◌, specs.Prelude.is_none, proofs.lemmas.Bool.Decides.nat_tests}
 use Rattle.tl_params.specs.statement.Config.{config_fault, blocks_fit, trackers_fit, all_sources_fit}
 use Rattle.tl_params.specs.statement.Range.{is_from_to}
-use Rattle.tl_coherence.specs.statement.Headline.{AreTyped, IsGiven}
-use Rattle.tl_coherence.specs.statement.Log.{IsLog}
+use Rattle.tl_coherence.specs.{statement.Headline.AreTyped, statement.Headline.IsGiven, statement.Log.IsLog}
 use Rattle.tl_coherence.proofs.outstanding.Counted.{AreCounted, counted-first, counted-next}
-use Rattle.tl_coherence.proofs.links.HeadsOfLinks.{first-of}
-use Rattle.tl_coherence.proofs.links.FromInvariant.{coherent, matched-given}
-use Rattle.tl_coherence.proofs.deliveries.Matching.{shadow, matched}
-use Rattle.tl_coherence.proofs.outstanding.Movement.{next-while-outstanding}
-use Rattle.tl_coherence.proofs.queues.Limits.{limits-fit}
+use Rattle.tl_coherence.proofs.{links.HeadsOfLinks.first-of, links.FromInvariant.coherent}
+use Rattle.tl_coherence.proofs.{links.FromInvariant.matched-given, deliveries.Matching.shadow}
+use Rattle.tl_coherence.proofs.{deliveries.Matching.matched, outstanding.Movement.next-while-outstanding}
+use Rattle.tl_coherence.proofs.{queues.Limits.limits-fit}
 
 -- the starts of every log are its ends and what is open after it
 pub counted : {w : ℕ} (config : Config) (log : Log w) → IsWidth w → AreTyped log → IsLog config log
@@ -23,9 +20,7 @@ pub counted : {w : ℕ} (config : Config) (log : Log w) → IsWidth w → AreTyp
 unfolding shadow AreTyped IsLog
 counted config [] width typed is = counted-first config
 counted {w} config (x ∷ log) width typed is =
-    subst (λ (o : Outcome w). AreCounted config ((x.0, o) ∷ log) (abstract_step config x.0 (system_after config log)
-    (shadow config log)).state) (sym is.0)
-    (counted-next config log (shadow config log) x.0 width (matched config log width typed.1 is.1)
+    rw is.0 (counted-next (shadow config log) x.0 width (matched config log width typed.1 is.1)
     (counted config log width typed.1 is.1))
 
 -- a configuration without a fault has a tracker
@@ -34,16 +29,12 @@ some_tracker n e = grind (arith, nat_tests, e)
 
 tracked : (config : Config) → config_fault config ≡ None → 0 < config.trackers
 tracked config e = some_tracker config.trackers (limits-fit (is_from_to 1 16 (length config.clients.items))
-    (blocks_fit config.blocks)
-    (trackers_fit config.trackers) (all_sources_fit config.clients.items) e).2
+    (blocks_fit config.blocks) (trackers_fit config.trackers) (all_sources_fit config.clients.items) e).2
 
 -- a delivery is next exactly while something is outstanding
 pub moving : {w : ℕ} (config : Config) (log : Log w) → IsGiven config log
     → is_none (next_delivery config (system_after config log)) ≡ (outstanding log == 0)
-moving config log given =
-    next-while-outstanding config log (shadow config log).mail (shadow config log).request (shadow config log).state
-    (matched-given config log given)
-    (coherent config log given) (tracked config given.fits)
-    (λ c terms ch x rest at beats. first-of config log (shadow config log) c terms ch x rest given.width
-    (matched-given config log given) at beats) given.width
+moving config log given = next-while-outstanding (matched-given config log given) (coherent config log given)
+    (tracked config given.fits) (λ c terms ch x rest at beats. first-of config log (shadow config log) c terms ch x rest
+    given.width (matched-given config log given) at beats) given.width
     (counted config log given.width given.typed given.is_log)

@@ -1,34 +1,31 @@
 -- A ReleaseAck and a GrantAck that are taken keep the invariant.
 use Rattle.tl_coherence.proofs.protocol.Imports.{Channel, ClientBlock, View, Idle, Acknowledging, GrantedOther}
 use Rattle.tl_coherence.proofs.protocol.Imports.{ReleaseAcked, is_unreleased, is_unprobed, Kind, Request, Acquire}
-use Rattle.tl_coherence.proofs.protocol.Imports.{Probe, ProbeAck, Release, Answer, Grant, ReleaseAck, GrantAck, Packet}
-use Rattle.tl_coherence.proofs.protocol.Imports.{set, set_at, GrantTaken, Block, State, Link, view, packet, shows}
+use Rattle.tl_coherence.proofs.protocol.Imports.{Probe, ProbeAck, Release, Grant, ReleaseAck, GrantAck, Packet, set}
+use Rattle.tl_coherence.proofs.protocol.Imports.{set_at, GrantTaken, Block, State, Link, view, packet, shows}
 use Rattle.tl_coherence.proofs.protocol.Imports.{is_transfer, is_wanting, is_unserved, is_sent, is_answered}
 use Rattle.tl_coherence.proofs.protocol.Imports.{is_releasing, is_acked, is_granting, is_acknowledging, Move, Stays}
 use Rattle.tl_coherence.proofs.protocol.Imports.{Pushes, Pops, AreMoved, agrees, is_own_move, channel_for, is_out}
 use Rattle.tl_coherence.proofs.protocol.Imports.{is_of, acquires_of, serves_of, acquires_with, serves_with}
 use Rattle.tl_coherence.proofs.protocol.Imports.{releases_with, tracks_with, IsWell, IsInvariant}
 use Rattle.std.proofs.Common.{◌≡◌, refl, sym, ◌∙◌, ap, inl, inr}
-use Rattle.std.specs.Prelude.{ℕ, Bool, true, false, not, List, ◌∷◌, ◌==◌, ◌&&◌, Some, None}
-use Rattle.std.proofs.lemmas.Bool.{cases_eq, ne_eqb}
-use Rattle.std.proofs.Math.Bool.{and-false}
-use Rattle.tl_beat.specs.declared.channel.Channel.TheVariants as channel
+use Rattle.std.specs.Prelude.{ℕ, Bool, true, false, not, List, ◌∷◌, ◌==◌, ◌&&◌, None}
+use Rattle.std.{proofs.lemmas.Bool.cases_eq, proofs.lemmas.Bool.ne_eqb, proofs.Math.Bool.and-false}
 use Rattle.tl_coherence.specs.protocol.PhaseSteps.{after_release_ack}
 use Rattle.tl_coherence.specs.protocol.Protocol.{let_go_block, release_ack_taken, freed_block, grant_ack_taken}
 use Rattle.tl_coherence.proofs.queues.Moves.{moves_at, event-at, bare-at, names-block, names-set, names-set_at}
 use Rattle.tl_coherence.proofs.queues.Moves.{invariant-moved}
-use Rattle.tl_coherence.proofs.queues.KindMoves.{same_again}
+use Rattle.tl_coherence.proofs.{queues.KindMoves.same_again, protocol.BothParts.is_of-is}
 use Rattle.tl_coherence.proofs.queues.Tokens.{same_number, set-same, set-other, set-part}
 use Rattle.tl_coherence.proofs.queues.PhaseSteps.{release_ack-ok, ack_taken-ok, ack_taken_other-ok}
 use Rattle.tl_coherence.proofs.protocol.Blocks.{gentle-same, awaited-same, asked_cap-same, alone-set, owned-set}
 use Rattle.tl_coherence.proofs.protocol.Blocks.{outside-set, busy-inside}
-use Rattle.tl_coherence.proofs.protocol.BothParts.{is_of-is}
 
 -- ---- a ReleaseAck
 
-pub let_go-block : {X : Type 0} (caching : ℕ → Bool) (c : ℕ) (b : Block X) → IsWell caching b
+pub let_go-block : {X : Type 0} {caching : ℕ → Bool} (c : ℕ) {b : Block X} → IsWell caching b
     → (b.pair c).letting ≡ ReleaseAcked → IsWell caching (let_go_block c b)
-let_go-block caching c b h acked =
+let_go-block {caching} c {b} h acked =
     let after : ClientBlock = after_release_ack (b.pair c) in
     let held_same = set-part (λ (p : ClientBlock). p.held) c after b.pair refl in
     let recorded_same = set-part (λ (p : ClientBlock). p.recorded) c after b.pair refl in
@@ -43,8 +40,8 @@ let_go-block caching c b h acked =
       asked_cap = asked_cap-same b.service b.pair (set c after b.pair)
           (set-part (λ (p : ClientBlock). p.acquiring) c after b.pair refl) h.asked_cap;
       own_source = h.own_source;
-      alone = alone-set c after b.pair (gentle-same (b.pair c) after refl refl) h.alone;
-      one_owner = owned-set c after b.pair (gentle-same (b.pair c) after refl refl) h.one_owner;
+      alone = alone-set c b.pair (gentle-same (b.pair c) after refl refl) h.alone;
+      one_owner = owned-set c b.pair (gentle-same (b.pair c) after refl refl) h.one_owner;
       outside = outside-set caching c after b.pair (busy-inside caching c b.pair (λ p. is_acked p.letting) refl
           (rw acked refl) h.outside) h.outside;
       copies = λ d some. h.copies d (rw (held_same d) at some);
@@ -52,13 +49,11 @@ let_go-block caching c b h acked =
     }
 
 abbrev pub let_go_moves : ℕ → Channel → Move
-let_go_moves n channel.D = Pops ReleaseAck n
+let_go_moves n Channel.D = Pops ReleaseAck n
 let_go_moves n _ = Stays
 
 let_go_shows : (n : ℕ) (k : Kind) (p : ClientBlock) (v : View) → is_transfer k ≡ true → p.letting ≡ ReleaseAcked
     → agrees (let_go_moves n (channel_for k)) k n (shows k p v) (shows k (after_release_ack p) v) ≡ true
-let_go_shows n Request p v t e = absurd cc
-let_go_shows n Answer p v t e = absurd cc
 let_go_shows n Acquire p v t e = same_again (is_wanting p.acquiring && is_unserved v)
 let_go_shows n Probe p v t e = same_again (is_sent p.probing)
 let_go_shows n ProbeAck p v t e = same_again (is_answered p.probing)
@@ -66,15 +61,24 @@ let_go_shows n Release p v t e = rw e refl
 let_go_shows n Grant p v t e = same_again (is_granting v)
 let_go_shows n ReleaseAck p v t e = rw (same_number n) refl
 let_go_shows n GrantAck p v t e = same_again (is_acknowledging v)
+let_go_shows n k p v t e = absurd cc
 
-pub release_ack_taken-kept : {X : Type 0} (caching : ℕ → Bool) (c n : ℕ) (rest : List Packet) (s : State X)
+pub release_ack_taken-kept : {X : Type 0} {caching : ℕ → Bool} (c n : ℕ) (rest : List Packet) {s : State X}
     → IsInvariant caching s → (s.link c).d ≡ packet ReleaseAck n ∷ rest
     → ((s.block n).pair c).letting ≡ ReleaseAcked → IsInvariant caching (release_ack_taken c n rest s)
-release_ack_taken-kept {X} caching c n rest s inv first acked =
+release_ack_taken-kept {X} {caching} c n rest {s} inv first acked =
+    let here : Link = record (s.link c) { d = rest } in
+    let moved : AreMoved (let_go_moves n) (s.link c) here = elim [ Channel.D ↦ first | _ ↦ refl ] in
+    let own : (ch : Channel) → is_own_move ch (let_go_moves n ch) ≡ true = elim [ Channel.A ↦ refl | ch ↦ refl ] in
+    let old : ℕ → ClientBlock = (s.block n).pair in
+    let after : ClientBlock = after_release_ack (old c) in
+    let new : Block X = let_go_block c (s.block n) in
+    let source : ℕ = (s.block n).release_source c in
+    let used = is_of-is n (s.lets c source) (inv.named.releases c source n ∙ rw (acked, same_number source) refl) in
     invariant-moved caching n new (set c here s.link) (moves_at c (let_go_moves n)) (set_at c source None s.lets)
     s.tracked s inv
-    (event-at caching c n new here (let_go_moves n) s (record {
-      well = let_go-block caching c (s.block n) (inv.blocks n) acked;
+    (event-at (record {
+      well = let_go-block c (inv.blocks n) acked;
       moved = moved;
       own = own;
       fits = λ k t. rw (set-same c after old) (let_go_shows n k (old c) (view (s.block n).service c) t acked);
@@ -88,76 +92,40 @@ release_ack_taken-kept {X} caching c n rest s inv first acked =
           (λ i. rw (set-part (λ (p : ClientBlock). p.acquiring) c after old refl d) refl) (inv.named.acquires d);
       serves = λ d. names-block serves_of (serves_with d) (s.uses d) n new s.block (λ i. refl) (inv.named.serves d);
       releases = names-set_at is_of releases_with c source None s.lets n new s.block (rw (set-same c after old) refl)
-          (λ m ne. rw used (sym (ne_eqb m n ne)))
-          (λ i ne. rw (set-same c after old, ne_eqb i source ne)
+          (λ m ne. rw used (sym (ne_eqb m n ne))) (λ i ne. rw (set-same c after old, ne_eqb i source ne)
           (sym (and-false (not (is_unreleased (old c).letting))))) (λ d i ne. rw (set-other c d after old ne) refl)
           inv.named.releases;
       trackers = names-block is_of tracks_with s.tracked n new s.block (λ i. refl) inv.named.trackers;
     })
-  where
-    old : ℕ → ClientBlock
-    old = (s.block n).pair
-
-    after : ClientBlock
-    after = after_release_ack (old c)
-
-    new : Block X
-    new = let_go_block c (s.block n)
-
-    here : Link
-    here = record (s.link c) { d = rest }
-
-    source : ℕ
-    source = (s.block n).release_source c
-
-    used : s.lets c source ≡ Some n
-    used = is_of-is n (s.lets c source) (inv.named.releases c source n ∙ rw (acked, same_number source) refl)
-
-    moved : AreMoved (let_go_moves n) (s.link c) here
-    moved channel.A = refl
-    moved channel.B = refl
-    moved channel.C = refl
-    moved channel.D = first
-    moved channel.E = refl
-
-    own : (ch : Channel) → is_own_move ch (let_go_moves n ch) ≡ true
-    own channel.A = refl
-    own channel.B = refl
-    own channel.C = refl
-    own channel.D = refl
-    own channel.E = refl
 
 -- ---- a GrantAck
 
-pub freed-block : {X : Type 0} (caching : ℕ → Bool) (c : ℕ) (b : Block X) → IsWell caching b → b.service ≡ GrantTaken c
+pub freed-block : {X : Type 0} {caching : ℕ → Bool} (c : ℕ) {b : Block X} → IsWell caching b → b.service ≡ GrantTaken c
     → IsWell caching (freed_block b)
-freed-block caching c b h taken = record {
-  phases = λ d. elim (cases_eq d c) [
-    | inl same ↦ rw same (ack_taken-ok (b.pair c) (view b.service c) (h.phases c) (rw (taken, same_number c) refl))
-    | inr other ↦ ack_taken_other-ok (b.pair d) (view b.service d) (h.phases d) (rw (taken, ne_eqb d c other) refl)
-  ];
-  awaited = tt;
-  asked_cap = tt;
-  own_source = tt;
-  alone = h.alone;
-  one_owner = h.one_owner;
-  outside = h.outside;
-  copies = h.copies;
-  memory = λ none. h.memory (λ d. ungranted d (d == c) refl ∙ none d);
-}
-  where
-    ungranted : (d : ℕ) (x : Bool) → (d == c) ≡ x → is_out (b.pair d) (view b.service d) ≡ is_out (b.pair d) Idle
-    ungranted d true e = rw (taken, e) refl
-    ungranted d false e = rw (taken, e) refl
+freed-block c {b} h taken =
+    let ungranted : (d : ℕ) (x : Bool) → (d == c) ≡ x → is_out (b.pair d) (view b.service d) ≡ is_out (b.pair d) Idle =
+    λ d. elim [ true ↦ λ e. rw (taken, e) refl | false ↦ λ e. rw (taken, e) refl ] in
+    record {
+      phases = λ d. elim (cases_eq d c) [
+        | inl same ↦ rw same (ack_taken-ok (b.pair c) (view b.service c) (h.phases c) (rw (taken, same_number c) refl))
+        | inr other ↦ ack_taken_other-ok (b.pair d) (view b.service d) (h.phases d) (rw (taken, ne_eqb d c other) refl)
+      ];
+      awaited = tt;
+      asked_cap = tt;
+      own_source = tt;
+      alone = h.alone;
+      one_owner = h.one_owner;
+      outside = h.outside;
+      copies = h.copies;
+      memory = λ none. h.memory (λ d. ungranted d (d == c) refl ∙ none d);
+    }
 
 abbrev pub freed_moves : ℕ → Channel → Move
-freed_moves n channel.E = Pops GrantAck n
+freed_moves n Channel.E = Pops GrantAck n
 freed_moves n _ = Stays
 
 freed_shows : (n : ℕ) (k : Kind) (p : ClientBlock) → is_transfer k ≡ true
     → agrees (freed_moves n (channel_for k)) k n (shows k p Acknowledging) (shows k p Idle) ≡ true
-freed_shows n Request p t = absurd cc
-freed_shows n Answer p t = absurd cc
 freed_shows n Acquire p t = same_again (is_wanting p.acquiring && true)
 freed_shows n Probe p t = same_again (is_sent p.probing)
 freed_shows n ProbeAck p t = same_again (is_answered p.probing)
@@ -165,27 +133,25 @@ freed_shows n Release p t = same_again (is_releasing p.letting)
 freed_shows n Grant p t = refl
 freed_shows n ReleaseAck p t = same_again (is_acked p.letting)
 freed_shows n GrantAck p t = rw (same_number n) refl
+freed_shows n k p t = absurd cc
 
 freed_beside : (k : Kind) (p : ClientBlock) → shows k p Idle ≡ shows k p GrantedOther
 freed_beside Request p = refl
-freed_beside Answer p = refl
-freed_beside Acquire p = refl
-freed_beside Probe p = refl
-freed_beside ProbeAck p = refl
-freed_beside Release p = refl
-freed_beside Grant p = refl
-freed_beside ReleaseAck p = refl
-freed_beside GrantAck p = refl
+freed_beside k p = refl
 
-pub grant_ack_taken-kept : {X : Type 0} (caching : ℕ → Bool) (c n : ℕ) (rest : List Packet) (s : State X)
-    → IsInvariant caching s → (s.link c).e ≡ packet GrantAck n ∷ rest
-    → (s.block n).service ≡ GrantTaken c
+pub grant_ack_taken-kept : {X : Type 0} {caching : ℕ → Bool} (c n : ℕ) (rest : List Packet) {s : State X}
+    → IsInvariant caching s → (s.link c).e ≡ packet GrantAck n ∷ rest → (s.block n).service ≡ GrantTaken c
     → IsInvariant caching (grant_ack_taken c n rest s)
-grant_ack_taken-kept {X} caching c n rest s inv first taken =
+grant_ack_taken-kept {X} {caching} c n rest {s} inv first taken =
+    let here : Link = record (s.link c) { e = rest } in
+    let moved : AreMoved (freed_moves n) (s.link c) here = elim [ Channel.E ↦ first | _ ↦ refl ] in
+    let own : (ch : Channel) → is_own_move ch (freed_moves n ch) ≡ true = elim [ Channel.A ↦ refl | ch ↦ refl ] in
+    let new : Block X = freed_block (s.block n) in
+    let used = is_of-is n (s.tracked tracker) (inv.named.trackers tracker n ∙ rw (taken, same_number tracker) refl) in
     invariant-moved caching n new (set c here s.link) (moves_at c (freed_moves n)) s.lets (set tracker None s.tracked) s
     inv
-    (event-at caching c n new here (freed_moves n) s (record {
-      well = freed-block caching c (s.block n) (inv.blocks n) taken;
+    (event-at (record {
+      well = freed-block c (inv.blocks n) taken;
       moved = moved;
       own = own;
       fits = λ k t. rw (taken, same_number c) (freed_shows n k ((s.block n).pair c) t);
@@ -203,28 +169,5 @@ grant_ack_taken-kept {X} caching c n rest s inv first taken =
           (λ m ne. rw used (sym (ne_eqb m n ne))) (λ i ne. rw (taken, ne_eqb i tracker ne) refl) inv.named.trackers;
     })
   where
-    new : Block X
-    new = freed_block (s.block n)
-
-    here : Link
-    here = record (s.link c) { e = rest }
-
     tracker : ℕ
     tracker = (s.block n).tracker
-
-    used : s.tracked tracker ≡ Some n
-    used = is_of-is n (s.tracked tracker) (inv.named.trackers tracker n ∙ rw (taken, same_number tracker) refl)
-
-    moved : AreMoved (freed_moves n) (s.link c) here
-    moved channel.A = refl
-    moved channel.B = refl
-    moved channel.C = refl
-    moved channel.D = refl
-    moved channel.E = first
-
-    own : (ch : Channel) → is_own_move ch (freed_moves n ch) ≡ true
-    own channel.A = refl
-    own channel.B = refl
-    own channel.C = refl
-    own channel.D = refl
-    own channel.E = refl

@@ -1,16 +1,13 @@
 -- What the messages of a block are made of, before and after each event.
-use Rattle.tl_coherence.proofs.protocol.Imports.{Cap, Prune, Report, ClientBlock}
-use Rattle.tl_coherence.proofs.protocol.Imports.{ProbePhase, ProbeSent}
-use Rattle.tl_coherence.proofs.protocol.Imports.{after_grant_sent, after_report}
-use Rattle.tl_coherence.proofs.protocol.Imports.{after_grant, Kind, Request, Acquire, Probe, ProbeAck, Release, Answer}
-use Rattle.tl_coherence.proofs.protocol.Imports.{Grant, ReleaseAck, GrantAck, set, Free, Waits, GrantSent}
-use Rattle.tl_coherence.proofs.protocol.Imports.{GrantTaken, Block, view, is_wanting, is_unserved, is_sent, is_answered}
-use Rattle.tl_coherence.proofs.protocol.Imports.{is_releasing, shown}
-use Rattle.tl_coherence.proofs.protocol.Imports.{granted_block, taken_block}
+use Rattle.tl_coherence.proofs.protocol.Imports.{Cap, Prune, Report, ClientBlock, ProbePhase, ProbeSent}
+use Rattle.tl_coherence.proofs.protocol.Imports.{after_grant_sent, after_report, after_grant, Kind, Request, Acquire}
+use Rattle.tl_coherence.proofs.protocol.Imports.{Probe, ProbeAck, Release, Answer, Grant, ReleaseAck, GrantAck, set}
+use Rattle.tl_coherence.proofs.protocol.Imports.{Free, Waits, GrantSent, GrantTaken, Block, view, is_wanting}
+use Rattle.tl_coherence.proofs.protocol.Imports.{is_unserved, is_sent, is_answered, is_releasing, shown, granted_block}
+use Rattle.tl_coherence.proofs.protocol.Imports.{taken_block}
 use Rattle.std.proofs.Common.{◌≡◌, ℕ, Bool, true, false, ◌&&◌, List, refl, sym, ◌∙◌, ap, ◌⊎◌, inl, inr}
 use Rattle.std.proofs.lemmas.Bool.{cases_eq}
-use Rattle.tl_coherence.specs.protocol.PhaseSteps.{after_probe}
-use Rattle.tl_coherence.specs.protocol.PhaseSteps.{after_release_taken, after_release_ack}
+use Rattle.tl_coherence.specs.protocol.PhaseSteps.{after_probe, after_release_taken, after_release_ack}
 use Rattle.tl_coherence.specs.protocol.Protocol.{probed_block, reported_block, ended_block, let_block, let_go_block}
 use Rattle.tl_coherence.specs.protocol.Protocol.{freed_block}
 use Rattle.tl_coherence.proofs.queues.Showing.{AreAlike, carries}
@@ -44,8 +41,6 @@ alike-probed c k b sent i = elim (cases_eq i c) [
     unsaid x e f = let h : false ≡ true = rw e at f in cc
 
     here : AreAlike c b new
-    here Request e f = (tt, inr refl)
-    here Answer e f = (tt, inr refl)
     here Acquire e f = ((part (λ p. p.acquiring) refl c, refl), inr refl)
     here Probe e f = absurd (gone (set c after b.pair c) (pair_at c after b.pair) f)
     here ProbeAck e f = absurd (unsaid (b.pair c).probing sent e)
@@ -53,10 +48,9 @@ alike-probed c k b sent i = elim (cases_eq i c) [
     here Grant e f = ((refl, refl, refl), inr refl)
     here ReleaseAck e f = (refl, inr refl)
     here GrantAck e f = (refl, inr refl)
+    here _ e f = (tt, inr refl)
 
     there : (i ≡ c → ⊥) → AreAlike i b new
-    there ne Request e f = (tt, inr refl)
-    there ne Answer e f = (tt, inr refl)
     there ne Acquire e f = ((part (λ p. p.acquiring) refl i, refl), inr refl)
     there ne Probe e f = (ap (λ (p : ClientBlock). p.probing) (set-other c i after b.pair ne), inr refl)
     there ne ProbeAck e f = (ap (λ (p : ClientBlock). p.probing) (set-other c i after b.pair ne), inr refl)
@@ -64,6 +58,7 @@ alike-probed c k b sent i = elim (cases_eq i c) [
     there ne Grant e f = ((refl, refl, refl), inr refl)
     there ne ReleaseAck e f = (refl, inr refl)
     there ne GrantAck e f = (refl, inr refl)
+    there ne _ e f = (tt, inr refl)
 
 never : (x y : Bool) → x ≡ false → x ≡ true → ⊥
 never x y e f = let g : false ≡ true = sym e ∙ f in cc
@@ -89,8 +84,6 @@ alike-reported c r b i = go (cases_eq i c)
         absurd (never _ true (ap (λ (p : ClientBlock). is_answered p.probing) (ap new.pair same ∙ here)) e)
 
     go : (i ≡ c) ⊎ (i ≡ c → ⊥) → AreAlike i b new
-    go at Request e f = (tt, inr refl)
-    go at Answer e f = (tt, inr refl)
     go at Acquire e f = ((set-part (λ (p : ClientBlock). p.acquiring) c after b.pair refl i, refl), inr refl)
     go at Probe e f = (probing at (inl f), inr refl)
     go at ProbeAck e f = (probing at (inr f), inr refl)
@@ -98,13 +91,13 @@ alike-reported c r b i = go (cases_eq i c)
     go at Grant e f = ((refl, refl, refl), inr refl)
     go at ReleaseAck e f = (refl, inr refl)
     go at GrantAck e f = (refl, inr refl)
+    go at _ e f = (tt, inr refl)
 
 -- the bytes change only where nothing that is left carries them
 pub alike-ended : (c q source : ℕ) (r : Report) (k : Cap) (f : List ℕ → List ℕ) (b : Block (List ℕ))
     → b.service ≡ Waits q false source k
     → ((j : Kind) (i : ℕ) → shown j i b ≡ true → shown j i (ended_block c r f b) ≡ true → (carries j i b ≡ false)
-    ⊎ (f b.truth ≡ b.truth))
-    → (i : ℕ) → AreAlike i b (ended_block c r f b)
+    ⊎ (f b.truth ≡ b.truth)) → (i : ℕ) → AreAlike i b (ended_block c r f b)
 alike-ended c q source r k f b waits bytes i = go (cases_eq i c)
   where
     after : ClientBlock
@@ -125,8 +118,6 @@ alike-ended c q source r k f b waits bytes i = go (cases_eq i c)
         absurd (never _ true (ap (λ (p : ClientBlock). is_answered p.probing) (ap new.pair same ∙ here)) e)
 
     go : (i ≡ c) ⊎ (i ≡ c → ⊥) → AreAlike i b new
-    go at Request e g = (tt, inl refl)
-    go at Answer e g = (tt, inl refl)
     go at Acquire e g = ((set-part (λ (p : ClientBlock). p.acquiring) c after b.pair refl i, refl), inl refl)
     go at Probe e g = (probing at (inl g), inl refl)
     go at ProbeAck e g = (probing at (inr g), bytes ProbeAck i e g)
@@ -136,10 +127,10 @@ alike-ended c q source r k f b waits bytes i = go (cases_eq i c)
     go at ReleaseAck e g = (refl, inl refl)
     go at GrantAck e g = absurd (unacknowledged b.service i (Waits q false source k) waits
         (waits_unacknowledged false q source k i) e)
+    go at _ e g = (tt, inl refl)
 
 pub alike-granted : (c q source : ℕ) (r : Report) (own d : Bool) (k gift : Cap) (b : Block (List ℕ))
-    → b.service ≡ Waits q own source k → (c ≡ q → ⊥) → (i : ℕ)
-    → AreAlike i b (granted_block c q r d gift b)
+    → b.service ≡ Waits q own source k → (c ≡ q → ⊥) → (i : ℕ) → AreAlike i b (granted_block c q r d gift b)
 alike-granted c q source r own d k gift b waits apart i = go (cases_eq i c)
   where
     reported : ℕ → ClientBlock
@@ -164,8 +155,7 @@ alike-granted c q source r own d k gift b waits apart i = go (cases_eq i c)
 
     probing : (i ≡ c) ⊎ (i ≡ c → ⊥) → (is_sent (new.pair i).probing ≡ true) ⊎ (is_answered (new.pair i).probing ≡ true)
         → (new.pair i).probing ≡ (b.pair i).probing
-    probing (inr ne) shows_it = probing_part ∙ ap (λ (p : ClientBlock). p.probing)
-        (set-other c i (after_report r (b.pair c)) b.pair ne)
+    probing (inr ne) shows_it = cc (probing_part, set-other c i (after_report r (b.pair c)) b.pair ne)
     probing (inl same) (inl e) =
         absurd (never _ true (ap is_sent probing_part ∙ ap (λ (p : ClientBlock). is_sent p.probing)
         (ap reported same ∙ here)) e)
@@ -178,8 +168,6 @@ alike-granted c q source r own d k gift b waits apart i = go (cases_eq i c)
     left f e g = part f e i ∙ set-part f c (after_report r (b.pair c)) b.pair g i
 
     go : (i ≡ c) ⊎ (i ≡ c → ⊥) → AreAlike i b new
-    go at Request e f = (tt, inr refl)
-    go at Answer e f = (tt, inr refl)
     go at Acquire e f = ((left (λ p. p.acquiring) refl refl, refl), inr refl)
     go at Probe e f = (probing at (inl f), inr refl)
     go at ProbeAck e f = (probing at (inr f), inr refl)
@@ -188,6 +176,7 @@ alike-granted c q source r own d k gift b waits apart i = go (cases_eq i c)
     go at ReleaseAck e f = (refl, inr refl)
     go at GrantAck e f = absurd (unacknowledged b.service i (Waits q own source k) waits
         (waits_unacknowledged own q source k i) e)
+    go at _ e f = (tt, inr refl)
 
 -- ---- a Release, and its answer
 
@@ -207,8 +196,6 @@ alike-let c r b i = go (cases_eq i c)
         (never _ true (ap (λ (p : ClientBlock). is_releasing p.letting) (ap new.pair same ∙ pair_at c after b.pair)) e)
 
     go : (i ≡ c) ⊎ (i ≡ c → ⊥) → AreAlike i b new
-    go at Request e f = (tt, inr refl)
-    go at Answer e f = (tt, inr refl)
     go at Acquire e f = ((set-part (λ (p : ClientBlock). p.acquiring) c after b.pair refl i, refl), inr refl)
     go at Probe e f = (set-part (λ (p : ClientBlock). p.probing) c after b.pair refl i, inr refl)
     go at ProbeAck e f = (set-part (λ (p : ClientBlock). p.probing) c after b.pair refl i, inr refl)
@@ -216,6 +203,7 @@ alike-let c r b i = go (cases_eq i c)
     go at Grant e f = ((refl, refl, refl), inr refl)
     go at ReleaseAck e f = (refl, inr refl)
     go at GrantAck e f = (refl, inr refl)
+    go at _ e f = (tt, inr refl)
 
 pub alike-let_go : (c : ℕ) (b : Block (List ℕ)) → (i : ℕ) → AreAlike i b (let_go_block c b)
 alike-let_go c b i = go (cases_eq i c)
@@ -233,8 +221,6 @@ alike-let_go c b i = go (cases_eq i c)
         (never _ true (ap (λ (p : ClientBlock). is_releasing p.letting) (ap new.pair same ∙ pair_at c after b.pair)) e)
 
     go : (i ≡ c) ⊎ (i ≡ c → ⊥) → AreAlike i b new
-    go at Request e f = (tt, inr refl)
-    go at Answer e f = (tt, inr refl)
     go at Acquire e f = ((set-part (λ (p : ClientBlock). p.acquiring) c after b.pair refl i, refl), inr refl)
     go at Probe e f = (set-part (λ (p : ClientBlock). p.probing) c after b.pair refl i, inr refl)
     go at ProbeAck e f = (set-part (λ (p : ClientBlock). p.probing) c after b.pair refl i, inr refl)
@@ -242,13 +228,13 @@ alike-let_go c b i = go (cases_eq i c)
     go at Grant e f = ((refl, refl, refl), inr refl)
     go at ReleaseAck e f = (refl, inr refl)
     go at GrantAck e f = (refl, inr refl)
+    go at _ e f = (tt, inr refl)
 
 -- ---- a Grant, and its answer
 
 pub alike-taken : (c : ℕ) (whole d : Bool) (k : Cap) (b : Block (List ℕ)) → b.service ≡ GrantSent c d k
     → ((j : Kind) (i : ℕ) → shown j i b ≡ true → shown j i (taken_block c whole d k b) ≡ true → (carries j i b ≡ false)
-    ⊎ ((taken_block c whole d k b).truth ≡ b.truth))
-    → (i : ℕ) → AreAlike i b (taken_block c whole d k b)
+    ⊎ ((taken_block c whole d k b).truth ≡ b.truth)) → (i : ℕ) → AreAlike i b (taken_block c whole d k b)
 alike-taken c whole d k b sent bytes i = go (cases_eq i c)
   where
     after : ClientBlock
@@ -265,8 +251,6 @@ alike-taken c whole d k b sent bytes i = go (cases_eq i c)
         (ap new.pair same ∙ pair_at c after b.pair)) e)
 
     go : (i ≡ c) ⊎ (i ≡ c → ⊥) → AreAlike i b new
-    go at Request e f = (tt, inl refl)
-    go at Answer e f = (tt, inl refl)
     go at Acquire e f = ((acquiring at (is_unserved (view new.service i)) f, refl), inl refl)
     go at Probe e f = (set-part (λ (p : ClientBlock). p.probing) c after b.pair refl i, inl refl)
     go at ProbeAck e f = (set-part (λ (p : ClientBlock). p.probing) c after b.pair refl i, bytes ProbeAck i e f)
@@ -274,6 +258,7 @@ alike-taken c whole d k b sent bytes i = go (cases_eq i c)
     go at Grant e f = absurd (ungranted new.service i (GrantTaken c) refl (taken_ungranted c i) f)
     go at ReleaseAck e f = (refl, inl refl)
     go at GrantAck e f = absurd (unacknowledged b.service i (GrantSent c d k) sent (sent_unacknowledged c d k i) e)
+    go at _ e f = (tt, inl refl)
 
 pub alike-freed : (c : ℕ) (b : Block (List ℕ)) → b.service ≡ GrantTaken c → (i : ℕ) → AreAlike i b (freed_block b)
 alike-freed c b taken i = go
@@ -282,9 +267,7 @@ alike-freed c b taken i = go
     go Request e f = (tt, inr refl)
     go Answer e f = (tt, inr refl)
     go Acquire e f = ((refl, refl), inr refl)
-    go Probe e f = (refl, inr refl)
-    go ProbeAck e f = (refl, inr refl)
     go Release e f = ((refl, refl), inr refl)
     go Grant e f = absurd (ungranted b.service i (GrantTaken c) taken (taken_ungranted c i) e)
-    go ReleaseAck e f = (refl, inr refl)
     go GrantAck e f = absurd (unacknowledged (freed_block b).service i Free refl refl f)
+    go _ e f = (refl, inr refl)

@@ -1,31 +1,26 @@
 -- An access that is answered as it is taken, and an answer that is taken, keep the invariant.
-use Rattle.tl_coherence.proofs.protocol.Imports.{Channel, same_perm, Kind, Request, Acquire, Probe, ProbeAck, Release}
-use Rattle.tl_coherence.proofs.protocol.Imports.{Answer, Grant, ReleaseAck, GrantAck, Packet, set, Block, State, Link}
-use Rattle.tl_coherence.proofs.protocol.Imports.{SourceFree, Asked, Replied, view, packet, shown, is_transfer, Move}
-use Rattle.tl_coherence.proofs.protocol.Imports.{Stays, Pushes, Pops, AreMoved, is_own_move, channel_for, is_of}
-use Rattle.tl_coherence.proofs.protocol.Imports.{acquires_of, serves_of, acquires_with, serves_with, releases_with}
-use Rattle.tl_coherence.proofs.protocol.Imports.{tracks_with, IsWell, IsInvariant}
+use Rattle.tl_coherence.proofs.protocol.Imports.{Channel, same_perm, Kind, Request, ProbeAck, Answer, Packet}
+use Rattle.tl_coherence.proofs.protocol.Imports.{Block, State, Link, Asked, Replied, view, packet, shown}
+use Rattle.tl_coherence.proofs.protocol.Imports.{is_transfer, Move, Stays, Pushes, Pops, AreMoved, is_own_move}
+use Rattle.tl_coherence.proofs.protocol.Imports.{channel_for, is_of, acquires_of, serves_of, acquires_with, serves_with}
+use Rattle.tl_coherence.proofs.protocol.Imports.{releases_with, tracks_with, IsWell, IsInvariant, Perm}
 use Rattle.std.proofs.Common.{◌≡◌, refl, sym, ◌∙◌, ap, ◌⊎◌, inl, inr}
 use Rattle.std.specs.Prelude.{ℕ, Bool, true, false, List, ◌∷◌}
-use Rattle.tl_beat.specs.declared.channel.Channel.TheVariants as channel
-use Rattle.tl_params.specs.declared.perm.Perm.TheVariants as perm
 use Rattle.tl_coherence.specs.protocol.Protocol.{performed_block, answered_link, access_answered, answer_taken}
-use Rattle.tl_coherence.proofs.queues.Moves.{moves_at, event-at, bare-elsewhere}
-use Rattle.tl_coherence.proofs.queues.KindMoves.{spares, spared-agrees}
-use Rattle.tl_coherence.proofs.queues.Moves.{invariant-moved_access, names-block, names-set_at, invariant-moved_use}
-use Rattle.tl_coherence.proofs.queues.Tokens.{same_number}
-use Rattle.tl_coherence.proofs.queues.Facts.{held_at_most}
-use Rattle.tl_coherence.proofs.queues.Perms.{nothing_below}
+use Rattle.tl_coherence.proofs.queues.Moves.{event-at, bare-elsewhere, invariant-moved_access, names-block}
+use Rattle.tl_coherence.proofs.queues.Moves.{names-set_at, invariant-moved_use}
+use Rattle.tl_coherence.proofs.{queues.KindMoves.spares, queues.KindMoves.spared-agrees, queues.Tokens.same_number}
+use Rattle.tl_coherence.proofs.{queues.Facts.held_at_most, queues.Perms.nothing_below}
 
 -- ---- the block
 
 -- the access leaves the bytes as they are, or nobody has a copy
 abbrev pub Spares : {X : Type 0} → (X → X) → Block X → Type 0
-Spares f b = (f b.truth ≡ b.truth) ⊎ ((d : ℕ) → same_perm (b.pair d).recorded perm.None ≡ true)
+Spares f b = (f b.truth ≡ b.truth) ⊎ ((d : ℕ) → same_perm (b.pair d).recorded Perm.None ≡ true)
 
-pub performed-block : {X : Type 0} (caching : ℕ → Bool) (f : X → X) (b : Block X) → IsWell caching b → Spares f b
+pub performed-block : {X : Type 0} {caching : ℕ → Bool} (f : X → X) {b : Block X} → IsWell caching b → Spares f b
     → IsWell caching (performed_block f b)
-performed-block {X} caching f b h spared = record {
+performed-block {X} f {b} h spared = record {
   phases = h.phases;
   awaited = h.awaited;
   asked_cap = h.asked_cap;
@@ -37,7 +32,7 @@ performed-block {X} caching f b h spared = record {
   memory = λ none. ap f (h.memory none);
 }
   where
-    copy_is : (d : ℕ) → same_perm (b.pair d).held perm.None ≡ false → Spares f b → b.copy d ≡ f b.truth
+    copy_is : (d : ℕ) → same_perm (b.pair d).held Perm.None ≡ false → Spares f b → b.copy d ≡ f b.truth
     copy_is d some (inl same) = h.copies d some ∙ sym same
     copy_is d some (inr none) =
         absurd (let no = nothing_below (b.pair d).held (b.pair d).recorded
@@ -48,30 +43,27 @@ performed-block {X} caching f b h spared = record {
 
 -- an access is taken and its answer handed out
 abbrev pub answer_moves : ℕ → Channel → Move
-answer_moves source channel.A = Pops Request source
-answer_moves source channel.D = Pushes Answer source
+answer_moves source Channel.A = Pops Request source
+answer_moves source Channel.D = Pushes Answer source
 answer_moves source _ = Stays
 
 answer_spared : (source : ℕ) (k : Kind) → is_transfer k ≡ true → spares (answer_moves source (channel_for k)) k ≡ true
 answer_spared source Request t = absurd cc
 answer_spared source Answer t = absurd cc
-answer_spared source Acquire t = refl
-answer_spared source Probe t = refl
-answer_spared source ProbeAck t = refl
-answer_spared source Release t = refl
-answer_spared source Grant t = refl
-answer_spared source ReleaseAck t = refl
-answer_spared source GrantAck t = refl
+answer_spared source k t = refl
 
-pub access_answered-kept : {X : Type 0} (caching : ℕ → Bool) (c n source : ℕ) (f : X → X) (rest : List Packet)
-    (s : State X) → IsInvariant caching s → (s.link c).a ≡ packet Request source ∷ rest
-    → s.uses c source ≡ Asked
+pub access_answered-kept : {X : Type 0} {caching : ℕ → Bool} (c n source : ℕ) (f : X → X) (rest : List Packet)
+    {s : State X} → IsInvariant caching s → (s.link c).a ≡ packet Request source ∷ rest → s.uses c source ≡ Asked
     → Spares f (s.block n) → IsInvariant caching (access_answered c n source f rest s)
-access_answered-kept {X} caching c n source f rest s inv first asked spared =
-    invariant-moved_use caching n new (set c here s.link) (moves_at c (answer_moves source)) c source Replied s.tracked
-    s inv
-    (event-at caching c n new here (answer_moves source) s (record {
-      well = performed-block caching f (s.block n) (inv.blocks n) spared;
+access_answered-kept {X} {caching} c n source f rest {s} inv first asked spared =
+    let here : Link = answered_link (packet Answer source) rest (s.link c) in
+    let moved : AreMoved (answer_moves source) (s.link c) here = elim [ Channel.A ↦ first | _ ↦ refl ] in
+    let own : (ch : Channel) → is_own_move ch (answer_moves source ch) ≡ true = elim [ Channel.A ↦ refl | ch ↦ refl ] in
+    let new : Block X = performed_block f (s.block n) in
+    invariant-moved_use c source Replied s.tracked
+    inv
+    (event-at (record {
+      well = performed-block f (inv.blocks n) spared;
       moved = moved;
       own = own;
       fits = λ k t. spared-agrees (answer_moves source (channel_for k)) k n (shown k c (s.block n))
@@ -91,49 +83,26 @@ access_answered-kept {X} caching c n source f rest s inv first asked spared =
       releases = λ d. names-block is_of (releases_with d) (s.lets d) n new s.block (λ i. refl) (inv.named.releases d);
       trackers = names-block is_of tracks_with s.tracked n new s.block (λ i. refl) inv.named.trackers;
     })
-  where
-    new : Block X
-    new = performed_block f (s.block n)
-
-    here : Link
-    here = answered_link (packet Answer source) rest (s.link c)
-
-    moved : AreMoved (answer_moves source) (s.link c) here
-    moved channel.A = first
-    moved channel.B = refl
-    moved channel.C = refl
-    moved channel.D = refl
-    moved channel.E = refl
-
-    own : (ch : Channel) → is_own_move ch (answer_moves source ch) ≡ true
-    own channel.A = refl
-    own channel.B = refl
-    own channel.C = refl
-    own channel.D = refl
-    own channel.E = refl
 
 -- an answer is taken
 abbrev pub done_moves : ℕ → Channel → Move
-done_moves source channel.D = Pops Answer source
+done_moves source Channel.D = Pops Answer source
 done_moves source _ = Stays
 
 done_spared : (source : ℕ) (k : Kind) → is_transfer k ≡ true → spares (done_moves source (channel_for k)) k ≡ true
 done_spared source Request t = absurd cc
 done_spared source Answer t = absurd cc
-done_spared source Acquire t = refl
-done_spared source Probe t = refl
-done_spared source ProbeAck t = refl
-done_spared source Release t = refl
-done_spared source Grant t = refl
-done_spared source ReleaseAck t = refl
-done_spared source GrantAck t = refl
+done_spared source k t = refl
 
-pub answer_taken-kept : {X : Type 0} (caching : ℕ → Bool) (c source : ℕ) (rest : List Packet) (s : State X)
-    → IsInvariant caching s → (s.link c).d ≡ packet Answer source ∷ rest
-    → s.uses c source ≡ Replied
+pub answer_taken-kept : {X : Type 0} {caching : ℕ → Bool} (c source : ℕ) (rest : List Packet) {s : State X}
+    → IsInvariant caching s → (s.link c).d ≡ packet Answer source ∷ rest → s.uses c source ≡ Replied
     → IsInvariant caching (answer_taken c source rest s)
-answer_taken-kept caching c source rest s inv first replied = invariant-moved_access caching c source SourceFree here
-    (done_moves source) s inv (record {
+answer_taken-kept {caching} c source rest {s} inv first replied =
+    let here : Link = record (s.link c) { d = rest } in
+    let moved : AreMoved (done_moves source) (s.link c) here = elim [ Channel.D ↦ first | _ ↦ refl ] in
+    let own : (ch : Channel) → is_own_move ch (done_moves source ch) ≡ true = elim [ Channel.A ↦ refl | ch ↦ refl ] in
+    invariant-moved_access
+    inv (record {
       moved = moved;
       own = own;
       spared = done_spared source;
@@ -143,20 +112,3 @@ answer_taken-kept caching c source rest s inv first replied = invariant-moved_ac
       acquires = λ m. rw replied refl;
       serves = λ m. rw replied refl;
     })
-  where
-    here : Link
-    here = record (s.link c) { d = rest }
-
-    moved : AreMoved (done_moves source) (s.link c) here
-    moved channel.A = refl
-    moved channel.B = refl
-    moved channel.C = refl
-    moved channel.D = first
-    moved channel.E = refl
-
-    own : (ch : Channel) → is_own_move ch (done_moves source ch) ≡ true
-    own channel.A = refl
-    own channel.B = refl
-    own channel.C = refl
-    own channel.D = refl
-    own channel.E = refl

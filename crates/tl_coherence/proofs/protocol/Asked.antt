@@ -3,7 +3,7 @@ use Rattle.tl_coherence.proofs.protocol.Imports.{Channel, Grow, Prune, Perm, pru
 use Rattle.tl_coherence.proofs.protocol.Imports.{Own, NoRelease, NoAcquire, AcquireOpen, is_unacquired, is_unprobed}
 use Rattle.tl_coherence.proofs.protocol.Imports.{Kind, Request, Acquire, Probe, ProbeAck, Release, Answer, Grant}
 use Rattle.tl_coherence.proofs.protocol.Imports.{ReleaseAck, GrantAck, set, set_at, Block, State, Link, SourceFree}
-use Rattle.tl_coherence.proofs.protocol.Imports.{Asked, Acquires, view, packet, shows, shown, is_transfer, is_wanting}
+use Rattle.tl_coherence.proofs.protocol.Imports.{Acquires, view, packet, shows, shown, is_transfer, is_wanting}
 use Rattle.tl_coherence.proofs.protocol.Imports.{is_unserved, is_sent, is_answered, is_releasing, is_acked, is_granting}
 use Rattle.tl_coherence.proofs.protocol.Imports.{is_acknowledging, Move, Stays, Pushes, AreMoved, agrees, is_own_move}
 use Rattle.tl_coherence.proofs.protocol.Imports.{channel_for, is_out, is_of, acquires_of, serves_of, acquires_with}
@@ -11,33 +11,27 @@ use Rattle.tl_coherence.proofs.protocol.Imports.{serves_with, releases_with, tra
 use Rattle.std.proofs.Common.{◌≡◌, refl, sym, ◌∙◌, ap, inl, inr}
 use Rattle.std.specs.Prelude.{ℕ, Bool, true, false, not, ◌&&◌, Some, None}
 use Rattle.std.proofs.lemmas.Bool.{cases_eq, ne_eqb}
-use Rattle.tl_beat.specs.declared.channel.Channel.TheVariants as channel
-use Rattle.tl_params.specs.declared.param.Prune.TheVariants as prune
-use Rattle.tl_params.specs.declared.perm.Perm.TheVariants as perm
 use Rattle.tl_coherence.specs.protocol.Phase.{grow_fits}
 use Rattle.tl_coherence.specs.protocol.PhaseSteps.{after_acquire, after_release}
 use Rattle.tl_coherence.specs.protocol.Protocol.{with_a, with_c, acquiring_block, releasing_block, stored_block}
 use Rattle.tl_coherence.specs.protocol.Protocol.{access_asked, acquire_asked, release_asked, block_stored}
-use Rattle.tl_coherence.proofs.queues.Phases.{and_left}
-use Rattle.tl_coherence.proofs.queues.PhaseSteps.{acquire-ok, release-ok}
+use Rattle.tl_coherence.proofs.{queues.Phases.and_left, queues.PhaseSteps.acquire-ok, queues.PhaseSteps.release-ok}
+use Rattle.tl_coherence.proofs.{queues.KindMoves.spares, queues.KindMoves.same_again, queues.Perms.nothing_below}
 use Rattle.tl_coherence.proofs.queues.Facts.{own_wants, held_at_most, held_out, unserved_calm}
 use Rattle.tl_coherence.proofs.protocol.Blocks.{awaited-same, asked_cap-same, asked_cap-other, own_source-other}
 use Rattle.tl_coherence.proofs.protocol.Blocks.{gentle-same, alone-set, owned-set, outside-set}
-use Rattle.tl_coherence.proofs.queues.Moves.{moves_at, event-at, bare-at, bare-elsewhere}
-use Rattle.tl_coherence.proofs.queues.KindMoves.{spares}
-use Rattle.tl_coherence.proofs.queues.Moves.{invariant-moved_access, names-kept, names-block, names-set_at}
-use Rattle.tl_coherence.proofs.queues.Moves.{invariant-moved, invariant-moved_use}
-use Rattle.tl_coherence.proofs.queues.KindMoves.{same_again}
+use Rattle.tl_coherence.proofs.queues.Moves.{moves_at, event-at, bare-at, bare-elsewhere, invariant-moved_access}
+use Rattle.tl_coherence.proofs.queues.Moves.{names-kept, names-block, names-set_at, invariant-moved}
+use Rattle.tl_coherence.proofs.queues.Moves.{invariant-moved_use}
 use Rattle.tl_coherence.proofs.queues.Tokens.{same_number, set-same, set-other, set-part}
-use Rattle.tl_coherence.proofs.queues.Perms.{nothing_below}
 
 -- ---- blocks
 
-pub acquiring-block : {X : Type 0} (caching : ℕ → Bool) (c source : ℕ) (whole : Bool) (g : Grow) (bytes : X)
-    (b : Block X) → IsWell caching b → caching c ≡ true → (b.pair c).acquiring ≡ NoAcquire
+pub acquiring-block : {X : Type 0} {caching : ℕ → Bool} (c source : ℕ) (whole : Bool) (g : Grow) (bytes : X)
+    {b : Block X} → IsWell caching b → caching c ≡ true → (b.pair c).acquiring ≡ NoAcquire
     → (b.pair c).letting ≡ NoRelease
     → grow_fits (b.pair c).held (AcquireOpen whole g) ≡ true → IsWell caching (acquiring_block c source whole g bytes b)
-acquiring-block caching c source whole g bytes b h inside calm kept fits =
+acquiring-block {caching} c source whole g bytes {b} h inside calm kept fits =
     let after : ClientBlock = after_acquire whole g (b.pair c) in
     let held_same = set-part (λ (p : ClientBlock). p.held) c after b.pair refl in
     let recorded_same = set-part (λ (p : ClientBlock). p.recorded) c after b.pair refl in
@@ -51,8 +45,8 @@ acquiring-block caching c source whole g bytes b h inside calm kept fits =
           (set-part (λ (p : ClientBlock). is_unprobed p.probing) c after b.pair refl) h.awaited;
       asked_cap = asked_cap-other b.service c after b.pair (λ e. not_own e) h.asked_cap;
       own_source = own_source-other b.service c source b.source (λ e. not_own e) h.own_source;
-      alone = alone-set c after b.pair (gentle-same (b.pair c) after refl refl) h.alone;
-      one_owner = owned-set c after b.pair (gentle-same (b.pair c) after refl refl) h.one_owner;
+      alone = alone-set c b.pair (gentle-same (b.pair c) after refl refl) h.alone;
+      one_owner = owned-set c b.pair (gentle-same (b.pair c) after refl refl) h.one_owner;
       outside = outside-set caching c after b.pair (λ e. absurd (let f : true ≡ false = sym inside ∙ e in cc))
           h.outside;
       copies = λ d some. h.copies d (rw (held_same d) at some);
@@ -64,17 +58,17 @@ acquiring-block caching c source whole g bytes b h inside calm kept fits =
         own_wants (b.pair c) (view b.service c) (h.phases c) e in let g : false ≡ true = rw calm at f in absurd cc
 
 -- what is given up was held
-left_some : (r : Prune) (p : Perm) → same_perm p (prune_left r) ≡ true → same_perm p perm.None ≡ false
-left_some prune.TtoB perm.None e = absurd cc
-left_some prune.TtoN perm.None e = absurd cc
-left_some prune.BtoN perm.None e = absurd cc
-left_some r perm.Branch e = refl
-left_some r perm.Trunk e = refl
+left_some : (r : Prune) (p : Perm) → same_perm p (prune_left r) ≡ true → same_perm p Perm.None ≡ false
+left_some Prune.TtoB Perm.None e = absurd cc
+left_some Prune.TtoN Perm.None e = absurd cc
+left_some Prune.BtoN Perm.None e = absurd cc
+left_some r Perm.Branch e = refl
+left_some r Perm.Trunk e = refl
 
-pub releasing-block : {X : Type 0} (caching : ℕ → Bool) (c source : ℕ) (r : Prune) (b : Block X) → IsWell caching b
+pub releasing-block : {X : Type 0} {caching : ℕ → Bool} (c source : ℕ) (r : Prune) {b : Block X} → IsWell caching b
     → caching c ≡ true → (b.pair c).acquiring ≡ NoAcquire → (b.pair c).letting ≡ NoRelease
     → same_perm (b.pair c).held (prune_left r) ≡ true → IsWell caching (releasing_block c source r b)
-releasing-block caching c source r b h inside calm kept fits =
+releasing-block {caching} c source r {b} h inside calm kept fits =
     let after : ClientBlock = after_release r (b.pair c) in
     let recorded_same = set-part (λ (p : ClientBlock). p.recorded) c after b.pair refl in
     record {
@@ -88,8 +82,8 @@ releasing-block caching c source r b h inside calm kept fits =
       asked_cap = asked_cap-same b.service b.pair (set c after b.pair)
           (set-part (λ (p : ClientBlock). p.acquiring) c after b.pair refl) h.asked_cap;
       own_source = h.own_source;
-      alone = alone-set c after b.pair (gentle-same (b.pair c) after refl refl) h.alone;
-      one_owner = owned-set c after b.pair (gentle-same (b.pair c) after refl refl) h.one_owner;
+      alone = alone-set c b.pair (gentle-same (b.pair c) after refl refl) h.alone;
+      one_owner = owned-set c b.pair (gentle-same (b.pair c) after refl refl) h.one_owner;
       outside = outside-set caching c after b.pair (λ e. absurd (let f : true ≡ false = sym inside ∙ e in cc))
           h.outside;
       copies = λ d some. elim (cases_eq d c) [
@@ -100,52 +94,46 @@ releasing-block caching c source r b h inside calm kept fits =
     }
 
 pub stored-block : {X : Type 0} (caching : ℕ → Bool) (c : ℕ) (bytes : X) (b : Block X) → IsWell caching b
-    → same_perm (b.pair c).held perm.Trunk ≡ true → IsWell caching (stored_block c bytes b)
-stored-block caching c bytes b h may = record {
-  phases = h.phases;
-  awaited = h.awaited;
-  asked_cap = h.asked_cap;
-  own_source = h.own_source;
-  alone = h.alone;
-  one_owner = h.one_owner;
-  outside = h.outside;
-  copies = λ d some. elim (cases_eq d c) [
-    | inl same ↦ rw same (set-same c bytes b.copy)
-    | inr other ↦ absurd (let none =
-        nothing_below (b.pair d).held (b.pair d).recorded (held_at_most (b.pair d) (view b.service d) (h.phases d))
-        (h.one_owner c d owns other) in let differs : true ≡ false = sym none ∙ some in cc)
-  ];
-  memory = λ none. absurd (let differs : true ≡ false = sym out ∙ none c in cc);
-}
-  where
-    out : is_out (b.pair c) (view b.service c) ≡ true
-    out = held_out (b.pair c) (view b.service c) (h.phases c) may
-
-    owns : same_perm (b.pair c).recorded perm.Trunk ≡ true
-    owns = and_left (same_perm (b.pair c).recorded perm.Trunk) (not (is_granting (view b.service c))) out
+    → same_perm (b.pair c).held Perm.Trunk ≡ true → IsWell caching (stored_block c bytes b)
+stored-block caching c bytes b h may =
+    let out : is_out (b.pair c) (view b.service c) ≡ true = held_out (b.pair c) (view b.service c) (h.phases c) may in
+    let owns = and_left (same_perm (b.pair c).recorded Perm.Trunk) (not (is_granting (view b.service c))) out in
+    record {
+      phases = h.phases;
+      awaited = h.awaited;
+      asked_cap = h.asked_cap;
+      own_source = h.own_source;
+      alone = h.alone;
+      one_owner = h.one_owner;
+      outside = h.outside;
+      copies = λ d some. elim (cases_eq d c) [
+        | inl same ↦ rw same (set-same c bytes b.copy)
+        | inr other ↦ absurd (let none =
+            nothing_below (b.pair d).held (b.pair d).recorded (held_at_most (b.pair d) (view b.service d) (h.phases d))
+            (h.one_owner c d owns other) in let differs : true ≡ false = sym none ∙ some in cc)
+      ];
+      memory = λ none. absurd (let differs : true ≡ false = sym out ∙ none c in cc);
+    }
 
 -- ---- the whole
 
 -- an access: one token on channel A, and one source
 abbrev pub access_moves : ℕ → Channel → Move
-access_moves source channel.A = Pushes Request source
+access_moves source Channel.A = Pushes Request source
 access_moves source _ = Stays
 
 access_spared : (source : ℕ) (k : Kind) → is_transfer k ≡ true → spares (access_moves source (channel_for k)) k ≡ true
 access_spared source Request t = absurd cc
 access_spared source Answer t = absurd cc
-access_spared source Acquire t = refl
-access_spared source Probe t = refl
-access_spared source ProbeAck t = refl
-access_spared source Release t = refl
-access_spared source Grant t = refl
-access_spared source ReleaseAck t = refl
-access_spared source GrantAck t = refl
+access_spared source k t = refl
 
-pub access_asked-kept : {X : Type 0} (caching : ℕ → Bool) (c source : ℕ) (s : State X) → IsInvariant caching s
+pub access_asked-kept : {X : Type 0} {caching : ℕ → Bool} (c source : ℕ) {s : State X} → IsInvariant caching s
     → s.uses c source ≡ SourceFree → IsInvariant caching (access_asked c source s)
-access_asked-kept caching c source s inv closed =
-    invariant-moved_access caching c source Asked (with_a (packet Request source) (s.link c)) (access_moves source) s
+access_asked-kept {caching} c source {s} inv closed =
+    let moved : AreMoved (access_moves source) (s.link c) (with_a (packet Request source) (s.link c)) =
+    elim [ Channel.A ↦ refl | _ ↦ refl ] in
+    let own : (ch : Channel) → is_own_move ch (access_moves source ch) ≡ true = elim [ Channel.A ↦ refl | ch ↦ refl ] in
+    invariant-moved_access
     inv (record {
       moved = moved;
       own = own;
@@ -156,32 +144,16 @@ access_asked-kept caching c source s inv closed =
       acquires = λ m. rw closed refl;
       serves = λ m. rw closed refl;
     })
-  where
-    moved : AreMoved (access_moves source) (s.link c) (with_a (packet Request source) (s.link c))
-    moved channel.A = refl
-    moved channel.B = refl
-    moved channel.C = refl
-    moved channel.D = refl
-    moved channel.E = refl
-
-    own : (ch : Channel) → is_own_move ch (access_moves source ch) ≡ true
-    own channel.A = refl
-    own channel.B = refl
-    own channel.C = refl
-    own channel.D = refl
-    own channel.E = refl
 
 -- an Acquire
 abbrev pub acquire_moves : ℕ → Channel → Move
-acquire_moves n channel.A = Pushes Acquire n
+acquire_moves n Channel.A = Pushes Acquire n
 acquire_moves n _ = Stays
 
 -- the client's Acquire isn't served before it is open
 acquire_shows : (n : ℕ) (k : Kind) (whole : Bool) (g : Grow) (p : ClientBlock) (v : View) → is_transfer k ≡ true
     → p.acquiring ≡ NoAcquire → is_unserved v ≡ true
     → agrees (acquire_moves n (channel_for k)) k n (shows k p v) (shows k (after_acquire whole g p) v) ≡ true
-acquire_shows n Request whole g p v t calm out = absurd cc
-acquire_shows n Answer whole g p v t calm out = absurd cc
 acquire_shows n Acquire whole g p v t calm out = rw (calm, out, same_number n) refl
 acquire_shows n Probe whole g p v t calm out = same_again (is_sent p.probing)
 acquire_shows n ProbeAck whole g p v t calm out = same_again (is_answered p.probing)
@@ -189,17 +161,24 @@ acquire_shows n Release whole g p v t calm out = same_again (is_releasing p.lett
 acquire_shows n Grant whole g p v t calm out = same_again (is_granting v)
 acquire_shows n ReleaseAck whole g p v t calm out = same_again (is_acked p.letting)
 acquire_shows n GrantAck whole g p v t calm out = same_again (is_acknowledging v)
+acquire_shows n k whole g p v t calm out = absurd cc
 
-pub acquire_asked-kept : {X : Type 0} (caching : ℕ → Bool) (c n source : ℕ) (whole : Bool) (g : Grow) (bytes : X)
-    (s : State X) → IsInvariant caching s → caching c ≡ true → s.uses c source ≡ SourceFree
+pub acquire_asked-kept : {X : Type 0} {caching : ℕ → Bool} (c n source : ℕ) (whole : Bool) (g : Grow) (bytes : X)
+    {s : State X} → IsInvariant caching s → caching c ≡ true → s.uses c source ≡ SourceFree
     → ((s.block n).pair c).acquiring ≡ NoAcquire → ((s.block n).pair c).letting ≡ NoRelease
     → grow_fits ((s.block n).pair c).held (AcquireOpen whole g) ≡ true
     → IsInvariant caching (acquire_asked c n source whole g bytes s)
-acquire_asked-kept {X} caching c n source whole g bytes s inv inside closed calm kept fits =
-    invariant-moved_use caching n new (set c here s.link) (moves_at c (acquire_moves n)) c source (Acquires n) s.tracked
-    s inv
-    (event-at caching c n new here (acquire_moves n) s (record {
-      well = acquiring-block caching c source whole g bytes (s.block n) (inv.blocks n) inside calm kept fits;
+acquire_asked-kept {X} {caching} c n source whole g bytes {s} inv inside closed calm kept fits =
+    let here : Link = with_a (packet Acquire n) (s.link c) in
+    let moved : AreMoved (acquire_moves n) (s.link c) here = elim [ Channel.A ↦ refl | _ ↦ refl ] in
+    let own : (ch : Channel) → is_own_move ch (acquire_moves n ch) ≡ true = elim [ Channel.A ↦ refl | ch ↦ refl ] in
+    let old : ℕ → ClientBlock = (s.block n).pair in
+    let after : ClientBlock = after_acquire whole g (old c) in
+    let new : Block X = acquiring_block c source whole g bytes (s.block n) in
+    invariant-moved_use c source (Acquires n) s.tracked
+    inv
+    (event-at (record {
+      well = acquiring-block c source whole g bytes (inv.blocks n) inside calm kept fits;
       moved = moved;
       own = own;
       fits = λ k t. rw (set-same c after old) (acquire_shows n k whole g (old c) (view (s.block n).service c) t calm
@@ -223,43 +202,15 @@ acquire_asked-kept {X} caching c n source whole g bytes s inv inside closed calm
           (λ i. rw (set-part (λ (p : ClientBlock). p.letting) c after old refl d) refl) (inv.named.releases d);
       trackers = names-block is_of tracks_with s.tracked n new s.block (λ i. refl) inv.named.trackers;
     })
-  where
-    old : ℕ → ClientBlock
-    old = (s.block n).pair
-
-    after : ClientBlock
-    after = after_acquire whole g (old c)
-
-    new : Block X
-    new = acquiring_block c source whole g bytes (s.block n)
-
-    here : Link
-    here = with_a (packet Acquire n) (s.link c)
-
-    moved : AreMoved (acquire_moves n) (s.link c) here
-    moved channel.A = refl
-    moved channel.B = refl
-    moved channel.C = refl
-    moved channel.D = refl
-    moved channel.E = refl
-
-    own : (ch : Channel) → is_own_move ch (acquire_moves n ch) ≡ true
-    own channel.A = refl
-    own channel.B = refl
-    own channel.C = refl
-    own channel.D = refl
-    own channel.E = refl
 
 -- a Release
 abbrev pub release_moves : ℕ → Channel → Move
-release_moves n channel.C = Pushes Release n
+release_moves n Channel.C = Pushes Release n
 release_moves n _ = Stays
 
 release_shows : (n : ℕ) (k : Kind) (r : Prune) (p : ClientBlock) (v : View) → is_transfer k ≡ true
     → p.letting ≡ NoRelease
     → agrees (release_moves n (channel_for k)) k n (shows k p v) (shows k (after_release r p) v) ≡ true
-release_shows n Request r p v t kept = absurd cc
-release_shows n Answer r p v t kept = absurd cc
 release_shows n Acquire r p v t kept = same_again (is_wanting p.acquiring && is_unserved v)
 release_shows n Probe r p v t kept = same_again (is_sent p.probing)
 release_shows n ProbeAck r p v t kept = same_again (is_answered p.probing)
@@ -267,16 +218,23 @@ release_shows n Release r p v t kept = rw (kept, same_number n) refl
 release_shows n Grant r p v t kept = same_again (is_granting v)
 release_shows n ReleaseAck r p v t kept = rw kept refl
 release_shows n GrantAck r p v t kept = same_again (is_acknowledging v)
+release_shows n k r p v t kept = absurd cc
 
-pub release_asked-kept : {X : Type 0} (caching : ℕ → Bool) (c n source : ℕ) (r : Prune) (s : State X)
+pub release_asked-kept : {X : Type 0} {caching : ℕ → Bool} (c n source : ℕ) (r : Prune) {s : State X}
     → IsInvariant caching s → caching c ≡ true → s.lets c source ≡ None
     → ((s.block n).pair c).acquiring ≡ NoAcquire → ((s.block n).pair c).letting ≡ NoRelease
     → same_perm ((s.block n).pair c).held (prune_left r) ≡ true → IsInvariant caching (release_asked c n source r s)
-release_asked-kept {X} caching c n source r s inv inside closed calm kept fits =
+release_asked-kept {X} {caching} c n source r {s} inv inside closed calm kept fits =
+    let here : Link = with_c (packet Release n) (s.link c) in
+    let moved : AreMoved (release_moves n) (s.link c) here = elim [ Channel.A ↦ refl | _ ↦ refl ] in
+    let own : (ch : Channel) → is_own_move ch (release_moves n ch) ≡ true = elim [ Channel.A ↦ refl | ch ↦ refl ] in
+    let old : ℕ → ClientBlock = (s.block n).pair in
+    let after : ClientBlock = after_release r (old c) in
+    let new : Block X = releasing_block c source r (s.block n) in
     invariant-moved caching n new (set c here s.link) (moves_at c (release_moves n)) (set_at c source (Some n) s.lets)
     s.tracked s inv
-    (event-at caching c n new here (release_moves n) s (record {
-      well = releasing-block caching c source r (s.block n) (inv.blocks n) inside calm kept fits;
+    (event-at (record {
+      well = releasing-block c source r (inv.blocks n) inside calm kept fits;
       moved = moved;
       own = own;
       fits = λ k t. rw (set-same c after old) (release_shows n k r (old c) (view (s.block n).service c) t kept);
@@ -291,46 +249,18 @@ release_asked-kept {X} caching c n source r s inv inside closed calm kept fits =
       serves = λ d. names-block serves_of (serves_with d) (s.uses d) n new s.block (λ i. refl) (inv.named.serves d);
       releases = names-set_at is_of releases_with c source (Some n) s.lets n new s.block
           (rw (same_number n, set-same c after old, set-same c source (s.block n).release_source, same_number source)
-          refl)
-          (λ m ne. rw closed (ne_eqb m n ne))
+          refl) (λ m ne. rw closed (ne_eqb m n ne))
           (λ i ne. rw (set-same c after old, set-same c source (s.block n).release_source, ne_eqb i source ne, kept)
-          refl)
-          (λ d i ne. rw (set-other c d after old ne, set-other c d source (s.block n).release_source ne) refl)
+          refl) (λ d i ne. rw (set-other c d after old ne, set-other c d source (s.block n).release_source ne) refl)
           inv.named.releases;
       trackers = names-block is_of tracks_with s.tracked n new s.block (λ i. refl) inv.named.trackers;
     })
-  where
-    old : ℕ → ClientBlock
-    old = (s.block n).pair
-
-    after : ClientBlock
-    after = after_release r (old c)
-
-    new : Block X
-    new = releasing_block c source r (s.block n)
-
-    here : Link
-    here = with_c (packet Release n) (s.link c)
-
-    moved : AreMoved (release_moves n) (s.link c) here
-    moved channel.A = refl
-    moved channel.B = refl
-    moved channel.C = refl
-    moved channel.D = refl
-    moved channel.E = refl
-
-    own : (ch : Channel) → is_own_move ch (release_moves n ch) ≡ true
-    own channel.A = refl
-    own channel.B = refl
-    own channel.C = refl
-    own channel.D = refl
-    own channel.E = refl
 
 -- a store
 pub block_stored-kept : {X : Type 0} (caching : ℕ → Bool) (c n : ℕ) (bytes : X) (s : State X) → IsInvariant caching s
-    → same_perm ((s.block n).pair c).held perm.Trunk ≡ true
-    → IsInvariant caching (block_stored c n bytes s)
+    → same_perm ((s.block n).pair c).held Perm.Trunk ≡ true → IsInvariant caching (block_stored c n bytes s)
 block_stored-kept {X} caching c n bytes s inv may =
+    let new : Block X = stored_block c bytes (s.block n) in
     invariant-moved caching n new s.link (λ d ch. Stays) s.lets s.tracked s inv (record {
       well = stored-block caching c bytes (s.block n) (inv.blocks n) may;
       moved = λ d ch. refl;
@@ -338,6 +268,3 @@ block_stored-kept {X} caching c n bytes s inv may =
       fits = λ d k t. same_again (shown k d (s.block n));
       in_order = λ d m e. absurd (let f : Stays ≡ Pushes ProbeAck m = e in cc);
     }) (λ d. (refl, refl)) (names-kept n new s.link s inv.named (λ d i. refl) (λ d i. refl) (λ d i. refl) (λ i. refl))
-  where
-    new : Block X
-    new = stored_block c bytes (s.block n)

@@ -2,30 +2,22 @@
 use Rattle.tl_coherence.proofs.protocol.Imports.{Channel, Cap, Grow, Perm, cap_right, same_perm, ClientBlock, Idle}
 use Rattle.tl_coherence.proofs.protocol.Imports.{Granting, GrantedOther, AcquireOpen, same_cap, is_unacquired}
 use Rattle.tl_coherence.proofs.protocol.Imports.{is_unprobed, cap_fits, is_above, is_granted_data, after_grant_sent}
-use Rattle.tl_coherence.proofs.protocol.Imports.{Kind, Request, Acquire, Probe, ProbeAck, Release, Answer, Grant}
-use Rattle.tl_coherence.proofs.protocol.Imports.{ReleaseAck, GrantAck, Packet, set, Free, Block, State, Link, view}
-use Rattle.tl_coherence.proofs.protocol.Imports.{packet, shows, is_transfer, is_wanting, is_sent, is_answered}
-use Rattle.tl_coherence.proofs.protocol.Imports.{is_releasing, is_acked, Move, Stays, Pushes, Pops, AreMoved, agrees}
-use Rattle.tl_coherence.proofs.protocol.Imports.{is_own_move, channel_for, is_of, acquires_of, serves_of, acquires_with}
-use Rattle.tl_coherence.proofs.protocol.Imports.{serves_with, releases_with, tracks_with, IsWell, IsInvariant}
-use Rattle.tl_coherence.proofs.protocol.Imports.{cap_asked}
+use Rattle.tl_coherence.proofs.protocol.Imports.{Kind, Request, Acquire, Probe, ProbeAck, Release, Grant, ReleaseAck}
+use Rattle.tl_coherence.proofs.protocol.Imports.{GrantAck, Packet, set, Free, Block, State, Link, view, packet, shows}
+use Rattle.tl_coherence.proofs.protocol.Imports.{is_transfer, is_wanting, is_sent, is_answered, is_releasing, is_acked}
+use Rattle.tl_coherence.proofs.protocol.Imports.{Move, Stays, Pushes, Pops, AreMoved, agrees, is_own_move, channel_for}
+use Rattle.tl_coherence.proofs.protocol.Imports.{is_of, acquires_of, serves_of, acquires_with, serves_with}
+use Rattle.tl_coherence.proofs.protocol.Imports.{releases_with, tracks_with, IsWell, IsInvariant, cap_asked}
 use Rattle.std.proofs.Common.{◌≡◌, refl, sym, ◌∙◌, ◌⊎◌, inl, inr}
 use Rattle.std.specs.Prelude.{ℕ, Bool, true, false, not, List, ◌∷◌, Some, None}
 use Rattle.std.proofs.lemmas.Bool.{cases_eq, ne_eqb}
-use Rattle.tl_beat.specs.declared.channel.Channel.TheVariants as channel
-use Rattle.tl_params.specs.declared.param.Cap.TheVariants as cap
-use Rattle.tl_params.specs.declared.param.Grow.TheVariants as grow
-use Rattle.tl_params.specs.declared.perm.Perm.TheVariants as perm
 use Rattle.tl_coherence.specs.protocol.Protocol.{granted_at_once, answered_link, acquire_granted}
 use Rattle.tl_coherence.proofs.queues.Moves.{moves_at, event-at, bare-at, names-block, names-set, invariant-moved}
-use Rattle.tl_coherence.proofs.queues.KindMoves.{same_again}
+use Rattle.tl_coherence.proofs.{queues.KindMoves.same_again, queues.Facts.asked_low, queues.PhaseFacts.quiet_at_rest}
+use Rattle.tl_coherence.proofs.{protocol.Blocks.busy-inside, protocol.Blocks.outside-set, queues.Perms.not_out}
 use Rattle.tl_coherence.proofs.queues.Tokens.{same_number, set-same, set-other, set-part}
 use Rattle.tl_coherence.proofs.queues.PhaseSteps.{grant_at_once-ok, granted_other-ok}
-use Rattle.tl_coherence.proofs.queues.Facts.{asked_low}
-use Rattle.tl_coherence.proofs.queues.PhaseFacts.{quiet_at_rest}
 use Rattle.tl_coherence.proofs.protocol.Granted.{gives, none_or_trunk, grows_to_trunk}
-use Rattle.tl_coherence.proofs.protocol.Blocks.{busy-inside, outside-set}
-use Rattle.tl_coherence.proofs.queues.Perms.{not_out}
 
 -- ---- the block
 
@@ -34,29 +26,35 @@ pub record IsGrantable {X : Type 0} (r : ℕ) (whole : Bool) (g : Grow) (gift : 
   pub free : b.service ≡ Free
   pub wants : (b.pair r).acquiring ≡ AcquireOpen whole g
   pub fits : cap_fits whole g gift ≡ true
-  pub low : (d : ℕ) → (d ≡ r → ⊥) → same_perm (b.pair d).recorded perm.Trunk ≡ false
-  pub room : same_cap gift cap.ToT ≡ true → (d : ℕ) → (d ≡ r → ⊥) → same_perm (b.pair d).recorded perm.None ≡ true
+  pub low : (d : ℕ) → (d ≡ r → ⊥) → same_perm (b.pair d).recorded Perm.Trunk ≡ false
+  pub room : same_cap gift Cap.ToT ≡ true → (d : ℕ) → (d ≡ r → ⊥) → same_perm (b.pair d).recorded Perm.None ≡ true
 
-pub granted_at_once-block : {X : Type 0} (caching : ℕ → Bool) (r tracker : ℕ) (whole : Bool) (g : Grow) (gift : Cap)
-    (b : Block X) → IsWell caching b → IsGrantable r whole g gift b
+pub granted_at_once-block : {X : Type 0} {caching : ℕ → Bool} {r : ℕ} (tracker : ℕ) {whole : Bool} {g : Grow}
+    {gift : Cap}
+    {b : Block X} → IsWell caching b → IsGrantable r whole g gift b
     → IsWell caching (granted_at_once r tracker (is_granted_data whole g (b.pair r).recorded) gift b)
-granted_at_once-block caching r tracker whole g gift b h is = record {
-  phases = λ d. elim (cases_eq d r) [
-    | inl same ↦ rw (same, set-same r after b.pair, same_number r)
-        (grant_at_once-ok whole g gift (b.pair r) (view b.service r) (h.phases r) (idle r) is.wants is.fits)
-    | inr other ↦ rw (set-other r d after b.pair other, ne_eqb d r other)
-        (granted_other-ok (b.pair d) (view b.service d) (h.phases d) (idle d) (is.low d other))
-  ];
-  awaited = tt;
-  asked_cap = tt;
-  own_source = tt;
-  alone = λ i j trunk probed ne. rw (quiet_same j) (quiet j);
-  one_owner = λ i j trunk ne. owner (gives whole g gift is.fits) i j trunk ne;
-  outside = outside-set caching r after b.pair (busy-inside caching r b.pair (λ p. not (is_unacquired p.acquiring)) refl
-      (rw is.wants refl) h.outside) h.outside;
-  copies = λ d some. h.copies d (rw (held_same d) at some);
-  memory = λ none. h.memory (λ d. not_out (b.pair d) (view b.service d) (low d (cases_eq d r)));
-}
+granted_at_once-block {caching} {r} tracker {whole} {g} {gift} {b} h is =
+    let quiet : (d : ℕ) → is_unprobed (b.pair d).probing ≡ true =
+    λ d. quiet_at_rest (b.pair d) (view b.service d) (h.phases d) (idle d) in
+    let quiet_same = set-part (λ (p : ClientBlock). is_unprobed p.probing) r after b.pair refl in
+    let held_same = set-part (λ (p : ClientBlock). p.held) r after b.pair refl in
+    record {
+      phases = λ d. elim (cases_eq d r) [
+        | inl same ↦ rw (same, set-same r after b.pair, same_number r)
+            (grant_at_once-ok whole g gift (b.pair r) (view b.service r) (h.phases r) (idle r) is.wants is.fits)
+        | inr other ↦ rw (set-other r d after b.pair other, ne_eqb d r other)
+            (granted_other-ok (b.pair d) (view b.service d) (h.phases d) (idle d) (is.low d other))
+      ];
+      awaited = tt;
+      asked_cap = tt;
+      own_source = tt;
+      alone = λ i j trunk probed ne. rw (quiet_same j) (quiet j);
+      one_owner = λ i j trunk ne. owner (gives whole g gift is.fits) i j trunk ne;
+      outside = outside-set caching r after b.pair (busy-inside caching r b.pair (λ p. not (is_unacquired p.acquiring))
+          refl (rw is.wants refl) h.outside) h.outside;
+      copies = λ d some. h.copies d (rw (held_same d) at some);
+      memory = λ none. h.memory (λ d. not_out (b.pair d) (view b.service d) (low d (cases_eq d r)));
+    }
   where
     after : ClientBlock
     after = after_grant_sent gift (b.pair r)
@@ -64,22 +62,13 @@ granted_at_once-block caching r tracker whole g gift b h is = record {
     idle : (d : ℕ) → view b.service d ≡ Idle
     idle d = rw is.free refl
 
-    quiet : (d : ℕ) → is_unprobed (b.pair d).probing ≡ true
-    quiet d = quiet_at_rest (b.pair d) (view b.service d) (h.phases d) (idle d)
-
-    quiet_same : (d : ℕ) → is_unprobed (set r after b.pair d).probing ≡ is_unprobed (b.pair d).probing
-    quiet_same = set-part (λ (p : ClientBlock). is_unprobed p.probing) r after b.pair refl
-
-    held_same : (d : ℕ) → (set r after b.pair d).held ≡ (b.pair d).held
-    held_same = set-part (λ (p : ClientBlock). p.held) r after b.pair refl
-
-    low : (d : ℕ) → (d ≡ r) ⊎ (d ≡ r → ⊥) → same_perm (b.pair d).recorded perm.Trunk ≡ false
+    low : (d : ℕ) → (d ≡ r) ⊎ (d ≡ r → ⊥) → same_perm (b.pair d).recorded Perm.Trunk ≡ false
     low d (inl same) = rw same (asked_low whole g (b.pair r) (view b.service r) (h.phases r) (idle r) is.wants)
     low d (inr other) = is.low d other
 
-    owner : (same_cap gift cap.ToT ≡ true) ⊎ (same_perm (cap_right gift) perm.Trunk ≡ false) → (i j : ℕ)
-        → same_perm (set r after b.pair i).recorded perm.Trunk ≡ true → (j ≡ i → ⊥)
-        → same_perm (set r after b.pair j).recorded perm.None ≡ true
+    owner : (same_cap gift Cap.ToT ≡ true) ⊎ (same_perm (cap_right gift) Perm.Trunk ≡ false) → (i j : ℕ)
+        → same_perm (set r after b.pair i).recorded Perm.Trunk ≡ true → (j ≡ i → ⊥)
+        → same_perm (set r after b.pair j).recorded Perm.None ≡ true
     owner (inl top) i j trunk ne = elim (cases_eq i r) [
       | inl same ↦ let differs : j ≡ r → ⊥ = λ e. ne (e ∙ sym same) in
           rw (set-other r j after b.pair differs) (is.room top j differs)
@@ -87,44 +76,41 @@ granted_at_once-block caching r tracker whole g gift b h is = record {
           (rw (set-other r i after b.pair differs) at trunk))
     ]
     owner (inr less) i j trunk ne = elim (cases_eq i r) [
-      | inl same ↦ absurd (let t : same_perm (cap_right gift) perm.Trunk ≡ true =
+      | inl same ↦ absurd (let t : same_perm (cap_right gift) Perm.Trunk ≡ true =
           rw (same, set-same r after b.pair) at trunk in cc)
-      | inr differs ↦ absurd (let t : same_perm (b.pair i).recorded perm.Trunk ≡ true =
+      | inr differs ↦ absurd (let t : same_perm (b.pair i).recorded Perm.Trunk ≡ true =
           rw (set-other r i after b.pair differs) at trunk in let u = is.low i differs in cc)
     ]
 
 -- nobody is to be probed with the cap that an Acquire asks for: so nobody has Trunk
 pub low-unprobed : (whole : Bool) (g : Grow) (p : Perm) → is_above (cap_asked (AcquireOpen whole g)) p ≡ false
-    → same_perm p perm.Trunk ≡ false
-low-unprobed whole g perm.None e = refl
-low-unprobed whole g perm.Branch e = refl
-low-unprobed whole grow.NtoB perm.Trunk e = absurd cc
-low-unprobed whole grow.NtoT perm.Trunk e = absurd cc
-low-unprobed whole grow.BtoT perm.Trunk e = absurd cc
+    → same_perm p Perm.Trunk ≡ false
+low-unprobed whole g Perm.None e = refl
+low-unprobed whole g Perm.Branch e = refl
+low-unprobed whole Grow.NtoB Perm.Trunk e = absurd cc
+low-unprobed whole Grow.NtoT Perm.Trunk e = absurd cc
+low-unprobed whole Grow.BtoT Perm.Trunk e = absurd cc
 
 -- and nobody is recorded where it asks for Trunk
 pub none-unprobed : (whole : Bool) (g : Grow) (p : Perm) → grows_to_trunk g ≡ true
-    → is_above (cap_asked (AcquireOpen whole g)) p ≡ false → same_perm p perm.None ≡ true
-none-unprobed whole g perm.None t e = refl
-none-unprobed whole grow.NtoB p t e = absurd cc
-none-unprobed whole grow.NtoT perm.Branch t e = absurd cc
-none-unprobed whole grow.NtoT perm.Trunk t e = absurd cc
-none-unprobed whole grow.BtoT perm.Branch t e = absurd cc
-none-unprobed whole grow.BtoT perm.Trunk t e = absurd cc
+    → is_above (cap_asked (AcquireOpen whole g)) p ≡ false → same_perm p Perm.None ≡ true
+none-unprobed whole g Perm.None t e = refl
+none-unprobed whole Grow.NtoB p t e = absurd cc
+none-unprobed whole Grow.NtoT Perm.Branch t e = absurd cc
+none-unprobed whole Grow.NtoT Perm.Trunk t e = absurd cc
+none-unprobed whole Grow.BtoT Perm.Branch t e = absurd cc
+none-unprobed whole Grow.BtoT Perm.Trunk t e = absurd cc
 
 -- ---- the whole
 
 abbrev pub once_moves : ℕ → Channel → Move
-once_moves n channel.A = Pops Acquire n
-once_moves n channel.D = Pushes Grant n
+once_moves n Channel.A = Pops Acquire n
+once_moves n Channel.D = Pushes Grant n
 once_moves n _ = Stays
 
 once_shows : (n : ℕ) (k : Kind) (p : ClientBlock) (d : Bool) (gift : Cap) → is_transfer k ≡ true
-    → is_wanting p.acquiring ≡ true
-    → agrees (once_moves n (channel_for k)) k n (shows k p Idle) (shows k (after_grant_sent gift p) (Granting d gift))
-    ≡ true
-once_shows n Request p d gift t e = absurd cc
-once_shows n Answer p d gift t e = absurd cc
+    → is_wanting p.acquiring ≡ true → agrees (once_moves n (channel_for k)) k n (shows k p Idle)
+    (shows k (after_grant_sent gift p) (Granting d gift)) ≡ true
 once_shows n Acquire p d gift t e = rw (e, same_number n) refl
 once_shows n Probe p d gift t e = same_again (is_sent p.probing)
 once_shows n ProbeAck p d gift t e = same_again (is_answered p.probing)
@@ -132,29 +118,29 @@ once_shows n Release p d gift t e = same_again (is_releasing p.letting)
 once_shows n Grant p d gift t e = rw (same_number n) refl
 once_shows n ReleaseAck p d gift t e = same_again (is_acked p.letting)
 once_shows n GrantAck p d gift t e = refl
+once_shows n k p d gift t e = absurd cc
 
 beside_shows : (k : Kind) (p : ClientBlock) → shows k p GrantedOther ≡ shows k p Idle
 beside_shows Request p = refl
-beside_shows Answer p = refl
-beside_shows Acquire p = refl
-beside_shows Probe p = refl
-beside_shows ProbeAck p = refl
-beside_shows Release p = refl
-beside_shows Grant p = refl
-beside_shows ReleaseAck p = refl
-beside_shows GrantAck p = refl
+beside_shows k p = refl
 
-pub acquire_granted-kept : {X : Type 0} (caching : ℕ → Bool) (r n tracker : ℕ) (whole : Bool) (g : Grow) (gift : Cap)
-    (rest : List Packet) (s : State X) → IsInvariant caching s
-    → (s.link r).a ≡ packet Acquire n ∷ rest
+pub acquire_granted-kept : {X : Type 0} {caching : ℕ → Bool} {r : ℕ} (n tracker : ℕ) {whole : Bool} {g : Grow}
+    {gift : Cap} (rest : List Packet) {s : State X} → IsInvariant caching s → (s.link r).a ≡ packet Acquire n ∷ rest
     → IsGrantable r whole g gift (s.block n) → s.tracked tracker ≡ None
     → IsInvariant caching (acquire_granted r n tracker (is_granted_data whole g ((s.block n).pair r).recorded) gift rest
     s)
-acquire_granted-kept {X} caching r n tracker whole g gift rest s inv first is unused =
+acquire_granted-kept {X} {caching} {r} n tracker {whole} {g} {gift} rest {s} inv first is unused =
+    let here : Link = answered_link (packet Grant n) rest (s.link r) in
+    let moved : AreMoved (once_moves n) (s.link r) here = elim [ Channel.A ↦ first | _ ↦ refl ] in
+    let own : (ch : Channel) → is_own_move ch (once_moves n ch) ≡ true = elim [ Channel.A ↦ refl | ch ↦ refl ] in
+    let with_data : Bool = is_granted_data whole g ((s.block n).pair r).recorded in
+    let old : ℕ → ClientBlock = (s.block n).pair in
+    let after : ClientBlock = after_grant_sent gift (old r) in
+    let new : Block X = granted_at_once r tracker with_data gift (s.block n) in
     invariant-moved caching n new (set r here s.link) (moves_at r (once_moves n)) s.lets
     (set tracker (Some n) s.tracked) s inv
-    (event-at caching r n new here (once_moves n) s (record {
-      well = granted_at_once-block caching r tracker whole g gift (s.block n) (inv.blocks n) is;
+    (event-at (record {
+      well = granted_at_once-block tracker (inv.blocks n) is;
       moved = moved;
       own = own;
       fits = λ k t. rw (is.free, set-same r after old, same_number r)
@@ -174,32 +160,3 @@ acquire_granted-kept {X} caching r n tracker whole g gift rest s inv first is un
           (rw (same_number n, same_number tracker) refl)
           (λ m ne. rw unused (ne_eqb m n ne)) (λ i ne. rw (is.free, ne_eqb i tracker ne) refl) inv.named.trackers;
     })
-  where
-    with_data : Bool
-    with_data = is_granted_data whole g ((s.block n).pair r).recorded
-
-    old : ℕ → ClientBlock
-    old = (s.block n).pair
-
-    after : ClientBlock
-    after = after_grant_sent gift (old r)
-
-    new : Block X
-    new = granted_at_once r tracker with_data gift (s.block n)
-
-    here : Link
-    here = answered_link (packet Grant n) rest (s.link r)
-
-    moved : AreMoved (once_moves n) (s.link r) here
-    moved channel.A = first
-    moved channel.B = refl
-    moved channel.C = refl
-    moved channel.D = refl
-    moved channel.E = refl
-
-    own : (ch : Channel) → is_own_move ch (once_moves n ch) ≡ true
-    own channel.A = refl
-    own channel.B = refl
-    own channel.C = refl
-    own channel.D = refl
-    own channel.E = refl

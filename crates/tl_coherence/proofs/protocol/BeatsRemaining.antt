@@ -5,12 +5,8 @@ use Rattle.tl_coherence.proofs.protocol.Imports.{AccessMessages, block_message, 
 use Rattle.tl_coherence.proofs.protocol.Imports.{Release, Answer, Grant, ReleaseAck, GrantAck, Packet, one_if, count}
 use Rattle.std.proofs.Common.{◌≡◌, ℕ, ◌-◌, ◌<◌, ◌≤◌, Bool, true, false, List, [], ◌∷◌, ◌++◌, refl, sym, ap, subst}
 use Rattle.std.proofs.Common.{arith, ◌⊎◌, inl, inr}
-use Rattle.std.specs.Prelude.{length}
-use Rattle.std.proofs.lemmas.Bool.{cases_eq}
-use Rattle.tl_beat.specs.declared.channel.Channel.TheVariants as channel
-use Rattle.tl_coherence.specs.bound.Rank.{Left}
-use Rattle.tl_coherence.specs.refinement.PacketMessages.{message_of_kind}
-use Rattle.tl_coherence.specs.protocol.Packet.{is}
+use Rattle.std.{specs.Prelude.length, proofs.lemmas.Bool.cases_eq}
+use Rattle.tl_coherence.specs.{bound.Rank.Left, refinement.PacketMessages.message_of_kind, protocol.Packet.is}
 use Rattle.tl_coherence.proofs.protocol.TokenNames.{once, shown_there, shows_it}
 use Rattle.tl_coherence.proofs.queues.Channels.{IsShowing}
 
@@ -84,31 +80,24 @@ pub record IsPopped {w : ℕ} {X : Type 0} (c : ℕ) (ch : Channel) (moves : ℕ
   pub rests : (d : ℕ) (at : Channel) → (d ≡ c → at ≡ ch → ⊥) → rest' d at ≡ rest d at
 
 pub same_channels : (a b : Channel) → (a ≡ b) ⊎ (a ≡ b → ⊥)
-same_channels channel.A channel.A = inl refl
-same_channels channel.B channel.B = inl refl
-same_channels channel.C channel.C = inl refl
-same_channels channel.D channel.D = inl refl
-same_channels channel.E channel.E = inl refl
+same_channels Channel.A Channel.A = inl refl
+same_channels Channel.B Channel.B = inl refl
+same_channels Channel.C Channel.C = inl refl
+same_channels Channel.D Channel.D = inl refl
+same_channels Channel.E Channel.E = inl refl
 same_channels a b = inr (λ e. absurd cc)
 
 own_kind : (k : Kind) → is_on (channel_for k) k ≡ true
 own_kind Request = refl
-own_kind Acquire = refl
-own_kind Probe = refl
-own_kind ProbeAck = refl
-own_kind Release = refl
-own_kind Answer = refl
-own_kind Grant = refl
-own_kind ReleaseAck = refl
-own_kind GrantAck = refl
+own_kind k = refl
 
 module _ {w : ℕ} (caching : ℕ → Bool) (n : ℕ) (moves : ℕ → Channel → Move) (mail mail' : AccessMessages w)
     (s s' : State (List ℕ)) (showing : IsShowing caching n moves mail mail' s s') where
   shows_before : (d : ℕ) (k : Kind) (m : ℕ) → IsHere s d k m → shows_it s d k m ≡ true
-  shows_before d k m there = shown_there caching s d (channel_for k) k m showing.before (own_kind k) there
+  shows_before d k m there = shown_there d (channel_for k) k m showing.before (own_kind k) there
 
   shows_after : (d : ℕ) (k : Kind) (m : ℕ) → IsHere s' d k m → shows_it s' d k m ≡ true
-  shows_after d k m there = shown_there caching s' d (channel_for k) k m showing.after (own_kind k) there
+  shows_after d k m there = shown_there d (channel_for k) k m showing.after (own_kind k) there
 
   transfer_same : (d : ℕ) (k : Kind) (m : ℕ) → is_transfer k ≡ true → shown k d (s.block m) ≡ true
       → shown k d (s'.block m) ≡ true → block_message {w = w} k d m (s'.block m) ≡ block_message k d m (s.block m)
@@ -160,7 +149,5 @@ module _ {w : ℕ} (caching : ℕ → Bool) (n : ℕ) (moves : ℕ → Channel �
           (rest d (channel_for k)) (is_front k m (packets_on (channel_for k) (s.link d)))
       go (inr ne) at = apart (λ e f. ne e)
       go (inl e) (inr ne) = apart (λ g f. ne f)
-      go (inl e) (inl f) =
-          taken-none k m popped.first _ _ (rest d (channel_for k)) (rest' d (channel_for k)) (rw (e, f) popped.tokens)
-          (rw (e, f) popped.none)
-          (once caching s d (channel_for k) showing.before k m) after
+      go (inl e) (inl f) = taken-none k m popped.first _ _ (rest d (channel_for k)) (rest' d (channel_for k))
+          (rw (e, f) popped.tokens) (rw (e, f) popped.none) (once caching s d (channel_for k) showing.before k m) after

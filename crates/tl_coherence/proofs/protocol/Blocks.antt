@@ -1,10 +1,9 @@
 -- What is kept across clients where one client's part of a block changes.
-use Rattle.tl_coherence.proofs.protocol.Imports.{same_perm, ClientBlock, Own, is_unprobed, set, Service, Free, Waits}
-use Rattle.tl_coherence.proofs.protocol.Imports.{GrantSent, GrantTaken, view, resting, IsAskedCap}
+use Rattle.tl_coherence.proofs.protocol.Imports.{same_perm, ClientBlock, Own, is_unprobed, set, Service, Waits, view}
+use Rattle.tl_coherence.proofs.protocol.Imports.{resting, IsAskedCap, Perm}
 use Rattle.std.proofs.Common.{◌≡◌, refl, ◌∙◌, ap, inl, inr}
 use Rattle.std.specs.Prelude.{ℕ, Bool, true, false}
 use Rattle.std.proofs.lemmas.Bool.{cases_eq}
-use Rattle.tl_params.specs.declared.perm.Perm.TheVariants as perm
 use Rattle.tl_coherence.specs.protocol.Invariant.{IsAwaited, IsOwnSource, IsAlone, IsOwned, AreOutside}
 use Rattle.tl_coherence.proofs.queues.Tokens.{same_number, set-same, set-other}
 
@@ -12,57 +11,44 @@ use Rattle.tl_coherence.proofs.queues.Tokens.{same_number, set-same, set-other}
 
 pub awaited_by : (s : Service) (pair : ℕ → ClientBlock) (c : ℕ) → is_unprobed (pair c).probing ≡ false
     → IsAwaited s pair
-awaited_by Free pair c h = tt
 awaited_by (Waits r own s k) pair c h = (c, h)
-awaited_by (GrantSent r d k) pair c h = tt
-awaited_by (GrantTaken r) pair c h = tt
+awaited_by s pair c h = tt
 
 pub awaited-same : (s : Service) (pair after : ℕ → ClientBlock)
     → ((d : ℕ) → is_unprobed (after d).probing ≡ is_unprobed (pair d).probing) → IsAwaited s pair → IsAwaited s after
-awaited-same Free pair after e h = tt
 awaited-same (Waits r own s k) pair after e h = (h.0, e h.0 ∙ h.1)
-awaited-same (GrantSent r d k) pair after e h = tt
-awaited-same (GrantTaken r) pair after e h = tt
+awaited-same s pair after e h = tt
 
 -- the cap stays where the Acquires do
 pub asked_cap-same : (s : Service) (pair after : ℕ → ClientBlock) → ((d : ℕ) → (after d).acquiring ≡ (pair d).acquiring)
     → IsAskedCap s pair → IsAskedCap s after
-asked_cap-same Free pair after e h = tt
 asked_cap-same (Waits r true s k) pair after e h = rw (e r) h
-asked_cap-same (Waits r false s k) pair after e h = tt
-asked_cap-same (GrantSent r d k) pair after e h = tt
-asked_cap-same (GrantTaken r) pair after e h = tt
+asked_cap-same s pair after e h = tt
 
 -- and where another's changes than the one that is served
 pub asked_cap-other : (s : Service) (c : ℕ) (q : ClientBlock) (pair : ℕ → ClientBlock) → (view s c ≡ Own → ⊥)
     → IsAskedCap s pair → IsAskedCap s (set c q pair)
-asked_cap-other Free c q pair ne h = tt
 asked_cap-other (Waits r true s k) c q pair ne h = elim (cases_eq r c) [
   | inl same ↦ absurd (ne (rw (same, same_number c) refl))
   | inr other ↦ rw (set-other c r q pair other) h
 ]
-asked_cap-other (Waits r false s k) c q pair ne h = tt
-asked_cap-other (GrantSent r d k) c q pair ne h = tt
-asked_cap-other (GrantTaken r) c q pair ne h = tt
+asked_cap-other s c q pair ne h = tt
 
 -- the source stays where another's changes than that of the one that is served
 pub own_source-other : (s : Service) (c i : ℕ) (source : ℕ → ℕ) → (view s c ≡ Own → ⊥) → IsOwnSource s source
     → IsOwnSource s (set c i source)
-own_source-other Free c i source ne h = tt
 own_source-other (Waits r true s k) c i source ne h = elim (cases_eq r c) [
   | inl same ↦ absurd (ne (rw (same, same_number c) refl))
   | inr other ↦ rw (set-other c r i source other) h
 ]
-own_source-other (Waits r false s k) c i source ne h = tt
-own_source-other (GrantSent r d k) c i source ne h = tt
-own_source-other (GrantTaken r) c i source ne h = tt
+own_source-other s c i source ne h = tt
 
 -- ---- who owns the block
 
 -- one who is recorded with less than before, or as much, and isn't probed anew
 pub record IsGentle (p q : ClientBlock) : Type 0 where
-  pub trunk : same_perm q.recorded perm.Trunk ≡ true → same_perm p.recorded perm.Trunk ≡ true
-  pub none : same_perm p.recorded perm.None ≡ true → same_perm q.recorded perm.None ≡ true
+  pub trunk : same_perm q.recorded Perm.Trunk ≡ true → same_perm p.recorded Perm.Trunk ≡ true
+  pub none : same_perm p.recorded Perm.None ≡ true → same_perm q.recorded Perm.None ≡ true
   pub quiet : is_unprobed p.probing ≡ true → is_unprobed q.probing ≡ true
 
 -- where the record and the probing stay
@@ -70,43 +56,43 @@ pub gentle-same : (p q : ClientBlock) → q.recorded ≡ p.recorded → is_unpro
     → IsGentle p q
 gentle-same p q e f = record { trunk = λ h. rw e at h; none = λ h. rw e h; quiet = λ h. rw f h }
 
-trunk_at : (c i : ℕ) (q : ClientBlock) (pair : ℕ → ClientBlock) → IsGentle (pair c) q
-    → same_perm (set c q pair i).recorded perm.Trunk ≡ true → same_perm (pair i).recorded perm.Trunk ≡ true
-trunk_at c i q pair g e = elim (cases_eq i c) [
+trunk_at : (c i : ℕ) {q : ClientBlock} (pair : ℕ → ClientBlock) → IsGentle (pair c) q
+    → same_perm (set c q pair i).recorded Perm.Trunk ≡ true → same_perm (pair i).recorded Perm.Trunk ≡ true
+trunk_at c i {q} pair g e = elim (cases_eq i c) [
   | inl same ↦ rw same (g.trunk (rw (same, set-same c q pair) at e))
   | inr other ↦ rw (set-other c i q pair other) at e
 ]
 
-none_at : (c i : ℕ) (q : ClientBlock) (pair : ℕ → ClientBlock) → IsGentle (pair c) q
-    → same_perm (pair i).recorded perm.None ≡ true → same_perm (set c q pair i).recorded perm.None ≡ true
-none_at c i q pair g e = elim (cases_eq i c) [
+none_at : (c i : ℕ) {q : ClientBlock} (pair : ℕ → ClientBlock) → IsGentle (pair c) q
+    → same_perm (pair i).recorded Perm.None ≡ true → same_perm (set c q pair i).recorded Perm.None ≡ true
+none_at c i {q} pair g e = elim (cases_eq i c) [
   | inl same ↦ rw (same, set-same c q pair) (g.none (rw same at e))
   | inr other ↦ rw (set-other c i q pair other) e
 ]
 
-quiet_at : (c i : ℕ) (q : ClientBlock) (pair : ℕ → ClientBlock) → IsGentle (pair c) q
+quiet_at : (c i : ℕ) {q : ClientBlock} (pair : ℕ → ClientBlock) → IsGentle (pair c) q
     → is_unprobed (pair i).probing ≡ true → is_unprobed (set c q pair i).probing ≡ true
-quiet_at c i q pair g e = elim (cases_eq i c) [
+quiet_at c i {q} pair g e = elim (cases_eq i c) [
   | inl same ↦ rw (same, set-same c q pair) (g.quiet (rw same at e))
   | inr other ↦ rw (set-other c i q pair other) e
 ]
 
-probed_at : (c i : ℕ) (q : ClientBlock) (pair : ℕ → ClientBlock) → IsGentle (pair c) q
+probed_at : (c i : ℕ) {q : ClientBlock} (pair : ℕ → ClientBlock) → IsGentle (pair c) q
     → is_unprobed (set c q pair i).probing ≡ false → is_unprobed (pair i).probing ≡ false
-probed_at c i q pair g e = go (is_unprobed (pair i).probing) refl
+probed_at c i {q} pair g e = go (is_unprobed (pair i).probing) refl
   where
     go : (b : Bool) → is_unprobed (pair i).probing ≡ b → b ≡ false
-    go true f = let now : is_unprobed (set c q pair i).probing ≡ true = quiet_at c i q pair g f in absurd cc
+    go true f = let now : is_unprobed (set c q pair i).probing ≡ true = quiet_at c i pair g f in absurd cc
     go false f = refl
 
-pub alone-set : (c : ℕ) (q : ClientBlock) (pair : ℕ → ClientBlock) → IsGentle (pair c) q → IsAlone pair
+pub alone-set : (c : ℕ) {q : ClientBlock} (pair : ℕ → ClientBlock) → IsGentle (pair c) q → IsAlone pair
     → IsAlone (set c q pair)
-alone-set c q pair g h i j trunk probed ne =
-    quiet_at c j q pair g (h i j (trunk_at c i q pair g trunk) (probed_at c i q pair g probed) ne)
+alone-set c {q} pair g h i j trunk probed ne =
+    quiet_at c j pair g (h i j (trunk_at c i pair g trunk) (probed_at c i pair g probed) ne)
 
-pub owned-set : (c : ℕ) (q : ClientBlock) (pair : ℕ → ClientBlock) → IsGentle (pair c) q → IsOwned pair
+pub owned-set : (c : ℕ) {q : ClientBlock} (pair : ℕ → ClientBlock) → IsGentle (pair c) q → IsOwned pair
     → IsOwned (set c q pair)
-owned-set c q pair g h i j trunk ne = none_at c j q pair g (h i j (trunk_at c i q pair g trunk) ne)
+owned-set c {q} pair g h i j trunk ne = none_at c j pair g (h i j (trunk_at c i pair g trunk) ne)
 
 -- ---- who has nothing to do with it
 

@@ -4,12 +4,11 @@ use Rattle.tl_coherence.proofs.protocol.Imports.{Own, Other, Granting, Acknowled
 use Rattle.tl_coherence.proofs.protocol.Imports.{ProbePhase, NoProbe, ProbeSent, ProbeAnswered, ReleasePhase, NoRelease}
 use Rattle.tl_coherence.proofs.protocol.Imports.{ReleaseSent, ReleaseAcked, AcquirePhase, NoAcquire, AcquireOpen}
 use Rattle.tl_coherence.proofs.protocol.Imports.{is_unprobed, is_unreleased, Service, Free, Waits, GrantSent}
-use Rattle.tl_coherence.proofs.protocol.Imports.{GrantTaken, SourceState, SourceFree, Asked, InService, Replied}
-use Rattle.tl_coherence.proofs.protocol.Imports.{Acquires, view, is_wanting, is_sent, is_answered, is_releasing}
-use Rattle.tl_coherence.proofs.protocol.Imports.{is_acked, is_granting, is_acknowledging}
+use Rattle.tl_coherence.proofs.protocol.Imports.{GrantTaken, SourceState, Asked, InService, Replied, Acquires, view}
+use Rattle.tl_coherence.proofs.protocol.Imports.{is_wanting, is_sent, is_answered, is_releasing, is_acked, is_granting}
+use Rattle.tl_coherence.proofs.protocol.Imports.{is_acknowledging}
 use Rattle.std.proofs.Common.{◌≡◌, ℕ, Bool, true, false, not, Option, Some, None, refl}
-use Rattle.std.specs.Prelude.{◌==◌, ◌&&◌, if◌then◌else◌}
-use Rattle.std.proofs.lemmas.Bool.{eqb-true}
+use Rattle.std.{specs.Prelude.◌==◌, specs.Prelude.◌&&◌, specs.Prelude.if◌then◌else◌, proofs.lemmas.Bool.eqb-true}
 use Rattle.tl_coherence.specs.refinement.PacketMessages.{cap_sent, report_told, prune_told}
 use Rattle.tl_coherence.proofs.queues.Facts.{is_other}
 
@@ -22,31 +21,19 @@ is_of-is n (Some m) e = rw (eqb-true n m e) refl
 
 pub acquires_of-is : (n : ℕ) (u : SourceState) → acquires_of n u ≡ true → u ≡ Acquires n
 acquires_of-is n (Acquires m) e = rw (eqb-true n m e) refl
-acquires_of-is n SourceFree e = absurd cc
-acquires_of-is n Asked e = absurd cc
-acquires_of-is n (InService m) e = absurd cc
-acquires_of-is n Replied e = absurd cc
+acquires_of-is n u e = absurd cc
 
 pub serves_of-is : (n : ℕ) (u : SourceState) → serves_of n u ≡ true → u ≡ InService n
 serves_of-is n (InService m) e = rw (eqb-true n m e) refl
-serves_of-is n SourceFree e = absurd cc
-serves_of-is n Asked e = absurd cc
-serves_of-is n Replied e = absurd cc
-serves_of-is n (Acquires m) e = absurd cc
+serves_of-is n u e = absurd cc
 
 pub is_asked-is : (u : SourceState) → is_asked u ≡ true → u ≡ Asked
 is_asked-is Asked e = refl
-is_asked-is SourceFree e = absurd cc
-is_asked-is (InService n) e = absurd cc
-is_asked-is Replied e = absurd cc
-is_asked-is (Acquires n) e = absurd cc
+is_asked-is u e = absurd cc
 
 pub is_replied-is : (u : SourceState) → is_replied u ≡ true → u ≡ Replied
 is_replied-is Replied e = refl
-is_replied-is SourceFree e = absurd cc
-is_replied-is Asked e = absurd cc
-is_replied-is (InService n) e = absurd cc
-is_replied-is (Acquires n) e = absurd cc
+is_replied-is u e = absurd cc
 
 -- ---- what is wanted
 
@@ -66,86 +53,71 @@ calm-is (AcquireOpen whole g) e = absurd cc
 
 pub quiet-is : (x : ProbePhase) → is_unprobed x ≡ true → x ≡ NoProbe
 quiet-is NoProbe e = refl
-quiet-is (ProbeSent k) e = absurd cc
-quiet-is (ProbeAnswered r) e = absurd cc
+quiet-is x e = absurd cc
 
 pub sent-is : (x : ProbePhase) → is_sent x ≡ true → x ≡ ProbeSent (cap_sent x)
-sent-is NoProbe e = absurd cc
 sent-is (ProbeSent k) e = refl
-sent-is (ProbeAnswered r) e = absurd cc
+sent-is x e = absurd cc
 
 pub answered-is : (x : ProbePhase) → is_answered x ≡ true → x ≡ ProbeAnswered (report_told x)
-answered-is NoProbe e = absurd cc
-answered-is (ProbeSent k) e = absurd cc
 answered-is (ProbeAnswered r) e = refl
+answered-is x e = absurd cc
 
 pub not-sent : (x : ProbePhase) → is_sent x ≡ true → is_unprobed x ≡ false
 not-sent (ProbeSent k) e = refl
-not-sent NoProbe e = absurd cc
-not-sent (ProbeAnswered r) e = absurd cc
+not-sent x e = absurd cc
 
 pub not-answered : (x : ProbePhase) → is_answered x ≡ true → is_unprobed x ≡ false
 not-answered (ProbeAnswered r) e = refl
-not-answered NoProbe e = absurd cc
-not-answered (ProbeSent k) e = absurd cc
+not-answered x e = absurd cc
 
 pub quiet_unanswered : (x : ProbePhase) → is_unprobed x ≡ true → is_answered x ≡ false
-quiet_unanswered NoProbe e = refl
-quiet_unanswered (ProbeSent k) e = refl
 quiet_unanswered (ProbeAnswered r) e = absurd cc
+quiet_unanswered x e = refl
 
 -- ---- Releases
 
 pub kept-is : (x : ReleasePhase) → is_unreleased x ≡ true → x ≡ NoRelease
 kept-is NoRelease e = refl
-kept-is (ReleaseSent r) e = absurd cc
-kept-is ReleaseAcked e = absurd cc
+kept-is x e = absurd cc
 
 pub kept-letting : (l : ReleasePhase) → not (is_unreleased l) ≡ false → l ≡ NoRelease
 kept-letting NoRelease e = refl
-kept-letting (ReleaseSent r) e = absurd cc
-kept-letting ReleaseAcked e = absurd cc
+kept-letting l e = absurd cc
 
 pub releasing-is : (x : ReleasePhase) → is_releasing x ≡ true → x ≡ ReleaseSent (prune_told x)
-releasing-is NoRelease e = absurd cc
 releasing-is (ReleaseSent r) e = refl
-releasing-is ReleaseAcked e = absurd cc
+releasing-is x e = absurd cc
 
 pub acked-is : (x : ReleasePhase) → is_acked x ≡ true → x ≡ ReleaseAcked
-acked-is NoRelease e = absurd cc
-acked-is (ReleaseSent r) e = absurd cc
 acked-is ReleaseAcked e = refl
+acked-is x e = absurd cc
 
 pub releasing-open : (x : ReleasePhase) → is_releasing x ≡ true → is_unreleased x ≡ false
 releasing-open (ReleaseSent r) e = refl
-releasing-open NoRelease e = absurd cc
-releasing-open ReleaseAcked e = absurd cc
+releasing-open x e = absurd cc
 
 pub acked-open : (x : ReleasePhase) → is_acked x ≡ true → is_unreleased x ≡ false
 acked-open ReleaseAcked e = refl
-acked-open NoRelease e = absurd cc
-acked-open (ReleaseSent r) e = absurd cc
+acked-open x e = absurd cc
 
 -- ---- services and views
 
 -- who sees its GrantAck under way
 pub acknowledging-is : (s : Service) (c : ℕ) → is_acknowledging (view s c) ≡ true → s ≡ GrantTaken c
 acknowledging-is Free c e = absurd cc
-acknowledging-is (Waits q o source k) c e = absurd (never (o && (c == q)) e)
-  where
-    never : (x : Bool) → is_acknowledging (if x then Own else Other k) ≡ true → ⊥
-    never true f = cc
-    never false f = cc
-acknowledging-is (GrantSent q d k) c e = absurd (never (c == q) e)
-  where
-    never : (x : Bool) → is_acknowledging (if x then Granting d k else GrantedOther) ≡ true → ⊥
-    never true f = cc
-    never false f = cc
-acknowledging-is (GrantTaken q) c e = let same : c ≡ q = eqb-true c q (own (c == q) e) in rw same refl
-  where
-    own : (x : Bool) → is_acknowledging (if x then Acknowledging else GrantedOther) ≡ true → x ≡ true
-    own true f = refl
-    own false f = absurd cc
+acknowledging-is (Waits q o source k) c e =
+    let never : (x : Bool) → is_acknowledging (if x then Own else Other k) ≡ true → ⊥ =
+    elim [ true ↦ λ f. cc | false ↦ λ f. cc ] in
+    absurd (never (o && (c == q)) e)
+acknowledging-is (GrantSent q d k) c e =
+    let never : (x : Bool) → is_acknowledging (if x then Granting d k else GrantedOther) ≡ true → ⊥ =
+    elim [ true ↦ λ f. cc | false ↦ λ f. cc ] in
+    absurd (never (c == q) e)
+acknowledging-is (GrantTaken q) c e =
+    let own : (x : Bool) → is_acknowledging (if x then Acknowledging else GrantedOther) ≡ true → x ≡ true =
+    elim [ true ↦ λ f. refl | false ↦ λ f. absurd cc ] in
+    let same : c ≡ q = eqb-true c q (own (c == q) e) in rw same refl
 
 -- who sees another's service sees no Grant
 pub not-other : (x : Bool) (u v : View) → is_other u ≡ false → is_other v ≡ false

@@ -1,17 +1,12 @@
 -- How many messages a channel holds: as many at most as there are sources, trackers, or both.
-use Rattle.tl_coherence.proofs.protocol.Imports.{Channel, View, Other, Idle, Own, Granting, Acknowledging}
-use Rattle.tl_coherence.proofs.protocol.Imports.{GrantedOther, is_unprobed, Kind, Request, Acquire}
+use Rattle.tl_coherence.proofs.protocol.Imports.{Channel, View, Acknowledging, is_unprobed, Kind, Request, Acquire}
 use Rattle.tl_coherence.proofs.protocol.Imports.{Probe, ProbeAck, Release, Answer, Grant, ReleaseAck, GrantAck, Packet}
-use Rattle.tl_coherence.proofs.protocol.Imports.{State}
-use Rattle.tl_coherence.proofs.protocol.Imports.{SourceState, SourceFree, Asked, Replied, Acquires, view}
-use Rattle.tl_coherence.proofs.protocol.Imports.{packets_on, is_on, is_acknowledging, shown}
-use Rattle.tl_coherence.proofs.protocol.Imports.{IsInvariant, is_asked, is_replied}
+use Rattle.tl_coherence.proofs.protocol.Imports.{State, SourceState, SourceFree, Asked, Replied, Acquires, view}
+use Rattle.tl_coherence.proofs.protocol.Imports.{packets_on, is_on, is_acknowledging, shown, IsInvariant, is_asked}
+use Rattle.tl_coherence.proofs.protocol.Imports.{is_replied}
 use Rattle.std.proofs.Common.{◌≡◌, ℕ, ◌+◌, ◌<◌, ◌≤◌, Bool, true, false, refl, sym, ◌∙◌, ap, subst, arith}
-use Rattle.std.specs.Prelude.{not, length, Some}
-use Rattle.std.proofs.lemmas.Bool.{and_parts}
-use Rattle.tl_beat.specs.declared.channel.Channel.TheVariants as channel
-use Rattle.tl_coherence.specs.protocol.Phase.{is_idle}
-use Rattle.tl_coherence.specs.protocol.Packet.{same_kind}
+use Rattle.std.{specs.Prelude.not, specs.Prelude.length, specs.Prelude.Some, proofs.lemmas.Bool.and_parts}
+use Rattle.tl_coherence.specs.{protocol.Phase.is_idle, protocol.Packet.same_kind}
 use Rattle.tl_coherence.proofs.queues.Distinct.{passing, pass-or-not, all-pass, few, IsThere}
 use Rattle.tl_coherence.proofs.protocol.BothParts.{not-answered, not-sent, acked-open, releasing-open, is_replied-is}
 use Rattle.tl_coherence.proofs.protocol.BothParts.{is_asked-is}
@@ -29,21 +24,20 @@ module _ {X : Type 0} (caching : ℕ → Bool) (s : State X) (c n : ℕ) (inv : 
   answer_named e = is_replied-is (s.uses c n) e
 
   pub acquire_named : shown Acquire c (s.block n) ≡ true → s.uses c ((s.block n).source c) ≡ Acquires n
-  acquire_named e = source_of_acquire caching s c n inv (and_parts _ _ e).0
+  acquire_named e = source_of_acquire c n inv (and_parts _ _ e).0
 
   pub grant_named : shown Grant c (s.block n) ≡ true → s.uses c ((s.block n).source c) ≡ Acquires n
-  grant_named e = source_of_acquire caching s c n inv (grants_ask ((s.block n).pair c) (view (s.block n).service c)
+  grant_named e = source_of_acquire c n inv (grants_ask ((s.block n).pair c) (view (s.block n).service c)
       ((inv.blocks n).phases c) e)
 
   pub release_named : shown Release c (s.block n) ≡ true → s.lets c ((s.block n).release_source c) ≡ Some n
-  release_named e = source_of_release caching s c n inv (releasing-open ((s.block n).pair c).letting e)
+  release_named e = source_of_release c n inv (releasing-open ((s.block n).pair c).letting e)
 
   pub release_ack_named : shown ReleaseAck c (s.block n) ≡ true → s.lets c ((s.block n).release_source c) ≡ Some n
-  release_ack_named e = source_of_release caching s c n inv (acked-open ((s.block n).pair c).letting e)
+  release_ack_named e = source_of_release c n inv (acked-open ((s.block n).pair c).letting e)
 
   tracked_probing : is_unprobed ((s.block n).pair c).probing ≡ false → s.tracked (s.block n).tracker ≡ Some n
-  tracked_probing e =
-      tracker_of_service caching s n inv
+  tracked_probing e = tracker_of_service n inv
       (busy_unless_idle (s.block n).service c (probes_serve ((s.block n).pair c) (view (s.block n).service c)
       ((inv.blocks n).phases c) e))
 
@@ -54,16 +48,10 @@ module _ {X : Type 0} (caching : ℕ → Bool) (s : State X) (c n : ℕ) (inv : 
   report_named e = tracked_probing (not-answered ((s.block n).pair c).probing e)
 
   pub grant_ack_named : shown GrantAck c (s.block n) ≡ true → s.tracked (s.block n).tracker ≡ Some n
-  grant_ack_named e = tracker_of_service caching s n inv
-      (busy_unless_idle (s.block n).service c (go (view (s.block n).service c) e))
-    where
-      go : (v : View) → is_acknowledging v ≡ true → is_idle v ≡ false
-      go Acknowledging h = refl
-      go Idle h = absurd cc
-      go Own h = absurd cc
-      go (Other k) h = absurd cc
-      go (Granting d k) h = absurd cc
-      go GrantedOther h = absurd cc
+  grant_ack_named e =
+      let go : (v : View) → is_acknowledging v ≡ true → is_idle v ≡ false =
+      elim [ Acknowledging ↦ λ h. refl | v ↦ λ h. absurd cc ] in
+      tracker_of_service n inv (busy_unless_idle (s.block n).service c (go (view (s.block n).service c) e))
 
 -- ---- the channels
 
@@ -91,80 +79,67 @@ module _ {X : Type 0} (caching : ℕ → Bool) (s : State X) (c sources trackers
   asked_token : (x : Packet) → IsThere x (s.link c).a
       → (asked_by (name s c x.kind x.number) (s.uses c (name s c x.kind x.number)) ≡ Some x)
       × (name s c x.kind x.number < sources)
-  asked_token x there = go x.kind refl (kind_there caching s c channel.A x inv there)
+  asked_token x there = go x.kind refl (kind_there caching s c Channel.A x inv there)
     where
-      go : (k : Kind) → x.kind ≡ k → is_on channel.A k ≡ true
+      go : (k : Kind) → x.kind ≡ k → is_on Channel.A k ≡ true
           → (asked_by (name s c k x.number) (s.uses c (name s c k x.number)) ≡ Some x) × (name s c k x.number < sources)
       go Request e on_it =
-          let used = request_named caching s c x.number inv (shown_there caching s c channel.A Request x.number inv refl
+          let used = request_named caching s c x.number inv (shown_there c Channel.A Request x.number inv refl
           (rw e at there)) in (
             rw used (ap (λ (y : Packet). Some y) (token-is x Request e)),
             used_below bounds x.number Asked used
                 (λ h. absurd cc),
           )
       go Acquire e on_it =
-          let used = acquire_named caching s c x.number inv (shown_there caching s c channel.A Acquire x.number inv refl
+          let used = acquire_named caching s c x.number inv (shown_there c Channel.A Acquire x.number inv refl
           (rw e at there)) in (
             rw used (ap (λ (y : Packet). Some y) (token-is x Acquire e)),
             used_below bounds ((s.block x.number).source c)
                 (Acquires x.number) used (λ h. absurd cc),
           )
-      go Probe e on_it = absurd cc
-      go ProbeAck e on_it = absurd cc
-      go Release e on_it = absurd cc
-      go Answer e on_it = absurd cc
-      go Grant e on_it = absurd cc
-      go ReleaseAck e on_it = absurd cc
-      go GrantAck e on_it = absurd cc
+      go k e on_it = absurd cc
 
   pub few_on_a : length (s.link c).a ≤ sources
   few_on_a =
-      let all : passing (λ x. true) (s.link c).a ≤ sources =
-      few (λ x. true) (λ x. name s c x.kind x.number) (λ i. asked_by i (s.uses c i)) sources (s.link c).a
-      (once caching s c channel.A inv) (λ x there pass. asked_token x there) in
+      let all = few (λ x. true) (λ x. name s c x.kind x.number) (λ i. asked_by i (s.uses c i)) sources (s.link c).a
+      (once caching s c Channel.A inv) (λ x there pass. asked_token x there) in
       rw (all-pass (s.link c).a) at all
 
   -- what is answered on D, the ReleaseAcks aside
   answered_token : (x : Packet) → IsThere x (s.link c).d → not (same_kind x.kind ReleaseAck) ≡ true
       → (answered_by (name s c x.kind x.number) (s.uses c (name s c x.kind x.number)) ≡ Some x)
       × (name s c x.kind x.number < sources)
-  answered_token x there = go x.kind refl (kind_there caching s c channel.D x inv there)
+  answered_token x there = go x.kind refl (kind_there caching s c Channel.D x inv there)
     where
-      go : (k : Kind) → x.kind ≡ k → is_on channel.D k ≡ true → not (same_kind k ReleaseAck) ≡ true
+      go : (k : Kind) → x.kind ≡ k → is_on Channel.D k ≡ true → not (same_kind k ReleaseAck) ≡ true
           → (answered_by (name s c k x.number) (s.uses c (name s c k x.number)) ≡ Some x)
           × (name s c k x.number < sources)
       go Answer e on_it pass =
-          let used = answer_named caching s c x.number inv (shown_there caching s c channel.D Answer x.number inv refl
+          let used = answer_named caching s c x.number inv (shown_there c Channel.D Answer x.number inv refl
           (rw e at there)) in (
             rw used (ap (λ (y : Packet). Some y) (token-is x Answer e)),
             used_below bounds x.number Replied used
                 (λ h. absurd cc),
           )
       go Grant e on_it pass =
-          let used = grant_named caching s c x.number inv (shown_there caching s c channel.D Grant x.number inv refl
+          let used = grant_named caching s c x.number inv (shown_there c Channel.D Grant x.number inv refl
           (rw e at there)) in (
             rw used (ap (λ (y : Packet). Some y) (token-is x Grant e)),
             used_below bounds ((s.block x.number).source c)
                 (Acquires x.number) used (λ h. absurd cc),
           )
-      go Request e on_it pass = absurd cc
-      go Acquire e on_it pass = absurd cc
-      go Probe e on_it pass = absurd cc
-      go ProbeAck e on_it pass = absurd cc
-      go Release e on_it pass = absurd cc
-      go ReleaseAck e on_it pass = absurd cc
-      go GrantAck e on_it pass = absurd cc
+      go k e on_it pass = absurd cc
 
   -- a Release by its source, and its ReleaseAck
   released_token : (ch : Channel) (x : Packet) (k : Kind) → x.kind ≡ k → is_on ch k ≡ true
       → IsThere x (packets_on ch (s.link c)) → is_of_release k ≡ true
       → (of_block k (s.lets c (name s c k x.number)) ≡ Some x) × (name s c k x.number < sources)
   released_token ch x Release e on_it there which =
-      let let_by = release_named caching s c x.number inv (shown_there caching s c ch Release x.number inv on_it
+      let let_by = release_named caching s c x.number inv (shown_there c ch Release x.number inv on_it
       (rw e at there)) in
       (rw let_by (ap (λ (y : Packet). Some y) (token-is x Release e)), bounds.releases _ x.number let_by)
   released_token ch x ReleaseAck e on_it there which =
-      let let_by = release_ack_named caching s c x.number inv (shown_there caching s c ch ReleaseAck x.number inv on_it
+      let let_by = release_ack_named caching s c x.number inv (shown_there c ch ReleaseAck x.number inv on_it
       (rw e at there)) in
       (rw let_by (ap (λ (y : Packet). Some y) (token-is x ReleaseAck e)), bounds.releases _ x.number let_by)
   released_token ch x k e on_it there which = absurd cc
@@ -181,15 +156,15 @@ module _ {X : Type 0} (caching : ℕ → Bool) (s : State X) (c sources trackers
       → IsThere x (packets_on ch (s.link c)) → is_tracked k ≡ true
       → (of_block k (s.tracked (name s c k x.number)) ≡ Some x) × (name s c k x.number < trackers)
   tracked_token ch x Probe e on_it there which =
-      let by = probe_named caching s c x.number inv (shown_there caching s c ch Probe x.number inv on_it
+      let by = probe_named caching s c x.number inv (shown_there c ch Probe x.number inv on_it
       (rw e at there)) in
       (rw by (ap (λ (y : Packet). Some y) (token-is x Probe e)), bounds.tracked _ x.number by)
   tracked_token ch x ProbeAck e on_it there which =
-      let by = report_named caching s c x.number inv (shown_there caching s c ch ProbeAck x.number inv on_it
+      let by = report_named caching s c x.number inv (shown_there c ch ProbeAck x.number inv on_it
       (rw e at there)) in
       (rw by (ap (λ (y : Packet). Some y) (token-is x ProbeAck e)), bounds.tracked _ x.number by)
   tracked_token ch x GrantAck e on_it there which =
-      let by = grant_ack_named caching s c x.number inv (shown_there caching s c ch GrantAck x.number inv on_it
+      let by = grant_ack_named caching s c x.number inv (shown_there c ch GrantAck x.number inv on_it
       (rw e at there)) in
       (rw by (ap (λ (y : Packet). Some y) (token-is x GrantAck e)), bounds.tracked _ x.number by)
   tracked_token ch x k e on_it there which = absurd cc
@@ -217,57 +192,49 @@ module _ {X : Type 0} (caching : ℕ → Bool) (s : State X) (c sources trackers
   kind_is GrantAck GrantAck e = refl
   kind_is _ _ e = absurd cc
 
-  probe_alone : (k : Kind) → is_on channel.B k ≡ true → k ≡ Probe
+  probe_alone : (k : Kind) → is_on Channel.B k ≡ true → k ≡ Probe
   probe_alone Probe e = refl
   probe_alone _ e = absurd cc
 
-  ack_alone : (k : Kind) → is_on channel.E k ≡ true → k ≡ GrantAck
+  ack_alone : (k : Kind) → is_on Channel.E k ≡ true → k ≡ GrantAck
   ack_alone GrantAck e = refl
   ack_alone _ e = absurd cc
 
-  report_or_release : (k : Kind) → is_on channel.C k ≡ true → not (same_kind k Release) ≡ true → k ≡ ProbeAck
+  report_or_release : (k : Kind) → is_on Channel.C k ≡ true → not (same_kind k Release) ≡ true → k ≡ ProbeAck
   report_or_release ProbeAck e f = refl
   report_or_release _ e f = absurd cc
 
   pub few_on_b : length (s.link c).b ≤ trackers
   few_on_b =
-      let all : passing (λ x. true) (s.link c).b ≤ trackers =
-      few (λ x. true) (λ x. name s c x.kind x.number) (λ i. of_block Probe (s.tracked i)) trackers (s.link c).b
-      (once caching s c channel.B inv)
-      (λ x there pass. tracked_there channel.B Probe x refl refl there
-      (probe_alone x.kind (only_kind channel.B x there))) in
+      let all = few (λ x. true) (λ x. name s c x.kind x.number) (λ i. of_block Probe (s.tracked i)) trackers
+      (s.link c).b (once caching s c Channel.B inv) (λ x there pass. tracked_there Channel.B Probe x refl refl there
+      (probe_alone x.kind (only_kind Channel.B x there))) in
       rw (all-pass (s.link c).b) at all
 
   pub few_on_e : length (s.link c).e ≤ trackers
   few_on_e =
-      let all : passing (λ x. true) (s.link c).e ≤ trackers =
-      few (λ x. true) (λ x. name s c x.kind x.number) (λ i. of_block GrantAck (s.tracked i)) trackers (s.link c).e
-      (once caching s c channel.E inv)
-      (λ x there pass. tracked_there channel.E GrantAck x refl refl there
-      (ack_alone x.kind (only_kind channel.E x there))) in
+      let all = few (λ x. true) (λ x. name s c x.kind x.number) (λ i. of_block GrantAck (s.tracked i)) trackers
+      (s.link c).e (once caching s c Channel.E inv) (λ x there pass. tracked_there Channel.E GrantAck x refl refl
+      there (ack_alone x.kind (only_kind Channel.E x there))) in
       rw (all-pass (s.link c).e) at all
 
   pub few_on_c : length (s.link c).c ≤ sources + trackers
   few_on_c =
-      let releases : passing (λ x. same_kind x.kind Release) (s.link c).c ≤ sources =
-      few (λ x. same_kind x.kind Release) (λ x. name s c x.kind x.number) (λ i. of_block Release (s.lets c i)) sources
-      (s.link c).c (once caching s c channel.C inv)
-      (λ x there pass. released_there channel.C Release x refl refl there (kind_is x.kind Release pass)) in
-      let reports : passing (λ x. not (same_kind x.kind Release)) (s.link c).c ≤ trackers =
-      few (λ x. not (same_kind x.kind Release)) (λ x. name s c x.kind x.number) (λ i. of_block ProbeAck (s.tracked i))
-      trackers (s.link c).c (once caching s c channel.C inv)
-      (λ x there pass. tracked_there channel.C ProbeAck x refl refl there
-      (report_or_release x.kind (only_kind channel.C x there) pass)) in
+      let releases = few (λ x. same_kind x.kind Release) (λ x. name s c x.kind x.number)
+      (λ i. of_block Release (s.lets c i)) sources (s.link c).c (once caching s c Channel.C inv)
+      (λ x there pass. released_there Channel.C Release x refl refl there (kind_is x.kind Release pass)) in
+      let reports = few (λ x. not (same_kind x.kind Release)) (λ x. name s c x.kind x.number)
+      (λ i. of_block ProbeAck (s.tracked i)) trackers (s.link c).c (once caching s c Channel.C inv)
+      (λ x there pass. tracked_there Channel.C ProbeAck x refl refl there
+      (report_or_release x.kind (only_kind Channel.C x there) pass)) in
       omega (arith, pass-or-not (λ x. same_kind x.kind Release) (s.link c).c, releases, reports)
 
   pub few_acks_on_d : passing (λ x. same_kind x.kind ReleaseAck) (s.link c).d ≤ sources
-  few_acks_on_d =
-      few (λ x. same_kind x.kind ReleaseAck) (λ x. name s c x.kind x.number) (λ i. of_block ReleaseAck (s.lets c i))
-      sources (s.link c).d (once caching s c channel.D inv)
-      (λ x there pass. released_there channel.D ReleaseAck x refl refl there (kind_is x.kind ReleaseAck pass))
+  few_acks_on_d = few (λ x. same_kind x.kind ReleaseAck) (λ x. name s c x.kind x.number)
+      (λ i. of_block ReleaseAck (s.lets c i)) sources (s.link c).d (once caching s c Channel.D inv)
+      (λ x there pass. released_there Channel.D ReleaseAck x refl refl there (kind_is x.kind ReleaseAck pass))
 
   pub few_responses_on_d : passing (λ x. not (same_kind x.kind ReleaseAck)) (s.link c).d ≤ sources
-  few_responses_on_d =
-      few (λ x. not (same_kind x.kind ReleaseAck)) (λ x. name s c x.kind x.number) (λ i. answered_by i (s.uses c i))
-      sources (s.link c).d (once caching s c channel.D inv)
+  few_responses_on_d = few (λ x. not (same_kind x.kind ReleaseAck)) (λ x. name s c x.kind x.number)
+      (λ i. answered_by i (s.uses c i)) sources (s.link c).d (once caching s c Channel.D inv)
       (λ x there pass. answered_token x there pass)

@@ -7,24 +7,19 @@ use Rattle.tl_coherence.proofs.protocol.Imports.{InService, Replied, view, packe
 use Rattle.tl_coherence.proofs.protocol.Imports.{is_transfer, is_wanting, is_sent, is_answered, is_releasing, is_acked}
 use Rattle.tl_coherence.proofs.protocol.Imports.{Move, Stays, Pushes, Pops, IsMoved, agrees, is_own_move, channel_for}
 use Rattle.tl_coherence.proofs.protocol.Imports.{is_out, is_of, acquires_of, serves_of, acquires_with, serves_with}
-use Rattle.tl_coherence.proofs.protocol.Imports.{releases_with, tracks_with, IsWell, IsInvariant}
+use Rattle.tl_coherence.proofs.protocol.Imports.{releases_with, tracks_with, IsWell, IsInvariant, Perm}
 use Rattle.std.proofs.Common.{◌≡◌, refl, sym, subst, ◌∙◌, ap, ◌⊎◌, inl, inr}
 use Rattle.std.specs.Prelude.{ℕ, Bool, true, false, List, ◌∷◌, ◌==◌, ◌&&◌, if◌then◌else◌, Some, None}
 use Rattle.std.proofs.lemmas.Bool.{cases_eq, ne_eqb, eqb-true}
-use Rattle.tl_beat.specs.declared.channel.Channel.TheVariants as channel
-use Rattle.tl_params.specs.declared.param.Cap.TheVariants as cap
-use Rattle.tl_params.specs.declared.perm.Perm.TheVariants as perm
 use Rattle.tl_coherence.specs.protocol.Protocol.{written, with_d, popped_link, ended_block, ended_link, report_answers}
 use Rattle.tl_coherence.proofs.queues.Moves.{names-block, names-set, names-set_at, invariant-moved_use}
-use Rattle.tl_coherence.proofs.queues.KindMoves.{same_again}
+use Rattle.tl_coherence.proofs.{queues.KindMoves.same_again, queues.PhaseSteps.report-ok, queues.PhaseSteps.ended-ok}
+use Rattle.tl_coherence.proofs.{protocol.Reported.gentle-report, queues.Perms.nothing_below, queues.Perms.not_out}
 use Rattle.tl_coherence.proofs.queues.Tokens.{same_number, set-same, set-other, set-part}
-use Rattle.tl_coherence.proofs.queues.PhaseSteps.{report-ok, ended-ok}
 use Rattle.tl_coherence.proofs.queues.Facts.{held_at_most, spared_within, reported_within, cap_is_low, report_begins}
 use Rattle.tl_coherence.proofs.protocol.Granted.{low_within, both_trunk, low_none}
-use Rattle.tl_coherence.proofs.protocol.Reported.{gentle-report}
 use Rattle.tl_coherence.proofs.protocol.Blocks.{alone-set, owned-set, outside-set, busy-inside}
 use Rattle.tl_coherence.proofs.protocol.BothParts.{is_of-is, serves_of-is, quiet-is}
-use Rattle.tl_coherence.proofs.queues.Perms.{nothing_below, not_out}
 
 -- ---- the block
 
@@ -34,35 +29,42 @@ pub record IsLastOf {X : Type 0} (c q : ℕ) (r : Report) (f : X → X) (source 
   pub waits : b.service ≡ Waits q false source k
   pub answered : (b.pair c).probing ≡ ProbeAnswered r
   pub settled : (d : ℕ) → (d ≡ c → ⊥) → is_unprobed (b.pair d).probing ≡ true
-  pub spares : (f b.truth ≡ b.truth) ⊎ (k ≡ cap.ToN)
+  pub spares : (f b.truth ≡ b.truth) ⊎ (k ≡ Cap.ToN)
 
-pub ended-block : {X : Type 0} (caching : ℕ → Bool) (c q : ℕ) (r : Report) (f : X → X) (source : ℕ) (k : Cap)
-    (b : Block X) → IsWell caching b → IsLastOf c q r f source k b
-    → IsWell caching (ended_block c r f b)
-ended-block {X} caching c q r f source k b h last = record {
-  phases = phase;
-  awaited = tt;
-  asked_cap = tt;
-  own_source = tt;
-  alone = alone-set c after b.pair (gentle-report r (b.pair c) begins) h.alone;
-  one_owner = owned-set c after b.pair (gentle-report r (b.pair c) begins) h.one_owner;
-  outside = outside-set caching c after b.pair (busy-inside caching c b.pair (λ p. is_answered p.probing) refl
-      (rw last.answered refl) h.outside) h.outside;
-  copies = λ d some. copy_is d some last.spares;
-  memory = λ none. ap f (memory_is (same_perm (report_left r) perm.Trunk) refl);
-}
+pub ended-block : {X : Type 0} {caching : ℕ → Bool} {c q : ℕ} {r : Report} {f : X → X} {source : ℕ} {k : Cap}
+    {b : Block X} → IsWell caching b → IsLastOf c q r f source k b → IsWell caching (ended_block c r f b)
+ended-block {X} {caching} {c} {r} {f} {k} {b} h last =
+    let begins : same_perm (report_left r) (b.pair c).recorded ≡ true =
+    report_begins r (b.pair c) (view b.service c) (h.phases c) last.answered in
+    let low : same_cap k Cap.ToT ≡ false = cap_is_low k (b.pair c) (view b.service c) (h.phases c) (other c) in
+    -- before, nobody had a Trunk but the client whose ProbeAck is taken, if that carries data
+    let none_out : same_perm (report_left r) Perm.Trunk ≡ false → (d : ℕ) → is_out (b.pair d) (view b.service d)
+    ≡ false = λ bare d. not_out (b.pair d) (view b.service d) (elim (cases_eq d c) [
+      | inl same ↦ rw same (both_trunk (report_left r) (b.pair c).recorded begins bare)
+      | inr ne ↦ low_within (b.pair d).recorded k (spared_within k (b.pair d) (view b.service d) (h.phases d) (other d)
+          (quiet-is (b.pair d).probing (last.settled d ne))) low
+    ]) in
+    let memory_is : (data_too : Bool) → same_perm (report_left r) Perm.Trunk ≡ data_too
+    → written r b.truth b.memory ≡ b.truth =
+    elim [ true ↦ λ e. rw e refl | false ↦ λ e. rw e (h.memory (none_out e)) ] in
+    record {
+      phases = phase;
+      awaited = tt;
+      asked_cap = tt;
+      own_source = tt;
+      alone = alone-set c b.pair (gentle-report r (b.pair c) begins) h.alone;
+      one_owner = owned-set c b.pair (gentle-report r (b.pair c) begins) h.one_owner;
+      outside = outside-set caching c after b.pair (busy-inside caching c b.pair (λ p. is_answered p.probing) refl
+          (rw last.answered refl) h.outside) h.outside;
+      copies = λ d some. copy_is d some last.spares;
+      memory = λ none. ap f (memory_is (same_perm (report_left r) Perm.Trunk) refl);
+    }
   where
     after : ClientBlock
     after = after_report r (b.pair c)
 
     other : (d : ℕ) → view b.service d ≡ Other k
     other d = rw last.waits refl
-
-    begins : same_perm (report_left r) (b.pair c).recorded ≡ true
-    begins = report_begins r (b.pair c) (view b.service c) (h.phases c) last.answered
-
-    low : same_cap k cap.ToT ≡ false
-    low = cap_is_low k (b.pair c) (view b.service c) (h.phases c) (other c)
 
     phase : (d : ℕ) → ok (set c after b.pair d) Idle ≡ true
     phase d = elim (cases_eq d c) [
@@ -76,7 +78,7 @@ ended-block {X} caching c q r f source k b h last = record {
     held_same = set-part (λ (p : ClientBlock). p.held) c after b.pair refl
 
     -- where all were probed, nobody is recorded any more
-    nobody : k ≡ cap.ToN → (d : ℕ) → same_perm (set c after b.pair d).recorded perm.None ≡ true
+    nobody : k ≡ Cap.ToN → (d : ℕ) → same_perm (set c after b.pair d).recorded Perm.None ≡ true
     nobody e d = elim (cases_eq d c) [
       | inl same ↦ rw (same, set-same c after b.pair)
           (low_none k (report_right r) e (reported_within k r (b.pair c) (view b.service c) (h.phases c) (other c)
@@ -86,7 +88,7 @@ ended-block {X} caching c q r f source k b h last = record {
           (quiet-is (b.pair d).probing (last.settled d ne))))
     ]
 
-    copy_is : (d : ℕ) → same_perm (set c after b.pair d).held perm.None ≡ false → (f b.truth ≡ b.truth) ⊎ (k ≡ cap.ToN)
+    copy_is : (d : ℕ) → same_perm (set c after b.pair d).held Perm.None ≡ false → (f b.truth ≡ b.truth) ⊎ (k ≡ Cap.ToN)
         → b.copy d ≡ f b.truth
     copy_is d some (inl same) = h.copies d (rw (held_same d) at some) ∙ sym same
     copy_is d some (inr all) =
@@ -94,31 +96,17 @@ ended-block {X} caching c q r f source k b h last = record {
         (held_at_most (set c after b.pair d) Idle (phase d)) (nobody all d) in
         absurd (let differs : true ≡ false = sym no ∙ some in cc)
 
-    -- before, nobody had a Trunk but the client whose ProbeAck is taken, if that carries data
-    none_out : same_perm (report_left r) perm.Trunk ≡ false → (d : ℕ) → is_out (b.pair d) (view b.service d) ≡ false
-    none_out bare d = not_out (b.pair d) (view b.service d) (elim (cases_eq d c) [
-      | inl same ↦ rw same (both_trunk (report_left r) (b.pair c).recorded begins bare)
-      | inr ne ↦ low_within (b.pair d).recorded k (spared_within k (b.pair d) (view b.service d) (h.phases d) (other d)
-          (quiet-is (b.pair d).probing (last.settled d ne))) low
-    ])
-
-    memory_is : (data_too : Bool) → same_perm (report_left r) perm.Trunk ≡ data_too
-        → written r b.truth b.memory ≡ b.truth
-    memory_is true e = rw e refl
-    memory_is false e = rw e (h.memory (none_out e))
-
 -- ---- one link
 
 -- what a client's link does: x tells whether its ProbeAck is taken, and y whether its access is answered
 abbrev pub ended_move : Bool → Bool → ℕ → ℕ → Channel → Move
-ended_move x y n source channel.C = if x then Pops ProbeAck n else Stays
-ended_move x y n source channel.D = if y then Pushes Answer source else Stays
+ended_move x y n source Channel.C = if x then Pops ProbeAck n else Stays
+ended_move x y n source Channel.D = if y then Pushes Answer source else Stays
 ended_move x y n source _ = Stays
 
 ended_shows : (n source : ℕ) (j : Kind) (x y : Bool) (r : Report) (k : Cap) (p : ClientBlock) → is_transfer j ≡ true
-    → (x ≡ true → p.probing ≡ ProbeAnswered r)
-    → agrees (ended_move x y n source (channel_for j)) j n (shows j p (Other k))
-    (shows j (if x then after_report r p else p) Idle) ≡ true
+    → (x ≡ true → p.probing ≡ ProbeAnswered r) → agrees (ended_move x y n source (channel_for j)) j n
+    (shows j p (Other k)) (shows j (if x then after_report r p else p) Idle) ≡ true
 ended_shows n source Request x y r k p t e = absurd cc
 ended_shows n source Answer x y r k p t e = absurd cc
 ended_shows n source Acquire true y r k p t e = same_again (is_wanting p.acquiring && true)
@@ -138,50 +126,71 @@ ended_shows n source ReleaseAck false false r k p t e = same_again (is_acked p.l
 ended_shows n source GrantAck x y r k p t e = refl
 
 ended_own : (ch : Channel) (x y : Bool) (n source : ℕ) → is_own_move ch (ended_move x y n source ch) ≡ true
-ended_own channel.A x y n source = refl
-ended_own channel.B x y n source = refl
-ended_own channel.C true y n source = refl
-ended_own channel.C false y n source = refl
-ended_own channel.D x true n source = refl
-ended_own channel.D x false n source = refl
-ended_own channel.E x y n source = refl
+ended_own Channel.A x y n source = refl
+ended_own Channel.B x y n source = refl
+ended_own Channel.C true y n source = refl
+ended_own Channel.C false y n source = refl
+ended_own Channel.D x true n source = refl
+ended_own Channel.D x false n source = refl
+ended_own Channel.E x y n source = refl
 
 pub ended_moved : (ch : Channel) (x y : Bool) (n source : ℕ) (l : Link) (rest : List Packet)
-    → (x ≡ true → l.c ≡ packet ProbeAck n ∷ rest)
-    → IsMoved (ended_move x y n source ch) (packets_on ch l)
+    → (x ≡ true → l.c ≡ packet ProbeAck n ∷ rest) → IsMoved (ended_move x y n source ch) (packets_on ch l)
     (packets_on ch (if y then with_d (packet Answer source) (if x then record l { c = rest } else l) else
     (if x then record l { c = rest } else l)))
-ended_moved channel.A true true n source l rest e = refl
-ended_moved channel.A true false n source l rest e = refl
-ended_moved channel.A false true n source l rest e = refl
-ended_moved channel.A false false n source l rest e = refl
-ended_moved channel.B true true n source l rest e = refl
-ended_moved channel.B true false n source l rest e = refl
-ended_moved channel.B false true n source l rest e = refl
-ended_moved channel.B false false n source l rest e = refl
-ended_moved channel.C true true n source l rest e = e refl
-ended_moved channel.C true false n source l rest e = e refl
-ended_moved channel.C false true n source l rest e = refl
-ended_moved channel.C false false n source l rest e = refl
-ended_moved channel.D true true n source l rest e = refl
-ended_moved channel.D true false n source l rest e = refl
-ended_moved channel.D false true n source l rest e = refl
-ended_moved channel.D false false n source l rest e = refl
-ended_moved channel.E true true n source l rest e = refl
-ended_moved channel.E true false n source l rest e = refl
-ended_moved channel.E false true n source l rest e = refl
-ended_moved channel.E false false n source l rest e = refl
+ended_moved Channel.A true true n source l rest e = refl
+ended_moved Channel.A true false n source l rest e = refl
+ended_moved Channel.A false true n source l rest e = refl
+ended_moved Channel.A false false n source l rest e = refl
+ended_moved Channel.B true true n source l rest e = refl
+ended_moved Channel.B true false n source l rest e = refl
+ended_moved Channel.B false true n source l rest e = refl
+ended_moved Channel.B false false n source l rest e = refl
+ended_moved Channel.C true true n source l rest e = e refl
+ended_moved Channel.C true false n source l rest e = e refl
+ended_moved Channel.C false true n source l rest e = refl
+ended_moved Channel.C false false n source l rest e = refl
+ended_moved Channel.D true true n source l rest e = refl
+ended_moved Channel.D true false n source l rest e = refl
+ended_moved Channel.D false true n source l rest e = refl
+ended_moved Channel.D false false n source l rest e = refl
+ended_moved Channel.E true true n source l rest e = refl
+ended_moved Channel.E true false n source l rest e = refl
+ended_moved Channel.E false true n source l rest e = refl
+ended_moved Channel.E false false n source l rest e = refl
 
 -- ---- the whole
 
 pub report_answers-kept : {X : Type 0} (caching : ℕ → Bool) (c q n : ℕ) (r : Report) (f : X → X) (source : ℕ) (k : Cap)
-    (rest : List Packet) (s : State X) → IsInvariant caching s
-    → (s.link c).c ≡ packet ProbeAck n ∷ rest → IsLastOf c q r f source k (s.block n)
-    → IsInvariant caching (report_answers c q n source r f rest s)
+    (rest : List Packet) (s : State X) → IsInvariant caching s → (s.link c).c ≡ packet ProbeAck n ∷ rest
+    → IsLastOf c q r f source k (s.block n) → IsInvariant caching (report_answers c q n source r f rest s)
 report_answers-kept {X} caching c q n r f source k rest s inv first last =
-    invariant-moved_use caching n new links (λ d. ended_move (d == c) (d == q) n source) q source Replied
-    (set tracker None s.tracked) s inv (record {
-      well = ended-block caching c q r f source k (s.block n) (inv.blocks n) last;
+    let never_pushed : (x : Bool) (m : ℕ) → (if x then Pops ProbeAck n else Stays) ≡ Pushes ProbeAck m → ⊥ =
+    elim [ true ↦ λ m e. cc | false ↦ λ m e. cc ] in
+    let links : ℕ → Link = ended_link c q (packet Answer source) rest s.link in
+    let used : s.uses q source ≡ InService n = serves_of-is n (s.uses q source) (inv.named.serves q source n
+    ∙ rw (last.waits, same_number q, same_number source) refl) in
+    let acquires_same : (d i : ℕ) → acquires_with d i new ≡ acquires_with d i (s.block n) =
+    λ d i. rw (set-part (λ (p : ClientBlock). p.acquiring) c after old refl d) refl in
+    let first_at : (d : ℕ) → (d == c) ≡ true → (s.link d).c ≡ packet ProbeAck n ∷ rest =
+    λ d e. rw (eqb-true d c e) first in
+    let answered_at : (d : ℕ) → (d == c) ≡ true → (old d).probing ≡ ProbeAnswered r =
+    λ d e. rw (eqb-true d c e) last.answered in
+    -- the link and the pair of a client, by whether it is c
+    let popped : (d : ℕ) → popped_link c rest s.link d ≡ (if d == c then record (s.link d) { c = rest } else s.link d) =
+    λ d. elim (cases_eq d c) [
+      | inl same ↦ rw (same, same_number c) refl
+      | inr ne ↦ rw (ne_eqb d c ne) refl
+    ] in
+    let by_link : (d : ℕ) (ch : Channel) → IsMoved (ended_move (d == c) (d == q) n source ch) (packets_on ch (s.link d))
+    (packets_on ch (if d == q then with_d (packet Answer source) (if d == c then record (s.link d) { c = rest } else
+    s.link d) else (if d == c then record (s.link d) { c = rest } else s.link d)))
+    → IsMoved (ended_move (d == c) (d == q) n source ch) (packets_on ch (s.link d)) (packets_on ch (links d)) =
+    λ d ch h. subst (λ (l : Link). IsMoved (ended_move (d == c) (d == q) n source ch) (packets_on ch (s.link d))
+    (packets_on ch (if d == q then with_d (packet Answer source) l else l))) (sym (popped d)) h in
+    invariant-moved_use q source Replied
+    (set tracker None s.tracked) inv (record {
+      well = ended-block (inv.blocks n) last;
       moved = λ d ch. by_link d ch (ended_moved ch (d == c) (d == q) n source (s.link d) rest (first_at d));
       own = λ d ch. ended_own ch (d == c) (d == q) n source;
       fits = λ d j t. by_pair d j (ended_move (d == c) (d == q) n source (channel_for j))
@@ -194,8 +203,7 @@ report_answers-kept {X} caching c q n r f source k rest s inv first last =
           ((rw used at (inv.named.acquires q source n)) ∙ sym (acquires_same q source)) (λ m ne. rw used refl)
           (λ i ne. acquires_same q i) (λ d i ne. acquires_same d i) inv.named.acquires;
       serves = names-set_at serves_of serves_with q source Replied s.uses n new s.block refl
-          (λ m ne. rw used (sym (ne_eqb m n ne)))
-          (λ i ne. rw (last.waits, same_number q, ne_eqb i source ne) refl)
+          (λ m ne. rw used (sym (ne_eqb m n ne))) (λ i ne. rw (last.waits, same_number q, ne_eqb i source ne) refl)
           (λ d i ne. rw (last.waits, ne_eqb d q ne) refl) inv.named.serves;
       releases = λ d. names-block is_of (releases_with d) (s.lets d) n new s.block
           (λ i. rw (set-part (λ (p : ClientBlock). p.letting) c after old refl d) refl) (inv.named.releases d);
@@ -213,47 +221,11 @@ report_answers-kept {X} caching c q n r f source k rest s inv first last =
     new : Block X
     new = ended_block c r f (s.block n)
 
-    links : ℕ → Link
-    links = ended_link c q (packet Answer source) rest s.link
-
     tracker : ℕ
     tracker = (s.block n).tracker
 
-    used : s.uses q source ≡ InService n
-    used = serves_of-is n (s.uses q source)
-        (inv.named.serves q source n ∙ rw (last.waits, same_number q, same_number source) refl)
-
     tracked : s.tracked tracker ≡ Some n
     tracked = is_of-is n (s.tracked tracker) (inv.named.trackers tracker n ∙ rw (last.waits, same_number tracker) refl)
-
-    acquires_same : (d i : ℕ) → acquires_with d i new ≡ acquires_with d i (s.block n)
-    acquires_same d i = rw (set-part (λ (p : ClientBlock). p.acquiring) c after old refl d) refl
-
-    never_pushed : (x : Bool) (m : ℕ) → (if x then Pops ProbeAck n else Stays) ≡ Pushes ProbeAck m → ⊥
-    never_pushed true m e = cc
-    never_pushed false m e = cc
-
-    first_at : (d : ℕ) → (d == c) ≡ true → (s.link d).c ≡ packet ProbeAck n ∷ rest
-    first_at d e = rw (eqb-true d c e) first
-
-    answered_at : (d : ℕ) → (d == c) ≡ true → (old d).probing ≡ ProbeAnswered r
-    answered_at d e = rw (eqb-true d c e) last.answered
-
-    -- the link and the pair of a client, by whether it is c
-    popped : (d : ℕ) → popped_link c rest s.link d ≡ (if d == c then record (s.link d) { c = rest } else s.link d)
-    popped d = elim (cases_eq d c) [
-      | inl same ↦ rw (same, same_number c) refl
-      | inr ne ↦ rw (ne_eqb d c ne) refl
-    ]
-
-    by_link : (d : ℕ) (ch : Channel)
-        → IsMoved (ended_move (d == c) (d == q) n source ch) (packets_on ch (s.link d))
-        (packets_on ch (if d == q then with_d (packet Answer source) (if d == c then record (s.link d) { c = rest } else
-        s.link d) else (if d == c then record (s.link d) { c = rest } else s.link d)))
-        → IsMoved (ended_move (d == c) (d == q) n source ch) (packets_on ch (s.link d)) (packets_on ch (links d))
-    by_link d ch h =
-        subst (λ (l : Link). IsMoved (ended_move (d == c) (d == q) n source ch) (packets_on ch (s.link d))
-        (packets_on ch (if d == q then with_d (packet Answer source) l else l))) (sym (popped d)) h
 
     pair_is : (d : ℕ) → set c after old d ≡ (if d == c then after_report r (old d) else old d)
     pair_is d = elim (cases_eq d c) [
@@ -263,8 +235,7 @@ report_answers-kept {X} caching c q n r f source k rest s inv first last =
 
     by_pair : (d : ℕ) (j : Kind) (m : Move)
         → agrees m j n (shows j (old d) (Other k)) (shows j (if d == c then after_report r (old d) else old d) Idle)
-        ≡ true
-        → agrees m j n (shown j d (s.block n)) (shown j d new) ≡ true
+        ≡ true → agrees m j n (shown j d (s.block n)) (shown j d new) ≡ true
     by_pair d j m h =
         let seen : view (s.block n).service d ≡ Other k = rw last.waits refl in
         rw seen (subst (λ (p : ClientBlock). agrees m j n (shows j (old d) (Other k)) (shows j p Idle) ≡ true)

@@ -1,56 +1,40 @@
 -- The protocol keeps its invariant as it follows the world: at each message that is taken, the first token and the
 -- invariant give what its event asks for.
 use Rattle.tl_coherence.proofs.protocol.Imports.{MessageA, Config, Cap, Grow, Report, Perm, prune_left, same_perm}
-use Rattle.tl_coherence.proofs.protocol.Imports.{is_replied, IsInvariant, ClientBlock, View, Own}
-use Rattle.tl_coherence.proofs.protocol.Imports.{Other, Granting, Acknowledging, GrantedOther, ProbeAnswered, NoRelease}
-use Rattle.tl_coherence.proofs.protocol.Imports.{AcquirePhase, NoAcquire, AcquireOpen, is_unprobed}
-use Rattle.tl_coherence.proofs.protocol.Imports.{after_report, Service, Free, Waits}
-use Rattle.tl_coherence.proofs.protocol.Imports.{GrantSent, GrantTaken, Block, SourceFree, view, packet, shown}
-use Rattle.tl_coherence.proofs.protocol.Imports.{is_wanting, is_granting, is_answered, on, Kind, Request}
-use Rattle.tl_coherence.proofs.protocol.Imports.{Acquire, Probe, ProbeAck, Release, Answer, Grant, ReleaseAck, GrantAck}
-use Rattle.tl_coherence.proofs.protocol.Imports.{Packet, set}
-use Rattle.std.proofs.Common.{◌≡◌, subst, ℕ, ◌≤◌, Bool, true, false, not, ◌&&◌, List, ◌∷◌}
-use Rattle.std.proofs.Common.{Some, None, length, refl, sym, ◌∙◌, ap, inl, inr}
-use Rattle.std.specs.Prelude.{◌==◌, if◌then◌else◌, ⊤}
-use Rattle.std.proofs.lemmas.Bool.{eqb-true, not-true}
-use Rattle.std.proofs.lemmas.Option.{same_Some}
-use Rattle.tl_burst.specs.declared.message.Message.TheVariants as message
-use Rattle.tl_params.specs.declared.param.Cap.TheVariants as cap
-use Rattle.tl_params.specs.declared.param.Grow.TheVariants as grow
-use Rattle.tl_params.specs.declared.perm.Perm.TheVariants as perm
-use Rattle.tl_params.specs.declared.profile.Profile.{Profile}
-use Rattle.tl_params.specs.statement.Param.{grow_left}
+use Rattle.tl_coherence.proofs.protocol.Imports.{is_replied, IsInvariant, ClientBlock, View, Own, Other, Granting}
+use Rattle.tl_coherence.proofs.protocol.Imports.{Acknowledging, GrantedOther, ProbeAnswered, NoRelease, AcquirePhase}
+use Rattle.tl_coherence.proofs.protocol.Imports.{NoAcquire, AcquireOpen, is_unprobed, after_report, Service, Free}
+use Rattle.tl_coherence.proofs.protocol.Imports.{Waits, GrantSent, GrantTaken, Block, SourceFree, view, packet, shown}
+use Rattle.tl_coherence.proofs.protocol.Imports.{is_wanting, is_granting, is_answered, on, Kind, Request, Acquire}
+use Rattle.tl_coherence.proofs.protocol.Imports.{Probe, ProbeAck, Release, Answer, Grant, ReleaseAck, GrantAck, Packet}
+use Rattle.tl_coherence.proofs.protocol.Imports.{set, Message}
+use Rattle.std.proofs.Common.{◌≡◌, subst, ℕ, ◌≤◌, Bool, true, false, not, ◌&&◌, List, ◌∷◌, Some, None, length, refl}
+use Rattle.std.proofs.Common.{sym, ◌∙◌, ap, inl, inr}
+use Rattle.std.{specs.Prelude.◌==◌, specs.Prelude.if◌then◌else◌, specs.Prelude.⊤, proofs.lemmas.Bool.eqb-true}
+use Rattle.std.{proofs.lemmas.Bool.not-true, proofs.lemmas.Option.same_Some}
+use Rattle.tl_params.{specs.declared.profile.Profile.Profile, specs.statement.Param.grow_left}
 use Rattle.tl_rules.specs.statement.History.{block_at, is_acquire}
-use Rattle.tl_client.specs.declared.operation.Op.{Op}
-use Rattle.tl_client.specs.declared.operation.Op.TheVariants as op
-use Rattle.tl_client.specs.declared.reply.Reply.{Reply}
-use Rattle.tl_client.specs.declared.reply.Reply.TheVariants as reply
-use Rattle.tl_client.specs.statement.Ask.{copy_stored, whole_grow}
+use Rattle.tl_client.{specs.declared.operation.Op.Op, specs.declared.reply.Reply.Reply, specs.statement.Ask.copy_stored}
+use Rattle.tl_client.{specs.statement.Ask.whole_grow}
 use Rattle.tl_manager.specs.statement.Holders.{cap_probed}
 use Rattle.tl_coherence.specs.refinement.AbstractStep.{AbstractState, with_state, asked, some_below, performs}
-use Rattle.tl_coherence.specs.refinement.AbstractStep.{is_unheld, gift}
-use Rattle.tl_coherence.specs.refinement.AbstractStep.{granted_after, last_taken, ack_taken}
+use Rattle.tl_coherence.specs.refinement.AbstractStep.{is_unheld, gift, granted_after, last_taken, ack_taken}
 use Rattle.tl_coherence.specs.refinement.AbstractStep.{taken_by_client, kind_taken}
 use Rattle.tl_coherence.specs.protocol.Phase.{grow_fits, is_whole}
 use Rattle.tl_coherence.specs.protocol.Protocol.{report_taken, grant_taken}
 use Rattle.tl_coherence.specs.refinement.PacketMessages.{cap_sent, report_told, prune_told}
-use Rattle.tl_coherence.proofs.queues.Phases.{and_right}
+use Rattle.tl_coherence.proofs.{queues.Phases.and_right, queues.Tokens.same_number, queues.Tokens.holds-first}
+use Rattle.tl_coherence.proofs.{protocol.Blocks.outside-set, protocol.Blocks.busy-inside}
+use Rattle.tl_coherence.proofs.{protocol.Probed.probe_taken-kept, protocol.Answered.answer_taken-kept}
+use Rattle.tl_coherence.proofs.{protocol.Granted.room-trunk, protocol.GrantedAll.report_grants-kept}
+use Rattle.tl_coherence.proofs.{protocol.Ended.report_answers-kept, protocol.TakenAll.grant_taken-kept}
 use Rattle.tl_coherence.proofs.queues.Facts.{acquire_fits, answered_other, own_wants, granting_asks, is_other}
-use Rattle.tl_coherence.proofs.queues.Tokens.{same_number, holds-first}
 use Rattle.tl_coherence.proofs.protocol.Asked.{access_asked-kept, acquire_asked-kept, release_asked-kept}
 use Rattle.tl_coherence.proofs.protocol.Asked.{block_stored-kept}
-use Rattle.tl_coherence.proofs.protocol.Blocks.{outside-set, busy-inside}
-use Rattle.tl_coherence.proofs.protocol.Probed.{probe_taken-kept}
-use Rattle.tl_coherence.proofs.protocol.Answered.{answer_taken-kept}
-use Rattle.tl_coherence.proofs.protocol.Granted.{room-trunk}
-use Rattle.tl_coherence.proofs.protocol.GrantedAll.{report_grants-kept}
-use Rattle.tl_coherence.proofs.protocol.Ended.{report_answers-kept}
 use Rattle.tl_coherence.proofs.protocol.Reported.{report_taken-kept, release_taken-kept}
-use Rattle.tl_coherence.proofs.protocol.TakenAll.{grant_taken-kept}
 use Rattle.tl_coherence.proofs.protocol.Acknowledged.{release_ack_taken-kept, grant_ack_taken-kept}
-use Rattle.tl_coherence.proofs.protocol.BothParts.{is_replied-is, wanting-is, sent-is, answered-is}
-use Rattle.tl_coherence.proofs.protocol.BothParts.{releasing-is, acked-is, acknowledging-is, not-other, not-calm}
-use Rattle.tl_coherence.proofs.protocol.BothParts.{granting-own}
+use Rattle.tl_coherence.proofs.protocol.BothParts.{is_replied-is, wanting-is, sent-is, answered-is, releasing-is}
+use Rattle.tl_coherence.proofs.protocol.BothParts.{acked-is, acknowledging-is, not-other, not-calm, granting-own}
 use Rattle.tl_coherence.proofs.protocol.RequestsKept.{some-one, settled_all, leaves-bytes, request_taken-kept}
 use Rattle.tl_coherence.proofs.protocol.RequestsKept.{gift_fits, gift_trunk, unheld_none, acquire_taken-kept}
 
@@ -61,12 +45,12 @@ abbrev pub IsServing : {w : ℕ} → Service → MessageA w → Type 0
 IsServing (Waits q false source k) m = (is_acquire m.opcode ≡ false) × (cap_probed m.opcode m.param ≡ Some k)
 IsServing _ m = ⊤
 
-pub ack_taken-kept : {w : ℕ} (caching : ℕ → Bool) (clients : ℕ) (p : Profile) (c n : ℕ) (rest : List Packet)
+pub ack_taken-kept : {w : ℕ} {caching : ℕ → Bool} (clients : ℕ) (p : Profile) (c n : ℕ) (rest : List Packet)
     (h : AbstractState w) → IsInvariant caching h.state → ((d : ℕ) → clients ≤ d → caching d ≡ false)
     → (h.state.link c).c ≡ packet ProbeAck n ∷ rest → length (h.state.block n).truth ≡ 64
     → IsServing (h.state.block n).service (h.request n)
     → IsInvariant caching (ack_taken clients p c n (report_told ((h.state.block n).pair c).probing) rest h).state
-ack_taken-kept {w} caching clients p c n rest h inv plain first long serving =
+ack_taken-kept {w} {caching} clients p c n rest h inv plain first long serving =
     others (some_below clients (λ d. not (d == c) && not (is_unprobed (b.pair d).probing))) refl
   where
     b : Block (List ℕ)
@@ -98,29 +82,23 @@ ack_taken-kept {w} caching clients p c n rest h inv plain first long serving =
         → (b.pair q).acquiring ≡ AcquireOpen whole g
         → IsInvariant caching (granted_after clients p c q n r (AcquireOpen whole g) rest h).state
     granted q source k waits quiet whole g wants =
-        report_grants-kept caching c q n r whole g given source k rest h.state inv first (record {
+        let after : ℕ → ClientBlock = set c (after_report r (b.pair c)) b.pair in
+        let given : Cap = gift p whole g (is_unheld clients after) in
+        let fits = acquire_fits whole g (b.pair q) (view b.service q) ((inv.blocks n).phases q) wants in
+        report_grants-kept n rest inv first (record {
           waits = waits;
           answered = answered;
           settled = quiet;
           wants = wants;
           fits = gift_fits p whole g (b.pair q).held (is_unheld clients after) fits;
           room = λ top d ne. elim (gift_trunk p whole g (b.pair q).held (is_unheld clients after) fits top) [
-            | inl grows ↦ room-trunk caching c q r whole g source k b (inv.blocks n) waits answered quiet wants grows
+            | inl grows ↦ room-trunk c q r whole g source k (inv.blocks n) waits answered quiet wants grows
                 differ d ne
             | inr unheld ↦ unheld_none clients caching after plain (outside-set caching c (after_report r (b.pair c))
                 b.pair inside (inv.blocks n).outside) unheld d
           ];
         })
       where
-        after : ℕ → ClientBlock
-        after = set c (after_report r (b.pair c)) b.pair
-
-        given : Cap
-        given = gift p whole g (is_unheld clients after)
-
-        fits : grow_fits (b.pair q).held (AcquireOpen whole g) ≡ true
-        fits = acquire_fits whole g (b.pair q) (view b.service q) ((inv.blocks n).phases q) wants
-
         differ : c ≡ q → ⊥
         differ e = let other : false ≡ true = rw (waits, e, same_number q) at seen in cc
 
@@ -149,7 +127,7 @@ ack_taken-kept {w} caching clients p c n rest h inv plain first long serving =
           settled = quiet;
           spares = elim (leaves-bytes (h.request n) b.truth for.0 long) [
             | inl same ↦ inl same
-            | inr all ↦ inr (same_Some k cap.ToN (sym for.1 ∙ all))
+            | inr all ↦ inr (same_Some k Cap.ToN (sym for.1 ∙ all))
           ];
         })
 
@@ -158,17 +136,17 @@ ack_taken-kept {w} caching clients p c n rest h inv plain first long serving =
         b.service rest h).state
     others true e =
         let one = some-one clients (λ d. not (d == c) && not (is_unprobed (b.pair d).probing)) e in
-        report_taken-kept caching c n r rest h.state inv first answered one.0 (apart one.0 one.1)
+        report_taken-kept c n r rest inv first answered one.0 (apart one.0 one.1)
         (not-true (is_unprobed (b.pair one.0).probing)
         (and_right (not (one.0 == c)) (not (is_unprobed (b.pair one.0).probing)) one.1))
     others false e = last (settled e) b.service refl
 
 -- ---- Grants
 
-pub grant_followed-kept : {w : ℕ} (caching : ℕ → Bool) (c n : ℕ) (rest : List Packet) (h : AbstractState w)
+pub grant_followed-kept : {w : ℕ} {caching : ℕ → Bool} (c n : ℕ) (rest : List Packet) (h : AbstractState w)
     → IsInvariant caching h.state → (h.state.link c).d ≡ packet Grant n ∷ rest
     → IsInvariant caching (taken_by_client c n (h.state.block n).service rest h).state
-grant_followed-kept {w} caching c n rest h inv first = go b.service refl
+grant_followed-kept {w} {caching} c n rest h inv first = go b.service refl
   where
     b : Block (List ℕ)
     b = h.state.block n
@@ -198,14 +176,14 @@ grant_followed-kept {w} caching c n rest h inv first = go b.service refl
         let wants = wanting-is (b.pair c).acquiring (not-calm (b.pair c).acquiring asks) in
         let is : is_whole (b.pair c).acquiring ≡ wants.0 = ap is_whole wants.2 in
         subst (λ (z : Bool). IsInvariant caching (grant_taken c n z d k rest h.state)) (sym is)
-        (grant_taken-kept caching c n d wants.0 wants.1 k rest h.state inv first here wants.2)
+        (grant_taken-kept c n d wants.0 wants.1 k rest inv first here wants.2)
 
 -- ---- all messages that are taken
 
 -- what isn't told by the token alone: a request isn't stalled, and has a tracker that no block has; nor is a Probe
 abbrev pub IsReady : {w : ℕ} → ℕ → ℕ → Kind → ℕ → AbstractState w → Type 0
 IsReady {w} tracker c Request source h =
-    (m : MessageA w) × (h.mail.request c source ≡ message.A m) × (is_acquire m.opcode ≡ false)
+    (m : MessageA w) × (h.mail.request c source ≡ Message.A m) × (is_acquire m.opcode ≡ false)
     × ((h.state.block (block_at m.address)).service ≡ Free) × (h.state.tracked tracker ≡ None)
 IsReady tracker c Acquire n h = ((h.state.block n).service ≡ Free) × (h.state.tracked tracker ≡ None)
 IsReady tracker c Probe n h = ((h.state.block n).pair c).letting ≡ NoRelease
@@ -214,120 +192,86 @@ IsReady tracker c _ n h = ⊤
 pub kind_taken-kept : {w : ℕ} (caching : ℕ → Bool) (config : Config) (tracker c : ℕ) (k : Kind) (i : ℕ)
     (rest : List Packet) (h : AbstractState w) → IsInvariant caching h.state
     → ((d : ℕ) → length config.clients.items ≤ d → caching d ≡ false) → ((n : ℕ) → length (h.state.block n).truth ≡ 64)
-    → ((n : ℕ) → IsServing (h.state.block n).service (h.request n))
-    → on k (h.state.link c) ≡ packet k i ∷ rest → IsReady tracker c k i h
-    → IsInvariant caching (kind_taken config tracker c k i rest h).state
+    → ((n : ℕ) → IsServing (h.state.block n).service (h.request n)) → on k (h.state.link c) ≡ packet k i ∷ rest
+    → IsReady tracker c k i h → IsInvariant caching (kind_taken config tracker c k i rest h).state
 kind_taken-kept {w} caching config tracker c Request i rest h inv plain long serving first ready =
-    rw ready.1 (request_taken-kept caching (length config.clients.items) c i tracker ready.0 rest h inv plain first
+    rw ready.1 (request_taken-kept (length config.clients.items) c i tracker ready.0 rest h inv plain first
     ready.2 (long (block_at ready.0.address)) ready.3 ready.4)
 kind_taken-kept caching config tracker c Acquire n rest h inv plain long serving first ready =
-    acquire_taken-kept caching (length config.clients.items) config.profile c n tracker rest h inv plain first ready.0
-    ready.1
+    acquire_taken-kept (length config.clients.items) config.profile c n tracker rest h inv plain first ready.0 ready.1
 kind_taken-kept caching config tracker c Probe n rest h inv plain long serving first kept =
     let sent = sent-is ((h.state.block n).pair c).probing (holds-first Probe (h.state.link c).b rest (packet Probe n)
     (λ i. shown Probe c (h.state.block i)) first refl (inv.transfers c Probe refl)) in
-    probe_taken-kept caching c n (cap_sent ((h.state.block n).pair c).probing) rest h.state inv first sent kept
+    probe_taken-kept c n (cap_sent ((h.state.block n).pair c).probing) rest inv first sent kept
 kind_taken-kept caching config tracker c ProbeAck n rest h inv plain long serving first ready =
-    ack_taken-kept caching (length config.clients.items) config.profile c n rest h inv plain first (long n) (serving n)
+    ack_taken-kept (length config.clients.items) config.profile c n rest h inv plain first (long n) (serving n)
 kind_taken-kept caching config tracker c Release n rest h inv plain long serving first ready =
     let releasing = releasing-is ((h.state.block n).pair c).letting
     (holds-first Release (h.state.link c).c rest (packet Release n) (λ i. shown Release c (h.state.block i)) first refl
     (inv.transfers c Release refl))
     in
-    release_taken-kept caching c n (prune_told ((h.state.block n).pair c).letting) rest h.state inv first releasing
+    release_taken-kept c n (prune_told ((h.state.block n).pair c).letting) rest inv first releasing
 kind_taken-kept caching config tracker c Answer i rest h inv plain long serving first ready =
     let replied = is_replied-is (h.state.uses c i) (holds-first Answer (h.state.link c).d rest (packet Answer i)
     (λ j. is_replied (h.state.uses c j)) first refl (inv.answers c)) in
-    answer_taken-kept caching c i rest h.state inv first replied
+    answer_taken-kept c i rest inv first replied
 kind_taken-kept caching config tracker c Grant n rest h inv plain long serving first ready =
-    grant_followed-kept caching c n rest h inv first
+    grant_followed-kept c n rest h inv first
 kind_taken-kept caching config tracker c ReleaseAck n rest h inv plain long serving first ready =
     let acked = acked-is ((h.state.block n).pair c).letting
     (holds-first ReleaseAck (h.state.link c).d rest (packet ReleaseAck n) (λ i. shown ReleaseAck c (h.state.block i))
     first refl
     (inv.transfers c ReleaseAck refl)) in
-    release_ack_taken-kept caching c n rest h.state inv first acked
+    release_ack_taken-kept c n rest inv first acked
 kind_taken-kept caching config tracker c GrantAck n rest h inv plain long serving first ready =
     let taken = acknowledging-is (h.state.block n).service c
     (holds-first GrantAck (h.state.link c).e rest (packet GrantAck n) (λ i. shown GrantAck c (h.state.block i)) first
     refl
     (inv.transfers c GrantAck refl)) in
-    grant_ack_taken-kept caching c n rest h.state inv first taken
+    grant_ack_taken-kept c n rest inv first taken
 
 -- ---- operations that are asked
 
 -- what a client's answer says of its end: what it was asked for, it may do
 abbrev pub IsAskable : {w : ℕ} → (ℕ → Bool) → ℕ → Op w → Reply → AbstractState w → Type 0
-IsAskable caching c (op.Store address size value) reply.Stored h =
-    same_perm ((h.state.block (block_at address)).pair c).held perm.Trunk ≡ true
-IsAskable caching c (op.Acquire n g) (reply.Started source) h =
+IsAskable caching c (Op.Store address size value) Reply.Stored h =
+    same_perm ((h.state.block (block_at address)).pair c).held Perm.Trunk ≡ true
+IsAskable caching c (Op.Acquire n g) (Reply.Started source) h =
     (caching c ≡ true) × (h.state.uses c source ≡ SourceFree) × (((h.state.block n).pair c).acquiring ≡ NoAcquire)
     × (((h.state.block n).pair c).letting ≡ NoRelease)
     × (same_perm (grow_left g) ((h.state.block n).pair c).held ≡ true)
-IsAskable caching c (op.AcquireWhole n bytes) (reply.Started source) h =
+IsAskable caching c (Op.AcquireWhole n bytes) (Reply.Started source) h =
     (caching c ≡ true) × (h.state.uses c source ≡ SourceFree) × (((h.state.block n).pair c).acquiring ≡ NoAcquire)
-    × (((h.state.block n).pair c).letting ≡ NoRelease)
-    × (same_perm perm.Trunk ((h.state.block n).pair c).held ≡ false)
-IsAskable caching c (op.Release n r) (reply.Started source) h =
-    (caching c ≡ true) × (h.state.lets c source ≡ None) × (((h.state.block n).pair c).acquiring ≡ NoAcquire)
-    × (((h.state.block n).pair c).letting ≡ NoRelease)
+    × (((h.state.block n).pair c).letting ≡ NoRelease) × (same_perm Perm.Trunk ((h.state.block n).pair c).held ≡ false)
+IsAskable caching c (Op.Release n r) (Reply.Started source) h = (caching c ≡ true) × (h.state.lets c source ≡ None)
+    × (((h.state.block n).pair c).acquiring ≡ NoAcquire) × (((h.state.block n).pair c).letting ≡ NoRelease)
     × (same_perm ((h.state.block n).pair c).held (prune_left r) ≡ true)
-IsAskable caching c (op.Access m) (reply.Started source) h = h.state.uses c source ≡ SourceFree
+IsAskable caching c (Op.Access m) (Reply.Started source) h = h.state.uses c source ≡ SourceFree
 IsAskable caching c o r h = ⊤
 
 begins_fit : (g : Grow) (p : Perm) → same_perm (grow_left g) p ≡ true → grow_fits p (AcquireOpen false g) ≡ true
-begins_fit grow.NtoB perm.None e = refl
-begins_fit grow.NtoT perm.None e = refl
-begins_fit grow.BtoT perm.Branch e = refl
-begins_fit grow.NtoB perm.Branch e = absurd cc
-begins_fit grow.NtoB perm.Trunk e = absurd cc
-begins_fit grow.NtoT perm.Branch e = absurd cc
-begins_fit grow.NtoT perm.Trunk e = absurd cc
-begins_fit grow.BtoT perm.None e = absurd cc
-begins_fit grow.BtoT perm.Trunk e = absurd cc
+begins_fit Grow.NtoB Perm.None e = refl
+begins_fit Grow.NtoT Perm.None e = refl
+begins_fit Grow.BtoT Perm.Branch e = refl
+begins_fit g p e = absurd cc
 
-whole_fits : (p : Perm) → same_perm perm.Trunk p ≡ false → grow_fits p (AcquireOpen true (whole_grow p)) ≡ true
-whole_fits perm.None e = refl
-whole_fits perm.Branch e = refl
-whole_fits perm.Trunk e = absurd cc
+whole_fits : (p : Perm) → same_perm Perm.Trunk p ≡ false → grow_fits p (AcquireOpen true (whole_grow p)) ≡ true
+whole_fits Perm.Trunk e = absurd cc
+whole_fits p e = refl
 
-pub asked-kept : {w : ℕ} (caching : ℕ → Bool) (c : ℕ) (o : Op w) (r : Reply) (h : AbstractState w)
+pub asked-kept : {w : ℕ} {caching : ℕ → Bool} (c : ℕ) (o : Op w) (r : Reply) (h : AbstractState w)
     → IsInvariant caching h.state → IsAskable caching c o r h → IsInvariant caching (asked c o r h).state
-asked-kept caching c (op.Load address size) r h inv is = inv
-asked-kept caching c (op.Store address size value) reply.Stored h inv may =
+asked-kept {caching} c (Op.Store address size value) Reply.Stored h inv may =
     block_stored-kept caching c (block_at address)
     (copy_stored address size value ((h.state.block (block_at address)).copy c)) h.state inv may
-asked-kept caching c (op.Acquire n g) (reply.Started source) h inv is =
-    acquire_asked-kept caching c n source false g ((h.state.block n).waiting c) h.state inv is.0 is.1 is.2 is.3
+asked-kept {caching} c (Op.Acquire n g) (Reply.Started source) h inv is =
+    acquire_asked-kept c n source false g ((h.state.block n).waiting c) inv is.0 is.1 is.2 is.3
     (begins_fit g ((h.state.block n).pair c).held is.4)
-asked-kept caching c (op.AcquireWhole n bytes) (reply.Started source) h inv is =
-    acquire_asked-kept caching c n source true (whole_grow ((h.state.block n).pair c).held) bytes h.state inv is.0 is.1
+asked-kept {caching} c (Op.AcquireWhole n bytes) (Reply.Started source) h inv is =
+    acquire_asked-kept c n source true (whole_grow ((h.state.block n).pair c).held) bytes inv is.0 is.1
     is.2 is.3 (whole_fits ((h.state.block n).pair c).held is.4)
-asked-kept caching c (op.Release n r) (reply.Started source) h inv is =
-    release_asked-kept caching c n source r h.state inv is.0 is.1 is.2 is.3 is.4
-asked-kept caching c (op.Access (message.A m)) (reply.Started source) h inv closed =
-    access_asked-kept caching c source h.state inv closed
-asked-kept caching c (op.Store address size value) (reply.Value v) h inv is = inv
-asked-kept caching c (op.Store address size value) reply.Miss h inv is = inv
-asked-kept caching c (op.Store address size value) (reply.Started source) h inv is = inv
-asked-kept caching c (op.Store address size value) (reply.Busy why) h inv is = inv
-asked-kept caching c (op.Acquire n g) (reply.Value v) h inv is = inv
-asked-kept caching c (op.Acquire n g) reply.Stored h inv is = inv
-asked-kept caching c (op.Acquire n g) reply.Miss h inv is = inv
-asked-kept caching c (op.Acquire n g) (reply.Busy why) h inv is = inv
-asked-kept caching c (op.AcquireWhole n bytes) (reply.Value v) h inv is = inv
-asked-kept caching c (op.AcquireWhole n bytes) reply.Stored h inv is = inv
-asked-kept caching c (op.AcquireWhole n bytes) reply.Miss h inv is = inv
-asked-kept caching c (op.AcquireWhole n bytes) (reply.Busy why) h inv is = inv
-asked-kept caching c (op.Release n p) (reply.Value v) h inv is = inv
-asked-kept caching c (op.Release n p) reply.Stored h inv is = inv
-asked-kept caching c (op.Release n p) reply.Miss h inv is = inv
-asked-kept caching c (op.Release n p) (reply.Busy why) h inv is = inv
-asked-kept caching c (op.Access (message.A m)) (reply.Value v) h inv is = inv
-asked-kept caching c (op.Access (message.A m)) reply.Stored h inv is = inv
-asked-kept caching c (op.Access (message.A m)) reply.Miss h inv is = inv
-asked-kept caching c (op.Access (message.A m)) (reply.Busy why) h inv is = inv
-asked-kept caching c (op.Access (message.B m)) r h inv is = inv
-asked-kept caching c (op.Access (message.C m)) r h inv is = inv
-asked-kept caching c (op.Access (message.D m)) r h inv is = inv
-asked-kept caching c (op.Access (message.E m)) r h inv is = inv
+asked-kept {caching} c (Op.Release n r) (Reply.Started source) h inv is =
+    release_asked-kept c n source r inv is.0 is.1 is.2 is.3 is.4
+asked-kept {caching} c (Op.Access (Message.A m)) (Reply.Started source) h inv closed =
+    access_asked-kept c source inv closed
+asked-kept c o r h inv is = inv

@@ -8,17 +8,12 @@ use Rattle.tl_coherence.proofs.protocol.Imports.{is_out, IsWell}
 use Rattle.std.proofs.Common.{◌≡◌, refl, sym, ◌∙◌, ap, ◌⊎◌, inl, inr}
 use Rattle.std.specs.Prelude.{ℕ, Bool, true, false}
 use Rattle.std.proofs.lemmas.Bool.{cases_eq, ne_eqb, not-true}
-use Rattle.tl_params.specs.declared.param.Cap.TheVariants as cap
-use Rattle.tl_params.specs.declared.param.Grow.TheVariants as grow
-use Rattle.tl_params.specs.declared.perm.Perm.TheVariants as perm
-use Rattle.tl_coherence.specs.statement.Permissions.{perm_le}
-use Rattle.tl_coherence.specs.protocol.Protocol.{written, granted_pair}
+use Rattle.tl_coherence.specs.{statement.Permissions.perm_le, protocol.Protocol.written, protocol.Protocol.granted_pair}
 use Rattle.tl_coherence.proofs.queues.Tokens.{same_number, set-same, set-other, set-part}
 use Rattle.tl_coherence.proofs.queues.PhaseSteps.{grant_last-ok, report-ok, ended-ok}
 use Rattle.tl_coherence.proofs.queues.Facts.{spared_within, reported_within, cap_is_low, own_low, own_quiet}
 use Rattle.tl_coherence.proofs.queues.Facts.{report_begins}
-use Rattle.tl_coherence.proofs.protocol.BothParts.{quiet-is}
-use Rattle.tl_coherence.proofs.queues.Perms.{not_out}
+use Rattle.tl_coherence.proofs.{protocol.BothParts.quiet-is, queues.Perms.not_out}
 
 -- ---- the views before and after
 
@@ -37,34 +32,29 @@ granted_view q c d k ne = rw (ne_eqb c q ne) refl
 -- ---- permissions
 
 -- what is within a low cap isn't Trunk
-pub low_within : (p : Perm) (k : Cap) → perm_le p (cap_right k) ≡ true → same_cap k cap.ToT ≡ false
-    → same_perm p perm.Trunk ≡ false
-low_within perm.None k e low = refl
-low_within perm.Branch k e low = refl
-low_within perm.Trunk cap.ToT e low = absurd cc
-low_within perm.Trunk cap.ToB e low = absurd cc
-low_within perm.Trunk cap.ToN e low = absurd cc
+pub low_within : (p : Perm) (k : Cap) → perm_le p (cap_right k) ≡ true → same_cap k Cap.ToT ≡ false
+    → same_perm p Perm.Trunk ≡ false
+low_within Perm.None k e low = refl
+low_within Perm.Branch k e low = refl
+low_within Perm.Trunk Cap.ToT e low = absurd cc
+low_within Perm.Trunk Cap.ToB e low = absurd cc
+low_within Perm.Trunk Cap.ToN e low = absurd cc
 
-pub both_trunk : (p q : Perm) → same_perm p q ≡ true → same_perm p perm.Trunk ≡ false → same_perm q perm.Trunk ≡ false
-both_trunk perm.None perm.None e f = refl
-both_trunk perm.None perm.Branch e f = refl
-both_trunk perm.None perm.Trunk e f = absurd cc
-both_trunk perm.Branch perm.None e f = refl
-both_trunk perm.Branch perm.Branch e f = refl
-both_trunk perm.Branch perm.Trunk e f = absurd cc
-both_trunk perm.Trunk q e f = absurd cc
+pub both_trunk : (p q : Perm) → same_perm p q ≡ true → same_perm p Perm.Trunk ≡ false → same_perm q Perm.Trunk ≡ false
+both_trunk Perm.None Perm.Trunk e f = absurd cc
+both_trunk Perm.Branch Perm.Trunk e f = absurd cc
+both_trunk Perm.Trunk q e f = absurd cc
+both_trunk p q e f = refl
 
-pub none_or_trunk : (p : Perm) → same_perm p perm.None ≡ true → same_perm p perm.Trunk ≡ true → ⊥
-none_or_trunk perm.None e f = absurd cc
-none_or_trunk perm.Branch e f = absurd cc
-none_or_trunk perm.Trunk e f = absurd cc
+pub none_or_trunk : (p : Perm) → same_perm p Perm.None ≡ true → same_perm p Perm.Trunk ≡ true → ⊥
+none_or_trunk Perm.None e f = absurd cc
+none_or_trunk p e f = absurd cc
 
 -- a Grant that fits gives Trunk or Branch
-pub gives : (whole : Bool) (g : Grow) (k : Cap) → cap_fits whole g k ≡ true → (same_cap k cap.ToT ≡ true)
-    ⊎ (same_perm (cap_right k) perm.Trunk ≡ false)
-gives whole g cap.ToT e = inl refl
-gives whole g cap.ToB e = inr refl
-gives whole g cap.ToN e = inr refl
+pub gives : (whole : Bool) (g : Grow) (k : Cap) → cap_fits whole g k ≡ true → (same_cap k Cap.ToT ≡ true)
+    ⊎ (same_perm (cap_right k) Perm.Trunk ≡ false)
+gives whole g Cap.ToT e = inl refl
+gives whole g k e = inr refl
 
 -- ---- the block
 
@@ -77,38 +67,58 @@ pub record IsLast {X : Type 0} (c q : ℕ) (r : Report) (whole : Bool) (g : Grow
   pub wants : (b.pair q).acquiring ≡ AcquireOpen whole g
   pub fits : cap_fits whole g gift ≡ true
   -- Trunk is granted only where nobody else is recorded
-  pub room : same_cap gift cap.ToT ≡ true → (d : ℕ) → (d ≡ q → ⊥)
-      → same_perm (set c (after_report r (b.pair c)) b.pair d).recorded perm.None ≡ true
+  pub room : same_cap gift Cap.ToT ≡ true → (d : ℕ) → (d ≡ q → ⊥)
+      → same_perm (set c (after_report r (b.pair c)) b.pair d).recorded Perm.None ≡ true
 
-pub granted-block : {X : Type 0} (caching : ℕ → Bool) (c q : ℕ) (r : Report) (whole : Bool) (g : Grow) (gift : Cap)
-    (source : ℕ) (k : Cap) (b : Block X) → IsWell caching b
-    → IsLast c q r whole g gift source k b
+pub granted-block : {X : Type 0} {caching : ℕ → Bool} {c q : ℕ} {r : Report} {whole : Bool} {g : Grow} {gift : Cap}
+    {source : ℕ} {k : Cap} {b : Block X} → IsWell caching b → IsLast c q r whole g gift source k b
     → IsWell caching (granted_block c q r (is_granted_data whole g (b.pair q).recorded) gift b)
-granted-block {X} caching c q r whole g gift source k b h last = record {
-  phases = λ d. elim (cases_eq d q) [
-    | inl same ↦ rw (same, granted_here, granting_view q with_data gift)
-        (grant_last-ok whole g gift (b.pair q) (view b.service q) (h.phases q) own last.wants last.fits)
-    | inr ne ↦ rw (granted_elsewhere d ne, granted_view q d with_data gift ne) (reported_phase d ne (cases_eq d c))
-  ];
-  awaited = tt;
-  asked_cap = tt;
-  own_source = tt;
-  alone = λ i j trunk probed ne. all_quiet j;
-  one_owner = λ i j trunk ne. owner (gives whole g gift last.fits) i j trunk ne;
-  outside = λ d plain. elim (cases_eq d q) [
-    | inl same ↦ absurd (not_calm (b.pair q) last.wants (h.outside q (rw same at plain)))
-    | inr ne ↦ rw (granted_elsewhere d ne) (elim (cases_eq d c) [
-      | inl also ↦ absurd (not_quiet (b.pair c) last.answered (h.outside c (rw also at plain)))
-      | inr neither ↦ rw (set-other c d after b.pair neither) (h.outside d plain)
-    ])
-  ];
-  copies = λ d some. h.copies d (rw (held_same d) at some);
-  memory = λ none. memory_is (same_perm (report_left r) perm.Trunk) refl;
-}
+granted-block {X} {c} {q} {r} {whole} {g} {gift} {source} {k} {b} h last =
+    -- before, nobody had a Trunk but the client whose ProbeAck is taken, if that carries data
+    let none_out : same_perm (report_left r) Perm.Trunk ≡ false → (d : ℕ) → is_out (b.pair d) (view b.service d)
+    ≡ false = λ bare d. not_out (b.pair d) (view b.service d) (elim (cases_eq d q) [
+      | inl same ↦ rw same (not-true (same_perm (b.pair q).recorded Perm.Trunk)
+          (own_low (b.pair q) (view b.service q) (h.phases q) own))
+      | inr ne ↦ elim (cases_eq d c) [
+        | inl also ↦ rw also (both_trunk (report_left r) (b.pair c).recorded
+            (report_begins r (b.pair c) (view b.service c) (h.phases c) last.answered) bare)
+        | inr neither ↦ low_within (b.pair d).recorded k (spared_within k (b.pair d) (view b.service d) (h.phases d)
+            (other d ne) (quiet-is (b.pair d).probing (last.settled d neither))) low
+      ]
+    ]) in
+    let memory_is : (data_too : Bool) → same_perm (report_left r) Perm.Trunk ≡ data_too
+    → written r b.truth b.memory ≡ b.truth =
+    elim [ true ↦ λ e. rw e refl | false ↦ λ e. rw e (h.memory (none_out e)) ] in
+    let with_data : Bool = is_granted_data whole g (b.pair q).recorded in
+    let all_quiet : (j : ℕ) → is_unprobed (granted_pair c q r gift b.pair j).probing ≡ true = λ j. elim (cases_eq j q) [
+      | inl same ↦ rw (same, granted_here) (own_quiet (b.pair q) (view b.service q) (h.phases q) own)
+      | inr ne ↦ rw (granted_elsewhere j ne) (elim (cases_eq j c) [
+        | inl also ↦ rw (also, set-same c after b.pair) refl
+        | inr neither ↦ rw (set-other c j after b.pair neither) (last.settled j neither)
+      ])
+    ] in
+    record {
+      phases = λ d. elim (cases_eq d q) [
+        | inl same ↦ rw (same, granted_here, granting_view q with_data gift)
+            (grant_last-ok whole g gift (b.pair q) (view b.service q) (h.phases q) own last.wants last.fits)
+        | inr ne ↦ rw (granted_elsewhere d ne, granted_view q d with_data gift ne) (reported_phase d ne (cases_eq d c))
+      ];
+      awaited = tt;
+      asked_cap = tt;
+      own_source = tt;
+      alone = λ i j trunk probed ne. all_quiet j;
+      one_owner = λ i j trunk ne. owner (gives whole g gift last.fits) i j trunk ne;
+      outside = λ d plain. elim (cases_eq d q) [
+        | inl same ↦ absurd (not_calm (b.pair q) last.wants (h.outside q (rw same at plain)))
+        | inr ne ↦ rw (granted_elsewhere d ne) (elim (cases_eq d c) [
+          | inl also ↦ absurd (not_quiet (b.pair c) last.answered (h.outside c (rw also at plain)))
+          | inr neither ↦ rw (set-other c d after b.pair neither) (h.outside d plain)
+        ])
+      ];
+      copies = λ d some. h.copies d (rw (held_same d) at some);
+      memory = λ none. memory_is (same_perm (report_left r) Perm.Trunk) refl;
+    }
   where
-    with_data : Bool
-    with_data = is_granted_data whole g (b.pair q).recorded
-
     after : ClientBlock
     after = after_report r (b.pair c)
 
@@ -125,7 +135,7 @@ granted-block {X} caching c q r whole g gift source k b h last = record {
         let no : is_unprobed (ProbeAnswered r) ≡ true = rw answered at quiet in
         absurd cc
 
-    low : same_cap k cap.ToT ≡ false
+    low : same_cap k Cap.ToT ≡ false
     low = cap_is_low k (b.pair c) (view b.service c) (h.phases c) (other c apart)
 
     granted_here : granted_pair c q r gift b.pair q ≡ after_grant_sent gift (b.pair q)
@@ -143,22 +153,12 @@ granted-block {X} caching c q r whole g gift source k b h last = record {
 
     held_same : (d : ℕ) → (granted_pair c q r gift b.pair d).held ≡ (b.pair d).held
     held_same d =
-        let first : (set c after b.pair q).held ≡ (b.pair q).held =
-        set-part (λ (p : ClientBlock). p.held) c after b.pair refl q in
+        let first = set-part (λ (p : ClientBlock). p.held) c after b.pair refl q in
         set-part (λ (p : ClientBlock). p.held) q (after_grant_sent gift (b.pair q)) (set c after b.pair) (sym first)
         d ∙ set-part (λ (p : ClientBlock). p.held) c after b.pair refl d
 
-    all_quiet : (j : ℕ) → is_unprobed (granted_pair c q r gift b.pair j).probing ≡ true
-    all_quiet j = elim (cases_eq j q) [
-      | inl same ↦ rw (same, granted_here) (own_quiet (b.pair q) (view b.service q) (h.phases q) own)
-      | inr ne ↦ rw (granted_elsewhere j ne) (elim (cases_eq j c) [
-        | inl also ↦ rw (also, set-same c after b.pair) refl
-        | inr neither ↦ rw (set-other c j after b.pair neither) (last.settled j neither)
-      ])
-    ]
-
     -- those who aren't granted have no Trunk
-    low_elsewhere : (d : ℕ) → (d ≡ q → ⊥) → same_perm (set c after b.pair d).recorded perm.Trunk ≡ false
+    low_elsewhere : (d : ℕ) → (d ≡ q → ⊥) → same_perm (set c after b.pair d).recorded Perm.Trunk ≡ false
     low_elsewhere d ne = elim (cases_eq d c) [
       | inl same ↦ rw (same, set-same c after b.pair)
           (low_within (report_right r) k (reported_within k r (b.pair c) (view b.service c) (h.phases c) (other c apart)
@@ -168,9 +168,9 @@ granted-block {X} caching c q r whole g gift source k b h last = record {
           (quiet-is (b.pair d).probing (last.settled d neither))) low)
     ]
 
-    owner : (same_cap gift cap.ToT ≡ true) ⊎ (same_perm (cap_right gift) perm.Trunk ≡ false) → (i j : ℕ)
-        → same_perm (granted_pair c q r gift b.pair i).recorded perm.Trunk ≡ true → (j ≡ i → ⊥)
-        → same_perm (granted_pair c q r gift b.pair j).recorded perm.None ≡ true
+    owner : (same_cap gift Cap.ToT ≡ true) ⊎ (same_perm (cap_right gift) Perm.Trunk ≡ false) → (i j : ℕ)
+        → same_perm (granted_pair c q r gift b.pair i).recorded Perm.Trunk ≡ true → (j ≡ i → ⊥)
+        → same_perm (granted_pair c q r gift b.pair j).recorded Perm.None ≡ true
     owner (inl top) i j trunk ne = elim (cases_eq i q) [
       | inl same ↦ let differs : j ≡ q → ⊥ = λ e. ne (e ∙ sym same) in
           rw (granted_elsewhere j differs) (last.room top j differs)
@@ -178,29 +178,11 @@ granted-block {X} caching c q r whole g gift source k b h last = record {
           (rw (granted_elsewhere i differs) at trunk))
     ]
     owner (inr less) i j trunk ne = elim (cases_eq i q) [
-      | inl same ↦ absurd (let t : same_perm (cap_right gift) perm.Trunk ≡ true = rw (same, granted_here) at trunk in
+      | inl same ↦ absurd (let t : same_perm (cap_right gift) Perm.Trunk ≡ true = rw (same, granted_here) at trunk in
           cc)
-      | inr differs ↦ absurd (let t : same_perm (set c after b.pair i).recorded perm.Trunk ≡ true =
+      | inr differs ↦ absurd (let t : same_perm (set c after b.pair i).recorded Perm.Trunk ≡ true =
           rw (granted_elsewhere i differs) at trunk in let u = low_elsewhere i differs in cc)
     ]
-
-    -- before, nobody had a Trunk but the client whose ProbeAck is taken, if that carries data
-    none_out : same_perm (report_left r) perm.Trunk ≡ false → (d : ℕ) → is_out (b.pair d) (view b.service d) ≡ false
-    none_out bare d = not_out (b.pair d) (view b.service d) (elim (cases_eq d q) [
-      | inl same ↦ rw same (not-true (same_perm (b.pair q).recorded perm.Trunk)
-          (own_low (b.pair q) (view b.service q) (h.phases q) own))
-      | inr ne ↦ elim (cases_eq d c) [
-        | inl also ↦ rw also (both_trunk (report_left r) (b.pair c).recorded
-            (report_begins r (b.pair c) (view b.service c) (h.phases c) last.answered) bare)
-        | inr neither ↦ low_within (b.pair d).recorded k (spared_within k (b.pair d) (view b.service d) (h.phases d)
-            (other d ne) (quiet-is (b.pair d).probing (last.settled d neither))) low
-      ]
-    ])
-
-    memory_is : (data_too : Bool) → same_perm (report_left r) perm.Trunk ≡ data_too
-        → written r b.truth b.memory ≡ b.truth
-    memory_is true e = rw e refl
-    memory_is false e = rw e (h.memory (none_out e))
 
     not_calm : (p : ClientBlock) → p.acquiring ≡ AcquireOpen whole g → p ≡ resting → ⊥
     not_calm p e f = let i : p.acquiring ≡ NoAcquire = ap (λ (x : ClientBlock). x.acquiring) f in
@@ -213,48 +195,42 @@ granted-block {X} caching c q r whole g gift source k b h last = record {
 -- ---- the cap of a Grant that gives Trunk
 
 abbrev pub grows_to_trunk : Grow → Bool
-grows_to_trunk grow.NtoB = false
+grows_to_trunk Grow.NtoB = false
 grows_to_trunk _ = true
 
 -- ---- Trunk is granted only where nobody else is recorded
 
-pub low_none : (k : Cap) (p : Perm) → k ≡ cap.ToN → perm_le p (cap_right k) ≡ true → same_perm p perm.None ≡ true
-low_none k perm.None e f = refl
-low_none k perm.Branch e f = absurd (let g : perm_le perm.Branch (cap_right cap.ToN) ≡ true = rw e at f in cc)
-low_none k perm.Trunk e f = absurd (let g : perm_le perm.Trunk (cap_right cap.ToN) ≡ true = rw e at f in cc)
+pub low_none : (k : Cap) (p : Perm) → k ≡ Cap.ToN → perm_le p (cap_right k) ≡ true → same_perm p Perm.None ≡ true
+low_none k Perm.None e f = refl
+low_none k Perm.Branch e f = absurd (let g : perm_le Perm.Branch (cap_right Cap.ToN) ≡ true = rw e at f in cc)
+low_none k Perm.Trunk e f = absurd (let g : perm_le Perm.Trunk (cap_right Cap.ToN) ≡ true = rw e at f in cc)
 
-is_none : (k : Cap) → same_cap k cap.ToN ≡ true → k ≡ cap.ToN
-is_none cap.ToT e = absurd cc
-is_none cap.ToB e = absurd cc
-is_none cap.ToN e = refl
+is_none : (k : Cap) → same_cap k Cap.ToN ≡ true → k ≡ Cap.ToN
+is_none Cap.ToN e = refl
+is_none k e = absurd cc
 
 asks_none : (k : Cap) (whole : Bool) (g : Grow) → grows_to_trunk g ≡ true
-    → same_cap k (cap_asked (AcquireOpen whole g)) ≡ true → k ≡ cap.ToN
-asks_none k whole grow.NtoB e f = absurd cc
-asks_none k whole grow.NtoT e f = is_none k f
-asks_none k whole grow.BtoT e f = is_none k f
+    → same_cap k (cap_asked (AcquireOpen whole g)) ≡ true → k ≡ Cap.ToN
+asks_none k whole Grow.NtoB e f = absurd cc
+asks_none k whole g e f = is_none k f
 
 -- where the Acquire asks for Trunk, all others were probed to None
-pub room-trunk : {X : Type 0} (caching : ℕ → Bool) (c q : ℕ) (r : Report) (whole : Bool) (g : Grow) (source : ℕ)
-    (k : Cap) (b : Block X) → IsWell caching b → b.service ≡ Waits q true source k
-    → (b.pair c).probing ≡ ProbeAnswered r
-    → ((d : ℕ) → (d ≡ c → ⊥) → is_unprobed (b.pair d).probing ≡ true) → (b.pair q).acquiring ≡ AcquireOpen whole g
-    → grows_to_trunk g ≡ true → (c ≡ q → ⊥) → (d : ℕ) → (d ≡ q → ⊥)
-    → same_perm (set c (after_report r (b.pair c)) b.pair d).recorded perm.None ≡ true
-room-trunk caching c q r whole g source k b h waits answered settled wants trunk apart d ne = elim (cases_eq d c) [
-  | inl same ↦ rw (same, set-same c (after_report r (b.pair c)) b.pair)
-      (low_none k (report_right r) cap_is (reported_within k r (b.pair c) (view b.service c) (h.phases c) (seen c apart)
-      answered))
-  | inr neither ↦ rw (set-other c d (after_report r (b.pair c)) b.pair neither)
-      (low_none k (b.pair d).recorded cap_is (spared_within k (b.pair d) (view b.service d) (h.phases d) (seen d ne)
-      (quiet-is (b.pair d).probing (settled d neither))))
-]
-  where
-    seen : (i : ℕ) → (i ≡ q → ⊥) → view b.service i ≡ Other k
-    seen i differs = rw waits (other_view q source i k differs)
-
-    asked : IsAskedCap (Waits q true source k) b.pair
-    asked = rw waits at h.asked_cap
-
-    cap_is : k ≡ cap.ToN
-    cap_is = asks_none k whole g trunk (rw wants at asked)
+pub room-trunk : {X : Type 0} {caching : ℕ → Bool} (c q : ℕ) (r : Report) (whole : Bool) (g : Grow) (source : ℕ)
+    (k : Cap) {b : Block X} → IsWell caching b → b.service ≡ Waits q true source k
+    → (b.pair c).probing ≡ ProbeAnswered r → ((d : ℕ) → (d ≡ c → ⊥) → is_unprobed (b.pair d).probing ≡ true)
+    → (b.pair q).acquiring ≡ AcquireOpen whole g → grows_to_trunk g ≡ true → (c ≡ q → ⊥) → (d : ℕ) → (d ≡ q → ⊥)
+    → same_perm (set c (after_report r (b.pair c)) b.pair d).recorded Perm.None ≡ true
+room-trunk c q r whole g source k {b} h waits answered settled wants trunk apart d ne =
+    let seen : (i : ℕ) → (i ≡ q → ⊥) → view b.service i ≡ Other k =
+    λ i differs. rw waits (other_view q source i k differs) in
+    let asked : IsAskedCap (Waits q true source k) b.pair = rw waits at h.asked_cap in
+    let cap_is : k ≡ Cap.ToN = asks_none k whole g trunk (rw wants at asked) in
+    elim (cases_eq d c) [
+      | inl same ↦ rw (same, set-same c (after_report r (b.pair c)) b.pair)
+          (low_none k (report_right r) cap_is (reported_within k r (b.pair c) (view b.service c) (h.phases c)
+          (seen c apart)
+          answered))
+      | inr neither ↦ rw (set-other c d (after_report r (b.pair c)) b.pair neither)
+          (low_none k (b.pair d).recorded cap_is (spared_within k (b.pair d) (view b.service d) (h.phases d) (seen d ne)
+          (quiet-is (b.pair d).probing (settled d neither))))
+    ]

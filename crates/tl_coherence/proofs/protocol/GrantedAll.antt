@@ -1,55 +1,46 @@
 -- The last ProbeAck that is taken, with which the Acquire that waited is granted, keeps the invariant.
 use Rattle.tl_coherence.proofs.protocol.Imports.{Channel, Cap, Grow, Report, ClientBlock, Own, Other, Granting}
 use Rattle.tl_coherence.proofs.protocol.Imports.{GrantedOther, ProbeAnswered, is_unprobed, is_granted_data}
-use Rattle.tl_coherence.proofs.protocol.Imports.{after_grant_sent, after_report, Kind, Request, Acquire, Probe}
-use Rattle.tl_coherence.proofs.protocol.Imports.{ProbeAck, Release, Answer, Grant, ReleaseAck, GrantAck, Packet, set}
-use Rattle.tl_coherence.proofs.protocol.Imports.{Block, State, Link, view, packet, packets_on, is_transfer, is_wanting}
+use Rattle.tl_coherence.proofs.protocol.Imports.{after_grant_sent, after_report, Kind, Acquire, Probe, ProbeAck}
+use Rattle.tl_coherence.proofs.protocol.Imports.{Release, Answer, Grant, ReleaseAck, GrantAck, Packet, set, Block}
+use Rattle.tl_coherence.proofs.protocol.Imports.{State, Link, view, packet, packets_on, is_transfer, is_wanting}
 use Rattle.tl_coherence.proofs.protocol.Imports.{is_sent, is_answered, is_releasing, is_acked, shows, shown}
 use Rattle.tl_coherence.proofs.protocol.Imports.{granted_block, Move, Stays, Pushes, Pops, IsMoved, agrees, is_own_move}
 use Rattle.tl_coherence.proofs.protocol.Imports.{channel_for, IsInvariant}
 use Rattle.std.proofs.Common.{◌≡◌, ℕ, Bool, true, false, ◌&&◌, List, [], ◌∷◌, ◌++◌, refl, sym, ◌∙◌, ap, ap₂, ◌⊎◌, inl}
 use Rattle.std.proofs.Common.{inr}
-use Rattle.std.specs.Prelude.{◌==◌, if◌then◌else◌}
-use Rattle.std.proofs.lemmas.Bool.{cases_eq, ne_eqb}
-use Rattle.std.specs.Bool.{beq}
-use Rattle.tl_beat.specs.declared.channel.Channel.TheVariants as channel
+use Rattle.std.{specs.Prelude.◌==◌, specs.Prelude.if◌then◌else◌, proofs.lemmas.Bool.cases_eq, proofs.lemmas.Bool.ne_eqb}
+use Rattle.std.{specs.Bool.beq}
 use Rattle.tl_coherence.specs.protocol.Protocol.{granted_link, report_grants}
-use Rattle.tl_coherence.proofs.queues.Facts.{own_quiet}
-use Rattle.tl_coherence.proofs.protocol.Granted.{IsLast, granted-block}
+use Rattle.tl_coherence.proofs.{queues.Facts.own_quiet, protocol.Granted.IsLast, protocol.Granted.granted-block}
+use Rattle.tl_coherence.proofs.{queues.KindMoves.spares, queues.KindMoves.same_again}
 use Rattle.tl_coherence.proofs.queues.Moves.{names-kept, invariant-moved, moved_as}
-use Rattle.tl_coherence.proofs.queues.KindMoves.{spares, same_again}
 use Rattle.tl_coherence.proofs.queues.Tokens.{same_number, set-same, set-other, set-part}
 
 -- c's ProbeAck goes, and q's Grant comes
 abbrev pub granted_moves : ℕ → ℕ → ℕ → ℕ → Channel → Move
-granted_moves n c q d channel.C = if d == c then Pops ProbeAck n else Stays
-granted_moves n c q d channel.D = if d == q then Pushes Grant n else Stays
+granted_moves n c q d Channel.C = if d == c then Pops ProbeAck n else Stays
+granted_moves n c q d Channel.D = if d == q then Pushes Grant n else Stays
 granted_moves n c q d _ = Stays
 
 -- what one shows before and after it, by the parts that the event leaves
 at_sender : (n : ℕ) (k : Kind) (p : ClientBlock) (d : Bool) (gift : Cap) → is_transfer k ≡ true
     → agrees (granted_moves n 0 1 1 (channel_for k)) k n (shows k p Own)
     (shows k (after_grant_sent gift p) (Granting d gift)) ≡ true
-at_sender n Request p d gift t = absurd cc
-at_sender n Answer p d gift t = absurd cc
-at_sender n Acquire p d gift t = go (is_wanting p.acquiring)
-  where
-    go : (b : Bool) → beq (b && false) (b && false) ≡ true
-    go true = refl
-    go false = refl
+at_sender n Acquire p d gift t =
+    let go : (b : Bool) → beq (b && false) (b && false) ≡ true = elim [ true ↦ refl | false ↦ refl ] in
+    go (is_wanting p.acquiring)
 at_sender n Probe p d gift t = same_again (is_sent p.probing)
 at_sender n ProbeAck p d gift t = same_again (is_answered p.probing)
 at_sender n Release p d gift t = same_again (is_releasing p.letting)
 at_sender n Grant p d gift t = rw (same_number n) refl
 at_sender n ReleaseAck p d gift t = same_again (is_acked p.letting)
 at_sender n GrantAck p d gift t = refl
+at_sender n k p d gift t = absurd cc
 
 at_reporter : (n : ℕ) (k : Kind) (r : Report) (p : ClientBlock) (j : Cap) → is_transfer k ≡ true
-    → p.probing ≡ ProbeAnswered r
-    → agrees (granted_moves n 1 0 1 (channel_for k)) k n (shows k p (Other j)) (shows k (after_report r p) GrantedOther)
-    ≡ true
-at_reporter n Request r p j t e = absurd cc
-at_reporter n Answer r p j t e = absurd cc
+    → p.probing ≡ ProbeAnswered r → agrees (granted_moves n 1 0 1 (channel_for k)) k n (shows k p (Other j))
+    (shows k (after_report r p) GrantedOther) ≡ true
 at_reporter n Acquire r p j t e = same_again (is_wanting p.acquiring && true)
 at_reporter n Probe r p j t e = rw e refl
 at_reporter n ProbeAck r p j t e = rw (same_number n) refl
@@ -57,11 +48,10 @@ at_reporter n Release r p j t e = same_again (is_releasing p.letting)
 at_reporter n Grant r p j t e = refl
 at_reporter n ReleaseAck r p j t e = same_again (is_acked p.letting)
 at_reporter n GrantAck r p j t e = refl
+at_reporter n k r p j t e = absurd cc
 
 at_other : (n : ℕ) (k : Kind) (p : ClientBlock) (j : Cap) → is_transfer k ≡ true
     → agrees Stays k n (shows k p (Other j)) (shows k p GrantedOther) ≡ true
-at_other n Request p j t = absurd cc
-at_other n Answer p j t = absurd cc
 at_other n Acquire p j t = same_again (is_wanting p.acquiring && true)
 at_other n Probe p j t = same_again (is_sent p.probing)
 at_other n ProbeAck p j t = same_again (is_answered p.probing)
@@ -69,37 +59,50 @@ at_other n Release p j t = same_again (is_releasing p.letting)
 at_other n Grant p j t = refl
 at_other n ReleaseAck p j t = same_again (is_acked p.letting)
 at_other n GrantAck p j t = refl
+at_other n k p j t = absurd cc
 
 -- moves by the place of the client
 moves_of_sender : (n c q : ℕ) (ch : Channel) → (q ≡ c → ⊥) → granted_moves n c q q ch ≡ granted_moves n 0 1 1 ch
-moves_of_sender n c q channel.A ne = refl
-moves_of_sender n c q channel.B ne = refl
-moves_of_sender n c q channel.C ne = rw (ne_eqb q c ne) refl
-moves_of_sender n c q channel.D ne = rw (same_number q) refl
-moves_of_sender n c q channel.E ne = refl
+moves_of_sender n c q Channel.C ne = rw (ne_eqb q c ne) refl
+moves_of_sender n c q Channel.D ne = rw (same_number q) refl
+moves_of_sender n c q ch ne = refl
 
 moves_of_reporter : (n c q : ℕ) (ch : Channel) → (c ≡ q → ⊥) → granted_moves n c q c ch ≡ granted_moves n 1 0 1 ch
-moves_of_reporter n c q channel.A ne = refl
-moves_of_reporter n c q channel.B ne = refl
-moves_of_reporter n c q channel.C ne = rw (same_number c) refl
-moves_of_reporter n c q channel.D ne = rw (ne_eqb c q ne) refl
-moves_of_reporter n c q channel.E ne = refl
+moves_of_reporter n c q Channel.C ne = rw (same_number c) refl
+moves_of_reporter n c q Channel.D ne = rw (ne_eqb c q ne) refl
+moves_of_reporter n c q ch ne = refl
 
 moves_of_other : (n c q d : ℕ) (ch : Channel) → (d ≡ c → ⊥) → (d ≡ q → ⊥) → granted_moves n c q d ch ≡ Stays
-moves_of_other n c q d channel.A o m = refl
-moves_of_other n c q d channel.B o m = refl
-moves_of_other n c q d channel.C o m = rw (ne_eqb d c o) refl
-moves_of_other n c q d channel.D o m = rw (ne_eqb d q m) refl
-moves_of_other n c q d channel.E o m = refl
+moves_of_other n c q d Channel.C o m = rw (ne_eqb d c o) refl
+moves_of_other n c q d Channel.D o m = rw (ne_eqb d q m) refl
+moves_of_other n c q d ch o m = refl
 
-pub report_grants-kept : {X : Type 0} (caching : ℕ → Bool) (c q n : ℕ) (r : Report) (whole : Bool) (g : Grow)
-    (gift : Cap) (source : ℕ) (k : Cap) (rest : List Packet) (s : State X)
-    → IsInvariant caching s
+pub report_grants-kept : {X : Type 0} {caching : ℕ → Bool} {c q : ℕ} (n : ℕ) {r : Report} {whole : Bool} {g : Grow}
+    {gift : Cap} {source : ℕ} {k : Cap} (rest : List Packet) {s : State X} → IsInvariant caching s
     → (s.link c).c ≡ packet ProbeAck n ∷ rest → IsLast c q r whole g gift source k (s.block n)
     → IsInvariant caching (report_grants c q n r (is_granted_data whole g ((s.block n).pair q).recorded) gift rest s)
-report_grants-kept {X} caching c q n r whole g gift source k rest s inv first last =
+report_grants-kept {X} {caching} {c} {q} n {r} {whole} {g} {gift} {source} {k} rest {s} inv first last =
+    let links : ℕ → Link = granted_link c q n rest s.link in
+    let links_q : links q ≡ at_q = set-same q at_q (set c at_c s.link) in
+    let links_c : links c ≡ at_c = set-other q c at_q (set c at_c s.link) apart ∙ set-same c at_c s.link in
+    let links_other : (d : ℕ) → (d ≡ q → ⊥) → (d ≡ c → ⊥) → links d ≡ s.link d =
+    λ d m o. set-other q d at_q (set c at_c s.link) m ∙ set-other c d at_c s.link o in
+    let moved : (d : ℕ) (ch : Channel) → IsMoved (granted_moves n c q d ch) (packets_on ch (s.link d))
+    (packets_on ch (links d)) = λ d ch. elim (cases_eq d q) [
+      | inl same ↦ rw same (moved_as (granted_moves n c q q ch) (granted_moves n 0 1 1 ch) (packets_on ch (s.link q))
+          (packets_on ch (links q))
+          (packets_on ch at_q) (moves_of_sender n c q ch apart_too) (ap (packets_on ch) links_q) (moved_q ch))
+      | inr m ↦ elim (cases_eq d c) [
+        | inl same ↦ rw same (moved_as (granted_moves n c q c ch) (granted_moves n 1 0 1 ch) (packets_on ch (s.link c))
+            (packets_on ch (links c))
+            (packets_on ch at_c) (moves_of_reporter n c q ch apart) (ap (packets_on ch) links_c) (moved_c ch))
+        | inr o ↦ moved_as (granted_moves n c q d ch) Stays (packets_on ch (s.link d)) (packets_on ch (links d))
+            (packets_on ch (s.link d))
+            (moves_of_other n c q d ch o m) (ap (packets_on ch) (links_other d m o)) refl
+      ]
+    ] in
     invariant-moved caching n new links (granted_moves n c q) s.lets s.tracked s inv (record {
-      well = granted-block caching c q r whole g gift source k (s.block n) (inv.blocks n) last;
+      well = granted-block (inv.blocks n) last;
       moved = λ d ch. moved d ch;
       own = λ d ch. own d ch;
       fits = λ d j t. fits d j t (cases_eq d q) (cases_eq d c);
@@ -114,14 +117,10 @@ report_grants-kept {X} caching c q n r whole g gift source k rest s inv first la
     new : Block X
     new = granted_block c q r with_data gift (s.block n)
 
-    links : ℕ → Link
-    links = granted_link c q n rest s.link
-
     apart : c ≡ q → ⊥
     apart e =
         let own : view (s.block n).service q ≡ Own = rw (last.waits, same_number q) refl in
-        let quiet : is_unprobed ((s.block n).pair q).probing ≡ true =
-        own_quiet ((s.block n).pair q) (view (s.block n).service q) ((inv.blocks n).phases q) own in
+        let quiet = own_quiet ((s.block n).pair q) (view (s.block n).service q) ((inv.blocks n).phases q) own in
         let answered : ((s.block n).pair q).probing ≡ ProbeAnswered r = rw e at last.answered in
         let differs : is_unprobed (ProbeAnswered r) ≡ true = rw answered at quiet in
         absurd cc
@@ -138,19 +137,17 @@ report_grants-kept {X} caching c q n r whole g gift source k rest s inv first la
     never false m e = absurd cc
 
     own : (d : ℕ) (ch : Channel) → is_own_move ch (granted_moves n c q d ch) ≡ true
-    own d channel.A = refl
-    own d channel.B = refl
-    own d channel.C = go (d == c)
+    own d Channel.C = go (d == c)
       where
-        go : (b : Bool) → is_own_move channel.C (if b then Pops ProbeAck n else Stays) ≡ true
+        go : (b : Bool) → is_own_move Channel.C (if b then Pops ProbeAck n else Stays) ≡ true
         go true = refl
         go false = refl
-    own d channel.D = go (d == q)
+    own d Channel.D = go (d == q)
       where
-        go : (b : Bool) → is_own_move channel.D (if b then Pushes Grant n else Stays) ≡ true
+        go : (b : Bool) → is_own_move Channel.D (if b then Pushes Grant n else Stays) ≡ true
         go true = refl
         go false = refl
-    own d channel.E = refl
+    own d ch = refl
 
     at_q : Link
     at_q = record (s.link q) { d = (s.link q).d ++ packet Grant n ∷ [] }
@@ -158,44 +155,13 @@ report_grants-kept {X} caching c q n r whole g gift source k rest s inv first la
     at_c : Link
     at_c = record (s.link c) { c = rest }
 
-    links_q : links q ≡ at_q
-    links_q = set-same q at_q (set c at_c s.link)
-
-    links_c : links c ≡ at_c
-    links_c = set-other q c at_q (set c at_c s.link) apart ∙ set-same c at_c s.link
-
-    links_other : (d : ℕ) → (d ≡ q → ⊥) → (d ≡ c → ⊥) → links d ≡ s.link d
-    links_other d m o = set-other q d at_q (set c at_c s.link) m ∙ set-other c d at_c s.link o
-
     moved_q : (ch : Channel) → IsMoved (granted_moves n 0 1 1 ch) (packets_on ch (s.link q)) (packets_on ch at_q)
-    moved_q channel.A = refl
-    moved_q channel.B = refl
-    moved_q channel.C = refl
-    moved_q channel.D = refl
-    moved_q channel.E = refl
+    moved_q Channel.A = refl
+    moved_q ch = refl
 
     moved_c : (ch : Channel) → IsMoved (granted_moves n 1 0 1 ch) (packets_on ch (s.link c)) (packets_on ch at_c)
-    moved_c channel.A = refl
-    moved_c channel.B = refl
-    moved_c channel.C = first
-    moved_c channel.D = refl
-    moved_c channel.E = refl
-
-    moved : (d : ℕ) (ch : Channel) → IsMoved (granted_moves n c q d ch) (packets_on ch (s.link d))
-        (packets_on ch (links d))
-    moved d ch = elim (cases_eq d q) [
-      | inl same ↦ rw same (moved_as (granted_moves n c q q ch) (granted_moves n 0 1 1 ch) (packets_on ch (s.link q))
-          (packets_on ch (links q))
-          (packets_on ch at_q) (moves_of_sender n c q ch apart_too) (ap (packets_on ch) links_q) (moved_q ch))
-      | inr m ↦ elim (cases_eq d c) [
-        | inl same ↦ rw same (moved_as (granted_moves n c q c ch) (granted_moves n 1 0 1 ch) (packets_on ch (s.link c))
-            (packets_on ch (links c))
-            (packets_on ch at_c) (moves_of_reporter n c q ch apart) (ap (packets_on ch) links_c) (moved_c ch))
-        | inr o ↦ moved_as (granted_moves n c q d ch) Stays (packets_on ch (s.link d)) (packets_on ch (links d))
-            (packets_on ch (s.link d))
-            (moves_of_other n c q d ch o m) (ap (packets_on ch) (links_other d m o)) refl
-      ]
-    ]
+    moved_c Channel.C = first
+    moved_c ch = refl
 
     agrees_as : (j : Kind) (m p : Move) (a b x y : Bool) → m ≡ p → a ≡ x → b ≡ y → agrees p j n x y ≡ true
         → agrees m j n a b ≡ true
@@ -230,15 +196,13 @@ report_grants-kept {X} caching c q n r whole g gift source k rest s inv first la
 
     acquiring_same : (d : ℕ) → (new.pair d).acquiring ≡ (old d).acquiring
     acquiring_same d =
-        let first_ : (set c after old q).acquiring ≡ (old q).acquiring =
-        set-part (λ (p : ClientBlock). p.acquiring) c after old refl q in
+        let first_ = set-part (λ (p : ClientBlock). p.acquiring) c after old refl q in
         set-part (λ (p : ClientBlock). p.acquiring) q (after_grant_sent gift (old q)) (set c after old) (sym first_)
         d ∙ set-part (λ (p : ClientBlock). p.acquiring) c after old refl d
 
     letting_same : (d : ℕ) → (new.pair d).letting ≡ (old d).letting
     letting_same d =
-        let first_ : (set c after old q).letting ≡ (old q).letting =
-        set-part (λ (p : ClientBlock). p.letting) c after old refl q in
+        let first_ = set-part (λ (p : ClientBlock). p.letting) c after old refl q in
         set-part (λ (p : ClientBlock). p.letting) q (after_grant_sent gift (old q)) (set c after old) (sym first_)
         d ∙ set-part (λ (p : ClientBlock). p.letting) c after old refl d
 
@@ -252,12 +216,10 @@ report_grants-kept {X} caching c q n r whole g gift source k rest s inv first la
         (at_sender n j (old q) with_data gift t))
     fits d j t (inr m) (inl same) =
         rw same (agrees_as j (granted_moves n c q c (channel_for j)) (granted_moves n 1 0 1 (channel_for j))
-        (shown j c (s.block n)) (shown j c new)
-        (shows j (old c) (Other k)) (shows j after GrantedOther)
+        (shown j c (s.block n)) (shown j c new) (shows j (old c) (Other k)) (shows j after GrantedOther)
         (moves_of_reporter n c q (channel_for j) apart) (ap (shows j (old c)) (view_other c apart))
         (ap₂ (shows j) pair_c (new_other c apart)) (at_reporter n j r (old c) k t last.answered))
-    fits d j t (inr m) (inr o) =
-        agrees_as j (granted_moves n c q d (channel_for j)) Stays (shown j d (s.block n)) (shown j d new)
-        (shows j (old d) (Other k)) (shows j (old d) GrantedOther)
+    fits d j t (inr m) (inr o) = agrees_as j (granted_moves n c q d (channel_for j)) Stays (shown j d (s.block n))
+        (shown j d new) (shows j (old d) (Other k)) (shows j (old d) GrantedOther)
         (moves_of_other n c q d (channel_for j) o m) (ap (shows j (old d)) (view_other d m))
         (ap₂ (shows j) (pair_other d m o) (new_other d m)) (at_other n j (old d) k t)

@@ -1,23 +1,20 @@
 -- What is due to a client: the message of the first token of channel D, and what it answers.
 use Rattle.tl_coherence.proofs.protocol.Imports.{Message, MessageA, Cap, Grow, is_replied, IsInvariant, Own, Other}
-use Rattle.tl_coherence.proofs.protocol.Imports.{Granting, Acknowledging, GrantedOther, ReleasePhase, NoRelease}
-use Rattle.tl_coherence.proofs.protocol.Imports.{ReleaseSent, ReleaseAcked, AcquirePhase, NoAcquire, AcquireOpen}
-use Rattle.tl_coherence.proofs.protocol.Imports.{is_unacquired, is_unreleased, Service, Free, Waits, GrantSent}
-use Rattle.tl_coherence.proofs.protocol.Imports.{GrantTaken, State, Replied, Acquires, view, packet, shown, is_wanting}
-use Rattle.tl_coherence.proofs.protocol.Imports.{is_granting, is_acked, AccessMessages, block_message, Answer, Grant}
-use Rattle.tl_coherence.proofs.protocol.Imports.{ReleaseAck, Packet}
-use Rattle.std.proofs.Common.{◌≡◌, ℕ, Bool, true, false, not, ◌&&◌, List, ◌∷◌, Some, refl, sym, ◌∙◌, ap, lit≤}
+use Rattle.tl_coherence.proofs.protocol.Imports.{Granting, Acknowledging, GrantedOther, ReleasePhase, ReleaseAcked}
+use Rattle.tl_coherence.proofs.protocol.Imports.{AcquirePhase, NoAcquire, AcquireOpen, is_unacquired, is_unreleased}
+use Rattle.tl_coherence.proofs.protocol.Imports.{Service, Free, Waits, GrantSent, GrantTaken, State, Replied, Acquires}
+use Rattle.tl_coherence.proofs.protocol.Imports.{view, packet, shown, is_wanting, is_granting, is_acked, AccessMessages}
+use Rattle.tl_coherence.proofs.protocol.Imports.{block_message, Answer, Grant, ReleaseAck, Packet}
+use Rattle.std.proofs.Common.{◌≡◌, ℕ, Bool, true, false, not, ◌&&◌, List, ◌∷◌, Some, refl, ◌∙◌, ap, lit≤}
 use Rattle.std.specs.Prelude.{◌==◌, if◌then◌else◌}
 use Rattle.std.proofs.lemmas.Bool.{eqb-true, and_from}
-use Rattle.tl_beat.specs.declared.opcode.OpD.TheVariants as opd
-use Rattle.tl_burst.specs.declared.message.Message.TheVariants as message
+use Rattle.tl_beat.specs.declared.opcode.OpD.{OpD}
 use Rattle.tl_burst.specs.declared.message.MessageD.{MessageD}
 use Rattle.tl_params.specs.statement.Param.{cap_code}
 use Rattle.tl_rules.specs.statement.Conformance.{answers}
 use Rattle.tl_manager.specs.statement.Handing.{grant_opcode, no_payload}
 use Rattle.tl_manager.specs.statement.Service.{is_access_answer}
-use Rattle.tl_coherence.specs.protocol.Phase.{grant_fits}
-use Rattle.tl_coherence.specs.refinement.SimulationRelation.{IsAnswered}
+use Rattle.tl_coherence.specs.{protocol.Phase.grant_fits, refinement.SimulationRelation.IsAnswered}
 use Rattle.tl_coherence.proofs.queues.Facts.{grant_is_fit, granting_asks}
 use Rattle.tl_coherence.proofs.queues.Tokens.{same_number, holds-first}
 use Rattle.tl_coherence.proofs.protocol.BothParts.{is_of-is, acquires_of-is, is_replied-is}
@@ -29,17 +26,16 @@ pub record IsAnswerDue {w : ℕ} (c source : ℕ) (mail : AccessMessages w) (s :
   pub used : s.uses c source ≡ Replied
   pub answer : MessageD w
   pub request : MessageA w
-  pub answer_is : mail.answer c source ≡ message.D answer
-  pub request_is : mail.request c source ≡ message.A request
+  pub answer_is : mail.answer c source ≡ Message.D answer
+  pub request_is : mail.request c source ≡ Message.A request
   pub answers_access : is_access_answer answer.opcode ≡ true
   pub admits : answers answer.opcode request.opcode ≡ true
   pub from : answer.source ≡ source
   pub size : answer.size ≡ request.size
 
 pub answer-due : {w : ℕ} (caching : ℕ → Bool) (c source : ℕ) (rest : List Packet) (mail : AccessMessages w)
-    (s : State (List ℕ)) → IsInvariant caching s
-    → IsAnswered source (mail.request c source) (mail.answer c source) (s.uses c source)
-    → (s.link c).d ≡ packet Answer source ∷ rest → IsAnswerDue c source mail s
+    (s : State (List ℕ)) → IsInvariant caching s → IsAnswered source (mail.request c source) (mail.answer c source)
+    (s.uses c source) → (s.link c).d ≡ packet Answer source ∷ rest → IsAnswerDue c source mail s
 answer-due {w} caching c source rest mail s inv answered first = go (mail.request c source) (mail.answer c source) refl
     refl (rw used at answered)
   where
@@ -49,7 +45,7 @@ answer-due {w} caching c source rest mail s inv answered first = go (mail.reques
 
     go : (a b : Message w) → mail.request c source ≡ a → mail.answer c source ≡ b → IsAnswered source a b Replied
         → IsAnswerDue c source mail s
-    go (message.A m) (message.D x) e f is = record {
+    go (Message.A m) (Message.D x) e f is = record {
       used = used;
       answer = x;
       request = m;
@@ -60,14 +56,7 @@ answer-due {w} caching c source rest mail s inv answered first = go (mail.reques
       from = is.2;
       size = is.3;
     }
-    go (message.A m) (message.A x) e f is = absurd is
-    go (message.A m) (message.B x) e f is = absurd is
-    go (message.A m) (message.C x) e f is = absurd is
-    go (message.A m) (message.E x) e f is = absurd is
-    go (message.B m) x e f is = absurd is
-    go (message.C m) x e f is = absurd is
-    go (message.D m) x e f is = absurd is
-    go (message.E m) x e f is = absurd is
+    go a x e f is = absurd is
 
 -- ---- a Grant
 
@@ -84,21 +73,18 @@ pub record IsGrantDue (c n : ℕ) (s : State (List ℕ)) : Type 0 where
 pub granting-service : (s : Service) (c : ℕ) → is_granting (view s c) ≡ true → (d : Bool) × (k : Cap)
     × (s ≡ GrantSent c d k)
 granting-service Free c e = absurd cc
-granting-service (Waits q o source k) c e = absurd (never (o && (c == q)) e)
-  where
-    never : (x : Bool) → is_granting (if x then Own else Other k) ≡ true → ⊥
-    never true f = cc
-    never false f = cc
-granting-service (GrantTaken q) c e = absurd (never (c == q) e)
-  where
-    never : (x : Bool) → is_granting (if x then Acknowledging else GrantedOther) ≡ true → ⊥
-    never true f = cc
-    never false f = cc
-granting-service (GrantSent q d k) c e = let same : c ≡ q = eqb-true c q (own (c == q) e) in (d, k, rw same refl)
-  where
-    own : (x : Bool) → is_granting (if x then Granting d k else GrantedOther) ≡ true → x ≡ true
-    own true f = refl
-    own false f = absurd cc
+granting-service (Waits q o source k) c e =
+    let never : (x : Bool) → is_granting (if x then Own else Other k) ≡ true → ⊥ =
+    elim [ true ↦ λ f. cc | false ↦ λ f. cc ] in
+    absurd (never (o && (c == q)) e)
+granting-service (GrantTaken q) c e =
+    let never : (x : Bool) → is_granting (if x then Acknowledging else GrantedOther) ≡ true → ⊥ =
+    elim [ true ↦ λ f. cc | false ↦ λ f. cc ] in
+    absurd (never (c == q) e)
+granting-service (GrantSent q d k) c e =
+    let own : (x : Bool) → is_granting (if x then Granting d k else GrantedOther) ≡ true → x ≡ true =
+    elim [ true ↦ λ f. refl | false ↦ λ f. absurd cc ] in
+    let same : c ≡ q = eqb-true c q (own (c == q) e) in (d, k, rw same refl)
 
 wanting_is : (x : AcquirePhase) → not (is_unacquired x) ≡ true → (whole : Bool) × (g : Grow) × (x ≡ AcquireOpen whole g)
 wanting_is NoAcquire e = absurd cc
@@ -107,18 +93,16 @@ wanting_is (AcquireOpen whole g) e = (whole, g, refl)
 -- the use of the source of an open Acquire
 pub acquire-used : (caching : ℕ → Bool) (c n : ℕ) (s : State (List ℕ)) → IsInvariant caching s
     → is_wanting ((s.block n).pair c).acquiring ≡ true → s.uses c ((s.block n).source c) ≡ Acquires n
-acquire-used caching c n s inv wanting =
-    acquires_of-is n (s.uses c ((s.block n).source c))
+acquire-used caching c n s inv wanting = acquires_of-is n (s.uses c ((s.block n).source c))
     (inv.named.acquires c ((s.block n).source c) n ∙ and_from (is_wanting ((s.block n).pair c).acquiring)
     ((s.block n).source c == (s.block n).source c) wanting (same_number ((s.block n).source c)))
 
 -- how the client of a Grant sees the block
 pub own_view : (c : ℕ) (d : Bool) (k : Cap) (service : Service) → service ≡ GrantSent c d k
     → view service c ≡ Granting d k
-own_view c d k service e = ap (λ (x : Service). view x c) e ∙ here (c == c) (same_number c)
-  where
-    here : (x : Bool) → x ≡ true → (if x then Granting d k else GrantedOther) ≡ Granting d k
-    here x f = rw f refl
+own_view c d k service e =
+    let here : (x : Bool) → x ≡ true → (if x then Granting d k else GrantedOther) ≡ Granting d k = λ x f. rw f refl in
+    ap (λ (x : Service). view x c) e ∙ here (c == c) (same_number c)
 
 pub grant-due : (caching : ℕ → Bool) (c n : ℕ) (rest : List Packet) (s : State (List ℕ)) → IsInvariant caching s
     → (s.link c).d ≡ packet Grant n ∷ rest → IsGrantDue c n s
@@ -138,8 +122,7 @@ grant-due caching c n rest s inv first =
       g = wants.1;
       service = sent.2;
       wants = wants.2;
-      fits = sym (ap (λ (x : AcquirePhase). grant_fits (b.pair c).recorded (b.pair c).held sent.0 sent.1 x) wants.2)
-          ∙ fits;
+      fits = cc (wants.2, fits);
       used = acquire-used caching c n s inv (ap is_wanting wants.2);
     }
 
@@ -158,7 +141,7 @@ grant_message d k source sink payload = record {
 }
 
 pub grant-rendered : {w : ℕ} (c n : ℕ) (s : State (List ℕ)) (is : IsGrantDue c n s)
-    → block_message {w = w} Grant c n (s.block n) ≡ message.D (grant_message is.data_too is.k ((s.block n).source c)
+    → block_message {w = w} Grant c n (s.block n) ≡ Message.D (grant_message is.data_too is.k ((s.block n).source c)
     (s.block n).tracker (s.block n).truth)
 unfolding block_message
 grant-rendered {w} c n s is = rw is.service refl
@@ -168,13 +151,12 @@ grant-rendered {w} c n s is = rw is.service refl
 -- the message of a ReleaseAck
 abbrev pub ack_message : {w : ℕ} → ℕ → MessageD w
 ack_message source = record {
-  opcode = opd.ReleaseAck;
+  opcode = OpD.ReleaseAck;
   param = 0;
   size = 6;
   source = source;
   sink = 0;
-  denied =
-      false;
+  denied = false;
   payload = no_payload;
   corrupt = 0;
   small = lit≤ tt;
@@ -182,18 +164,14 @@ ack_message source = record {
 
 acked_open : (x : ReleasePhase) → is_acked x ≡ true → not (is_unreleased x) ≡ true
 acked_open ReleaseAcked e = refl
-acked_open NoRelease e = absurd cc
-acked_open (ReleaseSent r) e = absurd cc
+acked_open x e = absurd cc
 
-pub ack-due : (caching : ℕ → Bool) (c n : ℕ) (rest : List Packet) (s : State (List ℕ)) → IsInvariant caching s
-    → (s.link c).d ≡ packet ReleaseAck n ∷ rest
-    → s.lets c ((s.block n).release_source c) ≡ Some n
-ack-due caching c n rest s inv first =
-    let acked : is_acked ((s.block n).pair c).letting ≡ true =
-    holds-first ReleaseAck (s.link c).d rest (packet ReleaseAck n) (λ i. shown ReleaseAck c (s.block i)) first refl
-    (inv.transfers c ReleaseAck refl) in
-    let live : not (is_unreleased ((s.block n).pair c).letting) ≡ true =
-    acked_open ((s.block n).pair c).letting acked in
+pub ack-due : {caching : ℕ → Bool} (c n : ℕ) (rest : List Packet) {s : State (List ℕ)} → IsInvariant caching s
+    → (s.link c).d ≡ packet ReleaseAck n ∷ rest → s.lets c ((s.block n).release_source c) ≡ Some n
+ack-due c n rest {s} inv first =
+    let acked = holds-first ReleaseAck (s.link c).d rest (packet ReleaseAck n) (λ i. shown ReleaseAck c (s.block i))
+    first refl (inv.transfers c ReleaseAck refl) in
+    let live = acked_open ((s.block n).pair c).letting acked in
     is_of-is n (s.lets c ((s.block n).release_source c))
     (inv.named.releases c ((s.block n).release_source c) n
     ∙ and_from (not (is_unreleased ((s.block n).pair c).letting))

@@ -1,75 +1,65 @@
 -- The request whose beat is first on channel A of a link: an access that was asked, or an Acquire that is wanted.
 use Rattle.tl_coherence.proofs.protocol.Imports.{Beat, Message, MessageA, beats_of, Config, Grow, is_asked, AcquireOpen}
 use Rattle.tl_coherence.proofs.protocol.Imports.{Block, State, Asked, Acquires, packet, shown, is_wanting, is_unserved}
-use Rattle.tl_coherence.proofs.protocol.Imports.{view, AccessMessages, block_message, Request, Acquire, Packet}
-use Rattle.std.proofs.Common.{◌≡◌, ℕ, ◌-◌, ◌*◌, ◌^◌, ◌<◌, Bool, true, false, ◌&&◌, List, ◌∷◌, Some, None, refl, sym}
+use Rattle.tl_coherence.proofs.protocol.Imports.{view, AccessMessages, block_message, Request, Acquire, Packet, Channel}
+use Rattle.std.proofs.Common.{◌≡◌, ℕ, ◌-◌, ◌*◌, ◌^◌, ◌<◌, Bool, true, false, List, ◌∷◌, Some, None, refl, sym}
 use Rattle.std.proofs.Common.{◌∙◌, ap, inl, inr, arith}
-use Rattle.std.proofs.lemmas.Option.{same_Some}
-use Rattle.std.specs.Prelude.{map}
+use Rattle.std.{proofs.lemmas.Option.same_Some, specs.Prelude.map}
 use Rattle.tl_beat.specs.statement.Width.{IsWidth}
-use Rattle.tl_beat.specs.declared.channel.Channel.TheVariants as channel
-use Rattle.tl_burst.specs.declared.message.Message.TheVariants as message
-use Rattle.tl_burst.specs.statement.Burst.{a_beat_of, IsBlankAfter}
-use Rattle.tl_burst.specs.statement.Messages.{unfinished}
-use Rattle.tl_burst.proofs.Splitting.{beats-positive}
+use Rattle.tl_burst.{specs.statement.Burst.a_beat_of, specs.statement.Burst.IsBlankAfter}
+use Rattle.tl_burst.{specs.statement.Messages.unfinished, proofs.Splitting.beats-positive}
 use Rattle.tl_rules.specs.statement.Conformance.{on_link}
 use Rattle.tl_rules.specs.statement.History.{block_at, is_acquire}
-use Rattle.tl_client.specs.statement.Requests.{open_beat}
-use Rattle.tl_client.specs.statement.EndpointInvariant.{acquires}
-use Rattle.tl_client.specs.statement.Send.{acquisition}
-use Rattle.tl_client.proofs.endpoint.HeldAfter.{same_block}
-use Rattle.tl_manager.specs.code.Kept.{illegal_message_at}
-use Rattle.tl_manager.specs.statement.Offer.{level_of}
-use Rattle.tl_coherence.specs.refinement.Carried.{IsCarried}
-use Rattle.tl_coherence.specs.refinement.AbstractStep.{acquire_opcode}
-use Rattle.tl_coherence.specs.statement.Log.{Log}
+use Rattle.tl_client.{specs.statement.Requests.open_beat, specs.statement.EndpointInvariant.acquires}
+use Rattle.tl_client.{specs.statement.Send.acquisition, proofs.endpoint.HeldAfter.same_block}
+use Rattle.tl_manager.{specs.code.Kept.illegal_message_at, specs.statement.Offer.level_of}
+use Rattle.tl_coherence.specs.{refinement.Carried.IsCarried, refinement.AbstractStep.acquire_opcode, statement.Log.Log}
+use Rattle.tl_coherence.specs.{statement.System.System}
 use Rattle.tl_coherence.specs.refinement.PacketMessages.{message_of, messages_on}
-use Rattle.tl_coherence.specs.statement.System.{System}
 use Rattle.tl_coherence.specs.refinement.SimulationRelation.{SimulationRelation, IsRequest, first_of, request_source}
-use Rattle.tl_coherence.proofs.queues.Carried.{carried-next, IsNext}
-use Rattle.tl_coherence.proofs.queues.Phases.{and_left, and_right}
-use Rattle.tl_coherence.proofs.queues.Tokens.{same_number, holds-first}
+use Rattle.tl_coherence.proofs.{queues.Carried.carried-next, queues.Carried.IsNext, queues.Phases.and_left}
+use Rattle.tl_coherence.proofs.{queues.Phases.and_right, queues.Tokens.same_number, queues.Tokens.holds-first}
+use Rattle.tl_coherence.proofs.{queues.Codes.acquires-so}
 use Rattle.tl_coherence.proofs.protocol.BothParts.{acquires_of-is, is_asked-is, wanting-is}
-use Rattle.tl_coherence.proofs.queues.Codes.{acquires-so}
 
 -- ---- an access that was asked
 
 -- a message of channel A with this source
 pub record IsOfSource {w : ℕ} (source : ℕ) (m : Message w) : Type 0 where
   pub request : MessageA w
-  pub is_it : m ≡ message.A request
+  pub is_it : m ≡ Message.A request
   pub source_is : request.source ≡ source
 
 of_source : {w : ℕ} (source : ℕ) (m : Message w) → request_source m ≡ Some source → IsOfSource source m
-of_source source (message.A m) e = record { request = m; is_it = refl; source_is = same_Some m.source source e }
-of_source source (message.B m) e = absurd cc
-of_source source (message.C m) e = absurd cc
-of_source source (message.D m) e = absurd cc
-of_source source (message.E m) e = absurd cc
+of_source source (Message.A m) e = record { request = m; is_it = refl; source_is = same_Some m.source source e }
+of_source source m e = absurd cc
 
 pub record IsAsked {w : ℕ} (config : Config) (c source : ℕ) (mail : AccessMessages w) (s : State (List ℕ)) : Type 0
   where
     pub request : MessageA w
-    pub is_it : mail.request c source ≡ message.A request
+    pub is_it : mail.request c source ≡ Message.A request
     pub source_is : request.source ≡ source
     pub used : s.uses c source ≡ Asked
     pub access : is_acquire request.opcode ≡ false
-    pub lawful : illegal_message_at (level_of config c) (message.A request) ≡ None
-    pub blank : IsBlankAfter (beats_of (message.A request)) (message.A request)
+    pub lawful : illegal_message_at (level_of config c) (Message.A request) ≡ None
+    pub blank : IsBlankAfter (beats_of (Message.A request)) (Message.A request)
 
 pub rendered-acquire : {w : ℕ} (c n : ℕ) (b : Block (List ℕ)) (whole : Bool) (g : Grow)
     → (b.pair c).acquiring ≡ AcquireOpen whole g
-    → block_message {w = w} Acquire c n b ≡ message.A (acquisition (acquire_opcode whole) g (b.source c) n)
+    → block_message {w = w} Acquire c n b ≡ Message.A (acquisition (acquire_opcode whole) g (b.source c) n)
 unfolding block_message
 rendered-acquire {w} c n b true g e = rw e refl
 rendered-acquire {w} c n b false g e = rw e refl
 
 -- an access that was asked is no Acquire: the client has one Acquire of a block open at most, and that is another one
-asked-access : {w : ℕ} (config : Config) (log : Log w) (mail : AccessMessages w) (request : ℕ → MessageA w)
-    (s : State (List ℕ)) (sys : System w) (c source : ℕ) (m : MessageA w)
-    → SimulationRelation config log mail request s sys → s.uses c source ≡ Asked → mail.request c source ≡ message.A m
+asked-access : {w : ℕ} {config : Config} {log : Log w} {mail : AccessMessages w} {request : ℕ → MessageA w}
+    {s : State (List ℕ)} {sys : System w} (c source : ℕ) (m : MessageA w)
+    → SimulationRelation config log mail request s sys → s.uses c source ≡ Asked → mail.request c source ≡ Message.A m
     → is_acquire m.opcode ≡ false
-asked-access {w} config log mail request s sys c source m is used mailed = go (is_acquire m.opcode) refl
+asked-access {w} {s} {sys} c source m is used mailed =
+    let go : (x : Bool) → is_acquire m.opcode ≡ x → x ≡ false = elim [ true ↦ λ e. absurd (both e) | false ↦ λ e. refl ]
+    in
+    go (is_acquire m.opcode) refl
   where
     n : ℕ
     n = block_at m.address
@@ -86,9 +76,8 @@ asked-access {w} config log mail request s sys c source m is used mailed = go (i
         let wants : is_wanting (b.pair c).acquiring ≡ true = sym ((is.known c).acquires n) ∙ (is.kept c).outstanding
         source n mine in
         let asks = wanting-is (b.pair c).acquiring wants in
-        let used_too : s.uses c (b.source c) ≡ Acquires n =
-        acquires_of-is n (s.uses c (b.source c)) (is.invariant.named.acquires c (b.source c) n ∙ rw
-        (wants, same_number (b.source c)) refl) in
+        let used_too = acquires_of-is n (s.uses c (b.source c)) (is.invariant.named.acquires c (b.source c) n
+        ∙ rw (wants, same_number (b.source c)) refl) in
         let opens_too : open_beat (b.source c) (sys.clients c).past ≡ Some
         (a_beat_of (acquisition (acquire_opcode asks.0) asks.1 (b.source c) n) 0) =
         (is.known c).opens (b.source c) ∙ rw used_too (ap first_of (rendered-acquire c n b asks.0 asks.1 asks.2)) in
@@ -98,23 +87,21 @@ asked-access {w} config log mail request s sys c source m is used mailed = go (i
         let no : Asked ≡ Acquires n = sym used ∙ ap (s.uses c) same ∙ used_too in
         cc
 
-    go : (x : Bool) → is_acquire m.opcode ≡ x → x ≡ false
-    go true e = absurd (both e)
-    go false e = refl
-
-pub asked-first : {w : ℕ} (config : Config) (log : Log w) (mail : AccessMessages w) (request : ℕ → MessageA w)
-    (s : State (List ℕ)) (sys : System w) (c source : ℕ) (rest : List Packet)
+pub asked-first : {w : ℕ} {config : Config} {log : Log w} {mail : AccessMessages w} {request : ℕ → MessageA w}
+    {s : State (List ℕ)} {sys : System w} (c source : ℕ) (rest : List Packet)
     → SimulationRelation config log mail request s sys → (s.link c).a ≡ packet Request source ∷ rest
     → IsAsked config c source mail s
-asked-first {w} config log mail request s sys c source rest is first = record {
-  request = of.request;
-  is_it = of.is_it;
-  source_is = of.source_is;
-  used = used;
-  access = asked-access config log mail request s sys c source of.request is used of.is_it;
-  lawful = rw of.is_it at sourced.1;
-  blank = rw of.is_it at sourced.2;
-}
+asked-first {w} {config} {log} {mail} {request} {s} {sys} c source rest is first =
+    let of : IsOfSource source (mail.request c source) = of_source source (mail.request c source) sourced.0 in
+    record {
+      request = of.request;
+      is_it = of.is_it;
+      source_is = of.source_is;
+      used = used;
+      access = asked-access c source of.request is used of.is_it;
+      lawful = rw of.is_it at sourced.1;
+      blank = rw of.is_it at sourced.2;
+    }
   where
     used : s.uses c source ≡ Asked
     used = is_asked-is (s.uses c source) (holds-first Request (s.link c).a rest (packet Request source)
@@ -122,9 +109,6 @@ asked-first {w} config log mail request s sys c source rest is first = record {
 
     sourced : IsRequest config c source (mail.request c source)
     sourced = rw used at (is.sourced c source)
-
-    of : IsOfSource source (mail.request c source)
-    of = of_source source (mail.request c source) sourced.0
 
 -- ---- an Acquire that is wanted
 
@@ -134,34 +118,27 @@ pub record IsWanted (w c n : ℕ) (s : State (List ℕ)) : Type 0 where
   pub wants : ((s.block n).pair c).acquiring ≡ AcquireOpen whole grow
   pub unserved : is_unserved (view (s.block n).service c) ≡ true
   pub used : s.uses c ((s.block n).source c) ≡ Acquires n
-  pub renders : block_message {w = w} Acquire c n (s.block n) ≡ message.A
+  pub renders : block_message {w = w} Acquire c n (s.block n) ≡ Message.A
       (acquisition (acquire_opcode whole) grow ((s.block n).source c) n)
 
-pub wanted-first : {w : ℕ} (config : Config) (log : Log w) (mail : AccessMessages w) (request : ℕ → MessageA w)
-    (s : State (List ℕ)) (sys : System w) (c n : ℕ) (rest : List Packet)
+pub wanted-first : {w : ℕ} {config : Config} {log : Log w} {mail : AccessMessages w} {request : ℕ → MessageA w}
+    {s : State (List ℕ)} {sys : System w} (c n : ℕ) (rest : List Packet)
     → SimulationRelation config log mail request s sys → (s.link c).a ≡ packet Acquire n ∷ rest → IsWanted w c n s
-wanted-first {w} config log mail request s sys c n rest is first = record {
-  whole = asks.0;
-  grow = asks.1;
-  wants = asks.2;
-  unserved = and_right (is_wanting (b.pair c).acquiring) (is_unserved (view b.service c)) shows;
-  used = acquires_of-is n (s.uses c (b.source c)) (is.invariant.named.acquires c (b.source c) n ∙ rw
-      (wants, same_number (b.source c)) refl);
-  renders = rendered-acquire c n b asks.0 asks.1 asks.2;
-}
-  where
-    b : Block (List ℕ)
-    b = s.block n
-
-    shows : (is_wanting (b.pair c).acquiring && is_unserved (view b.service c)) ≡ true
-    shows = holds-first Acquire (s.link c).a rest (packet Acquire n) (λ i. shown Acquire c (s.block i)) first refl
-        (is.invariant.transfers c Acquire refl)
-
-    wants : is_wanting (b.pair c).acquiring ≡ true
-    wants = and_left (is_wanting (b.pair c).acquiring) (is_unserved (view b.service c)) shows
-
-    asks : (whole : Bool) × (g : Grow) × ((b.pair c).acquiring ≡ AcquireOpen whole g)
-    asks = wanting-is (b.pair c).acquiring wants
+wanted-first {w} {s} c n rest is first =
+    let b : Block (List ℕ) = s.block n in
+    let shows = holds-first Acquire (s.link c).a rest (packet Acquire n) (λ i. shown Acquire c (s.block i)) first refl
+    (is.invariant.transfers c Acquire refl) in
+    let wants = and_left (is_wanting (b.pair c).acquiring) (is_unserved (view b.service c)) shows in
+    let asks = wanting-is (b.pair c).acquiring wants in
+    record {
+      whole = asks.0;
+      grow = asks.1;
+      wants = asks.2;
+      unserved = and_right (is_wanting (b.pair c).acquiring) (is_unserved (view b.service c)) shows;
+      used = acquires_of-is n (s.uses c (b.source c)) (is.invariant.named.acquires c (b.source c) n ∙ rw
+          (wants, same_number (b.source c)) refl);
+      renders = rendered-acquire c n b asks.0 asks.1 asks.2;
+    }
 
 -- all that no beat of it carries is zero
 narrow : (w : ℕ) → IsWidth w → 2 ^ w - 1 < 2 ^ (w * 1)
@@ -172,38 +149,35 @@ narrow w is = elim is [
 ]
 
 acquisition_blank : (w : ℕ) (whole : Bool) (g : Grow) (source n : ℕ) → IsWidth w
-    → IsBlankAfter {w = w} 1 (message.A (acquisition (acquire_opcode whole) g source n))
+    → IsBlankAfter {w = w} 1 (Message.A (acquisition (acquire_opcode whole) g source n))
 acquisition_blank w true g source n width = (refl, narrow w width, omega arith)
 acquisition_blank w false g source n width = (refl, narrow w width, omega arith)
 
 pub acquisition_beats : (w : ℕ) (whole : Bool) (g : Grow) (source n : ℕ)
-    → beats_of {w = w} (message.A (acquisition (acquire_opcode whole) g source n)) ≡ 1
+    → beats_of {w = w} (Message.A (acquisition (acquire_opcode whole) g source n)) ≡ 1
 acquisition_beats w true g source n = refl
 acquisition_beats w false g source n = refl
 
 pub acquisition-blank : (w : ℕ) (whole : Bool) (g : Grow) (source n : ℕ) → IsWidth w
-    → IsBlankAfter {w = w} (beats_of {w = w} (message.A (acquisition (acquire_opcode whole) g source n)))
-    (message.A (acquisition (acquire_opcode whole) g source n))
+    → IsBlankAfter {w = w} (beats_of {w = w} (Message.A (acquisition (acquire_opcode whole) g source n)))
+    (Message.A (acquisition (acquire_opcode whole) g source n))
 acquisition-blank w whole g source n width =
     rw (acquisition_beats w whole g source n) (acquisition_blank w whole g source n width)
 
 -- ---- its first beat that isn't taken
 
-pub front-of : {w : ℕ} (config : Config) (log : Log w) (mail : AccessMessages w) (request : ℕ → MessageA w)
-    (s : State (List ℕ)) (sys : System w) (c : ℕ) (first : Packet)
-    (rest : List Packet) (m : MessageA w) (x : Beat w) (queue : List (Beat w))
-    → IsWidth w → SimulationRelation config log mail request s sys → (s.link c).a ≡ first ∷ rest
-    → message_of mail s c first ≡ message.A m → sys.channels c channel.A ≡ x ∷ queue
-    → IsNext x (unfinished channel.A (on_link c sys.manager.trace)) (message.A m) (map (message_of mail s c) rest) queue
-front-of {w} config log mail request s sys c first rest m x queue width is tokens is_it beats =
-    carried-next x (unfinished channel.A (on_link c sys.manager.trace)) (message.A m) (map (message_of mail s c) rest)
+pub front-of : {w : ℕ} {config : Config} {log : Log w} {mail : AccessMessages w} {request : ℕ → MessageA w}
+    {s : State (List ℕ)} {sys : System w} (c : ℕ) (first : Packet) (rest : List Packet) (m : MessageA w) (x : Beat w)
+    (queue : List (Beat w)) → IsWidth w → SimulationRelation config log mail request s sys → (s.link c).a ≡ first ∷ rest
+    → message_of mail s c first ≡ Message.A m → sys.channels c Channel.A ≡ x ∷ queue
+    → IsNext x (unfinished Channel.A (on_link c sys.manager.trace)) (Message.A m) (map (message_of mail s c) rest) queue
+front-of {w} {mail} {s} {sys} c first rest m x queue width is tokens is_it beats =
+    let carried_so : (ms ns : List (Message w)) (q r : List (Beat w)) → ms ≡ ns → q ≡ r
+    → IsCarried (unfinished Channel.A (on_link c sys.manager.trace)) ms q
+    → IsCarried (unfinished Channel.A (on_link c sys.manager.trace)) ns r = λ ms ns q r e f h. rw (← e, ← f) h in
+    carried-next x (unfinished Channel.A (on_link c sys.manager.trace)) (Message.A m) (map (message_of mail s c) rest)
     queue (λ i. beats-positive i width)
-    (carried_so (messages_on channel.A mail s c) (message.A m ∷ map (message_of mail s c) rest)
-    (sys.channels c channel.A) (x ∷ queue)
+    (carried_so (messages_on Channel.A mail s c) (Message.A m ∷ map (message_of mail s c) rest)
+    (sys.channels c Channel.A) (x ∷ queue)
     (ap (map (message_of mail s c)) tokens ∙ ap (λ (i : Message w). i ∷ map (message_of mail s c) rest) is_it) beats
-    (is.carried c channel.A))
-  where
-    carried_so : (ms ns : List (Message w)) (q r : List (Beat w)) → ms ≡ ns → q ≡ r
-        → IsCarried (unfinished channel.A (on_link c sys.manager.trace)) ms q
-        → IsCarried (unfinished channel.A (on_link c sys.manager.trace)) ns r
-    carried_so ms ns q r e f h = rw (← e, ← f) h
+    (is.carried c Channel.A))

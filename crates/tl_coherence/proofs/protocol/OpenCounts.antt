@@ -2,17 +2,15 @@
 use Rattle.tl_coherence.proofs.protocol.Imports.{Config, State, Link, one_if, set, set_at}
 use Rattle.std.proofs.Common.{◌≡◌, ℕ, ◌+◌, ◌<◌, Bool, false, length, sym, ◌∙◌, ap, ◌⊎◌, inl, inr, arith}
 use Rattle.std.proofs.lemmas.Bool.{cases_eq}
-use Rattle.tl_coherence.specs.statement.Delivery.{sources_of}
+use Rattle.tl_coherence.specs.{statement.Delivery.sources_of, statement.System.terms_at}
 use Rattle.tl_coherence.specs.bound.Rank.{total, is_used, is_let, open_requests, open_releases}
-use Rattle.tl_coherence.specs.statement.System.{terms_at}
 use Rattle.tl_coherence.proofs.queues.Sums.{total-same, total-plus, total-set}
 use Rattle.tl_coherence.proofs.queues.Tokens.{set-same, set-other, set-part}
 
 -- one summand differs
 total-at : (n m : ℕ) (f g : ℕ → ℕ) → m < n → ((i : ℕ) → (i ≡ m → ⊥) → f i ≡ g i) → total n f + g m ≡ total n g + f m
 total-at n m f g lt others =
-    let same : total n f ≡ total n (set m (f m) g) = total-same n f (set m (f m) g) (λ i below. each i (cases_eq i m))
-    in
+    let same = total-same n f (set m (f m) g) (λ i below. each i (cases_eq i m)) in
     let changed : total n (set m (f m) g) + g m ≡ total n g + f m = total-set n m (f m) g lt in
     omega (arith, same, changed)
   where
@@ -28,34 +26,25 @@ marked test clients sources f = total clients (λ c. total (sources c) (λ i. on
 
 -- one place changes
 pub marked-set : {B : Type 0} (test : B → Bool) (clients : ℕ) (sources : ℕ → ℕ) (c k : ℕ) (x : B) (f : ℕ → ℕ → B)
-    → c < clients → k < sources c
-    → marked test clients sources (set_at c k x f) + one_if (test (f c k)) ≡ marked test clients sources f + one_if
-    (test x)
+    → c < clients → k < sources c → marked test clients sources (set_at c k x f) + one_if (test (f c k))
+    ≡ marked test clients sources f + one_if (test x)
 marked-set {B} test clients sources c k x f few lt =
-    let inner : row c (set k x (f c)) + one_if (test (f c k)) ≡ row c (f c) + one_if (test (set k x (f c) k)) =
-    total-at (sources c) k (λ i. one_if (test (set k x (f c) i))) (λ i. one_if (test (f c i))) lt
+    let row : ℕ → (ℕ → B) → ℕ = λ d g. total (sources d) (λ i. one_if (test (g i))) in
+    let inner = total-at (sources c) k (λ i. one_if (test (set k x (f c) i))) (λ i. one_if (test (f c i))) lt
     (λ i ne. ap (λ (y : B). one_if (test y)) (set-other k i x (f c) ne)) in
-    let here : one_if (test (set k x (f c) k)) ≡ one_if (test x) = ap (λ (y : B). one_if (test y)) (set-same k x (f c))
-    in
-    let outer : total clients (λ d. row d (set_at c k x f d)) + row c (f c) ≡ total clients (λ d. row d (f d)) + row c
-    (set_at c k x f c) =
-    total-at clients c (λ d. row d (set_at c k x f d)) (λ d. row d (f d)) few
+    let here = ap (λ (y : B). one_if (test y)) (set-same k x (f c)) in
+    let outer = total-at clients c (λ d. row d (set_at c k x f d)) (λ d. row d (f d)) few
     (λ d ne. ap (row d) (set-other c d (set k x (f c)) f ne)) in
     let changed : row c (set_at c k x f c) ≡ row c (set k x (f c)) = ap (row c) (set-same c (set k x (f c)) f) in
     omega (arith, inner, here, outer, changed)
-  where
-    row : ℕ → (ℕ → B) → ℕ
-    row d g = total (sources d) (λ i. one_if (test (g i)))
 
 -- no place changes, as the test has it
 pub marked-same : {B : Type 0} (test : B → Bool) (clients : ℕ) (sources : ℕ → ℕ) (f g : ℕ → ℕ → B)
-    → ((c i : ℕ) → test (f c i) ≡ test (g c i))
-    → marked test clients sources f ≡ marked test clients sources g
+    → ((c i : ℕ) → test (f c i) ≡ test (g c i)) → marked test clients sources f ≡ marked test clients sources g
 marked-same test clients sources f g same =
-    total-same clients (λ c. total (sources c) (λ i. one_if (test (f c i))))
-    (λ c. total (sources c) (λ i. one_if (test (g c i))))
-    (λ c few. total-same (sources c) (λ i. one_if (test (f c i))) (λ i. one_if (test (g c i)))
-    (λ i lt. ap one_if (same c i)))
+    cc (total-same clients (λ c. total (sources c) (λ i. one_if (test (f c i))))
+    (λ c. total (sources c) (λ i. one_if (test (g c i)))) (λ c few. total-same (sources c) (λ i. one_if (test (f c i)))
+    (λ i. one_if (test (g c i))) (λ i lt. ap one_if (same c i))))
 
 pub set_at-part : {A B : Type 0} (part : B → A) (c k : ℕ) (x : B) (f : ℕ → ℕ → B) → part x ≡ part (f c k) → (d i : ℕ)
     → part (set_at c k x f d i) ≡ part (f d i)
@@ -74,8 +63,7 @@ pub acks-set : (clients c : ℕ) (l : Link) (link : ℕ → Link) → c < client
     → acks clients (set c l link) + length (link c).e ≡ acks clients link + length l.e
 acks-set clients c l link few =
     let here : length (set c l link c).e ≡ length l.e = ap (λ (x : Link). length x.e) (set-same c l link) in
-    let changed : acks clients (set c l link) + length (link c).e ≡ acks clients link + length (set c l link c).e =
-    total-at clients c (λ d. length (set c l link d).e) (λ d. length (link d).e) few
+    let changed = total-at clients c (λ d. length (set c l link d).e) (λ d. length (link d).e) few
     (λ d ne. ap (λ (x : Link). length x.e) (set-other c d l link ne)) in
     omega (arith, here, changed)
 
@@ -111,10 +99,8 @@ pub balance-same : {X : Type 0} (config : Config) (s s' : State X)
 balance-same config s s' uses lets links =
     let u = marked-same is_used (clients_in config) (sources_in config) s'.uses s.uses uses in
     let a = acks-same (clients_in config) s'.link s.link links in
-    let l : open_releases config s' ≡ open_releases config s =
-    marked-same is_let (clients_in config) (sources_in config) s'.lets s.lets lets in
+    let l = marked-same is_let (clients_in config) (sources_in config) s'.lets s.lets lets in
     record {
       requests = omega (arith, u, a, requests-split config s, requests-split config s');
-      releases =
-          omega (arith, l);
+      releases = omega (arith, l);
     }

@@ -1,40 +1,36 @@
 -- A Probe that is taken keeps the invariant.
 use Rattle.tl_coherence.proofs.protocol.Imports.{Channel, Cap, Perm, report_right, same_perm, ClientBlock, View}
-use Rattle.tl_coherence.proofs.protocol.Imports.{NoProbe, ProbeSent, NoRelease, is_unprobed, Kind, Request, Acquire}
-use Rattle.tl_coherence.proofs.protocol.Imports.{Probe, ProbeAck, Release, Answer, Grant, ReleaseAck, GrantAck, Packet}
-use Rattle.tl_coherence.proofs.protocol.Imports.{set, count, Block, State, Link, view, packet, is_transfer, is_wanting}
-use Rattle.tl_coherence.proofs.protocol.Imports.{is_unserved, is_releasing, is_acked, is_granting, is_acknowledging}
-use Rattle.tl_coherence.proofs.protocol.Imports.{shows, Move, Stays, Pushes, Pops, AreMoved, agrees, is_own_move}
-use Rattle.tl_coherence.proofs.protocol.Imports.{channel_for, resting, IsWell, IsInvariant}
+use Rattle.tl_coherence.proofs.protocol.Imports.{NoProbe, ProbeSent, NoRelease, is_unprobed, Kind, Acquire, Probe}
+use Rattle.tl_coherence.proofs.protocol.Imports.{ProbeAck, Release, Grant, ReleaseAck, GrantAck, Packet, set, count}
+use Rattle.tl_coherence.proofs.protocol.Imports.{Block, State, Link, view, packet, is_transfer, is_wanting, is_unserved}
+use Rattle.tl_coherence.proofs.protocol.Imports.{is_releasing, is_acked, is_granting, is_acknowledging, shows, Move}
+use Rattle.tl_coherence.proofs.protocol.Imports.{Stays, Pushes, Pops, AreMoved, agrees, is_own_move, channel_for}
+use Rattle.tl_coherence.proofs.protocol.Imports.{resting, IsWell, IsInvariant}
 use Rattle.std.proofs.Common.{◌≡◌, ◌&&◌, refl, sym, ◌∙◌, ap, inl, inr}
 use Rattle.std.specs.Prelude.{ℕ, Bool, true, false, List, ◌∷◌}
 use Rattle.std.proofs.lemmas.Bool.{cases_eq}
-use Rattle.tl_beat.specs.declared.channel.Channel.TheVariants as channel
-use Rattle.tl_params.specs.declared.param.Cap.TheVariants as cap
-use Rattle.tl_params.specs.declared.perm.Perm.TheVariants as perm
 use Rattle.tl_params.specs.statement.Param.{report_at}
 use Rattle.tl_coherence.specs.protocol.PhaseSteps.{after_probe}
 use Rattle.tl_coherence.specs.protocol.Protocol.{probed_block, probed_link, probe_taken}
 use Rattle.tl_coherence.proofs.queues.Moves.{moves_at, event-at, bare-at, names-kept, invariant-moved}
-use Rattle.tl_coherence.proofs.queues.KindMoves.{same_again}
+use Rattle.tl_coherence.proofs.{queues.KindMoves.same_again, queues.PhaseSteps.probe-ok, protocol.Blocks.awaited_by}
+use Rattle.tl_coherence.proofs.{protocol.Blocks.asked_cap-same}
 use Rattle.tl_coherence.proofs.queues.Tokens.{same_number, set-same, set-other, set-part}
-use Rattle.tl_coherence.proofs.queues.PhaseSteps.{probe-ok}
-use Rattle.tl_coherence.proofs.protocol.Blocks.{awaited_by, asked_cap-same}
 
 -- ---- the block
 
 -- what is left after a report was held before
-less_left : (k : Cap) (p : Perm) → same_perm (report_right (report_at k p)) perm.None ≡ false
-    → same_perm p perm.None ≡ false
-less_left k perm.Branch e = refl
-less_left k perm.Trunk e = refl
-less_left cap.ToT perm.None e = e
-less_left cap.ToB perm.None e = e
-less_left cap.ToN perm.None e = e
+less_left : (k : Cap) (p : Perm) → same_perm (report_right (report_at k p)) Perm.None ≡ false
+    → same_perm p Perm.None ≡ false
+less_left k Perm.Branch e = refl
+less_left k Perm.Trunk e = refl
+less_left Cap.ToT Perm.None e = e
+less_left Cap.ToB Perm.None e = e
+less_left Cap.ToN Perm.None e = e
 
-pub probed-block : {X : Type 0} (caching : ℕ → Bool) (c : ℕ) (k : Cap) (b : Block X) → IsWell caching b
+pub probed-block : {X : Type 0} {caching : ℕ → Bool} (c : ℕ) (k : Cap) {b : Block X} → IsWell caching b
     → (b.pair c).probing ≡ ProbeSent k → (b.pair c).letting ≡ NoRelease → IsWell caching (probed_block c k b)
-probed-block caching c k b h sent kept =
+probed-block c k {b} h sent kept =
     let after : ClientBlock = after_probe k (b.pair c) in
     let quiet_same = set-part (λ (p : ClientBlock). is_unprobed p.probing) c after b.pair (rw sent refl) in
     let recorded_same = set-part (λ (p : ClientBlock). p.recorded) c after b.pair refl in
@@ -69,14 +65,12 @@ probed-block caching c k b h sent kept =
 -- ---- the whole
 
 abbrev pub probe_moves : ℕ → Channel → Move
-probe_moves n channel.B = Pops Probe n
-probe_moves n channel.C = Pushes ProbeAck n
+probe_moves n Channel.B = Pops Probe n
+probe_moves n Channel.C = Pushes ProbeAck n
 probe_moves n _ = Stays
 
 probe_shows : (n : ℕ) (k : Kind) (j : Cap) (p : ClientBlock) (v : View) → is_transfer k ≡ true → p.probing ≡ ProbeSent j
     → agrees (probe_moves n (channel_for k)) k n (shows k p v) (shows k (after_probe j p) v) ≡ true
-probe_shows n Request j p v t e = absurd cc
-probe_shows n Answer j p v t e = absurd cc
 probe_shows n Acquire j p v t e = same_again (is_wanting p.acquiring && is_unserved v)
 probe_shows n Probe j p v t e = rw (same_number n) refl
 probe_shows n ProbeAck j p v t e = rw (e, same_number n) refl
@@ -84,15 +78,23 @@ probe_shows n Release j p v t e = same_again (is_releasing p.letting)
 probe_shows n Grant j p v t e = same_again (is_granting v)
 probe_shows n ReleaseAck j p v t e = same_again (is_acked p.letting)
 probe_shows n GrantAck j p v t e = same_again (is_acknowledging v)
+probe_shows n k j p v t e = absurd cc
 
-pub probe_taken-kept : {X : Type 0} (caching : ℕ → Bool) (c n : ℕ) (k : Cap) (rest : List Packet) (s : State X)
-    → IsInvariant caching s
-    → (s.link c).b ≡ packet Probe n ∷ rest → ((s.block n).pair c).probing ≡ ProbeSent k
+pub probe_taken-kept : {X : Type 0} {caching : ℕ → Bool} (c n : ℕ) (k : Cap) (rest : List Packet) {s : State X}
+    → IsInvariant caching s → (s.link c).b ≡ packet Probe n ∷ rest → ((s.block n).pair c).probing ≡ ProbeSent k
     → ((s.block n).pair c).letting ≡ NoRelease → IsInvariant caching (probe_taken c n k rest s)
-probe_taken-kept {X} caching c n k rest s inv first sent kept =
+probe_taken-kept {X} {caching} c n k rest {s} inv first sent kept =
+    let here : Link = probed_link n rest (s.link c) in
+    let moved : AreMoved (probe_moves n) (s.link c) here = elim [ Channel.B ↦ first | _ ↦ refl ] in
+    let own : (ch : Channel) → is_own_move ch (probe_moves n ch) ≡ true = elim [ Channel.A ↦ refl | ch ↦ refl ] in
+    let after : ClientBlock = after_probe k ((s.block n).pair c) in
+    let new : Block X = probed_block c k (s.block n) in
+    let number_is : (m : ℕ) → Pushes ProbeAck n ≡ Pushes ProbeAck m → m ≡ n = λ m e. cc in
+    let ordered : (m : ℕ) → m ≡ n → count Release m (s.link c).c ≡ 0 =
+    λ m e. rw e (inv.transfers c Release refl n ∙ rw kept refl) in
     invariant-moved caching n new (set c here s.link) (moves_at c (probe_moves n)) s.lets s.tracked s inv
-    (event-at caching c n new here (probe_moves n) s (record {
-      well = probed-block caching c k (s.block n) (inv.blocks n) sent kept;
+    (event-at (record {
+      well = probed-block c k (inv.blocks n) sent kept;
       moved = moved;
       own = own;
       fits = λ j t. rw (set-same c after (s.block n).pair)
@@ -105,32 +107,3 @@ probe_taken-kept {X} caching c n k rest s inv first sent kept =
     (names-kept n new (set c here s.link) s inv.named
     (λ d i. rw (set-part (λ (p : ClientBlock). p.acquiring) c after (s.block n).pair refl d) refl) (λ d i. refl)
     (λ d i. rw (set-part (λ (p : ClientBlock). p.letting) c after (s.block n).pair refl d) refl) (λ i. refl))
-  where
-    after : ClientBlock
-    after = after_probe k ((s.block n).pair c)
-
-    new : Block X
-    new = probed_block c k (s.block n)
-
-    here : Link
-    here = probed_link n rest (s.link c)
-
-    moved : AreMoved (probe_moves n) (s.link c) here
-    moved channel.A = refl
-    moved channel.B = first
-    moved channel.C = refl
-    moved channel.D = refl
-    moved channel.E = refl
-
-    own : (ch : Channel) → is_own_move ch (probe_moves n ch) ≡ true
-    own channel.A = refl
-    own channel.B = refl
-    own channel.C = refl
-    own channel.D = refl
-    own channel.E = refl
-
-    number_is : (m : ℕ) → Pushes ProbeAck n ≡ Pushes ProbeAck m → m ≡ n
-    number_is m e = cc
-
-    ordered : (m : ℕ) → m ≡ n → count Release m (s.link c).c ≡ 0
-    ordered m e = rw e (inv.transfers c Release refl n ∙ rw kept refl)

@@ -7,23 +7,19 @@ use Rattle.tl_coherence.proofs.protocol.Imports.{Probe, ProbeAck, Release, Answe
 use Rattle.tl_coherence.proofs.protocol.Imports.{one_if, count, Service, Free, Waits, GrantSent, GrantTaken, State}
 use Rattle.tl_coherence.proofs.protocol.Imports.{SourceState, SourceFree, Asked, InService, Replied, Acquires, view, on}
 use Rattle.tl_coherence.proofs.protocol.Imports.{packets_on, is_on, is_transfer, is_wanting, shown, IsInvariant}
-use Rattle.tl_coherence.proofs.protocol.Imports.{acquires_of, serves_of, is_of, is_asked, is_replied, acquires_with}
+use Rattle.tl_coherence.proofs.protocol.Imports.{acquires_of, serves_of, is_of, is_asked, is_replied}
 use Rattle.tl_coherence.proofs.protocol.Imports.{serves_with, releases_with}
 use Rattle.std.proofs.Common.{◌≡◌, ℕ, ◌<◌, Bool, true, false, List, [], ◌∷◌, refl, sym, ◌∙◌, arith}
 use Rattle.std.specs.Prelude.{not, ◌==◌, ◌||◌, Option, Some, None}
-use Rattle.tl_beat.specs.declared.channel.Channel.TheVariants as channel
 use Rattle.tl_coherence.specs.refinement.ManagerRelation.{is_own}
-use Rattle.tl_coherence.proofs.protocol.Capacities.{acquire_named, grant_named, release_named}
-use Rattle.tl_coherence.proofs.protocol.TokenNames.{shown_there, kind_there}
-use Rattle.tl_coherence.proofs.protocol.Capacities.{release_ack_named}
-use Rattle.tl_coherence.proofs.protocol.TokenNames.{source_of_acquire}
+use Rattle.tl_coherence.proofs.protocol.Capacities.{acquire_named, grant_named, release_named, release_ack_named}
+use Rattle.tl_coherence.proofs.protocol.TokenNames.{shown_there, kind_there, source_of_acquire}
 use Rattle.tl_rules.proofs.Takeable.{part_bit}
-use Rattle.tl_coherence.proofs.queues.Distinct.{IsThere, first-there}
+use Rattle.tl_coherence.proofs.{queues.Distinct.IsThere, queues.Distinct.first-there, queues.Tokens.same_number}
+use Rattle.tl_coherence.proofs.{queues.Facts.is_other}
 use Rattle.tl_coherence.proofs.queues.Phases.{each_phase, of_phase, and_left}
 use Rattle.tl_coherence.proofs.protocol.QuiescentBlock.{IsSilent, free-when_silent}
-use Rattle.tl_coherence.proofs.queues.Tokens.{same_number}
 use Rattle.tl_coherence.proofs.protocol.BothParts.{not-sent, not-answered, taken-unseen, granted-unseen}
-use Rattle.tl_coherence.proofs.queues.Facts.{is_other}
 
 -- ---- nothing is on a channel
 
@@ -68,12 +64,11 @@ module _ {X : Type 0} (caching : ℕ → Bool) (s : State X) (inv : IsInvariant 
   unfolding count
   closed-when_bare bare = record {
     uses = λ c source. use_is c source (s.uses c source) refl;
-    lets =
-        λ c source. let_is c source (s.lets c source) refl;
+    lets = λ c source. let_is c source (s.lets c source) refl;
   }
     where
       free : (n : ℕ) → (s.block n).service ≡ Free
-      free n = free-when_silent caching s n inv bare.silent
+      free n = free-when_silent n inv bare.silent
 
       use_is : (c source : ℕ) (u : SourceState) → s.uses c source ≡ u → u ≡ SourceFree
       use_is c source SourceFree e = refl
@@ -88,11 +83,9 @@ module _ {X : Type 0} (caching : ℕ → Bool) (s : State X) (inv : IsInvariant 
           let not_it : serves_with c source (s.block n) ≡ false = rw (free n) refl in
           absurd (let both : true ≡ false = sym it ∙ named ∙ not_it in cc)
       use_is c source (Acquires n) e =
-          let named : acquires_of n (s.uses c source) ≡ acquires_with c source (s.block n) =
-          inv.named.acquires c source n in
+          let named = inv.named.acquires c source n in
           let it : acquires_of n (s.uses c source) ≡ true = rw e (same_number n) in
-          let wants : is_wanting ((s.block n).pair c).acquiring ≡ true =
-          and_left (is_wanting ((s.block n).pair c).acquiring) _ (sym named ∙ it) in
+          let wants = and_left (is_wanting ((s.block n).pair c).acquiring) _ (sym named ∙ it) in
           absurd (not_shown c n Acquire refl (bare.a c) (rw (free n, wants) refl))
 
       let_of : (c n : ℕ) (x : ReleasePhase) → ((s.block n).pair c).letting ≡ x → not (is_unreleased x) ≡ true → ⊥
@@ -124,7 +117,7 @@ module _ {X : Type 0} (caching : ℕ → Bool) (s : State X) (inv : IsInvariant 
           let own : view (s.block n).service r ≡ Own = rw (e, same_number r) refl in
           let wants = owns_ask ((s.block n).pair r) (view (s.block n).service r) ((inv.blocks n).phases r) (rw own refl)
           in
-          let used : s.uses r ((s.block n).source r) ≡ Acquires n = source_of_acquire caching s r n inv wants in
+          let used : s.uses r ((s.block n).source r) ≡ Acquires n = source_of_acquire r n inv wants in
           absurd (let both : Acquires n ≡ SourceFree = sym used ∙ closed.uses r ((s.block n).source r) in cc)
       go (Waits r false source k) e is =
           let named : serves_of n (s.uses r source) ≡ serves_with r source (s.block n) = inv.named.serves r source n in
@@ -145,32 +138,31 @@ module _ {X : Type 0} (caching : ℕ → Bool) (s : State X) (inv : IsInvariant 
   not_replied c n e closed = absurd (let no : is_replied (s.uses c n) ≡ false = rw (closed.uses c n) refl in cc)
 
   -- no kind but a GrantAck is shown
-  nothing_shown : (c : ℕ) (ch : Channel) (k : Kind) (n : ℕ) → IsClosed s → is_on ch k ≡ true → is_on channel.E k ≡ false
+  nothing_shown : (c : ℕ) (ch : Channel) (k : Kind) (n : ℕ) → IsClosed s → is_on ch k ≡ true → is_on Channel.E k ≡ false
       → 0 < count k n (packets_on ch (s.link c)) → ⊥
   nothing_shown c ch Request n closed on_it other there =
-      not_asked c n (shown_there caching s c ch Request n inv on_it there) closed
+      not_asked c n (shown_there c ch Request n inv on_it there) closed
   nothing_shown c ch Answer n closed on_it other there =
-      not_replied c n (shown_there caching s c ch Answer n inv on_it there) closed
+      not_replied c n (shown_there c ch Answer n inv on_it there) closed
   nothing_shown c ch Acquire n closed on_it other there =
-      no_use c _ n (acquire_named caching s c n inv (shown_there caching s c ch Acquire n inv on_it there)) closed
+      no_use c _ n (acquire_named caching s c n inv (shown_there c ch Acquire n inv on_it there)) closed
   nothing_shown c ch Grant n closed on_it other there =
-      no_use c _ n (grant_named caching s c n inv (shown_there caching s c ch Grant n inv on_it there)) closed
+      no_use c _ n (grant_named caching s c n inv (shown_there c ch Grant n inv on_it there)) closed
   nothing_shown c ch Release n closed on_it other there =
-      no_let c _ n (release_named caching s c n inv (shown_there caching s c ch Release n inv on_it there)) closed
+      no_let c _ n (release_named caching s c n inv (shown_there c ch Release n inv on_it there)) closed
   nothing_shown c ch ReleaseAck n closed on_it other there =
-      no_let c _ n (release_ack_named caching s c n inv (shown_there caching s c ch ReleaseAck n inv on_it there))
-      closed
+      no_let c _ n (release_ack_named caching s c n inv (shown_there c ch ReleaseAck n inv on_it there)) closed
   nothing_shown c ch Probe n closed on_it other there =
-      probed-for c n (not-sent _ (shown_there caching s c ch Probe n inv on_it there)) closed
+      probed-for c n (not-sent _ (shown_there c ch Probe n inv on_it there)) closed
   nothing_shown c ch ProbeAck n closed on_it other there =
-      probed-for c n (not-answered _ (shown_there caching s c ch ProbeAck n inv on_it there)) closed
+      probed-for c n (not-answered _ (shown_there c ch ProbeAck n inv on_it there)) closed
   nothing_shown c ch GrantAck n closed on_it other there = absurd cc
 
   empty_list : (xs : List Packet) → ((x : Packet) → IsThere x xs → ⊥) → xs ≡ []
   empty_list [] none = refl
   empty_list (x ∷ xs) none = absurd (none x (first-there x xs))
 
-  nothing_on : (c : ℕ) (ch : Channel) → IsClosed s → ((k : Kind) → is_on ch k ≡ true → is_on channel.E k ≡ false)
+  nothing_on : (c : ℕ) (ch : Channel) → IsClosed s → ((k : Kind) → is_on ch k ≡ true → is_on Channel.E k ≡ false)
       → packets_on ch (s.link c) ≡ []
   nothing_on c ch closed apart = empty_list (packets_on ch (s.link c)) (λ x there.
       let on_it = kind_there caching s c ch x inv there in
@@ -178,27 +170,20 @@ module _ {X : Type 0} (caching : ℕ → Bool) (s : State X) (inv : IsInvariant 
 
   pub bare-when-closed : IsClosed s → ((c : ℕ) → (s.link c).e ≡ []) → IsBare s
   bare-when-closed closed no_acks = record {
-    a = λ c. nothing_on c channel.A closed (apart channel.A refl);
+    a = λ c. nothing_on c Channel.A closed (apart Channel.A refl);
     silent = record {
-      b = λ c. nothing_on c channel.B closed (apart channel.B refl);
-      c = λ c. nothing_on c channel.C closed (apart channel.C refl);
-      d = λ c. nothing_on c channel.D closed (apart channel.D refl);
+      b = λ c. nothing_on c Channel.B closed (apart Channel.B refl);
+      c = λ c. nothing_on c Channel.C closed (apart Channel.C refl);
+      d = λ c. nothing_on c Channel.D closed (apart Channel.D refl);
       e = no_acks;
     };
   }
     where
       is_e : Channel → Bool
-      is_e channel.E = true
+      is_e Channel.E = true
       is_e _ = false
 
-      apart : (ch : Channel) → is_e ch ≡ false → (k : Kind) → is_on ch k ≡ true → is_on channel.E k ≡ false
-      apart channel.E e k on_it = absurd cc
+      apart : (ch : Channel) → is_e ch ≡ false → (k : Kind) → is_on ch k ≡ true → is_on Channel.E k ≡ false
+      apart Channel.E e k on_it = absurd cc
       apart ch e GrantAck on_it = absurd cc
-      apart ch e Request on_it = refl
-      apart ch e Acquire on_it = refl
-      apart ch e Probe on_it = refl
-      apart ch e ProbeAck on_it = refl
-      apart ch e Release on_it = refl
-      apart ch e Answer on_it = refl
-      apart ch e Grant on_it = refl
-      apart ch e ReleaseAck on_it = refl
+      apart ch e k on_it = refl

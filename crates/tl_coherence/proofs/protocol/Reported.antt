@@ -1,87 +1,71 @@
 -- A ProbeAck that is taken while others are missing, and a Release that is taken, keep the invariant.
 use Rattle.tl_coherence.proofs.protocol.Imports.{Channel, Prune, Report, Perm, prune_left, report_left, report_right}
 use Rattle.tl_coherence.proofs.protocol.Imports.{same_perm, ClientBlock, View, ProbeAnswered, ReleaseSent}
-use Rattle.tl_coherence.proofs.protocol.Imports.{is_unreleased, is_unprobed, after_report, Kind, Request, Acquire}
-use Rattle.tl_coherence.proofs.protocol.Imports.{Probe, ProbeAck, Release, Answer, Grant, ReleaseAck, GrantAck, Packet}
-use Rattle.tl_coherence.proofs.protocol.Imports.{set, count, one_if, Service, Block, State, Link, view, packet, shows}
-use Rattle.tl_coherence.proofs.protocol.Imports.{is_transfer, is_wanting, is_unserved, is_sent, is_answered}
-use Rattle.tl_coherence.proofs.protocol.Imports.{is_releasing, is_acked, is_granting, is_acknowledging, Move, Stays}
-use Rattle.tl_coherence.proofs.protocol.Imports.{Pushes, Pops, AreMoved, agrees, is_own_move, channel_for, is_out}
-use Rattle.tl_coherence.proofs.protocol.Imports.{IsWell, IsInvariant}
+use Rattle.tl_coherence.proofs.protocol.Imports.{is_unreleased, is_unprobed, after_report, Kind, Acquire, Probe}
+use Rattle.tl_coherence.proofs.protocol.Imports.{ProbeAck, Release, Grant, ReleaseAck, GrantAck, Packet, set, count}
+use Rattle.tl_coherence.proofs.protocol.Imports.{one_if, Service, Block, State, Link, view, packet, shows, is_transfer}
+use Rattle.tl_coherence.proofs.protocol.Imports.{is_wanting, is_unserved, is_sent, is_answered, is_releasing, is_acked}
+use Rattle.tl_coherence.proofs.protocol.Imports.{is_granting, is_acknowledging, Move, Stays, Pushes, Pops, AreMoved}
+use Rattle.tl_coherence.proofs.protocol.Imports.{agrees, is_own_move, channel_for, is_out, IsWell, IsInvariant}
 use Rattle.std.proofs.Common.{◌≡◌, arith, refl, ap, inl, inr}
 use Rattle.std.specs.Prelude.{ℕ, Bool, true, false, List, ◌∷◌, ◌&&◌, if◌then◌else◌}
 use Rattle.std.proofs.lemmas.Bool.{cases_eq}
-use Rattle.tl_beat.specs.declared.channel.Channel.TheVariants as channel
-use Rattle.tl_params.specs.declared.param.Prune.TheVariants as prune
-use Rattle.tl_params.specs.declared.param.Report.TheVariants as report
-use Rattle.tl_params.specs.declared.perm.Perm.TheVariants as perm
 use Rattle.tl_params.specs.statement.Param.{prune_right}
 use Rattle.tl_coherence.specs.protocol.PhaseSteps.{after_release_taken}
 use Rattle.tl_coherence.specs.protocol.Protocol.{written_from, reported_block, report_taken, let_block, let_link}
 use Rattle.tl_coherence.specs.protocol.Protocol.{release_taken}
 use Rattle.tl_coherence.proofs.queues.Moves.{moves_at, event-at, bare-at, names-kept, invariant-moved}
-use Rattle.tl_coherence.proofs.queues.KindMoves.{same_again}
+use Rattle.tl_coherence.proofs.{queues.KindMoves.same_again, queues.PhaseSteps.report-ok}
+use Rattle.tl_coherence.proofs.{queues.PhaseSteps.release_taken-ok, queues.Facts.report_begins}
+use Rattle.tl_coherence.proofs.{queues.Facts.release_begins, protocol.Granted.both_trunk, queues.Perms.not_out}
 use Rattle.tl_coherence.proofs.queues.Tokens.{same_number, set-same, set-other, set-part, ordered-first}
-use Rattle.tl_coherence.proofs.queues.PhaseSteps.{report-ok, release_taken-ok}
-use Rattle.tl_coherence.proofs.queues.Facts.{report_begins, release_begins}
-use Rattle.tl_coherence.proofs.protocol.Granted.{both_trunk}
 use Rattle.tl_coherence.proofs.protocol.Blocks.{IsGentle, awaited_by, awaited-same, asked_cap-same, alone-set}
 use Rattle.tl_coherence.proofs.protocol.Blocks.{owned-set, outside-set, busy-inside}
-use Rattle.tl_coherence.proofs.queues.Perms.{not_out}
 
 -- ---- what is recorded falls
 
 report_trunk : (r : Report) (p : Perm) → same_perm (report_left r) p ≡ true
-    → same_perm (report_right r) perm.Trunk ≡ true → same_perm p perm.Trunk ≡ true
-report_trunk report.TtoB p e f = absurd cc
-report_trunk report.TtoN p e f = absurd cc
-report_trunk report.BtoN p e f = absurd cc
-report_trunk report.TtoT perm.Trunk e f = refl
-report_trunk report.TtoT perm.None e f = absurd cc
-report_trunk report.TtoT perm.Branch e f = absurd cc
-report_trunk report.BtoB p e f = absurd cc
-report_trunk report.NtoN p e f = absurd cc
+    → same_perm (report_right r) Perm.Trunk ≡ true → same_perm p Perm.Trunk ≡ true
+report_trunk Report.TtoT Perm.Trunk e f = refl
+report_trunk r p e f = absurd cc
 
-report_none : (r : Report) (p : Perm) → same_perm (report_left r) p ≡ true → same_perm p perm.None ≡ true
-    → same_perm (report_right r) perm.None ≡ true
-report_none report.TtoB perm.None e f = absurd cc
-report_none report.TtoN perm.None e f = absurd cc
-report_none report.BtoN perm.None e f = absurd cc
-report_none report.TtoT perm.None e f = absurd cc
-report_none report.BtoB perm.None e f = absurd cc
-report_none report.NtoN perm.None e f = refl
-report_none r perm.Branch e f = absurd cc
-report_none r perm.Trunk e f = absurd cc
+report_none : (r : Report) (p : Perm) → same_perm (report_left r) p ≡ true → same_perm p Perm.None ≡ true
+    → same_perm (report_right r) Perm.None ≡ true
+report_none Report.TtoB Perm.None e f = absurd cc
+report_none Report.TtoN Perm.None e f = absurd cc
+report_none Report.BtoN Perm.None e f = absurd cc
+report_none Report.TtoT Perm.None e f = absurd cc
+report_none Report.BtoB Perm.None e f = absurd cc
+report_none Report.NtoN Perm.None e f = refl
+report_none r Perm.Branch e f = absurd cc
+report_none r Perm.Trunk e f = absurd cc
 
 pub gentle-report : (r : Report) (p : ClientBlock) → same_perm (report_left r) p.recorded ≡ true
     → IsGentle p (after_report r p)
 gentle-report r p e = record {
   trunk = λ f. report_trunk r p.recorded e f;
-  none =
-      λ f. report_none r p.recorded e f;
+  none = λ f. report_none r p.recorded e f;
   quiet = λ f. refl;
 }
 
-prune_trunk : (r : Prune) (p : Perm) → same_perm (prune_left r) p ≡ true → same_perm (prune_right r) perm.Trunk ≡ true
-    → same_perm p perm.Trunk ≡ true
-prune_trunk prune.TtoB p e f = absurd cc
-prune_trunk prune.TtoN p e f = absurd cc
-prune_trunk prune.BtoN p e f = absurd cc
+prune_trunk : (r : Prune) (p : Perm) → same_perm (prune_left r) p ≡ true → same_perm (prune_right r) Perm.Trunk ≡ true
+    → same_perm p Perm.Trunk ≡ true
+prune_trunk Prune.TtoB p e f = absurd cc
+prune_trunk r p e f = absurd cc
 
-prune_none : (r : Prune) (p : Perm) → same_perm (prune_left r) p ≡ true → same_perm p perm.None ≡ true
-    → same_perm (prune_right r) perm.None ≡ true
-prune_none prune.TtoB perm.None e f = absurd cc
-prune_none prune.TtoN perm.None e f = absurd cc
-prune_none prune.BtoN perm.None e f = absurd cc
-prune_none r perm.Branch e f = absurd cc
-prune_none r perm.Trunk e f = absurd cc
+prune_none : (r : Prune) (p : Perm) → same_perm (prune_left r) p ≡ true → same_perm p Perm.None ≡ true
+    → same_perm (prune_right r) Perm.None ≡ true
+prune_none Prune.TtoB Perm.None e f = absurd cc
+prune_none Prune.TtoN Perm.None e f = absurd cc
+prune_none Prune.BtoN Perm.None e f = absurd cc
+prune_none r Perm.Branch e f = absurd cc
+prune_none r Perm.Trunk e f = absurd cc
 
 gentle-prune : (r : Prune) (p : ClientBlock) → same_perm (prune_left r) p.recorded ≡ true
     → IsGentle p (after_release_taken r p)
 gentle-prune r p e = record {
   trunk = λ f. prune_trunk r p.recorded e f;
-  none =
-      λ f. prune_none r p.recorded e f;
+  none = λ f. prune_none r p.recorded e f;
   quiet = λ f. f;
 }
 
@@ -92,28 +76,24 @@ pub memory-written : {X : Type 0} (c : ℕ) (left : Perm) (q : ClientBlock) (ser
     (memory truth : X) → same_perm left (pair c).recorded ≡ true
     → (((d : ℕ) → is_out (pair d) (view service d) ≡ false) → memory ≡ truth)
     → ((d : ℕ) → is_out (set c q pair d) (view service d) ≡ false) → written_from left truth memory ≡ truth
-memory-written {X} c left q service pair memory truth begins h none = go (same_perm left perm.Trunk) refl
-  where
-    before : same_perm left perm.Trunk ≡ false → (d : ℕ) → is_out (pair d) (view service d) ≡ false
-    before e d = elim (cases_eq d c) [
+memory-written {X} c left q service pair memory truth begins h none =
+    let before : same_perm left Perm.Trunk ≡ false → (d : ℕ) → is_out (pair d) (view service d) ≡ false =
+    λ e d. elim (cases_eq d c) [
       | inl same ↦ rw same (not_out (pair c) (view service c) (both_trunk left (pair c).recorded begins e))
       | inr other ↦ rw (set-other c d q pair other) at (none d)
-    ]
-
-    go : (data_too : Bool) → same_perm left perm.Trunk ≡ data_too → (if data_too then truth else memory) ≡ truth
-    go true e = refl
-    go false e = h (before e)
+    ] in
+    let go : (data_too : Bool) → same_perm left Perm.Trunk ≡ data_too → (if data_too then truth else memory) ≡ truth =
+    elim [ true ↦ λ e. refl | false ↦ λ e. h (before e) ] in
+    go (same_perm left Perm.Trunk) refl
 
 -- ---- blocks
 
-pub reported-block : {X : Type 0} (caching : ℕ → Bool) (c : ℕ) (r : Report) (b : Block X) → IsWell caching b
-    → (b.pair c).probing ≡ ProbeAnswered r → (w : ℕ) → (w ≡ c → ⊥)
-    → is_unprobed (b.pair w).probing ≡ false
+pub reported-block : {X : Type 0} {caching : ℕ → Bool} (c : ℕ) (r : Report) {b : Block X} → IsWell caching b
+    → (b.pair c).probing ≡ ProbeAnswered r → (w : ℕ) → (w ≡ c → ⊥) → is_unprobed (b.pair w).probing ≡ false
     → IsWell caching (reported_block c r b)
-reported-block caching c r b h answered w apart missing =
+reported-block {caching} c r {b} h answered w apart missing =
     let after : ClientBlock = after_report r (b.pair c) in
-    let begins : same_perm (report_left r) (b.pair c).recorded ≡ true =
-    report_begins r (b.pair c) (view b.service c) (h.phases c) answered in
+    let begins = report_begins r (b.pair c) (view b.service c) (h.phases c) answered in
     let held_same = set-part (λ (p : ClientBlock). p.held) c after b.pair refl in
     record {
       phases = λ d. elim (cases_eq d c) [
@@ -125,21 +105,19 @@ reported-block caching c r b h answered w apart missing =
       asked_cap = asked_cap-same b.service b.pair (set c after b.pair)
           (set-part (λ (p : ClientBlock). p.acquiring) c after b.pair refl) h.asked_cap;
       own_source = h.own_source;
-      alone = alone-set c after b.pair (gentle-report r (b.pair c) begins) h.alone;
-      one_owner = owned-set c after b.pair (gentle-report r (b.pair c) begins) h.one_owner;
+      alone = alone-set c b.pair (gentle-report r (b.pair c) begins) h.alone;
+      one_owner = owned-set c b.pair (gentle-report r (b.pair c) begins) h.one_owner;
       outside = outside-set caching c after b.pair (busy-inside caching c b.pair (λ p. is_answered p.probing) refl
           (rw answered refl) h.outside) h.outside;
       copies = λ d some. h.copies d (rw (held_same d) at some);
       memory = λ none. memory-written c (report_left r) after b.service b.pair b.memory b.truth begins h.memory none;
     }
 
-pub let-block : {X : Type 0} (caching : ℕ → Bool) (c : ℕ) (r : Prune) (b : Block X) → IsWell caching b
-    → (b.pair c).letting ≡ ReleaseSent r → is_answered (b.pair c).probing ≡ false
-    → IsWell caching (let_block c r b)
-let-block caching c r b h releasing first =
+pub let-block : {X : Type 0} {caching : ℕ → Bool} (c : ℕ) (r : Prune) {b : Block X} → IsWell caching b
+    → (b.pair c).letting ≡ ReleaseSent r → is_answered (b.pair c).probing ≡ false → IsWell caching (let_block c r b)
+let-block {caching} c r {b} h releasing first =
     let after : ClientBlock = after_release_taken r (b.pair c) in
-    let begins : same_perm (prune_left r) (b.pair c).recorded ≡ true =
-    release_begins r (b.pair c) (view b.service c) (h.phases c) releasing first in
+    let begins = release_begins r (b.pair c) (view b.service c) (h.phases c) releasing first in
     let held_same = set-part (λ (p : ClientBlock). p.held) c after b.pair refl in
     record {
       phases = λ d. elim (cases_eq d c) [
@@ -152,8 +130,8 @@ let-block caching c r b h releasing first =
       asked_cap = asked_cap-same b.service b.pair (set c after b.pair)
           (set-part (λ (p : ClientBlock). p.acquiring) c after b.pair refl) h.asked_cap;
       own_source = h.own_source;
-      alone = alone-set c after b.pair (gentle-prune r (b.pair c) begins) h.alone;
-      one_owner = owned-set c after b.pair (gentle-prune r (b.pair c) begins) h.one_owner;
+      alone = alone-set c b.pair (gentle-prune r (b.pair c) begins) h.alone;
+      one_owner = owned-set c b.pair (gentle-prune r (b.pair c) begins) h.one_owner;
       outside = outside-set caching c after b.pair (busy-inside caching c b.pair (λ p. is_releasing p.letting) refl
           (rw releasing refl) h.outside) h.outside;
       copies = λ d some. h.copies d (rw (held_same d) at some);
@@ -163,14 +141,12 @@ let-block caching c r b h releasing first =
 -- ---- a ProbeAck
 
 abbrev pub report_moves : ℕ → Channel → Move
-report_moves n channel.C = Pops ProbeAck n
+report_moves n Channel.C = Pops ProbeAck n
 report_moves n _ = Stays
 
 pub report_shows : (n : ℕ) (k : Kind) (r : Report) (p : ClientBlock) (v : View) → is_transfer k ≡ true
     → p.probing ≡ ProbeAnswered r
     → agrees (report_moves n (channel_for k)) k n (shows k p v) (shows k (after_report r p) v) ≡ true
-report_shows n Request r p v t e = absurd cc
-report_shows n Answer r p v t e = absurd cc
 report_shows n Acquire r p v t e = same_again (is_wanting p.acquiring && is_unserved v)
 report_shows n Probe r p v t e = rw e refl
 report_shows n ProbeAck r p v t e = rw (same_number n) refl
@@ -178,15 +154,22 @@ report_shows n Release r p v t e = same_again (is_releasing p.letting)
 report_shows n Grant r p v t e = same_again (is_granting v)
 report_shows n ReleaseAck r p v t e = same_again (is_acked p.letting)
 report_shows n GrantAck r p v t e = same_again (is_acknowledging v)
+report_shows n k r p v t e = absurd cc
 
-pub report_taken-kept : {X : Type 0} (caching : ℕ → Bool) (c n : ℕ) (r : Report) (rest : List Packet) (s : State X)
+pub report_taken-kept : {X : Type 0} {caching : ℕ → Bool} (c n : ℕ) (r : Report) (rest : List Packet) {s : State X}
     → IsInvariant caching s → (s.link c).c ≡ packet ProbeAck n ∷ rest
     → ((s.block n).pair c).probing ≡ ProbeAnswered r → (w : ℕ) → (w ≡ c → ⊥)
     → is_unprobed ((s.block n).pair w).probing ≡ false → IsInvariant caching (report_taken c n r rest s)
-report_taken-kept {X} caching c n r rest s inv first answered w apart missing =
+report_taken-kept {X} {caching} c n r rest {s} inv first answered w apart missing =
+    let here : Link = record (s.link c) { c = rest } in
+    let moved : AreMoved (report_moves n) (s.link c) here = elim [ Channel.C ↦ first | _ ↦ refl ] in
+    let own : (ch : Channel) → is_own_move ch (report_moves n ch) ≡ true = elim [ Channel.A ↦ refl | ch ↦ refl ] in
+    let old : ℕ → ClientBlock = (s.block n).pair in
+    let after : ClientBlock = after_report r (old c) in
+    let new : Block X = reported_block c r (s.block n) in
     invariant-moved caching n new (set c here s.link) (moves_at c (report_moves n)) s.lets s.tracked s inv
-    (event-at caching c n new here (report_moves n) s (record {
-      well = reported-block caching c r (s.block n) (inv.blocks n) answered w apart missing;
+    (event-at (record {
+      well = reported-block c r (inv.blocks n) answered w apart missing;
       moved = moved;
       own = own;
       fits = λ k t. rw (set-same c after old) (report_shows n k r (old c) (view (s.block n).service c) t answered);
@@ -198,45 +181,17 @@ report_taken-kept {X} caching c n r rest s inv first answered w apart missing =
     (names-kept n new (set c here s.link) s inv.named
     (λ d i. rw (set-part (λ (p : ClientBlock). p.acquiring) c after old refl d) refl) (λ d i. refl)
     (λ d i. rw (set-part (λ (p : ClientBlock). p.letting) c after old refl d) refl) (λ i. refl))
-  where
-    old : ℕ → ClientBlock
-    old = (s.block n).pair
-
-    after : ClientBlock
-    after = after_report r (old c)
-
-    new : Block X
-    new = reported_block c r (s.block n)
-
-    here : Link
-    here = record (s.link c) { c = rest }
-
-    moved : AreMoved (report_moves n) (s.link c) here
-    moved channel.A = refl
-    moved channel.B = refl
-    moved channel.C = first
-    moved channel.D = refl
-    moved channel.E = refl
-
-    own : (ch : Channel) → is_own_move ch (report_moves n ch) ≡ true
-    own channel.A = refl
-    own channel.B = refl
-    own channel.C = refl
-    own channel.D = refl
-    own channel.E = refl
 
 -- ---- a Release
 
 abbrev pub let_moves : ℕ → Channel → Move
-let_moves n channel.C = Pops Release n
-let_moves n channel.D = Pushes ReleaseAck n
+let_moves n Channel.C = Pops Release n
+let_moves n Channel.D = Pushes ReleaseAck n
 let_moves n _ = Stays
 
 let_shows : (n : ℕ) (k : Kind) (r : Prune) (p : ClientBlock) (v : View) → is_transfer k ≡ true
     → p.letting ≡ ReleaseSent r
     → agrees (let_moves n (channel_for k)) k n (shows k p v) (shows k (after_release_taken r p) v) ≡ true
-let_shows n Request r p v t e = absurd cc
-let_shows n Answer r p v t e = absurd cc
 let_shows n Acquire r p v t e = same_again (is_wanting p.acquiring && is_unserved v)
 let_shows n Probe r p v t e = same_again (is_sent p.probing)
 let_shows n ProbeAck r p v t e = same_again (is_answered p.probing)
@@ -244,30 +199,34 @@ let_shows n Release r p v t e = rw (same_number n) refl
 let_shows n Grant r p v t e = same_again (is_granting v)
 let_shows n ReleaseAck r p v t e = rw (e, same_number n) refl
 let_shows n GrantAck r p v t e = same_again (is_acknowledging v)
+let_shows n k r p v t e = absurd cc
 
 -- a Release that is first has no ProbeAck of its block beside it
-pub release_first : {X : Type 0} (caching : ℕ → Bool) (c n : ℕ) (rest : List Packet) (s : State X)
-    → IsInvariant caching s → (s.link c).c ≡ packet Release n ∷ rest
-    → is_answered ((s.block n).pair c).probing ≡ false
+pub release_first : {X : Type 0} {caching : ℕ → Bool} (c n : ℕ) (rest : List Packet) {s : State X}
+    → IsInvariant caching s → (s.link c).c ≡ packet Release n ∷ rest → is_answered ((s.block n).pair c).probing ≡ false
 unfolding count
-release_first caching c n rest s inv first =
+release_first c n rest {s} inv first =
+    let go : (b : Bool) → one_if b ≡ 0 → b ≡ false = elim [ true ↦ λ e. absurd (omega (arith, e)) | false ↦ λ e. refl ]
+    in
     let behind : count ProbeAck n rest ≡ 0 = ordered-first n (s.link c).c rest (packet Release n) first
     (rw (same_number n) refl) (inv.ordered c n) in
     let all : count ProbeAck n (packet Release n ∷ rest) ≡ one_if (is_answered ((s.block n).pair c).probing) =
     rw first at (inv.transfers c ProbeAck refl n) in
     go (is_answered ((s.block n).pair c).probing) (omega (arith, behind, all))
-  where
-    go : (b : Bool) → one_if b ≡ 0 → b ≡ false
-    go true e = absurd (omega (arith, e))
-    go false e = refl
 
-pub release_taken-kept : {X : Type 0} (caching : ℕ → Bool) (c n : ℕ) (r : Prune) (rest : List Packet) (s : State X)
+pub release_taken-kept : {X : Type 0} {caching : ℕ → Bool} (c n : ℕ) (r : Prune) (rest : List Packet) {s : State X}
     → IsInvariant caching s → (s.link c).c ≡ packet Release n ∷ rest
     → ((s.block n).pair c).letting ≡ ReleaseSent r → IsInvariant caching (release_taken c n r rest s)
-release_taken-kept {X} caching c n r rest s inv first releasing =
+release_taken-kept {X} {caching} c n r rest {s} inv first releasing =
+    let here : Link = let_link n rest (s.link c) in
+    let moved : AreMoved (let_moves n) (s.link c) here = elim [ Channel.C ↦ first | _ ↦ refl ] in
+    let own : (ch : Channel) → is_own_move ch (let_moves n ch) ≡ true = elim [ Channel.A ↦ refl | ch ↦ refl ] in
+    let old : ℕ → ClientBlock = (s.block n).pair in
+    let after : ClientBlock = after_release_taken r (old c) in
+    let new : Block X = let_block c r (s.block n) in
     invariant-moved caching n new (set c here s.link) (moves_at c (let_moves n)) s.lets s.tracked s inv
-    (event-at caching c n new here (let_moves n) s (record {
-      well = let-block caching c r (s.block n) (inv.blocks n) releasing (release_first caching c n rest s inv first);
+    (event-at (record {
+      well = let-block c r (inv.blocks n) releasing (release_first c n rest inv first);
       moved = moved;
       own = own;
       fits = λ k t. rw (set-same c after old) (let_shows n k r (old c) (view (s.block n).service c) t releasing);
@@ -280,29 +239,3 @@ release_taken-kept {X} caching c n r rest s inv first releasing =
     (λ d i. rw (set-part (λ (p : ClientBlock). p.acquiring) c after old refl d) refl) (λ d i. refl)
     (λ d i. rw (set-part (λ (p : ClientBlock). is_unreleased p.letting) c after old (rw releasing refl) d) refl)
     (λ i. refl))
-  where
-    old : ℕ → ClientBlock
-    old = (s.block n).pair
-
-    after : ClientBlock
-    after = after_release_taken r (old c)
-
-    new : Block X
-    new = let_block c r (s.block n)
-
-    here : Link
-    here = let_link n rest (s.link c)
-
-    moved : AreMoved (let_moves n) (s.link c) here
-    moved channel.A = refl
-    moved channel.B = refl
-    moved channel.C = first
-    moved channel.D = refl
-    moved channel.E = refl
-
-    own : (ch : Channel) → is_own_move ch (let_moves n ch) ≡ true
-    own channel.A = refl
-    own channel.B = refl
-    own channel.C = refl
-    own channel.D = refl
-    own channel.E = refl

@@ -1,44 +1,28 @@
 -- Each request that is taken keeps the invariant of the protocol, and what that needs of the clients that are probed.
-use Rattle.tl_coherence.proofs.protocol.Imports.{MessageA, Cap, Grow, Perm, same_perm}
-use Rattle.tl_coherence.proofs.protocol.Imports.{cap_asked, is_asked, IsInvariant, ClientBlock}
-use Rattle.tl_coherence.proofs.protocol.Imports.{AcquireOpen, same_cap, is_unprobed, cap_fits}
-use Rattle.tl_coherence.proofs.protocol.Imports.{is_above, is_granted_data, Free}
-use Rattle.tl_coherence.proofs.protocol.Imports.{Block, Asked, view, packet, shown}
-use Rattle.tl_coherence.proofs.protocol.Imports.{is_wanting, is_unserved, Request}
-use Rattle.tl_coherence.proofs.protocol.Imports.{Acquire}
-use Rattle.tl_coherence.proofs.protocol.Imports.{Packet}
-use Rattle.std.proofs.Common.{◌≡◌, ℕ, zero, suc, ◌*◌, ◌<◌, ◌≤◌, Bool, true, false, not, ◌&&◌, ◌||◌, List, ◌∷◌}
-use Rattle.std.proofs.Common.{Option, Some, None, length, refl, sym, ◌∙◌, ap, ◌⊎◌, inl, inr, arith}
+use Rattle.tl_coherence.proofs.protocol.Imports.{MessageA, Cap, Grow, Perm, same_perm, cap_asked, is_asked, IsInvariant}
+use Rattle.tl_coherence.proofs.protocol.Imports.{ClientBlock, AcquireOpen, same_cap, is_unprobed, cap_fits, is_above}
+use Rattle.tl_coherence.proofs.protocol.Imports.{is_granted_data, Free, Block, Asked, view, packet, shown, is_wanting}
+use Rattle.tl_coherence.proofs.protocol.Imports.{is_unserved, Request, Acquire, Packet, Message}
+use Rattle.std.proofs.Common.{◌≡◌, ℕ, zero, suc, ◌*◌, ◌<◌, ◌≤◌, Bool, true, false, not, ◌&&◌, ◌||◌, List, ◌∷◌, Option}
+use Rattle.std.proofs.Common.{Some, None, length, refl, sym, ◌∙◌, ap, ◌⊎◌, inl, inr, arith}
 use Rattle.std.specs.Prelude.{◌==◌, if◌then◌else◌, slice_index}
 use Rattle.std.proofs.lemmas.Bool.{cases_lt, ne_eqb, not-true, not-false}
 use Rattle.tl_beat.specs.declared.opcode.OpA.{OpA}
-use Rattle.tl_beat.specs.declared.opcode.OpA.TheVariants as a
-use Rattle.tl_burst.specs.declared.message.Message.TheVariants as message
-use Rattle.tl_params.specs.declared.param.Cap.TheVariants as cap
-use Rattle.tl_params.specs.declared.param.Grow.TheVariants as grow
-use Rattle.tl_params.specs.declared.perm.Perm.TheVariants as perm
 use Rattle.tl_params.specs.declared.profile.Profile.{Profile}
-use Rattle.tl_params.specs.declared.profile.Profile.TheVariants as profile
 use Rattle.tl_rules.specs.statement.Effect.{Memory, bytes_from, effect}
 use Rattle.tl_rules.specs.statement.History.{block_at, is_acquire}
-use Rattle.tl_manager.specs.statement.Holders.{cap_probed}
-use Rattle.tl_manager.proofs.blocks.Written.{bytes_are}
-use Rattle.tl_coherence.specs.refinement.AbstractStep.{AbstractState, some_below, bytes_at, performs}
-use Rattle.tl_coherence.specs.refinement.AbstractStep.{probes_some, access_taken, request_taken, is_unheld, gift}
-use Rattle.tl_coherence.specs.refinement.AbstractStep.{acquire_taken}
-use Rattle.tl_coherence.specs.protocol.Invariant.{AreOutside}
-use Rattle.tl_coherence.specs.protocol.Phase.{grow_fits}
+use Rattle.tl_manager.{specs.statement.Holders.cap_probed, proofs.blocks.Written.bytes_are}
+use Rattle.tl_coherence.specs.refinement.AbstractStep.{AbstractState, some_below, bytes_at, performs, probes_some}
+use Rattle.tl_coherence.specs.refinement.AbstractStep.{access_taken, request_taken, is_unheld, gift, acquire_taken}
+use Rattle.tl_coherence.specs.{protocol.Invariant.AreOutside, protocol.Phase.grow_fits}
 use Rattle.tl_coherence.specs.protocol.Protocol.{is_probed, acquire_served, acquire_granted}
-use Rattle.tl_coherence.proofs.queues.Phases.{and_left}
-use Rattle.tl_coherence.proofs.queues.Facts.{acquire_fits}
-use Rattle.tl_coherence.proofs.queues.Tokens.{holds-first}
+use Rattle.tl_coherence.proofs.{queues.Phases.and_left, queues.Facts.acquire_fits, queues.Tokens.holds-first}
+use Rattle.tl_coherence.proofs.{protocol.Answered.Spares, protocol.Answered.access_answered-kept}
+use Rattle.tl_coherence.proofs.{protocol.Granted.grows_to_trunk, protocol.BothParts.is_asked-is}
+use Rattle.tl_coherence.proofs.{protocol.BothParts.wanting-is, queues.Codes.low_cap, queues.Perms.none-above}
+use Rattle.tl_coherence.proofs.{queues.Perms.nothing-above}
 use Rattle.tl_coherence.proofs.protocol.Served.{access_served-kept, acquire_served-kept}
-use Rattle.tl_coherence.proofs.protocol.Answered.{Spares, access_answered-kept}
 use Rattle.tl_coherence.proofs.protocol.AtOnce.{low-unprobed, none-unprobed, acquire_granted-kept}
-use Rattle.tl_coherence.proofs.protocol.Granted.{grows_to_trunk}
-use Rattle.tl_coherence.proofs.protocol.BothParts.{is_asked-is, wanting-is}
-use Rattle.tl_coherence.proofs.queues.Codes.{low_cap}
-use Rattle.tl_coherence.proofs.queues.Perms.{none-above, nothing-above}
 
 -- ---- clients that pass a test
 
@@ -58,12 +42,11 @@ some-none (suc n) test e i lt = go (test n) refl e (λ f. some-none n test f i)
 pub some-one : (n : ℕ) (test : ℕ → Bool) → some_below n test ≡ true → (i : ℕ) × (test i ≡ true)
 unfolding some_below
 some-one zero test e = absurd cc
-some-one (suc n) test e = go (test n) refl e (λ f. some-one n test f)
-  where
-    go : (b : Bool) → test n ≡ b → (b || some_below n test) ≡ true
-        → (some_below n test ≡ true → (i : ℕ) × (test i ≡ true)) → (i : ℕ) × (test i ≡ true)
-    go true f g h = (n, f)
-    go false f g h = h g
+some-one (suc n) test e =
+    let go : (b : Bool) → test n ≡ b → (b || some_below n test) ≡ true
+    → (some_below n test ≡ true → (i : ℕ) × (test i ≡ true)) → (i : ℕ) × (test i ≡ true) =
+    elim [ true ↦ λ f g h. (n, f) | false ↦ λ f g h. h g ] in
+    go (test n) refl e (λ f. some-one n test f)
 
 -- who isn't a client has nothing, and isn't probed
 pub unprobed : (clients : ℕ) (caching : ℕ → Bool) (c : ℕ) (own : Bool) (k : Cap) (pair : ℕ → ClientBlock)
@@ -96,23 +79,20 @@ block_again n bytes e = rw e at
 
 -- an access that doesn't probe all leaves the memory
 leaves_memory : {w : ℕ} (m : MessageA w) (memory : Memory) → is_acquire m.opcode ≡ false
-    → (cap_probed m.opcode m.param ≡ Some cap.ToN) ⊎ ((effect (message.A m) memory).0 ≡ memory)
+    → (cap_probed m.opcode m.param ≡ Some Cap.ToN) ⊎ ((effect (Message.A m) memory).0 ≡ memory)
 unfolding effect
 leaves_memory m memory e = go m.opcode refl
   where
-    go : (o : OpA) → m.opcode ≡ o → (cap_probed m.opcode m.param ≡ Some cap.ToN)
-        ⊎ ((effect (message.A m) memory).0 ≡ memory)
-    go a.PutFullData f = inl (rw f refl)
-    go a.PutPartialData f = inl (rw f refl)
-    go a.ArithmeticData f = inl (rw f refl)
-    go a.LogicalData f = inl (rw f refl)
-    go a.Get f = inr (rw f refl)
-    go a.Intent f = inr (rw f refl)
-    go a.AcquireBlock f = inr (rw f refl)
-    go a.AcquirePerm f = inr (rw f refl)
+    go : (o : OpA) → m.opcode ≡ o → (cap_probed m.opcode m.param ≡ Some Cap.ToN)
+        ⊎ ((effect (Message.A m) memory).0 ≡ memory)
+    go OpA.Get f = inr (rw f refl)
+    go OpA.Intent f = inr (rw f refl)
+    go OpA.AcquireBlock f = inr (rw f refl)
+    go OpA.AcquirePerm f = inr (rw f refl)
+    go o f = inl (rw f refl)
 
 pub leaves-bytes : {w : ℕ} (m : MessageA w) (bytes : List ℕ) → is_acquire m.opcode ≡ false → length bytes ≡ 64
-    → (performs m bytes ≡ bytes) ⊎ (cap_probed m.opcode m.param ≡ Some cap.ToN)
+    → (performs m bytes ≡ bytes) ⊎ (cap_probed m.opcode m.param ≡ Some Cap.ToN)
 leaves-bytes m bytes e long = elim (leaves_memory m (bytes_at (block_at m.address) bytes) e) [
   | inl all ↦ inr all
   | inr same ↦ inl (ap (λ (f : Memory). bytes_from f (64 * block_at m.address) 64) same ∙ block_again
@@ -121,14 +101,13 @@ leaves-bytes m bytes e long = elim (leaves_memory m (bytes_at (block_at m.addres
 
 -- ---- requests
 
-pub request_taken-kept : {w : ℕ} (caching : ℕ → Bool) (clients c source tracker : ℕ) (m : MessageA w)
+pub request_taken-kept : {w : ℕ} {caching : ℕ → Bool} (clients c source tracker : ℕ) (m : MessageA w)
     (rest : List Packet) (h : AbstractState w) → IsInvariant caching h.state
-    → ((d : ℕ) → clients ≤ d → caching d ≡ false)
-    → (h.state.link c).a ≡ packet Request source ∷ rest → is_acquire m.opcode ≡ false
-    → length (h.state.block (block_at m.address)).truth ≡ 64
+    → ((d : ℕ) → clients ≤ d → caching d ≡ false) → (h.state.link c).a ≡ packet Request source ∷ rest
+    → is_acquire m.opcode ≡ false → length (h.state.block (block_at m.address)).truth ≡ 64
     → (h.state.block (block_at m.address)).service ≡ Free → h.state.tracked tracker ≡ None
-    → IsInvariant caching (request_taken clients c source (message.A m) tracker rest h).state
-request_taken-kept {w} caching clients c source tracker m rest h inv plain first access long free unused =
+    → IsInvariant caching (request_taken clients c source (Message.A m) tracker rest h).state
+request_taken-kept {w} {caching} clients c source tracker m rest h inv plain first access long free unused =
     go (probes_some clients c false (cap_probed m.opcode m.param) b.pair) (cap_probed m.opcode m.param) refl refl
   where
     n : ℕ
@@ -145,27 +124,25 @@ request_taken-kept {w} caching clients c source tracker m rest h inv plain first
         → Spares (performs m) b
     spares o e none = elim (leaves-bytes m b.truth access long) [
       | inl same ↦ inl same
-      | inr all ↦ inr (λ d. none-above (b.pair d).recorded (unprobed clients caching c false cap.ToN b.pair plain
+      | inr all ↦ inr (λ d. none-above (b.pair d).recorded (unprobed clients caching c false Cap.ToN b.pair plain
           (inv.blocks n).outside (asked_all o e all none) d refl))
     ]
       where
-        asked_all : (o : Option Cap) → cap_probed m.opcode m.param ≡ o → cap_probed m.opcode m.param ≡ Some cap.ToN
+        asked_all : (o : Option Cap) → cap_probed m.opcode m.param ≡ o → cap_probed m.opcode m.param ≡ Some Cap.ToN
             → probes_some clients c false o b.pair ≡ false
-            → some_below clients (λ d. is_probed c false cap.ToN (b.pair d).recorded d) ≡ false
-        asked_all o e f none = let same : o ≡ Some cap.ToN = sym e ∙ f in rw same at none
+            → some_below clients (λ d. is_probed c false Cap.ToN (b.pair d).recorded d) ≡ false
+        asked_all o e f none = let same : o ≡ Some Cap.ToN = sym e ∙ f in rw same at none
 
     go : (p : Bool) (o : Option Cap) → probes_some clients c false (cap_probed m.opcode m.param) b.pair ≡ p
-        → cap_probed m.opcode m.param ≡ o
-        → IsInvariant caching (access_taken c source m tracker p o rest h).state
+        → cap_probed m.opcode m.param ≡ o → IsInvariant caching (access_taken c source m tracker p o rest h).state
     go true (Some k) e f =
         let some : some_below clients (λ d. is_probed c false k (b.pair d).recorded d) ≡ true = rw f at e in
         let one = some-one clients (λ d. is_probed c false k (b.pair d).recorded d) some in
-        access_served-kept caching c n source tracker k rest h.state inv first free asked (low_cap m.opcode m.param k f)
+        access_served-kept c n source tracker k rest inv first free asked (low_cap m.opcode m.param k f)
         unused one.0 one.1
     go true None e f = absurd (let no : false ≡ true = rw f at e in cc)
-    go false None e f = access_answered-kept caching c n source (performs m) rest h.state inv first asked
-        (spares None f refl)
-    go false (Some k) e f = access_answered-kept caching c n source (performs m) rest h.state inv first asked
+    go false None e f = access_answered-kept c n source (performs m) rest inv first asked (spares None f refl)
+    go false (Some k) e f = access_answered-kept c n source (performs m) rest inv first asked
         (spares (Some k) f (rw f at e))
 
 -- ---- Acquires
@@ -173,49 +150,46 @@ request_taken-kept {w} caching clients c source tracker m rest h inv plain first
 -- what is granted fits what was asked for
 pub gift_fits : (p : Profile) (whole : Bool) (g : Grow) (held : Perm) (unheld : Bool)
     → grow_fits held (AcquireOpen whole g) ≡ true → cap_fits whole g (gift p whole g unheld) ≡ true
-gift_fits p true grow.NtoB held unheld e = absurd cc
-gift_fits profile.One true grow.NtoT held unheld e = refl
-gift_fits profile.Two true grow.NtoT held unheld e = refl
-gift_fits profile.One true grow.BtoT held unheld e = refl
-gift_fits profile.Two true grow.BtoT held unheld e = refl
-gift_fits profile.One false grow.NtoB held unheld e = refl
-gift_fits profile.Two false grow.NtoB held true e = refl
-gift_fits profile.Two false grow.NtoB held false e = refl
-gift_fits profile.One false grow.NtoT held unheld e = refl
-gift_fits profile.Two false grow.NtoT held true e = refl
-gift_fits profile.Two false grow.NtoT held false e = refl
-gift_fits profile.One false grow.BtoT held unheld e = refl
-gift_fits profile.Two false grow.BtoT held true e = refl
-gift_fits profile.Two false grow.BtoT held false e = refl
+gift_fits p true Grow.NtoB held unheld e = absurd cc
+gift_fits Profile.One true Grow.NtoT held unheld e = refl
+gift_fits Profile.Two true Grow.NtoT held unheld e = refl
+gift_fits Profile.One true Grow.BtoT held unheld e = refl
+gift_fits Profile.Two true Grow.BtoT held unheld e = refl
+gift_fits Profile.One false Grow.NtoB held unheld e = refl
+gift_fits Profile.Two false Grow.NtoB held true e = refl
+gift_fits Profile.Two false Grow.NtoB held false e = refl
+gift_fits Profile.One false Grow.NtoT held unheld e = refl
+gift_fits Profile.Two false Grow.NtoT held true e = refl
+gift_fits Profile.Two false Grow.NtoT held false e = refl
+gift_fits Profile.One false Grow.BtoT held unheld e = refl
+gift_fits Profile.Two false Grow.BtoT held true e = refl
+gift_fits Profile.Two false Grow.BtoT held false e = refl
 
 -- Trunk is granted to who asked for it, or where nobody has a copy
 pub gift_trunk : (p : Profile) (whole : Bool) (g : Grow) (held : Perm) (unheld : Bool)
-    → grow_fits held (AcquireOpen whole g) ≡ true → same_cap (gift p whole g unheld) cap.ToT ≡ true
+    → grow_fits held (AcquireOpen whole g) ≡ true → same_cap (gift p whole g unheld) Cap.ToT ≡ true
     → (grows_to_trunk g ≡ true) ⊎ (unheld ≡ true)
-gift_trunk p whole grow.NtoT held unheld e f = inl refl
-gift_trunk p whole grow.BtoT held unheld e f = inl refl
-gift_trunk p true grow.NtoB held unheld e f = absurd cc
-gift_trunk profile.One false grow.NtoB held unheld e f = absurd cc
-gift_trunk profile.Two false grow.NtoB held true e f = inr refl
-gift_trunk profile.Two false grow.NtoB held false e f = absurd cc
+gift_trunk p whole Grow.NtoT held unheld e f = inl refl
+gift_trunk p whole Grow.BtoT held unheld e f = inl refl
+gift_trunk Profile.Two false Grow.NtoB held true e f = inr refl
+gift_trunk p whole Grow.NtoB held unheld e f = absurd cc
 
 -- nobody is recorded
-pub unheld_none : (clients : ℕ) (caching : ℕ → Bool) (pair : ℕ → ClientBlock) → ((d : ℕ) → clients ≤ d → caching d ≡ false)
-    → AreOutside caching pair → is_unheld clients pair ≡ true → (d : ℕ)
-    → same_perm (pair d).recorded perm.None ≡ true
+pub unheld_none : (clients : ℕ) (caching : ℕ → Bool) (pair : ℕ → ClientBlock)
+    → ((d : ℕ) → clients ≤ d → caching d ≡ false) → AreOutside caching pair → is_unheld clients pair ≡ true → (d : ℕ)
+    → same_perm (pair d).recorded Perm.None ≡ true
 unheld_none clients caching pair plain outside e d = elim (cases_lt d clients) [
-  | inl lt ↦ not-false (same_perm (pair d).recorded perm.None)
-      (some-none clients (λ i. not (same_perm (pair i).recorded perm.None))
-      (not-true (some_below clients (λ i. not (same_perm (pair i).recorded perm.None))) e) d lt)
+  | inl lt ↦ not-false (same_perm (pair d).recorded Perm.None)
+      (some-none clients (λ i. not (same_perm (pair i).recorded Perm.None))
+      (not-true (some_below clients (λ i. not (same_perm (pair i).recorded Perm.None))) e) d lt)
   | inr le ↦ rw (outside d (plain d le)) refl
 ]
 
-pub acquire_taken-kept : {w : ℕ} (caching : ℕ → Bool) (clients : ℕ) (p : Profile) (c n tracker : ℕ) (rest : List Packet)
-    (h : AbstractState w) → IsInvariant caching h.state
-    → ((d : ℕ) → clients ≤ d → caching d ≡ false)
+pub acquire_taken-kept : {w : ℕ} {caching : ℕ → Bool} (clients : ℕ) (p : Profile) (c n tracker : ℕ) (rest : List Packet)
+    (h : AbstractState w) → IsInvariant caching h.state → ((d : ℕ) → clients ≤ d → caching d ≡ false)
     → (h.state.link c).a ≡ packet Acquire n ∷ rest → (h.state.block n).service ≡ Free → h.state.tracked tracker ≡ None
     → IsInvariant caching (acquire_taken clients p c n ((h.state.block n).pair c).acquiring tracker rest h).state
-acquire_taken-kept {w} caching clients p c n tracker rest h inv plain first free unused = go wants.0 wants.1 wants.2
+acquire_taken-kept {w} {caching} clients p c n tracker rest h inv plain first free unused = go wants.0 wants.1 wants.2
   where
     b : Block (List ℕ)
     b = h.state.block n
@@ -237,12 +211,9 @@ acquire_taken-kept {w} caching clients p c n tracker rest h inv plain first free
         given = gift p whole g (is_unheld clients b.pair)
 
         low_cap : same_cap (cap_asked (AcquireOpen whole g)) (cap_asked (AcquireOpen whole g)) ≡ true
-        low_cap = same_again (cap_asked (AcquireOpen whole g))
-          where
-            same_again : (k : Cap) → same_cap k k ≡ true
-            same_again cap.ToT = refl
-            same_again cap.ToB = refl
-            same_again cap.ToN = refl
+        low_cap =
+            let same_again : (k : Cap) → same_cap k k ≡ true = elim [ Cap.ToT ↦ refl | k ↦ refl ] in
+            same_again (cap_asked (AcquireOpen whole g))
 
         served : (x : Bool) → some_below clients (λ d. is_probed c true (cap_asked (AcquireOpen whole g))
             (b.pair d).recorded d) ≡ x
@@ -252,14 +223,13 @@ acquire_taken-kept {w} caching clients p c n tracker rest h inv plain first free
         served true f =
             let one = some-one clients (λ d. is_probed c true (cap_asked (AcquireOpen whole g)) (b.pair d).recorded d) f
             in
-            acquire_served-kept caching c n (b.source c) tracker whole g (cap_asked (AcquireOpen whole g)) rest h.state
+            acquire_served-kept c n (b.source c) tracker whole g (cap_asked (AcquireOpen whole g)) rest
             inv first free e low_cap unused refl one.0 one.1
         served false f =
             let spared : (d : ℕ) → (d ≡ c → ⊥) → is_above (cap_asked (AcquireOpen whole g)) (b.pair d).recorded
-            ≡ false =
-            λ d ne. unprobed clients caching c true (cap_asked (AcquireOpen whole g)) b.pair plain
+            ≡ false = λ d ne. unprobed clients caching c true (cap_asked (AcquireOpen whole g)) b.pair plain
             (inv.blocks n).outside f d (ne_eqb d c ne) in
-            acquire_granted-kept caching c n tracker whole g given rest h.state inv first (record {
+            acquire_granted-kept n tracker rest inv first (record {
               free = free;
               wants = e;
               fits = gift_fits p whole g (b.pair c).held (is_unheld clients b.pair) fits;

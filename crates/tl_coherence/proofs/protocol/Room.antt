@@ -4,22 +4,17 @@ use Rattle.tl_coherence.proofs.protocol.Imports.{packets_on, AccessMessages, blo
 use Rattle.tl_coherence.proofs.protocol.Imports.{GrantAck, Packet, one_if}
 use Rattle.std.proofs.Common.{◌≡◌, ℕ, ◌+◌, ◌-◌, ◌*◌, ◌/◌, ◌<◌, ◌≤◌, Bool, true, false, List, [], ◌∷◌, ◌++◌, refl, ◌∙◌}
 use Rattle.std.proofs.Common.{ap, arith, inl, inr}
-use Rattle.std.specs.Prelude.{not, length, map}
-use Rattle.std.proofs.lemmas.List.{length-append}
-use Rattle.std.proofs.lemmas.Nat.{le-div}
+use Rattle.std.{specs.Prelude.not, specs.Prelude.length, specs.Prelude.map, proofs.lemmas.List.length-append}
+use Rattle.std.{proofs.lemmas.Nat.le-div}
 use Rattle.tl_beat.specs.statement.Width.{IsWidth}
-use Rattle.tl_beat.specs.declared.channel.Channel.TheVariants as channel
-use Rattle.tl_rules.proofs.Checks.{beats_room}
-use Rattle.tl_rules.specs.statement.Legality.{beats_from}
-use Rattle.tl_coherence.specs.refinement.Carried.{spelled, IsCarried}
-use Rattle.tl_coherence.specs.statement.Delivery.{capacity}
+use Rattle.tl_rules.{proofs.Checks.beats_room, specs.statement.Legality.beats_from}
+use Rattle.tl_coherence.specs.{refinement.Carried.spelled, refinement.Carried.IsCarried, statement.Delivery.capacity}
+use Rattle.tl_coherence.specs.{protocol.Packet.same_kind}
 use Rattle.tl_coherence.specs.refinement.PacketMessages.{message_of, message_of_kind, messages_on}
-use Rattle.tl_coherence.specs.protocol.Packet.{same_kind}
 use Rattle.tl_coherence.proofs.queues.Beats.{length-beats_from}
 use Rattle.tl_coherence.proofs.protocol.Capacities.{few_on_a, few_on_b, few_on_c, few_on_e, few_acks_on_d}
-use Rattle.tl_coherence.proofs.protocol.TokenNames.{AreBounded}
 use Rattle.tl_coherence.proofs.protocol.Capacities.{few_responses_on_d}
-use Rattle.tl_coherence.proofs.protocol.TokenNames.{kind_there}
+use Rattle.tl_coherence.proofs.protocol.TokenNames.{AreBounded, kind_there}
 use Rattle.tl_coherence.proofs.queues.Distinct.{passing, all-pass, IsThere, first-there, later-there}
 
 pub positive : (w : ℕ) → IsWidth w → 0 < w
@@ -111,11 +106,11 @@ unfolding passing
 none-pass [] = refl
 none-pass (x ∷ xs) = omega (arith, none-pass xs)
 
-light_on_b : (k : Kind) → is_on channel.B k ≡ true → is_light k ≡ true
+light_on_b : (k : Kind) → is_on Channel.B k ≡ true → is_light k ≡ true
 light_on_b Probe e = refl
 light_on_b _ e = absurd cc
 
-light_on_e : (k : Kind) → is_on channel.E k ≡ true → is_light k ≡ true
+light_on_e : (k : Kind) → is_on Channel.E k ≡ true → is_light k ≡ true
 light_on_e GrantAck e = refl
 light_on_e _ e = absurd cc
 
@@ -125,8 +120,7 @@ light_ack _ e = absurd cc
 
 -- no channel holds more beats than it is made for
 pub channel-few : {w : ℕ} (caching : ℕ → Bool) (mail : AccessMessages w) (s : State (List ℕ)) (c sources trackers : ℕ)
-    (ch : Channel) (rest queue : List (Beat w))
-    → IsWidth w → IsInvariant caching s → AreBounded c sources trackers s
+    (ch : Channel) (rest queue : List (Beat w)) → IsWidth w → IsInvariant caching s → AreBounded c sources trackers s
     → IsCarried rest (messages_on ch mail s c) queue → length queue ≤ capacity (64 / w) sources trackers ch
 channel-few {w} caching mail s c sources trackers ch rest queue width inv bounds carried = go ch carried
   where
@@ -136,36 +130,36 @@ channel-few {w} caching mail s c sources trackers ch rest queue width inv bounds
 
     go : (d : Channel) → IsCarried rest (messages_on d mail s c) queue
         → length queue ≤ capacity (64 / w) sources trackers d
-    go channel.A h =
-        let le = length-carried rest (messages_on channel.A mail s c) queue h in
+    go Channel.A h =
+        let le = length-carried rest (messages_on Channel.A mail s c) queue h in
         let all = spelled-few (message_of mail s c) (λ x. false) (s.link c).a width (λ x there e. absurd cc) in
         times (64 / w) (passing (λ x. true) (s.link c).a) (passing (λ x. false) (s.link c).a) sources (length queue) _
         le all (none-pass (s.link c).a)
         (rw (all-pass (s.link c).a) (few_on_a caching s c sources trackers inv bounds))
-    go channel.B h =
-        let le = length-carried rest (messages_on channel.B mail s c) queue h in
+    go Channel.B h =
+        let le = length-carried rest (messages_on Channel.B mail s c) queue h in
         let all = spelled-few (message_of mail s c) (λ x. true) (s.link c).b width
-        (λ x there e. one channel.B x there (light_on_b x.kind)) in
+        (λ x there e. one Channel.B x there (light_on_b x.kind)) in
         no_heavy (64 / w) (passing (λ x. false) (s.link c).b) (passing (λ x. true) (s.link c).b) trackers (length queue)
         _ le all (none-pass (s.link c).b)
         (rw (all-pass (s.link c).b) (few_on_b caching s c sources trackers inv bounds))
-    go channel.C h =
-        let le = length-carried rest (messages_on channel.C mail s c) queue h in
+    go Channel.C h =
+        let le = length-carried rest (messages_on Channel.C mail s c) queue h in
         let all = spelled-few (message_of mail s c) (λ x. false) (s.link c).c width (λ x there e. absurd cc) in
         times (64 / w) (passing (λ x. true) (s.link c).c) (passing (λ x. false) (s.link c).c) (sources + trackers)
         (length queue) _ le all
         (none-pass (s.link c).c) (rw (all-pass (s.link c).c) (few_on_c caching s c sources trackers inv bounds))
-    go channel.D h =
-        let le = length-carried rest (messages_on channel.D mail s c) queue h in
+    go Channel.D h =
+        let le = length-carried rest (messages_on Channel.D mail s c) queue h in
         let all = spelled-few (message_of mail s c) (λ x. same_kind x.kind ReleaseAck) (s.link c).d width
         (λ x there e. light-one mail s c x.kind x.number (light_ack x.kind e)) in
         room_for (64 / w) _ _ sources (length queue) (omega (arith, le, all))
         (few_responses_on_d caching s c sources trackers inv bounds)
         (few_acks_on_d caching s c sources trackers inv bounds)
-    go channel.E h =
-        let le = length-carried rest (messages_on channel.E mail s c) queue h in
+    go Channel.E h =
+        let le = length-carried rest (messages_on Channel.E mail s c) queue h in
         let all = spelled-few (message_of mail s c) (λ x. true) (s.link c).e width
-        (λ x there e. one channel.E x there (light_on_e x.kind)) in
+        (λ x there e. one Channel.E x there (light_on_e x.kind)) in
         no_heavy (64 / w) (passing (λ x. false) (s.link c).e) (passing (λ x. true) (s.link c).e) trackers (length queue)
         _ le all (none-pass (s.link c).e)
         (rw (all-pass (s.link c).e) (few_on_e caching s c sources trackers inv bounds))

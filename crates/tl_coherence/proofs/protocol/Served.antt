@@ -1,33 +1,26 @@
 -- A request that is taken, and for which clients are probed, keeps the invariant.
 use Rattle.tl_coherence.proofs.protocol.Imports.{Channel, Cap, Grow, Perm, same_perm, ClientBlock, View, Idle, Own}
-use Rattle.tl_coherence.proofs.protocol.Imports.{Other, ProbePhase, NoProbe, ProbeSent, ProbeAnswered, AcquireOpen, ok}
-use Rattle.tl_coherence.proofs.protocol.Imports.{same_cap, is_unprobed, is_above, Kind, Request, Acquire, Probe}
-use Rattle.tl_coherence.proofs.protocol.Imports.{ProbeAck, Release, Answer, Grant, ReleaseAck, GrantAck, Packet, set}
-use Rattle.tl_coherence.proofs.protocol.Imports.{Free, Waits, Block, State, Link, Asked, InService, view, packet}
-use Rattle.tl_coherence.proofs.protocol.Imports.{packets_on, shows, shown, is_transfer, is_granting, is_wanting}
-use Rattle.tl_coherence.proofs.protocol.Imports.{is_sent, is_answered, is_releasing, is_acked, Move, Stays, Pushes}
-use Rattle.tl_coherence.proofs.protocol.Imports.{Pops, IsMoved, agrees, is_own_move, channel_for, cap_asked, resting}
-use Rattle.tl_coherence.proofs.protocol.Imports.{is_out, is_of, acquires_of, serves_of, acquires_with, serves_with}
-use Rattle.tl_coherence.proofs.protocol.Imports.{releases_with, tracks_with, IsAskedCap, IsWell, IsInvariant}
+use Rattle.tl_coherence.proofs.protocol.Imports.{Other, ProbePhase, ProbeSent, AcquireOpen, ok, same_cap, is_unprobed}
+use Rattle.tl_coherence.proofs.protocol.Imports.{is_above, Kind, Request, Acquire, Probe, ProbeAck, Release, Answer}
+use Rattle.tl_coherence.proofs.protocol.Imports.{Grant, ReleaseAck, GrantAck, Packet, set, Free, Waits, Block, State}
+use Rattle.tl_coherence.proofs.protocol.Imports.{Link, Asked, InService, view, packet, packets_on, shows, shown}
+use Rattle.tl_coherence.proofs.protocol.Imports.{is_transfer, is_granting, is_wanting, is_sent, is_answered}
+use Rattle.tl_coherence.proofs.protocol.Imports.{is_releasing, is_acked, Move, Stays, Pushes, Pops, IsMoved, agrees}
+use Rattle.tl_coherence.proofs.protocol.Imports.{is_own_move, channel_for, cap_asked, resting, is_out, is_of}
+use Rattle.tl_coherence.proofs.protocol.Imports.{acquires_of, serves_of, acquires_with, serves_with, releases_with}
+use Rattle.tl_coherence.proofs.protocol.Imports.{tracks_with, IsAskedCap, IsWell, IsInvariant}
 use Rattle.std.proofs.Common.{◌≡◌, refl, sym, ◌∙◌}
 use Rattle.std.specs.Prelude.{ℕ, Bool, true, false, not, List, ◌∷◌, ◌++◌, [], ◌==◌, ◌&&◌, if◌then◌else◌, Some, None}
 use Rattle.std.proofs.lemmas.Bool.{eqb-true, ne_eqb}
-use Rattle.tl_beat.specs.declared.channel.Channel.TheVariants as channel
-use Rattle.tl_params.specs.declared.param.Cap.TheVariants as cap
-use Rattle.tl_params.specs.declared.param.Grow.TheVariants as grow
-use Rattle.tl_params.specs.declared.perm.Perm.TheVariants as perm
-use Rattle.tl_coherence.specs.protocol.PhaseSteps.{after_served}
+use Rattle.tl_coherence.specs.{protocol.PhaseSteps.after_served, protocol.Invariant.IsOwnSource}
 use Rattle.tl_coherence.specs.protocol.Protocol.{is_probed, served_pair, served_block, with_probe, served_link}
 use Rattle.tl_coherence.specs.protocol.Protocol.{acquire_served, access_served}
-use Rattle.tl_coherence.specs.protocol.Invariant.{IsOwnSource}
-use Rattle.tl_coherence.proofs.queues.Phases.{and_left, and_right}
-use Rattle.tl_coherence.proofs.queues.PhaseSteps.{serve-ok, served-ok}
-use Rattle.tl_coherence.proofs.queues.PhaseFacts.{quiet_at_rest}
-use Rattle.tl_coherence.proofs.queues.Moves.{IsEvent, names-block, names-set}
+use Rattle.tl_coherence.proofs.{queues.Phases.and_left, queues.Phases.and_right, queues.PhaseSteps.serve-ok}
+use Rattle.tl_coherence.proofs.{queues.PhaseSteps.served-ok, queues.PhaseFacts.quiet_at_rest, queues.Tokens.same_number}
+use Rattle.tl_coherence.proofs.{protocol.BothParts.quiet_unanswered}
+use Rattle.tl_coherence.proofs.queues.Moves.{IsEvent, names-block, names-set, names-set_at, invariant-moved}
+use Rattle.tl_coherence.proofs.queues.Moves.{invariant-moved_use}
 use Rattle.tl_coherence.proofs.queues.KindMoves.{same_again, spares, spared-agrees}
-use Rattle.tl_coherence.proofs.queues.Moves.{names-set_at, invariant-moved, invariant-moved_use}
-use Rattle.tl_coherence.proofs.queues.Tokens.{same_number}
-use Rattle.tl_coherence.proofs.protocol.BothParts.{quiet_unanswered}
 
 -- ---- who is probed
 
@@ -35,19 +28,18 @@ use Rattle.tl_coherence.proofs.protocol.BothParts.{quiet_unanswered}
 unprobed_part : {A : Type 0} (part : ClientBlock → A) (r : ℕ) (own : Bool) (k : Cap) (pair : ℕ → ClientBlock)
     → ((p : ClientBlock) → part (after_served k p) ≡ part p) → (d : ℕ)
     → part (served_pair r own k pair d) ≡ part (pair d)
-unprobed_part part r own k pair e d = go (own && (d == r))
-  where
-    go : (b : Bool) → part (if b then pair d else after_served k (pair d)) ≡ part (pair d)
-    go true = refl
-    go false = e (pair d)
+unprobed_part part r own k pair e d =
+    let go : (b : Bool) → part (if b then pair d else after_served k (pair d)) ≡ part (pair d) =
+    elim [ true ↦ refl | false ↦ e (pair d) ] in
+    go (own && (d == r))
 
 -- one who has nothing isn't probed
-none_above : (k : Cap) (p : Perm) → same_perm p perm.None ≡ true → is_above k p ≡ false
-none_above cap.ToT perm.None e = refl
-none_above cap.ToB perm.None e = refl
-none_above cap.ToN perm.None e = refl
-none_above k perm.Branch e = absurd cc
-none_above k perm.Trunk e = absurd cc
+none_above : (k : Cap) (p : Perm) → same_perm p Perm.None ≡ true → is_above k p ≡ false
+none_above Cap.ToT Perm.None e = refl
+none_above Cap.ToB Perm.None e = refl
+none_above Cap.ToN Perm.None e = refl
+none_above k Perm.Branch e = absurd cc
+none_above k Perm.Trunk e = absurd cc
 
 -- ---- the block
 
@@ -56,60 +48,61 @@ out_same : (p q : ClientBlock) (v u : View) → q.recorded ≡ p.recorded → is
 out_same p q v u e f = rw (e, f) refl
 
 never_granting : (r s : ℕ) (own : Bool) (k : Cap) (d : ℕ) → is_granting (view (Waits r own s k) d) ≡ false
-never_granting r s own k d = go (own && (d == r))
-  where
-    go : (b : Bool) → is_granting (if b then Own else Other k) ≡ false
-    go true = refl
-    go false = refl
+never_granting r s own k d =
+    let go : (b : Bool) → is_granting (if b then Own else Other k) ≡ false = elim [ true ↦ refl | false ↦ refl ] in
+    go (own && (d == r))
 
 never_top : (k : Cap) (whole : Bool) (g : Grow) → same_cap k (cap_asked (AcquireOpen whole g)) ≡ true
-    → same_cap k cap.ToT ≡ false
-never_top cap.ToT whole grow.NtoB e = absurd cc
-never_top cap.ToT whole grow.NtoT e = absurd cc
-never_top cap.ToT whole grow.BtoT e = absurd cc
-never_top cap.ToB whole g e = refl
-never_top cap.ToN whole g e = refl
+    → same_cap k Cap.ToT ≡ false
+never_top Cap.ToT whole Grow.NtoB e = absurd cc
+never_top Cap.ToT whole Grow.NtoT e = absurd cc
+never_top Cap.ToT whole Grow.BtoT e = absurd cc
+never_top Cap.ToB whole g e = refl
+never_top Cap.ToN whole g e = refl
 
 -- the request probes with this cap: an Acquire (`own`) with the cap that it asks for, and no access with toT
 abbrev pub Probes : Bool → Cap → ClientBlock → Type 0
 Probes true k p = (whole : Bool) × (g : Grow) × (p.acquiring ≡ AcquireOpen whole g)
     × (same_cap k (cap_asked (AcquireOpen whole g)) ≡ true)
-Probes false k p = same_cap k cap.ToT ≡ false
+Probes false k p = same_cap k Cap.ToT ≡ false
 
-is_low : (own : Bool) (k : Cap) (p : ClientBlock) → Probes own k p → same_cap k cap.ToT ≡ false
+is_low : (own : Bool) (k : Cap) (p : ClientBlock) → Probes own k p → same_cap k Cap.ToT ≡ false
 is_low true k p a = never_top k a.0 a.1 a.3
 is_low false k p a = a
 
-pub served-block : {X : Type 0} (caching : ℕ → Bool) (r : ℕ) (own : Bool) (source tracker : ℕ) (k : Cap) (b : Block X)
-    → IsWell caching b → b.service ≡ Free → Probes own k (b.pair r)
-    → IsOwnSource (Waits r own source k) b.source → (w : ℕ) → is_probed r own k (b.pair w).recorded w ≡ true
-    → IsWell caching (served_block r own source tracker k b)
-served-block caching r own source tracker k b h free asks sourced w probed = record {
-  phases = λ d. phase d (own && (d == r)) refl;
-  awaited = (w, sent (own && (w == r)) probed);
-  asked_cap = asked own asks;
-  own_source = sourced;
-  alone = λ i j trunk sent_ ne. left j (own && (j == r)) (h.one_owner i j (rw (recorded_same i) at trunk) ne);
-  one_owner = λ i j trunk ne. rw (recorded_same j) (h.one_owner i j (rw (recorded_same i) at trunk) ne);
-  outside = λ d plain. bare d (own && (d == r)) (h.outside d plain);
-  copies = λ d some. h.copies d (rw (held_same d) at some);
-  memory = λ none. h.memory (λ d.
-      let before : is_granting (view b.service d) ≡ false = rw (idle d) refl in
-      sym (out_same (b.pair d) (served_pair r own k b.pair d) (view b.service d) (view (Waits r own source k) d)
-      (recorded_same d) (never_granting r source own k d ∙ sym before)) ∙ none d);
-}
+pub served-block : {X : Type 0} {caching : ℕ → Bool} (r : ℕ) {own : Bool} (source tracker : ℕ) {k : Cap} {b : Block X}
+    → IsWell caching b → b.service ≡ Free → Probes own k (b.pair r) → IsOwnSource (Waits r own source k) b.source
+    → (w : ℕ) → is_probed r own k (b.pair w).recorded w ≡ true → IsWell caching (served_block r own source tracker k b)
+served-block r {own} source tracker {k} {b} h free asks sourced w probed =
+    let quiet : (d : ℕ) → is_unprobed (b.pair d).probing ≡ true =
+    λ d. quiet_at_rest (b.pair d) (view b.service d) (h.phases d) (idle d) in
+    let sent : (x : Bool) → (not x && is_above k (b.pair w).recorded) ≡ true
+    → is_unprobed (if x then b.pair w else after_served k (b.pair w)).probing ≡ false =
+    elim [ true ↦ λ e. absurd cc | false ↦ λ e. rw e refl ] in
+    let left : (j : ℕ) (x : Bool) → same_perm (b.pair j).recorded Perm.None ≡ true
+    → is_unprobed (if x then b.pair j else after_served k (b.pair j)).probing ≡ true =
+    λ j. elim [ true ↦ λ none. quiet j | false ↦ λ none. rw (none_above k (b.pair j).recorded none) (quiet j) ] in
+    let bare : (d : ℕ) (x : Bool) → b.pair d ≡ resting → (if x then b.pair d else after_served k (b.pair d)) ≡ resting =
+    λ d. elim [ true ↦ λ e. e | false ↦ λ e. rw (e, none_above k Perm.None refl) refl ] in
+    let recorded_same = unprobed_part (λ p. p.recorded) r own k b.pair (λ p. refl) in
+    let held_same = unprobed_part (λ p. p.held) r own k b.pair (λ p. refl) in
+    record {
+      phases = λ d. phase d (own && (d == r)) refl;
+      awaited = (w, sent (own && (w == r)) probed);
+      asked_cap = asked own asks;
+      own_source = sourced;
+      alone = λ i j trunk sent_ ne. left j (own && (j == r)) (h.one_owner i j (rw (recorded_same i) at trunk) ne);
+      one_owner = λ i j trunk ne. rw (recorded_same j) (h.one_owner i j (rw (recorded_same i) at trunk) ne);
+      outside = λ d plain. bare d (own && (d == r)) (h.outside d plain);
+      copies = λ d some. h.copies d (rw (held_same d) at some);
+      memory = λ none. h.memory (λ d.
+          let before : is_granting (view b.service d) ≡ false = rw (idle d) refl in
+          sym (out_same (b.pair d) (served_pair r own k b.pair d) (view b.service d) (view (Waits r own source k) d)
+          (recorded_same d) (never_granting r source own k d ∙ sym before)) ∙ none d);
+    }
   where
     idle : (d : ℕ) → view b.service d ≡ Idle
     idle d = rw free refl
-
-    quiet : (d : ℕ) → is_unprobed (b.pair d).probing ≡ true
-    quiet d = quiet_at_rest (b.pair d) (view b.service d) (h.phases d) (idle d)
-
-    recorded_same : (d : ℕ) → (served_pair r own k b.pair d).recorded ≡ (b.pair d).recorded
-    recorded_same = unprobed_part (λ p. p.recorded) r own k b.pair (λ p. refl)
-
-    held_same : (d : ℕ) → (served_pair r own k b.pair d).held ≡ (b.pair d).held
-    held_same = unprobed_part (λ p. p.held) r own k b.pair (λ p. refl)
 
     acquiring : (o : Bool) → o ≡ true → Probes o k (b.pair r) → (d : ℕ) → d ≡ r → ok (b.pair d) Own ≡ true
     acquiring false e a d f = absurd cc
@@ -120,30 +113,16 @@ served-block caching r own source tracker k b h free asks sourced w probed = rec
     phase d true e = acquiring own (and_left own (d == r) e) asks d (eqb-true d r (and_right own (d == r) e))
     phase d false e = served-ok k (b.pair d) (view b.service d) (h.phases d) (idle d) (is_low own k (b.pair r) asks)
 
-    sent : (x : Bool) → (not x && is_above k (b.pair w).recorded) ≡ true
-        → is_unprobed (if x then b.pair w else after_served k (b.pair w)).probing ≡ false
-    sent true e = absurd cc
-    sent false e = rw e refl
-
     asked : (o : Bool) → Probes o k (b.pair r) → IsAskedCap (Waits r o source k) (served_pair r o k b.pair)
     asked true a = rw (unprobed_part (λ p. p.acquiring) r true k b.pair (λ p. refl) r, a.2) a.3
     asked false a = tt
-
-    left : (j : ℕ) (x : Bool) → same_perm (b.pair j).recorded perm.None ≡ true
-        → is_unprobed (if x then b.pair j else after_served k (b.pair j)).probing ≡ true
-    left j true none = quiet j
-    left j false none = rw (none_above k (b.pair j).recorded none) (quiet j)
-
-    bare : (d : ℕ) (x : Bool) → b.pair d ≡ resting → (if x then b.pair d else after_served k (b.pair d)) ≡ resting
-    bare d true e = e
-    bare d false e = rw (e, none_above k perm.None refl) refl
 
 -- ---- one link
 
 -- this move on channel A, and a Probe on B to one who is probed
 abbrev pub request_move : Move → Bool → ℕ → Channel → Move
-request_move m probe n channel.A = m
-request_move m probe n channel.B = if probe then Pushes Probe n else Stays
+request_move m probe n Channel.A = m
+request_move m probe n Channel.B = if probe then Pushes Probe n else Stays
 request_move m probe n _ = Stays
 
 -- the token of the request: of an Acquire by the block, of an access by the source
@@ -163,8 +142,6 @@ served_moves r own n source k pair d =
 -- what the sender of an Acquire shows
 sender_shows : (n : ℕ) (j : Kind) (p : ClientBlock) → is_transfer j ≡ true → is_wanting p.acquiring ≡ true
     → agrees (request_move (Pops Acquire n) false n (channel_for j)) j n (shows j p Idle) (shows j p Own) ≡ true
-sender_shows n Request p t e = absurd cc
-sender_shows n Answer p t e = absurd cc
 sender_shows n Acquire p t e = rw (e, same_number n) refl
 sender_shows n Probe p t e = same_again (is_sent p.probing)
 sender_shows n ProbeAck p t e = same_again (is_answered p.probing)
@@ -172,6 +149,7 @@ sender_shows n Release p t e = same_again (is_releasing p.letting)
 sender_shows n Grant p t e = refl
 sender_shows n ReleaseAck p t e = same_again (is_acked p.letting)
 sender_shows n GrantAck p t e = refl
+sender_shows n j p t e = absurd cc
 
 -- what another shows, or the sender of an access
 other_shows : (n : ℕ) (j : Kind) (m : Move) (k : Cap) (p : ClientBlock) (above : Bool) → is_transfer j ≡ true
@@ -180,12 +158,10 @@ other_shows : (n : ℕ) (j : Kind) (m : Move) (k : Cap) (p : ClientBlock) (above
 other_shows n Request m k p above t u q e = absurd cc
 other_shows n Answer m k p above t u q e = absurd cc
 other_shows n Acquire m k p above t u q e = spared-agrees m Acquire n (is_wanting p.acquiring && true) u
-other_shows n Probe m k p true t u q e = rw (e, same_number n, not_sent p.probing q) refl
-  where
-    not_sent : (y : ProbePhase) → is_unprobed y ≡ true → is_sent y ≡ false
-    not_sent NoProbe f = refl
-    not_sent (ProbeSent c) f = absurd cc
-    not_sent (ProbeAnswered c) f = refl
+other_shows n Probe m k p true t u q e =
+    let not_sent : (y : ProbePhase) → is_unprobed y ≡ true → is_sent y ≡ false =
+    elim [ ProbeSent c ↦ λ f. absurd cc | y ↦ λ f. refl ] in
+    rw (e, same_number n, not_sent p.probing q) refl
 other_shows n Probe m k p false t u q e = rw e (same_again (is_sent p.probing))
 other_shows n ProbeAck m k p true t u q e = rw (e, quiet_unanswered p.probing q) refl
 other_shows n ProbeAck m k p false t u q e = rw e (same_again (is_answered p.probing))
@@ -216,79 +192,68 @@ leaves part n l rest false true e = e l.a (l.b ++ packet Probe n ∷ [])
 leaves part n l rest false false e = refl
 
 any_moved : (ch : Channel) (m : Move) (n : ℕ) (l : Link) (rest : List Packet) (x p : Bool)
-    → (x ≡ true → IsMoved m l.a rest) → (x ≡ false → m ≡ Stays)
-    → IsMoved (request_move m p n ch) (packets_on ch l)
+    → (x ≡ true → IsMoved m l.a rest) → (x ≡ false → m ≡ Stays) → IsMoved (request_move m p n ch) (packets_on ch l)
     (packets_on ch (with_probe n p (if x then record l { a = rest } else l)))
-any_moved channel.A m n l rest true true pops stays = pops refl
-any_moved channel.A m n l rest true false pops stays = pops refl
-any_moved channel.A m n l rest false true pops stays = rw (stays refl) refl
-any_moved channel.A m n l rest false false pops stays = rw (stays refl) refl
-any_moved channel.B m n l rest true true pops stays = refl
-any_moved channel.B m n l rest true false pops stays = refl
-any_moved channel.B m n l rest false true pops stays = refl
-any_moved channel.B m n l rest false false pops stays = refl
-any_moved channel.C m n l rest x p pops stays = leaves (λ i. i.c) n l rest x p (λ y z. refl)
-any_moved channel.D m n l rest x p pops stays = leaves (λ i. i.d) n l rest x p (λ y z. refl)
-any_moved channel.E m n l rest x p pops stays = leaves (λ i. i.e) n l rest x p (λ y z. refl)
+any_moved Channel.A m n l rest true true pops stays = pops refl
+any_moved Channel.A m n l rest true false pops stays = pops refl
+any_moved Channel.A m n l rest false true pops stays = rw (stays refl) refl
+any_moved Channel.A m n l rest false false pops stays = rw (stays refl) refl
+any_moved Channel.B m n l rest true true pops stays = refl
+any_moved Channel.B m n l rest true false pops stays = refl
+any_moved Channel.B m n l rest false true pops stays = refl
+any_moved Channel.B m n l rest false false pops stays = refl
+any_moved Channel.C m n l rest x p pops stays = leaves (λ i. i.c) n l rest x p (λ y z. refl)
+any_moved Channel.D m n l rest x p pops stays = leaves (λ i. i.d) n l rest x p (λ y z. refl)
+any_moved Channel.E m n l rest x p pops stays = leaves (λ i. i.e) n l rest x p (λ y z. refl)
 
 any_own : (ch : Channel) (n source : ℕ) (own x p : Bool)
     → is_own_move ch (request_move (if x then Pops (kind_served own) (number_served own n source) else Stays) p n ch)
     ≡ true
-any_own channel.A n source true true p = refl
-any_own channel.A n source false true p = refl
-any_own channel.A n source own false p = refl
-any_own channel.B n source own x true = refl
-any_own channel.B n source own x false = refl
-any_own channel.C n source own x p = refl
-any_own channel.D n source own x p = refl
-any_own channel.E n source own x p = refl
+any_own Channel.A n source true true p = refl
+any_own Channel.A n source false true p = refl
+any_own Channel.A n source own false p = refl
+any_own Channel.B n source own x true = refl
+any_own Channel.B n source own x false = refl
+any_own Channel.C n source own x p = refl
+any_own Channel.D n source own x p = refl
+any_own Channel.E n source own x p = refl
 
 -- ---- the whole
 
-served-event : {X : Type 0} (caching : ℕ → Bool) (r n : ℕ) (own : Bool) (source tracker : ℕ) (k : Cap)
-    (rest : List Packet) (s : State X) → IsInvariant caching s
+served-event : {X : Type 0} {caching : ℕ → Bool} (r n : ℕ) {own : Bool} (source tracker : ℕ) {k : Cap}
+    (rest : List Packet) {s : State X} → IsInvariant caching s
     → (s.link r).a ≡ packet (kind_served own) (number_served own n source) ∷ rest → (s.block n).service ≡ Free
-    → Probes own k ((s.block n).pair r)
-    → IsOwnSource (Waits r own source k) (s.block n).source → (w : ℕ)
+    → Probes own k ((s.block n).pair r) → IsOwnSource (Waits r own source k) (s.block n).source → (w : ℕ)
     → is_probed r own k ((s.block n).pair w).recorded w ≡ true
     → IsEvent caching n (served_block r own source tracker k (s.block n))
     (served_link r own n k rest (s.block n) s.link) (served_moves r own n source k (s.block n).pair) s
-served-event caching r n own source tracker k rest s inv first free asks sourced w probed = record {
-  well = served-block caching r own source tracker k (s.block n) (inv.blocks n) free asks sourced w probed;
-  moved = λ d ch. any_moved ch (if d == r then Pops (kind_served own) (number_served own n source) else Stays) n
-      (s.link d) rest (d == r)
-      (is_probed r own k ((s.block n).pair d).recorded d) (pops d) (stays (d == r));
-  own = λ d ch. any_own ch n source own (d == r) (is_probed r own k ((s.block n).pair d).recorded d);
-  fits = λ d j t. before j d (shown j d (served_block r own source tracker k (s.block n)))
-      (served_moves r own n source k (s.block n).pair d (channel_for j))
-      (any_shows n source j own (d == r) k ((s.block n).pair d) t (wants own asks d) (quiet d));
-  in_order = λ d m e. absurd (let f : Stays ≡ Pushes ProbeAck m = e in cc);
-}
-  where
-    before : (j : Kind) (d : ℕ) (after : Bool) (m : Move) → agrees m j n (shows j ((s.block n).pair d) Idle)
-        after ≡ true → agrees m j n (shown j d (s.block n)) after ≡ true
-    before j d after m h = rw free h
-
-    quiet : (d : ℕ) → is_unprobed ((s.block n).pair d).probing ≡ true
-    quiet d = quiet_at_rest ((s.block n).pair d) (view (s.block n).service d) ((inv.blocks n).phases d) (rw free refl)
-
-    wants : (o : Bool) → Probes o k ((s.block n).pair r) → (d : ℕ) → o ≡ true → (d == r) ≡ true
-        → is_wanting ((s.block n).pair d).acquiring ≡ true
-    wants false a d e f = absurd cc
-    wants true a d e f = rw (eqb-true d r f, a.2) refl
-
-    stays : (x : Bool) → x ≡ false → (if x then Pops (kind_served own) (number_served own n source) else Stays) ≡ Stays
-    stays true e = absurd cc
-    stays false e = refl
-
-    pops : (d : ℕ) → (d == r) ≡ true
-        → IsMoved (if d == r then Pops (kind_served own) (number_served own n source) else Stays) (s.link d).a rest
-    pops d e = rw (e, eqb-true d r e) first
+served-event {caching} r n {own} source tracker {k} rest {s} inv first free asks sourced w probed =
+    let wants : (o : Bool) → Probes o k ((s.block n).pair r) → (d : ℕ) → o ≡ true → (d == r) ≡ true
+    → is_wanting ((s.block n).pair d).acquiring ≡ true =
+    elim [ false ↦ λ a d e f. absurd cc | true ↦ λ a d e f. rw (eqb-true d r f, a.2) refl ] in
+    let stays : (x : Bool) → x ≡ false → (if x then Pops (kind_served own) (number_served own n source) else Stays)
+    ≡ Stays = elim [ true ↦ λ e. absurd cc | false ↦ λ e. refl ] in
+    let before : (j : Kind) (d : ℕ) (after : Bool) (m : Move) → agrees m j n (shows j ((s.block n).pair d) Idle) after
+    ≡ true → agrees m j n (shown j d (s.block n)) after ≡ true = λ j d after m h. rw free h in
+    let quiet : (d : ℕ) → is_unprobed ((s.block n).pair d).probing ≡ true =
+    λ d. quiet_at_rest ((s.block n).pair d) (view (s.block n).service d) ((inv.blocks n).phases d) (rw free refl) in
+    let pops : (d : ℕ) → (d == r) ≡ true
+    → IsMoved (if d == r then Pops (kind_served own) (number_served own n source) else Stays) (s.link d).a rest =
+    λ d e. rw (e, eqb-true d r e) first in
+    record {
+      well = served-block r source tracker (inv.blocks n) free asks sourced w probed;
+      moved = λ d ch. any_moved ch (if d == r then Pops (kind_served own) (number_served own n source) else Stays) n
+          (s.link d) rest (d == r) (is_probed r own k ((s.block n).pair d).recorded d) (pops d) (stays (d == r));
+      own = λ d ch. any_own ch n source own (d == r) (is_probed r own k ((s.block n).pair d).recorded d);
+      fits = λ d j t. before j d (shown j d (served_block r own source tracker k (s.block n)))
+          (served_moves r own n source k (s.block n).pair d (channel_for j))
+          (any_shows n source j own (d == r) k ((s.block n).pair d) t (wants own asks d) (quiet d));
+      in_order = λ d m e. absurd (let f : Stays ≡ Pushes ProbeAck m = e in cc);
+    }
 
 -- no access is taken or answered where an Acquire is taken
-bare_move : (x p : Bool) (n : ℕ)
-    → (spares (request_move (if x then Pops Acquire n else Stays) p n channel.A) Request ≡ true)
-    × (spares (request_move (if x then Pops Acquire n else Stays) p n channel.D) Answer ≡ true)
+bare_move : (x p : Bool) (n : ℕ) → (spares (request_move (if x then Pops Acquire n else Stays) p n Channel.A) Request
+    ≡ true) × (spares (request_move (if x then Pops Acquire n else Stays) p n Channel.D) Answer ≡ true)
 bare_move true p n = (refl, refl)
 bare_move false p n = (refl, refl)
 
@@ -307,17 +272,18 @@ not_named : (n m : ℕ) → (m ≡ n → ⊥) → is_of m (Some n) ≡ is_of m N
 not_named n m ne = ne_eqb m n ne
 
 -- an Acquire
-pub acquire_served-kept : {X : Type 0} (caching : ℕ → Bool) (r n source tracker : ℕ) (whole : Bool) (g : Grow) (k : Cap)
-    (rest : List Packet) (s : State X) → IsInvariant caching s
-    → (s.link r).a ≡ packet Acquire n ∷ rest → (s.block n).service ≡ Free
-    → ((s.block n).pair r).acquiring ≡ AcquireOpen whole g → same_cap k (cap_asked (AcquireOpen whole g)) ≡ true
-    → s.tracked tracker ≡ None → source ≡ (s.block n).source r
+pub acquire_served-kept : {X : Type 0} {caching : ℕ → Bool} (r n source tracker : ℕ) (whole : Bool) (g : Grow) (k : Cap)
+    (rest : List Packet) {s : State X} → IsInvariant caching s → (s.link r).a ≡ packet Acquire n ∷ rest
+    → (s.block n).service ≡ Free → ((s.block n).pair r).acquiring ≡ AcquireOpen whole g
+    → same_cap k (cap_asked (AcquireOpen whole g)) ≡ true → s.tracked tracker ≡ None → source ≡ (s.block n).source r
     → (w : ℕ) → is_probed r true k ((s.block n).pair w).recorded w ≡ true
     → IsInvariant caching (acquire_served r n source tracker k rest s)
-acquire_served-kept {X} caching r n source tracker whole g k rest s inv first free wants low unused sourced w probed =
+acquire_served-kept {X} {caching} r n source tracker whole g k rest {s} inv first free wants low unused sourced w
+    probed =
+    let new : Block X = served_block r true source tracker k (s.block n) in
     invariant-moved caching n new (served_link r true n k rest (s.block n) s.link)
     (served_moves r true n source k (s.block n).pair) s.lets (set tracker (Some n) s.tracked) s inv
-    (served-event caching r n true source tracker k rest s inv first free (whole, g, wants, low) sourced w probed)
+    (served-event r n source tracker rest inv first free (whole, g, wants, low) sourced w probed)
     (λ d. bare_move (d == r) (is_probed r true k ((s.block n).pair d).recorded d) n)
     (record {
       acquires = λ c. names-block acquires_of (acquires_with c) (s.uses c) n new s.block
@@ -330,21 +296,18 @@ acquire_served-kept {X} caching r n source tracker whole g k rest s inv first fr
           (rw (same_number n, same_number tracker) refl)
           (λ m ne. rw unused (not_named n m ne)) (λ i ne. rw (free, ne_eqb i tracker ne) refl) inv.named.trackers;
     })
-  where
-    new : Block X
-    new = served_block r true source tracker k (s.block n)
 
 -- an access
-pub access_served-kept : {X : Type 0} (caching : ℕ → Bool) (r n source tracker : ℕ) (k : Cap) (rest : List Packet)
-    (s : State X) → IsInvariant caching s
-    → (s.link r).a ≡ packet Request source ∷ rest → (s.block n).service ≡ Free → s.uses r source ≡ Asked
-    → same_cap k cap.ToT ≡ false → s.tracked tracker ≡ None
-    → (w : ℕ) → is_probed r false k ((s.block n).pair w).recorded w ≡ true
+pub access_served-kept : {X : Type 0} {caching : ℕ → Bool} (r n source tracker : ℕ) (k : Cap) (rest : List Packet)
+    {s : State X} → IsInvariant caching s → (s.link r).a ≡ packet Request source ∷ rest → (s.block n).service ≡ Free
+    → s.uses r source ≡ Asked → same_cap k Cap.ToT ≡ false → s.tracked tracker ≡ None → (w : ℕ)
+    → is_probed r false k ((s.block n).pair w).recorded w ≡ true
     → IsInvariant caching (access_served r n source tracker k rest s)
-access_served-kept {X} caching r n source tracker k rest s inv first free asked low unused w probed =
-    invariant-moved_use caching n new (served_link r false n k rest (s.block n) s.link)
-    (served_moves r false n source k (s.block n).pair) r source (InService n) (set tracker (Some n) s.tracked) s inv
-    (served-event caching r n false source tracker k rest s inv first free low tt w probed)
+access_served-kept {X} {caching} r n source tracker k rest {s} inv first free asked low unused w probed =
+    let new : Block X = served_block r false source tracker k (s.block n) in
+    invariant-moved_use
+    r source (InService n) (set tracker (Some n) s.tracked) inv
+    (served-event r n source tracker rest inv first free low tt w probed)
     (rw (asked, same_number r, same_number source) refl) (rw asked refl)
     (λ d ne. (rw (ne_eqb d r ne) refl, refl))
     (record {
@@ -363,6 +326,3 @@ access_served-kept {X} caching r n source tracker k rest s inv first free asked 
           (rw (same_number n, same_number tracker) refl)
           (λ m ne. rw unused (not_named n m ne)) (λ i ne. rw (free, ne_eqb i tracker ne) refl) inv.named.trackers;
     })
-  where
-    new : Block X
-    new = served_block r false source tracker k (s.block n)

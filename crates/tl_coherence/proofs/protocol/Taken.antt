@@ -4,39 +4,32 @@ use Rattle.tl_coherence.proofs.protocol.Imports.{Acknowledging, GrantedOther, No
 use Rattle.tl_coherence.proofs.protocol.Imports.{cap_fits, after_grant, set, GrantSent, GrantTaken, Block, view}
 use Rattle.tl_coherence.proofs.protocol.Imports.{taken_block, resting, is_out, IsWell}
 use Rattle.std.proofs.Common.{◌≡◌, ℕ, Bool, true, false, not, ◌&&◌, ◌||◌, refl, sym, ◌∙◌, ap, inl, inr}
-use Rattle.std.proofs.lemmas.Bool.{cases_eq, ne_eqb}
-use Rattle.std.proofs.Math.Bool.{and-false}
-use Rattle.tl_params.specs.declared.param.Cap.TheVariants as cap
-use Rattle.tl_params.specs.declared.param.Grow.TheVariants as grow
-use Rattle.tl_params.specs.declared.perm.Perm.TheVariants as perm
+use Rattle.std.{proofs.lemmas.Bool.cases_eq, proofs.lemmas.Bool.ne_eqb, proofs.Math.Bool.and-false}
 use Rattle.tl_coherence.specs.protocol.Phase.{grant_fits}
 use Rattle.tl_coherence.specs.protocol.Protocol.{granted_copy, granted_truth}
-use Rattle.tl_coherence.proofs.queues.Phases.{and_left, and_right}
-use Rattle.tl_coherence.proofs.queues.PhaseSteps.{grant_taken-ok}
-use Rattle.tl_coherence.proofs.queues.Facts.{held_at_most, grant_is_fit}
+use Rattle.tl_coherence.proofs.{queues.Phases.and_left, queues.Phases.and_right, queues.PhaseSteps.grant_taken-ok}
+use Rattle.tl_coherence.proofs.{queues.Facts.held_at_most, queues.Facts.grant_is_fit, queues.Perms.nothing_below}
 use Rattle.tl_coherence.proofs.queues.Tokens.{same_number, set-same, set-other, set-part}
-use Rattle.tl_coherence.proofs.queues.Perms.{nothing_below}
 
 -- a Grant for a store of the whole block gives Trunk
 whole_trunk : (g : Grow) (k : Cap) (p : Perm) → same_perm p (cap_right k) ≡ true → cap_fits true g k ≡ true
-    → same_perm p perm.Trunk ≡ true
-whole_trunk g cap.ToT p e f = e
-whole_trunk grow.NtoB cap.ToB p e f = absurd cc
-whole_trunk grow.NtoT cap.ToB p e f = absurd cc
-whole_trunk grow.BtoT cap.ToB p e f = absurd cc
-whole_trunk grow.NtoB cap.ToN p e f = absurd cc
-whole_trunk grow.NtoT cap.ToN p e f = absurd cc
-whole_trunk grow.BtoT cap.ToN p e f = absurd cc
+    → same_perm p Perm.Trunk ≡ true
+whole_trunk g Cap.ToT p e f = e
+whole_trunk Grow.NtoB Cap.ToB p e f = absurd cc
+whole_trunk Grow.NtoT Cap.ToB p e f = absurd cc
+whole_trunk Grow.BtoT Cap.ToB p e f = absurd cc
+whole_trunk Grow.NtoB Cap.ToN p e f = absurd cc
+whole_trunk Grow.NtoT Cap.ToN p e f = absurd cc
+whole_trunk Grow.BtoT Cap.ToN p e f = absurd cc
 
-some_held : (p : Perm) → same_perm p perm.Branch ≡ true → same_perm p perm.None ≡ false
-some_held perm.None e = absurd cc
-some_held perm.Branch e = refl
-some_held perm.Trunk e = absurd cc
+some_held : (p : Perm) → same_perm p Perm.Branch ≡ true → same_perm p Perm.None ≡ false
+some_held Perm.Branch e = refl
+some_held p e = absurd cc
 
-pub taken-block : {X : Type 0} (caching : ℕ → Bool) (c : ℕ) (d whole : Bool) (g : Grow) (k : Cap) (b : Block X)
+pub taken-block : {X : Type 0} {caching : ℕ → Bool} (c : ℕ) (d whole : Bool) (g : Grow) (k : Cap) {b : Block X}
     → IsWell caching b → b.service ≡ GrantSent c d k
     → (b.pair c).acquiring ≡ AcquireOpen whole g → IsWell caching (taken_block c whole d k b)
-taken-block {X} caching c d whole g k b h granting wants = record {
+taken-block {X} c d whole g k {b} h granting wants = record {
   phases = λ i. elim (cases_eq i c) [
     | inl same ↦ rw (same, set-same c after b.pair, view_here)
         (grant_taken-ok d k (b.pair c) (view b.service c) (h.phases c) seen)
@@ -86,21 +79,20 @@ taken-block {X} caching c d whole g k b h granting wants = record {
     fit : grant_fits (b.pair c).recorded (b.pair c).held d k (AcquireOpen whole g) ≡ true
     fit = rw wants at (grant_is_fit d k (b.pair c) (view b.service c) (h.phases c) seen)
 
-    fit_rest : (cap_fits whole g k && (not (whole && d) && (whole || (d || same_perm (b.pair c).held perm.Branch))))
+    fit_rest : (cap_fits whole g k && (not (whole && d) && (whole || (d || same_perm (b.pair c).held Perm.Branch))))
         ≡ true
     fit_rest = and_right (same_perm (b.pair c).recorded (cap_right k))
-        (cap_fits whole g k && (not (whole && d) && (whole || (d || same_perm (b.pair c).held perm.Branch)))) fit
+        (cap_fits whole g k && (not (whole && d) && (whole || (d || same_perm (b.pair c).held Perm.Branch)))) fit
 
-    owns : whole ≡ true → same_perm (b.pair c).recorded perm.Trunk ≡ true
-    owns e =
-        whole_trunk g k (b.pair c).recorded (and_left (same_perm (b.pair c).recorded (cap_right k))
-        (cap_fits whole g k && (not (whole && d) && (whole || (d || same_perm (b.pair c).held perm.Branch)))) fit)
+    owns : whole ≡ true → same_perm (b.pair c).recorded Perm.Trunk ≡ true
+    owns e = whole_trunk g k (b.pair c).recorded (and_left (same_perm (b.pair c).recorded (cap_right k))
+        (cap_fits whole g k && (not (whole && d) && (whole || (d || same_perm (b.pair c).held Perm.Branch)))) fit)
         (rw e at (and_left (cap_fits whole g k)
-        (not (whole && d) && (whole || (d || same_perm (b.pair c).held perm.Branch))) fit_rest))
+        (not (whole && d) && (whole || (d || same_perm (b.pair c).held Perm.Branch))) fit_rest))
 
-    had_branch : whole ≡ false → d ≡ false → same_perm (b.pair c).held perm.Branch ≡ true
-    had_branch e f = rw (e, f) at (and_right (not (whole && d)) (whole || (d || same_perm (b.pair c).held perm.Branch))
-        (and_right (cap_fits whole g k) (not (whole && d) && (whole || (d || same_perm (b.pair c).held perm.Branch)))
+    had_branch : whole ≡ false → d ≡ false → same_perm (b.pair c).held Perm.Branch ≡ true
+    had_branch e f = rw (e, f) at (and_right (not (whole && d)) (whole || (d || same_perm (b.pair c).held Perm.Branch))
+        (and_right (cap_fits whole g k) (not (whole && d) && (whole || (d || same_perm (b.pair c).held Perm.Branch)))
         fit_rest))
 
     own_copy : (all : Bool) → whole ≡ all → (data_too : Bool) → d ≡ data_too
@@ -109,12 +101,11 @@ taken-block {X} caching c d whole g k b h granting wants = record {
     own_copy false e true f = rw (e, f) refl
     own_copy false e false f = let had = some_held (b.pair c).held (had_branch e f) in rw (e, f) (h.copies c had)
 
-    other_copy : (i : ℕ) → (i ≡ c → ⊥) → (all : Bool) → whole ≡ all → same_perm (b.pair i).held perm.None ≡ false
+    other_copy : (i : ℕ) → (i ≡ c → ⊥) → (all : Bool) → whole ≡ all → same_perm (b.pair i).held Perm.None ≡ false
         → b.copy i ≡ granted_truth whole (b.waiting c) b.truth
     other_copy i ne true e some =
-        let none : same_perm (b.pair i).held perm.None ≡ true =
-        nothing_below (b.pair i).held (b.pair i).recorded (held_at_most (b.pair i) (view b.service i) (h.phases i))
-        (h.one_owner c i (owns e) ne) in
+        let none = nothing_below (b.pair i).held (b.pair i).recorded
+        (held_at_most (b.pair i) (view b.service i) (h.phases i)) (h.one_owner c i (owns e) ne) in
         absurd cc
     other_copy i ne false e some = rw e (h.copies i some)
 
@@ -126,7 +117,7 @@ taken-block {X} caching c d whole g k b h granting wants = record {
         let in_ : is_out (set c after b.pair c) (view (GrantTaken c) c) ≡ false = none c in
         absurd cc
     memory_is false e none = rw e (h.memory (λ i. elim (cases_eq i c) [
-      | inl same ↦ rw (same, seen) (and-false (same_perm (b.pair c).recorded perm.Trunk))
+      | inl same ↦ rw (same, seen) (and-false (same_perm (b.pair c).recorded Perm.Trunk))
       | inr other ↦ let was : is_out (set c after b.pair i) (view (GrantTaken c) i) ≡ false = none i in
           rw (seen_by i other) (rw (recorded_same i, view_there i other) at was)
     ]))

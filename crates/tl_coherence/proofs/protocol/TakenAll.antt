@@ -1,56 +1,58 @@
 -- A Grant that is taken keeps the invariant.
 use Rattle.tl_coherence.proofs.protocol.Imports.{Channel, Cap, Grow, ClientBlock, Granting, Acknowledging, AcquireOpen}
-use Rattle.tl_coherence.proofs.protocol.Imports.{after_grant, Kind, Request, Acquire, Probe, ProbeAck, Release, Answer}
-use Rattle.tl_coherence.proofs.protocol.Imports.{Grant, ReleaseAck, GrantAck, Packet, set, GrantSent, Block, State}
-use Rattle.tl_coherence.proofs.protocol.Imports.{Link, SourceFree, Acquires, packet, shows, is_transfer, is_wanting}
-use Rattle.tl_coherence.proofs.protocol.Imports.{is_sent, is_answered, is_releasing, is_acked, taken_block, Move, Stays}
-use Rattle.tl_coherence.proofs.protocol.Imports.{Pushes, Pops, AreMoved, agrees, is_own_move, channel_for, is_of}
-use Rattle.tl_coherence.proofs.protocol.Imports.{acquires_of, serves_of, acquires_with, serves_with, releases_with}
-use Rattle.tl_coherence.proofs.protocol.Imports.{tracks_with, IsInvariant}
+use Rattle.tl_coherence.proofs.protocol.Imports.{after_grant, Kind, Acquire, Probe, ProbeAck, Release, Grant}
+use Rattle.tl_coherence.proofs.protocol.Imports.{ReleaseAck, GrantAck, Packet, GrantSent, Block, State, Link}
+use Rattle.tl_coherence.proofs.protocol.Imports.{SourceFree, Acquires, packet, shows, is_transfer, is_wanting, is_sent}
+use Rattle.tl_coherence.proofs.protocol.Imports.{is_answered, is_releasing, is_acked, taken_block, Move, Stays, Pushes}
+use Rattle.tl_coherence.proofs.protocol.Imports.{Pops, AreMoved, agrees, is_own_move, channel_for, is_of, acquires_of}
+use Rattle.tl_coherence.proofs.protocol.Imports.{serves_of, acquires_with, serves_with, releases_with, tracks_with}
+use Rattle.tl_coherence.proofs.protocol.Imports.{IsInvariant}
 use Rattle.std.proofs.Common.{◌≡◌, refl, sym, ◌∙◌}
 use Rattle.std.specs.Prelude.{ℕ, Bool, true, false, List, ◌∷◌, ◌&&◌}
-use Rattle.std.proofs.lemmas.Bool.{ne_eqb}
-use Rattle.std.proofs.Math.Bool.{and-false}
-use Rattle.tl_beat.specs.declared.channel.Channel.TheVariants as channel
+use Rattle.std.{proofs.lemmas.Bool.ne_eqb, proofs.Math.Bool.and-false}
 use Rattle.tl_coherence.specs.protocol.Protocol.{taken_link, grant_taken}
-use Rattle.tl_coherence.proofs.queues.Moves.{moves_at, event-at, bare-elsewhere, names-block, names-set_at}
+use Rattle.tl_coherence.proofs.queues.Moves.{event-at, bare-elsewhere, names-block, names-set_at}
 use Rattle.tl_coherence.proofs.queues.Moves.{invariant-moved_use}
-use Rattle.tl_coherence.proofs.queues.KindMoves.{same_again}
+use Rattle.tl_coherence.proofs.{queues.KindMoves.same_again, protocol.Taken.taken-block}
+use Rattle.tl_coherence.proofs.{protocol.BothParts.acquires_of-is}
 use Rattle.tl_coherence.proofs.queues.Tokens.{same_number, set-same, set-other, set-part}
-use Rattle.tl_coherence.proofs.protocol.Taken.{taken-block}
-use Rattle.tl_coherence.proofs.protocol.BothParts.{acquires_of-is}
 
 abbrev pub taken_moves : ℕ → Channel → Move
-taken_moves n channel.D = Pops Grant n
-taken_moves n channel.E = Pushes GrantAck n
+taken_moves n Channel.D = Pops Grant n
+taken_moves n Channel.E = Pushes GrantAck n
 taken_moves n _ = Stays
 
 taken_shows : (n : ℕ) (j : Kind) (d : Bool) (k : Cap) (p : ClientBlock) → is_transfer j ≡ true
     → agrees (taken_moves n (channel_for j)) j n (shows j p (Granting d k)) (shows j (after_grant k p) Acknowledging)
     ≡ true
-taken_shows n Request d k p t = absurd cc
-taken_shows n Answer d k p t = absurd cc
-taken_shows n Acquire d k p t = go (is_wanting p.acquiring)
-  where
-    go : (b : Bool) → agrees Stays Acquire n (b && false) false ≡ true
-    go true = refl
-    go false = refl
+taken_shows n Acquire d k p t =
+    let go : (b : Bool) → agrees Stays Acquire n (b && false) false ≡ true = elim [ true ↦ refl | false ↦ refl ] in
+    go (is_wanting p.acquiring)
 taken_shows n Probe d k p t = same_again (is_sent p.probing)
 taken_shows n ProbeAck d k p t = same_again (is_answered p.probing)
 taken_shows n Release d k p t = same_again (is_releasing p.letting)
 taken_shows n Grant d k p t = rw (same_number n) refl
 taken_shows n ReleaseAck d k p t = same_again (is_acked p.letting)
 taken_shows n GrantAck d k p t = rw (same_number n) refl
+taken_shows n j d k p t = absurd cc
 
-pub grant_taken-kept : {X : Type 0} (caching : ℕ → Bool) (c n : ℕ) (d whole : Bool) (g : Grow) (k : Cap)
-    (rest : List Packet) (s : State X) → IsInvariant caching s → (s.link c).d ≡ packet Grant n ∷ rest
+pub grant_taken-kept : {X : Type 0} {caching : ℕ → Bool} (c n : ℕ) (d whole : Bool) (g : Grow) (k : Cap)
+    (rest : List Packet) {s : State X} → IsInvariant caching s → (s.link c).d ≡ packet Grant n ∷ rest
     → (s.block n).service ≡ GrantSent c d k → ((s.block n).pair c).acquiring ≡ AcquireOpen whole g
     → IsInvariant caching (grant_taken c n whole d k rest s)
-grant_taken-kept {X} caching c n d whole g k rest s inv first granting wants =
-    invariant-moved_use caching n new (set c here s.link) (moves_at c (taken_moves n)) c source SourceFree s.tracked s
+grant_taken-kept {X} {caching} c n d whole g k rest {s} inv first granting wants =
+    let here : Link = taken_link n rest (s.link c) in
+    let moved : AreMoved (taken_moves n) (s.link c) here = elim [ Channel.D ↦ first | _ ↦ refl ] in
+    let own : (ch : Channel) → is_own_move ch (taken_moves n ch) ≡ true = elim [ Channel.A ↦ refl | ch ↦ refl ] in
+    let old : ℕ → ClientBlock = (s.block n).pair in
+    let after : ClientBlock = after_grant k (old c) in
+    let new : Block X = taken_block c whole d k (s.block n) in
+    let used : s.uses c source ≡ Acquires n = acquires_of-is n (s.uses c source) (inv.named.acquires c source n
+    ∙ rw (wants, same_number source) refl) in
+    invariant-moved_use c source SourceFree s.tracked
     inv
-    (event-at caching c n new here (taken_moves n) s (record {
-      well = taken-block caching c d whole g k (s.block n) (inv.blocks n) granting wants;
+    (event-at (record {
+      well = taken-block c d whole g k (inv.blocks n) granting wants;
       moved = moved;
       own = own;
       fits = λ j t. rw (granting, set-same c after old, same_number c) (taken_shows n j d k (old c) t);
@@ -70,34 +72,5 @@ grant_taken-kept {X} caching c n d whole g k rest s inv first granting wants =
       trackers = names-block is_of tracks_with s.tracked n new s.block (λ i. rw granting refl) inv.named.trackers;
     })
   where
-    old : ℕ → ClientBlock
-    old = (s.block n).pair
-
-    after : ClientBlock
-    after = after_grant k (old c)
-
-    new : Block X
-    new = taken_block c whole d k (s.block n)
-
-    here : Link
-    here = taken_link n rest (s.link c)
-
     source : ℕ
     source = (s.block n).source c
-
-    used : s.uses c source ≡ Acquires n
-    used = acquires_of-is n (s.uses c source) (inv.named.acquires c source n ∙ rw (wants, same_number source) refl)
-
-    moved : AreMoved (taken_moves n) (s.link c) here
-    moved channel.A = refl
-    moved channel.B = refl
-    moved channel.C = refl
-    moved channel.D = first
-    moved channel.E = refl
-
-    own : (ch : Channel) → is_own_move ch (taken_moves n ch) ≡ true
-    own channel.A = refl
-    own channel.B = refl
-    own channel.C = refl
-    own channel.D = refl
-    own channel.E = refl

@@ -1,21 +1,16 @@
 -- Which source, block or tracker each token is of.
-use Rattle.tl_coherence.proofs.protocol.Imports.{Channel, ClientBlock, View}
-use Rattle.tl_coherence.proofs.protocol.Imports.{is_unreleased, is_unprobed, ok, Kind, Request, Acquire}
-use Rattle.tl_coherence.proofs.protocol.Imports.{Probe, ProbeAck, Release, Answer, Grant, ReleaseAck, GrantAck, Packet}
-use Rattle.tl_coherence.proofs.protocol.Imports.{one_if, count, Service, Free, Waits, GrantSent, GrantTaken, State}
-use Rattle.tl_coherence.proofs.protocol.Imports.{SourceState, SourceFree, Asked, Replied, Acquires, packet, view, on}
-use Rattle.tl_coherence.proofs.protocol.Imports.{packets_on, is_on, is_wanting, is_granting, shown}
-use Rattle.tl_coherence.proofs.protocol.Imports.{IsInvariant, is_asked, is_replied}
+use Rattle.tl_coherence.proofs.protocol.Imports.{Channel, ClientBlock, View, is_unreleased, is_unprobed, ok, Kind}
+use Rattle.tl_coherence.proofs.protocol.Imports.{Request, Acquire, Probe, ProbeAck, Release, Answer, Grant, ReleaseAck}
+use Rattle.tl_coherence.proofs.protocol.Imports.{GrantAck, Packet, one_if, count, Service, Free, State, SourceState}
+use Rattle.tl_coherence.proofs.protocol.Imports.{SourceFree, Asked, Replied, Acquires, packet, view, on, packets_on}
+use Rattle.tl_coherence.proofs.protocol.Imports.{is_on, is_wanting, is_granting, shown, IsInvariant, is_asked}
+use Rattle.tl_coherence.proofs.protocol.Imports.{is_replied}
 use Rattle.std.proofs.Common.{◌≡◌, ℕ, ◌<◌, ◌≤◌, Bool, true, false, refl, sym, ◌∙◌, ap, arith}
 use Rattle.std.specs.Prelude.{◌||◌, not, Option, Some, None}
-use Rattle.tl_coherence.specs.protocol.Phase.{is_idle}
-use Rattle.tl_coherence.specs.protocol.Packet.{is}
-use Rattle.tl_coherence.specs.protocol.Invariant.{is_busy}
-use Rattle.tl_coherence.proofs.queues.Distinct.{IsThere}
-use Rattle.tl_coherence.proofs.queues.Tokens.{same_number}
-use Rattle.tl_coherence.proofs.queues.Phases.{each_phase, of_phase}
-use Rattle.tl_coherence.proofs.protocol.BothParts.{is_of-is, acquires_of-is}
-use Rattle.tl_coherence.proofs.queues.Channels.{on_same}
+use Rattle.tl_coherence.specs.{protocol.Phase.is_idle, protocol.Packet.is, protocol.Invariant.is_busy}
+use Rattle.tl_coherence.proofs.{queues.Distinct.IsThere, queues.Tokens.same_number, queues.Phases.each_phase}
+use Rattle.tl_coherence.proofs.{queues.Phases.of_phase, protocol.BothParts.is_of-is, protocol.BothParts.acquires_of-is}
+use Rattle.tl_coherence.proofs.{queues.Channels.on_same}
 use Rattle.tl_rules.proofs.Takeable.{part_bit}
 
 -- what is used is below these bounds
@@ -38,24 +33,22 @@ not_there : (n : ℕ) → n ≡ 0 → 0 < n → ⊥
 not_there n e lt = absurd (omega (arith, e, lt))
 
 -- how often a token of the kind stands on the channel
-once_of : {X : Type 0} (caching : ℕ → Bool) (s : State X) (c : ℕ) (ch : Channel) (k : Kind) (n : ℕ)
+once_of : {X : Type 0} {caching : ℕ → Bool} {s : State X} (c : ℕ) (ch : Channel) (k : Kind) (n : ℕ)
     → IsInvariant caching s → is_on ch k ≡ true
     → packets_on ch (s.link c) ≡ on k (s.link c) → count k n (packets_on ch (s.link c)) ≤ 1
-once_of caching s c ch Request n inv on_it is = at_most_one _ (is_asked (s.uses c n)) (rw is (inv.requests c n))
-once_of caching s c ch Answer n inv on_it is = at_most_one _ (is_replied (s.uses c n)) (rw is (inv.answers c n))
-once_of caching s c ch Acquire n inv on_it is =
+once_of {s} c ch Request n inv on_it is = at_most_one _ (is_asked (s.uses c n)) (rw is (inv.requests c n))
+once_of {s} c ch Answer n inv on_it is = at_most_one _ (is_replied (s.uses c n)) (rw is (inv.answers c n))
+once_of {s} c ch Acquire n inv on_it is =
     at_most_one _ (shown Acquire c (s.block n)) (rw is (inv.transfers c Acquire refl n))
-once_of caching s c ch Probe n inv on_it is =
-    at_most_one _ (shown Probe c (s.block n)) (rw is (inv.transfers c Probe refl n))
-once_of caching s c ch ProbeAck n inv on_it is =
+once_of {s} c ch Probe n inv on_it is = at_most_one _ (shown Probe c (s.block n)) (rw is (inv.transfers c Probe refl n))
+once_of {s} c ch ProbeAck n inv on_it is =
     at_most_one _ (shown ProbeAck c (s.block n)) (rw is (inv.transfers c ProbeAck refl n))
-once_of caching s c ch Release n inv on_it is =
+once_of {s} c ch Release n inv on_it is =
     at_most_one _ (shown Release c (s.block n)) (rw is (inv.transfers c Release refl n))
-once_of caching s c ch Grant n inv on_it is =
-    at_most_one _ (shown Grant c (s.block n)) (rw is (inv.transfers c Grant refl n))
-once_of caching s c ch ReleaseAck n inv on_it is =
+once_of {s} c ch Grant n inv on_it is = at_most_one _ (shown Grant c (s.block n)) (rw is (inv.transfers c Grant refl n))
+once_of {s} c ch ReleaseAck n inv on_it is =
     at_most_one _ (shown ReleaseAck c (s.block n)) (rw is (inv.transfers c ReleaseAck refl n))
-once_of caching s c ch GrantAck n inv on_it is =
+once_of {s} c ch GrantAck n inv on_it is =
     at_most_one _ (shown GrantAck c (s.block n)) (rw is (inv.transfers c GrantAck refl n))
 
 -- no token stands twice on a channel
@@ -64,17 +57,16 @@ pub once : {X : Type 0} (caching : ℕ → Bool) (s : State X) (c : ℕ) (ch : C
 once caching s c ch inv k n = go (is_on ch k) refl
   where
     go : (b : Bool) → is_on ch k ≡ b → count k n (packets_on ch (s.link c)) ≤ 1
-    go true e = once_of caching s c ch k n inv e (on_same ch k (s.link c) e)
+    go true e = once_of c ch k n inv e (on_same ch k (s.link c) e)
     go false e = let none : count k n (packets_on ch (s.link c)) ≡ 0 = inv.own_kinds c ch k n e in omega (arith, none)
 
 -- a token is of a kind of its channel
 pub kind_there : {X : Type 0} (caching : ℕ → Bool) (s : State X) (c : ℕ) (ch : Channel) (x : Packet)
     → IsInvariant caching s → IsThere x (packets_on ch (s.link c)) → is_on ch x.kind ≡ true
-kind_there caching s c ch x inv there = go (is_on ch x.kind) refl
-  where
-    go : (b : Bool) → is_on ch x.kind ≡ b → b ≡ true
-    go true e = refl
-    go false e = absurd (not_there _ (inv.own_kinds c ch x.kind x.number e) there)
+kind_there caching s c ch x inv there =
+    let go : (b : Bool) → is_on ch x.kind ≡ b → b ≡ true =
+    elim [ true ↦ λ e. refl | false ↦ λ e. absurd (not_there _ (inv.own_kinds c ch x.kind x.number e) there) ] in
+    go (is_on ch x.kind) refl
 
 -- and what it is of shows it
 abbrev pub shows_it : {X : Type 0} → State X → ℕ → Kind → ℕ → Bool
@@ -82,10 +74,9 @@ shows_it s c Request n = is_asked (s.uses c n)
 shows_it s c Answer n = is_replied (s.uses c n)
 shows_it s c k n = shown k c (s.block n)
 
-pub shown_there : {X : Type 0} (caching : ℕ → Bool) (s : State X) (c : ℕ) (ch : Channel) (k : Kind) (n : ℕ)
-    → IsInvariant caching s → is_on ch k ≡ true
-    → 0 < count k n (packets_on ch (s.link c)) → shows_it s c k n ≡ true
-shown_there caching s c ch k n inv on_it there = go k refl
+pub shown_there : {X : Type 0} {caching : ℕ → Bool} {s : State X} (c : ℕ) (ch : Channel) (k : Kind) (n : ℕ)
+    → IsInvariant caching s → is_on ch k ≡ true → 0 < count k n (packets_on ch (s.link c)) → shows_it s c k n ≡ true
+shown_there {s} c ch k n inv on_it there = go k refl
   where
     on_k : 0 < count k n (on k (s.link c))
     on_k = rw (on_same ch k (s.link c) on_it) at there
@@ -132,34 +123,26 @@ name s c ReleaseAck n = (s.block n).release_source c
 name s c k n = (s.block n).tracker
 
 -- the source of an open Acquire is of its block
-pub source_of_acquire : {X : Type 0} (caching : ℕ → Bool) (s : State X) (c n : ℕ) → IsInvariant caching s
-    → is_wanting ((s.block n).pair c).acquiring ≡ true
-    → s.uses c ((s.block n).source c) ≡ Acquires n
-source_of_acquire caching s c n inv wants =
-    acquires_of-is n (s.uses c ((s.block n).source c)) (inv.named.acquires c ((s.block n).source c) n ∙ rw
-    (wants, same_number ((s.block n).source c)) refl)
+pub source_of_acquire : {X : Type 0} {caching : ℕ → Bool} {s : State X} (c n : ℕ) → IsInvariant caching s
+    → is_wanting ((s.block n).pair c).acquiring ≡ true → s.uses c ((s.block n).source c) ≡ Acquires n
+source_of_acquire {s} c n inv wants = acquires_of-is n (s.uses c ((s.block n).source c))
+    (inv.named.acquires c ((s.block n).source c) n ∙ rw (wants, same_number ((s.block n).source c)) refl)
 
-pub source_of_release : {X : Type 0} (caching : ℕ → Bool) (s : State X) (c n : ℕ) → IsInvariant caching s
-    → is_unreleased ((s.block n).pair c).letting ≡ false
-    → s.lets c ((s.block n).release_source c) ≡ Some n
-source_of_release caching s c n inv lets =
-    is_of-is n (s.lets c ((s.block n).release_source c)) (inv.named.releases c ((s.block n).release_source c) n ∙ rw
-    (lets, same_number ((s.block n).release_source c)) refl)
+pub source_of_release : {X : Type 0} {caching : ℕ → Bool} {s : State X} (c n : ℕ) → IsInvariant caching s
+    → is_unreleased ((s.block n).pair c).letting ≡ false → s.lets c ((s.block n).release_source c) ≡ Some n
+source_of_release {s} c n inv lets = is_of-is n (s.lets c ((s.block n).release_source c))
+    (inv.named.releases c ((s.block n).release_source c) n ∙ rw (lets, same_number ((s.block n).release_source c)) refl)
 
-pub tracker_of_service : {X : Type 0} (caching : ℕ → Bool) (s : State X) (n : ℕ) → IsInvariant caching s
-    → is_busy (s.block n).service ≡ true
-    → s.tracked (s.block n).tracker ≡ Some n
-tracker_of_service caching s n inv busy =
-    is_of-is n (s.tracked (s.block n).tracker)
-    (inv.named.trackers (s.block n).tracker n ∙ rw (busy, same_number (s.block n).tracker) refl)
+pub tracker_of_service : {X : Type 0} {caching : ℕ → Bool} {s : State X} (n : ℕ) → IsInvariant caching s
+    → is_busy (s.block n).service ≡ true → s.tracked (s.block n).tracker ≡ Some n
+tracker_of_service {s} n inv busy = is_of-is n (s.tracked (s.block n).tracker) (inv.named.trackers (s.block n).tracker n
+    ∙ rw (busy, same_number (s.block n).tracker) refl)
 
 -- ---- what phases say
 
 pub busy_unless_idle : (service : Service) (c : ℕ) → is_idle (view service c) ≡ false → is_busy service ≡ true
 busy_unless_idle Free c e = absurd cc
-busy_unless_idle (Waits r own source k) c e = refl
-busy_unless_idle (GrantSent q d k) c e = refl
-busy_unless_idle (GrantTaken q) c e = refl
+busy_unless_idle service c e = refl
 
 asks_for_grant : ClientBlock → View → Bool
 asks_for_grant p v = not (is_granting v) || is_wanting p.acquiring
@@ -168,9 +151,8 @@ probes_in_service : ClientBlock → View → Bool
 probes_in_service p v = is_unprobed p.probing || not (is_idle v)
 
 unless : (a b : Bool) → (a || not b) ≡ true → a ≡ false → b ≡ false
-unless true b e f = absurd cc
-unless false true e f = absurd cc
 unless false false e f = refl
+unless a b e f = absurd cc
 
 pub grants_ask : (p : ClientBlock) (v : View) → ok p v ≡ true → is_granting v ≡ true → is_wanting p.acquiring ≡ true
 unfolding each_phase asks_for_grant

@@ -1,14 +1,11 @@
 -- A message that is pushed, and a beat that is taken.
 use Rattle.tl_coherence.proofs.queues.Imports.{Beat, Message, beats_of, completes, beats_from, IsCarried}
 use Rattle.std.proofs.Common.{◌≡◌, ℕ, zero, suc, ◌<◌, ◌+◌, ◌-◌, List, [], ◌∷◌, ◌++◌, refl, sym, ◌∙◌, ap, arith}
-use Rattle.std.specs.Prelude.{◌==◌}
-use Rattle.std.proofs.lemmas.List.{append_assoc, append-nil}
+use Rattle.std.{specs.Prelude.◌==◌, proofs.lemmas.List.append_assoc, proofs.lemmas.List.append-nil}
 use Rattle.tl_burst.specs.statement.Burst.{beat_of, begun, burst_of}
-use Rattle.tl_burst.specs.statement.Messages.{grown}
-use Rattle.tl_burst.proofs.Begun.{length-begun}
+use Rattle.tl_burst.{specs.statement.Messages.grown, proofs.Begun.length-begun, proofs.Splitting.length-of_beat}
 use Rattle.tl_rules.proofs.Sent.{not_last, is_last}
 use Rattle.tl_coherence.specs.refinement.Carried.{spelled}
-use Rattle.tl_burst.proofs.Splitting.{length-of_beat}
 
 spelled-append : {w : ℕ} (ms ns : List (Message w)) → spelled (ms ++ ns) ≡ spelled ms ++ spelled ns
 unfolding spelled
@@ -23,8 +20,7 @@ spelled-one m = append-nil (beats_from m 0 (beats_of m))
 -- ---- a message is pushed
 
 pub carried-push : {w : ℕ} (rest : List (Beat w)) (ms : List (Message w)) (queue : List (Beat w)) (m : Message w)
-    → 0 < beats_of m → IsCarried rest ms queue
-    → IsCarried rest (ms ++ m ∷ []) (queue ++ beats_from m 0 (beats_of m))
+    → 0 < beats_of m → IsCarried rest ms queue → IsCarried rest (ms ++ m ∷ []) (queue ++ beats_from m 0 (beats_of m))
 unfolding spelled
 carried-push {w} rest [] queue m pos h =
     let all : beats_of m - 0 ≡ beats_of m = omega arith in
@@ -74,6 +70,9 @@ pub carried-next : {w : ℕ} (x : Beat w) (rest : List (Beat w)) (m : Message w)
     (queue : List (Beat w)) → ((n : Message w) → 0 < beats_of n)
     → IsCarried rest (m ∷ ms) (x ∷ queue) → IsNext x rest m ms queue
 carried-next {w} x rest m ms queue pos (k, lt, r, q) =
+    let next_lt : k + 1 < beats_of m → suc k < beats_of m = λ h. omega (arith, h) in
+    let ap₂_from : (a b c d : ℕ) → a ≡ b → c ≡ d → (beats_from m a c ++ spelled ms) ≡ (beats_from m b d ++ spelled ms) =
+    λ a b c d e f. rw (e, f) refl in
     let n = beats_of m in
     let some : n - k ≡ suc (n - k - 1) = omega (arith, lt) in
     let parts = tail_is x (beat_of m k) queue (beats_from m (k + 1) (n - k - 1) ++ spelled ms)
@@ -106,12 +105,6 @@ carried-next {w} x rest m ms queue pos (k, lt, r, q) =
           );
     }
   where
-    next_lt : k + 1 < beats_of m → suc k < beats_of m
-    next_lt h = omega (arith, h)
-
-    ap₂_from : (a b c d : ℕ) → a ≡ b → c ≡ d → (beats_from m a c ++ spelled ms) ≡ (beats_from m b d ++ spelled ms)
-    ap₂_from a b c d e f = rw (e, f) refl
-
     whole : k + 1 ≡ beats_of m → begun m (suc k) ≡ burst_of m
     whole e = let f : suc k ≡ beats_of m = omega (arith, e) in ap (λ (i : ℕ). begun m i) f
 
@@ -119,9 +112,7 @@ carried-next {w} x rest m ms queue pos (k, lt, r, q) =
 pub carried-none : {w : ℕ} (rest : List (Beat w)) (ms : List (Message w)) → IsCarried rest ms [] → ms ≡ []
 carried-none rest [] h = refl
 carried-none {w} rest (m ∷ ms) (k, lt, r, q) =
+    let nothing_is : (x : Beat w) (xs : List (Beat w)) → [] ≡ x ∷ xs → ⊥ = λ x xs e. absurd cc in
     let some : beats_of m - k ≡ suc (beats_of m - k - 1) = omega (arith, lt) in
     absurd (nothing_is (beat_of m k) (beats_from m (k + 1) (beats_of m - k - 1) ++ spelled ms)
     (q ∙ ap (λ (b : List (Beat w)). b ++ spelled ms) (from_next m k (beats_of m - k) some)))
-  where
-    nothing_is : (x : Beat w) (xs : List (Beat w)) → [] ≡ x ∷ xs → ⊥
-    nothing_is x xs e = absurd cc

@@ -2,9 +2,7 @@
 use Rattle.tl_coherence.proofs.queues.Imports.{IsWidth, Beat, Message, beats_of, completes, beats_from, Kind, Packet}
 use Rattle.tl_coherence.proofs.queues.Imports.{packet, Move, Stays, Pushes, Pops, IsMoved, IsCarried}
 use Rattle.std.proofs.Common.{◌≡◌, ℕ, true, ◌+◌, List, [], ◌∷◌, ◌++◌, refl, sym, ◌∙◌, ap, ap₂}
-use Rattle.std.specs.Prelude.{map}
-use Rattle.std.proofs.lemmas.List.{map-append}
-use Rattle.std.proofs.lemmas.Bool.{eqb-true}
+use Rattle.std.{specs.Prelude.map, proofs.lemmas.List.map-append, proofs.lemmas.Bool.eqb-true}
 use Rattle.tl_burst.proofs.Splitting.{beats-positive}
 use Rattle.tl_coherence.proofs.queues.Carried.{carried-push, carried-next}
 
@@ -22,24 +20,20 @@ staying (Pops k n) xs ys = ys
 staying _ xs ys = xs
 
 pub carried-moved : {w : ℕ} (move : Move) (xs ys : List Packet) (f g : Packet → Message w) (m : Kind → ℕ → Message w)
-    (q after r rest : List (Beat w)) → IsWidth w → IsMoved move xs ys
-    → IsQueued move m q after r rest
+    (q after r rest : List (Beat w)) → IsWidth w → IsMoved move xs ys → IsQueued move m q after r rest
     → ((k : Kind) (n : ℕ) → move ≡ Pushes k n → g (packet k n) ≡ m k n)
     → map g (staying move xs ys) ≡ map f (staying move xs ys) → IsCarried r (map f xs) q
     → IsCarried rest (map g ys) after
 carried-moved {w} Stays xs ys f g m q after r rest width moved queued new kept h =
     rw (moved, kept, queued.0, queued.1) h
 carried-moved {w} (Pushes k n) xs ys f g m q after r rest width moved queued new kept h =
-    let messages : map g ys ≡ map f xs ++ m k n ∷ [] =
-    ap (map g) moved ∙ map-append g xs (packet k n ∷ []) ∙ ap₂ (λ (i j : List (Message w)). i ++ j) kept
-    (ap (λ (i : Message w). i ∷ []) (new k n refl)) in
+    let messages : map g ys ≡ map f xs ++ m k n ∷ [] = ap (map g) moved ∙ map-append g xs (packet k n ∷ [])
+    ∙ ap₂ (λ (i j : List (Message w)). i ++ j) kept (ap (λ (i : Message w). i ∷ []) (new k n refl)) in
     rw (messages, queued.0, queued.1) (carried-push r (map f xs) q (m k n) (beats-positive (m k n) width) h)
 carried-moved {w} (Pops k n) xs ys f g m q after r rest width moved (x, beats, whole, none) new kept h =
-    let before : IsCarried r (f (packet k n) ∷ map f ys) (x ∷ after) =
-    same (map f xs) (f (packet k n) ∷ map f ys) (ap (map f) moved) h in
+    let same : (ms ns : List (Message w)) → ms ≡ ns → IsCarried r ms q → IsCarried r ns (x ∷ after) =
+    λ ms ns e i. rw (← e, ← beats) i in
+    let before = same (map f xs) (f (packet k n) ∷ map f ys) (ap (map f) moved) h in
     let next = carried-next x r (f (packet k n)) (map f ys) after (λ i. beats-positive i width) before in
     let last = next.last (eqb-true (next.k + 1) (beats_of (f (packet k n))) (sym next.completes_is ∙ whole)) in
     rw (none, kept) last.2
-  where
-    same : (ms ns : List (Message w)) → ms ≡ ns → IsCarried r ms q → IsCarried r ns (x ∷ after)
-    same ms ns e i = rw (← e, ← beats) i

@@ -10,13 +10,10 @@ use Rattle.std.proofs.Common.{◌≡◌, ℕ, Bool, true, false, ◌≤◌, List
 use Rattle.std.proofs.Common.{inr, arith}
 use Rattle.std.specs.Prelude.{◌==◌, ◌&&◌, if◌then◌else◌, map, Option, Some, None, ⊤}
 use Rattle.std.proofs.lemmas.Bool.{cases_eq, ne_eqb}
-use Rattle.tl_beat.specs.declared.channel.Channel.TheVariants as channel
-use Rattle.tl_coherence.specs.protocol.Protocol.{Link, on}
-use Rattle.tl_coherence.specs.protocol.Tokens.{is_transfer}
+use Rattle.tl_coherence.specs.{protocol.Protocol.Link, protocol.Protocol.on, protocol.Tokens.is_transfer}
 use Rattle.tl_coherence.specs.refinement.PacketMessages.{block_message, message_of_kind}
 use Rattle.tl_coherence.proofs.queues.CarriedMoves.{IsQueued, staying, carried-moved}
-use Rattle.tl_coherence.proofs.queues.Moves.{moves_at}
-use Rattle.tl_coherence.proofs.queues.Rendered.{same_kind_again}
+use Rattle.tl_coherence.proofs.{queues.Moves.moves_at, queues.Rendered.same_kind_again}
 use Rattle.tl_coherence.proofs.queues.Tokens.{same_number, set-same, set-other}
 
 -- ---- tokens that stay
@@ -30,9 +27,8 @@ count_behind k n (y ∷ xs) x = omega (arith, count_behind k n xs x)
 stay_before : (move : Move) (k : Kind) (n : ℕ) (xs ys : List Packet) → IsMoved move xs ys
     → count k n (staying move xs ys) ≤ count k n xs
 unfolding count
-stay_before Stays k n xs ys e = omega arith
-stay_before (Pushes j i) k n xs ys e = omega arith
 stay_before (Pops j i) k n xs ys e = rw e (omega arith)
+stay_before move k n xs ys e = omega arith
 
 stay_after : (move : Move) (k : Kind) (n : ℕ) (xs ys : List Packet) → IsMoved move xs ys
     → count k n (staying move xs ys) ≤ count k n ys
@@ -46,13 +42,11 @@ map_kept : {A : Type 0} (f g : Kind → ℕ → A) (xs : List Packet)
     → map (λ x. g x.kind x.number) xs ≡ map (λ x. f x.kind x.number) xs
 unfolding count
 map_kept f g [] same = refl
-map_kept {A} f g (x ∷ xs) same = ap₂ (λ y ys. y ∷ ys) (first (same x.kind x.number))
-    (map_kept f g xs (λ k n. fewer k n (same k n)))
+map_kept {A} f g (x ∷ xs) same =
+    let fewer : (k : Kind) (n : ℕ) → (count k n (x ∷ xs) ≡ 0) ⊎ (g k n ≡ f k n) → (count k n xs ≡ 0) ⊎ (g k n ≡ f k n) =
+    λ k n. elim [ inl none ↦ inl (omega (arith, none)) | inr e ↦ inr e ] in
+    ap₂ (λ y ys. y ∷ ys) (first (same x.kind x.number)) (map_kept f g xs (λ k n. fewer k n (same k n)))
   where
-    fewer : (k : Kind) (n : ℕ) → (count k n (x ∷ xs) ≡ 0) ⊎ (g k n ≡ f k n) → (count k n xs ≡ 0) ⊎ (g k n ≡ f k n)
-    fewer k n (inl none) = inl (omega (arith, none))
-    fewer k n (inr e) = inr e
-
     first : (count x.kind x.number (x ∷ xs) ≡ 0) ⊎ (g x.kind x.number ≡ f x.kind x.number)
         → g x.kind x.number ≡ f x.kind x.number
     first (inr e) = e
@@ -77,51 +71,16 @@ pub record IsShowing {w : ℕ} (caching : ℕ → Bool) (n : ℕ) (moves : ℕ �
       → mail'.answer d i ≡ mail.answer d i
 
 pub on_same : (ch : Channel) (k : Kind) (l : Link) → is_on ch k ≡ true → packets_on ch l ≡ on k l
-on_same channel.A Request l e = refl
-on_same channel.A Acquire l e = refl
-on_same channel.B Probe l e = refl
-on_same channel.C ProbeAck l e = refl
-on_same channel.C Release l e = refl
-on_same channel.D Answer l e = refl
-on_same channel.D Grant l e = refl
-on_same channel.D ReleaseAck l e = refl
-on_same channel.E GrantAck l e = refl
-on_same channel.A Probe l e = absurd cc
-on_same channel.A ProbeAck l e = absurd cc
-on_same channel.A Release l e = absurd cc
-on_same channel.A Answer l e = absurd cc
-on_same channel.A Grant l e = absurd cc
-on_same channel.A ReleaseAck l e = absurd cc
-on_same channel.A GrantAck l e = absurd cc
-on_same channel.B Request l e = absurd cc
-on_same channel.B Acquire l e = absurd cc
-on_same channel.B ProbeAck l e = absurd cc
-on_same channel.B Release l e = absurd cc
-on_same channel.B Answer l e = absurd cc
-on_same channel.B Grant l e = absurd cc
-on_same channel.B ReleaseAck l e = absurd cc
-on_same channel.B GrantAck l e = absurd cc
-on_same channel.C Request l e = absurd cc
-on_same channel.C Acquire l e = absurd cc
-on_same channel.C Probe l e = absurd cc
-on_same channel.C Answer l e = absurd cc
-on_same channel.C Grant l e = absurd cc
-on_same channel.C ReleaseAck l e = absurd cc
-on_same channel.C GrantAck l e = absurd cc
-on_same channel.D Request l e = absurd cc
-on_same channel.D Acquire l e = absurd cc
-on_same channel.D Probe l e = absurd cc
-on_same channel.D ProbeAck l e = absurd cc
-on_same channel.D Release l e = absurd cc
-on_same channel.D GrantAck l e = absurd cc
-on_same channel.E Request l e = absurd cc
-on_same channel.E Acquire l e = absurd cc
-on_same channel.E Probe l e = absurd cc
-on_same channel.E ProbeAck l e = absurd cc
-on_same channel.E Release l e = absurd cc
-on_same channel.E Answer l e = absurd cc
-on_same channel.E Grant l e = absurd cc
-on_same channel.E ReleaseAck l e = absurd cc
+on_same Channel.A Request l e = refl
+on_same Channel.A Acquire l e = refl
+on_same Channel.B Probe l e = refl
+on_same Channel.C ProbeAck l e = refl
+on_same Channel.C Release l e = refl
+on_same Channel.D Answer l e = refl
+on_same Channel.D Grant l e = refl
+on_same Channel.D ReleaseAck l e = refl
+on_same Channel.E GrantAck l e = refl
+on_same ch k l e = absurd cc
 
 -- a kind of which there is one where the test says so
 not_there : (a b : Bool) (n : ℕ) → n ≤ one_if a → n ≤ one_if b → (n ≡ 0) ⊎ ((a ≡ true) × (b ≡ true))
@@ -129,12 +88,11 @@ not_there true true n le me = inr (refl, refl)
 not_there false b n le me = inl (omega (arith, le))
 not_there true false n le me = inl (omega (arith, me))
 
-pub messages-stay : {w : ℕ} (caching : ℕ → Bool) (n : ℕ) (moves : ℕ → Channel → Move) (mail mail' : AccessMessages w)
-    (s s' : State (List ℕ)) → IsShowing caching n moves mail mail' s s' → (d : ℕ) (ch : Channel)
-    → map (message_of mail' s' d) (staying (moves d ch) (packets_on ch (s.link d)) (packets_on ch (s'.link d))) ≡ map
-    (message_of mail s d)
-    (staying (moves d ch) (packets_on ch (s.link d)) (packets_on ch (s'.link d)))
-messages-stay {w} caching n moves mail mail' s s' event d ch =
+pub messages-stay : {w : ℕ} {caching : ℕ → Bool} {n : ℕ} {moves : ℕ → Channel → Move} {mail mail' : AccessMessages w}
+    {s s' : State (List ℕ)} → IsShowing caching n moves mail mail' s s' → (d : ℕ) (ch : Channel)
+    → map (message_of mail' s' d) (staying (moves d ch) (packets_on ch (s.link d)) (packets_on ch (s'.link d)))
+    ≡ map (message_of mail s d) (staying (moves d ch) (packets_on ch (s.link d)) (packets_on ch (s'.link d)))
+messages-stay {w} {n} {moves} {mail} {mail'} {s} {s'} event d ch =
     map_kept (λ k i. message_of_kind k mail s d i) (λ k i. message_of_kind k mail' s' d i) stay
     (λ k i. each k i (is_on ch k) refl)
   where
@@ -163,16 +121,15 @@ messages-stay {w} caching n moves mail mail' s s' event d ch =
 
     transfer : (k : Kind) (i : ℕ) → is_on ch k ≡ true → is_transfer k ≡ true
         → (block_message {w = w} k d i (s'.block i) ≡ block_message k d i (s.block i)) ⊎ (count k i stay ≡ 0)
-    transfer k i own t = elim (cases_eq i n) [
-      | inl same ↦ rw same (changed (here k n (shown k d (s.block n)) (shown k d (s'.block n)) own
-          (event.before.transfers d k t n) (event.after.transfers d k t n)))
-      | inr other ↦ inl (ap (block_message k d i) (event.blocks i other))
-    ]
-      where
-        changed : (count k n stay ≡ 0) ⊎ ((shown k d (s.block n) ≡ true) × (shown k d (s'.block n) ≡ true))
-            → (block_message {w = w} k d n (s'.block n) ≡ block_message k d n (s.block n)) ⊎ (count k n stay ≡ 0)
-        changed (inl none) = inr none
-        changed (inr both) = inl (event.same d k t both.0 both.1)
+    transfer k i own t =
+        let changed : (count k n stay ≡ 0) ⊎ ((shown k d (s.block n) ≡ true) × (shown k d (s'.block n) ≡ true))
+        → (block_message {w = w} k d n (s'.block n) ≡ block_message k d n (s.block n)) ⊎ (count k n stay ≡ 0) =
+        elim [ inl none ↦ inr none | inr both ↦ inl (event.same d k t both.0 both.1) ] in
+        elim (cases_eq i n) [
+          | inl same ↦ rw same (changed (here k n (shown k d (s.block n)) (shown k d (s'.block n)) own
+              (event.before.transfers d k t n) (event.after.transfers d k t n)))
+          | inr other ↦ inl (ap (block_message k d i) (event.blocks i other))
+        ]
 
     turned : (k : Kind) (i : ℕ) → message_of_kind k mail' s' d i ≡ block_message k d i (s'.block i)
         → message_of_kind k mail s d i ≡ block_message k d i (s.block i)
@@ -210,23 +167,19 @@ messages-stay {w} caching n moves mail mail' s s' event d ch =
 
 -- the beats of all channels move with the tokens
 abbrev pub AreQueued : {w : ℕ} → (ℕ → Channel → Move) → AccessMessages w → State (List ℕ) → System w → System w → Type 0
-AreQueued moves mail s before after =
-    (d : ℕ) (ch : Channel)
+AreQueued moves mail s before after = (d : ℕ) (ch : Channel)
     → IsQueued (moves d ch) (λ k i. message_of mail s d (packet k i)) (before.channels d ch) (after.channels d ch)
     (unfinished ch (receiver ch d before)) (unfinished ch (receiver ch d after))
 
 -- the channels carry the messages of the tokens after every event
 pub carried-event : {w : ℕ} (caching : ℕ → Bool) (n : ℕ) (moves : ℕ → Channel → Move) (mail mail' : AccessMessages w)
-    (s s' : State (List ℕ)) (sys sys' : System w) → IsWidth w
-    → IsShowing caching n moves mail mail' s s' → AreQueued moves mail' s' sys sys' → ChannelRelation mail s sys
-    → ChannelRelation mail' s' sys'
+    (s s' : State (List ℕ)) (sys sys' : System w) → IsWidth w → IsShowing caching n moves mail mail' s s'
+    → AreQueued moves mail' s' sys sys' → ChannelRelation mail s sys → ChannelRelation mail' s' sys'
 carried-event caching n moves mail mail' s s' sys sys' width event queued h d ch =
     carried-moved (moves d ch) (packets_on ch (s.link d)) (packets_on ch (s'.link d)) (message_of mail s d)
-    (message_of mail' s' d) (λ k i. message_of mail' s' d (packet k i))
-    (sys.channels d ch) (sys'.channels d ch) (unfinished ch (receiver ch d sys)) (unfinished ch (receiver ch d sys'))
-    width (event.moved d ch) (queued d ch)
-    (λ k i e. refl)
-    (messages-stay caching n moves mail mail' s s' event d ch) (h d ch)
+    (message_of mail' s' d) (λ k i. message_of mail' s' d (packet k i)) (sys.channels d ch) (sys'.channels d ch)
+    (unfinished ch (receiver ch d sys)) (unfinished ch (receiver ch d sys')) width (event.moved d ch) (queued d ch)
+    (λ k i e. refl) (messages-stay event d ch) (h d ch)
 
 -- ---- how a channel's beats move
 
@@ -249,13 +202,7 @@ queued-by true None (Pops k n) render x queue q after r rest fits e f taken =
     (x, (taken refl).0 ∙ ap (λ l. x ∷ l) (sym e), (taken refl).1, f)
 queued-by false None Stays render x queue q after r rest fits e f taken = (e, f)
 queued-by false (Some m) (Pushes k n) render x queue q after r rest fits e f taken = (rw fits e, f)
-queued-by true None Stays render x queue q after r rest fits e f taken = absurd fits
-queued-by true None (Pushes k n) render x queue q after r rest fits e f taken = absurd fits
-queued-by true (Some m) move render x queue q after r rest fits e f taken = absurd fits
-queued-by false None (Pops k n) render x queue q after r rest fits e f taken = absurd fits
-queued-by false None (Pushes k n) render x queue q after r rest fits e f taken = absurd fits
-queued-by false (Some m) Stays render x queue q after r rest fits e f taken = absurd fits
-queued-by false (Some m) (Pops k n) render x queue q after r rest fits e f taken = absurd fits
+queued-by pop push move render x queue q after r rest fits e f taken = absurd fits
 
 -- The whole after the last beat of the first message on channel ch of client c's link was taken, and
 -- messages were handed out.
@@ -265,49 +212,26 @@ pub record IsTaken {w : ℕ} (c : ℕ) (ch : Channel) (x : Beat w) (queue : List
   pub last : completes x (unfinished ch (receiver ch c sys)) ≡ true
   pub channels : (d : ℕ) (at : Channel)
       → sys'.channels d at ≡ behind (pushes d at) (if (d == c) && same_channel at ch then queue else sys.channels d at)
-  pub rests : (d : ℕ) (at : Channel)
-      → unfinished at (receiver at d sys') ≡ (if (d == c) && same_channel at ch then [] else unfinished at
-      (receiver at d sys))
+  pub rests : (d : ℕ) (at : Channel) → unfinished at (receiver at d sys')
+      ≡ (if (d == c) && same_channel at ch then [] else unfinished at (receiver at d sys))
 
 pub same_channel-is : (a b : Channel) → same_channel a b ≡ true → a ≡ b
-same_channel-is channel.A channel.A e = refl
-same_channel-is channel.B channel.B e = refl
-same_channel-is channel.C channel.C e = refl
-same_channel-is channel.D channel.D e = refl
-same_channel-is channel.E channel.E e = refl
-same_channel-is channel.A channel.B e = absurd cc
-same_channel-is channel.A channel.C e = absurd cc
-same_channel-is channel.A channel.D e = absurd cc
-same_channel-is channel.A channel.E e = absurd cc
-same_channel-is channel.B channel.A e = absurd cc
-same_channel-is channel.B channel.C e = absurd cc
-same_channel-is channel.B channel.D e = absurd cc
-same_channel-is channel.B channel.E e = absurd cc
-same_channel-is channel.C channel.A e = absurd cc
-same_channel-is channel.C channel.B e = absurd cc
-same_channel-is channel.C channel.D e = absurd cc
-same_channel-is channel.C channel.E e = absurd cc
-same_channel-is channel.D channel.A e = absurd cc
-same_channel-is channel.D channel.B e = absurd cc
-same_channel-is channel.D channel.C e = absurd cc
-same_channel-is channel.D channel.E e = absurd cc
-same_channel-is channel.E channel.A e = absurd cc
-same_channel-is channel.E channel.B e = absurd cc
-same_channel-is channel.E channel.C e = absurd cc
-same_channel-is channel.E channel.D e = absurd cc
+same_channel-is Channel.A Channel.A e = refl
+same_channel-is Channel.B Channel.B e = refl
+same_channel-is Channel.C Channel.C e = refl
+same_channel-is Channel.D Channel.D e = refl
+same_channel-is Channel.E Channel.E e = refl
+same_channel-is a b e = absurd cc
 
-pub queued-taken : {w : ℕ} (c : ℕ) (ch : Channel) (x : Beat w) (queue : List (Beat w)) (pushes : ℕ → Channel
-    → Option (Message w)) (moves : ℕ → Channel → Move)
-    (mail : AccessMessages w) (s : State (List ℕ)) (sys sys' : System w)
-    → IsTaken c ch x queue pushes sys sys'
+pub queued-taken : {w : ℕ} {c : ℕ} {ch : Channel} {x : Beat w} {queue : List (Beat w)} {pushes : ℕ → Channel
+    → Option (Message w)} (moves : ℕ → Channel → Move) (mail : AccessMessages w) (s : State (List ℕ))
+    {sys sys' : System w} → IsTaken c ch x queue pushes sys sys'
     → ((d : ℕ) (at : Channel) → Fits ((d == c) && same_channel at ch) (pushes d at) (moves d at)
-    (λ k i. message_of mail s d (packet k i)))
-    → AreQueued moves mail s sys sys'
-queued-taken {w} c ch x queue pushes moves mail s sys sys' is fits d at =
+    (λ k i. message_of mail s d (packet k i))) → AreQueued moves mail s sys sys'
+queued-taken {w} {c} {ch} {x} {queue} {pushes} moves mail s {sys} {sys'} is fits d at =
     queued-by ((d == c) && same_channel at ch) (pushes d at) (moves d at) (λ k i. message_of mail s d (packet k i)) x
-    queue (sys.channels d at)
-    (sys'.channels d at) (unfinished at (receiver at d sys)) (unfinished at (receiver at d sys'))
-    (fits d at) (is.channels d at) (is.rests d at) (λ e. here e (cases_eq d c))
+    queue (sys.channels d at) (sys'.channels d at) (unfinished at (receiver at d sys))
+    (unfinished at (receiver at d sys')) (fits d at) (is.channels d at) (is.rests d at) (λ e. here e (cases_eq d c))
   where
     here : ((d == c) && same_channel at ch) ≡ true → (d ≡ c) ⊎ (d ≡ c → ⊥) → (sys.channels d at ≡ x ∷ queue)
         × (completes x (unfinished at (receiver at d sys)) ≡ true)
@@ -324,9 +248,8 @@ pub queued-handed : {w : ℕ} (pushes : ℕ → Channel → Option (Message w)) 
     (mail : AccessMessages w) (s : State (List ℕ)) (sys sys' : System w) → IsHanded pushes sys sys'
     → ((d : ℕ) (at : Channel) → Fits false (pushes d at) (moves d at) (λ k i. message_of mail s d (packet k i)))
     → AreQueued moves mail s sys sys'
-queued-handed {w} pushes moves mail s sys sys' is fits d at =
-    queued-with (pushes d at) (moves d at) (sys.channels d at) (sys'.channels d at) (unfinished at (receiver at d sys))
-    (unfinished at (receiver at d sys'))
+queued-handed {w} pushes moves mail s sys sys' is fits d at = queued-with (pushes d at) (moves d at) (sys.channels d at)
+    (sys'.channels d at) (unfinished at (receiver at d sys)) (unfinished at (receiver at d sys'))
     (λ k i. message_of mail s d (packet k i)) (fits d at) (is.channels d at) (is.rests d at)
   where
     queued-with : (push : Option (Message w)) (move : Move) (q after r rest : List (Beat w)) (render : Kind → ℕ
@@ -334,10 +257,7 @@ queued-handed {w} pushes moves mail s sys sys' is fits d at =
         → after ≡ behind push q → rest ≡ r → IsQueued move render q after r rest
     queued-with None Stays q after r rest render f e g = (e, g)
     queued-with (Some m) (Pushes k n) q after r rest render f e g = (rw f e, g)
-    queued-with None (Pushes k n) q after r rest render f e g = absurd f
-    queued-with None (Pops k n) q after r rest render f e g = absurd f
-    queued-with (Some m) Stays q after r rest render f e g = absurd f
-    queued-with (Some m) (Pops k n) q after r rest render f e g = absurd f
+    queued-with push move q after r rest render f e g = absurd f
 
 -- ---- at one client
 
@@ -347,52 +267,41 @@ pushes_at c pushes d ch = if d == c then pushes ch else None
 
 pub moved-at : (c : ℕ) (moves : Channel → Move) (l : Link) (link : ℕ → Link) → AreMoved moves (link c) l → (d : ℕ)
     → AreMoved (moves_at c moves d) (link d) (set c l link d)
-moved-at c moves l link h d ch = elim (cases_eq d c) [
-  | inl same ↦ rw same (popped (c == c) (set c l link c) (same_number c) (set-same c l link))
-  | inr other ↦ still (d == c) (set c l link d) (ne_eqb d c other) (set-other c d l link other)
-]
-  where
-    popped : (b : Bool) (k : Link) → b ≡ true → k ≡ l → IsMoved (if b then moves ch else Stays) (packets_on ch (link c))
-        (packets_on ch k)
-    popped b k e f = rw (e, f) (h ch)
-
-    still : (b : Bool) (k : Link) → b ≡ false → k ≡ link d
-        → IsMoved (if b then moves ch else Stays) (packets_on ch (link d)) (packets_on ch k)
-    still b k e f = rw (e, f) refl
+moved-at c moves l link h d ch =
+    let popped : (b : Bool) (k : Link) → b ≡ true → k ≡ l
+    → IsMoved (if b then moves ch else Stays) (packets_on ch (link c)) (packets_on ch k) =
+    λ b k e f. rw (e, f) (h ch) in
+    let still : (b : Bool) (k : Link) → b ≡ false → k ≡ link d
+    → IsMoved (if b then moves ch else Stays) (packets_on ch (link d)) (packets_on ch k) =
+    λ b k e f. rw (e, f) refl in
+    elim (cases_eq d c) [
+      | inl same ↦ rw same (popped (c == c) (set c l link c) (same_number c) (set-same c l link))
+      | inr other ↦ still (d == c) (set c l link d) (ne_eqb d c other) (set-other c d l link other)
+    ]
 
 pub fits-at : {w : ℕ} (c : ℕ) (ch : Channel) (pushes : Channel → Option (Message w)) (moves : Channel → Move)
-    (render : ℕ → Kind → ℕ → Message w)
-    → ((at : Channel) → Fits (same_channel at ch) (pushes at) (moves at) (render c))
+    (render : ℕ → Kind → ℕ → Message w) → ((at : Channel) → Fits (same_channel at ch) (pushes at) (moves at) (render c))
     → (d : ℕ) (at : Channel) → Fits ((d == c) && same_channel at ch) (pushes_at c pushes d at) (moves_at c moves d at)
     (render d)
-fits-at {w} c ch pushes moves render h d at = elim (cases_eq d c) [
-  | inl same ↦ rw same (go (c == c) (same_number c))
-  | inr other ↦ never (d == c) (ne_eqb d c other)
-]
-  where
-    go : (b : Bool) → b ≡ true → Fits (b && same_channel at ch) (if b then pushes at else None)
-        (if b then moves at else Stays) (render c)
-    go true e = h at
-    go false e = absurd cc
-
-    never : (b : Bool) → b ≡ false → Fits (b && same_channel at ch) (if b then pushes at else None)
-        (if b then moves at else Stays) (render d)
-    never false e = tt
-    never true e = absurd cc
+fits-at {w} c ch pushes moves render h d at =
+    let go : (b : Bool) → b ≡ true → Fits (b && same_channel at ch) (if b then pushes at else None)
+    (if b then moves at else Stays) (render c) = elim [ true ↦ λ e. h at | false ↦ λ e. absurd cc ] in
+    let never : (b : Bool) → b ≡ false → Fits (b && same_channel at ch) (if b then pushes at else None)
+    (if b then moves at else Stays) (render d) = elim [ false ↦ λ e. tt | true ↦ λ e. absurd cc ] in
+    elim (cases_eq d c) [
+      | inl same ↦ rw same (go (c == c) (same_number c))
+      | inr other ↦ never (d == c) (ne_eqb d c other)
+    ]
 
 pub fits-handed : {w : ℕ} (c : ℕ) (pushes : Channel → Option (Message w)) (moves : Channel → Move) (render : ℕ → Kind
     → ℕ → Message w) → ((at : Channel) → Fits false (pushes at) (moves at) (render c))
     → (d : ℕ) (at : Channel) → Fits false (pushes_at c pushes d at) (moves_at c moves d at) (render d)
-fits-handed {w} c pushes moves render h d at = elim (cases_eq d c) [
-  | inl same ↦ rw same (go (c == c) (same_number c))
-  | inr other ↦ never (d == c) (ne_eqb d c other)
-]
-  where
-    go : (b : Bool) → b ≡ true → Fits false (if b then pushes at else None) (if b then moves at else Stays) (render c)
-    go true e = h at
-    go false e = absurd cc
-
-    never : (b : Bool) → b ≡ false → Fits false (if b then pushes at else None) (if b then moves at else Stays)
-        (render d)
-    never false e = tt
-    never true e = absurd cc
+fits-handed {w} c pushes moves render h d at =
+    let go : (b : Bool) → b ≡ true → Fits false (if b then pushes at else None) (if b then moves at else Stays)
+    (render c) = elim [ true ↦ λ e. h at | false ↦ λ e. absurd cc ] in
+    let never : (b : Bool) → b ≡ false → Fits false (if b then pushes at else None) (if b then moves at else Stays)
+    (render d) = elim [ false ↦ λ e. tt | true ↦ λ e. absurd cc ] in
+    elim (cases_eq d c) [
+      | inl same ↦ rw same (go (c == c) (same_number c))
+      | inr other ↦ never (d == c) (ne_eqb d c other)
+    ]

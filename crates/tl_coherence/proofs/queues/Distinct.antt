@@ -6,8 +6,7 @@ use Rattle.std.specs.Prelude.{◌==◌, ◌&&◌, if◌then◌else◌, not, leng
 use Rattle.std.proofs.lemmas.Bool.{cases_eq, ne_eqb, eqb-true, and_parts}
 use Rattle.std.proofs.lemmas.Option.{same_Some}
 use Rattle.tl_coherence.specs.bound.Rank.{total}
-use Rattle.tl_coherence.proofs.queues.Rendered.{same_kind_again}
-use Rattle.tl_coherence.proofs.queues.Tokens.{same_number}
+use Rattle.tl_coherence.proofs.{queues.Rendered.same_kind_again, queues.Tokens.same_number}
 use Rattle.tl_coherence.proofs.queues.Sums.{total-same, total-le, total-plus, total-zero, total-one, total-const}
 
 -- how many tokens pass a test
@@ -28,11 +27,9 @@ pub pass-or-not : (test : Packet → Bool) (xs : List Packet) → length xs ≡ 
     xs
 unfolding passing
 pass-or-not test [] = omega arith
-pass-or-not test (x ∷ xs) = omega (arith, pass-or-not test xs, one (test x))
-  where
-    one : (b : Bool) → one_if b + one_if (not b) ≡ 1
-    one true = refl
-    one false = refl
+pass-or-not test (x ∷ xs) =
+    let one : (b : Bool) → one_if b + one_if (not b) ≡ 1 = elim [ true ↦ refl | false ↦ refl ] in
+    omega (arith, pass-or-not test xs, one (test x))
 
 -- ---- the tokens of a list
 
@@ -54,12 +51,10 @@ pub passing-one : (test : Packet → Bool) (k : Kind) (n : ℕ) (xs : List Packe
 unfolding passing count
 passing-one test k n [] one = omega arith
 passing-one test k n (x ∷ xs) one =
+    let here : (b c : Bool) → (b ≡ true → c ≡ true) → one_if b ≤ one_if c =
+    elim [ true ↦ λ c so. rw (so refl) (omega arith) | false ↦ λ c so. omega arith ] in
     let rest = passing-one test k n xs (λ y there. one y (later-there y x xs there)) in
     omega (arith, rest, here (test x) (is k n x) (one x (first-there x xs)))
-  where
-    here : (b c : Bool) → (b ≡ true → c ≡ true) → one_if b ≤ one_if c
-    here true c so = rw (so refl) (omega arith)
-    here false c so = omega arith
 
 pub passing-none : (test : Packet → Bool) (xs : List Packet) → ((x : Packet) → IsThere x xs → test x ≡ false)
     → passing test xs ≡ 0
@@ -77,9 +72,8 @@ named test name i x = test x && (name x == i)
 
 one-name : (b : Bool) (n bound : ℕ) → (b ≡ true → n < bound) → total bound (λ i. one_if (b && (n == i))) ≡ one_if b
 one-name false n bound below = total-zero bound (λ i. 0) (λ i lt. refl)
-one-name true n bound below =
-    total-same bound (λ i. one_if (n == i)) (λ i. if i == n then 1 else 0) (λ i lt. at i (cases_eq i n)) ∙ total-one
-    bound n 1 (below refl)
+one-name true n bound below = total-same bound (λ i. one_if (n == i)) (λ i. if i == n then 1 else 0)
+    (λ i lt. at i (cases_eq i n)) ∙ total-one bound n 1 (below refl)
   where
     at : (i : ℕ) → (i ≡ n) ⊎ (i ≡ n → ⊥) → one_if (n == i) ≡ (if i == n then 1 else 0)
     at i (inl e) = rw (e, same_number n) refl
@@ -100,8 +94,7 @@ by-names test name bound (x ∷ xs) below =
 -- no more than the bound.
 pub few : (test : Packet → Bool) (name : Packet → ℕ) (owner : ℕ → Option Packet) (bound : ℕ) (xs : List Packet)
     → ((k : Kind) (n : ℕ) → count k n xs ≤ 1) → ((x : Packet) → IsThere x xs → test x ≡ true → (owner (name x) ≡ Some x)
-    × (name x < bound))
-    → passing test xs ≤ bound
+    × (name x < bound)) → passing test xs ≤ bound
 few test name owner bound xs once own =
     let each = total-le bound (λ i. passing (named test name i) xs) (λ i. 1) (λ i lt. at i (owner i) refl) in
     omega (arith, each, by-names test name bound xs (λ x there pass. (own x there pass).1), total-const bound 1)

@@ -5,17 +5,12 @@ use Rattle.std.proofs.Common.{◌≡◌, ℕ, Bool, true, false, List, [], ◌�
 use Rattle.std.specs.Prelude.{◌==◌, if◌then◌else◌, Option, Some, None, Result, Ok, Err}
 use Rattle.std.proofs.lemmas.Bool.{eqb-true}
 use Rattle.tl_params.specs.declared.rule.Rule.{Rule}
-use Rattle.tl_client.specs.declared.operation.Op.{Op}
-use Rattle.tl_client.specs.declared.verdict.Verdict.{Verdict}
-use Rattle.tl_client.specs.declared.verdict.Verdict.TheVariants as verdict
-use Rattle.tl_client.specs.statement.Ask.{asked}
-use Rattle.tl_client.specs.statement.Endpoint.{Endpoint, fresh}
-use Rattle.tl_client.specs.statement.Offer.{offered}
+use Rattle.tl_client.{specs.declared.operation.Op.Op, specs.declared.verdict.Verdict.Verdict, specs.statement.Ask.asked}
+use Rattle.tl_client.{specs.statement.Endpoint.Endpoint, specs.statement.Endpoint.fresh, specs.statement.Offer.offered}
 use Rattle.tl_manager.specs.statement.End as manager_end
 use Rattle.tl_manager.specs.statement.Offer as manager
-use Rattle.tl_coherence.specs.declared.event.Event.{Event}
+use Rattle.tl_coherence.specs.{declared.event.Event.Event, statement.Log.Log, statement.Log.system_after}
 use Rattle.tl_coherence.specs.declared.event.Event.TheVariants.{Ask, Deliver}
-use Rattle.tl_coherence.specs.statement.Log.{Log, system_after}
 use Rattle.tl_coherence.specs.statement.Step.{stepped, stepped_at, client_of, delivered, judged, manager_took}
 use Rattle.tl_coherence.specs.statement.Step.{handed_by}
 use Rattle.tl_coherence.specs.statement.System.{with_client, with_manager, with_channel}
@@ -43,21 +38,20 @@ module _ {w : ℕ} (config : Config) (P : ℕ → Endpoint w → Type 0) (keep :
       (rest : List (Beat w)) (e : Endpoint w) (s : System w) → P k e → ((c : ℕ) → P c (s.clients c))
       → (c : ℕ) → P c ((judged r k ch x rest e s).after.clients c)
   judged-kept (Err rule) k ch x rest e s here all c = other_end k e s here all c
-  judged-kept (Ok (verdict.Stalled, m)) k ch x rest e s here all c = all c
-  judged-kept (Ok (verdict.Taken, m)) k ch x rest e s here all c =
+  judged-kept (Ok (Verdict.Stalled, m)) k ch x rest e s here all c = all c
+  judged-kept (Ok (Verdict.Taken, m)) k ch x rest e s here all c =
       rw (clients-with_messages (handed_by k m) (with_client k e (with_channel k ch rest s)))
       (other_end k e (with_channel k ch rest s) here all c)
-  judged-kept (Ok (verdict.Done source f, m)) k ch x rest e s here all c =
+  judged-kept (Ok (Verdict.Done source f, m)) k ch x rest e s here all c =
       rw (clients-with_messages (handed_by k m) (with_client k e (with_channel k ch rest s)))
       (other_end k e (with_channel k ch rest s) here all c)
 
   managed-kept : (a : manager.Reception w × manager_end.End w) (k : ℕ) (ch : Channel) (x : Beat w)
       (rest : List (Beat w)) (s : System w) → ((c : ℕ) → P c (s.clients c))
       → (c : ℕ) → P c ((manager_took k ch x rest a s).after.clients c)
-  managed-kept (manager.Refused rule, e) k ch x rest s all c = all c
-  managed-kept (manager.Stalled, e) k ch x rest s all c = all c
   managed-kept (manager.Sent handed, e) k ch x rest s all c =
       rw (clients-with_messages handed (with_manager e (with_channel k ch rest s))) (all c)
+  managed-kept a k ch x rest s all c = all c
 
   delivered-kept : (terms : EndConfig) (k : ℕ) (ch : Channel) (beats : List (Beat w)) (s : System w)
       → terms_at config k ≡ Some terms → ((c : ℕ) → P c (s.clients c))

@@ -1,24 +1,17 @@
 -- What holds in every phase that is well, and that no message is refused: by computation.
-use Rattle.tl_coherence.proofs.queues.Imports.{Cap, Grow, Report, Prune, prune_left, same_perm, ClientBlock, View}
-use Rattle.tl_coherence.proofs.queues.Imports.{Idle, Own, Other, Granting, NoProbe}
-use Rattle.tl_coherence.proofs.queues.Imports.{ProbeAnswered, ReleaseSent, NoAcquire, AcquireOpen, ok}
-use Rattle.tl_coherence.proofs.queues.Imports.{same_cap}
-use Rattle.std.proofs.Common.{◌≡◌, refl}
-use Rattle.std.proofs.lemmas.Bool.{not-true}
+use Rattle.tl_coherence.proofs.queues.Imports.{Cap, Grow, Report, Prune, prune_left, same_perm, ClientBlock, View, Idle}
+use Rattle.tl_coherence.proofs.queues.Imports.{Own, Other, Granting, NoProbe, ProbeAnswered, ReleaseSent, NoAcquire}
+use Rattle.tl_coherence.proofs.queues.Imports.{AcquireOpen, ok, same_cap, Perm}
+use Rattle.std.{proofs.Common.◌≡◌, proofs.Common.refl, proofs.lemmas.Bool.not-true}
 use Rattle.std.specs.Prelude.{Bool, true, false, not, ◌&&◌, ◌||◌}
-use Rattle.tl_params.specs.declared.param.Cap.TheVariants as cap
-use Rattle.tl_params.specs.declared.perm.Perm.TheVariants as perm
 use Rattle.tl_params.specs.statement.Param.{report_left, report_right, cap_right}
-use Rattle.tl_coherence.specs.protocol.Phase.{grant_fits, grow_fits, is_unacquired}
-use Rattle.tl_coherence.specs.protocol.Phase.{is_unprobed}
-use Rattle.tl_coherence.specs.statement.Permissions.{perm_le}
-use Rattle.tl_coherence.specs.protocol.Tokens.{is_unserved, is_answered}
-use Rattle.tl_coherence.specs.protocol.Invariant.{is_out}
+use Rattle.tl_coherence.specs.protocol.Phase.{grant_fits, grow_fits, is_unacquired, is_unprobed}
+use Rattle.tl_coherence.specs.{statement.Permissions.perm_le, protocol.Tokens.is_unserved, protocol.Tokens.is_answered}
+use Rattle.tl_coherence.specs.{protocol.Invariant.is_out}
 use Rattle.tl_coherence.proofs.queues.Phases.{and_left, and_right, each_phase, of_phase, implies, implies_is}
-use Rattle.tl_coherence.proofs.queues.PhaseSteps.{on_idle, on_own, on_other, on_granting, on_quiet}
-use Rattle.tl_coherence.proofs.queues.PhaseSteps.{on_answered, on_releasing, on_wants, idle_is, own_is, other_is}
-use Rattle.tl_coherence.proofs.queues.PhaseSteps.{granting_is, quiet_is, answered_is, releasing_is}
-use Rattle.tl_coherence.proofs.queues.PhaseSteps.{wants_is}
+use Rattle.tl_coherence.proofs.queues.PhaseSteps.{on_idle, on_own, on_other, on_granting, on_quiet, on_answered}
+use Rattle.tl_coherence.proofs.queues.PhaseSteps.{on_releasing, on_wants, idle_is, own_is, other_is, granting_is}
+use Rattle.tl_coherence.proofs.queues.PhaseSteps.{quiet_is, answered_is, releasing_is, wants_is}
 pub use Rattle.tl_coherence.proofs.queues.PhaseFacts.{held_at_most, is_other, granting_alone}
 
 -- ---- the left end of the first message on C is what is recorded (H12, H13)
@@ -35,7 +28,7 @@ first_left_all = refl
 
 within_test : ClientBlock → View → Bool
 within_test p v =
-    on_other v (λ k. not (same_cap k cap.ToT) && (on_quiet p.probing (perm_le p.recorded (cap_right k)) && on_answered
+    on_other v (λ k. not (same_cap k Cap.ToT) && (on_quiet p.probing (perm_le p.recorded (cap_right k)) && on_answered
     p.probing (λ r. perm_le (report_right r) (cap_right k))))
 
 within_all : each_phase within_test ≡ true
@@ -43,17 +36,17 @@ unfolding each_phase within_test
 within_all = refl
 
 within_of : (k : Cap) (p : ClientBlock) (v : View) → ok p v ≡ true → v ≡ Other k
-    → (not (same_cap k cap.ToT) && (on_quiet p.probing (perm_le p.recorded (cap_right k)) && on_answered p.probing
+    → (not (same_cap k Cap.ToT) && (on_quiet p.probing (perm_le p.recorded (cap_right k)) && on_answered p.probing
     (λ r. perm_le (report_right r) (cap_right k)))) ≡ true
 unfolding within_test
 within_of k p v h e =
-    other_is v (λ j. not (same_cap j cap.ToT) && (on_quiet p.probing (perm_le p.recorded (cap_right j))
+    other_is v (λ j. not (same_cap j Cap.ToT) && (on_quiet p.probing (perm_le p.recorded (cap_right j))
     && on_answered p.probing (λ r. perm_le (report_right r) (cap_right j)))) k e (of_phase within_test within_all p v h)
 
 pub spared_within : (k : Cap) (p : ClientBlock) (v : View) → ok p v ≡ true → v ≡ Other k → p.probing ≡ NoProbe
     → perm_le p.recorded (cap_right k) ≡ true
 spared_within k p v h e quiet =
-    let t = and_right (not (same_cap k cap.ToT)) (on_quiet p.probing (perm_le p.recorded (cap_right k)) && on_answered
+    let t = and_right (not (same_cap k Cap.ToT)) (on_quiet p.probing (perm_le p.recorded (cap_right k)) && on_answered
     p.probing (λ r. perm_le (report_right r) (cap_right k))) (within_of k p v h e) in
     quiet_is p.probing (perm_le p.recorded (cap_right k)) quiet
     (and_left (on_quiet p.probing (perm_le p.recorded (cap_right k)))
@@ -62,36 +55,34 @@ spared_within k p v h e quiet =
 pub reported_within : (k : Cap) (r : Report) (p : ClientBlock) (v : View) → ok p v ≡ true → v ≡ Other k
     → p.probing ≡ ProbeAnswered r → perm_le (report_right r) (cap_right k) ≡ true
 reported_within k r p v h e answered =
-    let t = and_right (not (same_cap k cap.ToT)) (on_quiet p.probing (perm_le p.recorded (cap_right k)) && on_answered
+    let t = and_right (not (same_cap k Cap.ToT)) (on_quiet p.probing (perm_le p.recorded (cap_right k)) && on_answered
     p.probing (λ j. perm_le (report_right j) (cap_right k))) (within_of k p v h e) in
     answered_is p.probing (λ j. perm_le (report_right j) (cap_right k)) r answered
     (and_right (on_quiet p.probing (perm_le p.recorded (cap_right k)))
     (on_answered p.probing (λ j. perm_le (report_right j) (cap_right k))) t)
 
-pub cap_is_low : (k : Cap) (p : ClientBlock) (v : View) → ok p v ≡ true → v ≡ Other k → same_cap k cap.ToT ≡ false
-cap_is_low k p v h e =
-    not-true (same_cap k cap.ToT) (and_left (not (same_cap k cap.ToT))
-    (on_quiet p.probing (perm_le p.recorded (cap_right k)) && on_answered p.probing
+pub cap_is_low : (k : Cap) (p : ClientBlock) (v : View) → ok p v ≡ true → v ≡ Other k → same_cap k Cap.ToT ≡ false
+cap_is_low k p v h e = not-true (same_cap k Cap.ToT)
+    (and_left (not (same_cap k Cap.ToT)) (on_quiet p.probing (perm_le p.recorded (cap_right k)) && on_answered p.probing
     (λ r. perm_le (report_right r) (cap_right k))) (within_of k p v h e))
 
 -- one whose own Acquire is served isn't recorded Trunk
 own_low_test : ClientBlock → View → Bool
-own_low_test p v = on_own v (not (same_perm p.recorded perm.Trunk))
+own_low_test p v = on_own v (not (same_perm p.recorded Perm.Trunk))
 
 own_low_all : each_phase own_low_test ≡ true
 unfolding each_phase own_low_test
 own_low_all = refl
 
-pub own_low : (p : ClientBlock) (v : View) → ok p v ≡ true → v ≡ Own → not (same_perm p.recorded perm.Trunk) ≡ true
+pub own_low : (p : ClientBlock) (v : View) → ok p v ≡ true → v ≡ Own → not (same_perm p.recorded Perm.Trunk) ≡ true
 unfolding own_low_test
-own_low p v h e = own_is v (not (same_perm p.recorded perm.Trunk)) e (of_phase own_low_test own_low_all p v h)
+own_low p v h e = own_is v (not (same_perm p.recorded Perm.Trunk)) e (of_phase own_low_test own_low_all p v h)
 
 -- a ProbeAck begins at what is recorded
 pub report_begins : (r : Report) (p : ClientBlock) (v : View) → ok p v ≡ true → p.probing ≡ ProbeAnswered r
     → same_perm (report_left r) p.recorded ≡ true
 unfolding first_left_test
-report_begins r p v h e =
-    answered_is p.probing (λ j. same_perm (report_left j) p.recorded) r e
+report_begins r p v h e = answered_is p.probing (λ j. same_perm (report_left j) p.recorded) r e
     (and_left (on_answered p.probing (λ j. same_perm (report_left j) p.recorded))
     (on_releasing p.letting (λ j. is_answered p.probing || same_perm (prune_left j) p.recorded))
     (of_phase first_left_test first_left_all p v h))
@@ -141,38 +132,36 @@ release_begins r p v h e first =
     let t = and_right (on_answered p.probing (λ j. same_perm (report_left j) p.recorded))
     (on_releasing p.letting (λ j. is_answered p.probing || same_perm (prune_left j) p.recorded))
     (of_phase first_left_test first_left_all p v h) in
-    let u : (is_answered p.probing || same_perm (prune_left r) p.recorded) ≡ true =
-    releasing_is p.letting (λ j. is_answered p.probing || same_perm (prune_left j) p.recorded) r e t in
+    let u = releasing_is p.letting (λ j. is_answered p.probing || same_perm (prune_left j) p.recorded) r e t in
     rw first at u
 
 -- one who is to be granted at once isn't recorded Trunk
 asked_low_test : ClientBlock → View → Bool
-asked_low_test p v = on_idle v (is_unacquired p.acquiring || not (same_perm p.recorded perm.Trunk))
+asked_low_test p v = on_idle v (is_unacquired p.acquiring || not (same_perm p.recorded Perm.Trunk))
 
 asked_low_all : each_phase asked_low_test ≡ true
 unfolding each_phase asked_low_test
 asked_low_all = refl
 
 pub asked_low : (whole : Bool) (g : Grow) (p : ClientBlock) (v : View) → ok p v ≡ true → v ≡ Idle
-    → p.acquiring ≡ AcquireOpen whole g → same_perm p.recorded perm.Trunk ≡ false
+    → p.acquiring ≡ AcquireOpen whole g → same_perm p.recorded Perm.Trunk ≡ false
 unfolding asked_low_test
 asked_low whole g p v h e wants =
-    let t : (is_unacquired p.acquiring || not (same_perm p.recorded perm.Trunk)) ≡ true =
-    idle_is v (is_unacquired p.acquiring || not (same_perm p.recorded perm.Trunk)) e
+    let t = idle_is v (is_unacquired p.acquiring || not (same_perm p.recorded Perm.Trunk)) e
     (of_phase asked_low_test asked_low_all p v h) in
-    not-true (same_perm p.recorded perm.Trunk) (rw wants at t)
+    not-true (same_perm p.recorded Perm.Trunk) (rw wants at t)
 
 -- what one holds Trunk of is out
 out_test : ClientBlock → View → Bool
-out_test p v = implies (same_perm p.held perm.Trunk) (is_out p v)
+out_test p v = implies (same_perm p.held Perm.Trunk) (is_out p v)
 
 out_all : each_phase out_test ≡ true
 unfolding each_phase out_test
 out_all = refl
 
-pub held_out : (p : ClientBlock) (v : View) → ok p v ≡ true → same_perm p.held perm.Trunk ≡ true → is_out p v ≡ true
+pub held_out : (p : ClientBlock) (v : View) → ok p v ≡ true → same_perm p.held Perm.Trunk ≡ true → is_out p v ≡ true
 unfolding out_test
-held_out p v h e = implies_is (same_perm p.held perm.Trunk) (is_out p v) (of_phase out_test out_all p v h) e
+held_out p v h e = implies_is (same_perm p.held Perm.Trunk) (is_out p v) (of_phase out_test out_all p v h) e
 
 -- one who has no Acquire open isn't served or granted one
 calm_test : ClientBlock → View → Bool

@@ -6,9 +6,8 @@ use Rattle.std.proofs.Common.{◌≡◌, ℕ, ◌+◌, Bool, true, false, List, 
 use Rattle.std.specs.Prelude.{map}
 use Rattle.tl_burst.proofs.Splitting.{beats-positive}
 use Rattle.tl_coherence.specs.refinement.PacketMessages.{message_of_kind}
-use Rattle.tl_coherence.proofs.queues.Carried.{IsNext, carried-next}
-use Rattle.tl_coherence.proofs.queues.Rendered.{same_kind_again}
-use Rattle.tl_coherence.proofs.queues.Tokens.{same_number}
+use Rattle.tl_coherence.proofs.{queues.Carried.IsNext, queues.Carried.carried-next, queues.Rendered.same_kind_again}
+use Rattle.tl_coherence.proofs.{queues.Tokens.same_number}
 
 -- the first token of a channel, whose message has this beat next
 pub record IsFirst {w : ℕ} (ch : Channel) (c : ℕ) (mail : AccessMessages w) (s : State (List ℕ)) (sys : System w)
@@ -23,8 +22,7 @@ pub record IsFirst {w : ℕ} (ch : Channel) (c : ℕ) (mail : AccessMessages w) 
 
 -- a channel has tokens of its own kinds
 pub own_kind : (caching : ℕ → Bool) (s : State (List ℕ)) (c : ℕ) (ch : Channel) (k : Kind) (n : ℕ) (rest : List Packet)
-    → IsInvariant caching s
-    → packets_on ch (s.link c) ≡ packet k n ∷ rest → is_on ch k ≡ true
+    → IsInvariant caching s → packets_on ch (s.link c) ≡ packet k n ∷ rest → is_on ch k ≡ true
 unfolding count
 own_kind caching s c ch k n rest inv tokens = go (is_on ch k) refl
   where
@@ -36,26 +34,24 @@ own_kind caching s c ch k n rest inv tokens = go (is_on ch k) refl
         let one : one_if (is k n (packet k n)) ≡ 1 = rw (same_kind_again k, same_number n) refl in
         absurd (omega (arith, all, one))
 
-nothing_first : {w : ℕ} (x : Beat w) (queue rest : List (Beat w)) (channel : List (Beat w)) → channel ≡ x ∷ queue
+nothing_first : {w : ℕ} (x : Beat w) (queue : List (Beat w)) {rest : List (Beat w)} {channel : List (Beat w)}
+    → channel ≡ x ∷ queue
     → IsCarried rest [] channel → ⊥
-nothing_first x queue rest channel e h = let no : [] ≡ x ∷ queue = sym h.1 ∙ e in cc
+nothing_first x queue e h = let no : [] ≡ x ∷ queue = sym h.1 ∙ e in cc
 
 same_carried : {w : ℕ} (rest : List (Beat w)) (ms ms' : List (Message w)) (q q' : List (Beat w)) → ms ≡ ms' → q ≡ q'
     → IsCarried rest ms q → IsCarried rest ms' q'
 same_carried rest ms ms' q q' e f h = rw (← e, ← f) h
 
 pub first-token : {w : ℕ} (caching : ℕ → Bool) (ch : Channel) (c : ℕ) (mail : AccessMessages w) (s : State (List ℕ))
-    (sys : System w) (x : Beat w) (queue : List (Beat w))
-    → IsWidth w → IsInvariant caching s → ChannelRelation mail s sys
-    → sys.channels c ch ≡ x ∷ queue → IsFirst ch c mail s sys x queue
+    (sys : System w) (x : Beat w) (queue : List (Beat w)) → IsWidth w → IsInvariant caching s
+    → ChannelRelation mail s sys → sys.channels c ch ≡ x ∷ queue → IsFirst ch c mail s sys x queue
 first-token {w} caching ch c mail s sys x queue width inv carried beats = go (packets_on ch (s.link c)) refl
   where
     go : (xs : List Packet) → packets_on ch (s.link c) ≡ xs → IsFirst ch c mail s sys x queue
-    go [] e =
-        absurd (nothing_first x queue (unfinished ch (receiver ch c sys)) (sys.channels c ch) beats
+    go [] e = absurd (nothing_first x queue beats
         (same_carried (unfinished ch (receiver ch c sys)) (map (message_of mail s c) (packets_on ch (s.link c))) []
-        (sys.channels c ch) (sys.channels c ch)
-        (ap (map (message_of mail s c)) e) refl (carried c ch)))
+        (sys.channels c ch) (sys.channels c ch) (ap (map (message_of mail s c)) e) refl (carried c ch)))
     go (y ∷ ys) e = record {
       kind = y.kind;
       number = y.number;

@@ -1,19 +1,15 @@
 -- What a move of one token does to each kind of token on a channel.
 use Rattle.tl_coherence.proofs.queues.Imports.{Channel, Kind, Request, Acquire, Probe, ProbeAck, Release, Answer, Grant}
-use Rattle.tl_coherence.proofs.queues.Imports.{ReleaseAck, GrantAck, Packet, same_kind, count, set, packet}
-use Rattle.tl_coherence.proofs.queues.Imports.{packets_on, is_on, shown, Move, Stays, Pushes, Pops, IsMoved, AreMoved}
-use Rattle.std.proofs.Common.{◌≡◌, ℕ, Bool, true, false, not, ◌&&◌, List, [], ◌∷◌, ◌++◌, refl}
-use Rattle.std.proofs.Common.{◌⊎◌, inl, inr}
-use Rattle.std.specs.Prelude.{◌==◌, if◌then◌else◌}
+use Rattle.tl_coherence.proofs.queues.Imports.{ReleaseAck, GrantAck, Packet, same_kind, count, set, packet, packets_on}
+use Rattle.tl_coherence.proofs.queues.Imports.{is_on, shown, Move, Stays, Pushes, Pops, IsMoved, AreMoved}
+use Rattle.std.proofs.Common.{◌≡◌, ℕ, Bool, true, false, not, ◌&&◌, List, [], ◌∷◌, ◌++◌, refl, ◌⊎◌, inl, inr}
+use Rattle.std.{specs.Prelude.◌==◌, specs.Prelude.if◌then◌else◌, specs.Bool.beq}
 use Rattle.std.proofs.lemmas.Bool.{cases_eq, ne_eqb, eqb-true, not-true}
-use Rattle.std.specs.Bool.{beq}
-use Rattle.tl_coherence.specs.protocol.Packet.{Holds, IsOrdered}
-use Rattle.tl_coherence.specs.protocol.Protocol.{Block, Link, on}
-use Rattle.tl_coherence.specs.protocol.Tokens.{is_transfer}
+use Rattle.tl_coherence.specs.{protocol.Packet.Holds, protocol.Packet.IsOrdered, protocol.Protocol.Block}
+use Rattle.tl_coherence.specs.{protocol.Protocol.Link, protocol.Protocol.on, protocol.Tokens.is_transfer}
 use Rattle.tl_coherence.specs.refinement.Move.{agrees, is_own_move, channel_for}
-use Rattle.tl_coherence.proofs.queues.Tokens.{holds-set, holds-push, holds-push_other}
-use Rattle.tl_coherence.proofs.queues.Tokens.{holds-pop, holds-pop_other, none-push, none-pop, ordered-pop}
-use Rattle.tl_coherence.proofs.queues.Tokens.{ordered-push_other, ordered-push_report}
+use Rattle.tl_coherence.proofs.queues.Tokens.{holds-set, holds-push, holds-push_other, holds-pop, holds-pop_other}
+use Rattle.tl_coherence.proofs.queues.Tokens.{none-push, none-pop, ordered-pop, ordered-push_other, ordered-push_report}
 use Rattle.tl_coherence.proofs.queues.Phases.{and_left, and_right}
 
 pub same_again : (b : Bool) → beq b b ≡ true
@@ -21,10 +17,9 @@ same_again true = refl
 same_again false = refl
 
 same_bools : (a b : Bool) → beq a b ≡ true → b ≡ a
-same_bools true true e = refl
 same_bools true false e = absurd cc
 same_bools false true e = absurd cc
-same_bools false false e = refl
+same_bools a b e = refl
 
 -- the tokens of a kind after a move, where number n gets another value
 pub holds-moved : {B : Type 0} (k : Kind) (move : Move) (xs ys : List Packet) (q : B → Bool) (f : ℕ → B) (n : ℕ) (y : B)
@@ -34,9 +29,8 @@ holds-moved k Stays xs ys q f n y moved fits h = rw moved (holds-set k xs q f n 
 holds-moved {B} k (Pushes j i) xs ys q f n y moved fits h = rw moved (go (same_kind j k) refl fits)
   where
     both : (a b : Bool) → (not a && b) ≡ true → (a ≡ false) × (b ≡ true)
-    both true b e = absurd cc
     both false true e = (refl, refl)
-    both false false e = absurd cc
+    both a b e = absurd cc
 
     go : (own : Bool) → same_kind j k ≡ own → (if own then (i == n) && (not (q (f n)) && q y) else beq (q (f n)) (q y))
         ≡ true → Holds k (xs ++ packet j i ∷ []) (λ m. q (set n y f m))
@@ -75,26 +69,16 @@ holds-spared k (Pops j i) xs ys test moved fits h =
 
 pub on_is : (k : Kind) (l : Link) → on k l ≡ packets_on (channel_for k) l
 on_is Request l = refl
-on_is Acquire l = refl
-on_is Probe l = refl
-on_is ProbeAck l = refl
-on_is Release l = refl
-on_is Answer l = refl
-on_is Grant l = refl
-on_is ReleaseAck l = refl
-on_is GrantAck l = refl
+on_is k l = refl
 
 -- all transfers of a client after the moves of its link, where one block changes
 pub transfers-moved : {X : Type 0} (moves : Channel → Move) (l m : Link) (d n : ℕ) (b : Block X) (block : ℕ → Block X)
-    → AreMoved moves l m
-    → ((k : Kind) → is_transfer k ≡ true → agrees (moves (channel_for k)) k n (shown k d (block n)) (shown k d b)
-    ≡ true)
-    → ((k : Kind) → is_transfer k ≡ true → Holds k (on k l) (λ i. shown k d (block i)))
+    → AreMoved moves l m → ((k : Kind) → is_transfer k ≡ true → agrees (moves (channel_for k)) k n (shown k d (block n))
+    (shown k d b) ≡ true) → ((k : Kind) → is_transfer k ≡ true → Holds k (on k l) (λ i. shown k d (block i)))
     → (k : Kind) → is_transfer k ≡ true → Holds k (on k m) (λ i. shown k d (set n b block i))
 transfers-moved moves l m d n b block moved fits h k t =
     rw (on_is k m) (holds-moved k (moves (channel_for k)) (packets_on (channel_for k) l) (packets_on (channel_for k) m)
-    (shown k d) block n b
-    (moved (channel_for k)) (fits k t) (rw (on_is k l) at (h k t)))
+    (shown k d) block n b (moved (channel_for k)) (fits k t) (rw (on_is k l) at (h k t)))
 
 -- a kind that isn't one of the channel isn't one that is
 pub kinds_apart : (ch : Channel) (k j : Kind) → is_on ch k ≡ true → is_on ch j ≡ false → same_kind k j ≡ false

@@ -4,7 +4,6 @@ use Rattle.tl_coherence.proofs.queues.Imports.{receiver, is_to_client, System, s
 use Rattle.std.proofs.Common.{◌≡◌, ℕ, Bool, true, false, List, [], ◌∷◌, ◌++◌, refl, sym, ◌∙◌, ap, ◌⊎◌, inl, inr}
 use Rattle.std.specs.Prelude.{◌==◌, ◌&&◌, if◌then◌else◌, Option, Some, None}
 use Rattle.std.proofs.lemmas.Bool.{cases_eq, ne_eqb}
-use Rattle.tl_beat.specs.declared.channel.Channel.TheVariants as channel
 use Rattle.tl_burst.specs.statement.Messages.{History, on, grown}
 use Rattle.tl_rules.specs.statement.Conformance.{on_link}
 use Rattle.tl_client.specs.statement.Endpoint as client
@@ -26,15 +25,18 @@ pushes_of (Some m) at = if same_channel at (channel_of_message m) then Some m el
 pub channels-handed : {w : ℕ} (l : ℕ) (m : Option (Message w)) (s : System w) (d : ℕ) (at : Channel)
     → (with_messages (handed_by l m) s).channels d at ≡ behind (pushes_at l (pushes_of m) d at) (s.channels d at)
 unfolding with_messages
-channels-handed {w} l None s d at = go (d == l)
-  where
-    go : (b : Bool) → s.channels d at ≡ behind (if b then None else None) (s.channels d at)
-    go true = refl
-    go false = refl
-channels-handed {w} l (Some m) s d at = elim (cases_eq d l) [
-  | inl same ↦ rw same (here (l == l) (same_number l) (same_channel at (channel_of_message m)) refl)
-  | inr other ↦ there (d == l) (ne_eqb d l other)
-]
+channels-handed {w} l None s d at =
+    let go : (b : Bool) → s.channels d at ≡ behind (if b then None else None) (s.channels d at) =
+    elim [ true ↦ refl | false ↦ refl ] in
+    go (d == l)
+channels-handed {w} l (Some m) s d at =
+    let there : (b : Bool) → b ≡ false
+    → (if b && same_channel at (channel_of_message m) then s.channels l (channel_of_message m) ++ more else
+    s.channels d at) ≡ behind (if b then pushes_of (Some m) at else None) (s.channels d at) = λ b e. rw e refl in
+    elim (cases_eq d l) [
+      | inl same ↦ rw same (here (l == l) (same_number l) (same_channel at (channel_of_message m)) refl)
+      | inr other ↦ there (d == l) (ne_eqb d l other)
+    ]
   where
     more : List (Beat w)
     more = beats_from m 0 (beats_of m)
@@ -44,11 +46,6 @@ channels-handed {w} l (Some m) s d at = elim (cases_eq d l) [
         (if b then (if y then Some m else None) else None) (s.channels l at)
     here b e true f = rw (e, same_channel-is at (channel_of_message m) f) refl
     here b e false f = rw e refl
-
-    there : (b : Bool) → b ≡ false
-        → (if b && same_channel at (channel_of_message m) then s.channels l (channel_of_message m) ++ more else
-        s.channels d at) ≡ behind (if b then pushes_of (Some m) at else None) (s.channels d at)
-    there b e = rw e refl
 
 -- ---- the whole after a beat was taken
 
@@ -66,8 +63,7 @@ pub record IsLanded {w : ℕ} (c : ℕ) (ch : Channel) (x : Beat w) (queue : Lis
 pub rests-ended : {w : ℕ} (c : ℕ) (ch : Channel) (x : Beat w) (sys : System w)
     → completes x (unfinished ch (receiver ch c sys)) ≡ true → (d : ℕ) (at : Channel)
     → (if (d == c) && same_channel at ch then grown x (unfinished at (receiver at d sys)) else unfinished at
-    (receiver at d sys))
-    ≡ (if (d == c) && same_channel at ch then [] else unfinished at (receiver at d sys))
+    (receiver at d sys)) ≡ (if (d == c) && same_channel at ch then [] else unfinished at (receiver at d sys))
 rests-ended {w} c ch x sys last d at = ended (cases_eq d c) (same_channel at ch) refl
   where
     rest : ℕ → Channel → List (Beat w)
@@ -79,10 +75,10 @@ rests-ended {w} c ch x sys last d at = ended (cases_eq d c) (same_channel at ch)
     ended (inl same) false f = rw (same, same_number c) refl
     ended (inr other) y f = rw (ne_eqb d c other) refl
 
-pub taken-landed : {w : ℕ} (c : ℕ) (ch : Channel) (x : Beat w) (queue : List (Beat w)) (pushes : ℕ → Channel
-    → Option (Message w)) (sys sys' : System w) → IsLanded c ch x queue pushes sys sys'
+pub taken-landed : {w : ℕ} {c : ℕ} {ch : Channel} {x : Beat w} {queue : List (Beat w)} {pushes : ℕ → Channel
+    → Option (Message w)} {sys sys' : System w} → IsLanded c ch x queue pushes sys sys'
     → completes x (unfinished ch (receiver ch c sys)) ≡ true → IsTaken c ch x queue pushes sys sys'
-taken-landed {w} c ch x queue pushes sys sys' is last = record {
+taken-landed {w} {c} {ch} {x} {sys} is last = record {
   first = is.first;
   last = last;
   channels = is.channels;
@@ -105,10 +101,8 @@ abbrev pub HasHeard : {w : ℕ} → Beat w → client.Endpoint w → client.Endp
 HasHeard x e e' = (at : Channel) → unfinished at e'.past ≡ unfinished at (x ∷ e.past)
 
 pub landed-client : {w : ℕ} (c : ℕ) (ch : Channel) (x : Beat w) (queue : List (Beat w)) (m : Option (Message w))
-    (e : client.Endpoint w) (sys : System w)
-    → is_to_client ch ≡ true → sys.channels c ch ≡ x ∷ queue → IsOn ch x
-    → HasHeard x (sys.clients c) e
-    → IsLanded c ch x queue (pushes_at c (pushes_of m)) sys
+    (e : client.Endpoint w) (sys : System w) → is_to_client ch ≡ true → sys.channels c ch ≡ x ∷ queue → IsOn ch x
+    → HasHeard x (sys.clients c) e → IsLanded c ch x queue (pushes_at c (pushes_of m)) sys
     (with_messages (handed_by c m) (with_client c e (with_channel c ch queue sys)))
 landed-client {w} c ch x queue m e sys to_client first is heard = record {
   first = first;
@@ -131,54 +125,42 @@ landed-client {w} c ch x queue m e sys to_client first is heard = record {
     ours : (d : ℕ) (at : Channel) → (d ≡ c) ⊎ (d ≡ c → ⊥)
         → unfinished at (after.clients d).past ≡ (if (d == c) && same_channel at ch then grown x
         (unfinished at (sys.clients d).past) else unfinished at (sys.clients d).past)
-    ours d at (inl same) =
-        rw same (ap (λ (f : ℕ → client.Endpoint w). unfinished at (f c).past) clients_are
-        ∙ ap (λ (b : Bool). unfinished at (if b then e else sys.clients c).past) (same_number c)
-        ∙ heard at ∙ grown_history ch at x (sys.clients c).past is
+    ours d at (inl same) = rw same (ap (λ (f : ℕ → client.Endpoint w). unfinished at (f c).past) clients_are
+        ∙ ap (λ (b : Bool). unfinished at (if b then e else sys.clients c).past) (same_number c) ∙ heard at
+        ∙ grown_history ch at x (sys.clients c).past is
         ∙ sym (ap (λ (b : Bool). if b && same_channel at ch then grown x (unfinished at (sys.clients c).past) else
         unfinished at (sys.clients c).past) (same_number c)))
-    ours d at (inr other) =
-        ap (λ (f : ℕ → client.Endpoint w). unfinished at (f d).past) clients_are
+    ours d at (inr other) = ap (λ (f : ℕ → client.Endpoint w). unfinished at (f d).past) clients_are
         ∙ ap (λ (b : Bool). unfinished at (if b then e else sys.clients d).past) (ne_eqb d c other)
         ∙ sym (ap (λ (b : Bool). if b && same_channel at ch then grown x (unfinished at (sys.clients d).past) else
         unfinished at (sys.clients d).past) (ne_eqb d c other))
 
-    theirs : (d : ℕ) (at : Channel) → same_channel at ch ≡ false
-        → unfinished at (on_link d after.manager.trace) ≡ (if (d == c)
-        && same_channel at ch then grown x (unfinished at (on_link d sys.manager.trace)) else unfinished at
-        (on_link d sys.manager.trace))
-    theirs d at f = rw f (ap (λ (b : manager_end.End w). unfinished at (on_link d b.trace)) manager_is ∙ unless
-        (d == c))
-      where
-        unless : (b : Bool) → unfinished at (on_link d sys.manager.trace)
-            ≡ (if b && false then grown x (unfinished at (on_link d sys.manager.trace)) else unfinished at
-            (on_link d sys.manager.trace))
-        unless true = refl
-        unless false = refl
+    theirs : (d : ℕ) (at : Channel) → same_channel at ch ≡ false → unfinished at (on_link d after.manager.trace)
+        ≡ (if (d == c) && same_channel at ch then grown x (unfinished at (on_link d sys.manager.trace)) else unfinished
+        at (on_link d sys.manager.trace))
+    theirs d at f =
+        let unless : (b : Bool) → unfinished at (on_link d sys.manager.trace)
+        ≡ (if b && false then grown x (unfinished at (on_link d sys.manager.trace)) else unfinished at
+        (on_link d sys.manager.trace)) = elim [ true ↦ refl | false ↦ refl ] in
+        rw f (ap (λ (b : manager_end.End w). unfinished at (on_link d b.trace)) manager_is ∙ unless (d == c))
 
     not_here : (ch at : Channel) → is_to_client ch ≡ true → is_to_client at ≡ false → same_channel at ch ≡ false
-    not_here channel.B channel.A a b = refl
-    not_here channel.B channel.C a b = refl
-    not_here channel.B channel.E a b = refl
-    not_here channel.D channel.A a b = refl
-    not_here channel.D channel.C a b = refl
-    not_here channel.D channel.E a b = refl
-    not_here channel.A at a b = absurd cc
-    not_here channel.C at a b = absurd cc
-    not_here channel.E at a b = absurd cc
-    not_here channel.B channel.B a b = absurd cc
-    not_here channel.B channel.D a b = absurd cc
-    not_here channel.D channel.B a b = absurd cc
-    not_here channel.D channel.D a b = absurd cc
+    not_here Channel.B Channel.A a b = refl
+    not_here Channel.B Channel.C a b = refl
+    not_here Channel.B Channel.E a b = refl
+    not_here Channel.D Channel.A a b = refl
+    not_here Channel.D Channel.C a b = refl
+    not_here Channel.D Channel.E a b = refl
+    not_here ch at a b = absurd cc
 
     rests : (d : ℕ) (at : Channel)
         → unfinished at (receiver at d after) ≡ (if (d == c) && same_channel at ch then grown x
         (unfinished at (receiver at d sys)) else unfinished at (receiver at d sys))
-    rests d channel.A = theirs d channel.A (not_here ch channel.A to_client refl)
-    rests d channel.B = ours d channel.B (cases_eq d c)
-    rests d channel.C = theirs d channel.C (not_here ch channel.C to_client refl)
-    rests d channel.D = ours d channel.D (cases_eq d c)
-    rests d channel.E = theirs d channel.E (not_here ch channel.E to_client refl)
+    rests d Channel.A = theirs d Channel.A (not_here ch Channel.A to_client refl)
+    rests d Channel.B = ours d Channel.B (cases_eq d c)
+    rests d Channel.C = theirs d Channel.C (not_here ch Channel.C to_client refl)
+    rests d Channel.D = ours d Channel.D (cases_eq d c)
+    rests d Channel.E = theirs d Channel.E (not_here ch Channel.E to_client refl)
 
 -- a client is asked: its message is handed out, if there is one
 pub handed-client : {w : ℕ} (c : ℕ) (m : Option (Message w)) (e : client.Endpoint w) (sys : System w)
@@ -197,8 +179,7 @@ handed-client {w} c m e sys same = record {
 
     ours : (d : ℕ) (at : Channel) → (d ≡ c) ⊎ (d ≡ c → ⊥) → unfinished at (after.clients d).past ≡ unfinished at
         (sys.clients d).past
-    ours d at (inl here) =
-        rw here (ap (λ (f : ℕ → client.Endpoint w). unfinished at (f c).past)
+    ours d at (inl here) = rw here (ap (λ (f : ℕ → client.Endpoint w). unfinished at (f c).past)
         (clients-with_messages (handed_by c m) base)
         ∙ ap (λ (b : Bool). unfinished at (if b then e else sys.clients c).past) (same_number c) ∙ same at)
     ours d at (inr other) =
@@ -207,15 +188,14 @@ handed-client {w} c m e sys same = record {
 
     theirs : (d : ℕ) (at : Channel) → unfinished at (on_link d after.manager.trace) ≡ unfinished at
         (on_link d sys.manager.trace)
-    theirs d at = ap (λ (b : manager_end.End w). unfinished at (on_link d b.trace))
-        (manager-with_messages (handed_by c m) base)
+    theirs d at = cc (manager-with_messages (handed_by c m) base)
 
     rests : (d : ℕ) (at : Channel) → unfinished at (receiver at d after) ≡ unfinished at (receiver at d sys)
-    rests d channel.A = theirs d channel.A
-    rests d channel.B = ours d channel.B (cases_eq d c)
-    rests d channel.C = theirs d channel.C
-    rests d channel.D = ours d channel.D (cases_eq d c)
-    rests d channel.E = theirs d channel.E
+    rests d Channel.A = theirs d Channel.A
+    rests d Channel.B = ours d Channel.B (cases_eq d c)
+    rests d Channel.C = theirs d Channel.C
+    rests d Channel.D = ours d Channel.D (cases_eq d c)
+    rests d Channel.E = theirs d Channel.E
 
 -- ---- at the manager
 
@@ -249,67 +229,46 @@ rests-manager {w} c ch x queue handed e sys to_manager is heard = rests
         → unfinished at (on_link d after.manager.trace) ≡ (if (d == c)
         && same_channel at ch then grown x (unfinished at (on_link d sys.manager.trace)) else unfinished at
         (on_link d sys.manager.trace))
-    theirs d at up (inl same) =
-        rw same (ap (λ (b : manager_end.End w). unfinished at (on_link c b.trace)) manager_is ∙ heard c at up
-        ∙ ap (λ (b : Bool). unfinished at (if b then x ∷ on_link c sys.manager.trace else on_link c sys.manager.trace))
-        (same_number c)
-        ∙ grown_history ch at x (on_link c sys.manager.trace) is
+    theirs d at up (inl same) = rw same (ap (λ (b : manager_end.End w). unfinished at (on_link c b.trace)) manager_is
+        ∙ heard c at up ∙ ap (λ (b : Bool). unfinished at (if b then x ∷ on_link c sys.manager.trace else on_link c
+        sys.manager.trace)) (same_number c) ∙ grown_history ch at x (on_link c sys.manager.trace) is
         ∙ sym (ap (λ (b : Bool). if b && same_channel at ch then grown x (unfinished at (on_link c sys.manager.trace))
         else unfinished at (on_link c sys.manager.trace)) (same_number c)))
-    theirs d at up (inr other) =
-        ap (λ (b : manager_end.End w). unfinished at (on_link d b.trace)) manager_is ∙ heard d at up
-        ∙ ap (λ (b : Bool). unfinished at (if b then x ∷ on_link d sys.manager.trace else on_link d sys.manager.trace))
-        (swapped d other)
-        ∙ sym (ap (λ (b : Bool). if b && same_channel at ch then grown x (unfinished at (on_link d sys.manager.trace))
-        else unfinished at (on_link d sys.manager.trace)) (ne_eqb d c other))
+    theirs d at up (inr other) = cc (manager_is, heard d at up, swapped d other, ne_eqb d c other)
 
     not_here : (ch at : Channel) → is_to_client ch ≡ false → is_to_client at ≡ true → same_channel at ch ≡ false
-    not_here channel.A channel.B a b = refl
-    not_here channel.A channel.D a b = refl
-    not_here channel.C channel.B a b = refl
-    not_here channel.C channel.D a b = refl
-    not_here channel.E channel.B a b = refl
-    not_here channel.E channel.D a b = refl
-    not_here channel.B at a b = absurd cc
-    not_here channel.D at a b = absurd cc
-    not_here channel.A channel.A a b = absurd cc
-    not_here channel.A channel.C a b = absurd cc
-    not_here channel.A channel.E a b = absurd cc
-    not_here channel.C channel.A a b = absurd cc
-    not_here channel.C channel.C a b = absurd cc
-    not_here channel.C channel.E a b = absurd cc
-    not_here channel.E channel.A a b = absurd cc
-    not_here channel.E channel.C a b = absurd cc
-    not_here channel.E channel.E a b = absurd cc
+    not_here Channel.A Channel.B a b = refl
+    not_here Channel.A Channel.D a b = refl
+    not_here Channel.C Channel.B a b = refl
+    not_here Channel.C Channel.D a b = refl
+    not_here Channel.E Channel.B a b = refl
+    not_here Channel.E Channel.D a b = refl
+    not_here ch at a b = absurd cc
 
     ours : (d : ℕ) (at : Channel) → same_channel at ch ≡ false
         → unfinished at (after.clients d).past ≡ (if (d == c) && same_channel at ch then grown x
         (unfinished at (sys.clients d).past) else unfinished at (sys.clients d).past)
-    ours d at f = rw f (ap (λ (g : ℕ → client.Endpoint w). unfinished at (g d).past) (clients-with_messages handed base)
+    ours d at f =
+        let unless : (b : Bool) → unfinished at (sys.clients d).past
+        ≡ (if b && false then grown x (unfinished at (sys.clients d).past) else unfinished at (sys.clients d).past)
+        = elim [ true ↦ refl | false ↦ refl ] in
+        rw f (ap (λ (g : ℕ → client.Endpoint w). unfinished at (g d).past) (clients-with_messages handed base)
         ∙ unless (d == c))
-      where
-        unless : (b : Bool) → unfinished at (sys.clients d).past
-            ≡ (if b && false then grown x (unfinished at (sys.clients d).past) else unfinished at (sys.clients d).past)
-        unless true = refl
-        unless false = refl
 
     rests : (d : ℕ) (at : Channel)
         → unfinished at (receiver at d after) ≡ (if (d == c) && same_channel at ch then grown x
         (unfinished at (receiver at d sys)) else unfinished at (receiver at d sys))
-    rests d channel.A = theirs d channel.A refl (cases_eq d c)
-    rests d channel.B = ours d channel.B (not_here ch channel.B to_manager refl)
-    rests d channel.C = theirs d channel.C refl (cases_eq d c)
-    rests d channel.D = ours d channel.D (not_here ch channel.D to_manager refl)
-    rests d channel.E = theirs d channel.E refl (cases_eq d c)
+    rests d Channel.A = theirs d Channel.A refl (cases_eq d c)
+    rests d Channel.B = ours d Channel.B (not_here ch Channel.B to_manager refl)
+    rests d Channel.C = theirs d Channel.C refl (cases_eq d c)
+    rests d Channel.D = ours d Channel.D (not_here ch Channel.D to_manager refl)
+    rests d Channel.E = theirs d Channel.E refl (cases_eq d c)
 
 pub landed-manager : {w : ℕ} (c : ℕ) (ch : Channel) (x : Beat w) (queue : List (Beat w)) (pushes : ℕ → Channel
-    → Option (Message w)) (handed : Handed w)
-    (e : manager_end.End w) (sys : System w) → is_to_client ch ≡ false
-    → sys.channels c ch ≡ x ∷ queue
-    → IsOn ch x
-    → HasTaken c x sys.manager e
-    → ((d : ℕ) (at : Channel) → (with_messages handed (with_manager e (with_channel c ch queue sys))).channels d
-    at ≡ behind (pushes d at) ((with_channel c ch queue sys).channels d at))
+    → Option (Message w)) (handed : Handed w) (e : manager_end.End w) (sys : System w) → is_to_client ch ≡ false
+    → sys.channels c ch ≡ x ∷ queue → IsOn ch x → HasTaken c x sys.manager e
+    → ((d : ℕ) (at : Channel) → (with_messages handed (with_manager e (with_channel c ch queue sys))).channels d at
+    ≡ behind (pushes d at) ((with_channel c ch queue sys).channels d at))
     → IsLanded c ch x queue pushes sys (with_messages handed (with_manager e (with_channel c ch queue sys)))
 landed-manager c ch x queue pushes handed e sys to_manager first is heard pushed = record {
   first = first;

@@ -2,37 +2,24 @@
 use Rattle.std.proofs.Common.{◌≡◌, ◌<◌, ◌&&◌, ℕ, zero, suc, Bool, true, false, List, [], ◌∷◌, Some, None, refl, length}
 use Rattle.std.proofs.Common.{arith}
 use Rattle.std.specs.Prelude.{slice_index_or, Option, not, if◌then◌else◌}
-use Rattle.tl_params.specs.declared.config.ClientConfig.{ClientConfig}
-use Rattle.tl_params.specs.declared.config.NewFault.{NewFault}
-use Rattle.tl_params.specs.declared.config.NewFault.TheVariants as fault
-use Rattle.tl_params.specs.statement.Config.{sources_fit, all_sources_fit}
+use Rattle.tl_params.{specs.declared.config.ClientConfig.ClientConfig, specs.declared.config.NewFault.NewFault}
+use Rattle.tl_params.{specs.statement.Config.sources_fit, specs.statement.Config.all_sources_fit}
 
 pub all-fit : (clients : List ClientConfig) (i : ℕ) (d : ClientConfig) → all_sources_fit clients ≡ true
     → i < length clients → sources_fit (slice_index_or clients i d) ≡ true
 all-fit [] i d fit lt = absurd (omega (arith, lt))
-all-fit (x ∷ clients) zero d fit lt = both-first (sources_fit x) (all_sources_fit clients) fit
-  where
-    both-first : (a b : Bool) → (a && b) ≡ true → a ≡ true
-    both-first true b e = refl
-    both-first false b e = absurd cc
-all-fit (x ∷ clients) (suc i) d fit lt = all-fit clients i d (both-second (sources_fit x) (all_sources_fit clients) fit)
-    (omega (arith, lt))
-  where
-    both-second : (a b : Bool) → (a && b) ≡ true → b ≡ true
-    both-second true b e = e
-    both-second false b e = absurd cc
+all-fit (x ∷ clients) zero d fit lt =
+    let both-first : (a b : Bool) → (a && b) ≡ true → a ≡ true = elim [ true ↦ λ b e. refl | false ↦ λ b e. absurd cc ]
+    in
+    both-first (sources_fit x) (all_sources_fit clients) fit
+all-fit (x ∷ clients) (suc i) d fit lt =
+    let both-second : (a b : Bool) → (a && b) ≡ true → b ≡ true = elim [ true ↦ λ b e. e | false ↦ λ b e. absurd cc ] in
+    all-fit clients i d (both-second (sources_fit x) (all_sources_fit clients) fit) (omega (arith, lt))
 
 abbrev limits_broken : Bool → Bool → Bool → Bool → Option NewFault
-limits_broken a b c e =
-    if not a then Some fault.N1 else
-    if not b then Some fault.N2 else
-    if not c then Some fault.N3 else
-    if not e then Some fault.N4 else
-    None
+limits_broken a b c e = if not a then Some NewFault.N1 else if not b then Some NewFault.N2 else if not c then Some
+    NewFault.N3 else if not e then Some NewFault.N4 else None
 
 pub limits-fit : (a b c e : Bool) → limits_broken a b c e ≡ None → (a ≡ true) × (b ≡ true) × (c ≡ true) × (e ≡ true)
 limits-fit true true true true f = (refl, refl, refl, refl)
-limits-fit true true true false f = absurd cc
-limits-fit true true false e f = absurd cc
-limits-fit true false c e f = absurd cc
-limits-fit false b c e f = absurd cc
+limits-fit a b c e f = absurd cc

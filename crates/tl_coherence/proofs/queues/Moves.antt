@@ -1,19 +1,13 @@
 -- Tokens, and what they stand for, after the moves of an event: one lemma for all events.
-use Rattle.tl_coherence.proofs.queues.Imports.{Channel, Kind, Request, ProbeAck, Release, Answer}
-use Rattle.tl_coherence.proofs.queues.Imports.{Packet, count, set, State}
-use Rattle.tl_coherence.proofs.queues.Imports.{packets_on, shown, Move, Stays, Pushes, IsMoved, AreMoved}
+use Rattle.tl_coherence.proofs.queues.Imports.{Channel, Kind, Request, ProbeAck, Release, Answer, Packet, count, set}
+use Rattle.tl_coherence.proofs.queues.Imports.{State, packets_on, shown, Move, Stays, Pushes, IsMoved, AreMoved}
 use Rattle.tl_coherence.proofs.queues.Imports.{IsInvariant, is_asked, is_replied}
-use Rattle.std.proofs.Common.{◌≡◌, ℕ, Bool, true, false, List, Option, refl, sym, ◌∙◌, ap}
-use Rattle.std.proofs.Common.{inl, inr}
-use Rattle.std.specs.Prelude.{◌==◌, if◌then◌else◌}
-use Rattle.std.proofs.lemmas.Bool.{cases_eq, ne_eqb}
-use Rattle.tl_beat.specs.declared.channel.Channel.TheVariants as channel
-use Rattle.tl_coherence.specs.protocol.Packet.{Holds, set_at}
+use Rattle.std.proofs.Common.{◌≡◌, ℕ, Bool, true, false, List, Option, refl, sym, ◌∙◌, ap, inl, inr}
+use Rattle.std.{specs.Prelude.◌==◌, specs.Prelude.if◌then◌else◌, proofs.lemmas.Bool.cases_eq, proofs.lemmas.Bool.ne_eqb}
+use Rattle.tl_coherence.specs.{protocol.Packet.Holds, protocol.Packet.set_at, protocol.Tokens.is_transfer}
 use Rattle.tl_coherence.specs.protocol.Protocol.{Block, SourceState, Link}
-use Rattle.tl_coherence.specs.protocol.Tokens.{is_transfer}
 use Rattle.tl_coherence.specs.refinement.Move.{agrees, is_own_move, channel_for}
-use Rattle.tl_coherence.proofs.queues.Tokens.{same_number, set-same, set-other}
-use Rattle.tl_coherence.proofs.queues.Tokens.{set-each}
+use Rattle.tl_coherence.proofs.queues.Tokens.{same_number, set-same, set-other, set-each}
 use Rattle.tl_coherence.specs.protocol.Invariant.{IsWell, AreNamed, Names, is_of, acquires_of, serves_of, acquires_with}
 use Rattle.tl_coherence.specs.protocol.Invariant.{serves_with, releases_with, tracks_with}
 use Rattle.tl_coherence.proofs.queues.KindMoves.{holds-moved, spares, holds-spared, on_is, transfers-moved}
@@ -30,21 +24,19 @@ pub record IsEvent {X : Type 0} (caching : ℕ → Bool) (n : ℕ) (b : Block X)
   pub fits : (d : ℕ) (k : Kind) → is_transfer k ≡ true → agrees (moves d (channel_for k)) k n (shown k d (s.block n))
       (shown k d b) ≡ true
   -- a ProbeAck isn't sent behind a Release of its block
-  pub in_order : (d m : ℕ) → moves d channel.C ≡ Pushes ProbeAck m → count Release m (s.link d).c ≡ 0
+  pub in_order : (d m : ℕ) → moves d Channel.C ≡ Pushes ProbeAck m → count Release m (s.link d).c ≡ 0
 
 -- ---- which block a source or a tracker is of, where one block changes
 
 -- no number changes
 pub names-block : {A B : Type 0} (of : ℕ → A → Bool) (holds : ℕ → B → Bool) (f : ℕ → A) (n : ℕ) (b : B) (block : ℕ → B)
-    → ((i : ℕ) → holds i b ≡ holds i (block n)) → Names of holds f block
-    → Names of holds f (set n b block)
+    → ((i : ℕ) → holds i b ≡ holds i (block n)) → Names of holds f block → Names of holds f (set n b block)
 names-block of holds f n b block e h i = set-each (λ m x. of m (f i) ≡ holds i x) n b block (h i n ∙ sym (e i))
     (λ m other. h i m)
 
 -- the value of number i changes from one of no other block than n to another
 pub names-set : {A B : Type 0} (of : ℕ → A → Bool) (holds : ℕ → B → Bool) (f : ℕ → A) (i : ℕ) (y : A) (n : ℕ) (b : B)
-    (block : ℕ → B) → of n y ≡ holds i b
-    → ((m : ℕ) → (m ≡ n → ⊥) → of m y ≡ of m (f i))
+    (block : ℕ → B) → of n y ≡ holds i b → ((m : ℕ) → (m ≡ n → ⊥) → of m y ≡ of m (f i))
     → ((j : ℕ) → (j ≡ i → ⊥) → holds j b ≡ holds j (block n)) → Names of holds f block
     → Names of holds (set i y f) (set n b block)
 names-set of holds f i y n b block here elsewhere e h j = elim (cases_eq j i) [
@@ -56,11 +48,10 @@ names-set of holds f i y n b block here elsewhere e h j = elim (cases_eq j i) [
 
 -- the value of number i of client c changes
 pub names-set_at : {A B : Type 0} (of : ℕ → A → Bool) (holds : ℕ → ℕ → B → Bool) (c i : ℕ) (y : A) (f : ℕ → ℕ → A)
-    (n : ℕ) (b : B) (block : ℕ → B) → of n y ≡ holds c i b
-    → ((m : ℕ) → (m ≡ n → ⊥) → of m y ≡ of m (f c i))
+    (n : ℕ) (b : B) (block : ℕ → B) → of n y ≡ holds c i b → ((m : ℕ) → (m ≡ n → ⊥) → of m y ≡ of m (f c i))
     → ((j : ℕ) → (j ≡ i → ⊥) → holds c j b ≡ holds c j (block n))
-    → ((d j : ℕ) → (d ≡ c → ⊥) → holds d j b ≡ holds d j (block n))
-    → ((d : ℕ) → Names of (holds d) (f d) block) → (d : ℕ) → Names of (holds d) (set_at c i y f d) (set n b block)
+    → ((d j : ℕ) → (d ≡ c → ⊥) → holds d j b ≡ holds d j (block n)) → ((d : ℕ) → Names of (holds d) (f d) block)
+    → (d : ℕ) → Names of (holds d) (set_at c i y f d) (set n b block)
 names-set_at of holds c i y f n b block here elsewhere e others h d = elim (cases_eq d c) [
   | inl same ↦ rw (same, set-same c (set i y (f c)) f) (names-set of (holds c) (f c) i y n b block here elsewhere e
       (h c))
@@ -86,8 +77,7 @@ names-kept n b link s h acquires serves releases trackers = record {
 
 -- the tokens of a kind of all clients, where the value of number i of client c changes, and others move no token of it
 pub holds-set_at : {A : Type 0} (k : Kind) (moves : ℕ → Move) (f g : ℕ → List Packet) (q : A → Bool) (uses : ℕ → ℕ → A)
-    (c i : ℕ) (y : A) → ((d : ℕ) → IsMoved (moves d) (f d) (g d))
-    → agrees (moves c) k i (q (uses c i)) (q y) ≡ true
+    (c i : ℕ) (y : A) → ((d : ℕ) → IsMoved (moves d) (f d) (g d)) → agrees (moves c) k i (q (uses c i)) (q y) ≡ true
     → ((d : ℕ) → (d ≡ c → ⊥) → spares (moves d) k ≡ true) → ((d : ℕ) → Holds k (f d) (λ j. q (uses d j))) → (d : ℕ)
     → Holds k (g d) (λ j. q (set_at c i y uses d j))
 holds-set_at k moves f g q uses c i y moved fits others h d = elim (cases_eq d c) [
@@ -100,15 +90,14 @@ holds-set_at k moves f g q uses c i y moved fits others h d = elim (cases_eq d c
 -- ---- the whole invariant
 
 -- the invariant is kept by every event that has shown this, with these accesses and numbers
-pub invariant-moved_with : {X : Type 0} (caching : ℕ → Bool) (n : ℕ) (b : Block X) (link : ℕ → Link) (moves : ℕ
-    → Channel → Move) (uses : ℕ → ℕ → SourceState)
-    (lets : ℕ → ℕ → Option ℕ) (tracked : ℕ → Option ℕ) (s : State X)
+pub invariant-moved_with : {X : Type 0} {caching : ℕ → Bool} {n : ℕ} {b : Block X} {link : ℕ → Link} {moves : ℕ
+    → Channel → Move} (uses : ℕ → ℕ → SourceState) (lets : ℕ → ℕ → Option ℕ) (tracked : ℕ → Option ℕ) {s : State X}
     → IsInvariant caching s → IsEvent caching n b link moves s
     → ((d : ℕ) → Holds Request (link d).a (λ i. is_asked (uses d i)))
     → ((d : ℕ) → Holds Answer (link d).d (λ i. is_replied (uses d i)))
     → AreNamed (record { block = set n b s.block; link = link; uses = uses; lets = lets; tracked = tracked })
     → IsInvariant caching (record { block = set n b s.block; link = link; uses = uses; lets = lets; tracked = tracked })
-invariant-moved_with caching n b link moves uses lets tracked s inv event requests answers named = record {
+invariant-moved_with {caching} {n} {b} {link} {moves} uses lets tracked {s} inv event requests answers named = record {
   blocks = set-each (λ m. IsWell caching) n b s.block event.well (λ m other. inv.blocks m);
   transfers = λ d. transfers-moved (moves d) (s.link d) (link d) d n b s.block (event.moved d) (event.fits d)
       (inv.transfers d);
@@ -116,7 +105,7 @@ invariant-moved_with caching n b link moves uses lets tracked s inv event reques
   answers = answers;
   own_kinds = λ d ch k i off. own_kinds-moved ch (moves d ch) (packets_on ch (s.link d)) (packets_on ch (link d)) k i
       (event.own d ch) (event.moved d ch) off (inv.own_kinds d ch k i off);
-  ordered = λ d m. ordered-moved (moves d channel.C) m (s.link d).c (link d).c (event.moved d channel.C)
+  ordered = λ d m. ordered-moved (moves d Channel.C) m (s.link d).c (link d).c (event.moved d Channel.C)
       (event.in_order d) (inv.ordered d m);
   named = named;
 }
@@ -125,39 +114,35 @@ invariant-moved_with caching n b link moves uses lets tracked s inv event reques
 pub invariant-moved : {X : Type 0} (caching : ℕ → Bool) (n : ℕ) (b : Block X) (link : ℕ → Link) (moves : ℕ → Channel
     → Move) (lets : ℕ → ℕ → Option ℕ) (tracked : ℕ → Option ℕ) (s : State X)
     → IsInvariant caching s → IsEvent caching n b link moves s
-    → ((d : ℕ) → (spares (moves d channel.A) Request ≡ true) × (spares (moves d channel.D) Answer ≡ true))
+    → ((d : ℕ) → (spares (moves d Channel.A) Request ≡ true) × (spares (moves d Channel.D) Answer ≡ true))
     → AreNamed (record s { block = set n b s.block; link = link; lets = lets; tracked = tracked })
     → IsInvariant caching (record s { block = set n b s.block; link = link; lets = lets; tracked = tracked })
 invariant-moved caching n b link moves lets tracked s inv event bare named =
-    invariant-moved_with caching n b link moves s.uses lets tracked s inv event
-    (λ d. holds-spared Request (moves d channel.A) (s.link d).a (link d).a (λ m. is_asked (s.uses d m))
-    (event.moved d channel.A) (bare d).0 (inv.requests d))
-    (λ d. holds-spared Answer (moves d channel.D) (s.link d).d (link d).d (λ m. is_replied (s.uses d m))
-    (event.moved d channel.D) (bare d).1 (inv.answers d))
-    named
+    invariant-moved_with s.uses lets tracked inv event (λ d. holds-spared Request (moves d Channel.A) (s.link d).a
+    (link d).a (λ m. is_asked (s.uses d m)) (event.moved d Channel.A) (bare d).0 (inv.requests d))
+    (λ d. holds-spared Answer (moves d Channel.D) (s.link d).d (link d).d (λ m. is_replied (s.uses d m))
+    (event.moved d Channel.D) (bare d).1 (inv.answers d)) named
 
 -- and by every event that changes the use of a source of client c
-pub invariant-moved_use : {X : Type 0} (caching : ℕ → Bool) (n : ℕ) (b : Block X) (link : ℕ → Link) (moves : ℕ → Channel
-    → Move) (c source : ℕ) (u : SourceState) (tracked : ℕ → Option ℕ) (s : State X)
+pub invariant-moved_use : {X : Type 0} {caching : ℕ → Bool} {n : ℕ} {b : Block X} {link : ℕ → Link} {moves : ℕ → Channel
+    → Move} (c source : ℕ) (u : SourceState) (tracked : ℕ → Option ℕ) {s : State X}
     → IsInvariant caching s → IsEvent caching n b link moves s
-    → agrees (moves c channel.A) Request source (is_asked (s.uses c source)) (is_asked u) ≡ true
-    → agrees (moves c channel.D) Answer source (is_replied (s.uses c source)) (is_replied u) ≡ true
-    → ((d : ℕ) → (d ≡ c → ⊥) → (spares (moves d channel.A) Request ≡ true) × (spares (moves d channel.D) Answer ≡ true))
+    → agrees (moves c Channel.A) Request source (is_asked (s.uses c source)) (is_asked u) ≡ true
+    → agrees (moves c Channel.D) Answer source (is_replied (s.uses c source)) (is_replied u) ≡ true
+    → ((d : ℕ) → (d ≡ c → ⊥) → (spares (moves d Channel.A) Request ≡ true) × (spares (moves d Channel.D) Answer ≡ true))
     → AreNamed (record s { block = set n b s.block; link = link; uses = set_at c source u s.uses; tracked = tracked })
     → IsInvariant caching (record s {
       block = set n b s.block;
       link = link;
       uses = set_at c source u s.uses;
-      tracked =
-          tracked;
+      tracked = tracked;
     })
-invariant-moved_use caching n b link moves c source u tracked s inv event asked replied bare named =
-    invariant-moved_with caching n b link moves (set_at c source u s.uses) s.lets tracked s inv event
-    (holds-set_at Request (λ d. moves d channel.A) (λ d. (s.link d).a) (λ d. (link d).a) is_asked s.uses c source u
-    (λ d. event.moved d channel.A) asked (λ d ne. (bare d ne).0) inv.requests)
-    (holds-set_at Answer (λ d. moves d channel.D) (λ d. (s.link d).d) (λ d. (link d).d) is_replied s.uses c source u
-    (λ d. event.moved d channel.D) replied (λ d ne. (bare d ne).1) inv.answers)
-    named
+invariant-moved_use {caching} {n} {b} {link} {moves} c source u tracked {s} inv event asked replied bare named =
+    invariant-moved_with (set_at c source u s.uses) s.lets tracked inv event
+    (holds-set_at Request (λ d. moves d Channel.A) (λ d. (s.link d).a) (λ d. (link d).a) is_asked s.uses c source u
+    (λ d. event.moved d Channel.A) asked (λ d ne. (bare d ne).0) inv.requests)
+    (holds-set_at Answer (λ d. moves d Channel.D) (λ d. (s.link d).d) (λ d. (link d).d) is_replied s.uses c source u
+    (λ d. event.moved d Channel.D) replied (λ d ne. (bare d ne).1) inv.answers) named
 
 -- ---- events at one client
 
@@ -193,12 +178,11 @@ pub record IsEventAt {X : Type 0} (caching : ℕ → Bool) (c n : ℕ) (b : Bloc
   pub fits : (k : Kind) → is_transfer k ≡ true → agrees (moves (channel_for k)) k n (shown k c (s.block n))
       (shown k c b) ≡ true
   pub others : (d : ℕ) → (d ≡ c → ⊥) → (k : Kind) → is_transfer k ≡ true → shown k d b ≡ shown k d (s.block n)
-  pub in_order : (m : ℕ) → moves channel.C ≡ Pushes ProbeAck m → count Release m (s.link c).c ≡ 0
+  pub in_order : (m : ℕ) → moves Channel.C ≡ Pushes ProbeAck m → count Release m (s.link c).c ≡ 0
 
-pub event-at : {X : Type 0} (caching : ℕ → Bool) (c n : ℕ) (b : Block X) (l : Link) (moves : Channel → Move)
-    (s : State X) → IsEventAt caching c n b l moves s
-    → IsEvent caching n b (set c l s.link) (moves_at c moves) s
-event-at caching c n b l moves s event = record {
+pub event-at : {X : Type 0} {caching : ℕ → Bool} {c n : ℕ} {b : Block X} {l : Link} {moves : Channel → Move}
+    {s : State X} → IsEventAt caching c n b l moves s → IsEvent caching n b (set c l s.link) (moves_at c moves) s
+event-at {c} {n} {b} {l} {moves} {s} event = record {
   well = event.well;
   moved = λ d ch. elim (cases_eq d c) [
     | inl same ↦ rw same (moved_as (moves_at c moves c ch) (moves ch) (packets_on ch (s.link c))
@@ -216,8 +200,8 @@ event-at caching c n b l moves s event = record {
         (moves-there c d moves (channel_for k) ne) (event.others d ne k t)
   ];
   in_order = λ d m e. elim (cases_eq d c) [
-    | inl same ↦ rw same (event.in_order m (sym (moves-here c moves channel.C) ∙ (rw same at e)))
-    | inr ne ↦ never_pushed (moves_at c moves d channel.C) m (moves-there c d moves channel.C ne) e
+    | inl same ↦ rw same (event.in_order m (sym (moves-here c moves Channel.C) ∙ (rw same at e)))
+    | inr ne ↦ never_pushed (moves_at c moves d Channel.C) m (moves-there c d moves Channel.C ne) e
   ];
 }
   where
@@ -226,27 +210,25 @@ event-at caching c n b l moves s event = record {
     own ch false = refl
 
 -- where no access is taken or answered at client c
-pub bare-at : (c : ℕ) (moves : Channel → Move) → spares (moves channel.A) Request ≡ true
-    → spares (moves channel.D) Answer ≡ true → (d : ℕ)
-    → (spares (moves_at c moves d channel.A) Request ≡ true) × (spares (moves_at c moves d channel.D) Answer ≡ true)
-bare-at c moves a e d = (go (d == c) (moves channel.A) Request a, go (d == c) (moves channel.D) Answer e)
-  where
-    go : (b : Bool) (m : Move) (k : Kind) → spares m k ≡ true → spares (if b then m else Stays) k ≡ true
-    go true m k h = h
-    go false m k h = refl
+pub bare-at : (c : ℕ) (moves : Channel → Move) → spares (moves Channel.A) Request ≡ true
+    → spares (moves Channel.D) Answer ≡ true → (d : ℕ)
+    → (spares (moves_at c moves d Channel.A) Request ≡ true) × (spares (moves_at c moves d Channel.D) Answer ≡ true)
+bare-at c moves a e d =
+    let go : (b : Bool) (m : Move) (k : Kind) → spares m k ≡ true → spares (if b then m else Stays) k ≡ true =
+    elim [ true ↦ λ m k h. h | false ↦ λ m k h. refl ] in
+    (go (d == c) (moves Channel.A) Request a, go (d == c) (moves Channel.D) Answer e)
 
 -- at other clients than c nothing moves
 pub bare-elsewhere : (c : ℕ) (moves : Channel → Move) (d : ℕ) → (d ≡ c → ⊥)
-    → (spares (moves_at c moves d channel.A) Request ≡ true) × (spares (moves_at c moves d channel.D) Answer ≡ true)
+    → (spares (moves_at c moves d Channel.A) Request ≡ true) × (spares (moves_at c moves d Channel.D) Answer ≡ true)
 bare-elsewhere c moves d ne =
-    (rw (moves-there c d moves channel.A ne) refl, rw (moves-there c d moves channel.D ne) refl)
+    (rw (moves-there c d moves Channel.A ne) refl, rw (moves-there c d moves Channel.D ne) refl)
 
 -- ---- accesses, which change no block's tokens
 
 names-use : {A B : Type 0} (of : ℕ → A → Bool) (holds : ℕ → ℕ → B → Bool) (c i : ℕ) (y : A) (f : ℕ → ℕ → A) (block : ℕ
-    → B) → ((m : ℕ) → of m y ≡ of m (f c i))
-    → ((d : ℕ) → Names of (holds d) (f d) block)
-    → (d : ℕ) → Names of (holds d) (set_at c i y f d) block
+    → B) → ((m : ℕ) → of m y ≡ of m (f c i)) → ((d : ℕ) → Names of (holds d) (f d) block) → (d : ℕ)
+    → Names of (holds d) (set_at c i y f d) block
 names-use of holds c i y f block e h d = elim (cases_eq d c) [
   | inl same ↦ rw (same, set-same c (set i y (f c)) f) (λ j m. elim (cases_eq j i) [
     | inl also ↦ rw (also, set-same i y (f c)) (e m ∙ h c i m)
@@ -261,16 +243,16 @@ pub record IsAccessEvent {X : Type 0} (c source : ℕ) (u : SourceState) (l : Li
   pub moved : AreMoved moves (s.link c) l
   pub own : (ch : Channel) → is_own_move ch (moves ch) ≡ true
   pub spared : (k : Kind) → is_transfer k ≡ true → spares (moves (channel_for k)) k ≡ true
-  pub still : moves channel.C ≡ Stays
-  pub asked : agrees (moves channel.A) Request source (is_asked (s.uses c source)) (is_asked u) ≡ true
-  pub replied : agrees (moves channel.D) Answer source (is_replied (s.uses c source)) (is_replied u) ≡ true
+  pub still : moves Channel.C ≡ Stays
+  pub asked : agrees (moves Channel.A) Request source (is_asked (s.uses c source)) (is_asked u) ≡ true
+  pub replied : agrees (moves Channel.D) Answer source (is_replied (s.uses c source)) (is_replied u) ≡ true
   pub acquires : (m : ℕ) → acquires_of m u ≡ acquires_of m (s.uses c source)
   pub serves : (m : ℕ) → serves_of m u ≡ serves_of m (s.uses c source)
 
-pub invariant-moved_access : {X : Type 0} (caching : ℕ → Bool) (c source : ℕ) (u : SourceState) (l : Link)
-    (moves : Channel → Move) (s : State X) → IsInvariant caching s → IsAccessEvent c source u l moves s
+pub invariant-moved_access : {X : Type 0} {caching : ℕ → Bool} {c source : ℕ} {u : SourceState} {l : Link}
+    {moves : Channel → Move} {s : State X} → IsInvariant caching s → IsAccessEvent c source u l moves s
     → IsInvariant caching (record s { link = set c l s.link; uses = set_at c source u s.uses })
-invariant-moved_access caching c source u l moves s inv event = record {
+invariant-moved_access {c} {source} {u} {l} {moves} {s} inv event = record {
   blocks = inv.blocks;
   transfers = λ d k t. elim (cases_eq d c) [
     | inl same ↦ rw (same, set-same c l s.link) (rw (on_is k l)
@@ -280,15 +262,13 @@ invariant-moved_access caching c source u l moves s inv event = record {
         (rw (on_is k (s.link c)) at (inv.transfers c k t))))
     | inr other ↦ rw (set-other c d l s.link other) (inv.transfers d k t)
   ];
-  requests = holds-set_at Request (λ d. moves_at c moves d channel.A) (λ d. (s.link d).a) (λ d. (set c l s.link d).a)
-      is_asked s.uses c source u (λ d. moved d channel.A)
-      (agrees_as Request source (moves_at c moves c channel.A) (moves channel.A) (is_asked (s.uses c source))
-      (is_asked u) (moves-here c moves channel.A) event.asked)
+  requests = holds-set_at Request (λ d. moves_at c moves d Channel.A) (λ d. (s.link d).a) (λ d. (set c l s.link d).a)
+      is_asked s.uses c source u (λ d. moved d Channel.A) (agrees_as Request source (moves_at c moves c Channel.A)
+      (moves Channel.A) (is_asked (s.uses c source)) (is_asked u) (moves-here c moves Channel.A) event.asked)
       (λ d ne. (bare-elsewhere c moves d ne).0) inv.requests;
-  answers = holds-set_at Answer (λ d. moves_at c moves d channel.D) (λ d. (s.link d).d) (λ d. (set c l s.link d).d)
-      is_replied s.uses c source u (λ d. moved d channel.D)
-      (agrees_as Answer source (moves_at c moves c channel.D) (moves channel.D) (is_replied (s.uses c source))
-      (is_replied u) (moves-here c moves channel.D) event.replied)
+  answers = holds-set_at Answer (λ d. moves_at c moves d Channel.D) (λ d. (s.link d).d) (λ d. (set c l s.link d).d)
+      is_replied s.uses c source u (λ d. moved d Channel.D) (agrees_as Answer source (moves_at c moves c Channel.D)
+      (moves Channel.D) (is_replied (s.uses c source)) (is_replied u) (moves-here c moves Channel.D) event.replied)
       (λ d ne. (bare-elsewhere c moves d ne).1) inv.answers;
   own_kinds = λ d ch k i off. elim (cases_eq d c) [
     | inl same ↦ rw (same, set-same c l s.link) (own_kinds-moved ch (moves ch) (packets_on ch (s.link c))
@@ -296,8 +276,8 @@ invariant-moved_access caching c source u l moves s inv event = record {
     | inr other ↦ rw (set-other c d l s.link other) (inv.own_kinds d ch k i off)
   ];
   ordered = λ d m. elim (cases_eq d c) [
-    | inl same ↦ rw (same, set-same c l s.link) (ordered-moved (moves channel.C) m (s.link c).c l.c
-        (event.moved channel.C) (λ n e. never_pushed (moves channel.C) n event.still e) (inv.ordered c m))
+    | inl same ↦ rw (same, set-same c l s.link) (ordered-moved (moves Channel.C) m (s.link c).c l.c
+        (event.moved Channel.C) (λ n e. never_pushed (moves Channel.C) n event.still e) (inv.ordered c m))
     | inr other ↦ rw (set-other c d l s.link other) (inv.ordered d m)
   ];
   named = record {

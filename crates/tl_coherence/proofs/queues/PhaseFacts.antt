@@ -1,20 +1,15 @@
 -- What the phases of a client say of what it holds and of what is on its channels.
-use Rattle.tl_coherence.proofs.queues.Imports.{Cap, Grow, Report, Perm, prune_left, same_perm, ClientBlock, View}
-use Rattle.tl_coherence.proofs.queues.Imports.{Idle, Own, Other, Granting, Acknowledging, ProbePhase}
-use Rattle.tl_coherence.proofs.queues.Imports.{ProbeAnswered, ReleasePhase, ReleaseSent, AcquireOpen, ok}
+use Rattle.tl_coherence.proofs.queues.Imports.{Cap, Grow, Report, Perm, prune_left, same_perm, ClientBlock, View, Idle}
+use Rattle.tl_coherence.proofs.queues.Imports.{Own, Other, Granting, Acknowledging, ProbePhase, ProbeAnswered}
+use Rattle.tl_coherence.proofs.queues.Imports.{ReleasePhase, ReleaseSent, AcquireOpen, ok}
 use Rattle.std.proofs.Common.{◌≡◌, refl}
 use Rattle.std.specs.Prelude.{Bool, true, false, not, ◌&&◌, ◌||◌}
-use Rattle.tl_params.specs.declared.param.Grow.TheVariants as grow
-use Rattle.tl_params.specs.declared.perm.Perm.TheVariants as perm
 use Rattle.tl_params.specs.statement.Param.{report_left, cap_right, report_at}
-use Rattle.tl_coherence.specs.protocol.Phase.{same_report, is_unacquired, is_unreleased}
-use Rattle.tl_coherence.specs.protocol.Phase.{is_unprobed}
-use Rattle.tl_coherence.specs.statement.Permissions.{perm_le}
-use Rattle.tl_coherence.specs.protocol.Tokens.{is_granting, is_acked}
+use Rattle.tl_coherence.specs.protocol.Phase.{same_report, is_unacquired, is_unreleased, is_unprobed}
+use Rattle.tl_coherence.specs.{statement.Permissions.perm_le, protocol.Tokens.is_granting, protocol.Tokens.is_acked}
 use Rattle.tl_coherence.proofs.queues.Phases.{each_phase, of_phase, implies, implies_is}
-use Rattle.tl_coherence.proofs.queues.PhaseSteps.{on_idle, on_own, on_other, on_granting, on_acknowledging}
-use Rattle.tl_coherence.proofs.queues.PhaseSteps.{on_answered, on_wants, idle_is, own_is}
-use Rattle.tl_coherence.proofs.queues.PhaseSteps.{granting_is, acknowledging_is, answered_is}
+use Rattle.tl_coherence.proofs.queues.PhaseSteps.{on_idle, on_own, on_other, on_granting, on_acknowledging, on_answered}
+use Rattle.tl_coherence.proofs.queues.PhaseSteps.{on_wants, idle_is, own_is, granting_is, acknowledging_is, answered_is}
 use Rattle.tl_coherence.proofs.queues.PhaseSteps.{wants_is}
 
 -- ---- what is held is no more than is recorded
@@ -45,23 +40,23 @@ quiet_at_rest p v h e = idle_is v (is_unprobed p.probing) e (of_phase rest_test 
 -- ---- a message on C with left end Trunk: recorded Trunk, held less, no Grant on D
 
 abbrev carries_data : ProbePhase → ReleasePhase → Bool
-carries_data (ProbeAnswered r) letting = same_perm (report_left r) perm.Trunk
-carries_data _ (ReleaseSent r) = same_perm (prune_left r) perm.Trunk
+carries_data (ProbeAnswered r) letting = same_perm (report_left r) Perm.Trunk
+carries_data _ (ReleaseSent r) = same_perm (prune_left r) Perm.Trunk
 carries_data _ _ = false
 
 carried_test : ClientBlock → View → Bool
 carried_test p v = implies (carries_data p.probing p.letting)
-    (same_perm p.recorded perm.Trunk && (not (same_perm p.held perm.Trunk) && not (is_granting v)))
+    (same_perm p.recorded Perm.Trunk && (not (same_perm p.held Perm.Trunk) && not (is_granting v)))
 
 carried_all : each_phase carried_test ≡ true
 unfolding each_phase carried_test
 carried_all = refl
 
 pub data_carried : (p : ClientBlock) (v : View) → ok p v ≡ true → carries_data p.probing p.letting ≡ true
-    → (same_perm p.recorded perm.Trunk && (not (same_perm p.held perm.Trunk) && not (is_granting v))) ≡ true
+    → (same_perm p.recorded Perm.Trunk && (not (same_perm p.held Perm.Trunk) && not (is_granting v))) ≡ true
 unfolding carried_test
 data_carried p v h e = implies_is (carries_data p.probing p.letting)
-    (same_perm p.recorded perm.Trunk && (not (same_perm p.held perm.Trunk) && not (is_granting v)))
+    (same_perm p.recorded Perm.Trunk && (not (same_perm p.held Perm.Trunk) && not (is_granting v)))
     (of_phase carried_test carried_all p v h) e
 
 -- ---- held Trunk: recorded Trunk, nothing on C, no Acquire, no Grant
@@ -72,20 +67,20 @@ is_silent _ (ReleaseSent r) = false
 is_silent _ _ = true
 
 trunk_test : ClientBlock → View → Bool
-trunk_test p v = implies (same_perm p.held perm.Trunk)
-    (same_perm p.recorded perm.Trunk
+trunk_test p v = implies (same_perm p.held Perm.Trunk)
+    (same_perm p.recorded Perm.Trunk
     && (is_silent p.probing p.letting && (is_unacquired p.acquiring && not (is_granting v))))
 
 trunk_all : each_phase trunk_test ≡ true
 unfolding each_phase trunk_test
 trunk_all = refl
 
-pub trunk_held : (p : ClientBlock) (v : View) → ok p v ≡ true → same_perm p.held perm.Trunk ≡ true
-    → (same_perm p.recorded perm.Trunk
+pub trunk_held : (p : ClientBlock) (v : View) → ok p v ≡ true → same_perm p.held Perm.Trunk ≡ true
+    → (same_perm p.recorded Perm.Trunk
     && (is_silent p.probing p.letting && (is_unacquired p.acquiring && not (is_granting v)))) ≡ true
 unfolding trunk_test
-trunk_held p v h e = implies_is (same_perm p.held perm.Trunk)
-    (same_perm p.recorded perm.Trunk
+trunk_held p v h e = implies_is (same_perm p.held Perm.Trunk)
+    (same_perm p.recorded Perm.Trunk
     && (is_silent p.probing p.letting && (is_unacquired p.acquiring && not (is_granting v))))
     (of_phase trunk_test trunk_all p v h) e
 
@@ -124,8 +119,8 @@ own_alone p v h e = own_is v (is_unprobed p.probing && (is_unreleased p.letting 
 -- ---- H4, H5: an Acquire at a block that isn't in service
 
 abbrev grows_from : Grow → Perm → Bool
-grows_from grow.BtoT p = not (same_perm p perm.Trunk)
-grows_from _ p = same_perm p perm.None
+grows_from Grow.BtoT p = not (same_perm p Perm.Trunk)
+grows_from _ p = same_perm p Perm.None
 
 asked_test : ClientBlock → View → Bool
 asked_test p v = on_idle v

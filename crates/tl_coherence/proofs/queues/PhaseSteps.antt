@@ -2,11 +2,9 @@
 use Rattle.tl_coherence.proofs.queues.Imports.{Cap, Grow, Prune, Report, prune_left, same_perm, ClientBlock, View, Idle}
 use Rattle.tl_coherence.proofs.queues.Imports.{Own, Other, Granting, Acknowledging, GrantedOther, ProbePhase, NoProbe}
 use Rattle.tl_coherence.proofs.queues.Imports.{ProbeAnswered, ReleasePhase, ReleaseSent, NoAcquire, AcquireOpen, ok}
-use Rattle.tl_coherence.proofs.queues.Imports.{same_cap}
+use Rattle.tl_coherence.proofs.queues.Imports.{same_cap, Perm}
 use Rattle.std.proofs.Common.{◌≡◌, refl}
 use Rattle.std.specs.Prelude.{Bool, true, false, not, ◌&&◌, ◌||◌}
-use Rattle.tl_params.specs.declared.param.Cap.TheVariants as cap
-use Rattle.tl_params.specs.declared.perm.Perm.TheVariants as perm
 use Rattle.tl_coherence.specs.protocol.Phase.{ProbeSent, NoRelease, ReleaseAcked, AcquirePhase, grow_fits, cap_fits}
 use Rattle.tl_coherence.specs.protocol.Phase.{is_unacquired, is_unreleased}
 use Rattle.tl_coherence.specs.protocol.PhaseSteps.{after_acquire, after_release, after_served, is_granted_data}
@@ -120,8 +118,7 @@ unfolding each_phase acquire_test may_acquire ok
 acquire_all = refl
 
 pub acquire-ok : (whole : Bool) (g : Grow) (p : ClientBlock) (v : View) → ok p v ≡ true → p.acquiring ≡ NoAcquire
-    → p.letting ≡ NoRelease → grow_fits p.held (AcquireOpen whole g) ≡ true
-    → ok (after_acquire whole g p) v ≡ true
+    → p.letting ≡ NoRelease → grow_fits p.held (AcquireOpen whole g) ≡ true → ok (after_acquire whole g p) v ≡ true
 unfolding acquire_test may_acquire
 acquire-ok whole g p v h calm kept fits =
     let t = of_grow (λ j. where_true (may_acquire whole j p) (λ u. ok (after_acquire whole j p) v))
@@ -160,32 +157,29 @@ serve_all = refl
 pub serve-ok : (whole : Bool) (g : Grow) (p : ClientBlock) (v : View) → ok p v ≡ true → v ≡ Idle
     → p.acquiring ≡ AcquireOpen whole g → ok p Own ≡ true
 unfolding serve_test
-serve-ok whole g p v h idle wants =
-    wants_is p.acquiring (λ w j. ok p Own) whole g wants (idle_is v (on_wants p.acquiring (λ w j. ok p Own)) idle
-    (of_phase serve_test serve_all p v h))
+serve-ok whole g p v h idle wants = wants_is p.acquiring (λ w j. ok p Own) whole g wants
+    (idle_is v (on_wants p.acquiring (λ w j. ok p Own)) idle (of_phase serve_test serve_all p v h))
 
 -- another request is taken, which probes with this cap
 served_test : ClientBlock → View → Bool
 served_test p v = on_idle v
-    (each_cap (λ k. not (same_cap k cap.ToT) && ok (after_served k p) (Other k) || same_cap k cap.ToT))
+    (each_cap (λ k. not (same_cap k Cap.ToT) && ok (after_served k p) (Other k) || same_cap k Cap.ToT))
 
 served_all : each_phase served_test ≡ true
 unfolding each_phase served_test ok
 served_all = refl
 
-pub served-ok : (k : Cap) (p : ClientBlock) (v : View) → ok p v ≡ true → v ≡ Idle → same_cap k cap.ToT ≡ false
+pub served-ok : (k : Cap) (p : ClientBlock) (v : View) → ok p v ≡ true → v ≡ Idle → same_cap k Cap.ToT ≡ false
     → ok (after_served k p) (Other k) ≡ true
 unfolding served_test
-served-ok k p v h idle low =
-    go (same_cap k cap.ToT) low (ok (after_served k p) (Other k))
-    (of_cap (λ j. not (same_cap j cap.ToT) && ok (after_served j p) (Other j) || same_cap j cap.ToT)
-    (idle_is v (each_cap (λ j. not (same_cap j cap.ToT) && ok (after_served j p) (Other j) || same_cap j cap.ToT)) idle
+served-ok k p v h idle low = go (same_cap k Cap.ToT) low (ok (after_served k p) (Other k))
+    (of_cap (λ j. not (same_cap j Cap.ToT) && ok (after_served j p) (Other j) || same_cap j Cap.ToT)
+    (idle_is v (each_cap (λ j. not (same_cap j Cap.ToT) && ok (after_served j p) (Other j) || same_cap j Cap.ToT)) idle
     (of_phase served_test served_all p v h)) k)
   where
     go : (a : Bool) → a ≡ false → (b : Bool) → (not a && b || a) ≡ true → b ≡ true
-    go true e b t = absurd cc
     go false e true t = refl
-    go false e false t = absurd cc
+    go a e b t = absurd cc
 
 -- a Grant is handed out, at once or with the last ProbeAck
 granted_to : ClientBlock → Bool → Grow → Cap → Bool
@@ -244,8 +238,7 @@ kept_is x e = rw e refl
 pub probe-ok : (k : Cap) (p : ClientBlock) (v : View) → ok p v ≡ true → p.probing ≡ ProbeSent k → p.letting ≡ NoRelease
     → ok (after_probe k p) v ≡ true
 unfolding probe_test
-probe-ok k p v h sent kept =
-    where_is (is_unreleased p.letting) (λ u. ok (after_probe k p) v)
+probe-ok k p v h sent kept = where_is (is_unreleased p.letting) (λ u. ok (after_probe k p) v)
     (sent_is p.probing (λ j. where_true (is_unreleased p.letting) (λ u. ok (after_probe j p) v)) k sent
     (of_phase probe_test probe_all p v h)) (kept_is p.letting kept)
 
@@ -283,8 +276,7 @@ release_taken_all = refl
 pub release_taken-ok : (r : Prune) (p : ClientBlock) (v : View) → ok p v ≡ true → p.letting ≡ ReleaseSent r
     → is_answered p.probing ≡ false → ok (after_release_taken r p) v ≡ true
 unfolding release_taken_test
-release_taken-ok r p v h releasing first =
-    where_is (not (is_answered p.probing)) (λ u. ok (after_release_taken r p) v)
+release_taken-ok r p v h releasing first = where_is (not (is_answered p.probing)) (λ u. ok (after_release_taken r p) v)
     (releasing_is p.letting (λ j. where_true (not (is_answered p.probing)) (λ u. ok (after_release_taken j p) v)) r
     releasing (of_phase release_taken_test release_taken_all p v h)) (rw first refl)
 
@@ -337,18 +329,17 @@ ack_taken_other-ok p v h e =
 
 -- another Acquire is granted at once
 granted_other_test : ClientBlock → View → Bool
-granted_other_test p v = on_idle v (where_true (not (same_perm p.recorded perm.Trunk)) (λ u. ok p GrantedOther))
+granted_other_test p v = on_idle v (where_true (not (same_perm p.recorded Perm.Trunk)) (λ u. ok p GrantedOther))
 
 granted_other_all : each_phase granted_other_test ≡ true
 unfolding each_phase granted_other_test ok
 granted_other_all = refl
 
-pub granted_other-ok : (p : ClientBlock) (v : View) → ok p v ≡ true → v ≡ Idle → same_perm p.recorded perm.Trunk ≡ false
+pub granted_other-ok : (p : ClientBlock) (v : View) → ok p v ≡ true → v ≡ Idle → same_perm p.recorded Perm.Trunk ≡ false
     → ok p GrantedOther ≡ true
 unfolding granted_other_test
-granted_other-ok p v h idle low =
-    where_is (not (same_perm p.recorded perm.Trunk)) (λ u. ok p GrantedOther)
-    (idle_is v (where_true (not (same_perm p.recorded perm.Trunk)) (λ u. ok p GrantedOther)) idle
+granted_other-ok p v h idle low = where_is (not (same_perm p.recorded Perm.Trunk)) (λ u. ok p GrantedOther)
+    (idle_is v (where_true (not (same_perm p.recorded Perm.Trunk)) (λ u. ok p GrantedOther)) idle
     (of_phase granted_other_test granted_other_all p v h)) (rw low refl)
 
 -- the service ends, for one who isn't probed

@@ -4,11 +4,6 @@ use Rattle.tl_coherence.proofs.queues.Imports.{Granting, Acknowledging, GrantedO
 use Rattle.tl_coherence.proofs.queues.Imports.{ProbeAnswered, ReleasePhase, ReleaseSent, NoAcquire, AcquireOpen, ok}
 use Rattle.std.proofs.Common.{◌≡◌, refl}
 use Rattle.std.specs.Prelude.{Bool, true, false, ◌&&◌, ⊤}
-use Rattle.tl_params.specs.declared.param.Cap.TheVariants as cap
-use Rattle.tl_params.specs.declared.param.Grow.TheVariants as grow
-use Rattle.tl_params.specs.declared.param.Prune.TheVariants as prune
-use Rattle.tl_params.specs.declared.param.Report.TheVariants as report
-use Rattle.tl_params.specs.declared.perm.Perm.TheVariants as perm
 use Rattle.tl_coherence.specs.protocol.Phase.{ProbeSent, NoRelease, ReleaseAcked, AcquirePhase, ok_first, ok_second}
 use Rattle.tl_coherence.specs.protocol.Phase.{ok_third}
 
@@ -23,20 +18,20 @@ abbrev pub each_bool : (Bool → Bool) → Bool
 each_bool f = f true && f false
 
 abbrev pub each_perm : (Perm → Bool) → Bool
-each_perm f = f perm.None && (f perm.Branch && f perm.Trunk)
+each_perm f = f Perm.None && (f Perm.Branch && f Perm.Trunk)
 
 abbrev pub each_cap : (Cap → Bool) → Bool
-each_cap f = f cap.ToT && (f cap.ToB && f cap.ToN)
+each_cap f = f Cap.ToT && (f Cap.ToB && f Cap.ToN)
 
 abbrev pub each_grow : (Grow → Bool) → Bool
-each_grow f = f grow.NtoB && (f grow.NtoT && f grow.BtoT)
+each_grow f = f Grow.NtoB && (f Grow.NtoT && f Grow.BtoT)
 
 abbrev pub each_prune : (Prune → Bool) → Bool
-each_prune f = f prune.TtoB && (f prune.TtoN && f prune.BtoN)
+each_prune f = f Prune.TtoB && (f Prune.TtoN && f Prune.BtoN)
 
 abbrev pub each_report : (Report → Bool) → Bool
-each_report f = f report.TtoB
-    && (f report.TtoN && (f report.BtoN && (f report.TtoT && (f report.BtoB && f report.NtoN))))
+each_report f = f Report.TtoB
+    && (f Report.TtoN && (f Report.BtoN && (f Report.TtoT && (f Report.BtoB && f Report.NtoN))))
 
 abbrev pub each_probing : (ProbePhase → Bool) → Bool
 each_probing f = f NoProbe && (each_cap (λ k. f (ProbeSent k)) && each_report (λ r. f (ProbeAnswered r)))
@@ -87,8 +82,7 @@ IsSix a b c d e f = (a ≡ true) × (b ≡ true) × (c ≡ true) × (d ≡ true)
 
 three : (a b c : Bool) → (a && (b && c)) ≡ true → IsThree a b c
 three true true c e = (refl, refl, e)
-three true false c e = absurd cc
-three false b c e = absurd cc
+three a b c e = absurd cc
 
 six : (a b c d e f : Bool) → (a && (b && (c && (d && (e && f))))) ≡ true → IsSix a b c d e f
 six a b c d e f h =
@@ -101,39 +95,39 @@ of_bool f e true = and_left (f true) (f false) e
 of_bool f e false = and_right (f true) (f false) e
 
 pub of_perm : (f : Perm → Bool) → each_perm f ≡ true → (x : Perm) → f x ≡ true
-of_perm f e perm.None = (three (f perm.None) (f perm.Branch) (f perm.Trunk) e).0
-of_perm f e perm.Branch = (three (f perm.None) (f perm.Branch) (f perm.Trunk) e).1
-of_perm f e perm.Trunk = (three (f perm.None) (f perm.Branch) (f perm.Trunk) e).2
+of_perm f e Perm.None = (three (f Perm.None) (f Perm.Branch) (f Perm.Trunk) e).0
+of_perm f e Perm.Branch = (three (f Perm.None) (f Perm.Branch) (f Perm.Trunk) e).1
+of_perm f e Perm.Trunk = (three (f Perm.None) (f Perm.Branch) (f Perm.Trunk) e).2
 
 pub of_cap : (f : Cap → Bool) → each_cap f ≡ true → (x : Cap) → f x ≡ true
-of_cap f e cap.ToT = (three (f cap.ToT) (f cap.ToB) (f cap.ToN) e).0
-of_cap f e cap.ToB = (three (f cap.ToT) (f cap.ToB) (f cap.ToN) e).1
-of_cap f e cap.ToN = (three (f cap.ToT) (f cap.ToB) (f cap.ToN) e).2
+of_cap f e Cap.ToT = (three (f Cap.ToT) (f Cap.ToB) (f Cap.ToN) e).0
+of_cap f e Cap.ToB = (three (f Cap.ToT) (f Cap.ToB) (f Cap.ToN) e).1
+of_cap f e Cap.ToN = (three (f Cap.ToT) (f Cap.ToB) (f Cap.ToN) e).2
 
 pub of_grow : (f : Grow → Bool) → each_grow f ≡ true → (x : Grow) → f x ≡ true
-of_grow f e grow.NtoB = (three (f grow.NtoB) (f grow.NtoT) (f grow.BtoT) e).0
-of_grow f e grow.NtoT = (three (f grow.NtoB) (f grow.NtoT) (f grow.BtoT) e).1
-of_grow f e grow.BtoT = (three (f grow.NtoB) (f grow.NtoT) (f grow.BtoT) e).2
+of_grow f e Grow.NtoB = (three (f Grow.NtoB) (f Grow.NtoT) (f Grow.BtoT) e).0
+of_grow f e Grow.NtoT = (three (f Grow.NtoB) (f Grow.NtoT) (f Grow.BtoT) e).1
+of_grow f e Grow.BtoT = (three (f Grow.NtoB) (f Grow.NtoT) (f Grow.BtoT) e).2
 
 pub of_prune : (f : Prune → Bool) → each_prune f ≡ true → (x : Prune) → f x ≡ true
-of_prune f e prune.TtoB = (three (f prune.TtoB) (f prune.TtoN) (f prune.BtoN) e).0
-of_prune f e prune.TtoN = (three (f prune.TtoB) (f prune.TtoN) (f prune.BtoN) e).1
-of_prune f e prune.BtoN = (three (f prune.TtoB) (f prune.TtoN) (f prune.BtoN) e).2
+of_prune f e Prune.TtoB = (three (f Prune.TtoB) (f Prune.TtoN) (f Prune.BtoN) e).0
+of_prune f e Prune.TtoN = (three (f Prune.TtoB) (f Prune.TtoN) (f Prune.BtoN) e).1
+of_prune f e Prune.BtoN = (three (f Prune.TtoB) (f Prune.TtoN) (f Prune.BtoN) e).2
 
 -- a test of six reports
 abbrev SixReports : (Report → Bool) → Type 0
-SixReports f = IsSix (f report.TtoB) (f report.TtoN) (f report.BtoN) (f report.TtoT) (f report.BtoB) (f report.NtoN)
+SixReports f = IsSix (f Report.TtoB) (f Report.TtoN) (f Report.BtoN) (f Report.TtoT) (f Report.BtoB) (f Report.NtoN)
 
 six_reports : (f : Report → Bool) → each_report f ≡ true → SixReports f
-six_reports f e = six (f report.TtoB) (f report.TtoN) (f report.BtoN) (f report.TtoT) (f report.BtoB) (f report.NtoN) e
+six_reports f e = six (f Report.TtoB) (f Report.TtoN) (f Report.BtoN) (f Report.TtoT) (f Report.BtoB) (f Report.NtoN) e
 
 pub of_report : (f : Report → Bool) → each_report f ≡ true → (x : Report) → f x ≡ true
-of_report f e report.TtoB = (six_reports f e).0
-of_report f e report.TtoN = (six_reports f e).1
-of_report f e report.BtoN = (six_reports f e).2
-of_report f e report.TtoT = (six_reports f e).3
-of_report f e report.BtoB = (six_reports f e).4
-of_report f e report.NtoN = (six_reports f e).5
+of_report f e Report.TtoB = (six_reports f e).0
+of_report f e Report.TtoN = (six_reports f e).1
+of_report f e Report.BtoN = (six_reports f e).2
+of_report f e Report.TtoT = (six_reports f e).3
+of_report f e Report.BtoB = (six_reports f e).4
+of_report f e Report.NtoN = (six_reports f e).5
 
 pub of_probing : (f : ProbePhase → Bool) → each_probing f ≡ true → (x : ProbePhase) → f x ≡ true
 of_probing f e NoProbe =
@@ -180,10 +174,8 @@ pub of_phase : (f : ClientBlock → View → Bool) → each_phase f ≡ true →
 unfolding each_phase ok
 of_phase f e p v h =
     let rest = and_right (ok_first p.probing v) (ok_second p.probing p.letting p.acquiring v && ok_third p v) h in
-    let first : ok_first p.probing v ≡ true =
-    and_left (ok_first p.probing v) (ok_second p.probing p.letting p.acquiring v && ok_third p v) h in
-    let second : ok_second p.probing p.letting p.acquiring v ≡ true =
-    and_left (ok_second p.probing p.letting p.acquiring v) (ok_third p v) rest in
+    let first = and_left (ok_first p.probing v) (ok_second p.probing p.letting p.acquiring v && ok_third p v) h in
+    let second = and_left (ok_second p.probing p.letting p.acquiring v) (ok_third p v) rest in
     let third : ok_third p v ≡ true = and_right (ok_second p.probing p.letting p.acquiring v) (ok_third p v) rest in
     let last = λ (probing : ProbePhase) (letting : ReleasePhase) (acquiring : AcquirePhase) (u : View)
     (recorded held : Perm).

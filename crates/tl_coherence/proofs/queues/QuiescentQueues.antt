@@ -2,10 +2,8 @@
 use Rattle.tl_coherence.proofs.queues.Imports.{Channel, Config, EndConfig, System, terms_at}
 use Rattle.std.proofs.Common.{◌≡◌, ℕ, zero, suc, ◌+◌, ◌<◌, ◌≤◌, Bool, true, false, [], refl, subst, inl, inr, arith}
 use Rattle.std.specs.Prelude.{if◌then◌else◌, length, Option, Some, None, option_map, slice_get}
-use Rattle.std.proofs.lemmas.Bool.{cases_eq}
-use Rattle.std.proofs.lemmas.Option.{same_Some, slice_get_within}
+use Rattle.std.{proofs.lemmas.Bool.cases_eq, proofs.lemmas.Option.same_Some, proofs.lemmas.Option.slice_get_within}
 use Rattle.tl_beat.specs.declared.beat.Link.{Link}
-use Rattle.tl_beat.specs.declared.channel.Channel.TheVariants as channel
 use Rattle.tl_params.specs.declared.config.ClientConfig.{ClientConfig}
 use Rattle.tl_coherence.specs.statement.Movable.{is_movable, first_movable, moves, movable_on, next_delivery, or_later}
 
@@ -36,19 +34,16 @@ first-none config ch link (suc n) s none = rw (none link) (first-none config ch 
 
 pub client_below : (config : Config) (c : ℕ) (terms : EndConfig) → terms_at config c ≡ Some terms
     → c < length config.clients.items
-client_below config c terms is = go (slice_get config.clients.items c) refl is
-  where
-    go : (o : Option ClientConfig) → slice_get config.clients.items c ≡ o
-        → option_map (λ x. record {
-          level = x.level;
-          profile = config.profile;
-          sources = x.sources;
-          blocks =
-              config.blocks;
-        }) o ≡ Some terms
-        → c < length config.clients.items
-    go None e f = absurd cc
-    go (Some x) e f = slice_get_within config.clients.items c x e
+client_below config c terms is =
+    let go : (o : Option ClientConfig) → slice_get config.clients.items c ≡ o
+    → option_map (λ x. record {
+      level = x.level;
+      profile = config.profile;
+      sources = x.sources;
+      blocks = config.blocks;
+    }) o ≡ Some terms → c < length config.clients.items =
+    elim [ None ↦ λ e f. absurd cc | Some x ↦ λ e f. slice_get_within config.clients.items c x e ] in
+    go (slice_get config.clients.items c) refl is
 
 none-both : {X : Type 0} (a b : Option X) → or_later a b ≡ None → (a ≡ None) × (b ≡ None)
 none-both None b e = (refl, e)
@@ -59,36 +54,36 @@ pub nothing-moves : {w : ℕ} (config : Config) (s : System w) (c : ℕ) (terms 
     → terms_at config c ≡ Some terms → next_delivery config s ≡ None → is_movable config c ch s ≡ false
 unfolding next_delivery
 nothing-moves config s c terms ch is none =
-    let e = none-both (movable_on config channel.E s) _ none in
-    let d = none-both (movable_on config channel.D s) _ e.1 in
-    let c_and = none-both (movable_on config channel.C s) _ d.1 in
-    let b_and = none-both (movable_on config channel.B s) _ c_and.1 in
+    let e = none-both (movable_on config Channel.E s) _ none in
+    let d = none-both (movable_on config Channel.D s) _ e.1 in
+    let c_and = none-both (movable_on config Channel.C s) _ d.1 in
+    let b_and = none-both (movable_on config Channel.B s) _ c_and.1 in
     go ch e.0 d.0 c_and.0 b_and.0 b_and.1
   where
     on : (x : Channel) → movable_on config x s ≡ None → is_movable config c x s ≡ false
     on x h = none-first config x 0 (length config.clients.items) s h c (omega arith) (let below =
         client_below config c terms is in omega (arith, below))
 
-    go : (x : Channel) → movable_on config channel.E s ≡ None → movable_on config channel.D s ≡ None
-        → movable_on config channel.C s ≡ None → movable_on config channel.B s ≡ None
-        → movable_on config channel.A s ≡ None → is_movable config c x s ≡ false
-    go channel.E e d c_is b a = on channel.E e
-    go channel.D e d c_is b a = on channel.D d
-    go channel.C e d c_is b a = on channel.C c_is
-    go channel.B e d c_is b a = on channel.B b
-    go channel.A e d c_is b a = on channel.A a
+    go : (x : Channel) → movable_on config Channel.E s ≡ None → movable_on config Channel.D s ≡ None
+        → movable_on config Channel.C s ≡ None → movable_on config Channel.B s ≡ None
+        → movable_on config Channel.A s ≡ None → is_movable config c x s ≡ false
+    go Channel.E e d c_is b a = on Channel.E e
+    go Channel.D e d c_is b a = on Channel.D d
+    go Channel.C e d c_is b a = on Channel.C c_is
+    go Channel.B e d c_is b a = on Channel.B b
+    go Channel.A e d c_is b a = on Channel.A a
 
 pub no-next : {w : ℕ} (config : Config) (s : System w) → ((c : ℕ) (ch : Channel) → is_movable config c ch s ≡ false)
     → next_delivery config s ≡ None
 unfolding next_delivery
-no-next config s none =
-    rw (
-      first-none config channel.E 0 (length config.clients.items) s (λ c. none c channel.E),
-      first-none config channel.D 0 (length config.clients.items) s (λ c. none c channel.D),
-      first-none config channel.C 0 (length config.clients.items) s (λ c. none c channel.C),
-      first-none config channel.B 0 (length config.clients.items) s (λ c. none c channel.B),
-    )
-    (first-none config channel.A 0 (length config.clients.items) s (λ c. none c channel.A))
+no-next config s none = rw (
+  first-none config Channel.E 0 (length config.clients.items) s (λ c. none c Channel.E),
+  first-none config Channel.D 0 (length config.clients.items) s (λ c. none c Channel.D),
+  first-none config Channel.C 0
+      (length config.clients.items) s (λ c. none c Channel.C),
+  first-none config Channel.B 0 (length config.clients.items)
+      s (λ c. none c Channel.B),
+) (first-none config Channel.A 0 (length config.clients.items) s (λ c. none c Channel.A))
 
 -- ---- the delivery that is next is movable
 
@@ -103,8 +98,7 @@ first-some config ch link (suc n) s d e =
         → (if b then Some (record { 0 = link }, ch) else first_movable config ch (link + 1) n s) ≡ Some d
         → (first_movable config ch (link + 1) n s ≡ Some d → is_movable config d.0.0 d.1 s ≡ true)
         → is_movable config d.0.0 d.1 s ≡ true
-    go true f g rest = subst (λ (i : Link × Channel). is_movable config i.0.0 i.1 s ≡ true)
-        (same_Some (record { 0 = link }, ch) d g) f
+    go true f g rest = rw (← (same_Some (record { 0 = link }, ch) d g)) f
     go false f g rest = rest g
 
 by-either : {X : Type 0} (a b : Option X) (x : X) (P : Type 0) → (a ≡ Some x → P) → (b ≡ Some x → P)
@@ -116,24 +110,19 @@ pub next-movable : {w : ℕ} (config : Config) (s : System w) (d : Link × Chann
     → is_movable config d.0.0 d.1 s ≡ true
 unfolding next_delivery
 next-movable {w} config s d next =
-    by-either (movable_on config channel.E s) _ d IsIt (on channel.E)
-    (by-either (movable_on config channel.D s) _ d IsIt (on channel.D)
-    (by-either (movable_on config channel.C s) _ d IsIt (on channel.C)
-    (by-either (movable_on config channel.B s) _ d IsIt (on channel.B) (on channel.A)))) next
-  where
-    IsIt : Type 0
-    IsIt = is_movable config d.0.0 d.1 s ≡ true
-
-    on : (ch : Channel) → movable_on config ch s ≡ Some d → IsIt
-    on ch e = first-some config ch 0 (length config.clients.items) s d e
+    let IsIt : Type 0 = is_movable config d.0.0 d.1 s ≡ true in
+    let on : (ch : Channel) → movable_on config ch s ≡ Some d → IsIt =
+    λ ch e. first-some config ch 0 (length config.clients.items) s d e in
+    by-either (movable_on config Channel.E s) _ d IsIt (on Channel.E)
+    (by-either (movable_on config Channel.D s) _ d IsIt (on Channel.D)
+    (by-either (movable_on config Channel.C s) _ d IsIt (on Channel.C)
+    (by-either (movable_on config Channel.B s) _ d IsIt (on Channel.B) (on Channel.A)))) next
 
 -- ---- a channel without a beat
 
 pub empty-still : {w : ℕ} (config : Config) (s : System w) (c : ℕ) (ch : Channel) → s.channels c ch ≡ []
     → is_movable config c ch s ≡ false
 unfolding is_movable
-empty-still config s c ch none = rw none (go (terms_at config c))
-  where
-    go : (o : Option EndConfig) → moves config o c ch [] s ≡ false
-    go None = refl
-    go (Some t) = refl
+empty-still config s c ch none =
+    let go : (o : Option EndConfig) → moves config o c ch [] s ≡ false = elim [ None ↦ refl | Some t ↦ refl ] in
+    rw none (go (terms_at config c))

@@ -6,14 +6,11 @@ use Rattle.tl_coherence.proofs.queues.Imports.{IsInvariant, is_asked, is_replied
 use Rattle.std.proofs.Common.{◌≡◌, ℕ, Bool, true, false, not, ◌&&◌, ◌||◌, List, refl, sym, ◌∙◌, ap, ◌⊎◌, inl, inr}
 use Rattle.std.proofs.lemmas.Bool.{not-true, or_parts}
 use Rattle.std.specs.Prelude.{◌==◌, if◌then◌else◌, ⊤}
-use Rattle.tl_beat.specs.declared.opcode.OpB.TheVariants as opb
-use Rattle.tl_params.specs.declared.param.Prune.TheVariants as prune
-use Rattle.tl_params.specs.declared.perm.Perm.TheVariants as perm
+use Rattle.tl_beat.specs.declared.opcode.OpB.{OpB}
 use Rattle.tl_params.specs.statement.Param.{report_left}
 use Rattle.tl_client.specs.statement.Send.{release, probe_ack}
-use Rattle.tl_coherence.specs.protocol.Protocol.{Service, Free, Waits, GrantSent, GrantTaken, Block, view}
-use Rattle.tl_coherence.specs.protocol.Tokens.{is_granting}
-use Rattle.tl_coherence.specs.protocol.Invariant.{IsWell}
+use Rattle.tl_coherence.specs.protocol.Protocol.{Service, GrantSent, Block, view}
+use Rattle.tl_coherence.specs.{protocol.Tokens.is_granting, protocol.Invariant.IsWell}
 use Rattle.tl_coherence.specs.refinement.PacketMessages.{report_told, prune_told, grant_of, block_message}
 use Rattle.tl_coherence.proofs.queues.Channels.{IsShowing}
 use Rattle.tl_coherence.proofs.queues.Phases.{and_left, and_right, each_phase, of_phase, implies, implies_is}
@@ -28,8 +25,8 @@ is_given _ = false
 
 -- the message carries the bytes that the block has in the one memory
 abbrev pub carries : Kind → ℕ → Block (List ℕ) → Bool
-carries ProbeAck d b = same_perm (report_left (report_told (b.pair d).probing)) perm.Trunk
-carries Release d b = same_perm (prune_left (prune_told (b.pair d).letting)) perm.Trunk
+carries ProbeAck d b = same_perm (report_left (report_told (b.pair d).probing)) Perm.Trunk
+carries Release d b = same_perm (prune_left (prune_told (b.pair d).letting)) Perm.Trunk
 carries Grant d b = is_given b.service
 carries k d b = false
 
@@ -44,24 +41,20 @@ IsAlike ReleaseAck d b b' = b'.release_source d ≡ b.release_source d
 IsAlike GrantAck d b b' = b'.tracker ≡ b.tracker
 IsAlike k d b b' = ⊤
 
-ack_bytes : (w : ℕ) (p : Perm) (r : Report) (n : ℕ) (x y : List ℕ) → same_perm p perm.Trunk ≡ false
-    → probe_ack {w = w} opb.ProbeBlock p r n x ≡ probe_ack opb.ProbeBlock p r n y
-ack_bytes w perm.None r n x y e = refl
-ack_bytes w perm.Branch r n x y e = refl
-ack_bytes w perm.Trunk r n x y e = absurd cc
+ack_bytes : (w : ℕ) (p : Perm) (r : Report) (n : ℕ) (x y : List ℕ) → same_perm p Perm.Trunk ≡ false
+    → probe_ack {w = w} OpB.ProbeBlock p r n x ≡ probe_ack OpB.ProbeBlock p r n y
+ack_bytes w Perm.Trunk r n x y e = absurd cc
+ack_bytes w p r n x y e = refl
 
-release_bytes : (w : ℕ) (p : Prune) (source n : ℕ) (x y : List ℕ) → same_perm (prune_left p) perm.Trunk ≡ false
+release_bytes : (w : ℕ) (p : Prune) (source n : ℕ) (x y : List ℕ) → same_perm (prune_left p) Perm.Trunk ≡ false
     → release {w = w} p source n x ≡ release p source n y
-release_bytes w prune.TtoB source n x y e = absurd cc
-release_bytes w prune.TtoN source n x y e = absurd cc
-release_bytes w prune.BtoN source n x y e = refl
+release_bytes w Prune.BtoN source n x y e = refl
+release_bytes w p source n x y e = absurd cc
 
 grant_bytes : (w : ℕ) (v : Service) (source sink : ℕ) (x y : List ℕ) → is_given v ≡ false
     → grant_of {w = w} v source sink x ≡ grant_of v source sink y
-grant_bytes w Free source sink x y e = refl
-grant_bytes w (Waits r own s k) source sink x y e = refl
 grant_bytes w (GrantSent q d k) source sink x y e = rw e refl
-grant_bytes w (GrantTaken q) source sink x y e = refl
+grant_bytes w v source sink x y e = refl
 
 pub rendered-alike : (w : ℕ) (k : Kind) (d n : ℕ) (b b' : Block (List ℕ)) → IsAlike k d b b' → (carries k d b ≡ false)
     ⊎ (b'.truth ≡ b.truth) → block_message {w = w} k d n b' ≡ block_message k d n b
@@ -69,7 +62,6 @@ unfolding block_message
 rendered-alike w Request d n b b' same bytes = refl
 rendered-alike w Answer d n b b' same bytes = refl
 rendered-alike w Acquire d n b b' same bytes = rw (same.0, same.1) refl
-rendered-alike w Probe d n b b' same bytes = rw same refl
 rendered-alike w ProbeAck d n b b' same (inl none) =
     rw same (ack_bytes w (report_left (report_told (b.pair d).probing)) (report_told (b.pair d).probing) n b'.truth
     b.truth none)
@@ -80,8 +72,7 @@ rendered-alike w Release d n b b' same (inr e) = rw (same.0, same.1, e) refl
 rendered-alike w Grant d n b b' same (inl none) =
     rw (same.0, same.1, same.2) (grant_bytes w b.service (b.source d) b.tracker b'.truth b.truth none)
 rendered-alike w Grant d n b b' same (inr e) = rw (same.0, same.1, same.2, e) refl
-rendered-alike w ReleaseAck d n b b' same bytes = rw same refl
-rendered-alike w GrantAck d n b b' same bytes = rw same refl
+rendered-alike w k d n b b' same bytes = rw same refl
 
 -- ---- an event that changes one block
 
@@ -90,16 +81,14 @@ abbrev pub AreAlike : ℕ → Block (List ℕ) → Block (List ℕ) → Type 0
 AreAlike d b b' = (k : Kind) → shown k d b ≡ true → shown k d b' ≡ true
     → IsAlike k d b b' × ((carries k d b ≡ false) ⊎ (b'.truth ≡ b.truth))
 
-pub showing-block : {w : ℕ} (caching : ℕ → Bool) (n : ℕ) (b' : Block (List ℕ)) (moves : ℕ → Channel → Move)
-    (mail mail' : AccessMessages w) (s s' : State (List ℕ))
-    → IsInvariant caching s → IsInvariant caching s'
+pub showing-block : {w : ℕ} {caching : ℕ → Bool} (n : ℕ) (b' : Block (List ℕ)) (moves : ℕ → Channel → Move)
+    (mail mail' : AccessMessages w) {s s' : State (List ℕ)} → IsInvariant caching s → IsInvariant caching s'
     → ((d : ℕ) → AreMoved (moves d) (s.link d) (s'.link d)) → ((i : ℕ) → s'.block i ≡ set n b' s.block i)
-    → ((d : ℕ) → AreAlike d (s.block n) b')
-    → ((d i : ℕ) → is_asked (s.uses d i) ≡ true → is_asked (s'.uses d i) ≡ true → mail'.request d i ≡ mail.request d i)
+    → ((d : ℕ) → AreAlike d (s.block n) b') → ((d i : ℕ) → is_asked (s.uses d i) ≡ true → is_asked (s'.uses d i) ≡ true
+    → mail'.request d i ≡ mail.request d i)
     → ((d i : ℕ) → is_replied (s.uses d i) ≡ true → is_replied (s'.uses d i) ≡ true
-    → mail'.answer d i ≡ mail.answer d i)
-    → IsShowing caching n moves mail mail' s s'
-showing-block {w} caching n b' moves mail mail' s s' inv inv' moved blocks alike requests answers = record {
+    → mail'.answer d i ≡ mail.answer d i) → IsShowing caching n moves mail mail' s s'
+showing-block {w} n b' moves mail mail' {s} {s'} inv inv' moved blocks alike requests answers = record {
   before = inv;
   after = inv';
   moved = moved;
@@ -115,12 +104,12 @@ showing-block {w} caching n b' moves mail mail' s s' inv inv' moved blocks alike
 -- ---- what carries bytes, by the phase
 
 abbrev pub is_told : ClientBlock → Bool
-is_told p = same_perm (report_left (report_told p.probing)) perm.Trunk || same_perm (prune_left (prune_told p.letting))
-    perm.Trunk
+is_told p = same_perm (report_left (report_told p.probing)) Perm.Trunk || same_perm (prune_left (prune_told p.letting))
+    Perm.Trunk
 
 -- nothing that carries bytes is on its way from or to one who holds Trunk, or of whom nothing is recorded
 untold_test : ClientBlock → View → Bool
-untold_test p v = implies (same_perm p.held perm.Trunk || same_perm p.recorded perm.None)
+untold_test p v = implies (same_perm p.held Perm.Trunk || same_perm p.recorded Perm.None)
     (not (is_told p) && not (is_granting v))
 
 untold_all : each_phase untold_test ≡ true
@@ -128,10 +117,10 @@ unfolding each_phase untold_test
 untold_all = refl
 
 pub untold : (p : ClientBlock) (v : View) → ok p v ≡ true
-    → (same_perm p.held perm.Trunk || same_perm p.recorded perm.None) ≡ true
+    → (same_perm p.held Perm.Trunk || same_perm p.recorded Perm.None) ≡ true
     → (not (is_told p) && not (is_granting v)) ≡ true
 unfolding untold_test
-untold p v h e = implies_is (same_perm p.held perm.Trunk || same_perm p.recorded perm.None)
+untold p v h e = implies_is (same_perm p.held Perm.Trunk || same_perm p.recorded Perm.None)
     (not (is_told p) && not (is_granting v)) (of_phase untold_test untold_all p v h) e
 
 -- nor from one to whom a Grant is on its way
@@ -148,36 +137,28 @@ granted-untold p v h e = implies_is (is_granting v) (not (is_told p)) (of_phase 
 
 -- no message of the block carries its bytes, where nobody told, and no Grant is on its way
 ungiven : (v : Service) → ((d : ℕ) → is_granting (view v d) ≡ false) → is_given v ≡ false
-ungiven Free none = refl
-ungiven (Waits r own source k) none = refl
 ungiven (GrantSent q d k) none = absurd (let e : is_granting (if q == q then Granting d k else GrantedOther) ≡ false =
     none q in let f : true ≡ false = rw (same_number q) at e in cc)
-ungiven (GrantTaken q) none = refl
+ungiven v none = refl
 
 pub uncarried : (k : Kind) (d : ℕ) (b : Block (List ℕ)) → is_told (b.pair d) ≡ false → is_given b.service ≡ false
     → carries k d b ≡ false
 uncarried ProbeAck d b told given =
-    (or_parts (same_perm (report_left (report_told (b.pair d).probing)) perm.Trunk)
-    (same_perm (prune_left (prune_told (b.pair d).letting)) perm.Trunk) told).0
+    (or_parts (same_perm (report_left (report_told (b.pair d).probing)) Perm.Trunk)
+    (same_perm (prune_left (prune_told (b.pair d).letting)) Perm.Trunk) told).0
 uncarried Release d b told given =
-    (or_parts (same_perm (report_left (report_told (b.pair d).probing)) perm.Trunk)
-    (same_perm (prune_left (prune_told (b.pair d).letting)) perm.Trunk) told).1
+    (or_parts (same_perm (report_left (report_told (b.pair d).probing)) Perm.Trunk)
+    (same_perm (prune_left (prune_told (b.pair d).letting)) Perm.Trunk) told).1
 uncarried Grant d b told given = given
-uncarried Request d b told given = refl
-uncarried Acquire d b told given = refl
-uncarried Probe d b told given = refl
-uncarried Answer d b told given = refl
-uncarried ReleaseAck d b told given = refl
-uncarried GrantAck d b told given = refl
+uncarried k d b told given = refl
 
 pub none-carried : (caching : ℕ → Bool) (b : Block (List ℕ)) → IsWell caching b
-    → ((d : ℕ) → (same_perm (b.pair d).held perm.Trunk || same_perm (b.pair d).recorded perm.None) ≡ true)
+    → ((d : ℕ) → (same_perm (b.pair d).held Perm.Trunk || same_perm (b.pair d).recorded Perm.None) ≡ true)
     → (k : Kind) (d : ℕ) → carries k d b ≡ false
 none-carried caching b well low k d =
+    let is : (i : ℕ) → (not (is_told (b.pair i)) && not (is_granting (view b.service i))) ≡ true =
+    λ i. untold (b.pair i) (view b.service i) (well.phases i) (low i) in
     uncarried k d b (not-true (is_told (b.pair d))
     (and_left (not (is_told (b.pair d))) (not (is_granting (view b.service d))) (is d)))
     (ungiven b.service (λ i. not-true (is_granting (view b.service i))
     (and_right (not (is_told (b.pair i))) (not (is_granting (view b.service i))) (is i))))
-  where
-    is : (i : ℕ) → (not (is_told (b.pair i)) && not (is_granting (view b.service i))) ≡ true
-    is i = untold (b.pair i) (view b.service i) (well.phases i) (low i)

@@ -22,4 +22,4 @@ pub carried-shown : {w : ℕ} {caching : ℕ → Bool} {n c : ℕ} {ch : Channel
 carried-shown {caching = caching} {n = n} {c = c} {ch = ch} {pushes = pushes} {mail = mail} {mail' = mail'} {s = s}
     {s' = s'} {sys = sys} {sys' = sys'} {x = x} {queue = queue} width shown taken h =
     carried-event caching n shown.moves mail mail' s s' sys sys' width shown.showing
-    (queued-taken c ch x queue pushes shown.moves mail' s' sys sys' taken shown.fits) h
+    (queued-taken shown.moves mail' s' taken shown.fits) h

@@ -4,14 +4,11 @@ use Rattle.tl_coherence.proofs.queues.Imports.{same_channel}
 use Rattle.std.proofs.Common.{◌≡◌, ℕ, List, [], ◌∷◌, Some, refl}
 use Rattle.std.specs.Prelude.{false, true}
 use Rattle.tl_beat.specs.declared.beat.Link.{Link}
-use Rattle.tl_beat.specs.declared.channel.Channel.TheVariants as channel
-use Rattle.tl_client.specs.declared.operation.Op.{Op}
-use Rattle.tl_client.specs.statement.Ask.{asked}
-use Rattle.tl_client.specs.statement.Offer.{offered}
+use Rattle.tl_client.{specs.declared.operation.Op.Op, specs.statement.Ask.asked, specs.statement.Offer.offered}
 use Rattle.tl_manager.specs.statement.Handing.{Handed}
 use Rattle.tl_manager.specs.statement.Offer as manager
 use Rattle.tl_coherence.specs.declared.event.Event.TheVariants.{Ask, Deliver}
-use Rattle.tl_coherence.specs.declared.event.Outcome.TheVariants as outcome
+use Rattle.tl_coherence.specs.declared.event.Outcome.{Outcome}
 use Rattle.tl_coherence.specs.statement.Step.{stepped, only, replied, client_took, manager_took}
 use Rattle.tl_coherence.specs.statement.System.{with_message, with_messages}
 
@@ -29,23 +26,19 @@ manager-with_messages (x ∷ handed) s = manager-with_messages handed (with_mess
 -- ---- a client is asked
 
 pub stepped-asked : {w : ℕ} (config : Config) (k : ℕ) (op : Op w) (s : System w) (t : EndConfig)
-    → terms_at config k ≡ Some t
-    → stepped config (Ask k op) s ≡ replied k (asked t op (s.clients k)) s
+    → terms_at config k ≡ Some t → stepped config (Ask k op) s ≡ replied k (asked t op (s.clients k)) s
 unfolding stepped
 stepped-asked config k op s t e = rw e refl
 
 pub same_channel-refl : (c : Channel) → same_channel c c ≡ true
-same_channel-refl channel.A = refl
-same_channel-refl channel.B = refl
-same_channel-refl channel.C = refl
-same_channel-refl channel.D = refl
-same_channel-refl channel.E = refl
+same_channel-refl Channel.A = refl
+same_channel-refl c = refl
 
 -- ---- a beat is delivered
 
 pub stepped-empty : {w : ℕ} (config : Config) (link : Link) (ch : Channel) (s : System w) (t : EndConfig)
     → terms_at config link.0 ≡ Some t → s.channels link.0 ch ≡ []
-    → stepped config (Deliver link ch) s ≡ only outcome.Empty s
+    → stepped config (Deliver link ch) s ≡ only Outcome.Empty s
 unfolding stepped
 stepped-empty config link ch s t e none = rw (e, none) refl
 

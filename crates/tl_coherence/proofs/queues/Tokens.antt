@@ -1,6 +1,6 @@
 -- Tokens that are pushed and popped.
 use Rattle.tl_coherence.proofs.queues.Imports.{Kind, ProbeAck, Release, Packet, same_kind, is, one_if, count, set}
-use Rattle.std.proofs.Common.{◌≡◌, refl, ◌∙◌, inl, inr, arith, ap}
+use Rattle.std.proofs.Common.{◌≡◌, refl, ◌∙◌, inl, inr, arith}
 use Rattle.std.specs.Prelude.{ℕ, Bool, true, false, List, [], ◌∷◌, ◌++◌, ◌==◌, ◌+◌}
 use Rattle.std.proofs.lemmas.Bool.{cases_eq, ne_eqb}
 use Rattle.tl_coherence.specs.protocol.Packet.{Holds, IsOrdered, set_at}
@@ -88,33 +88,30 @@ pub holds-first : (k : Kind) (xs rest : List Packet) (x : Packet) (test : ℕ �
     → same_kind x.kind k ≡ true → Holds k xs test → test x.number ≡ true
 unfolding count
 holds-first k xs rest x test e on h =
+    let go : (b : Bool) → one_if b ≡ 1 + count k x.number rest → b ≡ true =
+    elim [ true ↦ λ f. refl | false ↦ λ f. absurd (omega (arith, f)) ] in
     let yes : one_if (is k x.number x) ≡ 1 = rw (on, same_number x.number) refl in
     let all : count k x.number (x ∷ rest) ≡ one_if (test x.number) = rw e at (h x.number) in
     go (test x.number) (omega (arith, all, yes))
-  where
-    go : (b : Bool) → one_if b ≡ 1 + count k x.number rest → b ≡ true
-    go true f = refl
-    go false f = absurd (omega (arith, f))
 
 -- a token of the kind is popped
 pub holds-pop : {B : Type 0} (k : Kind) (xs rest : List Packet) (x : Packet) (q : B → Bool) (f : ℕ → B) (m : ℕ) (y : B)
     → xs ≡ x ∷ rest → same_kind x.kind k ≡ true → x.number ≡ m → q y ≡ false
     → Holds k xs (λ n. q (f n)) → Holds k rest (λ n. q (set m y f n))
 unfolding count
-holds-pop k xs rest x q f m y e on at now h n = elim (cases_eq n m) [
-  | inl same ↦
-      let yes : one_if (is k m x) ≡ 1 = rw (on, at, same_number m) refl in
-      let all : count k m (x ∷ rest) ≡ one_if (q (f m)) = rw e at (h m) in
-      rw (same, set-same m y f, now) (none_left (q (f m)) (count k m rest) (omega (arith, all, yes)))
-  | inr other ↦
-      let no : one_if (is k n x) ≡ 0 = rw (on, at, ne_eqb n m other) refl in
-      let all : count k n (x ∷ rest) ≡ one_if (q (f n)) = rw e at (h n) in
-      rw (set-other m n y f other) (omega (arith, all, no))
-]
-  where
-    none_left : (b : Bool) (n : ℕ) → one_if b ≡ 1 + n → n ≡ 0
-    none_left true n f = omega (arith, f)
-    none_left false n f = absurd (omega (arith, f))
+holds-pop k xs rest x q f m y e on at now h n =
+    let none_left : (b : Bool) (n : ℕ) → one_if b ≡ 1 + n → n ≡ 0 =
+    elim [ true ↦ λ n f. omega (arith, f) | false ↦ λ n f. absurd (omega (arith, f)) ] in
+    elim (cases_eq n m) [
+      | inl same ↦
+          let yes : one_if (is k m x) ≡ 1 = rw (on, at, same_number m) refl in
+          let all : count k m (x ∷ rest) ≡ one_if (q (f m)) = rw e at (h m) in
+          rw (same, set-same m y f, now) (none_left (q (f m)) (count k m rest) (omega (arith, all, yes)))
+      | inr other ↦
+          let no : one_if (is k n x) ≡ 0 = rw (on, at, ne_eqb n m other) refl in
+          let all : count k n (x ∷ rest) ≡ one_if (q (f n)) = rw e at (h n) in
+          rw (set-other m n y f other) (omega (arith, all, no))
+    ]
 
 -- ---- a kind of which there are none
 
@@ -161,5 +158,4 @@ unfolding IsOrdered
 ordered-first b xs rest x e first h = let all : IsOrdered b (x ∷ rest) = rw e at h in all.0 first
 
 pub set_at-same : {X : Type 0} (c source : ℕ) (x : X) (f : ℕ → ℕ → X) → set_at c source x f c source ≡ x
-set_at-same {X} c source x f = ap (λ (g : ℕ → X). g source) (set-same c (set source x (f c)) f) ∙ set-same source x
-    (f c)
+set_at-same {X} c source x f = cc (set-same c (set source x (f c)) f, set-same source x (f c))

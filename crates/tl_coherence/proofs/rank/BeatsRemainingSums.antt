@@ -1,56 +1,43 @@
 -- How many beats are left of what is on the channels: no more than a block has, of a report one unless it is the
 -- writer's,
 -- and of an access and its answer one more than a block has.
-use Rattle.tl_coherence.proofs.rank.Imports.{Beat, Channel, Config, IsInvariant, View, ProbePhase, NoProbe, ProbeSent}
-use Rattle.tl_coherence.proofs.rank.Imports.{ProbeAnswered, State, Asked, Replied, view, AccessMessages, Request}
-use Rattle.tl_coherence.proofs.rank.Imports.{Acquire, ProbeAck, Answer}
+use Rattle.tl_coherence.proofs.rank.Imports.{Beat, Channel, Config, IsInvariant, View, ProbePhase, ProbeAnswered, State}
+use Rattle.tl_coherence.proofs.rank.Imports.{Asked, Replied, view, AccessMessages, Request, Acquire, ProbeAck, Answer}
 use Rattle.std.proofs.Common.{◌≡◌, ℕ, ◌+◌, ◌/◌, ◌≤◌, Bool, true, false, List, [], ◌∷◌, refl, sym, ◌∙◌, arith, inl, inr}
 use Rattle.std.specs.Prelude.{not, ◌==◌, ◌||◌, if◌then◌else◌, Option, Some, None}
 use Rattle.std.proofs.lemmas.Bool.{eqb-true, not-false}
-use Rattle.tl_beat.specs.statement.Width.{IsWidth}
-use Rattle.tl_beat.specs.declared.opcode.OpA.{OpA}
-use Rattle.tl_beat.specs.declared.opcode.OpA.TheVariants as a
-use Rattle.tl_beat.specs.declared.opcode.OpB.TheVariants as opb
-use Rattle.tl_beat.specs.declared.opcode.OpD.{OpD}
-use Rattle.tl_beat.specs.declared.opcode.OpD.TheVariants as d
-use Rattle.tl_beat.specs.statement.Opcode.{a_carries_data, d_carries_data}
-use Rattle.tl_burst.specs.declared.message.Message.{Message}
-use Rattle.tl_burst.specs.declared.message.Message.TheVariants as message
-use Rattle.tl_burst.specs.declared.message.MessageA.{MessageA}
-use Rattle.tl_burst.specs.statement.Burst.{beats_of, data_beats}
-use Rattle.tl_params.specs.declared.level.Level.{Level}
-use Rattle.tl_params.specs.declared.param.Report.{Report}
-use Rattle.tl_params.specs.declared.perm.Perm.{Perm}
-use Rattle.tl_params.specs.declared.perm.Perm.TheVariants as perm
+use Rattle.tl_beat.{specs.statement.Width.IsWidth, specs.declared.opcode.OpA.OpA, specs.declared.opcode.OpB.OpB}
+use Rattle.tl_beat.{specs.declared.opcode.OpD.OpD, specs.statement.Opcode.a_carries_data}
+use Rattle.tl_beat.{specs.statement.Opcode.d_carries_data}
+use Rattle.tl_burst.{specs.declared.message.Message.Message, specs.declared.message.MessageA.MessageA}
+use Rattle.tl_burst.{specs.statement.Burst.beats_of, specs.statement.Burst.data_beats}
+use Rattle.tl_params.{specs.declared.level.Level.Level, specs.declared.param.Report.Report}
+use Rattle.tl_params.{specs.declared.perm.Perm.Perm, specs.statement.Param.report_left}
 use Rattle.tl_params.specs.declared.rule.Rule.TheVariants.{L1, L2, L3}
-use Rattle.tl_params.specs.statement.Param.{report_left}
 use Rattle.tl_rules.specs.statement.Conformance.{answers, same_perm}
 use Rattle.tl_rules.specs.statement.Legality.{is_one_of, a_of_level, a_has_param, a_has_size}
 use Rattle.tl_rules.proofs.Bursts.{control_of_legal, next_rule}
 use Rattle.tl_client.specs.statement.Send.{probe_ack}
-use Rattle.tl_manager.specs.code.Kept.{illegal_message_at}
-use Rattle.tl_manager.specs.statement.Service.{is_access_answer}
-use Rattle.tl_manager.specs.statement.Offer.{level_of}
-use Rattle.tl_coherence.specs.protocol.Phase.{ClientBlock, AcquirePhase, NoAcquire, AcquireOpen, ok}
+use Rattle.tl_manager.{specs.code.Kept.illegal_message_at, specs.statement.Service.is_access_answer}
+use Rattle.tl_manager.{specs.statement.Offer.level_of}
+use Rattle.tl_coherence.specs.protocol.Phase.{ClientBlock, AcquirePhase, AcquireOpen, ok}
 use Rattle.tl_coherence.specs.refinement.PacketMessages.{acquire_of, report_told, block_message, message_of_kind}
 use Rattle.tl_coherence.specs.refinement.SimulationRelation.{IsRequest, IsSourced, IsAnswer, IsAnswered}
-use Rattle.tl_coherence.proofs.queues.PhaseFacts.{data_carried}
-use Rattle.tl_coherence.proofs.protocol.BeatsRemaining.{beats_left, left-few}
-use Rattle.tl_coherence.proofs.queues.Phases.{and_left}
-use Rattle.tl_coherence.proofs.protocol.Room.{beats-few}
-use Rattle.tl_coherence.proofs.rank.Weights.{IsLeft}
+use Rattle.tl_coherence.proofs.{queues.PhaseFacts.data_carried, protocol.BeatsRemaining.beats_left}
+use Rattle.tl_coherence.proofs.{protocol.BeatsRemaining.left-few, queues.Phases.and_left, protocol.Room.beats-few}
+use Rattle.tl_coherence.proofs.{rank.Weights.IsLeft}
 
 -- ---- the answer to a request
 
 abbrev pub is_read : OpA → Bool
-is_read a.ArithmeticData = true
-is_read a.LogicalData = true
-is_read a.Get = true
+is_read OpA.ArithmeticData = true
+is_read OpA.LogicalData = true
+is_read OpA.Get = true
 is_read _ = false
 
 -- the beats of the answer to an access
 abbrev pub answer_beats : {w : ℕ} → Message w → ℕ
-answer_beats {w} (message.A m) = if is_read m.opcode then data_beats w m.size else 1
+answer_beats {w} (Message.A m) = if is_read m.opcode then data_beats w m.size else 1
 answer_beats _ = 1
 
 -- the beats of the answer to each access
@@ -59,15 +46,14 @@ answer_to mail c source = answer_beats (mail.request c source)
 
 -- data have at most a block's beats
 data-few : {w : ℕ} (m : MessageA w) → IsWidth w → data_beats w m.size ≤ 64 / w
-data-few {w} m width = beats-few (message.D (record {
-  opcode = d.AccessAckData;
+data-few {w} m width = beats-few (Message.D (record {
+  opcode = OpD.AccessAckData;
   param = 0;
   size = m.size;
   source = 0;
   sink = 0;
   denied = false;
-  payload =
-      m.payload;
+  payload = m.payload;
   corrupt = 0;
   small = m.small;
 })) width
@@ -79,38 +65,35 @@ wide-block w (inr (inl e)) = rw e (omega arith)
 wide-block w (inr (inr e)) = rw e (omega arith)
 
 pub answer-few : {w : ℕ} (m : Message w) → IsWidth w → answer_beats m ≤ 64 / w
-answer-few {w} (message.A m) width = go (is_read m.opcode)
+answer-few {w} (Message.A m) width = go (is_read m.opcode)
   where
     go : (b : Bool) → (if b then data_beats w m.size else 1) ≤ 64 / w
     go true = data-few m width
     go false = let four = wide-block w width in omega (arith, four)
-answer-few {w} (message.B m) width = let four = wide-block w width in omega (arith, four)
-answer-few {w} (message.C m) width = let four = wide-block w width in omega (arith, four)
-answer-few {w} (message.D m) width = let four = wide-block w width in omega (arith, four)
-answer-few {w} (message.E m) width = let four = wide-block w width in omega (arith, four)
+answer-few {w} m width = let four = wide-block w width in omega (arith, four)
 
 -- an answer has as many beats as its request is answered with
 answer_opcode : (x : OpD) (o : OpA) (n : ℕ) → is_access_answer x ≡ true → answers x o ≡ true
     → (if d_carries_data x then n else 1) ≡ (if is_read o then n else 1)
-answer_opcode d.AccessAck a.PutFullData n e f = refl
-answer_opcode d.AccessAck a.PutPartialData n e f = refl
-answer_opcode d.AccessAckData a.ArithmeticData n e f = refl
-answer_opcode d.AccessAckData a.LogicalData n e f = refl
-answer_opcode d.AccessAckData a.Get n e f = refl
-answer_opcode d.HintAck a.Intent n e f = refl
+answer_opcode OpD.AccessAck OpA.PutFullData n e f = refl
+answer_opcode OpD.AccessAck OpA.PutPartialData n e f = refl
+answer_opcode OpD.AccessAckData OpA.ArithmeticData n e f = refl
+answer_opcode OpD.AccessAckData OpA.LogicalData n e f = refl
+answer_opcode OpD.AccessAckData OpA.Get n e f = refl
+answer_opcode OpD.HintAck OpA.Intent n e f = refl
 answer_opcode _ _ n e f = absurd cc
 
 pub answer-is : {w : ℕ} (source : ℕ) (m x : Message w) → IsAnswer source m x → beats_of x ≡ answer_beats m
-answer-is {w} source (message.A m) (message.D x) h =
+answer-is {w} source (Message.A m) (Message.D x) h =
     rw h.3 (answer_opcode x.opcode m.opcode (data_beats w m.size) h.0 h.1)
-answer-is source (message.A m) (message.A x) h = absurd h
-answer-is source (message.A m) (message.B x) h = absurd h
-answer-is source (message.A m) (message.C x) h = absurd h
-answer-is source (message.A m) (message.E x) h = absurd h
-answer-is source (message.B m) x h = absurd h
-answer-is source (message.C m) x h = absurd h
-answer-is source (message.D m) x h = absurd h
-answer-is source (message.E m) x h = absurd h
+answer-is source (Message.A m) (Message.A x) h = absurd h
+answer-is source (Message.A m) (Message.B x) h = absurd h
+answer-is source (Message.A m) (Message.C x) h = absurd h
+answer-is source (Message.A m) (Message.E x) h = absurd h
+answer-is source (Message.B m) x h = absurd h
+answer-is source (Message.C m) x h = absurd h
+answer-is source (Message.D m) x h = absurd h
+answer-is source (Message.E m) x h = absurd h
 
 -- ---- an access and its answer
 
@@ -130,19 +113,18 @@ atomic-few w size width e = go (size == 2) (size == 3) refl refl e
 
 both-few : (w size : ℕ) (l : Level) (o : OpA) → IsWidth w → a_has_size w l o size ≡ true → data_beats w size ≤ 64 / w
     → (if a_carries_data o then data_beats w size else 1) + (if is_read o then data_beats w size else 1) ≤ 64 / w + 1
-both-few w size l a.PutFullData width e few = omega (arith, few)
-both-few w size l a.PutPartialData width e few = omega (arith, few)
-both-few w size l a.ArithmeticData width e few = let two = atomic-few w size width e in let four = wide-block w width in
+both-few w size l OpA.ArithmeticData width e few = let two = atomic-few w size width e in let four =
+    wide-block w width in
     omega (arith, two, four)
-both-few w size l a.LogicalData width e few = let two = atomic-few w size width e in let four = wide-block w width in
+both-few w size l OpA.LogicalData width e few = let two = atomic-few w size width e in let four = wide-block w width in
     omega (arith, two, four)
-both-few w size l a.Get width e few = omega (arith, few)
-both-few w size l a.Intent width e few = let four = wide-block w width in omega (arith, four)
-both-few w size l a.AcquireBlock width e few = let four = wide-block w width in omega (arith, four)
-both-few w size l a.AcquirePerm width e few = let four = wide-block w width in omega (arith, four)
+both-few w size l OpA.Intent width e few = let four = wide-block w width in omega (arith, four)
+both-few w size l OpA.AcquireBlock width e few = let four = wide-block w width in omega (arith, four)
+both-few w size l OpA.AcquirePerm width e few = let four = wide-block w width in omega (arith, four)
+both-few w size l o width e few = omega (arith, few)
 
-access_at : {w : ℕ} (o : Option Level) (m : MessageA w) → IsWidth w → illegal_message_at o (message.A m) ≡ None
-    → beats_of (message.A m) + answer_beats (message.A m) ≤ 64 / w + 1
+access_at : {w : ℕ} (o : Option Level) (m : MessageA w) → IsWidth w → illegal_message_at o (Message.A m) ≡ None
+    → beats_of (Message.A m) + answer_beats (Message.A m) ≤ 64 / w + 1
 access_at None m width e = absurd cc
 access_at {w} (Some l) m width e =
     let control = control_of_legal l m width e in
@@ -153,41 +135,33 @@ access_at {w} (Some l) m width e =
 
 pub access-few : {w : ℕ} (config : Config) (c source : ℕ) (m : Message w) → IsWidth w → IsRequest config c source m
     → beats_of m + answer_beats m ≤ 64 / w + 1
-access-few config c source (message.A m) width h = access_at (level_of config c) m width h.1
-access-few config c source (message.B m) width h = absurd (let no = h.0 in cc)
-access-few config c source (message.C m) width h = absurd (let no = h.0 in cc)
-access-few config c source (message.D m) width h = absurd (let no = h.0 in cc)
-access-few config c source (message.E m) width h = absurd (let no = h.0 in cc)
+access-few config c source (Message.A m) width h = access_at (level_of config c) m width h.1
+access-few config c source m width h = absurd (let no = h.0 in cc)
 
 -- ---- an Acquire, and a report
 
 acquire-one : (w : ℕ) (x : AcquirePhase) (source n : ℕ) → beats_of (acquire_of {w = w} x source n) ≡ 1
 acquire-one w (AcquireOpen true g) source n = refl
-acquire-one w (AcquireOpen false g) source n = refl
-acquire-one w NoAcquire source n = refl
+acquire-one w x source n = refl
 
-report-one : (w : ℕ) (p : Perm) (r : Report) (n : ℕ) (bytes : List ℕ) → same_perm p perm.Trunk ≡ false
-    → beats_of (probe_ack {w = w} opb.ProbeBlock p r n bytes) ≡ 1
-report-one w perm.None r n bytes e = refl
-report-one w perm.Branch r n bytes e = refl
-report-one w perm.Trunk r n bytes e = absurd cc
+report-one : (w : ℕ) (p : Perm) (r : Report) (n : ℕ) (bytes : List ℕ) → same_perm p Perm.Trunk ≡ false
+    → beats_of (probe_ack {w = w} OpB.ProbeBlock p r n bytes) ≡ 1
+report-one w Perm.Trunk r n bytes e = absurd cc
+report-one w p r n bytes e = refl
 
-untold : (p : ClientBlock) (v : View) → ok p v ≡ true → same_perm p.recorded perm.Trunk ≡ false
-    → same_perm (report_left (report_told p.probing)) perm.Trunk ≡ false
-untold p v h none = go p.probing refl
+untold : (p : ClientBlock) (v : View) → ok p v ≡ true → same_perm p.recorded Perm.Trunk ≡ false
+    → same_perm (report_left (report_told p.probing)) Perm.Trunk ≡ false
+untold p v h none =
+    let go : (x : ProbePhase) → p.probing ≡ x → same_perm (report_left (report_told x)) Perm.Trunk ≡ false =
+    elim [ ProbeAnswered r ↦ λ e. answered r e (same_perm (report_left r) Perm.Trunk) refl | x ↦ λ e. refl ] in
+    go p.probing refl
   where
-    answered : (r : Report) → p.probing ≡ ProbeAnswered r → (b : Bool) → same_perm (report_left r) perm.Trunk ≡ b
+    answered : (r : Report) → p.probing ≡ ProbeAnswered r → (b : Bool) → same_perm (report_left r) Perm.Trunk ≡ b
         → b ≡ false
     answered r e false f = refl
     answered r e true f =
-        let recorded : same_perm p.recorded perm.Trunk ≡ true =
-        and_left (same_perm p.recorded perm.Trunk) _ (data_carried p v h (rw e f)) in
+        let recorded = and_left (same_perm p.recorded Perm.Trunk) _ (data_carried p v h (rw e f)) in
         absurd (let both : false ≡ true = sym none ∙ recorded in cc)
-
-    go : (x : ProbePhase) → p.probing ≡ x → same_perm (report_left (report_told x)) perm.Trunk ≡ false
-    go NoProbe e = refl
-    go (ProbeSent k) e = refl
-    go (ProbeAnswered r) e = answered r e (same_perm (report_left r) perm.Trunk) refl
 
 -- ---- all
 
@@ -217,8 +191,7 @@ module _ {w : ℕ} (config : Config) (caching : ℕ → Bool) (mail : AccessMess
 
   -- what is left of an answer
   pub answer-left : (c source : ℕ) → IsAnswered source (mail.request c source) (mail.answer c source) (s.uses c source)
-      → s.uses c source ≡ Replied
-      → beats_left mail s rest c Answer source ≤ answer_to mail c source
+      → s.uses c source ≡ Replied → beats_left mail s rest c Answer source ≤ answer_to mail c source
   answer-left c source answered replied =
       let all = left-few mail s rest c Answer source in
       let it : IsAnswered source (mail.request c source) (mail.answer c source) Replied = rw replied at answered in

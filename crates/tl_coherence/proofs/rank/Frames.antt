@@ -1,25 +1,20 @@
 -- What is owed for what an event leaves alone.
-use Rattle.tl_coherence.proofs.rank.Imports.{Beat, Channel, Config, IsInvariant, View, Idle, Own, Other, Granting}
-use Rattle.tl_coherence.proofs.rank.Imports.{Acknowledging, GrantedOther, ProbePhase, NoProbe, ProbeSent, ProbeAnswered}
-use Rattle.tl_coherence.proofs.rank.Imports.{Left, pair_weight, probes_weight, acquire_weight, letting_weight}
-use Rattle.tl_coherence.proofs.rank.Imports.{let_weight, State, Asked, InService, Replied, Acquires, view}
-use Rattle.tl_coherence.proofs.rank.Imports.{AccessMessages, Request, Acquire, ProbeAck, Release, Answer, Grant}
+use Rattle.tl_coherence.proofs.rank.Imports.{Beat, Channel, Config, IsInvariant, View, Own, Granting, ProbePhase}
+use Rattle.tl_coherence.proofs.rank.Imports.{ProbeAnswered, Left, pair_weight, probes_weight, acquire_weight}
+use Rattle.tl_coherence.proofs.rank.Imports.{letting_weight, let_weight, State, Asked, InService, Replied, Acquires}
+use Rattle.tl_coherence.proofs.rank.Imports.{view, AccessMessages, Request, Acquire, ProbeAck, Release, Answer, Grant}
 use Rattle.std.proofs.Common.{◌≡◌, ℕ, ◌+◌, ◌<◌, ◌≤◌, Bool, true, false, List, refl, sym, ◌∙◌, arith, ◌⊎◌, inl, inr}
 use Rattle.std.specs.Prelude.{Option, Some, None}
 use Rattle.std.proofs.lemmas.Bool.{cases_eq, and_from}
-use Rattle.tl_coherence.specs.protocol.Invariant.{is_asked, is_replied}
-use Rattle.tl_coherence.specs.refinement.Move.{Move}
-use Rattle.tl_coherence.specs.protocol.Phase.{ReleasePhase, NoRelease, ReleaseSent, ReleaseAcked}
-use Rattle.tl_coherence.specs.bound.Rank.{probing_weight}
+use Rattle.tl_coherence.specs.{protocol.Invariant.is_asked, protocol.Invariant.is_replied, refinement.Move.Move}
+use Rattle.tl_coherence.specs.{protocol.Phase.ReleasePhase, protocol.Phase.ReleaseSent, bound.Rank.probing_weight}
+use Rattle.tl_coherence.specs.{protocol.Packet.Kind}
 use Rattle.tl_coherence.specs.protocol.Tokens.{is_wanting, is_unserved, shown}
 use Rattle.tl_manager.specs.laws.Pending.{one_if}
-use Rattle.tl_coherence.specs.protocol.Packet.{Kind}
-use Rattle.tl_coherence.proofs.queues.Channels.{IsShowing}
+use Rattle.tl_coherence.proofs.{queues.Channels.IsShowing, queues.Phases.and_left, queues.Tokens.same_number}
 use Rattle.tl_coherence.proofs.rank.RankDecreases.{owed_use, owed_use', owed_let, owed_let', clients, use-no-more}
 use Rattle.tl_coherence.proofs.rank.RankDecreases.{probes-no-more}
 use Rattle.tl_coherence.proofs.protocol.BeatsRemaining.{IsHere, IsPopped, beats_left, left-same}
-use Rattle.tl_coherence.proofs.queues.Phases.{and_left}
-use Rattle.tl_coherence.proofs.queues.Tokens.{same_number}
 
 -- ---- what is shown is there
 
@@ -47,19 +42,16 @@ module _ {X : Type 0} (caching : ℕ → Bool) (s : State X) (inv : IsInvariant 
   release-here d m e = here_if (shown Release d (s.block m)) _ (inv.transfers d Release refl m) e
 
 -- the Acquire with a source is one that its block has
-pub wants-used : {X : Type 0} (caching : ℕ → Bool) (s : State X) → IsInvariant caching s → (d i m : ℕ)
+pub wants-used : {X : Type 0} {caching : ℕ → Bool} {s : State X} → IsInvariant caching s → (d i m : ℕ)
     → s.uses d i ≡ Acquires m → is_wanting ((s.block m).pair d).acquiring ≡ true
-wants-used caching s inv d i m e = and_left (is_wanting ((s.block m).pair d).acquiring) _
+wants-used {s} inv d i m e = and_left (is_wanting ((s.block m).pair d).acquiring) _
     (sym (inv.named.acquires d i m) ∙ rw e (same_number m))
 
 -- an Acquire that isn't served
 pub unserved-weight : (n a g p : ℕ) (v : View) → is_unserved v ≡ true → acquire_weight n a g p v ≡ a + n + 32
 unserved-weight n a g p Own e = absurd cc
 unserved-weight n a g p (Granting d k) e = absurd cc
-unserved-weight n a g p Idle e = refl
-unserved-weight n a g p (Other k) e = refl
-unserved-weight n a g p Acknowledging e = refl
-unserved-weight n a g p GrantedOther e = refl
+unserved-weight n a g p v e = refl
 
 -- ---- a block of which all that counts is as before
 
@@ -86,40 +78,30 @@ module _ {w : ℕ} (config : Config) (caching : ℕ → Bool) (n : ℕ) (moves :
       go : (x : ProbePhase) → ((s.block m).pair d).probing ≡ x
           → probing_weight size (left' d ProbeAck m) ((s.block m).pair d).recorded x ≤ probing_weight size
           (left d ProbeAck m) ((s.block m).pair d).recorded x
-      go NoProbe e = omega arith
-      go (ProbeSent k) e = omega arith
       go (ProbeAnswered r) e = same d ProbeAck m (report-here caching s showing.before d m (rw e refl))
           (report-here caching s' showing.after d m (rw (probing, e) refl))
+      go x e = omega arith
 
   -- an Acquire that is served as before
-  pub acquire-stays : (d m : ℕ) → is_wanting ((s.block m).pair d).acquiring ≡ true
-      → ((s'.block m).pair d).acquiring ≡ ((s.block m).pair d).acquiring
-      → view (s'.block m).service d ≡ view (s.block m).service d
-      → probes_weight (clients config size left left' answer answer s s') size left' m (s'.block m) ≤ probes_weight
-      (clients config size left left' answer answer s s') size left m (s.block m)
+  pub acquire-stays : (d m : ℕ) → is_wanting ((s.block m).pair d).acquiring ≡ true → ((s'.block m).pair d).acquiring
+      ≡ ((s.block m).pair d).acquiring → view (s'.block m).service d ≡ view (s.block m).service d
+      → probes_weight (clients config size left left' answer answer s s') size left' m (s'.block m)
+      ≤ probes_weight (clients config size left left' answer answer s s') size left m (s.block m)
       → acquire_weight size (left' d Acquire m) (left' d Grant m)
       (probes_weight (clients config size left left' answer answer s s') size left' m (s'.block m))
-      (view (s'.block m).service d)
-      ≤ acquire_weight size (left d Acquire m) (left d Grant m)
+      (view (s'.block m).service d) ≤ acquire_weight size (left d Acquire m) (left d Grant m)
       (probes_weight (clients config size left left' answer answer s s') size left m (s.block m))
       (view (s.block m).service d)
   acquire-stays d m wants acquiring viewed probes = rw viewed (go (view (s.block m).service d) refl)
     where
-      go : (v : View) → view (s.block m).service d ≡ v
-          → acquire_weight size (left' d Acquire m) (left' d Grant m)
+      go : (v : View) → view (s.block m).service d ≡ v → acquire_weight size (left' d Acquire m) (left' d Grant m)
           (probes_weight (clients config size left left' answer answer s s') size left' m (s'.block m)) v
           ≤ acquire_weight size (left d Acquire m) (left d Grant m)
           (probes_weight (clients config size left left' answer answer s s') size left m (s.block m)) v
       go Own e = omega (arith, probes)
       go (Granting x k) e = let g = same d Grant m (grant-here caching s showing.before d m (rw e refl))
           (grant-here caching s' showing.after d m (rw (viewed, e) refl)) in omega (arith, g)
-      go Idle e = let a = same d Acquire m (acquire-here caching s showing.before d m (rw (e, wants) refl))
-          (acquire-here caching s' showing.after d m (rw (viewed, e, acquiring, wants) refl)) in omega (arith, a)
-      go (Other k) e = let a = same d Acquire m (acquire-here caching s showing.before d m (rw (e, wants) refl))
-          (acquire-here caching s' showing.after d m (rw (viewed, e, acquiring, wants) refl)) in omega (arith, a)
-      go Acknowledging e = let a = same d Acquire m (acquire-here caching s showing.before d m (rw (e, wants) refl))
-          (acquire-here caching s' showing.after d m (rw (viewed, e, acquiring, wants) refl)) in omega (arith, a)
-      go GrantedOther e = let a = same d Acquire m (acquire-here caching s showing.before d m (rw (e, wants) refl))
+      go v e = let a = same d Acquire m (acquire-here caching s showing.before d m (rw (e, wants) refl))
           (acquire-here caching s' showing.after d m (rw (viewed, e, acquiring, wants) refl)) in omega (arith, a)
 
   -- a Release that is as before
@@ -130,10 +112,9 @@ module _ {w : ℕ} (config : Config) (caching : ℕ → Bool) (n : ℕ) (moves :
     where
       go : (x : ReleasePhase) → ((s.block m).pair d).letting ≡ x → letting_weight (left' d Release m) x ≤ letting_weight
           (left d Release m) x
-      go NoRelease e = omega arith
       go (ReleaseSent r) e = let a = same d Release m (release-here caching s showing.before d m (rw e refl))
           (release-here caching s' showing.after d m (rw (letting, e) refl)) in omega (arith, a)
-      go ReleaseAcked e = omega arith
+      go x e = omega arith
 
   -- ---- all requests and Releases, given those of the block that changes
 
@@ -147,9 +128,8 @@ module _ {w : ℕ} (config : Config) (caching : ℕ → Bool) (n : ℕ) (moves :
         → probes_weight number size left' n (s'.block n) ≤ probes_weight number size left n (s.block n)
     pub acquires : (d i : ℕ) → s.uses d i ≡ Acquires n → s'.uses d i ≡ Acquires n
         → acquire_weight size (left' d Acquire n) (left' d Grant n) (probes_weight number size left' n (s'.block n))
-        (view (s'.block n).service d)
-        ≤ acquire_weight size (left d Acquire n) (left d Grant n) (probes_weight number size left n (s.block n))
-        (view (s.block n).service d)
+        (view (s'.block n).service d) ≤ acquire_weight size (left d Acquire n) (left d Grant n)
+        (probes_weight number size left n (s.block n)) (view (s.block n).service d)
     pub lets : (d i : ℕ) → s.lets d i ≡ Some n → s'.lets d i ≡ Some n
         → letting_weight (left' d Release n) ((s'.block n).pair d).letting ≤ letting_weight (left d Release n)
         ((s.block n).pair d).letting
@@ -163,14 +143,13 @@ module _ {w : ℕ} (config : Config) (caching : ℕ → Bool) (n : ℕ) (moves :
   pub unserved-stays : (d i m : ℕ) → s.uses d i ≡ Acquires m → s'.uses d i ≡ Acquires m
       → is_unserved (view (s.block m).service d) ≡ true → is_unserved (view (s'.block m).service d) ≡ true
       → acquire_weight size (left' d Acquire m) (left' d Grant m) (probes_weight number size left' m (s'.block m))
-      (view (s'.block m).service d)
-      ≤ acquire_weight size (left d Acquire m) (left d Grant m) (probes_weight number size left m (s.block m))
-      (view (s.block m).service d)
+      (view (s'.block m).service d) ≤ acquire_weight size (left d Acquire m) (left d Grant m)
+      (probes_weight number size left m (s.block m)) (view (s.block m).service d)
   unserved-stays d i m e f before after =
       let a = same d Acquire m
-      (acquire-here caching s showing.before d m (and_from _ _ (wants-used caching s showing.before d i m e)
+      (acquire-here caching s showing.before d m (and_from _ _ (wants-used showing.before d i m e)
       before))
-      (acquire-here caching s' showing.after d m (and_from _ _ (wants-used caching s' showing.after d i m f) after)) in
+      (acquire-here caching s' showing.after d m (and_from _ _ (wants-used showing.after d i m f) after)) in
       rw (
         unserved-weight size (left' d Acquire m) (left' d Grant m) (probes_weight number size left' m (s'.block m))
             (view (s'.block m).service d) after,
@@ -197,25 +176,23 @@ module _ {w : ℕ} (config : Config) (caching : ℕ → Bool) (n : ℕ) (moves :
 
         acquire : (m : ℕ) → s.uses d i ≡ Acquires m → (m ≡ n) ⊎ (m ≡ n → ⊥)
             → acquire_weight size (left' d Acquire m) (left' d Grant m) (probes_weight number size left' m (s'.block m))
-            (view (s'.block m).service d)
-            ≤ acquire_weight size (left d Acquire m) (left d Grant m) (probes_weight number size left m (s.block m))
-            (view (s.block m).service d)
+            (view (s'.block m).service d) ≤ acquire_weight size (left d Acquire m) (left d Grant m)
+            (probes_weight number size left m (s.block m)) (view (s.block m).service d)
         acquire m u (inl is) = rw is (block.acquires d i (rw is at u) (rw is at (e ∙ u)))
-        acquire m u (inr other) = acquire-stays d m (wants-used caching s showing.before d i m u)
+        acquire m u (inr other) = acquire-stays d m (wants-used showing.before d i m u)
             (rw (showing.blocks m other) refl) (rw (showing.blocks m other) refl) (probes-else m other)
 
     -- a Release that is of its block as before
     pub let-all : (d i : ℕ) → s'.lets d i ≡ s.lets d i → owed_let' config size left left' answer answer s s' d
         i ≤ owed_let config size left left' answer answer s s' d i
-    let-all d i e = go (s.lets d i) refl e
+    let-all d i e =
+        let go : (o : Option ℕ) → s.lets d i ≡ o → s'.lets d i ≡ o → let_weight left' s' d (s'.lets d i)
+        ≤ let_weight left s d (s.lets d i) =
+        elim [ None ↦ λ f g. rw (f, g) (omega arith) | Some m ↦ λ f g. rw (f, g) (at m f g (cases_eq m n)) ] in
+        go (s.lets d i) refl e
       where
         at : (m : ℕ) → s.lets d i ≡ Some m → s'.lets d i ≡ Some m → (m ≡ n) ⊎ (m ≡ n → ⊥)
             → letting_weight (left' d Release m) ((s'.block m).pair d).letting ≤ letting_weight (left d Release m)
             ((s.block m).pair d).letting
         at m f g (inl is) = rw is (block.lets d i (rw is at f) (rw is at g))
         at m f g (inr other) = let-stays d m (rw (showing.blocks m other) refl)
-
-        go : (o : Option ℕ) → s.lets d i ≡ o → s'.lets d i ≡ o → let_weight left' s' d (s'.lets d i) ≤ let_weight left s
-            d (s.lets d i)
-        go None f g = rw (f, g) (omega arith)
-        go (Some m) f g = rw (f, g) (at m f g (cases_eq m n))

@@ -1,11 +1,10 @@
 -- The potential falls where what is owed falls at one client and rises nowhere.
-use Rattle.tl_coherence.proofs.rank.Imports.{Config, sources_of, View, Idle, Own, Other, Granting, Acknowledging}
-use Rattle.tl_coherence.proofs.rank.Imports.{GrantedOther, Left, pair_weight, probes_weight, acquire_weight, let_weight}
-use Rattle.tl_coherence.proofs.rank.Imports.{rank, State, SourceState, SourceFree, Asked, InService, Replied, Acquires}
-use Rattle.tl_coherence.proofs.rank.Imports.{view, terms_at, Request, Acquire, Answer, Grant}
+use Rattle.tl_coherence.proofs.rank.Imports.{Config, sources_of, View, Own, Granting, Left, pair_weight, probes_weight}
+use Rattle.tl_coherence.proofs.rank.Imports.{acquire_weight, let_weight, rank, State, SourceState, SourceFree, Asked}
+use Rattle.tl_coherence.proofs.rank.Imports.{InService, Replied, Acquires, view, terms_at, Request, Acquire, Answer}
+use Rattle.tl_coherence.proofs.rank.Imports.{Grant}
 use Rattle.std.proofs.Common.{◌≡◌, ℕ, zero, suc, ◌+◌, ◌<◌, ◌≤◌, true, refl, arith, ◌⊎◌, inl, inr}
-use Rattle.std.specs.Prelude.{length}
-use Rattle.std.proofs.lemmas.Bool.{cases_eq}
+use Rattle.std.{specs.Prelude.length, proofs.lemmas.Bool.cases_eq}
 use Rattle.tl_coherence.specs.bound.Rank.{total, use_weight, client_weight}
 use Rattle.tl_coherence.specs.protocol.Tokens.{is_unserved}
 use Rattle.tl_coherence.proofs.queues.Sums.{total-le}
@@ -55,8 +54,7 @@ module _ {X : Type 0} (config : Config) (n : ℕ) (left left' : Left) (answer an
       → ((d : ℕ) → client_weight clients n left' answer' s' (sources_of (terms_at config d)) d ≤ client_weight clients n
       left answer s (sources_of (terms_at config d)) d)
       → client_weight clients n left' answer' s' (sources_of (terms_at config c)) c + 1 ≤ client_weight clients n left
-      answer s (sources_of (terms_at config c)) c
-      → rank config n left' answer' s' + 1 ≤ rank config n left answer s
+      answer s (sources_of (terms_at config c)) c → rank config n left' answer' s' + 1 ≤ rank config n left answer s
   falls c lt le less =
       total-falls clients c 1 (λ d. client_weight clients n left answer s (sources_of (terms_at config d)) d)
       (λ d. client_weight clients n left' answer' s' (sources_of (terms_at config d)) d) lt (λ d h. le d) less
@@ -86,8 +84,7 @@ module _ {X : Type 0} (config : Config) (n : ℕ) (left left' : Left) (answer an
 
   -- what is owed for one Release falls
   pub let-falls : (c i : ℕ) → c < clients → i < sources_of (terms_at config c) → IsNoMore
-      → owed_let' c i + 1 ≤ owed_let c i
-      → rank config n left' answer' s' + 1 ≤ rank config n left answer s
+      → owed_let' c i + 1 ≤ owed_let c i → rank config n left' answer' s' + 1 ≤ rank config n left answer s
   let-falls c i lt below is less =
       let uses = total-le (sources_of (terms_at config c)) (owed_use' c) (owed_use c) (λ j h. is.uses c j) in
       let lets = total-falls (sources_of (terms_at config c)) i 1 (owed_let c) (owed_let' c) below (λ j h. is.lets c j)
@@ -149,8 +146,7 @@ module _ {X : Type 0} (config : Config) (n : ℕ) (left left' : Left) (answer an
   -- Probes and reports, pair by pair
   pub probes-no-more : (m : ℕ)
       → ((d : ℕ) → d < clients → pair_weight n left' m d ((s'.block m).pair d) ≤ pair_weight n left m d
-      ((s.block m).pair d))
-      → probes_weight clients n left' m (s'.block m) ≤ probes_weight clients n left m (s.block m)
+      ((s.block m).pair d)) → probes_weight clients n left' m (s'.block m) ≤ probes_weight clients n left m (s.block m)
   probes-no-more m le = total-le clients (λ d. pair_weight n left' m d ((s'.block m).pair d))
       (λ d. pair_weight n left m d ((s.block m).pair d)) le
 
@@ -159,7 +155,4 @@ pub acquire-no-more : (n a a' g g' p p' : ℕ) (v : View) → (is_unserved v ≡
     → acquire_weight n a' g' p' v ≤ acquire_weight n a g p v
 acquire-no-more n a a' g g' p p' Own ha hg hp = omega (arith, hp)
 acquire-no-more n a a' g g' p p' (Granting d k) ha hg hp = omega (arith, hg)
-acquire-no-more n a a' g g' p p' Idle ha hg hp = let h = ha refl in omega (arith, h)
-acquire-no-more n a a' g g' p p' (Other k) ha hg hp = let h = ha refl in omega (arith, h)
-acquire-no-more n a a' g g' p p' Acknowledging ha hg hp = let h = ha refl in omega (arith, h)
-acquire-no-more n a a' g g' p p' GrantedOther ha hg hp = let h = ha refl in omega (arith, h)
+acquire-no-more n a a' g g' p p' v ha hg hp = let h = ha refl in omega (arith, h)

@@ -1,27 +1,23 @@
 -- What is owed falls with each delivery: block by block.
 use Rattle.tl_coherence.proofs.rank.Imports.{Beat, Channel, Config, sources_of, IsInvariant, Own, Granting}
 use Rattle.tl_coherence.proofs.rank.Imports.{Acknowledging, GrantedOther, Left, pair_weight, probes_weight}
-use Rattle.tl_coherence.proofs.rank.Imports.{letting_weight, rank, State, SourceState, SourceFree, Asked, InService}
-use Rattle.tl_coherence.proofs.rank.Imports.{Replied, Acquires, view, AccessMessages, terms_at, Release}
+use Rattle.tl_coherence.proofs.rank.Imports.{letting_weight, rank, State, SourceState, SourceFree, InService, Acquires}
+use Rattle.tl_coherence.proofs.rank.Imports.{view, AccessMessages, terms_at, Release}
 use Rattle.std.proofs.Common.{◌≡◌, ℕ, ◌+◌, ◌<◌, ◌≤◌, Bool, true, false, List, refl, sym, ◌∙◌, ap, arith, ◌⊎◌, inl, inr}
 use Rattle.std.specs.Prelude.{◌==◌, if◌then◌else◌, Some, length}
 use Rattle.std.proofs.lemmas.Bool.{cases_eq, eqb-true}
 use Rattle.tl_params.specs.declared.param.Cap.{Cap}
-use Rattle.tl_coherence.specs.protocol.Invariant.{serves_of, serves_with}
-use Rattle.tl_coherence.specs.refinement.Move.{Move}
-use Rattle.tl_coherence.specs.protocol.Phase.{is_unprobed}
+use Rattle.tl_coherence.specs.{protocol.Invariant.serves_of, protocol.Invariant.serves_with, refinement.Move.Move}
+use Rattle.tl_coherence.specs.{protocol.Phase.is_unprobed}
 use Rattle.tl_coherence.specs.protocol.Protocol.{Service, Free, Waits, GrantSent, GrantTaken}
-use Rattle.tl_coherence.proofs.protocol.TokenNames.{source_of_acquire}
-use Rattle.tl_coherence.proofs.queues.Channels.{IsShowing}
+use Rattle.tl_coherence.proofs.{protocol.TokenNames.source_of_acquire, queues.Channels.IsShowing}
+use Rattle.tl_coherence.proofs.{protocol.BeatsRemaining.IsPopped, protocol.BeatsRemaining.beats_left}
+use Rattle.tl_coherence.proofs.{queues.Sums.total-le, queues.Tokens.same_number, queues.Facts.is_other}
 use Rattle.tl_coherence.proofs.rank.RankDecreases.{IsNoMore, owed_use, owed_use', owed_let, owed_let', clients}
 use Rattle.tl_coherence.proofs.rank.RankDecreases.{use-falls, let-falls, ack-falls, grant-falls, total-falls}
 use Rattle.tl_coherence.proofs.rank.Frames.{IsBlockNoMore, acquire-stays, use-stays, let-all, let-stays, pair-stays}
 use Rattle.tl_coherence.proofs.rank.Frames.{wants-used}
-use Rattle.tl_coherence.proofs.protocol.BeatsRemaining.{IsPopped, beats_left}
 use Rattle.tl_coherence.proofs.protocol.QuiescentProtocol.{owns_ask, serves_another}
-use Rattle.tl_coherence.proofs.queues.Sums.{total-le}
-use Rattle.tl_coherence.proofs.queues.Tokens.{same_number}
-use Rattle.tl_coherence.proofs.queues.Facts.{is_other}
 
 -- who has something open is a client, with a source of its own
 pub record AreClients {X : Type 0} (config : Config) (s : State X) : Type 0 where
@@ -34,33 +30,26 @@ pub record AreClients {X : Type 0} (config : Config) (s : State X) : Type 0 wher
 pub serving-use : {X : Type 0} (caching : ℕ → Bool) (s : State X) (n q source : ℕ) (k : Cap) → IsInvariant caching s
     → (s.block n).service ≡ Waits q false source k → s.uses q source ≡ InService n
 serving-use caching s n q source k inv e =
+    let is_serving : (u : SourceState) (m : ℕ) → serves_of m u ≡ true → u ≡ InService m =
+    elim [ InService j ↦ λ m h. ap InService (sym (eqb-true m j h)) | u ↦ λ m h. absurd cc ] in
     let it : serves_with q source (s.block n) ≡ true = rw (e, same_number q, same_number source) refl in
     is_serving (s.uses q source) n (inv.named.serves q source n ∙ it)
-  where
-    is_serving : (u : SourceState) (m : ℕ) → serves_of m u ≡ true → u ≡ InService m
-    is_serving (InService j) m h = ap InService (sym (eqb-true m j h))
-    is_serving SourceFree m h = absurd cc
-    is_serving Asked m h = absurd cc
-    is_serving Replied m h = absurd cc
-    is_serving (Acquires j) m h = absurd cc
 
 -- the source of the request for which a block waits
 pub record IsAsking {X : Type 0} (n q : ℕ) (own : Bool) (source : ℕ) (s : State X) : Type 0 where
   pub at : ℕ
   pub used : s.uses q at ≡ (if own then Acquires n else InService n)
 
-pub asking : {X : Type 0} (caching : ℕ → Bool) (s : State X) (n q : ℕ) (own : Bool) (source : ℕ) (k : Cap)
-    → IsInvariant caching s
-    → (s.block n).service ≡ Waits q own source k → IsAsking n q own source s
-asking caching s n q true source k inv e =
+pub asking : {X : Type 0} {caching : ℕ → Bool} {s : State X} (n q : ℕ) (own : Bool) (source : ℕ) (k : Cap)
+    → IsInvariant caching s → (s.block n).service ≡ Waits q own source k → IsAsking n q own source s
+asking {caching} {s} n q true source k inv e =
     let viewed : view (s.block n).service q ≡ Own = rw (e, same_number q) refl in
     record {
       at = (s.block n).source q;
-      used =
-          source_of_acquire caching s q n inv (owns_ask ((s.block n).pair q) (view (s.block n).service q)
+      used = source_of_acquire q n inv (owns_ask ((s.block n).pair q) (view (s.block n).service q)
           ((inv.blocks n).phases q) (rw viewed refl));
     }
-asking caching s n q false source k inv e = record { at = source; used = serving-use caching s n q source k inv e }
+asking {caching} {s} n q false source k inv e = record { at = source; used = serving-use caching s n q source k inv e }
 
 pub open_use : (own : Bool) (n : ℕ) (u : SourceState) → u ≡ (if own then Acquires n else InService n) → u ≡ SourceFree
     → ⊥
@@ -82,21 +71,26 @@ module _ {w : ℕ} (config : Config) (caching : ℕ → Bool) (n : ℕ) (moves :
 
   -- a Probe or report of the block, which is in service as before, owes one less
   pub service-falls : (q : ℕ) (own : Bool) (source : ℕ) (k : Cap) → (s.block n).service ≡ Waits q own source k
-      → (s'.block n).service ≡ (s.block n).service
-      → ((d i : ℕ) → s'.uses d i ≡ s.uses d i) → ((d i : ℕ) → s'.lets d i ≡ s.lets d i)
-      → ((d : ℕ) → length (s'.link d).e ≤ length (s.link d).e)
+      → (s'.block n).service ≡ (s.block n).service → ((d i : ℕ) → s'.uses d i ≡ s.uses d i)
+      → ((d i : ℕ) → s'.lets d i ≡ s.lets d i) → ((d : ℕ) → length (s'.link d).e ≤ length (s.link d).e)
       → ((d : ℕ) → ((s'.block n).pair d).acquiring ≡ ((s.block n).pair d).acquiring)
-      → ((d i : ℕ) → s.lets d i ≡ Some n
-      → letting_weight (left' d Release n) ((s'.block n).pair d).letting ≤ letting_weight (left d Release n)
-      ((s.block n).pair d).letting)
+      → ((d i : ℕ) → s.lets d i ≡ Some n → letting_weight (left' d Release n) ((s'.block n).pair d).letting
+      ≤ letting_weight (left d Release n) ((s.block n).pair d).letting)
       → probes_weight number size left' n (s'.block n) + 1 ≤ probes_weight number size left n (s.block n)
       → rank config size left' answer s' + 1 ≤ rank config size left answer s
   service-falls q own source k waits served uses lets acks acquiring letting less =
+      let none_more : IsNoMore config size left left' answer answer s s' = record {
+        uses = λ d i. use-stays config caching n moves mail mail' s s' showing c ch rest rest' popped size answer block
+            d i (uses d i);
+        lets = λ d i. let-all config caching n moves mail mail' s s' showing c ch rest rest' popped size answer block d
+            i (lets d i);
+        acks = acks;
+      } in
       use-falls config size left left' answer answer s s' q who.at (all.clients q who.at (open_use own n _ who.used))
       (all.sources q who.at (open_use own n _ who.used)) none_more (strict own who.used waits)
     where
       who : IsAsking n q own source s
-      who = asking caching s n q own source k showing.before waits
+      who = asking n q own source k showing.before waits
 
       no_more : probes_weight number size left' n (s'.block n) ≤ probes_weight number size left n (s.block n)
       no_more = omega (arith, less)
@@ -106,23 +100,13 @@ module _ {w : ℕ} (config : Config) (caching : ℕ → Bool) (n : ℕ) (moves :
         serves = λ d i e f. no_more;
         acquires = λ d i e f. acquire-stays config caching n moves mail mail' s s' showing c ch rest rest' popped size
             answer d n
-            (wants-used caching s showing.before d i n e) (acquiring d) (ap (λ (x : Service). view x d) served) no_more;
+            (wants-used showing.before d i n e) (acquiring d) (ap (λ (x : Service). view x d) served) no_more;
         lets = λ d i e f. letting d i e;
       }
 
-      none_more : IsNoMore config size left left' answer answer s s'
-      none_more = record {
-        uses = λ d i. use-stays config caching n moves mail mail' s s' showing c ch rest rest' popped size answer block
-            d i (uses d i);
-        lets = λ d i. let-all config caching n moves mail mail' s s' showing c ch rest rest' popped size answer block d
-            i (lets d i);
-        acks = acks;
-      }
-
       strict : (o : Bool) → s.uses q who.at ≡ (if o then Acquires n else InService n)
-          → (s.block n).service ≡ Waits q o source k
-          → owed_use' config size left left' answer answer s s' q who.at + 1 ≤ owed_use config size left left' answer
-          answer s s' q who.at
+          → (s.block n).service ≡ Waits q o source k → owed_use' config size left left' answer answer s s' q who.at + 1
+          ≤ owed_use config size left left' answer answer s s' q who.at
       strict true e f =
           let before : view (s.block n).service q ≡ Own = rw (f, same_number q) refl in
           let after : view (s'.block n).service q ≡ Own = rw served before in
@@ -141,20 +125,18 @@ pub record IsWaited (service : Service) : Type 0 where
 pub waited : (service : Service) (c : ℕ) → is_other (view service c) ≡ true → IsWaited service
 waited Free c e = absurd cc
 waited (Waits q own source k) c e = record { client = q; own = own; source = source; cap = k; is = refl }
-waited (GrantSent q d k) c e = never (c == q) e
-  where
-    never : (b : Bool) → is_other (if b then Granting d k else GrantedOther) ≡ true → IsWaited (GrantSent q d k)
-    never true f = absurd cc
-    never false f = absurd cc
-waited (GrantTaken q) c e = never (c == q) e
-  where
-    never : (b : Bool) → is_other (if b then Acknowledging else GrantedOther) ≡ true → IsWaited (GrantTaken q)
-    never true f = absurd cc
-    never false f = absurd cc
+waited (GrantSent q d k) c e =
+    let never : (b : Bool) → is_other (if b then Granting d k else GrantedOther) ≡ true → IsWaited (GrantSent q d k) =
+    elim [ true ↦ λ f. absurd cc | false ↦ λ f. absurd cc ] in
+    never (c == q) e
+waited (GrantTaken q) c e =
+    let never : (b : Bool) → is_other (if b then Acknowledging else GrantedOther) ≡ true → IsWaited (GrantTaken q) =
+    elim [ true ↦ λ f. absurd cc | false ↦ λ f. absurd cc ] in
+    never (c == q) e
 
-pub waited-probing : {X : Type 0} (caching : ℕ → Bool) (s : State X) (c n : ℕ) → IsInvariant caching s
+pub waited-probing : {X : Type 0} {caching : ℕ → Bool} {s : State X} (c n : ℕ) → IsInvariant caching s
     → is_unprobed ((s.block n).pair c).probing ≡ false → IsWaited (s.block n).service
-waited-probing caching s c n inv probed =
+waited-probing {s} c n inv probed =
     waited (s.block n).service c (serves_another ((s.block n).pair c) (view (s.block n).service c)
     ((inv.blocks n).phases c) probed)
 
@@ -166,16 +148,18 @@ module _ {w : ℕ} (config : Config) (caching : ℕ → Bool) (n : ℕ) (moves :
     (size : ℕ) (answer : ℕ → ℕ → ℕ) (all : AreClients config s) where
   -- one client's pair owes one less, and the others' are as before
   pub pair-falls : c < length config.clients.items → is_unprobed ((s.block n).pair c).probing ≡ false
-      → (s'.block n).service ≡ (s.block n).service
-      → ((d : ℕ) → (d ≡ c → ⊥) → (s'.block n).pair d ≡ (s.block n).pair d)
-      → ((s'.block n).pair c).acquiring ≡ ((s.block n).pair c).acquiring
-      → ((s'.block n).pair c).letting ≡ ((s.block n).pair c).letting
-      → ((d i : ℕ) → s'.uses d i ≡ s.uses d i) → ((d i : ℕ) → s'.lets d i ≡ s.lets d i)
-      → ((d : ℕ) → length (s'.link d).e ≤ length (s.link d).e)
-      → pair_weight size (beats_left mail' s' rest') n c ((s'.block n).pair c) + 1 ≤ pair_weight size
-      (beats_left mail s rest) n c ((s.block n).pair c)
+      → (s'.block n).service ≡ (s.block n).service → ((d : ℕ) → (d ≡ c → ⊥) → (s'.block n).pair d ≡ (s.block n).pair d)
+      → ((s'.block n).pair c).acquiring ≡ ((s.block n).pair c).acquiring → ((s'.block n).pair c).letting
+      ≡ ((s.block n).pair c).letting → ((d i : ℕ) → s'.uses d i ≡ s.uses d i) → ((d i : ℕ) → s'.lets d i ≡ s.lets d i)
+      → ((d : ℕ) → length (s'.link d).e ≤ length (s.link d).e) → pair_weight size (beats_left mail' s' rest') n c
+      ((s'.block n).pair c) + 1 ≤ pair_weight size (beats_left mail s rest) n c ((s.block n).pair c)
       → rank config size (beats_left mail' s' rest') answer s' + 1 ≤ rank config size (beats_left mail s rest) answer s
   pair-falls lt probed served others acquiring letting uses lets acks less =
+      let wanted : (d : ℕ) → (d ≡ c) ⊎ (d ≡ c → ⊥) → ((s'.block n).pair d).acquiring ≡ ((s.block n).pair d).acquiring =
+      λ d. elim [ inl same ↦ rw same acquiring | inr differs ↦ rw (others d differs) refl ] in
+      let let_as : (d : ℕ) → (d ≡ c) ⊎ (d ≡ c → ⊥) → ((s'.block n).pair d).letting ≡ ((s.block n).pair d).letting =
+      λ d. elim [ inl same ↦ rw same letting | inr differs ↦ rw (others d differs) refl ] in
+      let who : IsWaited (s.block n).service = waited-probing c n showing.before probed in
       service-falls config caching n moves mail mail' s s' showing c ch rest rest' popped size answer all who.client
       who.own who.source who.cap who.is served uses lets acks
       (λ d. wanted d (cases_eq d c)) (λ d i e. let-stays config caching n moves mail mail' s s' showing c ch rest rest'
@@ -185,17 +169,6 @@ module _ {w : ℕ} (config : Config) (caching : ℕ → Bool) (n : ℕ) (moves :
       (λ d. pair_weight size (beats_left mail' s' rest') n d ((s'.block n).pair d)) lt (λ d h. each d (cases_eq d c))
       less)
     where
-      who : IsWaited (s.block n).service
-      who = waited-probing caching s c n showing.before probed
-
-      wanted : (d : ℕ) → (d ≡ c) ⊎ (d ≡ c → ⊥) → ((s'.block n).pair d).acquiring ≡ ((s.block n).pair d).acquiring
-      wanted d (inl same) = rw same acquiring
-      wanted d (inr differs) = rw (others d differs) refl
-
-      let_as : (d : ℕ) → (d ≡ c) ⊎ (d ≡ c → ⊥) → ((s'.block n).pair d).letting ≡ ((s.block n).pair d).letting
-      let_as d (inl same) = rw same letting
-      let_as d (inr differs) = rw (others d differs) refl
-
       each : (d : ℕ) → (d ≡ c) ⊎ (d ≡ c → ⊥) → pair_weight size (beats_left mail' s' rest') n d
           ((s'.block n).pair d) ≤ pair_weight size (beats_left mail s rest) n d ((s.block n).pair d)
       each d (inl same) = rw same (omega (arith, less))
@@ -207,22 +180,18 @@ module _ {w : ℕ} (config : Config) (caching : ℕ → Bool) (n : ℕ) (moves :
   -- a block that is as before owes no more
   pub block-same : (s'.block n ≡ s.block n) → IsBlockNoMore config caching n moves mail mail' s s' showing c ch rest
       rest' popped size answer
-  block-same same = record {
-    serves = λ d i e f. probes;
-    acquires = λ d i e f. acquire-stays config caching n moves mail mail' s s' showing c ch rest rest' popped size
-        answer d n
-        (wants-used caching s showing.before d i n e) (rw same refl) (rw same refl) probes;
-    lets = λ d i e f. let-stays config caching n moves mail mail' s s' showing c ch rest rest' popped size answer d n
-        (rw same refl);
-  }
-    where
-      probes : probes_weight (length config.clients.items) size (beats_left mail' s' rest') n
-          (s'.block n) ≤ probes_weight (length config.clients.items) size (beats_left mail s rest) n (s.block n)
-      probes = total-le (length config.clients.items) (λ d. pair_weight size (beats_left mail' s' rest') n d
-          ((s'.block n).pair d))
-          (λ d. pair_weight size (beats_left mail s rest) n d ((s.block n).pair d))
-          (λ d lt. pair-stays config caching n moves mail mail' s s' showing c ch rest rest' popped size answer d n
-          (rw same refl) (rw same refl))
+  block-same same =
+      let probes = total-le (length config.clients.items) (λ d. pair_weight size (beats_left mail' s' rest') n d
+      ((s'.block n).pair d)) (λ d. pair_weight size (beats_left mail s rest) n d ((s.block n).pair d))
+      (λ d lt. pair-stays config caching n moves mail mail' s s' showing c ch rest rest' popped size answer d n
+      (rw same refl) (rw same refl)) in
+      record {
+        serves = λ d i e f. probes;
+        acquires = λ d i e f. acquire-stays config caching n moves mail mail' s s' showing c ch rest rest' popped size
+            answer d n (wants-used showing.before d i n e) (rw same refl) (rw same refl) probes;
+        lets = λ d i e f. let-stays config caching n moves mail mail' s s' showing c ch rest rest' popped size answer d
+            n (rw same refl);
+      }
 
   module _ (block : IsBlockNoMore config caching n moves mail mail' s s' showing c ch rest rest' popped size answer)
     where
@@ -245,8 +214,7 @@ module _ {w : ℕ} (config : Config) (caching : ℕ → Bool) (n : ℕ) (moves :
         where
           other : (d ≡ q → i ≡ j → ⊥) → owed' d i ≤ owed d i
           other ne = use-stays config caching n moves mail mail' s s' showing c ch rest rest' popped size answer block d
-              i
-              (unlike d i ne)
+              i (unlike d i ne)
 
           go : (d ≡ q) ⊎ (d ≡ q → ⊥) → (i ≡ j) ⊎ (i ≡ j → ⊥) → owed' d i ≤ owed d i
           go (inl e) (inl f) = rw (e, f) here
@@ -268,8 +236,7 @@ module _ {w : ℕ} (config : Config) (caching : ℕ → Bool) (n : ℕ) (moves :
 
       lets-same : ((d i : ℕ) → s'.lets d i ≡ s.lets d i) → (d i : ℕ) → due' d i ≤ due d i
       lets-same same d i = let-all config caching n moves mail mail' s s' showing c ch rest rest' popped size answer
-          block
-          d i (same d i)
+          block d i (same d i)
 
       uses-same : ((d i : ℕ) → s'.uses d i ≡ s.uses d i) → (d i : ℕ) → owed' d i ≤ owed d i
       uses-same same d i = use-stays config caching n moves mail mail' s s' showing c ch rest rest' popped size answer
@@ -280,8 +247,7 @@ module _ {w : ℕ} (config : Config) (caching : ℕ → Bool) (n : ℕ) (moves :
           → ((d i : ℕ) → (d ≡ q → i ≡ j → ⊥) → s'.uses d i ≡ s.uses d i) → ((d i : ℕ) → s'.lets d i ≡ s.lets d i)
           → ((d : ℕ) → length (s'.link d).e ≤ length (s.link d).e) → owed' q j + 1 ≤ owed q j
           → rank config size (beats_left mail' s' rest') answer s' + 1 ≤ rank config size (beats_left mail s rest)
-          answer
-          s
+          answer s
       request-falls q j used unlike lets acks less =
           use-falls config size (beats_left mail s rest) (beats_left mail' s' rest') answer answer s s' q j
           (all.clients q j used) (all.sources q j used)
@@ -292,8 +258,7 @@ module _ {w : ℕ} (config : Config) (caching : ℕ → Bool) (n : ℕ) (moves :
           → ((d i : ℕ) → (d ≡ q → i ≡ j → ⊥) → s'.lets d i ≡ s.lets d i)
           → ((d : ℕ) → length (s'.link d).e ≤ length (s.link d).e) → due' q j + 1 ≤ due q j
           → rank config size (beats_left mail' s' rest') answer s' + 1 ≤ rank config size (beats_left mail s rest)
-          answer
-          s
+          answer s
       release-falls q j m is uses unlike acks less =
           let-falls config size (beats_left mail s rest) (beats_left mail' s' rest') answer answer s s' q j
           (all.letters q j m is) (all.releases q j m is)
@@ -301,11 +266,9 @@ module _ {w : ℕ} (config : Config) (caching : ℕ → Bool) (n : ℕ) (moves :
 
       -- a GrantAck is taken
       pub acknowledged-falls : (q : ℕ) → q < length config.clients.items → ((d i : ℕ) → s'.uses d i ≡ s.uses d i)
-          → ((d i : ℕ) → s'.lets d i ≡ s.lets d i)
-          → ((d : ℕ) → length (s'.link d).e ≤ length (s.link d).e) → length (s'.link q).e + 1 ≤ length (s.link q).e
-          → rank config size (beats_left mail' s' rest') answer s' + 1 ≤ rank config size (beats_left mail s rest)
-          answer
-          s
+          → ((d i : ℕ) → s'.lets d i ≡ s.lets d i) → ((d : ℕ) → length (s'.link d).e ≤ length (s.link d).e)
+          → length (s'.link q).e + 1 ≤ length (s.link q).e → rank config size (beats_left mail' s' rest') answer s' + 1
+          ≤ rank config size (beats_left mail s rest) answer s
       acknowledged-falls q lt uses lets acks less =
           ack-falls config size (beats_left mail s rest) (beats_left mail' s' rest') answer answer s s' q lt
           (record { uses = uses-same uses; lets = lets-same lets; acks = acks }) less
@@ -316,8 +279,7 @@ module _ {w : ℕ} (config : Config) (caching : ℕ → Bool) (n : ℕ) (moves :
           → ((d : ℕ) → (d ≡ q → ⊥) → length (s'.link d).e ≤ length (s.link d).e)
           → length (s'.link q).e ≡ length (s.link q).e + 1 → owed' q j + 2 ≤ owed q j
           → rank config size (beats_left mail' s' rest') answer s' + 1 ≤ rank config size (beats_left mail s rest)
-          answer
-          s
+          answer s
       granted-falls q j used unlike lets acks more less =
           grant-falls config size (beats_left mail s rest) (beats_left mail' s' rest') answer answer s s' q j
           (all.clients q j used) (all.sources q j used)

@@ -1,23 +1,20 @@
 -- What is owed for each open request is at most 33 beats and those of a block, for each Release one
 -- and those of a block.
-use Rattle.tl_coherence.proofs.rank.Imports.{Config, sources_of, IsInvariant, View, Idle, Own, Other, Granting}
-use Rattle.tl_coherence.proofs.rank.Imports.{Acknowledging, GrantedOther, ProbePhase, NoProbe, ProbeSent, ProbeAnswered}
-use Rattle.tl_coherence.proofs.rank.Imports.{Left, pair_weight, probes_weight, acquire_weight, letting_weight}
-use Rattle.tl_coherence.proofs.rank.Imports.{let_weight, rank, State, SourceState, SourceFree, Asked, InService}
-use Rattle.tl_coherence.proofs.rank.Imports.{Replied, Acquires, view, terms_at, Request, Acquire, ProbeAck, Release}
-use Rattle.tl_coherence.proofs.rank.Imports.{Answer, Grant}
+use Rattle.tl_coherence.proofs.rank.Imports.{Config, sources_of, IsInvariant, View, Own, Granting, ProbePhase, NoProbe}
+use Rattle.tl_coherence.proofs.rank.Imports.{ProbeSent, ProbeAnswered, Left, pair_weight, probes_weight, acquire_weight}
+use Rattle.tl_coherence.proofs.rank.Imports.{letting_weight, let_weight, rank, State, SourceState, SourceFree, Asked}
+use Rattle.tl_coherence.proofs.rank.Imports.{InService, Replied, Acquires, view, terms_at, Request, Acquire, ProbeAck}
+use Rattle.tl_coherence.proofs.rank.Imports.{Release, Answer, Grant}
 use Rattle.std.proofs.Common.{◌≡◌, ℕ, zero, suc, ◌+◌, ◌*◌, ◌<◌, ◌≤◌, Bool, true, false, refl, arith, ◌⊎◌, inl, inr}
 use Rattle.std.specs.Prelude.{not, ◌==◌, ◌&&◌, if◌then◌else◌, Option, Some, None, length}
 use Rattle.std.proofs.lemmas.Bool.{cases_eq, ne_eqb}
 use Rattle.tl_params.specs.declared.perm.Perm.{Perm}
-use Rattle.tl_params.specs.declared.perm.Perm.TheVariants as perm
 use Rattle.tl_rules.specs.statement.Conformance.{same_perm}
-use Rattle.tl_coherence.specs.refinement.AbstractStep.{some_below}
+use Rattle.tl_coherence.specs.{refinement.AbstractStep.some_below, protocol.Packet.Kind}
 use Rattle.tl_coherence.specs.protocol.Phase.{ReleasePhase, NoRelease, ReleaseSent, ReleaseAcked, is_unprobed}
 use Rattle.tl_coherence.specs.bound.Rank.{total, probing_weight, use_weight, client_weight, is_used, is_let}
 use Rattle.tl_coherence.specs.bound.Rank.{open_requests, open_releases}
 use Rattle.tl_manager.specs.laws.Pending.{one_if}
-use Rattle.tl_coherence.specs.protocol.Packet.{Kind}
 use Rattle.tl_coherence.proofs.protocol.RequestsKept.{some-none, some-one}
 use Rattle.tl_coherence.proofs.queues.Sums.{total-le, total-const, probes-light, one-at-most}
 use Rattle.tl_coherence.proofs.queues.Tokens.{same_number}
@@ -28,7 +25,7 @@ pub record IsLeft {X : Type 0} (n : ℕ) (left : Left) (answer : ℕ → ℕ →
   pub few : (c : ℕ) (k : Kind) (m : ℕ) → left c k m ≤ n
   pub acquires : (c m : ℕ) → left c Acquire m ≤ 1
   pub reports : (c m : ℕ) → is_unprobed ((s.block m).pair c).probing ≡ false
-      → same_perm ((s.block m).pair c).recorded perm.Trunk ≡ false → left c ProbeAck m ≤ 1
+      → same_perm ((s.block m).pair c).recorded Perm.Trunk ≡ false → left c ProbeAck m ≤ 1
   pub accesses : (c source : ℕ) → s.uses c source ≡ Asked → left c Request source + answer c source ≤ n + 1
   pub answers : (c source : ℕ) → answer c source ≤ n
 
@@ -65,7 +62,7 @@ total-less (suc bound) m f lt le none =
 
 -- ---- the Probes and reports of a block
 
-light-pair : (n left : ℕ) (recorded : Perm) (x : ProbePhase) → same_perm recorded perm.Trunk ≡ false
+light-pair : (n left : ℕ) (recorded : Perm) (x : ProbePhase) → same_perm recorded Perm.Trunk ≡ false
     → (is_unprobed x ≡ false → left ≤ 1) → probing_weight n left recorded x ≤ 2
 light-pair n left recorded NoProbe e le = omega arith
 light-pair n left recorded (ProbeSent k) e le = rw e (omega arith)
@@ -74,17 +71,15 @@ light-pair n left recorded (ProbeAnswered r) e le = let one = le refl in omega (
 quiet-pair : (n left : ℕ) (recorded : Perm) (x : ProbePhase) → is_unprobed x ≡ true
     → probing_weight n left recorded x ≡ 0
 quiet-pair n left recorded NoProbe e = refl
-quiet-pair n left recorded (ProbeSent k) e = absurd cc
-quiet-pair n left recorded (ProbeAnswered r) e = absurd cc
+quiet-pair n left recorded x e = absurd cc
 
 heavy-pair : (n left : ℕ) (recorded : Perm) (x : ProbePhase) → left ≤ n → 1 ≤ n
     → probing_weight n left recorded x ≤ n + 1
 heavy-pair n left recorded NoProbe le some = omega arith
-heavy-pair n left recorded (ProbeSent k) le some = go (same_perm recorded perm.Trunk)
-  where
-    go : (b : Bool) → 1 + (if b then n else 1) ≤ n + 1
-    go true = omega arith
-    go false = omega (arith, some)
+heavy-pair n left recorded (ProbeSent k) le some =
+    let go : (b : Bool) → 1 + (if b then n else 1) ≤ n + 1 = elim [ true ↦ omega arith | false ↦ omega (arith, some) ]
+    in
+    go (same_perm recorded Perm.Trunk)
 heavy-pair n left recorded (ProbeAnswered r) le some = omega (arith, le)
 
 module _ {X : Type 0} (caching : ℕ → Bool) (s : State X) (inv : IsInvariant caching s) (n : ℕ) (left : Left) (answer : ℕ
@@ -93,12 +88,11 @@ module _ {X : Type 0} (caching : ℕ → Bool) (s : State X) (inv : IsInvariant 
   -- the writer is probed
   writes_probed : ℕ → ℕ → Bool
   writes_probed m d = not (is_unprobed ((s.block m).pair d).probing) && same_perm ((s.block m).pair d).recorded
-      perm.Trunk
+      Perm.Trunk
 
   both : (a b : Bool) → (not a && b) ≡ true → (a ≡ false) × (b ≡ true)
   both false true e = (refl, refl)
-  both false false e = absurd cc
-  both true b e = absurd cc
+  both a b e = absurd cc
 
   neither : (a b : Bool) → (not a && b) ≡ false → a ≡ false → b ≡ false
   neither false b e f = e
@@ -110,11 +104,10 @@ module _ {X : Type 0} (caching : ℕ → Bool) (s : State X) (inv : IsInvariant 
       → (((d : ℕ) → d < clients → pair_weight n left m d ((s.block m).pair d) ≤ 2)
       → probes_weight clients n left m (s.block m) ≤ bound) → probes_weight clients n left m (s.block m) ≤ bound
   unfolding writes_probed
-  probes-within m bound wide light = go (some_below clients (writes_probed m)) refl
+  probes-within m bound wide light =
+      let weight : ℕ → ℕ = λ d. pair_weight n left m d ((s.block m).pair d) in
+      go (some_below clients (writes_probed m)) refl
     where
-      weight : ℕ → ℕ
-      weight d = pair_weight n left m d ((s.block m).pair d)
-
       go : (b : Bool) → some_below clients (writes_probed m) ≡ b
           → total clients (λ d. pair_weight n left m d ((s.block m).pair d)) ≤ bound
       go false none = light (λ d lt. each d (is_unprobed ((s.block m).pair d).probing) refl
@@ -133,10 +126,12 @@ module _ {X : Type 0} (caching : ℕ → Bool) (s : State X) (inv : IsInvariant 
           let parts = both _ _ d.1 in
           alone d.0 parts.1 parts.0
         where
-          alone : (d : ℕ) → same_perm ((s.block m).pair d).recorded perm.Trunk ≡ true
+          alone : (d : ℕ) → same_perm ((s.block m).pair d).recorded Perm.Trunk ≡ true
               → is_unprobed ((s.block m).pair d).probing ≡ false
               → total clients (λ i. pair_weight n left m i ((s.block m).pair i)) ≤ bound
           alone d trunk probed =
+              let at_most : (d : ℕ) → total clients (λ i. if i == d then n + 1 else 0) ≤ n + 1 =
+              λ d. one-at-most clients d (n + 1) in
               let others = total-le clients (λ i. pair_weight n left m i ((s.block m).pair i))
               (λ i. if i == d then n + 1 else 0) (λ i lt. at i (cases_eq i d)) in
               omega (arith, others, at_most d, few, wide)
@@ -149,9 +144,6 @@ module _ {X : Type 0} (caching : ℕ → Bool) (s : State X) (inv : IsInvariant 
                   let z = quiet-pair n (left i ProbeAck m) ((s.block m).pair i).recorded ((s.block m).pair i).probing
                   ((inv.blocks m).alone d i trunk probed ne) in
                   rw (ne_eqb i d ne) (omega (arith, z))
-
-              at_most : (d : ℕ) → total clients (λ i. if i == d then n + 1 else 0) ≤ n + 1
-              at_most d = one-at-most clients d (n + 1)
 
   pub probes-few : (m : ℕ) → probes_weight clients n left m (s.block m) ≤ 32
   probes-few m = probes-within m 32 (omega arith)
@@ -176,10 +168,7 @@ module _ {X : Type 0} (caching : ℕ → Bool) (s : State X) (inv : IsInvariant 
       → acquire_weight n asked granted probes v ≤ n + 33
   acquire-few asked granted probes Own a g p = omega (arith, p)
   acquire-few asked granted probes (Granting d k) a g p = omega (arith, g)
-  acquire-few asked granted probes Idle a g p = omega (arith, a)
-  acquire-few asked granted probes (Other k) a g p = omega (arith, a)
-  acquire-few asked granted probes Acknowledging a g p = omega (arith, a)
-  acquire-few asked granted probes GrantedOther a g p = omega (arith, a)
+  acquire-few asked granted probes v a g p = omega (arith, a)
 
   use-few : (c source : ℕ) (u : SourceState) → s.uses c source ≡ u
       → use_weight clients n left answer s c source u ≤ (n + 33) * one_if (is_used u)
@@ -217,6 +206,7 @@ module _ {X : Type 0} (caching : ℕ → Bool) (s : State X) (inv : IsInvariant 
       ≤ (n + 33) * (total sources (λ i. one_if (is_used (s.uses c i))) + length (s.link c).e) + (n + 1) * total sources
       (λ i. one_if (is_let (s.lets c i)))
   client-few sources c =
+      let one-each : (k l : ℕ) → 1 ≤ k → l ≤ k * l = λ k l le. grind (arith, le) in
       let uses = times-total (n + 33) sources (λ i. use_weight clients n left answer s c i (s.uses c i))
       (λ i. one_if (is_used (s.uses c i))) (λ i. use-few c i (s.uses c i) refl) in
       let lets = times-total (n + 1) sources (λ i. let_weight left s c (s.lets c i)) (λ i. one_if (is_let (s.lets c i)))
@@ -226,9 +216,6 @@ module _ {X : Type 0} (caching : ℕ → Bool) (s : State X) (inv : IsInvariant 
       ≡ (n + 33) * total sources
       (λ i. one_if (is_used (s.uses c i))) + (n + 33) * length (s.link c).e = grind arith in
       omega (arith, uses, lets, acks, split)
-    where
-      one-each : (k l : ℕ) → 1 ≤ k → l ≤ k * l
-      one-each k l le = grind (arith, le)
 
   pub potential-few : (config : Config) → length config.clients.items ≡ clients
       → rank config n left answer s ≤ (n + 33) * open_requests config s + (n + 1) * open_releases config s

@@ -9,45 +9,26 @@ use Rattle.std.proofs.Common.{Some, None, refl, sym, ◌∙◌, ap, inl, inr, ar
 use Rattle.std.specs.Prelude.{◌==◌, if◌then◌else◌, All, slice_get, nat_le, length, option_map, Result, Ok, Err, ⊤}
 use Rattle.std.proofs.lemmas.Bool.{cases_eq, ne_eqb}
 use Rattle.std.proofs.lemmas.List.Elements.{All-nil, All-cons, All-append, All-rest}
-use Rattle.tl_beat.specs.declared.beat.Beat.TheVariants as beat
-use Rattle.tl_beat.specs.declared.channel.Channel.TheVariants as channel
-use Rattle.tl_beat.specs.declared.opcode.OpB.{OpB}
-use Rattle.tl_beat.specs.declared.opcode.OpD.{OpD}
-use Rattle.tl_beat.specs.declared.opcode.OpD.TheVariants as d
-use Rattle.tl_burst.specs.declared.message.Message.TheVariants as message
-use Rattle.tl_burst.specs.statement.Burst.{beat_of}
-use Rattle.tl_burst.specs.statement.Messages.{channel_of}
-use Rattle.tl_params.specs.declared.level.Level.{Level}
-use Rattle.tl_params.specs.declared.param.Prune.{Prune}
-use Rattle.tl_params.specs.declared.param.Prune.TheVariants as prune
-use Rattle.tl_params.specs.declared.perm.Perm.{Perm}
-use Rattle.tl_params.specs.declared.perm.Perm.TheVariants as perm
-use Rattle.tl_beat.specs.declared.beat.BeatD.{BeatD}
-use Rattle.tl_params.specs.declared.config.ClientConfig.{ClientConfig}
+use Rattle.tl_beat.{specs.declared.opcode.OpB.OpB, specs.declared.opcode.OpD.OpD, specs.declared.beat.BeatD.BeatD}
+use Rattle.tl_burst.{specs.statement.Burst.beat_of, specs.statement.Messages.channel_of}
+use Rattle.tl_params.{specs.declared.level.Level.Level, specs.declared.param.Prune.Prune, specs.declared.perm.Perm.Perm}
+use Rattle.tl_params.{specs.declared.config.ClientConfig.ClientConfig}
 use Rattle.tl_rules.specs.statement.Admission.{is_outside, is_spoiled, payload_of}
-use Rattle.tl_rules.specs.statement.History.{ends, request_of}
-use Rattle.tl_client.specs.declared.operation.Op.TheVariants as op
-use Rattle.tl_client.specs.declared.verdict.Finish.{Finish}
-use Rattle.tl_client.specs.declared.verdict.Verdict.TheVariants as verdict
+use Rattle.tl_rules.{specs.statement.History.ends, specs.statement.History.request_of}
+use Rattle.tl_rules.{specs.statement.Legality.beats_from, specs.statement.Legality.illegal, specs.laws.Typed.HasBlock}
+use Rattle.tl_rules.{proofs.Legal.legal_beat, proofs.Typed.typed-beat}
+use Rattle.tl_client.{specs.declared.verdict.Finish.Finish, proofs.endpoint.HeldAfter.same_block}
+use Rattle.tl_client.{specs.laws.Sound.IsSound, specs.laws.Sound.corrupt_in, specs.statement.Send.release}
+use Rattle.tl_client.{specs.statement.Send.probe_ack}
 use Rattle.tl_client.specs.statement.Ask.{asked, done, load, store, free_release, source_or_0}
 use Rattle.tl_client.specs.statement.Endpoint.{Endpoint, copy_at, held_at, with_past}
 use Rattle.tl_client.specs.statement.Offer.{taken, ended, responded, silent, report_for}
 use Rattle.tl_client.proofs.endpoint.Cases.{NotBusy, asked-cases, probe_ack-cases}
-use Rattle.tl_client.proofs.endpoint.HeldAfter.{same_block}
-use Rattle.tl_rules.specs.statement.Legality.{beats_from, illegal}
 use Rattle.tl_rules.specs.laws.Typed as rules
-use Rattle.tl_rules.specs.laws.Typed.{HasBlock}
-use Rattle.tl_rules.proofs.Legal.{legal_beat}
-use Rattle.tl_rules.proofs.Typed.{typed-beat}
-use Rattle.tl_client.specs.laws.Sound.{IsSound, corrupt_in}
-use Rattle.tl_client.specs.statement.Send.{release, probe_ack}
-use Rattle.tl_manager.specs.statement.Handing.{Handed}
+use Rattle.tl_manager.{specs.statement.Handing.Handed, specs.code.Kept.Each, specs.statement.Offer.level_of}
+use Rattle.tl_manager.{proofs.messages.Lawful.IsHandable, proofs.messages.Lawful.no_bit}
 use Rattle.tl_manager.specs.code.Kept as manager
-use Rattle.tl_manager.specs.code.Kept.{Each, illegal_at, IsClean, AreLawful}
-use Rattle.tl_manager.specs.statement.Offer.{level_of}
-use Rattle.tl_manager.proofs.messages.Lawful.{IsHandable, no_bit}
-use Rattle.tl_coherence.specs.statement.System.{with_message}
-use Rattle.tl_coherence.specs.refinement.SimulationRelation.{AreLanes}
+use Rattle.tl_coherence.specs.{statement.System.with_message, refinement.SimulationRelation.AreLanes}
 use Rattle.tl_coherence.proofs.queues.Tokens.{same_number}
 
 -- ---- what holds of each beat of each channel
@@ -60,9 +41,8 @@ all_beats P m k (suc n) each = All-cons P (beat_of m k) (beats_from m (k + 1) n)
     (all_beats P m (k + 1) n (λ i lt. each i (omega (arith, lt))))
 
 pub all-message : {w : ℕ} (P : ℕ → Beat w → Type 0) (l : ℕ) (m : Message w) (s : System w)
-    → ((i : ℕ) → i < beats_of m → P l (beat_of m i))
-    → ((d : ℕ) (at : Channel) → All (P d) (s.channels d at)) → (d : ℕ) (at : Channel)
-    → All (P d) ((with_message l m s).channels d at)
+    → ((i : ℕ) → i < beats_of m → P l (beat_of m i)) → ((d : ℕ) (at : Channel) → All (P d) (s.channels d at))
+    → (d : ℕ) (at : Channel) → All (P d) ((with_message l m s).channels d at)
 all-message {w} P l m s each before d at = elim (cases_eq d l) [
   | inl same ↦ rw same (here (l == l) (same_number l) (same_channel at (channel_of_message m)))
   | inr other ↦ there (d == l) (ne_eqb d l other)
@@ -73,8 +53,7 @@ all-message {w} P l m s each before d at = elim (cases_eq d l) [
 
     here : (x : Bool) → x ≡ true → (y : Bool) → All (P l) (if x && y then more else s.channels l at)
     here x e true = rw e (All-append (P l) (s.channels l (channel_of_message m)) (beats_from m 0 (beats_of m))
-        (before l (channel_of_message m))
-        (all_beats (P l) m 0 (beats_of m) (λ i lt. each i (omega (arith, lt)))))
+        (before l (channel_of_message m)) (all_beats (P l) m 0 (beats_of m) (λ i lt. each i (omega (arith, lt)))))
     here x e false = rw e (before l at)
 
     there : (x : Bool) → x ≡ false
@@ -83,8 +62,7 @@ all-message {w} P l m s each before d at = elim (cases_eq d l) [
 
 pub all-messages : {w : ℕ} (P : ℕ → Beat w → Type 0) (handed : Handed w) (s : System w)
     → Each (λ x. (i : ℕ) → i < beats_of x.1 → P x.0.0 (beat_of x.1 i)) handed
-    → ((d : ℕ) (at : Channel) → All (P d) (s.channels d at))
-    → (d : ℕ) (at : Channel)
+    → ((d : ℕ) (at : Channel) → All (P d) (s.channels d at)) → (d : ℕ) (at : Channel)
     → All (P d) ((with_messages handed s).channels d at)
 unfolding with_messages
 all-messages P [] s each before d at = before d at
@@ -92,9 +70,8 @@ all-messages P (x ∷ handed) s each before d at = all-messages P handed (with_m
     (λ i j. all-message P x.0.0 x.1 s each.0 before i j) d at
 
 pub all-popped : {w : ℕ} (P : ℕ → Beat w → Type 0) (c : ℕ) (ch : Channel) (x : Beat w) (queue : List (Beat w))
-    (s : System w) → s.channels c ch ≡ x ∷ queue
-    → ((d : ℕ) (at : Channel) → All (P d) (s.channels d at)) → (d : ℕ) (at : Channel)
-    → All (P d) ((with_channel c ch queue s).channels d at)
+    (s : System w) → s.channels c ch ≡ x ∷ queue → ((d : ℕ) (at : Channel) → All (P d) (s.channels d at))
+    → (d : ℕ) (at : Channel) → All (P d) ((with_channel c ch queue s).channels d at)
 all-popped {w} P c ch x queue s first before d at = elim (cases_eq d c) [
   | inl same ↦ rw same (here (c == c) (same_number c) (same_channel at ch) refl)
   | inr other ↦ there (d == c) (ne_eqb d c other)
@@ -119,53 +96,39 @@ abbrev pub AreGood : {w : ℕ} → Config → ℕ → Message w → Type 0
 AreGood config c m = (i : ℕ) → i < beats_of m → IsGood config c (beat_of m i)
 
 lanes_are : {w : ℕ} (x : Beat w) → rules.IsTyped x → AreLanes x
-lanes_are (beat.A x) typed = typed
-lanes_are (beat.B x) typed = typed.1
-lanes_are (beat.C x) typed = typed
-lanes_are (beat.D x) typed = typed
-lanes_are (beat.E x) typed = tt
+lanes_are (Beat.B x) typed = typed.1
+lanes_are (Beat.E x) typed = tt
+lanes_are x typed = typed
 
 typed_is : {w : ℕ} (x : Beat w) → rules.IsTyped x → manager.IsTyped x
-typed_is (beat.A x) typed = typed
-typed_is (beat.B x) typed = tt
-typed_is (beat.C x) typed = tt
-typed_is (beat.D x) typed = tt
-typed_is (beat.E x) typed = tt
+typed_is (Beat.A x) typed = typed
+typed_is x typed = tt
 
 same_channel_of : {w : ℕ} (m : Message w) (i : ℕ) → channel_of (beat_of m i) ≡ channel_of (beat_of m 0)
-same_channel_of (message.A m) i = refl
-same_channel_of (message.B m) i = refl
-same_channel_of (message.C m) i = refl
-same_channel_of (message.D m) i = refl
-same_channel_of (message.E m) i = refl
+same_channel_of (Message.A m) i = refl
+same_channel_of m i = refl
 
 same_outside : {w : ℕ} (blocks : ℕ) (m : Message w) (i : ℕ) → is_outside blocks (beat_of m i) ≡ is_outside blocks
     (beat_of m 0)
-same_outside blocks (message.A m) i = refl
-same_outside blocks (message.B m) i = refl
-same_outside blocks (message.C m) i = refl
-same_outside blocks (message.D m) i = refl
-same_outside blocks (message.E m) i = refl
+same_outside blocks (Message.A m) i = refl
+same_outside blocks m i = refl
 
 -- of a channel on which clients send
 abbrev pub IsOfClient : {w : ℕ} → Message w → Type 0
-IsOfClient (message.A m) = ⊤
-IsOfClient (message.B m) = ⊥
-IsOfClient (message.C m) = ⊤
-IsOfClient (message.D m) = ⊥
-IsOfClient (message.E m) = ⊤
+IsOfClient (Message.B m) = ⊥
+IsOfClient (Message.D m) = ⊥
+IsOfClient _ = ⊤
 
 unspoiled : {w : ℕ} (m : Message w) (i : ℕ) → IsOfClient m → corrupt_in m ≡ 0 → is_spoiled (beat_of m i) ≡ false
-unspoiled (message.A m) i is clean = rw clean (no_bit i)
-unspoiled (message.B m) i is clean = absurd is
-unspoiled (message.C m) i is clean = rw clean (no_bit i)
-unspoiled (message.D m) i is clean = absurd is
-unspoiled (message.E m) i is clean = refl
+unspoiled (Message.B m) i is clean = absurd is
+unspoiled (Message.D m) i is clean = absurd is
+unspoiled (Message.E m) i is clean = refl
+unspoiled m i is clean = rw clean (no_bit i)
 
-pub good-message : {w : ℕ} (config : Config) (c : ℕ) (l : Level) (m : Message w) → IsWidth w
+pub good-message : {w : ℕ} (config : Config) (c : ℕ) {l : Level} {m : Message w} → IsWidth w
     → level_of config c ≡ Some l → IsSound l m → IsOfClient m
     → is_outside config.blocks (beat_of m 0) ≡ false → HasBlock m → AreGood config c m
-good-message {w} config c l m width level sound ours inside long i lt =
+good-message {w} config c {l} {m} width level sound ours inside long i lt =
     let typed : rules.IsTyped (beat_of m i) = typed-beat m i width long lt in
     record {
       sound = record {
@@ -214,15 +177,13 @@ level-terms config c terms e = go (slice_get config.clients.items c) e
 
 copied_release : (w : ℕ) (p : Prune) (source n : ℕ) (copy : List ℕ) → length copy ≡ 64
     → HasBlock {w = w} (release p source n copy) × IsOfClient {w = w} (release p source n copy)
-copied_release w prune.TtoB source n copy long = (long, tt)
-copied_release w prune.TtoN source n copy long = (long, tt)
-copied_release w prune.BtoN source n copy long = (refl, tt)
+copied_release w Prune.BtoN source n copy long = (refl, tt)
+copied_release w p source n copy long = (long, tt)
 
 release_inside : (w blocks : ℕ) (p : Prune) (source n : ℕ) (copy : List ℕ) → nat_le blocks n ≡ false
     → is_outside blocks (beat_of {w = w} (release p source n copy) 0) ≡ false
-release_inside w blocks prune.TtoB source n copy e = rw (same_block n) e
-release_inside w blocks prune.TtoN source n copy e = rw (same_block n) e
-release_inside w blocks prune.BtoN source n copy e = rw (same_block n) e
+release_inside w blocks Prune.TtoB source n copy e = rw (same_block n) e
+release_inside w blocks p source n copy e = rw (same_block n) e
 
 -- what a message that a client hands out is besides sound
 pub record IsFit {w : ℕ} (blocks : ℕ) (m : Message w) : Type 0 where
@@ -240,41 +201,38 @@ first_false true y e = absurd cc
 
 fit_load : {w : ℕ} (blocks address size : ℕ) (p : Perm) (e : Endpoint w)
     → IsFitIfAny blocks (load address size p e).message
-fit_load blocks address size perm.None e = tt
-fit_load blocks address size perm.Branch e = tt
-fit_load blocks address size perm.Trunk e = tt
+fit_load blocks address size Perm.None e = tt
+fit_load blocks address size p e = tt
 
 fit_store : {w : ℕ} (blocks address size value : ℕ) (p : Perm) (e : Endpoint w)
     → IsFitIfAny blocks (store address size value p e).message
-fit_store blocks address size value perm.None e = tt
-fit_store blocks address size value perm.Branch e = tt
-fit_store blocks address size value perm.Trunk e = tt
+fit_store blocks address size value Perm.None e = tt
+fit_store blocks address size value p e = tt
 
 fit_done : {w : ℕ} (terms : EndConfig) (op : Op w) (e : Endpoint w) → NotBusy terms op e → IsTypedOp op
     → ((n : ℕ) → length (copy_at e n) ≡ 64) → IsFitIfAny terms.blocks (done terms op e).message
-fit_done terms (op.Load address size) e free typed copies =
+fit_done terms (Op.Load address size) e free typed copies =
     fit_load terms.blocks address size (held_at e (block_at address)) e
-fit_done terms (op.Store address size value) e free typed copies =
+fit_done terms (Op.Store address size value) e free typed copies =
     fit_store terms.blocks address size value (held_at e (block_at address)) e
-fit_done terms (op.Acquire n g) e free typed copies =
+fit_done terms (Op.Acquire n g) e free typed copies =
     record { long = refl; ours = tt; inside = rw (same_block n) (first_false (nat_le terms.blocks n) _ free.b5) }
-fit_done terms (op.AcquireWhole n bytes) e free typed copies =
+fit_done terms (Op.AcquireWhole n bytes) e free typed copies =
     record { long = refl; ours = tt; inside = rw (same_block n) (first_false (nat_le terms.blocks n) _ free.b5) }
-fit_done {w} terms (op.Release n p) e free typed copies =
+fit_done {w} terms (Op.Release n p) e free typed copies =
     let s = source_or_0 (free_release terms e.past) in
     let one = copied_release w p s n (copy_at e n) (copies n) in
     record {
       long = one.0;
       ours = one.1;
-      inside =
-          release_inside w terms.blocks p s n (copy_at e n) (first_false (nat_le terms.blocks n) _ free.b5);
+      inside = release_inside w terms.blocks p s n (copy_at e n) (first_false (nat_le terms.blocks n) _ free.b5);
     }
-fit_done terms (op.Access (message.A m)) e free typed copies =
+fit_done terms (Op.Access (Message.A m)) e free typed copies =
     record { long = typed; ours = tt; inside = first_false (nat_le terms.blocks (block_at m.address)) _ free.b5 }
-fit_done terms (op.Access (message.B m)) e free typed copies = tt
-fit_done terms (op.Access (message.C m)) e free typed copies = tt
-fit_done terms (op.Access (message.D m)) e free typed copies = tt
-fit_done terms (op.Access (message.E m)) e free typed copies = tt
+fit_done terms (Op.Access (Message.B m)) e free typed copies = tt
+fit_done terms (Op.Access (Message.C m)) e free typed copies = tt
+fit_done terms (Op.Access (Message.D m)) e free typed copies = tt
+fit_done terms (Op.Access (Message.E m)) e free typed copies = tt
 
 pub fit-asked : {w : ℕ} (terms : EndConfig) (op : Op w) (e : Endpoint w) → IsTypedOp op
     → ((n : ℕ) → length (copy_at e n) ≡ 64) → IsFitIfAny terms.blocks (asked terms op e).message
@@ -285,8 +243,7 @@ fit-asked terms op e typed copies = asked-cases terms op e (λ o. IsFitIfAny ter
 
 ack_fit : (w blocks : ℕ) (opcode : OpB) (p : Perm) (r : Report) (n : ℕ) (copy : List ℕ) → length copy ≡ 64
     → nat_le blocks n ≡ false → IsFit {w = w} blocks (probe_ack opcode p r n copy)
-ack_fit w blocks opcode p r n copy long e =
-    probe_ack-cases opcode p r n copy (λ m. IsFit {w = w} blocks m)
+ack_fit w blocks opcode p r n copy long e = probe_ack-cases opcode p r n copy (λ m. IsFit {w = w} blocks m)
     (record { long = long; ours = tt; inside = rw (same_block n) e })
     (record { long = refl; ours = tt; inside = rw (same_block n) e })
 
@@ -296,27 +253,22 @@ IsFitAnswer blocks (Err rule) = ⊤
 
 ended_fit : {w : ℕ} (blocks : ℕ) (opcode : OpD) (x : BeatD w) (f : Finish) (e : Endpoint w)
     → IsFitAnswer blocks (ended opcode x f e).answer
-ended_fit blocks d.Grant x f e = record { long = tt; ours = tt; inside = refl }
-ended_fit blocks d.GrantData x f e = record { long = tt; ours = tt; inside = refl }
-ended_fit blocks d.AccessAck x f e = tt
-ended_fit blocks d.AccessAckData x f e = tt
-ended_fit blocks d.HintAck x f e = tt
-ended_fit blocks d.ReleaseAck x f e = tt
+ended_fit blocks OpD.Grant x f e = record { long = tt; ours = tt; inside = refl }
+ended_fit blocks OpD.GrantData x f e = record { long = tt; ours = tt; inside = refl }
+ended_fit blocks opcode x f e = tt
 
 pub fit-taken : {w : ℕ} (blocks : ℕ) (x : Beat w) (e : Endpoint w) → is_outside blocks x ≡ false
     → ((n : ℕ) → length (copy_at e n) ≡ 64) → IsFitAnswer blocks (taken x e).answer
-fit-taken blocks (beat.A x) e inside copies = tt
-fit-taken {w} blocks (beat.B x) e inside copies = ack_fit w blocks x.opcode (held_at e (block_at x.address))
+fit-taken blocks (Beat.A x) e inside copies = tt
+fit-taken {w} blocks (Beat.B x) e inside copies = ack_fit w blocks x.opcode (held_at e (block_at x.address))
     (report_for x (held_at e (block_at x.address)))
     (block_at x.address) (copy_at e (block_at x.address)) (copies (block_at x.address)) inside
-fit-taken blocks (beat.C x) e inside copies = tt
-fit-taken {w} blocks (beat.D x) e inside copies = go (ends (beat.D x) e.past)
-  where
-    o : Offered w
-    o = responded x (request_of x.source e.past) (payload_of (beat.D x ∷ unfinished channel.D e.past)) e
-
-    go : (y : Bool) → IsFitAnswer blocks
-        (if y then o else silent verdict.Taken (with_past (beat.D x ∷ e.past) e)).answer
-    go true = ended_fit blocks x.opcode x _ _
-    go false = tt
-fit-taken blocks (beat.E x) e inside copies = tt
+fit-taken blocks (Beat.C x) e inside copies = tt
+fit-taken {w} blocks (Beat.D x) e inside copies =
+    let o : Offered w = responded x (request_of x.source e.past) (payload_of (Beat.D x ∷ unfinished Channel.D e.past)) e
+    in
+    let go : (y : Bool) → IsFitAnswer blocks
+    (if y then o else silent Verdict.Taken (with_past (Beat.D x ∷ e.past) e)).answer =
+    elim [ true ↦ ended_fit blocks x.opcode x _ _ | false ↦ tt ] in
+    go (ends (Beat.D x) e.past)
+fit-taken blocks (Beat.E x) e inside copies = tt

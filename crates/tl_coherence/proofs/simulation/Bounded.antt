@@ -6,22 +6,18 @@ use Rattle.tl_coherence.proofs.simulation.Imports.{System, terms_at, SimulationR
 use Rattle.std.proofs.Common.{◌≡◌, ℕ, ◌<◌, Bool, true, false, List, [], ◌∷◌, refl, sym, ◌∙◌, ap}
 use Rattle.std.specs.Prelude.{◌==◌, ◌||◌, Option, Some, is_some}
 use Rattle.std.proofs.lemmas.Bool.{eqb-true, and_parts}
-use Rattle.tl_burst.specs.declared.message.Message.TheVariants as message
 use Rattle.tl_params.specs.declared.key.Key.TheVariants.{RequestSource, ReleaseSource}
 use Rattle.tl_rules.specs.statement.Legality.{is_one_of}
 use Rattle.tl_manager.specs.code.Kept as kept
 use Rattle.tl_manager.specs.statement.Service.{service_of_block, trackers_of}
 use Rattle.tl_manager.proofs.services.Serving.{tracker_among}
-use Rattle.tl_coherence.specs.statement.Delivery.{sources_of}
-use Rattle.tl_coherence.specs.protocol.Invariant.{tracks_with, is_busy}
+use Rattle.tl_coherence.specs.{statement.Delivery.sources_of, protocol.Invariant.tracks_with}
+use Rattle.tl_coherence.specs.{protocol.Invariant.is_busy, statement.OneMemory.one_memory_after}
+use Rattle.tl_coherence.specs.{statement.Machine.Requests, refinement.MemoryRelation.IsOpened}
 use Rattle.tl_coherence.specs.refinement.ManagerRelation.{client_in, service_with}
-use Rattle.tl_coherence.specs.statement.OneMemory.{one_memory_after}
-use Rattle.tl_coherence.specs.statement.Machine.{Requests}
-use Rattle.tl_coherence.specs.refinement.MemoryRelation.{IsOpened}
 use Rattle.tl_coherence.specs.refinement.SimulationRelation.{asked_by, first_of, request_source, IsSourced}
-use Rattle.tl_coherence.proofs.protocol.TokenNames.{AreBounded}
-use Rattle.tl_coherence.proofs.queues.Tokens.{same_number}
-use Rattle.tl_coherence.proofs.client.Askable.{acquires_something}
+use Rattle.tl_coherence.proofs.{protocol.TokenNames.AreBounded, queues.Tokens.same_number}
+use Rattle.tl_coherence.proofs.{client.Askable.acquires_something}
 
 -- a client's sources that are pending are its own
 pub record IsOwn {w : ℕ} (config : Config) (c : ℕ) (sys : System w) : Type 0 where
@@ -32,15 +28,12 @@ pub record IsOwn {w : ℕ} (config : Config) (c : ℕ) (sys : System w) : Type 0
 
 -- ---- an open request has a first beat
 
-has_first : {w : ℕ} (m : Message w) (n : MessageA w) → m ≡ message.A n → is_some (first_of m) ≡ true
+has_first : {w : ℕ} (m : Message w) (n : MessageA w) → m ≡ Message.A n → is_some (first_of m) ≡ true
 has_first m n e = rw e refl
 
 source_known : {w : ℕ} (m : Message w) (source : ℕ) → request_source m ≡ Some source → is_some (first_of m) ≡ true
-source_known (message.A m) source e = refl
-source_known (message.B m) source e = absurd cc
-source_known (message.C m) source e = absurd cc
-source_known (message.D m) source e = absurd cc
-source_known (message.E m) source e = absurd cc
+source_known (Message.A m) source e = refl
+source_known m source e = absurd cc
 
 -- ---- trackers
 

@@ -1,31 +1,20 @@
 -- The channels carry the messages of the tokens after a client is asked.
-use Rattle.tl_coherence.proofs.simulation.Imports.{IsWidth, Channel, Message, NoAcquire, Kind}
-use Rattle.tl_coherence.proofs.simulation.Imports.{Request, Acquire, Release}
-use Rattle.tl_coherence.proofs.simulation.Imports.{set, set_at}
-use Rattle.tl_coherence.proofs.simulation.Imports.{Block, State, SourceFree, packet}
-use Rattle.tl_coherence.proofs.simulation.Imports.{IsInvariant, Move, Stays, ChannelRelation, AccessMessages}
-use Rattle.tl_coherence.proofs.simulation.Imports.{block_message, message_of, System, same_channel, channel_of_message}
-use Rattle.std.proofs.Common.{◌≡◌, ℕ, Bool, true, false, List, Option, Some, None, refl, ◌∙◌, ap, ◌⊎◌, inl}
-use Rattle.std.proofs.Common.{inr}
-use Rattle.std.specs.Prelude.{◌==◌, if◌then◌else◌}
-use Rattle.std.proofs.lemmas.Bool.{cases_eq, ne_eqb}
-use Rattle.tl_beat.specs.declared.channel.Channel.TheVariants as channel
-use Rattle.tl_params.specs.declared.param.Grow.{Grow}
-use Rattle.tl_params.specs.declared.param.Prune.{Prune}
-use Rattle.tl_coherence.specs.protocol.Phase.{NoRelease}
-use Rattle.tl_coherence.specs.protocol.Protocol.{with_a, with_c}
-use Rattle.tl_coherence.specs.protocol.Protocol.{access_asked, acquire_asked, acquiring_block, release_asked}
-use Rattle.tl_coherence.specs.protocol.Protocol.{releasing_block, block_stored, stored_block}
-use Rattle.tl_coherence.specs.protocol.Invariant.{is_asked}
-use Rattle.tl_coherence.specs.refinement.Move.{AreMoved}
+use Rattle.tl_coherence.proofs.simulation.Imports.{IsWidth, Channel, Message, NoAcquire, Kind, Request, Acquire}
+use Rattle.tl_coherence.proofs.simulation.Imports.{Release, set, set_at, Block, State, SourceFree, packet, IsInvariant}
+use Rattle.tl_coherence.proofs.simulation.Imports.{Move, Stays, ChannelRelation, AccessMessages, block_message}
+use Rattle.tl_coherence.proofs.simulation.Imports.{message_of, System, same_channel, channel_of_message}
+use Rattle.std.proofs.Common.{◌≡◌, ℕ, Bool, true, false, List, Option, Some, None, refl, ◌∙◌, ap, ◌⊎◌, inl, inr}
+use Rattle.std.{specs.Prelude.◌==◌, specs.Prelude.if◌then◌else◌, proofs.lemmas.Bool.cases_eq, proofs.lemmas.Bool.ne_eqb}
+use Rattle.tl_params.{specs.declared.param.Grow.Grow, specs.declared.param.Prune.Prune}
+use Rattle.tl_coherence.specs.{protocol.Phase.NoRelease, protocol.Invariant.is_asked, refinement.Move.AreMoved}
+use Rattle.tl_coherence.specs.protocol.Protocol.{with_a, with_c, access_asked, acquire_asked, acquiring_block}
+use Rattle.tl_coherence.specs.protocol.Protocol.{release_asked, releasing_block, block_stored, stored_block}
 use Rattle.tl_coherence.proofs.protocol.AlikeRequests.{alike-acquiring, alike-releasing, alike-bytes}
 use Rattle.tl_coherence.proofs.protocol.Asked.{access_moves, acquire_moves, release_moves}
-use Rattle.tl_coherence.proofs.queues.Channels.{IsHanded, Fits, carried-event, queued-handed, moved-at}
-use Rattle.tl_coherence.proofs.queues.Channels.{fits-handed, pushes_at}
-use Rattle.tl_coherence.proofs.queues.Landed.{pushes_of}
-use Rattle.tl_coherence.proofs.queues.Moves.{moves_at}
-use Rattle.tl_coherence.proofs.queues.Showing.{carries, showing-block}
-use Rattle.tl_coherence.proofs.queues.Tokens.{same_number, set-same}
+use Rattle.tl_coherence.proofs.queues.Channels.{IsHanded, Fits, carried-event, queued-handed, moved-at, fits-handed}
+use Rattle.tl_coherence.proofs.queues.Channels.{pushes_at}
+use Rattle.tl_coherence.proofs.{queues.Landed.pushes_of, queues.Moves.moves_at, queues.Showing.carries}
+use Rattle.tl_coherence.proofs.{queues.Showing.showing-block, queues.Tokens.same_number, queues.Tokens.set-same}
 
 -- ---- one message that is handed out
 
@@ -47,12 +36,13 @@ new_there k c n new block m e = ap (block_message k c n) (set-same n new block) 
 
 pub access_asked-carried : {w : ℕ} (caching : ℕ → Bool) (c source : ℕ) (m : Message w) (mail : AccessMessages w)
     (s : State (List ℕ)) (sys sys' : System w) → IsWidth w → IsInvariant caching s
-    → IsInvariant caching (access_asked c source s) → s.uses c source ≡ SourceFree
-    → channel_of_message m ≡ channel.A → IsHanded (pushes_at c (pushes_of (Some m))) sys sys'
-    → ChannelRelation mail s sys
+    → IsInvariant caching (access_asked c source s) → s.uses c source ≡ SourceFree → channel_of_message m ≡ Channel.A
+    → IsHanded (pushes_at c (pushes_of (Some m))) sys sys' → ChannelRelation mail s sys
     → ChannelRelation (record { request = set_at c source m mail.request; answer = mail.answer })
     (access_asked c source s) sys'
 access_asked-carried {w} caching c source m mail s sys sys' width inv inv' closed chan handed h =
+    let moved : AreMoved (access_moves source) (s.link c) (with_a (packet Request source) (s.link c)) =
+    elim [ Channel.A ↦ refl | _ ↦ refl ] in
     carried-event caching 0 (moves_at c (access_moves source)) mail mail' s s' sys sys' width (record {
       before = inv;
       after = inv';
@@ -64,7 +54,7 @@ access_asked-carried {w} caching c source m mail s sys sys' width inv inv' close
     })
     (queued-handed (pushes_at c (pushes_of (Some m))) (moves_at c (access_moves source)) mail' s' sys sys' handed
     (fits-handed c (pushes_of (Some m)) (access_moves source) (λ d k i. message_of mail' s' d (packet k i))
-    (λ at. fits_pushed false m channel.A at (access_moves source at) (λ k i. message_of mail' s' c (packet k i)) chan
+    (λ at. fits_pushed false m Channel.A at (access_moves source at) (λ k i. message_of mail' s' c (packet k i)) chan
     (fits at))))
     h
   where
@@ -74,13 +64,6 @@ access_asked-carried {w} caching c source m mail s sys sys' width inv inv' close
     s' : State (List ℕ)
     s' = access_asked c source s
 
-    moved : AreMoved (access_moves source) (s.link c) (with_a (packet Request source) (s.link c))
-    moved channel.A = refl
-    moved channel.B = refl
-    moved channel.C = refl
-    moved channel.D = refl
-    moved channel.E = refl
-
     requests : (d i : ℕ) → is_asked (s.uses d i) ≡ true → (d ≡ c) ⊎ (d ≡ c → ⊥) → (i ≡ source) ⊎ (i ≡ source → ⊥)
         → set_at c source m mail.request d i ≡ mail.request d i
     requests d i e (inl same) (inl also) = absurd (let f : is_asked (s.uses c source) ≡ true = rw (same, also) at e in
@@ -88,94 +71,57 @@ access_asked-carried {w} caching c source m mail s sys sys' width inv inv' close
     requests d i e (inl same) (inr other) = rw (same, same_number c, ne_eqb i source other) refl
     requests d i e (inr other) j = rw (ne_eqb d c other) refl
 
-    fits : (at : Channel) → Fits false (only_on channel.A m at) (access_moves source at)
+    fits : (at : Channel) → Fits false (only_on Channel.A m at) (access_moves source at)
         (λ k i. message_of mail' s' c (packet k i))
-    fits channel.A = ap (λ (f : ℕ → Message w). f source) (set-same c (set source m (mail.request c)) mail.request)
-        ∙ set-same source m (mail.request c)
-    fits channel.B = tt
-    fits channel.C = tt
-    fits channel.D = tt
-    fits channel.E = tt
+    fits Channel.A = cc (set-same c (set source m (mail.request c)) mail.request, set-same source m (mail.request c))
+    fits at = tt
 
 pub acquire_asked-carried : {w : ℕ} (caching : ℕ → Bool) (c n source : ℕ) (whole : Bool) (g : Grow) (bytes : List ℕ)
-    (m : Message w) (mail : AccessMessages w)
-    (s : State (List ℕ)) (sys sys' : System w) → IsWidth w
+    (m : Message w) (mail : AccessMessages w) (s : State (List ℕ)) (sys sys' : System w) → IsWidth w
     → IsInvariant caching s → IsInvariant caching (acquire_asked c n source whole g bytes s)
-    → ((s.block n).pair c).acquiring ≡ NoAcquire
-    → channel_of_message m ≡ channel.A → block_message Acquire c n (acquiring_block c source whole g bytes (s.block n))
-    ≡ m → IsHanded (pushes_at c (pushes_of (Some m))) sys sys' → ChannelRelation mail s sys
+    → ((s.block n).pair c).acquiring ≡ NoAcquire → channel_of_message m ≡ Channel.A
+    → block_message Acquire c n (acquiring_block c source whole g bytes (s.block n)) ≡ m
+    → IsHanded (pushes_at c (pushes_of (Some m))) sys sys' → ChannelRelation mail s sys
     → ChannelRelation mail (acquire_asked c n source whole g bytes s) sys'
 acquire_asked-carried {w} caching c n source whole g bytes m mail s sys sys' width inv inv' calm chan is handed h =
+    let new : Block (List ℕ) = acquiring_block c source whole g bytes (s.block n) in
+    let s' : State (List ℕ) = acquire_asked c n source whole g bytes s in
+    let moved : AreMoved (acquire_moves n) (s.link c) (with_a (packet Acquire n) (s.link c)) =
+    elim [ Channel.A ↦ refl | _ ↦ refl ] in
+    let fits : (at : Channel) → Fits false (only_on Channel.A m at) (acquire_moves n at)
+    (λ k i. message_of mail s' c (packet k i)) =
+    elim [ Channel.A ↦ new_there Acquire c n new s.block m is | at ↦ tt ] in
     carried-event caching n (moves_at c (acquire_moves n)) mail mail s s' sys sys' width
-    (showing-block caching n new (moves_at c (acquire_moves n)) mail mail s s' inv inv'
+    (showing-block n new (moves_at c (acquire_moves n)) mail mail inv inv'
     (moved-at c (acquire_moves n) (with_a (packet Acquire n) (s.link c)) s.link moved) (λ i. refl)
-    (λ d. alike-acquiring caching c source whole g bytes (s.block n) (inv.blocks n) calm d) (λ d i e f. refl)
-    (λ d i e f. refl))
+    (λ d. alike-acquiring c source whole g bytes (inv.blocks n) calm d) (λ d i e f. refl) (λ d i e f. refl))
     (queued-handed (pushes_at c (pushes_of (Some m))) (moves_at c (acquire_moves n)) mail s' sys sys' handed
     (fits-handed c (pushes_of (Some m)) (acquire_moves n) (λ d k i. message_of mail s' d (packet k i))
-    (λ at. fits_pushed false m channel.A at (acquire_moves n at) (λ k i. message_of mail s' c (packet k i)) chan
-    (fits at))))
-    h
-  where
-    new : Block (List ℕ)
-    new = acquiring_block c source whole g bytes (s.block n)
-
-    s' : State (List ℕ)
-    s' = acquire_asked c n source whole g bytes s
-
-    moved : AreMoved (acquire_moves n) (s.link c) (with_a (packet Acquire n) (s.link c))
-    moved channel.A = refl
-    moved channel.B = refl
-    moved channel.C = refl
-    moved channel.D = refl
-    moved channel.E = refl
-
-    fits : (at : Channel) → Fits false (only_on channel.A m at) (acquire_moves n at)
-        (λ k i. message_of mail s' c (packet k i))
-    fits channel.A = new_there Acquire c n new s.block m is
-    fits channel.B = tt
-    fits channel.C = tt
-    fits channel.D = tt
-    fits channel.E = tt
+    (λ at. fits_pushed false m Channel.A at (acquire_moves n at) (λ k i. message_of mail s' c (packet k i)) chan
+    (fits at)))) h
 
 pub release_asked-carried : {w : ℕ} (caching : ℕ → Bool) (c n source : ℕ) (r : Prune) (m : Message w)
-    (mail : AccessMessages w) (s : State (List ℕ)) (sys sys' : System w) → IsWidth w
-    → IsInvariant caching s → IsInvariant caching (release_asked c n source r s)
-    → ((s.block n).pair c).letting ≡ NoRelease
-    → channel_of_message m ≡ channel.C → block_message Release c n (releasing_block c source r (s.block n)) ≡ m
+    (mail : AccessMessages w) (s : State (List ℕ)) (sys sys' : System w) → IsWidth w → IsInvariant caching s
+    → IsInvariant caching (release_asked c n source r s) → ((s.block n).pair c).letting ≡ NoRelease
+    → channel_of_message m ≡ Channel.C → block_message Release c n (releasing_block c source r (s.block n)) ≡ m
     → IsHanded (pushes_at c (pushes_of (Some m))) sys sys' → ChannelRelation mail s sys
     → ChannelRelation mail (release_asked c n source r s) sys'
 release_asked-carried {w} caching c n source r m mail s sys sys' width inv inv' kept chan is handed h =
+    let new : Block (List ℕ) = releasing_block c source r (s.block n) in
+    let s' : State (List ℕ) = release_asked c n source r s in
+    let moved : AreMoved (release_moves n) (s.link c) (with_c (packet Release n) (s.link c)) =
+    elim [ Channel.A ↦ refl | _ ↦ refl ] in
+    let fits : (at : Channel) → Fits false (only_on Channel.C m at) (release_moves n at)
+    (λ k i. message_of mail s' c (packet k i)) =
+    elim [ Channel.C ↦ new_there Release c n new s.block m is | at ↦ tt ] in
     carried-event caching n (moves_at c (release_moves n)) mail mail s s' sys sys' width
-    (showing-block caching n new (moves_at c (release_moves n)) mail mail s s' inv inv'
+    (showing-block n new (moves_at c (release_moves n)) mail mail inv inv'
     (moved-at c (release_moves n) (with_c (packet Release n) (s.link c)) s.link moved) (λ i. refl)
     (λ d. alike-releasing c source r (s.block n) kept d) (λ d i e f. refl) (λ d i e f. refl))
     (queued-handed (pushes_at c (pushes_of (Some m))) (moves_at c (release_moves n)) mail s' sys sys' handed
     (fits-handed c (pushes_of (Some m)) (release_moves n) (λ d k i. message_of mail s' d (packet k i))
-    (λ at. fits_pushed false m channel.C at (release_moves n at) (λ k i. message_of mail s' c (packet k i)) chan
-    (fits at))))
-    h
-  where
-    new : Block (List ℕ)
-    new = releasing_block c source r (s.block n)
-
-    s' : State (List ℕ)
-    s' = release_asked c n source r s
-
-    moved : AreMoved (release_moves n) (s.link c) (with_c (packet Release n) (s.link c))
-    moved channel.A = refl
-    moved channel.B = refl
-    moved channel.C = refl
-    moved channel.D = refl
-    moved channel.E = refl
-
-    fits : (at : Channel) → Fits false (only_on channel.C m at) (release_moves n at)
-        (λ k i. message_of mail s' c (packet k i))
-    fits channel.A = tt
-    fits channel.B = tt
-    fits channel.C = new_there Release c n new s.block m is
-    fits channel.D = tt
-    fits channel.E = tt
+    (λ at. fits_pushed false m Channel.C at (release_moves n at) (λ k i. message_of mail s' c (packet k i)) chan
+    (fits at)))) h
 
 -- nothing is handed out
 abbrev still_moves : ℕ → Channel → Move
@@ -186,9 +132,8 @@ no_push true render = tt
 no_push false render = tt
 
 pub nothing_asked-carried : {w : ℕ} (caching : ℕ → Bool) (c : ℕ) (mail : AccessMessages w) (s : State (List ℕ))
-    (sys sys' : System w) → IsWidth w → IsInvariant caching s
-    → IsHanded (pushes_at c (pushes_of None)) sys sys' → ChannelRelation mail s sys
-    → ChannelRelation mail s sys'
+    (sys sys' : System w) → IsWidth w → IsInvariant caching s → IsHanded (pushes_at c (pushes_of None)) sys sys'
+    → ChannelRelation mail s sys → ChannelRelation mail s sys'
 nothing_asked-carried {w} caching c mail s sys sys' width inv handed h =
     carried-event caching 0 still_moves mail mail s s sys sys' width (record {
       before = inv;
@@ -209,12 +154,10 @@ pub block_stored-carried : {w : ℕ} (caching : ℕ → Bool) (c n : ℕ) (bytes
     → ((k : Kind) (d : ℕ) → carries k d (s.block n) ≡ false) → IsHanded (pushes_at c (pushes_of None)) sys sys'
     → ChannelRelation mail s sys → ChannelRelation mail (block_stored c n bytes s) sys'
 block_stored-carried {w} caching c n bytes mail s sys sys' width inv inv' none handed h =
+    let new : Block (List ℕ) = stored_block c bytes (s.block n) in
     carried-event caching n still_moves mail mail s (block_stored c n bytes s) sys sys' width
-    (showing-block caching n new still_moves mail mail s (block_stored c n bytes s) inv inv' (λ d ch. refl) (λ i. refl)
+    (showing-block n new still_moves mail mail inv inv' (λ d ch. refl) (λ i. refl)
     (alike-bytes (s.block n) new refl refl refl refl refl (λ k d. inl (none k d))) (λ d i e f. refl) (λ d i e f. refl))
     (queued-handed (pushes_at c (pushes_of None)) still_moves mail (block_stored c n bytes s) sys sys' handed
     (λ d at. no_push (d == c) (λ k i. message_of mail (block_stored c n bytes s) d (packet k i))))
     h
-  where
-    new : Block (List ℕ)
-    new = stored_block c bytes (s.block n)

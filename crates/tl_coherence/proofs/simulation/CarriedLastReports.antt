@@ -1,55 +1,48 @@
 -- The channels carry the messages of the tokens after the last report, for which a service ends.
-use Rattle.tl_coherence.proofs.simulation.Imports.{Channel, Message, Cap, Report, Kind}
-use Rattle.tl_coherence.proofs.simulation.Imports.{ProbeAck, Answer, Grant, Packet, set}
-use Rattle.tl_coherence.proofs.simulation.Imports.{set_at, Waits, Block, State, packet, packets_on, shown}
-use Rattle.tl_coherence.proofs.simulation.Imports.{IsInvariant, Move, Stays, AccessMessages}
-use Rattle.tl_coherence.proofs.simulation.Imports.{block_message, message_of, same_channel, channel_of_message}
-use Rattle.std.proofs.Common.{◌≡◌, ℕ, Bool, true, false, ◌&&◌, List, [], ◌∷◌, ◌++◌}
-use Rattle.std.proofs.Common.{Some, None, refl, sym, ◌∙◌, ap, ◌⊎◌, inl, inr}
-use Rattle.std.specs.Prelude.{◌==◌, if◌then◌else◌}
-use Rattle.std.proofs.lemmas.Bool.{cases_eq, ne_eqb}
-use Rattle.tl_beat.specs.declared.channel.Channel.TheVariants as channel
-use Rattle.tl_coherence.specs.protocol.Protocol.{Link, popped_link, granted_link}
-use Rattle.tl_coherence.specs.protocol.Protocol.{report_answers}
-use Rattle.tl_coherence.specs.protocol.Protocol.{ended_block, report_grants, granted_block}
+use Rattle.tl_coherence.proofs.simulation.Imports.{Channel, Message, Cap, Report, Kind, ProbeAck, Answer, Grant, Packet}
+use Rattle.tl_coherence.proofs.simulation.Imports.{set, set_at, Waits, Block, State, packet, packets_on, shown}
+use Rattle.tl_coherence.proofs.simulation.Imports.{IsInvariant, Move, Stays, AccessMessages, block_message, message_of}
+use Rattle.tl_coherence.proofs.simulation.Imports.{same_channel, channel_of_message}
+use Rattle.std.proofs.Common.{◌≡◌, ℕ, Bool, true, false, ◌&&◌, List, [], ◌∷◌, ◌++◌, Some, None, refl, sym, ◌∙◌, ap, ◌⊎◌}
+use Rattle.std.proofs.Common.{inl, inr}
+use Rattle.std.{specs.Prelude.◌==◌, specs.Prelude.if◌then◌else◌, proofs.lemmas.Bool.cases_eq, proofs.lemmas.Bool.ne_eqb}
+use Rattle.tl_coherence.specs.protocol.Protocol.{Link, popped_link, granted_link, report_answers, ended_block}
+use Rattle.tl_coherence.specs.protocol.Protocol.{report_grants, granted_block}
 use Rattle.tl_coherence.specs.protocol.Invariant.{is_replied}
 use Rattle.tl_coherence.specs.refinement.Move.{Pushes, Pops, IsMoved}
-use Rattle.tl_coherence.proofs.protocol.Alike.{alike-ended, alike-granted}
-use Rattle.tl_coherence.proofs.simulation.CarriedAsks.{only_on}
-use Rattle.tl_coherence.proofs.queues.Channels.{Fits, pushes_at}
-use Rattle.tl_coherence.proofs.protocol.Ended.{ended_move, ended_moved}
-use Rattle.tl_coherence.proofs.protocol.GrantedAll.{granted_moves}
-use Rattle.tl_coherence.proofs.queues.Landed.{pushes_of}
-use Rattle.tl_coherence.proofs.queues.Shown.{IsShown}
-use Rattle.tl_coherence.proofs.queues.Showing.{carries, showing-block}
+use Rattle.tl_coherence.proofs.{protocol.Alike.alike-ended, protocol.Alike.alike-granted}
+use Rattle.tl_coherence.proofs.{simulation.CarriedAsks.only_on, queues.Channels.Fits, queues.Channels.pushes_at}
+use Rattle.tl_coherence.proofs.{protocol.Ended.ended_move, protocol.Ended.ended_moved}
+use Rattle.tl_coherence.proofs.{protocol.GrantedAll.granted_moves, queues.Landed.pushes_of, queues.Shown.IsShown}
+use Rattle.tl_coherence.proofs.{queues.Showing.carries, queues.Showing.showing-block}
 use Rattle.tl_coherence.proofs.queues.Tokens.{same_number, set-same, set-other}
 
 -- ---- the last report, for which an access is answered
 
 ended_fits : {w : ℕ} (n source : ℕ) (m : Message w) (at : Channel) (x y : Bool) (render : Kind → ℕ → Message w)
     → (y ≡ true → render Answer source ≡ m)
-    → Fits (x && same_channel at channel.C) (if y then only_on channel.D m at else None) (ended_move x y n source at)
+    → Fits (x && same_channel at Channel.C) (if y then only_on Channel.D m at else None) (ended_move x y n source at)
     render
-ended_fits n source m channel.A true true render e = tt
-ended_fits n source m channel.A true false render e = tt
-ended_fits n source m channel.A false true render e = tt
-ended_fits n source m channel.A false false render e = tt
-ended_fits n source m channel.B true true render e = tt
-ended_fits n source m channel.B true false render e = tt
-ended_fits n source m channel.B false true render e = tt
-ended_fits n source m channel.B false false render e = tt
-ended_fits n source m channel.C true true render e = tt
-ended_fits n source m channel.C true false render e = tt
-ended_fits n source m channel.C false true render e = tt
-ended_fits n source m channel.C false false render e = tt
-ended_fits n source m channel.D true true render e = e refl
-ended_fits n source m channel.D true false render e = tt
-ended_fits n source m channel.D false true render e = e refl
-ended_fits n source m channel.D false false render e = tt
-ended_fits n source m channel.E true true render e = tt
-ended_fits n source m channel.E true false render e = tt
-ended_fits n source m channel.E false true render e = tt
-ended_fits n source m channel.E false false render e = tt
+ended_fits n source m Channel.A true true render e = tt
+ended_fits n source m Channel.A true false render e = tt
+ended_fits n source m Channel.A false true render e = tt
+ended_fits n source m Channel.A false false render e = tt
+ended_fits n source m Channel.B true true render e = tt
+ended_fits n source m Channel.B true false render e = tt
+ended_fits n source m Channel.B false true render e = tt
+ended_fits n source m Channel.B false false render e = tt
+ended_fits n source m Channel.C true true render e = tt
+ended_fits n source m Channel.C true false render e = tt
+ended_fits n source m Channel.C false true render e = tt
+ended_fits n source m Channel.C false false render e = tt
+ended_fits n source m Channel.D true true render e = e refl
+ended_fits n source m Channel.D true false render e = tt
+ended_fits n source m Channel.D false true render e = e refl
+ended_fits n source m Channel.D false false render e = tt
+ended_fits n source m Channel.E true true render e = tt
+ended_fits n source m Channel.E true false render e = tt
+ended_fits n source m Channel.E false true render e = tt
+ended_fits n source m Channel.E false false render e = tt
 
 -- the first token of c's channel C, wherever it is looked for
 first_of_c : (c d : ℕ) (t : Packet) (rest : List Packet) (link : ℕ → Link) → (link c).c ≡ t ∷ rest → (d == c) ≡ true
@@ -66,56 +59,42 @@ popped_is c d rest link = elim (cases_eq d c) [
   | inr other ↦ rw (ne_eqb d c other) refl
 ]
 
-pub report_answers-shown : {w : ℕ} (caching : ℕ → Bool) (c q n source : ℕ) (r : Report) (k : Cap) (f : List ℕ → List ℕ)
-    (rest : List Packet) (m : Message w)
-    (mail : AccessMessages w) (s : State (List ℕ)) → IsInvariant caching s
-    → IsInvariant caching (report_answers c q n source r f rest s)
-    → (s.link c).c ≡ packet ProbeAck n ∷ rest → (s.block n).service ≡ Waits q false source k
-    → is_replied (s.uses q source) ≡ false
+pub report_answers-shown : {w : ℕ} {caching : ℕ → Bool} (c q n source : ℕ) (r : Report) (k : Cap) (f : List ℕ → List ℕ)
+    (rest : List Packet) (m : Message w) (mail : AccessMessages w) {s : State (List ℕ)} → IsInvariant caching s
+    → IsInvariant caching (report_answers c q n source r f rest s) → (s.link c).c ≡ packet ProbeAck n ∷ rest
+    → (s.block n).service ≡ Waits q false source k → is_replied (s.uses q source) ≡ false
     → ((j : Kind) (i : ℕ) → shown j i (s.block n) ≡ true → shown j i (ended_block c r f (s.block n)) ≡ true
-    → (carries j i (s.block n) ≡ false)
-    ⊎ (f (s.block n).truth ≡ (s.block n).truth)) → channel_of_message m ≡ channel.D
-    → IsShown caching n c channel.C (pushes_at q (pushes_of (Some m))) mail
+    → (carries j i (s.block n) ≡ false) ⊎ (f (s.block n).truth ≡ (s.block n).truth)) → channel_of_message m ≡ Channel.D
+    → IsShown caching n c Channel.C (pushes_at q (pushes_of (Some m))) mail
     (record { request = mail.request; answer = set_at q source m mail.answer }) s
     (report_answers c q n source r f rest s)
-report_answers-shown {w} caching c q n source r k f rest m mail s inv inv' first waits used bytes chan = record {
-  moves = moves;
-  showing = showing-block caching n new moves mail mail' s s' inv inv' (λ d ch. moved d ch) (λ i. refl)
-      (alike-ended c q source r k f (s.block n) waits bytes) (λ d i e g. refl)
-      (λ d i e g. answers d i e (cases_eq d q) (cases_eq i source));
-  fits = λ d at. fits d at;
-}
+report_answers-shown {w} {caching} c q n source r k f rest m mail {s} inv inv' first waits used bytes chan =
+    let new : Block (List ℕ) = ended_block c r f (s.block n) in
+    let mail' : AccessMessages w = record { request = mail.request; answer = set_at q source m mail.answer } in
+    let s' : State (List ℕ) = report_answers c q n source r f rest s in
+    let moves : ℕ → Channel → Move = λ d. ended_move (d == c) (d == q) n source in
+    let moved : (d : ℕ) (ch : Channel) → IsMoved (moves d ch) (packets_on ch (s.link d)) (packets_on ch (s'.link d)) =
+    λ d ch. rw (popped_is c d rest s.link) (ended_moved ch (d == c) (d == q) n source (s.link d) rest
+    (first_of_c c d (packet ProbeAck n) rest s.link first)) in
+    let answer_is : (d : ℕ) → (d == q) ≡ true → set_at q source m mail.answer d source ≡ m =
+    λ d e. rw (e, same_number source) refl in
+    let fits : (d : ℕ) (at : Channel) → Fits ((d == c) && same_channel at Channel.C) (pushes_at q (pushes_of (Some m)) d
+    at) (moves d at) (λ j l. message_of mail' s' d (packet j l)) = λ d at. rw chan (ended_fits n source m at (d ==
+    c) (d == q) (λ j l. message_of mail' s' d (packet j l)) (answer_is d)) in
+    record {
+      moves = moves;
+      showing = showing-block n new moves mail mail' inv inv' (λ d ch. moved d ch) (λ i. refl)
+          (alike-ended c q source r k f (s.block n) waits bytes) (λ d i e g. refl)
+          (λ d i e g. answers d i e (cases_eq d q) (cases_eq i source));
+      fits = λ d at. fits d at;
+    }
   where
-    new : Block (List ℕ)
-    new = ended_block c r f (s.block n)
-
-    mail' : AccessMessages w
-    mail' = record { request = mail.request; answer = set_at q source m mail.answer }
-
-    s' : State (List ℕ)
-    s' = report_answers c q n source r f rest s
-
-    moves : ℕ → Channel → Move
-    moves d = ended_move (d == c) (d == q) n source
-
-    moved : (d : ℕ) (ch : Channel) → IsMoved (moves d ch) (packets_on ch (s.link d)) (packets_on ch (s'.link d))
-    moved d ch = rw (popped_is c d rest s.link) (ended_moved ch (d == c) (d == q) n source (s.link d) rest
-        (first_of_c c d (packet ProbeAck n) rest s.link first))
-
     answers : (d i : ℕ) → is_replied (s.uses d i) ≡ true → (d ≡ q) ⊎ (d ≡ q → ⊥) → (i ≡ source) ⊎ (i ≡ source → ⊥)
         → set_at q source m mail.answer d i ≡ mail.answer d i
     answers d i e (inl same) (inl also) = absurd (let g : is_replied (s.uses q source) ≡ true = rw (same, also) at e in
         let no : false ≡ true = sym used ∙ g in cc)
     answers d i e (inl same) (inr other) = rw (same, same_number q, ne_eqb i source other) refl
     answers d i e (inr other) j = rw (ne_eqb d q other) refl
-
-    answer_is : (d : ℕ) → (d == q) ≡ true → set_at q source m mail.answer d source ≡ m
-    answer_is d e = rw (e, same_number source) refl
-
-    fits : (d : ℕ) (at : Channel) → Fits ((d == c) && same_channel at channel.C) (pushes_at q (pushes_of (Some m)) d at)
-        (moves d at) (λ j l. message_of mail' s' d (packet j l))
-    fits d at = rw chan (ended_fits n source m at (d == c) (d == q) (λ j l. message_of mail' s' d (packet j l))
-        (answer_is d))
 
 -- ---- the last report, for which an Acquire is granted
 
@@ -141,102 +120,82 @@ granted_moved n c q d ch rest link apart first = elim (cases_eq d q) [
 
     at_sender : (ch : Channel) (l : Link) → l ≡ record (link q) { d = (link q).d ++ packet Grant n ∷ [] }
         → IsMoved (granted_moves n c q q ch) (packets_on ch (link q)) (packets_on ch l)
-    at_sender channel.A l e = rw e refl
-    at_sender channel.B l e = rw e refl
-    at_sender channel.C l e = rw (e, ne_eqb q c swapped) refl
-    at_sender channel.D l e = rw (e, same_number q) refl
-    at_sender channel.E l e = rw e refl
+    at_sender Channel.C l e = rw (e, ne_eqb q c swapped) refl
+    at_sender Channel.D l e = rw (e, same_number q) refl
+    at_sender ch l e = rw e refl
 
     at_reporter : (ch : Channel) (l : Link) → l ≡ record (link c) { c = rest }
         → IsMoved (granted_moves n c q c ch) (packets_on ch (link c)) (packets_on ch l)
-    at_reporter channel.A l e = rw e refl
-    at_reporter channel.B l e = rw e refl
-    at_reporter channel.C l e = rw (e, same_number c) first
-    at_reporter channel.D l e = rw (e, ne_eqb c q apart) refl
-    at_reporter channel.E l e = rw e refl
+    at_reporter Channel.C l e = rw (e, same_number c) first
+    at_reporter Channel.D l e = rw (e, ne_eqb c q apart) refl
+    at_reporter ch l e = rw e refl
 
     at_other : (ch : Channel) (l : Link) → (d ≡ q → ⊥) → (d ≡ c → ⊥) → l ≡ link d
         → IsMoved (granted_moves n c q d ch) (packets_on ch (link d)) (packets_on ch l)
-    at_other channel.A l o i e = rw e refl
-    at_other channel.B l o i e = rw e refl
-    at_other channel.C l o i e = rw (e, ne_eqb d c i) refl
-    at_other channel.D l o i e = rw (e, ne_eqb d q o) refl
-    at_other channel.E l o i e = rw e refl
+    at_other Channel.C l o i e = rw (e, ne_eqb d c i) refl
+    at_other Channel.D l o i e = rw (e, ne_eqb d q o) refl
+    at_other ch l o i e = rw e refl
 
 granted_fits : {w : ℕ} (n : ℕ) (m : Message w) (at : Channel) (c q d : ℕ) (render : Kind → ℕ → Message w)
     → ((d == q) ≡ true → render Grant n ≡ m)
-    → Fits ((d == c) && same_channel at channel.C) (if d == q then only_on channel.D m at else None)
+    → Fits ((d == c) && same_channel at Channel.C) (if d == q then only_on Channel.D m at else None)
     (granted_moves n c q d at) render
-granted_fits {w} n m at c q d render e = rw (same at) (cases at (d == c) (d == q) e)
+granted_fits {w} n m at c q d render e =
+    let same : (at : Channel) → granted_moves n c q d at ≡ moves (d == c) (d == q) at =
+    elim [ Channel.A ↦ refl | at ↦ refl ] in
+    rw (same at) (cases at (d == c) (d == q) e)
   where
     moves : Bool → Bool → Channel → Move
-    moves x y channel.C = if x then Pops ProbeAck n else Stays
-    moves x y channel.D = if y then Pushes Grant n else Stays
-    moves x y channel.A = Stays
-    moves x y channel.B = Stays
-    moves x y channel.E = Stays
+    moves x y Channel.C = if x then Pops ProbeAck n else Stays
+    moves x y Channel.D = if y then Pushes Grant n else Stays
+    moves x y _ = Stays
 
     cases : (at : Channel) (x y : Bool) → (y ≡ true → render Grant n ≡ m)
-        → Fits (x && same_channel at channel.C) (if y then only_on channel.D m at else None) (moves x y at) render
-    cases channel.A true true e = tt
-    cases channel.A true false e = tt
-    cases channel.A false true e = tt
-    cases channel.A false false e = tt
-    cases channel.B true true e = tt
-    cases channel.B true false e = tt
-    cases channel.B false true e = tt
-    cases channel.B false false e = tt
-    cases channel.C true true e = tt
-    cases channel.C true false e = tt
-    cases channel.C false true e = tt
-    cases channel.C false false e = tt
-    cases channel.D true true e = e refl
-    cases channel.D true false e = tt
-    cases channel.D false true e = e refl
-    cases channel.D false false e = tt
-    cases channel.E true true e = tt
-    cases channel.E true false e = tt
-    cases channel.E false true e = tt
-    cases channel.E false false e = tt
+        → Fits (x && same_channel at Channel.C) (if y then only_on Channel.D m at else None) (moves x y at) render
+    cases Channel.A true true e = tt
+    cases Channel.A true false e = tt
+    cases Channel.A false true e = tt
+    cases Channel.A false false e = tt
+    cases Channel.B true true e = tt
+    cases Channel.B true false e = tt
+    cases Channel.B false true e = tt
+    cases Channel.B false false e = tt
+    cases Channel.C true true e = tt
+    cases Channel.C true false e = tt
+    cases Channel.C false true e = tt
+    cases Channel.C false false e = tt
+    cases Channel.D true true e = e refl
+    cases Channel.D true false e = tt
+    cases Channel.D false true e = e refl
+    cases Channel.D false false e = tt
+    cases Channel.E true true e = tt
+    cases Channel.E true false e = tt
+    cases Channel.E false true e = tt
+    cases Channel.E false false e = tt
 
-    same : (at : Channel) → granted_moves n c q d at ≡ moves (d == c) (d == q) at
-    same channel.A = refl
-    same channel.B = refl
-    same channel.C = refl
-    same channel.D = refl
-    same channel.E = refl
-
-pub report_grants-shown : {w : ℕ} (caching : ℕ → Bool) (c q n source : ℕ) (r : Report) (d : Bool) (k gift : Cap)
-    (rest : List Packet) (m : Message w)
-    (mail : AccessMessages w) (s : State (List ℕ)) → IsInvariant caching s
-    → IsInvariant caching (report_grants c q n r d gift rest s)
-    → (s.link c).c ≡ packet ProbeAck n ∷ rest → (s.block n).service ≡ Waits q true source k → (c ≡ q → ⊥)
-    → channel_of_message m ≡ channel.D
+pub report_grants-shown : {w : ℕ} {caching : ℕ → Bool} (c q n source : ℕ) (r : Report) (d : Bool) (k gift : Cap)
+    (rest : List Packet) (m : Message w) (mail : AccessMessages w) {s : State (List ℕ)} → IsInvariant caching s
+    → IsInvariant caching (report_grants c q n r d gift rest s) → (s.link c).c ≡ packet ProbeAck n ∷ rest
+    → (s.block n).service ≡ Waits q true source k → (c ≡ q → ⊥) → channel_of_message m ≡ Channel.D
     → block_message Grant q n (granted_block c q r d gift (s.block n)) ≡ m
-    → IsShown caching n c channel.C (pushes_at q (pushes_of (Some m))) mail mail s (report_grants c q n r d gift rest s)
-report_grants-shown {w} caching c q n source r d k gift rest m mail s inv inv' first waits apart chan is = record {
-  moves = moves;
-  showing = showing-block caching n new moves mail mail s s' inv inv'
-      (λ i ch. granted_moved n c q i ch rest s.link apart first) (λ i. refl)
-      (alike-granted c q source r true d k gift (s.block n) waits apart) (λ i j e f. refl) (λ i j e f. refl);
-  fits = λ i at. fits i at;
-}
-  where
-    new : Block (List ℕ)
-    new = granted_block c q r d gift (s.block n)
-
-    s' : State (List ℕ)
-    s' = report_grants c q n r d gift rest s
-
-    moves : ℕ → Channel → Move
-    moves i = granted_moves n c q i
-
-    grant_is : (i : ℕ) → (i == q) ≡ true → block_message {w = w} Grant i n (set n new s.block n) ≡ m
-    grant_is i e = elim (cases_eq i q) [
+    → IsShown caching n c Channel.C (pushes_at q (pushes_of (Some m))) mail mail s (report_grants c q n r d gift rest s)
+report_grants-shown {w} {caching} c q n source r d k gift rest m mail {s} inv inv' first waits apart chan is =
+    let new : Block (List ℕ) = granted_block c q r d gift (s.block n) in
+    let s' : State (List ℕ) = report_grants c q n r d gift rest s in
+    let moves : ℕ → Channel → Move = λ i. granted_moves n c q i in
+    let grant_is : (i : ℕ) → (i == q) ≡ true → block_message {w = w} Grant i n (set n new s.block n) ≡ m =
+    λ i e. elim (cases_eq i q) [
       | inl same ↦ rw same (ap (block_message Grant q n) (set-same n new s.block) ∙ is)
       | inr other ↦ absurd (let f : false ≡ true = sym (ne_eqb i q other) ∙ e in cc)
-    ]
-
-    fits : (i : ℕ) (at : Channel) → Fits ((i == c) && same_channel at channel.C) (pushes_at q (pushes_of (Some m)) i at)
-        (moves i at) (λ j l. message_of mail s' i (packet j l))
-    fits i at = rw chan (granted_fits n m at c q i (λ j l. message_of mail s' i (packet j l)) (grant_is i))
+    ] in
+    let fits : (i : ℕ) (at : Channel)
+    → Fits ((i == c) && same_channel at Channel.C) (pushes_at q (pushes_of (Some m)) i at) (moves i at)
+    (λ j l. message_of mail s' i (packet j l)) =
+    λ i at. rw chan (granted_fits n m at c q i (λ j l. message_of mail s' i (packet j l)) (grant_is i)) in
+    record {
+      moves = moves;
+      showing = showing-block n new moves mail mail inv inv'
+          (λ i ch. granted_moved n c q i ch rest s.link apart first) (λ i. refl)
+          (alike-granted c q source r true d k gift (s.block n) waits apart) (λ i j e f. refl) (λ i j e f. refl);
+      fits = λ i at. fits i at;
+    }

@@ -1,151 +1,134 @@
 -- The channels carry the messages of the tokens after an event at two clients or more: a request that probes, and the
 -- last report, for which an access is answered or an Acquire is granted.
-use Rattle.tl_coherence.proofs.simulation.Imports.{Channel, Message, beats_of, Cap, Kind}
-use Rattle.tl_coherence.proofs.simulation.Imports.{Request, Acquire, Probe, Packet, set}
-use Rattle.tl_coherence.proofs.simulation.Imports.{Free, Block, State, packet, packets_on}
-use Rattle.tl_coherence.proofs.simulation.Imports.{IsInvariant, Move, Stays, AccessMessages}
-use Rattle.tl_coherence.proofs.simulation.Imports.{block_message, message_of, System, same_channel}
-use Rattle.tl_coherence.proofs.simulation.Imports.{with_messages}
+use Rattle.tl_coherence.proofs.simulation.Imports.{Channel, Message, beats_of, Cap, Kind, Request, Acquire, Probe}
+use Rattle.tl_coherence.proofs.simulation.Imports.{Packet, set, Free, Block, State, packet, packets_on, IsInvariant}
+use Rattle.tl_coherence.proofs.simulation.Imports.{Move, Stays, AccessMessages, block_message, message_of, System}
+use Rattle.tl_coherence.proofs.simulation.Imports.{same_channel, with_messages}
 use Rattle.std.proofs.Common.{◌≡◌, ℕ, zero, suc, ◌+◌, ◌<◌, ◌≤◌, Bool, true, false, not, ◌&&◌, List, [], ◌∷◌, ◌++◌}
-use Rattle.std.proofs.Common.{Option, Some, None, refl, sym, ◌∙◌, ap, ◌⊎◌, inl, inr, arith}
+use Rattle.std.proofs.Common.{Option, Some, None, refl, sym, ◌∙◌, ◌⊎◌, inl, inr, arith}
 use Rattle.std.specs.Prelude.{◌==◌, if◌then◌else◌}
 use Rattle.std.proofs.lemmas.Bool.{cases_eq, cases_lt, ne_eqb}
-use Rattle.tl_beat.specs.declared.channel.Channel.TheVariants as channel
 use Rattle.tl_rules.specs.statement.Legality.{beats_from}
 use Rattle.tl_manager.specs.statement.Handing.{probes, probe_of_block}
 use Rattle.tl_manager.specs.statement.Holders.{clients_from}
-use Rattle.tl_coherence.specs.protocol.Phase.{ClientBlock}
-use Rattle.tl_coherence.specs.protocol.PhaseSteps.{is_above, after_served}
-use Rattle.tl_coherence.specs.protocol.Protocol.{Link, with_probe, is_probed, served_link}
-use Rattle.tl_coherence.specs.protocol.Protocol.{served_block, acquire_served, access_served}
-use Rattle.tl_coherence.specs.refinement.Move.{Pops, IsMoved}
-use Rattle.tl_coherence.specs.refinement.PacketMessages.{cap_sent}
-use Rattle.tl_coherence.specs.statement.System.{with_message}
-use Rattle.tl_coherence.proofs.protocol.AlikeRequests.{alike-served}
-use Rattle.tl_coherence.proofs.queues.Channels.{Fits, behind}
+use Rattle.tl_coherence.specs.{protocol.Phase.ClientBlock, protocol.PhaseSteps.is_above}
+use Rattle.tl_coherence.specs.{protocol.PhaseSteps.after_served, refinement.Move.Pops, refinement.Move.IsMoved}
+use Rattle.tl_coherence.specs.{refinement.PacketMessages.cap_sent, statement.System.with_message}
+use Rattle.tl_coherence.specs.protocol.Protocol.{Link, with_probe, is_probed, served_link, served_block, acquire_served}
+use Rattle.tl_coherence.specs.protocol.Protocol.{access_served}
+use Rattle.tl_coherence.proofs.{protocol.AlikeRequests.alike-served, queues.Channels.Fits, queues.Channels.behind}
+use Rattle.tl_coherence.proofs.{queues.Shown.IsShown, queues.Showing.showing-block, queues.Tokens.same_number}
+use Rattle.tl_coherence.proofs.{queues.Tokens.set-same}
 use Rattle.tl_coherence.proofs.protocol.Served.{request_move, served_moves, kind_served, number_served}
-use Rattle.tl_coherence.proofs.queues.Shown.{IsShown}
-use Rattle.tl_coherence.proofs.queues.Showing.{showing-block}
-use Rattle.tl_coherence.proofs.queues.Tokens.{same_number, set-same}
 
 -- ---- Probes that are handed out
 
 own_probe : {w : ℕ} (n : ℕ) (k : Cap) (d : ℕ) (s : System w) → (with_message d (probe_of_block n k) s).channels d
-    channel.B ≡ s.channels d channel.B
-    ++ beats_from (probe_of_block n k) 0 (beats_of (probe_of_block {w = w} n k))
+    Channel.B ≡ s.channels d Channel.B ++ beats_from (probe_of_block n k) 0 (beats_of (probe_of_block {w = w} n k))
 own_probe n k d s = rw (same_number d) refl
 
 other_probe : {w : ℕ} (n : ℕ) (k : Cap) (c d : ℕ) (at : Channel) (s : System w) → (d ≡ c → ⊥)
     → (with_message c (probe_of_block n k) s).channels d at ≡ s.channels d at
 other_probe n k c d at s ne = rw (ne_eqb d c ne) refl
 
-aside_probe : {w : ℕ} (n : ℕ) (k : Cap) (c d : ℕ) (at : Channel) (s : System w) → same_channel at channel.B ≡ false
+aside_probe : {w : ℕ} (n : ℕ) (k : Cap) (c d : ℕ) (at : Channel) (s : System w) → same_channel at Channel.B ≡ false
     → (with_message c (probe_of_block n k) s).channels d at ≡ s.channels d at
-aside_probe {w} n k c d at s aside = rw aside (go (d == c))
-  where
-    go : (b : Bool) → (if b && false then s.channels c channel.B ++ beats_from (probe_of_block n k) 0
-        (beats_of (probe_of_block {w = w} n k)) else s.channels d at) ≡ s.channels d at
-    go true = refl
-    go false = refl
+aside_probe {w} n k c d at s aside =
+    let go : (b : Bool) → (if b && false then s.channels c Channel.B ++ beats_from (probe_of_block n k) 0
+    (beats_of (probe_of_block {w = w} n k)) else s.channels d at) ≡ s.channels d at =
+    elim [ true ↦ refl | false ↦ refl ] in
+    rw aside (go (d == c))
 
 -- Probes go on channel B
 pub probes-aside : {w : ℕ} (n : ℕ) (k : Cap) (clients : List ℕ) (d : ℕ) (at : Channel) (s : System w)
-    → same_channel at channel.B ≡ false
-    → (with_messages (probes n k clients) s).channels d at ≡ s.channels d at
+    → same_channel at Channel.B ≡ false → (with_messages (probes n k clients) s).channels d at ≡ s.channels d at
 unfolding with_messages
 probes-aside n k [] d at s aside = refl
 probes-aside n k (c ∷ clients) d at s aside = probes-aside n k clients d at (with_message c (probe_of_block n k) s)
     aside ∙ aside_probe n k c d at s aside
 
 probes_below : {w : ℕ} (n : ℕ) (k : Cap) (first count : ℕ) (test : ℕ → Bool) (d : ℕ) (s : System w) → d < first
-    → (with_messages (probes n k (clients_from first count test)) s).channels d channel.B ≡ s.channels d channel.B
+    → (with_messages (probes n k (clients_from first count test)) s).channels d Channel.B ≡ s.channels d Channel.B
 unfolding with_messages clients_from
 probes_below n k first zero test d s lt = refl
 probes_below {w} n k first (suc count) test d s lt =
     go (λ u. probes_below n k (first + 1) count test d u (omega (arith, lt))) (test first)
   where
     go : ((u : System w) → (with_messages (probes n k (clients_from (first + 1) count test)) u).channels d
-        channel.B ≡ u.channels d channel.B) → (b : Bool)
+        Channel.B ≡ u.channels d Channel.B) → (b : Bool)
         → (with_messages (probes n k (if b then first ∷ clients_from (first + 1) count test else clients_from
-        (first + 1) count test)) s).channels d channel.B ≡ s.channels d channel.B
+        (first + 1) count test)) s).channels d Channel.B ≡ s.channels d Channel.B
     go rest true =
         let ne : d ≡ first → ⊥ = λ e. absurd (omega (arith, e, lt)) in
-        rest (with_message first (probe_of_block n k) s) ∙ other_probe n k first d channel.B s ne
+        rest (with_message first (probe_of_block n k) s) ∙ other_probe n k first d Channel.B s ne
     go rest false = rest s
 
 pub probes-past : {w : ℕ} (n : ℕ) (k : Cap) (first count : ℕ) (test : ℕ → Bool) (d : ℕ) (s : System w)
     → first + count ≤ d
-    → (with_messages (probes n k (clients_from first count test)) s).channels d channel.B ≡ s.channels d channel.B
+    → (with_messages (probes n k (clients_from first count test)) s).channels d Channel.B ≡ s.channels d Channel.B
 unfolding with_messages clients_from
 probes-past n k first zero test d s le = refl
 probes-past {w} n k first (suc count) test d s le =
     go (λ u. probes-past n k (first + 1) count test d u (omega (arith, le))) (test first)
   where
     go : ((u : System w) → (with_messages (probes n k (clients_from (first + 1) count test)) u).channels d
-        channel.B ≡ u.channels d channel.B) → (b : Bool)
+        Channel.B ≡ u.channels d Channel.B) → (b : Bool)
         → (with_messages (probes n k (if b then first ∷ clients_from (first + 1) count test else clients_from
-        (first + 1) count test)) s).channels d channel.B ≡ s.channels d channel.B
+        (first + 1) count test)) s).channels d Channel.B ≡ s.channels d Channel.B
     go rest true =
         let ne : d ≡ first → ⊥ = λ e. absurd (omega (arith, e, le)) in
-        rest (with_message first (probe_of_block n k) s) ∙ other_probe n k first d channel.B s ne
+        rest (with_message first (probe_of_block n k) s) ∙ other_probe n k first d Channel.B s ne
     go rest false = rest s
 
 pub probes-among : {w : ℕ} (n : ℕ) (k : Cap) (first count : ℕ) (test : ℕ → Bool) (d : ℕ) (s : System w) → first ≤ d
-    → d < first + count
-    → (with_messages (probes n k (clients_from first count test)) s).channels d channel.B ≡ behind
-    (if test d then Some (probe_of_block n k) else None) (s.channels d channel.B)
+    → d < first + count → (with_messages (probes n k (clients_from first count test)) s).channels d Channel.B
+    ≡ behind (if test d then Some (probe_of_block n k) else None) (s.channels d Channel.B)
 unfolding with_messages clients_from
 probes-among n k first zero test d s le lt = absurd (omega (arith, le, lt))
 probes-among {w} n k first (suc count) test d s le lt =
+    let go : (d ≡ first) ⊎ (d ≡ first → ⊥) → ((d ≡ first → ⊥) → Rest)
+    → (with_messages (probes n k (clients_from first (suc count) test)) s).channels d Channel.B
+    ≡ behind (if test d then Some (probe_of_block n k) else None) (s.channels d Channel.B) =
+    elim [ inl e ↦ λ rest. rw (← e) (at_first (test d)) | inr ne ↦ λ rest. later ne (rest ne) (test first) ] in
     go (cases_eq d first) (λ ne u. probes-among n k (first + 1) count test d u (omega (arith, le, ne))
     (omega (arith, lt)))
   where
     Rest : Type 0
-    Rest = (u : System w) → (with_messages (probes n k (clients_from (first + 1) count test)) u).channels d
-        channel.B ≡ behind
-        (if test d then Some (probe_of_block n k) else None) (u.channels d channel.B)
+    Rest = (u : System w) → (with_messages (probes n k (clients_from (first + 1) count test)) u).channels d Channel.B
+        ≡ behind (if test d then Some (probe_of_block n k) else None) (u.channels d Channel.B)
 
-    at_first : (b : Bool)
-        → (with_messages (probes n k (if b then d ∷ clients_from (d + 1) count test else clients_from (d + 1) count
-        test)) s).channels d channel.B ≡ behind
-        (if b then Some (probe_of_block n k) else None) (s.channels d channel.B)
+    at_first : (b : Bool) → (with_messages
+        (probes n k (if b then d ∷ clients_from (d + 1) count test else clients_from (d + 1) count test)) s).channels d
+        Channel.B ≡ behind (if b then Some (probe_of_block n k) else None) (s.channels d Channel.B)
     at_first true = probes_below n k (d + 1) count test d (with_message d (probe_of_block n k) s) (omega arith)
         ∙ own_probe n k d s
     at_first false = probes_below n k (d + 1) count test d s (omega arith)
 
     later : (d ≡ first → ⊥) → Rest → (b : Bool)
         → (with_messages (probes n k (if b then first ∷ clients_from (first + 1) count test else clients_from
-        (first + 1) count test)) s).channels d channel.B
-        ≡ behind (if test d then Some (probe_of_block n k) else None) (s.channels d channel.B)
-    later ne rest true = rest (with_message first (probe_of_block n k) s) ∙ ap
-        (behind (if test d then Some (probe_of_block n k) else None)) (other_probe n k first d channel.B s ne)
+        (first + 1) count test)) s).channels d Channel.B
+        ≡ behind (if test d then Some (probe_of_block n k) else None) (s.channels d Channel.B)
+    later ne rest true = cc (rest (with_message first (probe_of_block n k) s), other_probe n k first d Channel.B s ne)
     later ne rest false = rest s
-
-    go : (d ≡ first) ⊎ (d ≡ first → ⊥) → ((d ≡ first → ⊥) → Rest)
-        → (with_messages (probes n k (clients_from first (suc count) test)) s).channels d channel.B ≡ behind
-        (if test d then Some (probe_of_block n k) else None) (s.channels d channel.B)
-    go (inl e) rest = rw (← e) (at_first (test d))
-    go (inr ne) rest = later ne (rest ne) (test first)
 
 -- on channel B to those who pass the test
 abbrev pub probe_pushes : {w : ℕ} → ℕ → Cap → (ℕ → Bool) → ℕ → Channel → Option (Message w)
-probe_pushes n k test d channel.B = if test d then Some (probe_of_block n k) else None
+probe_pushes n k test d Channel.B = if test d then Some (probe_of_block n k) else None
 probe_pushes n k test d _ = None
 
 pub channels-probes : {w : ℕ} (n : ℕ) (k : Cap) (count : ℕ) (test probed : ℕ → Bool) (s : System w)
-    → ((d : ℕ) → d < count → test d ≡ probed d)
-    → ((d : ℕ) → count ≤ d → probed d ≡ false) → (d : ℕ) (at : Channel)
+    → ((d : ℕ) → d < count → test d ≡ probed d) → ((d : ℕ) → count ≤ d → probed d ≡ false) → (d : ℕ) (at : Channel)
     → (with_messages (probes n k (clients_from 0 count test)) s).channels d at ≡ behind (probe_pushes n k probed d at)
     (s.channels d at)
-channels-probes n k count test probed s same none d channel.A = probes-aside n k (clients_from 0 count test) d channel.A
+channels-probes n k count test probed s same none d Channel.A = probes-aside n k (clients_from 0 count test) d Channel.A
     s refl
-channels-probes n k count test probed s same none d channel.C = probes-aside n k (clients_from 0 count test) d channel.C
+channels-probes n k count test probed s same none d Channel.C = probes-aside n k (clients_from 0 count test) d Channel.C
     s refl
-channels-probes n k count test probed s same none d channel.D = probes-aside n k (clients_from 0 count test) d channel.D
+channels-probes n k count test probed s same none d Channel.D = probes-aside n k (clients_from 0 count test) d Channel.D
     s refl
-channels-probes n k count test probed s same none d channel.E = probes-aside n k (clients_from 0 count test) d channel.E
+channels-probes n k count test probed s same none d Channel.E = probes-aside n k (clients_from 0 count test) d Channel.E
     s refl
-channels-probes {w} n k count test probed s same none d channel.B = elim (cases_lt d count) [
+channels-probes {w} n k count test probed s same none d Channel.B = elim (cases_lt d count) [
   | inl lt ↦ probes-among n k 0 count test d s (omega arith) (omega (arith, lt)) ∙ rw (same d lt) refl
   | inr le ↦ probes-past n k 0 count test d s (omega (arith, le)) ∙ rw (none d le) refl
 ]
@@ -153,55 +136,51 @@ channels-probes {w} n k count test probed s same none d channel.B = elim (cases_
 -- ---- a request that probes
 
 served_moved : (ch : Channel) (x y : Bool) (j : Kind) (i n : ℕ) (l : Link) (rest : List Packet)
-    → (x ≡ true → l.a ≡ packet j i ∷ rest)
-    → IsMoved (request_move (if x then Pops j i else Stays) y n ch) (packets_on ch l)
-    (packets_on ch (with_probe n y (if x then record l { a = rest } else l)))
-served_moved channel.A true true j i n l rest e = e refl
-served_moved channel.A true false j i n l rest e = e refl
-served_moved channel.A false true j i n l rest e = refl
-served_moved channel.A false false j i n l rest e = refl
-served_moved channel.B true true j i n l rest e = refl
-served_moved channel.B true false j i n l rest e = refl
-served_moved channel.B false true j i n l rest e = refl
-served_moved channel.B false false j i n l rest e = refl
-served_moved channel.C true true j i n l rest e = refl
-served_moved channel.C true false j i n l rest e = refl
-served_moved channel.C false true j i n l rest e = refl
-served_moved channel.C false false j i n l rest e = refl
-served_moved channel.D true true j i n l rest e = refl
-served_moved channel.D true false j i n l rest e = refl
-served_moved channel.D false true j i n l rest e = refl
-served_moved channel.D false false j i n l rest e = refl
-served_moved channel.E true true j i n l rest e = refl
-served_moved channel.E true false j i n l rest e = refl
-served_moved channel.E false true j i n l rest e = refl
-served_moved channel.E false false j i n l rest e = refl
+    → (x ≡ true → l.a ≡ packet j i ∷ rest) → IsMoved (request_move (if x then Pops j i else Stays) y n ch)
+    (packets_on ch l) (packets_on ch (with_probe n y (if x then record l { a = rest } else l)))
+served_moved Channel.A true true j i n l rest e = e refl
+served_moved Channel.A true false j i n l rest e = e refl
+served_moved Channel.A false true j i n l rest e = refl
+served_moved Channel.A false false j i n l rest e = refl
+served_moved Channel.B true true j i n l rest e = refl
+served_moved Channel.B true false j i n l rest e = refl
+served_moved Channel.B false true j i n l rest e = refl
+served_moved Channel.B false false j i n l rest e = refl
+served_moved Channel.C true true j i n l rest e = refl
+served_moved Channel.C true false j i n l rest e = refl
+served_moved Channel.C false true j i n l rest e = refl
+served_moved Channel.C false false j i n l rest e = refl
+served_moved Channel.D true true j i n l rest e = refl
+served_moved Channel.D true false j i n l rest e = refl
+served_moved Channel.D false true j i n l rest e = refl
+served_moved Channel.D false false j i n l rest e = refl
+served_moved Channel.E true true j i n l rest e = refl
+served_moved Channel.E true false j i n l rest e = refl
+served_moved Channel.E false true j i n l rest e = refl
+served_moved Channel.E false false j i n l rest e = refl
 
 served_fits : {w : ℕ} (n : ℕ) (k : Cap) (at : Channel) (x y : Bool) (j : Kind) (i : ℕ) (render : Kind → ℕ → Message w)
     → (y ≡ true → render Probe n ≡ probe_of_block n k)
-    → Fits (x && same_channel at channel.A) (probe_pushes n k (λ d. y) 0 at)
+    → Fits (x && same_channel at Channel.A) (probe_pushes n k (λ d. y) 0 at)
     (request_move (if x then Pops j i else Stays) y n at) render
-served_fits n k channel.A true y j i render e = tt
-served_fits n k channel.A false y j i render e = tt
-served_fits n k channel.B true true j i render e = e refl
-served_fits n k channel.B true false j i render e = tt
-served_fits n k channel.B false true j i render e = e refl
-served_fits n k channel.B false false j i render e = tt
-served_fits n k channel.C true y j i render e = tt
-served_fits n k channel.C false y j i render e = tt
-served_fits n k channel.D true y j i render e = tt
-served_fits n k channel.D false y j i render e = tt
-served_fits n k channel.E true y j i render e = tt
-served_fits n k channel.E false y j i render e = tt
+served_fits n k Channel.A true y j i render e = tt
+served_fits n k Channel.A false y j i render e = tt
+served_fits n k Channel.B true true j i render e = e refl
+served_fits n k Channel.B true false j i render e = tt
+served_fits n k Channel.B false true j i render e = e refl
+served_fits n k Channel.B false false j i render e = tt
+served_fits n k Channel.C true y j i render e = tt
+served_fits n k Channel.C false y j i render e = tt
+served_fits n k Channel.D true y j i render e = tt
+served_fits n k Channel.D false y j i render e = tt
+served_fits n k Channel.E true y j i render e = tt
+served_fits n k Channel.E false y j i render e = tt
 
 -- the channel decides, and then whether one is probed
 pushes_is : {w : ℕ} (n : ℕ) (k : Cap) (test : ℕ → Bool) (d : ℕ) (at : Channel)
     → probe_pushes {w = w} n k test d at ≡ probe_pushes n k (λ i. test d) 0 at
-pushes_is n k test d channel.A = refl
-pushes_is n k test d channel.B = refl
-pushes_is n k test d channel.C = refl
-pushes_is n k test d channel.D = refl
-pushes_is n k test d channel.E = refl
+pushes_is n k test d Channel.A = refl
+pushes_is n k test d at = refl
 
 -- the Probe that one is sent
 sent_probe : (w r : ℕ) (own : Bool) (n : ℕ) (k : Cap) (d : ℕ) (p : ClientBlock) → is_probed r own k p.recorded d ≡ true
@@ -210,9 +189,8 @@ sent_probe w r own n k d p e = go (own && (d == r)) (is_above k p.recorded) refl
   where
     go : (x y : Bool) → is_above k p.recorded ≡ y → (not x && y) ≡ true
         → probe_of_block {w = w} n (cap_sent (if x then p else after_served k p).probing) ≡ probe_of_block n k
-    go true y f g = absurd cc
     go false true f g = rw f refl
-    go false false f g = absurd cc
+    go x y f g = absurd cc
 
 sent_rendered : {w : ℕ} (r : ℕ) (own : Bool) (source tracker : ℕ) (n : ℕ) (k : Cap) (d : ℕ) (b : Block (List ℕ))
     → is_probed r own k (b.pair d).recorded d ≡ true
@@ -220,66 +198,52 @@ sent_rendered : {w : ℕ} (r : ℕ) (own : Bool) (source tracker : ℕ) (n : ℕ
 unfolding block_message
 sent_rendered {w} r own source tracker n k d b e = sent_probe w r own n k d (b.pair d) e
 
-served-shown : {w : ℕ} (caching : ℕ → Bool) (r n : ℕ) (own : Bool) (source tracker : ℕ) (k : Cap)
-    (rest : List Packet) (mail : AccessMessages w)
-    (s s' : State (List ℕ)) → IsInvariant caching s → IsInvariant caching s'
-    → (s.link r).a ≡ packet (kind_served own) (number_served own n source) ∷ rest
-    → (s.block n).service ≡ Free
+served-shown : {w : ℕ} {caching : ℕ → Bool} (r n : ℕ) (own : Bool) (source tracker : ℕ) (k : Cap) (rest : List Packet)
+    (mail : AccessMessages w) {s s' : State (List ℕ)} → IsInvariant caching s → IsInvariant caching s'
+    → (s.link r).a ≡ packet (kind_served own) (number_served own n source) ∷ rest → (s.block n).service ≡ Free
     → ((i : ℕ) → s'.block i ≡ set n (served_block r own source tracker k (s.block n)) s.block i)
     → ((d : ℕ) → s'.link d ≡ served_link r own n k rest (s.block n) s.link d)
-    → IsShown caching n r channel.A (probe_pushes n k (λ d. is_probed r own k ((s.block n).pair d).recorded d)) mail
+    → IsShown caching n r Channel.A (probe_pushes n k (λ d. is_probed r own k ((s.block n).pair d).recorded d)) mail
     mail s s'
-served-shown {w} caching r n own source tracker k rest mail s s' inv inv' first free blocks links = record {
-  moves = moves;
-  showing = showing-block caching n new moves mail mail s s' inv inv' (λ d ch. moved d ch) blocks
-      (alike-served caching r own source tracker k (s.block n) (inv.blocks n) free) (λ i j e f. refl) (λ i j e f. refl);
-  fits = λ d at. fits d at;
-}
-  where
-    new : Block (List ℕ)
-    new = served_block r own source tracker k (s.block n)
-
-    test : ℕ → Bool
-    test d = is_probed r own k ((s.block n).pair d).recorded d
-
-    moves : ℕ → Channel → Move
-    moves = served_moves r own n source k (s.block n).pair
-
-    first_at : (d : ℕ) → (d == r) ≡ true → (s.link d).a ≡ packet (kind_served own) (number_served own n source) ∷ rest
-    first_at d e = elim (cases_eq d r) [
+served-shown {w} {caching} r n own source tracker k rest mail {s} {s'} inv inv' first free blocks links =
+    let new : Block (List ℕ) = served_block r own source tracker k (s.block n) in
+    let test : ℕ → Bool = λ d. is_probed r own k ((s.block n).pair d).recorded d in
+    let moves : ℕ → Channel → Move = served_moves r own n source k (s.block n).pair in
+    let first_at : (d : ℕ) → (d == r) ≡ true → (s.link d).a ≡ packet (kind_served own) (number_served own n source)
+    ∷ rest = λ d e. elim (cases_eq d r) [
       | inl same ↦ rw same first
       | inr other ↦ absurd (let f : false ≡ true = sym (ne_eqb d r other) ∙ e in cc)
-    ]
+    ] in
+    let moved : (d : ℕ) (ch : Channel) → IsMoved (moves d ch) (packets_on ch (s.link d)) (packets_on ch (s'.link d)) =
+    λ d ch. rw (links d) (served_moved ch (d == r) (test d) (kind_served own) (number_served own n source) n
+    (s.link d) rest (first_at d)) in
+    let render_is : (d : ℕ) → test d ≡ true → block_message {w = w} Probe d n (s'.block n) ≡ probe_of_block n k =
+    λ d e. cc (blocks n, set-same n new s.block, sent_rendered r own source tracker n k d (s.block n) e) in
+    let fits : (d : ℕ) (at : Channel) → Fits ((d == r) && same_channel at Channel.A) (probe_pushes n k test d at)
+    (moves d at) (λ j l. message_of mail s' d (packet j l)) =
+    λ d at. rw (pushes_is {w = w} n k test d at) (served_fits n k at (d == r) (test d) (kind_served own)
+    (number_served own n source) (λ j l. message_of mail s' d (packet j l)) (render_is d)) in
+    record {
+      moves = moves;
+      showing = showing-block n new moves mail mail inv inv' (λ d ch. moved d ch) blocks
+          (alike-served r own source tracker k (inv.blocks n) free) (λ i j e f. refl) (λ i j e f. refl);
+      fits = λ d at. fits d at;
+    }
 
-    moved : (d : ℕ) (ch : Channel) → IsMoved (moves d ch) (packets_on ch (s.link d)) (packets_on ch (s'.link d))
-    moved d ch = rw (links d) (served_moved ch (d == r) (test d) (kind_served own) (number_served own n source) n
-        (s.link d) rest (first_at d))
+pub acquire_served-shown : {w : ℕ} {caching : ℕ → Bool} (r n source tracker : ℕ) (k : Cap) (rest : List Packet)
+    (mail : AccessMessages w) {s : State (List ℕ)} → IsInvariant caching s
+    → IsInvariant caching (acquire_served r n source tracker k rest s) → (s.link r).a ≡ packet Acquire n ∷ rest
+    → (s.block n).service ≡ Free
+    → IsShown caching n r Channel.A (probe_pushes n k (λ d. is_probed r true k ((s.block n).pair d).recorded d)) mail
+    mail s (acquire_served r n source tracker k rest s)
+acquire_served-shown {caching} r n source tracker k rest mail {s} inv inv' first free =
+    served-shown r n true source tracker k rest mail inv inv' first free (λ i. refl) (λ d. refl)
 
-    render_is : (d : ℕ) → test d ≡ true → block_message {w = w} Probe d n (s'.block n) ≡ probe_of_block n k
-    render_is d e = ap (block_message Probe d n) (blocks n ∙ set-same n new s.block) ∙ sent_rendered r own source
-        tracker n k d (s.block n) e
-
-    fits : (d : ℕ) (at : Channel) → Fits ((d == r) && same_channel at channel.A) (probe_pushes n k test d at)
-        (moves d at) (λ j l. message_of mail s' d (packet j l))
-    fits d at = rw (pushes_is {w = w} n k test d at) (served_fits n k at (d == r) (test d) (kind_served own)
-        (number_served own n source) (λ j l. message_of mail s' d (packet j l)) (render_is d))
-
-pub acquire_served-shown : {w : ℕ} (caching : ℕ → Bool) (r n source tracker : ℕ) (k : Cap) (rest : List Packet)
-    (mail : AccessMessages w) (s : State (List ℕ))
-    → IsInvariant caching s → IsInvariant caching (acquire_served r n source tracker k rest s)
-    → (s.link r).a ≡ packet Acquire n ∷ rest → (s.block n).service ≡ Free
-    → IsShown caching n r channel.A (probe_pushes n k (λ d. is_probed r true k ((s.block n).pair d).recorded d)) mail mail
-    s (acquire_served r n source tracker k rest s)
-acquire_served-shown caching r n source tracker k rest mail s inv inv' first free =
-    served-shown caching r n true source tracker k rest mail s (acquire_served r n source tracker k rest s) inv inv' first
-    free (λ i. refl) (λ d. refl)
-
-pub access_served-shown : {w : ℕ} (caching : ℕ → Bool) (r n source tracker : ℕ) (k : Cap) (rest : List Packet)
-    (mail : AccessMessages w) (s : State (List ℕ))
-    → IsInvariant caching s → IsInvariant caching (access_served r n source tracker k rest s)
-    → (s.link r).a ≡ packet Request source ∷ rest → (s.block n).service ≡ Free
-    → IsShown caching n r channel.A (probe_pushes n k (λ d. is_probed r false k ((s.block n).pair d).recorded d)) mail mail
-    s (access_served r n source tracker k rest s)
-access_served-shown caching r n source tracker k rest mail s inv inv' first free =
-    served-shown caching r n false source tracker k rest mail s (access_served r n source tracker k rest s) inv inv' first
-    free (λ i. refl) (λ d. refl)
+pub access_served-shown : {w : ℕ} {caching : ℕ → Bool} (r n source tracker : ℕ) (k : Cap) (rest : List Packet)
+    (mail : AccessMessages w) {s : State (List ℕ)} → IsInvariant caching s
+    → IsInvariant caching (access_served r n source tracker k rest s) → (s.link r).a ≡ packet Request source ∷ rest
+    → (s.block n).service ≡ Free
+    → IsShown caching n r Channel.A (probe_pushes n k (λ d. is_probed r false k ((s.block n).pair d).recorded d)) mail
+    mail s (access_served r n source tracker k rest s)
+access_served-shown {caching} r n source tracker k rest mail {s} inv inv' first free =
+    served-shown r n false source tracker k rest mail inv inv' first free (λ i. refl) (λ d. refl)

@@ -1,176 +1,119 @@
 -- The channels carry the messages of the tokens after a response or a GrantAck is taken.
-use Rattle.tl_coherence.proofs.simulation.Imports.{Channel, Message, Cap, Kind}
-use Rattle.tl_coherence.proofs.simulation.Imports.{Answer, Grant}
-use Rattle.tl_coherence.proofs.simulation.Imports.{ReleaseAck, GrantAck, Packet, GrantSent}
-use Rattle.tl_coherence.proofs.simulation.Imports.{GrantTaken, Block, State, packet, shown}
-use Rattle.tl_coherence.proofs.simulation.Imports.{IsInvariant, Stays, AccessMessages}
-use Rattle.tl_coherence.proofs.simulation.Imports.{block_message, message_of, same_channel, channel_of_message}
+use Rattle.tl_coherence.proofs.simulation.Imports.{Channel, Message, Cap, Kind, Answer, Grant, ReleaseAck, GrantAck}
+use Rattle.tl_coherence.proofs.simulation.Imports.{Packet, GrantSent, GrantTaken, Block, State, packet, shown}
+use Rattle.tl_coherence.proofs.simulation.Imports.{IsInvariant, Stays, AccessMessages, block_message, message_of}
+use Rattle.tl_coherence.proofs.simulation.Imports.{same_channel, channel_of_message}
 use Rattle.std.proofs.Common.{◌≡◌, ℕ, Bool, true, false, ◌&&◌, List, ◌∷◌, Some, None, refl, ◌⊎◌}
 use Rattle.std.specs.Prelude.{◌==◌, if◌then◌else◌}
-use Rattle.tl_beat.specs.declared.channel.Channel.TheVariants as channel
-use Rattle.tl_coherence.specs.protocol.Protocol.{taken_link}
-use Rattle.tl_coherence.specs.protocol.Protocol.{answer_taken, grant_taken, taken_block, release_ack_taken}
+use Rattle.tl_coherence.specs.protocol.Protocol.{taken_link, answer_taken, grant_taken, taken_block, release_ack_taken}
 use Rattle.tl_coherence.specs.protocol.Protocol.{let_go_block, grant_ack_taken, freed_block}
 use Rattle.tl_coherence.specs.refinement.Move.{AreMoved}
-use Rattle.tl_coherence.proofs.protocol.Acknowledged.{let_go_moves, freed_moves}
-use Rattle.tl_coherence.proofs.protocol.Alike.{alike-let_go, alike-taken}
-use Rattle.tl_coherence.proofs.protocol.Alike.{alike-freed}
-use Rattle.tl_coherence.proofs.protocol.Answered.{done_moves}
-use Rattle.tl_coherence.proofs.queues.Channels.{Fits, moved-at}
-use Rattle.tl_coherence.proofs.queues.Channels.{fits-at, pushes_at}
-use Rattle.tl_coherence.proofs.queues.Landed.{pushes_of}
-use Rattle.tl_coherence.proofs.queues.Moves.{moves_at}
-use Rattle.tl_coherence.proofs.queues.Shown.{IsShown}
-use Rattle.tl_coherence.proofs.queues.Showing.{carries, showing-block}
-use Rattle.tl_coherence.proofs.protocol.TakenAll.{taken_moves}
+use Rattle.tl_coherence.proofs.{protocol.Acknowledged.let_go_moves, protocol.Acknowledged.freed_moves}
+use Rattle.tl_coherence.proofs.{protocol.Answered.done_moves, queues.Landed.pushes_of, queues.Moves.moves_at}
+use Rattle.tl_coherence.proofs.{queues.Shown.IsShown, queues.Showing.carries, queues.Showing.showing-block}
+use Rattle.tl_coherence.proofs.{protocol.TakenAll.taken_moves}
+use Rattle.tl_coherence.proofs.protocol.Alike.{alike-let_go, alike-taken, alike-freed}
+use Rattle.tl_coherence.proofs.queues.Channels.{Fits, moved-at, fits-at, pushes_at}
 use Rattle.tl_coherence.proofs.simulation.CarriedAsks.{only_on, fits_pushed, new_there}
 
 -- ---- a response is taken
 
-pub answer_taken-shown : {w : ℕ} (caching : ℕ → Bool) (c source : ℕ) (rest : List Packet) (mail : AccessMessages w)
-    (s : State (List ℕ)) → IsInvariant caching s
+pub answer_taken-shown : {w : ℕ} {caching : ℕ → Bool} (c source : ℕ) (rest : List Packet) (mail : AccessMessages w)
+    {s : State (List ℕ)} → IsInvariant caching s
     → IsInvariant caching (answer_taken c source rest s) → (s.link c).d ≡ packet Answer source ∷ rest
-    → IsShown caching 0 c channel.D (pushes_at c (pushes_of None)) mail mail s (answer_taken c source rest s)
-answer_taken-shown {w} caching c source rest mail s inv inv' first = record {
-  moves = (moves_at c (done_moves source));
-  showing = record {
-    before = inv;
-    after = inv';
-    moved = moved-at c (done_moves source) (record (s.link c) { d = rest }) s.link moved;
-    blocks = λ i ne. refl;
-    same = λ d k t e f. refl;
-    requests = λ d i e f. refl;
-    answers = λ d i e f. refl;
-  };
-  fits = fits-at c channel.D (pushes_of None) (done_moves source) (λ i j l. message_of mail s' i (packet j l)) fits;
-}
-  where
-    s' : State (List ℕ)
-    s' = answer_taken c source rest s
+    → IsShown caching 0 c Channel.D (pushes_at c (pushes_of None)) mail mail s (answer_taken c source rest s)
+answer_taken-shown {w} c source rest mail {s} inv inv' first =
+    let s' : State (List ℕ) = answer_taken c source rest s in
+    let moved : AreMoved (done_moves source) (s.link c) (record (s.link c) { d = rest }) =
+    elim [ Channel.D ↦ first | _ ↦ refl ] in
+    let fits : (at : Channel) → Fits (same_channel at Channel.D) None (done_moves source at)
+    (λ j l. message_of mail s' c (packet j l)) = elim [ Channel.A ↦ tt | at ↦ tt ] in
+    record {
+      moves = (moves_at c (done_moves source));
+      showing = record {
+        before = inv;
+        after = inv';
+        moved = moved-at c (done_moves source) (record (s.link c) { d = rest }) s.link moved;
+        blocks = λ i ne. refl;
+        same = λ d k t e f. refl;
+        requests = λ d i e f. refl;
+        answers = λ d i e f. refl;
+      };
+      fits = fits-at c Channel.D (pushes_of None) (done_moves source) (λ i j l. message_of mail s' i (packet j l)) fits;
+    }
 
-    moved : AreMoved (done_moves source) (s.link c) (record (s.link c) { d = rest })
-    moved channel.A = refl
-    moved channel.B = refl
-    moved channel.C = refl
-    moved channel.D = first
-    moved channel.E = refl
-
-    fits : (at : Channel) → Fits (same_channel at channel.D) None (done_moves source at)
-        (λ j l. message_of mail s' c (packet j l))
-    fits channel.A = tt
-    fits channel.B = tt
-    fits channel.C = tt
-    fits channel.D = tt
-    fits channel.E = tt
-
-pub release_ack_taken-shown : {w : ℕ} (caching : ℕ → Bool) (c n : ℕ) (rest : List Packet) (mail : AccessMessages w)
-    (s : State (List ℕ)) → IsInvariant caching s
+pub release_ack_taken-shown : {w : ℕ} {caching : ℕ → Bool} (c n : ℕ) (rest : List Packet) (mail : AccessMessages w)
+    {s : State (List ℕ)} → IsInvariant caching s
     → IsInvariant caching (release_ack_taken c n rest s) → (s.link c).d ≡ packet ReleaseAck n ∷ rest
-    → IsShown caching n c channel.D (pushes_at c (pushes_of None)) mail mail s (release_ack_taken c n rest s)
-release_ack_taken-shown {w} caching c n rest mail s inv inv' first = record {
-  moves = (moves_at c (let_go_moves n));
-  showing = showing-block caching n new (moves_at c (let_go_moves n)) mail mail s s' inv inv'
-      (moved-at c (let_go_moves n) (record (s.link c) { d = rest }) s.link moved) (λ i. refl)
-      (alike-let_go c (s.block n)) (λ i j e f. refl) (λ i j e f. refl);
-  fits = fits-at c channel.D (pushes_of None) (let_go_moves n) (λ i j l. message_of mail s' i (packet j l)) fits;
-}
-  where
-    new : Block (List ℕ)
-    new = let_go_block c (s.block n)
+    → IsShown caching n c Channel.D (pushes_at c (pushes_of None)) mail mail s (release_ack_taken c n rest s)
+release_ack_taken-shown {w} {caching} c n rest mail {s} inv inv' first =
+    let s' : State (List ℕ) = release_ack_taken c n rest s in
+    let moved : AreMoved (let_go_moves n) (s.link c) (record (s.link c) { d = rest }) =
+    elim [ Channel.D ↦ first | _ ↦ refl ] in
+    let fits : (at : Channel) → Fits (same_channel at Channel.D) None (let_go_moves n at)
+    (λ j l. message_of mail s' c (packet j l)) = elim [ Channel.A ↦ tt | at ↦ tt ] in
+    let new : Block (List ℕ) = let_go_block c (s.block n) in
+    record {
+      moves = (moves_at c (let_go_moves n));
+      showing = showing-block n new (moves_at c (let_go_moves n)) mail mail inv inv'
+          (moved-at c (let_go_moves n) (record (s.link c) { d = rest }) s.link moved) (λ i. refl)
+          (alike-let_go c (s.block n)) (λ i j e f. refl) (λ i j e f. refl);
+      fits = fits-at c Channel.D (pushes_of None) (let_go_moves n) (λ i j l. message_of mail s' i (packet j l)) fits;
+    }
 
-    s' : State (List ℕ)
-    s' = release_ack_taken c n rest s
-
-    moved : AreMoved (let_go_moves n) (s.link c) (record (s.link c) { d = rest })
-    moved channel.A = refl
-    moved channel.B = refl
-    moved channel.C = refl
-    moved channel.D = first
-    moved channel.E = refl
-
-    fits : (at : Channel) → Fits (same_channel at channel.D) None (let_go_moves n at)
-        (λ j l. message_of mail s' c (packet j l))
-    fits channel.A = tt
-    fits channel.B = tt
-    fits channel.C = tt
-    fits channel.D = tt
-    fits channel.E = tt
-
-pub grant_taken-shown : {w : ℕ} (caching : ℕ → Bool) (c n : ℕ) (whole d : Bool) (k : Cap) (rest : List Packet)
-    (m : Message w) (mail : AccessMessages w)
-    (s : State (List ℕ)) → IsInvariant caching s → IsInvariant caching (grant_taken c n whole d k rest s)
-    → (s.link c).d ≡ packet Grant n ∷ rest
+pub grant_taken-shown : {w : ℕ} {caching : ℕ → Bool} (c n : ℕ) (whole d : Bool) (k : Cap) (rest : List Packet)
+    (m : Message w) (mail : AccessMessages w) {s : State (List ℕ)} → IsInvariant caching s
+    → IsInvariant caching (grant_taken c n whole d k rest s) → (s.link c).d ≡ packet Grant n ∷ rest
     → (s.block n).service ≡ GrantSent c d k → ((j : Kind) (i : ℕ) → shown j i (s.block n) ≡ true
-    → shown j i (taken_block c whole d k (s.block n)) ≡ true
-    → (carries j i (s.block n) ≡ false) ⊎ ((taken_block c whole d k (s.block n)).truth ≡ (s.block n).truth))
-    → channel_of_message m ≡ channel.E
+    → shown j i (taken_block c whole d k (s.block n)) ≡ true → (carries j i (s.block n) ≡ false)
+    ⊎ ((taken_block c whole d k (s.block n)).truth ≡ (s.block n).truth)) → channel_of_message m ≡ Channel.E
     → block_message GrantAck c n (taken_block c whole d k (s.block n)) ≡ m
-    → IsShown caching n c channel.D (pushes_at c (pushes_of (Some m))) mail mail s (grant_taken c n whole d k rest s)
-grant_taken-shown {w} caching c n whole d k rest m mail s inv inv' first sent bytes chan is = record {
-  moves = (moves_at c (taken_moves n));
-  showing = showing-block caching n new (moves_at c (taken_moves n)) mail mail s s' inv inv'
-      (moved-at c (taken_moves n) (taken_link n rest (s.link c)) s.link moved) (λ i. refl)
-      (alike-taken c whole d k (s.block n) sent bytes) (λ i j e f. refl) (λ i j e f. refl);
-  fits = fits-at c channel.D (pushes_of (Some m)) (taken_moves n) (λ i j l. message_of mail s' i (packet j l))
-      (λ at. fits_pushed (same_channel at channel.D) m channel.E at (taken_moves n at)
-      (λ j l. message_of mail s' c (packet j l)) chan (fits at));
-}
-  where
-    new : Block (List ℕ)
-    new = taken_block c whole d k (s.block n)
-
-    s' : State (List ℕ)
-    s' = grant_taken c n whole d k rest s
-
-    moved : AreMoved (taken_moves n) (s.link c) (taken_link n rest (s.link c))
-    moved channel.A = refl
-    moved channel.B = refl
-    moved channel.C = refl
-    moved channel.D = first
-    moved channel.E = refl
-
-    fits : (at : Channel) → Fits (same_channel at channel.D) (only_on channel.E m at) (taken_moves n at)
-        (λ j l. message_of mail s' c (packet j l))
-    fits channel.A = tt
-    fits channel.B = tt
-    fits channel.C = tt
-    fits channel.D = tt
-    fits channel.E = new_there GrantAck c n new s.block m is
+    → IsShown caching n c Channel.D (pushes_at c (pushes_of (Some m))) mail mail s (grant_taken c n whole d k rest s)
+grant_taken-shown {w} {caching} c n whole d k rest m mail {s} inv inv' first sent bytes chan is =
+    let new : Block (List ℕ) = taken_block c whole d k (s.block n) in
+    let s' : State (List ℕ) = grant_taken c n whole d k rest s in
+    let moved : AreMoved (taken_moves n) (s.link c) (taken_link n rest (s.link c)) =
+    elim [ Channel.D ↦ first | _ ↦ refl ] in
+    let fits : (at : Channel) → Fits (same_channel at Channel.D) (only_on Channel.E m at) (taken_moves n at)
+    (λ j l. message_of mail s' c (packet j l)) =
+    elim [ Channel.E ↦ new_there GrantAck c n new s.block m is | at ↦ tt ] in
+    record {
+      moves = (moves_at c (taken_moves n));
+      showing = showing-block n new (moves_at c (taken_moves n)) mail mail inv inv'
+          (moved-at c (taken_moves n) (taken_link n rest (s.link c)) s.link moved) (λ i. refl)
+          (alike-taken c whole d k (s.block n) sent bytes) (λ i j e f. refl) (λ i j e f. refl);
+      fits = fits-at c Channel.D (pushes_of (Some m)) (taken_moves n) (λ i j l. message_of mail s' i (packet j l))
+          (λ at. fits_pushed (same_channel at Channel.D) m Channel.E at (taken_moves n at)
+          (λ j l. message_of mail s' c (packet j l)) chan (fits at));
+    }
 
 -- ---- a GrantAck is taken
 
-pub grant_ack_taken-shown : {w : ℕ} (caching : ℕ → Bool) (c n : ℕ) (rest : List Packet) (mail : AccessMessages w)
-    (s : State (List ℕ)) → IsInvariant caching s
-    → IsInvariant caching (grant_ack_taken c n rest s) → (s.link c).e ≡ packet GrantAck n ∷ rest
-    → (s.block n).service ≡ GrantTaken c
-    → IsShown caching n c channel.E (λ d at. None) mail mail s (grant_ack_taken c n rest s)
-grant_ack_taken-shown {w} caching c n rest mail s inv inv' first sent = record {
-  moves = (moves_at c (freed_moves n));
-  showing = showing-block caching n new (moves_at c (freed_moves n)) mail mail s s' inv inv'
-      (moved-at c (freed_moves n) (record (s.link c) { e = rest }) s.link moved) (λ i. refl)
-      (alike-freed c (s.block n) sent) (λ i j e f. refl) (λ i j e f. refl);
-  fits = λ d at. fits d at (d == c);
-}
+pub grant_ack_taken-shown : {w : ℕ} {caching : ℕ → Bool} (c n : ℕ) (rest : List Packet) (mail : AccessMessages w)
+    {s : State (List ℕ)} → IsInvariant caching s → IsInvariant caching (grant_ack_taken c n rest s)
+    → (s.link c).e ≡ packet GrantAck n ∷ rest → (s.block n).service ≡ GrantTaken c
+    → IsShown caching n c Channel.E (λ d at. None) mail mail s (grant_ack_taken c n rest s)
+grant_ack_taken-shown {w} {caching} c n rest mail {s} inv inv' first sent =
+    let moved : AreMoved (freed_moves n) (s.link c) (record (s.link c) { e = rest }) =
+    elim [ Channel.E ↦ first | _ ↦ refl ] in
+    let new : Block (List ℕ) = freed_block (s.block n) in
+    record {
+      moves = (moves_at c (freed_moves n));
+      showing = showing-block n new (moves_at c (freed_moves n)) mail mail inv inv'
+          (moved-at c (freed_moves n) (record (s.link c) { e = rest }) s.link moved) (λ i. refl)
+          (alike-freed c (s.block n) sent) (λ i j e f. refl) (λ i j e f. refl);
+      fits = λ d at. fits d at (d == c);
+    }
   where
-    new : Block (List ℕ)
-    new = freed_block (s.block n)
-
     s' : State (List ℕ)
     s' = grant_ack_taken c n rest s
 
-    moved : AreMoved (freed_moves n) (s.link c) (record (s.link c) { e = rest })
-    moved channel.A = refl
-    moved channel.B = refl
-    moved channel.C = refl
-    moved channel.D = refl
-    moved channel.E = first
-
     fits : (d : ℕ) (at : Channel) (b : Bool)
-        → Fits (b && same_channel at channel.E) None (if b then freed_moves n at else Stays)
+        → Fits (b && same_channel at Channel.E) None (if b then freed_moves n at else Stays)
         (λ j l. message_of mail s' d (packet j l))
     fits d at false = tt
-    fits d channel.A true = tt
-    fits d channel.B true = tt
-    fits d channel.C true = tt
-    fits d channel.D true = tt
-    fits d channel.E true = tt
+    fits d Channel.A true = tt
+    fits d Channel.B true = tt
+    fits d Channel.C true = tt
+    fits d Channel.D true = tt
+    fits d Channel.E true = tt

@@ -1,29 +1,20 @@
 -- As a world begins, it is matched by the protocol as that begins.
 use Rattle.tl_coherence.proofs.simulation.Imports.{Channel, unfinished, Config, pending, services, IsInvariant}
-use Rattle.tl_coherence.proofs.simulation.Imports.{receiver, on, shown, packets_on, Kind, Request, Acquire, Probe}
-use Rattle.tl_coherence.proofs.simulation.Imports.{ProbeAck, Release, Answer, Grant, ReleaseAck, GrantAck}
-use Rattle.tl_coherence.proofs.simulation.Imports.{SimulationRelation, is_caching}
+use Rattle.tl_coherence.proofs.simulation.Imports.{receiver, on, shown, packets_on, Kind, Request, SimulationRelation}
+use Rattle.tl_coherence.proofs.simulation.Imports.{is_caching}
 use Rattle.std.proofs.Common.{◌≡◌, ℕ, zero, suc, ◌*◌, ◌+◌, true, List, [], ◌∷◌, replicate, Bool, refl, sym, ap, arith}
 use Rattle.std.proofs.lemmas.List.{get_or-replicate}
-use Rattle.tl_beat.specs.declared.channel.Channel.TheVariants as channel
-use Rattle.tl_rules.specs.statement.Conformance.{on_link}
-use Rattle.tl_rules.specs.statement.Effect.{bytes_from, IsBlock}
-use Rattle.tl_rules.specs.statement.History.{held}
-use Rattle.tl_client.specs.statement.Endpoint.{zeros}
-use Rattle.tl_client.proofs.pending.Accounted.{accounted-fresh}
-use Rattle.tl_client.proofs.pending.KeptOffered.{kept-fresh}
+use Rattle.tl_rules.{specs.statement.Conformance.on_link, specs.statement.Effect.bytes_from}
+use Rattle.tl_rules.{specs.statement.Effect.IsBlock, specs.statement.History.held}
+use Rattle.tl_client.{specs.statement.Endpoint.zeros, proofs.pending.Accounted.accounted-fresh}
+use Rattle.tl_client.{proofs.pending.KeptOffered.kept-fresh}
 use Rattle.tl_manager.proofs.calls.Keeping.{fresh-kept}
-use Rattle.tl_coherence.specs.refinement.Carried.{IsCarried}
-use Rattle.tl_coherence.specs.statement.Flow.{flow}
+use Rattle.tl_coherence.specs.{refinement.Carried.IsCarried, statement.Flow.flow, protocol.Invariant.IsWell}
+use Rattle.tl_coherence.specs.{protocol.Phase.ok, protocol.Tokens.is_transfer, statement.OneMemory.one_memory_after}
+use Rattle.tl_coherence.specs.{refinement.PacketMessages.messages_on, statement.System.fresh}
+use Rattle.tl_coherence.specs.{refinement.SimulationRelation.MonitorRelations}
 use Rattle.tl_coherence.specs.refinement.AbstractStep.{first_block, first_link, first_state, first_abstract_state}
-use Rattle.tl_coherence.specs.protocol.Invariant.{IsWell}
-use Rattle.tl_coherence.specs.protocol.Phase.{ok}
-use Rattle.tl_coherence.specs.protocol.Tokens.{is_transfer}
-use Rattle.tl_coherence.specs.statement.OneMemory.{one_memory_after}
-use Rattle.tl_coherence.specs.refinement.PacketMessages.{messages_on}
-use Rattle.tl_coherence.specs.statement.System.{fresh}
 use Rattle.tl_coherence.specs.protocol.Packet.{count, Holds, IsOrdered}
-use Rattle.tl_coherence.specs.refinement.SimulationRelation.{MonitorRelations}
 
 -- ---- the protocol
 
@@ -44,22 +35,12 @@ first-well caching = record {
 none-shown : (c : ℕ) (k : Kind) → is_transfer k ≡ true → Holds k (on k first_link) (λ n. shown k c first_block)
 unfolding count
 none-shown c Request t n = refl
-none-shown c Acquire t n = refl
-none-shown c Probe t n = refl
-none-shown c ProbeAck t n = refl
-none-shown c Release t n = refl
-none-shown c Answer t n = refl
-none-shown c Grant t n = refl
-none-shown c ReleaseAck t n = refl
-none-shown c GrantAck t n = refl
+none-shown c k t n = refl
 
 none-there : (ch : Channel) (k : Kind) (n : ℕ) → count k n (packets_on ch first_link) ≡ 0
 unfolding count
-none-there channel.A k n = refl
-none-there channel.B k n = refl
-none-there channel.C k n = refl
-none-there channel.D k n = refl
-none-there channel.E k n = refl
+none-there Channel.A k n = refl
+none-there ch k n = refl
 
 pub first-invariant : (caching : ℕ → Bool) → IsInvariant caching first_state
 unfolding count IsOrdered
@@ -88,19 +69,13 @@ zeros-block n i lt = sym (get_or-replicate {A = ℕ} 64 i 0 0 lt)
 none-carried : (w c : ℕ) (ch : Channel) → IsCarried {w = w} (unfinished ch (receiver ch c fresh))
     (messages_on ch (first_abstract_state {w = w}).mail first_state c) []
 unfolding unfinished on_link
-none-carried w c channel.A = (refl, refl)
-none-carried w c channel.B = (refl, refl)
-none-carried w c channel.C = (refl, refl)
-none-carried w c channel.D = (refl, refl)
-none-carried w c channel.E = (refl, refl)
+none-carried w c Channel.A = (refl, refl)
+none-carried w c ch = (refl, refl)
 
 none-left : (w c : ℕ) (ch : Channel) → unfinished {w = w} ch [] ≡ unfinished ch (receiver ch c fresh)
 unfolding unfinished on_link
-none-left w c channel.A = refl
-none-left w c channel.B = refl
-none-left w c channel.C = refl
-none-left w c channel.D = refl
-none-left w c channel.E = refl
+none-left w c Channel.A = refl
+none-left w c ch = refl
 
 -- a whole of ends and channels that are fresh is that of the protocol's first state
 pub fresh-matched : {w : ℕ} (config : Config) → SimulationRelation {w = w} config [] first_abstract_state.mail
@@ -129,8 +104,7 @@ fresh-matched {w} config = record {
   opened = λ c. record {
     requests = λ source. refl;
     releases = λ source. refl;
-    released =
-        λ source n some. absurd cc;
+    released = λ source n some. absurd cc;
     sizes = λ source n some. absurd cc;
   };
   kept = λ c. kept-fresh w;

@@ -2,120 +2,72 @@
 use Rattle.tl_coherence.proofs.simulation.Imports.{IsWidth, Beat, Link, Channel, MessageA, unfinished, Config, Op}
 use Rattle.tl_coherence.proofs.simulation.Imports.{EndConfig, Offered, Deliver, is_moving, asked, IsInvariant, Log}
 use Rattle.tl_coherence.proofs.simulation.Imports.{receiver, State, packet, is_on, packets_on, AccessMessages}
-use Rattle.tl_coherence.proofs.simulation.Imports.{message_of, stepped, stepped_at, client_took, is_to_client, System}
-use Rattle.tl_coherence.proofs.simulation.Imports.{terms_at, Kind, Request, Acquire, Probe, ProbeAck, Release, Answer}
-use Rattle.tl_coherence.proofs.simulation.Imports.{Grant, ReleaseAck, GrantAck, Packet, SimulationRelation, is_caching}
+use Rattle.tl_coherence.proofs.simulation.Imports.{message_of, stepped, client_took, is_to_client, System, terms_at}
+use Rattle.tl_coherence.proofs.simulation.Imports.{Kind, Probe, Answer, Grant, ReleaseAck, Packet, SimulationRelation}
+use Rattle.tl_coherence.proofs.simulation.Imports.{is_caching}
 use Rattle.std.proofs.Common.{◌≡◌, ℕ, Bool, true, false, not, List, ◌∷◌, Option, Some, None, refl, sym, ◌∙◌, ap}
 use Rattle.std.specs.Prelude.{map}
-use Rattle.tl_beat.specs.declared.channel.Channel.TheVariants as channel
 use Rattle.tl_client.specs.statement.Ask as ask
-use Rattle.tl_coherence.specs.protocol.Phase.{NoRelease, is_unreleased}
-use Rattle.tl_coherence.specs.refinement.PacketMessages.{message_of_kind}
-use Rattle.tl_coherence.specs.statement.Step.{Step}
-use Rattle.tl_coherence.proofs.client.Askable.{askable}
-use Rattle.tl_coherence.proofs.queues.Carried.{IsNext}
-use Rattle.tl_coherence.proofs.client.ClientDelivered.{shadow_of}
-use Rattle.tl_coherence.proofs.protocol.FollowKept.{IsReady, asked-kept}
-use Rattle.tl_coherence.proofs.client.ProbeDelivered.{probe-delivered}
-use Rattle.tl_coherence.proofs.manager.UnwaitedRequests.{next_tracker}
-use Rattle.tl_coherence.proofs.queues.Steps.{stepped-to-client}
-use Rattle.tl_coherence.proofs.protocol.BothParts.{kept-letting}
+use Rattle.tl_coherence.specs.{protocol.Phase.NoRelease, protocol.Phase.is_unreleased}
+use Rattle.tl_coherence.specs.{refinement.PacketMessages.message_of_kind, statement.Step.Step}
+use Rattle.tl_coherence.proofs.{client.Askable.askable, queues.Carried.IsNext, client.ClientDelivered.shadow_of}
+use Rattle.tl_coherence.proofs.{protocol.FollowKept.IsReady, protocol.FollowKept.asked-kept}
+use Rattle.tl_coherence.proofs.{client.ProbeDelivered.probe-delivered, manager.UnwaitedRequests.next_tracker}
+use Rattle.tl_coherence.proofs.{queues.Steps.stepped-to-client, protocol.BothParts.kept-letting}
 
-pub invariant-asked : {w : ℕ} (config : Config) (log : Log w) (mail : AccessMessages w) (request : ℕ → MessageA w)
-    (s : State (List ℕ)) (sys : System w) (terms : EndConfig)
-    (c : ℕ) (o : Op w) → SimulationRelation config log mail request s sys
-    → terms_at config c ≡ Some terms
+pub invariant-asked : {w : ℕ} {config : Config} {log : Log w} {mail : AccessMessages w} {request : ℕ → MessageA w}
+    {s : State (List ℕ)} {sys : System w} (terms : EndConfig) (c : ℕ) (o : Op w)
+    → SimulationRelation config log mail request s sys → terms_at config c ≡ Some terms
     → IsInvariant (is_caching config) (asked c o (ask.asked terms o (sys.clients c)).reply
     (shadow_of mail request s)).state
-invariant-asked config log mail request s sys terms c o h at =
-    asked-kept (is_caching config) c o (ask.asked terms o (sys.clients c)).reply (shadow_of mail request s) h.invariant
-    (askable config log mail request s sys terms c o h at)
+invariant-asked {config} {log} {mail} {request} {s} {sys} terms c o h at =
+    asked-kept c o (ask.asked terms o (sys.clients c)).reply (shadow_of mail request s) h.invariant
+    (askable terms c o h at)
 
 pub nobody_moves : {w : ℕ} (config : Config) (sys : System w) (link : Link) (ch : Channel)
     → terms_at config link.0 ≡ None → is_moving (stepped config (Deliver link ch) sys).outcome ≡ false
 unfolding stepped
-nobody_moves config sys link ch none =
-    ap (λ (o : Option EndConfig). is_moving (stepped_at config o (Deliver link ch) sys).outcome) none
+nobody_moves config sys link ch none = cc none
 
 -- a Probe that is moved doesn't wait for a Release
-probe_ready : {w : ℕ} (config : Config) (log : Log w) (mail : AccessMessages w) (request : ℕ → MessageA w)
-    (s : State (List ℕ)) (sys : System w) (link : Link) (n : ℕ)
-    (rest : List Packet) (x : Beat w) (queue : List (Beat w)) → IsWidth w
-    → SimulationRelation config log mail request s sys → is_moving (stepped config (Deliver link channel.B) sys).outcome
-    ≡ true
-    → sys.channels link.0 channel.B ≡ x ∷ queue → (s.link link.0).b ≡ packet Probe n ∷ rest
-    → IsNext x (unfinished channel.B (sys.clients link.0).past) (message_of_kind Probe mail s link.0 n)
-    (map (message_of mail s link.0) rest) queue → ((s.block n).pair link.0).letting ≡ NoRelease
-probe_ready {w} config log mail request s sys link n rest x queue width h moves beats first next =
+probe_ready : {w : ℕ} {config : Config} {log : Log w} {mail : AccessMessages w} {request : ℕ → MessageA w}
+    {s : State (List ℕ)} {sys : System w} (link : Link) (n : ℕ) (rest : List Packet) {x : Beat w}
+    {queue : List (Beat w)} → IsWidth w → SimulationRelation config log mail request s sys
+    → is_moving (stepped config (Deliver link Channel.B) sys).outcome ≡ true → sys.channels link.0 Channel.B ≡ x ∷ queue
+    → (s.link link.0).b ≡ packet Probe n ∷ rest → IsNext x (unfinished Channel.B (sys.clients link.0).past)
+    (message_of_kind Probe mail s link.0 n) (map (message_of mail s link.0) rest) queue
+    → ((s.block n).pair link.0).letting ≡ NoRelease
+probe_ready {w} {config} {log} {mail} {request} {s} {sys} link n rest {x} {queue} width h moves beats first next =
     at_terms (terms_at config link.0) refl
   where
     stands : (terms : EndConfig) → terms_at config link.0 ≡ Some terms → (b : Bool)
-        → is_unreleased ((s.block n).pair link.0).letting ≡ b
-        → ((s.block n).pair link.0).letting ≡ NoRelease
+        → is_unreleased ((s.block n).pair link.0).letting ≡ b → ((s.block n).pair link.0).letting ≡ NoRelease
     stands terms at true kept = kept-letting ((s.block n).pair link.0).letting (ap not kept)
     stands terms at false waits =
-        let probed = probe-delivered config log mail request s sys terms (next_tracker sys) link.0 n rest
-        (map (message_of mail s link.0) rest) x queue width h at beats first next in
-        let step : is_moving (stepped config (Deliver link channel.B) sys).outcome ≡ false =
-        ap (λ (i : Step w). is_moving i.outcome) (stepped-to-client config link channel.B sys terms x queue at beats
-        refl)
-        ∙ ap (λ (o : Offered w). is_moving (client_took link.0 channel.B x queue o sys).outcome)
+        let probed = probe-delivered terms (next_tracker sys) link.0 n rest
+        width h at beats first next in
+        let step : is_moving (stepped config (Deliver link Channel.B) sys).outcome ≡ false =
+        ap (λ (i : Step w). is_moving i.outcome) (stepped-to-client config link Channel.B sys terms x queue at beats
+        refl) ∙ ap (λ (o : Offered w). is_moving (client_took link.0 Channel.B x queue o sys).outcome)
         (probed.waits_for waits) in
         absurd (let no : true ≡ false = sym moves ∙ step in cc)
 
     at_terms : (o : Option EndConfig) → terms_at config link.0 ≡ o → ((s.block n).pair link.0).letting ≡ NoRelease
-    at_terms None at = absurd (let no : true ≡ false = sym moves ∙ nobody_moves config sys link channel.B at in cc)
+    at_terms None at = absurd (let no : true ≡ false = sym moves ∙ nobody_moves config sys link Channel.B at in cc)
     at_terms (Some terms) at = stands terms at (is_unreleased ((s.block n).pair link.0).letting) refl
 
 -- what a client takes, it may take
-pub ready-client : {w : ℕ} (config : Config) (log : Log w) (mail : AccessMessages w) (request : ℕ → MessageA w)
-    (s : State (List ℕ)) (sys : System w) (link : Link)
-    (ch : Channel) (k : Kind) (i : ℕ) (rest : List Packet) (x : Beat w) (queue : List (Beat w)) → IsWidth w
-    → SimulationRelation config log mail request s sys → is_to_client ch ≡ true → is_on ch k ≡ true
-    → is_moving (stepped config (Deliver link ch) sys).outcome ≡ true
+pub ready-client : {w : ℕ} {config : Config} {log : Log w} {mail : AccessMessages w} {request : ℕ → MessageA w}
+    {s : State (List ℕ)} {sys : System w} (link : Link) (ch : Channel) (k : Kind) (i : ℕ) (rest : List Packet)
+    {x : Beat w} {queue : List (Beat w)} → IsWidth w → SimulationRelation config log mail request s sys
+    → is_to_client ch ≡ true → is_on ch k ≡ true → is_moving (stepped config (Deliver link ch) sys).outcome ≡ true
     → sys.channels link.0 ch ≡ x ∷ queue → packets_on ch (s.link link.0) ≡ packet k i ∷ rest
     → IsNext x (unfinished ch (receiver ch link.0 sys)) (message_of_kind k mail s link.0 i)
-    (map (message_of mail s link.0) rest) queue
-    → IsReady (next_tracker sys) link.0 k i (shadow_of mail request s)
-ready-client config log mail request s sys link channel.B Probe i rest x queue width h up own moves beats first next =
-    probe_ready config log mail request s sys link i rest x queue width h moves beats first next
-ready-client config log mail request s sys link channel.D Answer i rest x queue width h up own moves beats first next =
-    tt
-ready-client config log mail request s sys link channel.D Grant i rest x queue width h up own moves beats first next =
-    tt
-ready-client config log mail request s sys link channel.D ReleaseAck i rest x queue width h up own moves beats first
-    next = tt
-ready-client config log mail request s sys link channel.B Request i rest x queue width h up own moves beats first next =
-    absurd cc
-ready-client config log mail request s sys link channel.B Acquire i rest x queue width h up own moves beats first next =
-    absurd cc
-ready-client config log mail request s sys link channel.B ProbeAck i rest x queue width h up own moves beats first
-    next = absurd cc
-ready-client config log mail request s sys link channel.B Release i rest x queue width h up own moves beats first next =
-    absurd cc
-ready-client config log mail request s sys link channel.B Answer i rest x queue width h up own moves beats first next =
-    absurd cc
-ready-client config log mail request s sys link channel.B Grant i rest x queue width h up own moves beats first next =
-    absurd cc
-ready-client config log mail request s sys link channel.B ReleaseAck i rest x queue width h up own moves beats first
-    next = absurd cc
-ready-client config log mail request s sys link channel.B GrantAck i rest x queue width h up own moves beats first
-    next = absurd cc
-ready-client config log mail request s sys link channel.D Request i rest x queue width h up own moves beats first next =
-    absurd cc
-ready-client config log mail request s sys link channel.D Acquire i rest x queue width h up own moves beats first next =
-    absurd cc
-ready-client config log mail request s sys link channel.D Probe i rest x queue width h up own moves beats first next =
-    absurd cc
-ready-client config log mail request s sys link channel.D ProbeAck i rest x queue width h up own moves beats first
-    next = absurd cc
-ready-client config log mail request s sys link channel.D Release i rest x queue width h up own moves beats first next =
-    absurd cc
-ready-client config log mail request s sys link channel.D GrantAck i rest x queue width h up own moves beats first
-    next = absurd cc
-ready-client config log mail request s sys link channel.A k i rest x queue width h up own moves beats first next =
-    absurd cc
-ready-client config log mail request s sys link channel.C k i rest x queue width h up own moves beats first next =
-    absurd cc
-ready-client config log mail request s sys link channel.E k i rest x queue width h up own moves beats first next =
-    absurd cc
+    (map (message_of mail s link.0) rest) queue → IsReady (next_tracker sys) link.0 k i (shadow_of mail request s)
+ready-client {config} {log} {mail} {request} {s} {sys} link Channel.B Probe i rest {x} {queue} width h up own moves
+    beats first next =
+    probe_ready link i rest width h moves beats first next
+ready-client link Channel.D Answer i rest width h up own moves beats first next = tt
+ready-client link Channel.D Grant i rest width h up own moves beats first next = tt
+ready-client link Channel.D ReleaseAck i rest width h up own moves beats first next = tt
+ready-client link ch k i rest width h up own moves beats first next = absurd cc

@@ -5,67 +5,53 @@ use Rattle.tl_coherence.proofs.simulation.Imports.{receiver, State, AccessMessag
 use Rattle.tl_coherence.proofs.simulation.Imports.{System, same_channel, terms_at, with_channel}
 use Rattle.std.proofs.Common.{◌≡◌, ℕ, Bool, true, false, ◌+◌, ◌<◌, List, [], ◌∷◌, refl, sym, ◌∙◌, ap, ◌⊎◌, inl, inr}
 use Rattle.std.proofs.Common.{arith}
-use Rattle.std.specs.Prelude.{◌==◌, ◌&&◌, if◌then◌else◌, Option, Some, None, Result, Ok, Err}
+use Rattle.std.specs.Prelude.{◌==◌, ◌&&◌, if◌then◌else◌, Option, Some, None, Result, Ok}
 use Rattle.std.proofs.lemmas.Bool.{cases_eq, ne_eqb}
-use Rattle.tl_beat.specs.declared.channel.Channel.TheVariants as channel
-use Rattle.tl_burst.specs.statement.Messages.{grown}
-use Rattle.tl_burst.specs.statement.Part.{completes}
-use Rattle.tl_burst.proofs.Splitting.{beats-positive}
+use Rattle.tl_burst.{specs.statement.Messages.grown, specs.statement.Part.completes, proofs.Splitting.beats-positive}
 use Rattle.tl_rules.specs.statement.Conformance.{on_link}
 use Rattle.tl_client.specs.laws.After as after
-use Rattle.tl_client.specs.declared.verdict.Verdict.TheVariants as verdict
 use Rattle.tl_client.specs.statement.Endpoint as client
 use Rattle.tl_client.specs.statement.EndpointInvariant as client_kept
 use Rattle.tl_client.specs.statement.Offer as offer
 use Rattle.tl_client.proofs.endpoint.Outstanding.{unfinished-offered}
-use Rattle.tl_manager.specs.laws.After.{is_of_clients, taken_after}
-use Rattle.tl_manager.specs.statement.Handing.{Handed}
+use Rattle.tl_manager.{specs.laws.After.is_of_clients, specs.laws.After.taken_after, specs.statement.Handing.Handed}
 use Rattle.tl_manager.specs.code.Kept as manager
 use Rattle.tl_manager.specs.statement.Reaction as manager_reaction
 use Rattle.tl_manager.specs.statement.End as manager_end
 use Rattle.tl_manager.specs.statement.Offer as manager_offer
 use Rattle.tl_manager.proofs.pending.Afterwards as manager_after
-use Rattle.tl_coherence.specs.declared.event.Outcome.TheVariants as outcome
-use Rattle.tl_coherence.specs.refinement.Carried.{IsCarried}
-use Rattle.tl_coherence.specs.refinement.PacketMessages.{messages_on}
+use Rattle.tl_coherence.specs.{declared.event.Outcome.Outcome, refinement.Carried.IsCarried}
+use Rattle.tl_coherence.specs.{refinement.PacketMessages.messages_on, statement.System.with_client}
+use Rattle.tl_coherence.specs.{statement.System.with_manager}
 use Rattle.tl_coherence.specs.statement.Step.{Step, handing, handed_by, outcome_of, judged, manager_took}
-use Rattle.tl_coherence.specs.statement.System.{with_client, with_manager}
-use Rattle.tl_coherence.proofs.queues.Carried.{IsNext, carried-next}
-use Rattle.tl_coherence.proofs.queues.Channels.{behind, same_channel-is}
+use Rattle.tl_coherence.proofs.{queues.Carried.carried-next, queues.Channels.same_channel-is}
+use Rattle.tl_coherence.proofs.{queues.Steps.stepped-to-client, queues.Steps.stepped-to-manager}
+use Rattle.tl_coherence.proofs.{queues.Tokens.same_number}
 use Rattle.tl_coherence.proofs.queues.Landed.{IsLanded, HasHeard, HasTaken}
-use Rattle.tl_coherence.proofs.queues.Steps.{stepped-to-client, stepped-to-manager}
-use Rattle.tl_coherence.proofs.queues.Tokens.{same_number}
 
 -- ---- to a client
 
 -- a client takes the beat: not a refusal, nor a stall
 abbrev pub is_taken : {w : ℕ} → Result (Verdict × Option (Message w)) Rule → Bool
-is_taken (Err rule) = false
-is_taken (Ok (verdict.Stalled, m)) = false
-is_taken (Ok (verdict.Taken, m)) = true
-is_taken (Ok (verdict.Done source finish, m)) = true
+is_taken (Ok (Verdict.Taken, m)) = true
+is_taken (Ok (Verdict.Done source finish, m)) = true
+is_taken _ = false
 
 pub offered-taken : {w : ℕ} (terms : client.EndConfig) (ch : Channel) (x : Beat w) (e : client.Endpoint w)
     → is_taken (offer.offered terms ch x e).answer ≡ true → offer.offered terms ch x e ≡ offer.taken x e
 unfolding offer.offered
-offered-taken {w} terms ch x e is = before (offer.broken_before terms ch x e) is
-  where
-    later : (o : Option Rule) → is_taken (offer.judged_later o x e).answer ≡ true
-        → offer.judged_later o x e ≡ offer.taken x e
-    later None h = refl
-    later (Some rule) h = absurd cc
-
-    waiting : (b : Bool) → is_taken (if b then offer.silent verdict.Stalled e else offer.judged_later
-        (offer.broken_later terms x e) x e).answer ≡ true
-        → (if b then offer.silent verdict.Stalled e else offer.judged_later (offer.broken_later terms x e) x e)
-        ≡ offer.taken x e
-    waiting true h = absurd cc
-    waiting false h = later (offer.broken_later terms x e) h
-
-    before : (o : Option Rule) → is_taken (offer.judged o terms x e).answer ≡ true
-        → offer.judged o terms x e ≡ offer.taken x e
-    before None h = waiting (offer.waits x e.past) h
-    before (Some rule) h = absurd cc
+offered-taken {w} terms ch x e is =
+    let later : (o : Option Rule) → is_taken (offer.judged_later o x e).answer ≡ true
+    → offer.judged_later o x e ≡ offer.taken x e = elim [ None ↦ λ h. refl | Some rule ↦ λ h. absurd cc ] in
+    let waiting : (b : Bool)
+    → is_taken (if b then offer.silent Verdict.Stalled e else offer.judged_later (offer.broken_later terms x e) x
+    e).answer ≡ true → (if b then offer.silent Verdict.Stalled e else offer.judged_later
+    (offer.broken_later terms x e) x e) ≡ offer.taken x e =
+    elim [ true ↦ λ h. absurd cc | false ↦ λ h. later (offer.broken_later terms x e) h ] in
+    let before : (o : Option Rule) → is_taken (offer.judged o terms x e).answer ≡ true
+    → offer.judged o terms x e ≡ offer.taken x e =
+    elim [ None ↦ λ h. waiting (offer.waits x e.past) h | Some rule ↦ λ h. absurd cc ] in
+    before (offer.broken_before terms ch x e) is
 
 -- the step, where a client takes the beat
 pub record IsTakenByClient {w : ℕ} (terms : client.EndConfig) (c : ℕ) (ch : Channel) (x : Beat w)
@@ -94,70 +80,60 @@ client_moves {w} terms c ch x queue sys moving = go (offer.offered terms ch x (s
         (with_client c o.after (with_channel c ch queue sys))
         → IsTakenByClient terms c ch x queue sys (judged o.answer c ch x queue o.after sys)
     made v m e taken heard is =
-        let takes : o ≡ offer.taken x (sys.clients c) = offered-taken terms ch x (sys.clients c) (ap is_taken e ∙ taken)
-        in
+        let takes = offered-taken terms ch x (sys.clients c) (ap is_taken e ∙ taken) in
         record {
           verdict_is = v;
           message = m;
           takes = takes;
           answer = ap (λ (p : Offered w). p.answer) (sym takes) ∙ e;
           heard = ap (λ a. after.heard a x (sys.clients c).past) e ∙ heard;
-          step_is = ap (λ a. judged a c ch x queue o.after sys) e ∙ is ∙ ap
-              (λ (p : Offered w). handing (outcome_of x v) (handed_by c m)
-              (with_client c p.after (with_channel c ch queue sys))) takes;
+          step_is = cc (e, is, takes);
         }
 
     go : (a : Result (Verdict × Option (Message w)) Rule) → o.answer ≡ a
         → is_moving (judged a c ch x queue o.after sys).outcome ≡ true
         → IsTakenByClient terms c ch x queue sys (judged o.answer c ch x queue o.after sys)
-    go (Err rule) e h = absurd cc
-    go (Ok (verdict.Stalled, m)) e h = absurd cc
-    go (Ok (verdict.Taken, m)) e h = made verdict.Taken m e refl refl refl
-    go (Ok (verdict.Done source finish, m)) e h = made (verdict.Done source finish) m e refl refl refl
+    go (Ok (Verdict.Taken, m)) e h = made Verdict.Taken m e refl refl refl
+    go (Ok (Verdict.Done source finish, m)) e h = made (Verdict.Done source finish) m e refl refl refl
+    go a e h = absurd cc
 
 pub client-moves : {w : ℕ} (config : Config) (link : Link) (ch : Channel) (sys : System w) (terms : client.EndConfig)
-    (x : Beat w) (queue : List (Beat w))
-    → terms_at config link.0 ≡ Some terms → sys.channels link.0 ch ≡ x ∷ queue
-    → is_to_client ch ≡ true
-    → is_moving (stepped config (Deliver link ch) sys).outcome ≡ true
+    (x : Beat w) (queue : List (Beat w)) → terms_at config link.0 ≡ Some terms → sys.channels link.0 ch ≡ x ∷ queue
+    → is_to_client ch ≡ true → is_moving (stepped config (Deliver link ch) sys).outcome ≡ true
     → IsTakenByClient terms link.0 ch x queue sys (stepped config (Deliver link ch) sys)
 client-moves {w} config link ch sys terms x queue known first up moving =
+    let same : (a b : Step w) → a ≡ b → IsTakenByClient terms link.0 ch x queue sys b
+    → IsTakenByClient terms link.0 ch x queue sys a = λ a b e h. rw e h in
     let step = stepped-to-client config link ch sys terms x queue known first up in
     same (stepped config (Deliver link ch) sys)
     (client_took link.0 ch x queue (offer.offered terms ch x (sys.clients link.0)) sys) step
     (client_moves terms link.0 ch x queue sys (ap (λ (y : Step w). is_moving y.outcome) (sym step) ∙ moving))
-  where
-    same : (a b : Step w) → a ≡ b → IsTakenByClient terms link.0 ch x queue sys b
-        → IsTakenByClient terms link.0 ch x queue sys a
-    same a b e h = rw e h
 
-pub client-heard : {w : ℕ} (terms : client.EndConfig) (c : ℕ) (ch : Channel) (x : Beat w) (queue : List (Beat w))
-    (sys : System w) (step : Step w) → IsWidth w → client_kept.IsEndpointInvariant (sys.clients c)
+pub client-heard : {w : ℕ} {terms : client.EndConfig} {c : ℕ} {ch : Channel} {x : Beat w} {queue : List (Beat w)}
+    {sys : System w} {step : Step w} → IsWidth w → client_kept.IsEndpointInvariant (sys.clients c)
     → IsTakenByClient terms c ch x queue sys step → HasHeard x (sys.clients c) (offer.taken x (sys.clients c)).after
-client-heard {w} terms c ch x queue sys step width kept is at =
-    ap (λ (p : Offered w). unfinished at p.after.past) (sym is.takes) ∙ unfinished-offered terms ch x (sys.clients c) at
-    width kept ∙ ap (unfinished at) is.heard
+client-heard {w} {terms} {c} {ch} {x} {sys} width kept is at =
+    cc (is.takes, unfinished-offered terms ch x (sys.clients c) at width kept, is.heard)
 
 -- ---- to the manager
 
 pub offered-passes : {w : ℕ} (config : Config) (link : Link) (ch : Channel) (x : Beat w) (e : manager_end.End w)
-    (handed : Handed w)
-    → (manager_offer.offered config link ch x e).0 ≡ manager_offer.Sent handed
+    (handed : Handed w) → (manager_offer.offered config link ch x e).0 ≡ manager_offer.Sent handed
     → manager_offer.offered config link ch x e ≡ (
       manager_offer.Sent (manager_reaction.reaction config link x e).handed,
       manager_offer.taken link x (manager_reaction.reaction config link x e) e,
     )
 unfolding manager_offer.offered
-offered-passes {w} config link ch x e handed is = go (manager_offer.judged config link ch x e) is
-  where
-    go : (j : manager_offer.Judgement) → (manager_offer.offered_as j config link x e).0 ≡ manager_offer.Sent handed
-        → manager_offer.offered_as j config link x e ≡ (
-          manager_offer.Sent (manager_reaction.reaction config link x e).handed,
-          manager_offer.taken link x (manager_reaction.reaction config link x e) e,
-        )
-    go (manager_offer.Breaks rule) h = absurd cc
-    go manager_offer.Waits h = absurd cc
-    go manager_offer.Passes h = refl
+offered-passes {w} config link ch x e handed is =
+    let go : (j : manager_offer.Judgement) → (manager_offer.offered_as j config link x e).0 ≡ manager_offer.Sent handed
+    → manager_offer.offered_as j config link x e
+    ≡ (
+      manager_offer.Sent (manager_reaction.reaction config link x e).handed,
+      manager_offer.taken link x
+          (manager_reaction.reaction config link x e) e,
+    ) =
+    elim [ manager_offer.Passes ↦ λ h. refl | j ↦ λ h. absurd cc ] in
+    go (manager_offer.judged config link ch x e) is
 
 -- the step, where the manager takes the beat
 pub record IsTakenByManager {w : ℕ} (config : Config) (link : Link) (ch : Channel) (x : Beat w) (queue : List (Beat w))
@@ -168,14 +144,13 @@ pub record IsTakenByManager {w : ℕ} (config : Config) (link : Link) (ch : Chan
         manager_offer.taken link x
             (manager_reaction.reaction config link x sys.manager) sys.manager,
       )
-  pub step_is : step ≡ handing (outcome.Moved x) (manager_reaction.reaction config link x sys.manager).handed
+  pub step_is : step ≡ handing (Outcome.Moved x) (manager_reaction.reaction config link x sys.manager).handed
       (with_manager (manager_offer.taken link x (manager_reaction.reaction config link x sys.manager) sys.manager)
       (with_channel link.0 ch queue sys))
 
 manager_moves : {w : ℕ} (config : Config) (link : Link) (ch : Channel) (x : Beat w) (queue : List (Beat w))
-    (sys : System w)
-    → is_moving (manager_took link.0 ch x queue (manager_offer.offered config link ch x sys.manager) sys).outcome ≡ true
-    → IsTakenByManager config link ch x queue sys
+    (sys : System w) → is_moving (manager_took link.0 ch x queue (manager_offer.offered config link ch x sys.manager)
+    sys).outcome ≡ true → IsTakenByManager config link ch x queue sys
     (manager_took link.0 ch x queue (manager_offer.offered config link ch x sys.manager) sys)
 manager_moves {w} config link ch x queue sys moving = go (manager_offer.offered config link ch x sys.manager) refl
     moving
@@ -184,32 +159,26 @@ manager_moves {w} config link ch x queue sys moving = go (manager_offer.offered 
         → is_moving (manager_took link.0 ch x queue a sys).outcome ≡ true
         → IsTakenByManager config link ch x queue sys
         (manager_took link.0 ch x queue (manager_offer.offered config link ch x sys.manager) sys)
-    go (manager_offer.Refused rule, e) f h = absurd cc
-    go (manager_offer.Stalled, e) f h = absurd cc
     go (manager_offer.Sent handed, e) f h =
         let takes = offered-passes config link ch x sys.manager handed
         (ap (λ (p : manager_offer.Reception w × manager_end.End w). p.0) f) in
         record { takes = takes; step_is = ap (λ p. manager_took link.0 ch x queue p sys) takes }
+    go a f h = absurd cc
 
 pub manager-moves : {w : ℕ} (config : Config) (link : Link) (ch : Channel) (sys : System w) (terms : client.EndConfig)
-    (x : Beat w) (queue : List (Beat w))
-    → terms_at config link.0 ≡ Some terms → sys.channels link.0 ch ≡ x ∷ queue
-    → is_to_client ch ≡ false
-    → is_moving (stepped config (Deliver link ch) sys).outcome ≡ true
+    (x : Beat w) (queue : List (Beat w)) → terms_at config link.0 ≡ Some terms → sys.channels link.0 ch ≡ x ∷ queue
+    → is_to_client ch ≡ false → is_moving (stepped config (Deliver link ch) sys).outcome ≡ true
     → IsTakenByManager config link ch x queue sys (stepped config (Deliver link ch) sys)
 manager-moves {w} config link ch sys terms x queue known first down moving =
+    let same : (a b : Step w) → a ≡ b → IsTakenByManager config link ch x queue sys b
+    → IsTakenByManager config link ch x queue sys a = λ a b e h. rw e h in
     let step = stepped-to-manager config link ch sys terms x queue known first down in
     same (stepped config (Deliver link ch) sys)
     (manager_took link.0 ch x queue (manager_offer.offered config link ch x sys.manager) sys) step
     (manager_moves config link ch x queue sys (ap (λ (y : Step w). is_moving y.outcome) (sym step) ∙ moving))
-  where
-    same : (a b : Step w) → a ≡ b → IsTakenByManager config link ch x queue sys b
-        → IsTakenByManager config link ch x queue sys a
-    same a b e h = rw e h
 
 pub manager-heard : {w : ℕ} (config : Config) (link : Link) (ch : Channel) (x : Beat w) (queue : List (Beat w))
-    (sys : System w) (step : Step w) → IsWidth w
-    → manager.IsTyped x → manager.IsKept config sys.manager
+    (sys : System w) (step : Step w) → IsWidth w → manager.IsTyped x → manager.IsKept config sys.manager
     → IsTakenByManager config link ch x queue sys step
     → HasTaken link.0 x sys.manager (manager_offer.taken link x (manager_reaction.reaction config link x sys.manager)
     sys.manager)
@@ -219,9 +188,8 @@ manager-heard {w} config link ch x queue sys step width typed kept is d = λ at.
         (on_link d (manager_offer.taken link x (manager_reaction.reaction config link x sys.manager) sys.manager).trace)
         ≡ unfinished at
         (if link.0 == d then x ∷ on_link d sys.manager.trace else on_link d sys.manager.trace)
-    one at up =
-        ap (λ (p : manager_offer.Reception w × manager_end.End w). unfinished at (on_link d p.1.trace)) (sym is.takes)
-        ∙ manager_after.unfinished-offered config link ch x sys.manager d at width typed kept up
+    one at up = ap (λ (p : manager_offer.Reception w × manager_end.End w). unfinished at (on_link d p.1.trace))
+        (sym is.takes) ∙ manager_after.unfinished-offered config link ch x sys.manager d at width typed kept up
         ∙ ap (λ (p : manager_offer.Reception w × manager_end.End w). unfinished at
         (taken_after p.0 (link, x) d (on_link d sys.manager.trace))) is.takes
 
@@ -229,20 +197,18 @@ manager-heard {w} config link ch x queue sys step width typed kept is d = λ at.
         (on_link d (manager_offer.taken link x (manager_reaction.reaction config link x sys.manager) sys.manager).trace)
         ≡ unfinished at
         (if link.0 == d then x ∷ on_link d sys.manager.trace else on_link d sys.manager.trace)
-    go channel.A f = one channel.A refl
-    go channel.C f = one channel.C refl
-    go channel.E f = one channel.E refl
-    go channel.B f = absurd cc
-    go channel.D f = absurd cc
+    go Channel.A f = one Channel.A refl
+    go Channel.C f = one Channel.C refl
+    go Channel.E f = one Channel.E refl
+    go at f = absurd cc
 
 -- ---- a beat that isn't the last of its message
 
-pub carried-part : {w : ℕ} (mail : AccessMessages w) (s : State (List ℕ)) (c : ℕ) (ch : Channel) (x : Beat w)
-    (queue : List (Beat w))
-    (pushes : ℕ → Channel → Option (Message w)) (sys sys' : System w) → IsWidth w
+pub carried-part : {w : ℕ} (mail : AccessMessages w) (s : State (List ℕ)) {c : ℕ} {ch : Channel} {x : Beat w}
+    {queue : List (Beat w)} {pushes : ℕ → Channel → Option (Message w)} {sys sys' : System w} → IsWidth w
     → IsLanded c ch x queue pushes sys sys' → ((d : ℕ) (at : Channel) → pushes d at ≡ None)
     → completes x (unfinished ch (receiver ch c sys)) ≡ false → ChannelRelation mail s sys → ChannelRelation mail s sys'
-carried-part {w} mail s c ch x queue pushes sys sys' width is none part h d at =
+carried-part {w} mail s {c} {ch} {x} {queue} {sys} {sys'} width is none part h d at =
     go (cases_eq d c) (same_channel at ch) refl
   where
     rest : ℕ → Channel → List (Beat w)
@@ -254,14 +220,12 @@ carried-part {w} mail s c ch x queue pushes sys sys' width is none part h d at =
     moved r q e f i = rw (e, f) i
 
     channel_is : sys'.channels d at ≡ (if (d == c) && same_channel at ch then queue else sys.channels d at)
-    channel_is = is.channels d at ∙ ap
-        (λ o. behind o (if (d == c) && same_channel at ch then queue else sys.channels d at)) (none d at)
+    channel_is = cc (is.channels d at, none d at)
 
     first : (ms : List (Message w)) → IsCarried (rest c ch) ms (x ∷ queue) → IsCarried (grown x (rest c ch)) ms queue
     first [] i = absurd (let e : x ∷ queue ≡ [] = i.1 in cc)
     first (m ∷ ms) i =
-        let next : IsNext x (rest c ch) m ms queue = carried-next x (rest c ch) m ms queue (λ n. beats-positive n width)
-        i in
+        let next = carried-next x (rest c ch) m ms queue (λ n. beats-positive n width) i in
         let more = next.more (before next.k (beats_of m) next.within (sym next.completes_is ∙ part)) in
         rw (more.0) more.1
       where

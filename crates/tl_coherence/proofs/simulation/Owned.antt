@@ -6,16 +6,13 @@ use Rattle.std.proofs.Common.{◌≡◌, ℕ, ◌/◌, ◌≤◌, true, List, re
 use Rattle.std.specs.Prelude.{Option, Some, None, length}
 use Rattle.tl_params.specs.declared.key.Key.{Key}
 use Rattle.tl_params.specs.declared.key.Key.TheVariants.{RequestSource, ReleaseSource}
-use Rattle.tl_client.specs.statement.Endpoint.{Endpoint, fresh}
-use Rattle.tl_client.specs.laws.Inside.{IsInside}
-use Rattle.tl_client.specs.statement.EndpointInvariant.{IsEndpointInvariant}
+use Rattle.tl_client.{specs.statement.Endpoint.Endpoint, specs.statement.Endpoint.fresh, specs.laws.Inside.IsInside}
+use Rattle.tl_client.{specs.statement.EndpointInvariant.IsEndpointInvariant, proofs.pending.KeptAsked.kept-asked}
 use Rattle.tl_client.proofs.endpoint.Inside.{inside-fresh, inside-asked, inside-offered}
-use Rattle.tl_client.proofs.pending.KeptAsked.{kept-asked}
 use Rattle.tl_client.proofs.pending.KeptOffered.{kept-fresh, kept-offered}
 use Rattle.tl_coherence.specs.statement.Delivery.{capacity, sources_of}
-use Rattle.tl_coherence.proofs.simulation.Bounded.{IsOwn, matched-bounded}
-use Rattle.tl_coherence.proofs.queues.Ends.{AreKept, ends-kept}
-use Rattle.tl_coherence.proofs.protocol.Room.{channel-few}
+use Rattle.tl_coherence.proofs.{simulation.Bounded.IsOwn, simulation.Bounded.matched-bounded, queues.Ends.AreKept}
+use Rattle.tl_coherence.proofs.{queues.Ends.ends-kept, protocol.Room.channel-few}
 
 -- a client's end is within its terms, and there is nothing where there is no client
 pub record IsWithin {w : ℕ} (config : Config) (c : ℕ) (e : Endpoint w) : Type 0 where
@@ -72,12 +69,11 @@ sources-own {w} config log c width = go (terms_at config c) refl
     }
 
 -- no channel holds more than it is made for
-pub channels-few : {w : ℕ} (config : Config) (log : Log w) (mail : AccessMessages w) (request : ℕ → MessageA w)
-    (s : State (List ℕ)) → IsWidth w → SimulationRelation config log mail request s (system_after config log)
+pub channels-few : {w : ℕ} {config : Config} {log : Log w} {mail : AccessMessages w} {request : ℕ → MessageA w}
+    {s : State (List ℕ)} → IsWidth w → SimulationRelation config log mail request s (system_after config log)
     → (c : ℕ) (ch : Channel) → length ((system_after config log).channels c ch) ≤ capacity (64 / w)
     (sources_of (terms_at config c)) config.trackers ch
-channels-few {w} config log mail request s width matched c ch =
+channels-few {w} {config} {log} {mail} {request} {s} width matched c ch =
     channel-few (is_caching config) mail s c (sources_of (terms_at config c)) config.trackers ch _ _ width
-    matched.invariant
-    (matched-bounded config log mail request s (system_after config log) matched c (sources-own config log c width))
-    (matched.carried c ch)
+    matched.invariant (matched-bounded config log mail request s (system_after config log) matched c
+    (sources-own config log c width)) (matched.carried c ch)

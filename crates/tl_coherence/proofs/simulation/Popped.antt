@@ -8,22 +8,15 @@ use Rattle.tl_coherence.proofs.simulation.Imports.{SimulationRelation}
 use Rattle.std.proofs.Common.{◌≡◌, ℕ, ◌+◌, ◌<◌, Bool, true, false, List, [], ◌∷◌, refl, sym, ◌∙◌, ap, arith}
 use Rattle.std.specs.Prelude.{◌==◌, ◌&&◌, if◌then◌else◌, Option, Some, None, length}
 use Rattle.std.proofs.lemmas.Bool.{eqb-true}
-use Rattle.tl_beat.specs.declared.channel.Channel.TheVariants as channel
 use Rattle.tl_burst.proofs.Begun.{length-begun}
 use Rattle.tl_coherence.specs.refinement.Move.{Pushes, Pops, IsMoved, AreMoved, channel_for}
-use Rattle.tl_coherence.specs.refinement.PacketMessages.{message_of_kind}
-use Rattle.tl_coherence.specs.protocol.Packet.{is}
-use Rattle.tl_coherence.proofs.simulation.Bounded.{matched-bounded}
-use Rattle.tl_coherence.proofs.queues.Channels.{Fits, same_channel-is}
-use Rattle.tl_coherence.proofs.queues.FirstToken.{IsFirst}
+use Rattle.tl_coherence.specs.{refinement.PacketMessages.message_of_kind, protocol.Packet.is}
+use Rattle.tl_coherence.proofs.{simulation.Bounded.matched-bounded, queues.Channels.Fits}
+use Rattle.tl_coherence.proofs.{queues.Channels.same_channel-is, queues.FirstToken.IsFirst, rank.RankParts.AreClients}
+use Rattle.tl_coherence.proofs.{simulation.Owned.sources-own, queues.Rendered.same_kind_again}
+use Rattle.tl_coherence.proofs.{queues.QuiescentQueues.client_below, simulation.Strangers.no_use}
+use Rattle.tl_coherence.proofs.{simulation.Strangers.no_let, queues.Tokens.same_number, queues.Steps.same_channel-refl}
 use Rattle.tl_coherence.proofs.protocol.BeatsRemaining.{IsPopped, beats_left, is_pop, is_front, taken_of}
-use Rattle.tl_coherence.proofs.rank.RankParts.{AreClients}
-use Rattle.tl_coherence.proofs.simulation.Owned.{sources-own}
-use Rattle.tl_coherence.proofs.queues.Rendered.{same_kind_again}
-use Rattle.tl_coherence.proofs.queues.QuiescentQueues.{client_below}
-use Rattle.tl_coherence.proofs.simulation.Strangers.{no_use, no_let}
-use Rattle.tl_coherence.proofs.queues.Tokens.{same_number}
-use Rattle.tl_coherence.proofs.queues.Steps.{same_channel-refl}
 
 -- what the receiver of each channel has of the message that comes first there
 abbrev pub unfinished_at : {w : ℕ} → System w → ℕ → Channel → List (Beat w)
@@ -44,55 +37,44 @@ pub record IsHead (xs ys : List Packet) : Type 0 where
 popped_first : {w : ℕ} (push : Option (Message w)) (move : Move) (render : Kind → ℕ → Message w) (xs ys : List Packet)
     → Fits true push move render → IsMoved move xs ys → IsHead xs ys
 popped_first None (Pops k n) render xs ys fits e = record { first = packet k n; is = e }
-popped_first None Stays render xs ys fits e = absurd fits
-popped_first None (Pushes k n) render xs ys fits e = absurd fits
-popped_first (Some m) move render xs ys fits e = absurd fits
+popped_first push move render xs ys fits e = absurd fits
 
 not_popped : {w : ℕ} (push : Option (Message w)) (move : Move) (render : Kind → ℕ → Message w)
     → Fits false push move render → is_pop move ≡ false
 not_popped None Stays render fits = refl
 not_popped (Some m) (Pushes k n) render fits = refl
-not_popped None (Pops k n) render fits = absurd fits
-not_popped None (Pushes k n) render fits = absurd fits
-not_popped (Some m) Stays render fits = absurd fits
-not_popped (Some m) (Pops k n) render fits = absurd fits
+not_popped push move render fits = absurd fits
 
 pub elsewhere : (c d : ℕ) (ch at : Channel) → (d ≡ c → at ≡ ch → ⊥) → ((d == c) && same_channel at ch) ≡ false
 elsewhere c d ch at ne = go (d == c) (same_channel at ch) refl refl
   where
     go : (a b : Bool) → (d == c) ≡ a → same_channel at ch ≡ b → (a && b) ≡ false
-    go false b e f = refl
-    go true false e f = refl
     go true true e f = absurd (ne (eqb-true d c e) (same_channel-is at ch f))
+    go a b e f = refl
 
 fits_by : {w : ℕ} (a b : Bool) (push : Option (Message w)) (move : Move) (render : Kind → ℕ → Message w) → a ≡ b
     → Fits a push move render → Fits b push move render
 fits_by a b push move render e fits = rw (← e) fits
 
 pub popped-received : {w : ℕ} (c : ℕ) (ch : Channel) (pushes : ℕ → Channel → Option (Message w)) (moves : ℕ → Channel
-    → Move)
-    (render : ℕ → Kind → ℕ → Message w) (s s' : State (List ℕ)) (sys sys' : System w) → IsReceived c ch sys sys'
+    → Move) (render : ℕ → Kind → ℕ → Message w) (s s' : State (List ℕ)) (sys sys' : System w) → IsReceived c ch sys sys'
     → ((d : ℕ) (at : Channel) → Fits ((d == c) && same_channel at ch) (pushes d at) (moves d at) (render d))
     → ((d : ℕ) → AreMoved (moves d) (s.link d) (s'.link d))
     → IsPopped c ch moves (unfinished_at sys) (unfinished_at sys') s s'
-popped-received {w} c ch pushes moves render s s' sys sys' received fits moved = record {
-  first = head.first;
-  tokens = head.is;
-  none = received c ch ∙ ap (λ (b : Bool). if b then [] else unfinished_at sys c ch) here;
-  unpopped = λ d at ne. not_popped (pushes d at) (moves d at) (render d)
-      (fits_by ((d == c) && same_channel at ch) false (pushes d at) (moves d at) (render d) (elsewhere c d ch at ne)
-      (fits d at));
-  rests = λ d at ne. received d at ∙ ap (λ (b : Bool). if b then [] else unfinished_at sys d at)
-      (elsewhere c d ch at ne);
-}
-  where
-    here : ((c == c) && same_channel ch ch) ≡ true
-    here = rw (same_number c, same_channel-refl ch) refl
-
-    head : IsHead (packets_on ch (s.link c)) (packets_on ch (s'.link c))
-    head = popped_first (pushes c ch) (moves c ch) (render c) (packets_on ch (s.link c)) (packets_on ch (s'.link c))
-        (fits_by ((c == c) && same_channel ch ch) true (pushes c ch) (moves c ch) (render c) here (fits c ch))
-        (moved c ch)
+popped-received {w} c ch pushes moves render s s' sys sys' received fits moved =
+    let here : ((c == c) && same_channel ch ch) ≡ true = rw (same_number c, same_channel-refl ch) refl in
+    let head = popped_first (pushes c ch) (moves c ch) (render c) (packets_on ch (s.link c)) (packets_on ch (s'.link c))
+    (fits_by ((c == c) && same_channel ch ch) true (pushes c ch) (moves c ch) (render c) here (fits c ch))
+    (moved c ch) in
+    record {
+      first = head.first;
+      tokens = head.is;
+      none = received c ch ∙ ap (λ (b : Bool). if b then [] else unfinished_at sys c ch) here;
+      unpopped = λ d at ne. not_popped (pushes d at) (moves d at) (render d)
+          (fits_by ((d == c) && same_channel at ch) false (pushes d at) (moves d at) (render d) (elsewhere c d ch at ne)
+          (fits d at));
+      rests = λ d at ne. cc (received d at, elsewhere c d ch at ne);
+    }
 
 -- ---- who has something open
 
@@ -125,23 +107,23 @@ module _ {w : ℕ} (config : Config) (log : Log w) (mail : AccessMessages w) (re
 
 -- the kind is one of its channel alone
 pub kind_channel : (ch : Channel) (k : Kind) → is_on ch k ≡ true → channel_for k ≡ ch
-kind_channel channel.A Request e = refl
-kind_channel channel.A Acquire e = refl
-kind_channel channel.B Probe e = refl
-kind_channel channel.C ProbeAck e = refl
-kind_channel channel.C Release e = refl
-kind_channel channel.D Answer e = refl
-kind_channel channel.D Grant e = refl
-kind_channel channel.D ReleaseAck e = refl
-kind_channel channel.E GrantAck e = refl
+kind_channel Channel.A Request e = refl
+kind_channel Channel.A Acquire e = refl
+kind_channel Channel.B Probe e = refl
+kind_channel Channel.C ProbeAck e = refl
+kind_channel Channel.C Release e = refl
+kind_channel Channel.D Answer e = refl
+kind_channel Channel.D Grant e = refl
+kind_channel Channel.D ReleaseAck e = refl
+kind_channel Channel.E GrantAck e = refl
 kind_channel ch k e = absurd cc
 
 -- at least its last beat is left of the message that comes first
-pub first-left : {w : ℕ} (ch : Channel) (c : ℕ) (mail : AccessMessages w) (s : State (List ℕ)) (sys : System w)
-    (x : Beat w) (queue : List (Beat w)) → (first : IsFirst ch c mail s sys x queue)
+pub first-left : {w : ℕ} {ch : Channel} {c : ℕ} {mail : AccessMessages w} {s : State (List ℕ)} {sys : System w}
+    {x : Beat w} {queue : List (Beat w)} → (first : IsFirst ch c mail s sys x queue)
     → beats_left mail s (unfinished_at sys) c first.kind first.number + first.next.k ≡ beats_of
     (message_of_kind first.kind mail s c first.number)
-first-left {w} ch c mail s sys x queue first =
+first-left {w} {ch} {c} {mail} {s} {sys} first =
     let taken : taken_of (unfinished_at sys c (channel_for first.kind))
     (is_front first.kind first.number (packets_on (channel_for first.kind) (s.link c))) ≡ first.next.k =
     rw (
@@ -150,7 +132,6 @@ first-left {w} ch c mail s sys x queue first =
       same_kind_again first.kind,
       same_number first.number,
       first.next.rest_is,
-    )
-    (length-begun (message_of_kind first.kind mail s c first.number) first.next.k) in
+    ) (length-begun (message_of_kind first.kind mail s c first.number) first.next.k) in
     let within = first.next.within in
     omega (arith, taken, within)

@@ -1,23 +1,16 @@
 -- The bytes of each block are 64, and each access that is under way has its source, after every event.
 use Rattle.tl_coherence.proofs.simulation.Imports.{Message, MessageA, Config, Cap, Report, block_at, Op, AbstractState}
-use Rattle.tl_coherence.proofs.simulation.Imports.{asked, kind_taken, IsTypedOp, IsInvariant, NoAcquire, Service, Free}
-use Rattle.tl_coherence.proofs.simulation.Imports.{Waits, GrantSent, GrantTaken, Block, State}
-use Rattle.tl_coherence.proofs.simulation.Imports.{Kind, Request}
-use Rattle.tl_coherence.proofs.simulation.Imports.{Acquire, Probe, ProbeAck, Release, Answer, Grant, ReleaseAck}
-use Rattle.tl_coherence.proofs.simulation.Imports.{GrantAck, Packet, set}
-use Rattle.std.proofs.Common.{◌≡◌, ℕ, ◌*◌, Bool, true, false, ◌&&◌, List, Option, Some, None, refl, sym, ◌∙◌, ap}
-use Rattle.std.proofs.Common.{◌⊎◌, inl, inr}
+use Rattle.tl_coherence.proofs.simulation.Imports.{asked, kind_taken, IsTypedOp, IsInvariant, NoAcquire, Service, Waits}
+use Rattle.tl_coherence.proofs.simulation.Imports.{GrantSent, Block, State, Kind, Request, Acquire, Probe, ProbeAck}
+use Rattle.tl_coherence.proofs.simulation.Imports.{Release, Answer, Grant, ReleaseAck, GrantAck, Packet, set}
+use Rattle.std.proofs.Common.{◌≡◌, ℕ, ◌*◌, Bool, true, false, ◌&&◌, List, Option, Some, refl, sym, ◌∙◌, ap, ◌⊎◌, inl}
+use Rattle.std.proofs.Common.{inr}
 use Rattle.std.specs.Prelude.{◌==◌, if◌then◌else◌, length, ⊤}
 use Rattle.std.proofs.lemmas.Bool.{cases_eq}
-use Rattle.tl_burst.specs.declared.message.Message.TheVariants as message
-use Rattle.tl_params.specs.declared.param.Grow.{Grow}
-use Rattle.tl_params.specs.declared.profile.Profile.{Profile}
-use Rattle.tl_params.specs.declared.perm.Perm.TheVariants as perm
+use Rattle.tl_params.{specs.declared.param.Grow.Grow, specs.declared.profile.Profile.Profile}
+use Rattle.tl_params.{specs.declared.perm.Perm.Perm}
 use Rattle.tl_rules.specs.statement.Conformance.{same_perm}
-use Rattle.tl_client.specs.declared.operation.Op.TheVariants as op
-use Rattle.tl_client.specs.declared.reply.Reply.{Reply}
-use Rattle.tl_client.specs.declared.reply.Reply.TheVariants as reply
-use Rattle.tl_client.specs.statement.Ask.{copy_stored, is_word}
+use Rattle.tl_client.{specs.declared.reply.Reply.Reply, specs.statement.Ask.copy_stored, specs.statement.Ask.is_word}
 use Rattle.tl_client.proofs.caching_client.Stores.{word_room, length-stored}
 use Rattle.tl_manager.proofs.messages.Filled.{length-bytes}
 use Rattle.tl_coherence.specs.refinement.AbstractStep.{performs, access_taken, request_taken, acquire_taken}
@@ -38,15 +31,16 @@ use Rattle.tl_coherence.proofs.queues.Perms.{trunk-some}
 abbrev pub AllSized : State (List ℕ) → Type 0
 AllSized s = (n : ℕ) → AreSized (s.block n)
 
-sized_block : (n : ℕ) (new : Block (List ℕ)) (block : ℕ → Block (List ℕ)) → AreSized new
+sized_block : (n : ℕ) {new : Block (List ℕ)} (block : ℕ → Block (List ℕ)) → AreSized new
     → ((i : ℕ) → AreSized (block i)) → (i : ℕ) → AreSized (set n new block i)
-sized_block n new block here before = λ i. set-each (λ j b. AreSized b) n new block here (λ j ne. before j) i
+sized_block n {new} block here before = λ i. set-each (λ j b. AreSized b) n new block here (λ j ne. before j) i
 
 -- where no more bytes wait than before
-sized_same : (old new : Block (List ℕ)) → length new.truth ≡ 64 → ((c : ℕ) → new.waiting c ≡ old.waiting c)
+sized_same : {old : Block (List ℕ)} (new : Block (List ℕ)) → length new.truth ≡ 64
+    → ((c : ℕ) → new.waiting c ≡ old.waiting c)
     → ((c : ℕ) → is_whole (new.pair c).acquiring ≡ true → is_whole (old.pair c).acquiring ≡ true) → AreSized old
     → AreSized new
-sized_same old new long waiting storing h =
+sized_same new long waiting storing h =
     record { truth = long; waiting = λ c e. ap length (waiting c) ∙ h.waiting c (storing c e) }
 
 -- one client's pair changes, and not what it acquires
@@ -54,27 +48,24 @@ still_acquires : (c : ℕ) (p : ClientBlock) (f : ℕ → ClientBlock) → p.acq
     → is_whole (set c p f d).acquiring ≡ true → is_whole (f d).acquiring ≡ true
 still_acquires c p f same d e = sym (ap is_whole (set-part (λ (q : ClientBlock). q.acquiring) c p f same d)) ∙ e
 
-sized_pair : (c : ℕ) (p : ClientBlock) (old new : Block (List ℕ)) → new.pair ≡ set c p old.pair
+sized_pair : (c : ℕ) (p : ClientBlock) {old : Block (List ℕ)} (new : Block (List ℕ)) → new.pair ≡ set c p old.pair
     → p.acquiring ≡ (old.pair c).acquiring → new.truth ≡ old.truth
     → new.waiting ≡ old.waiting → AreSized old → AreSized new
-sized_pair c p old new pairs same truth waiting h =
-    sized_same old new (ap length truth ∙ h.truth) (λ d. ap (λ (f : ℕ → List ℕ). f d) waiting)
+sized_pair c p {old} new pairs same truth waiting h =
+    sized_same new (ap length truth ∙ h.truth) (λ d. ap (λ (f : ℕ → List ℕ). f d) waiting)
     (λ d e. still_acquires c p old.pair same d (ap (λ (f : ℕ → ClientBlock). is_whole (f d).acquiring) (sym pairs)
     ∙ e)) h
 
-sized_served : (r : ℕ) (own : Bool) (source tracker : ℕ) (k : Cap) (b : Block (List ℕ)) → AreSized b
+sized_served : (r : ℕ) (own : Bool) (source tracker : ℕ) (k : Cap) {b : Block (List ℕ)} → AreSized b
     → AreSized (served_block r own source tracker k b)
-sized_served r own source tracker k b h = sized_same b (served_block r own source tracker k b) h.truth (λ c. refl)
-    (λ c e. go c (own && (c == r)) e) h
-  where
-    go : (c : ℕ) (x : Bool) → is_whole (if x then b.pair c else after_served k (b.pair c)).acquiring ≡ true
-        → is_whole (b.pair c).acquiring ≡ true
-    go c true e = e
-    go c false e = e
+sized_served r own source tracker k {b} h =
+    let go : (c : ℕ) (x : Bool) → is_whole (if x then b.pair c else after_served k (b.pair c)).acquiring ≡ true
+    → is_whole (b.pair c).acquiring ≡ true = λ c. elim [ true ↦ λ e. e | false ↦ λ e. e ] in
+    sized_same (served_block r own source tracker k b) h.truth (λ c. refl) (λ c e. go c (own && (c == r)) e) h
 
-sized_granted_block : (c q : ℕ) (r : Report) (d : Bool) (k : Cap) (b : Block (List ℕ)) → AreSized b
+sized_granted_block : (c q : ℕ) (r : Report) (d : Bool) (k : Cap) {b : Block (List ℕ)} → AreSized b
     → AreSized (granted_block c q r d k b)
-sized_granted_block c q r d k b h = sized_same b (granted_block c q r d k b) h.truth (λ i. refl)
+sized_granted_block c q r d k {b} h = sized_same (granted_block c q r d k b) h.truth (λ i. refl)
     (λ i e. storing i (cases_eq i q) e) h
   where
     reported : ℕ → ClientBlock
@@ -87,35 +78,29 @@ sized_granted_block c q r d k b h = sized_same b (granted_block c q r d k b) h.t
         ap (λ (p : ClientBlock). p.acquiring) (set-same q (after_grant_sent k (b.pair q)) reported) in
         ap (λ (j : ℕ). is_whole (b.pair j).acquiring) same ∙ sym (ap is_whole f) ∙ ap
         (λ (j : ℕ). is_whole (set q (after_grant_sent k (b.pair q)) reported j).acquiring) (sym same) ∙ e
-    storing i (inr other) e = still_acquires c (after_report r (b.pair c)) b.pair refl i
-        (sym (ap (λ (p : ClientBlock). is_whole p.acquiring) (set-other q i (after_grant_sent k (b.pair q)) reported
-        other)) ∙ e)
+    storing i (inr other) e = cc (still_acquires c (after_report r (b.pair c)) b.pair refl i (sym (ap (λ (p :
+        ClientBlock). is_whole p.acquiring) (set-other q i (after_grant_sent k (b.pair q)) reported other)) ∙ e))
 
-sized_taken_block : (c : ℕ) (d : Bool) (k : Cap) (b : Block (List ℕ)) → AreSized b
+sized_taken_block : (c : ℕ) (d : Bool) (k : Cap) {b : Block (List ℕ)} → AreSized b
     → AreSized (taken_block c (is_whole (b.pair c).acquiring) d k b)
-sized_taken_block c d k b h = sized_same b (taken_block c (is_whole (b.pair c).acquiring) d k b)
-    (bytes (b.pair c).acquiring refl) (λ i. refl) (λ i e. storing i (cases_eq i c) e) h
+sized_taken_block c d k {b} h =
+    let bytes : (x : AcquirePhase) → (b.pair c).acquiring ≡ x
+    → length (granted_truth (is_whole x) (b.waiting c) b.truth) ≡ 64 =
+    elim [ AcquireOpen true g ↦ λ e. h.waiting c (ap is_whole e) | x ↦ λ e. h.truth ] in
+    sized_same (taken_block c (is_whole (b.pair c).acquiring) d k b) (bytes (b.pair c).acquiring refl) (λ i. refl)
+    (λ i e. storing i (cases_eq i c) e) h
   where
-    bytes : (x : AcquirePhase) → (b.pair c).acquiring ≡ x
-        → length (granted_truth (is_whole x) (b.waiting c) b.truth) ≡ 64
-    bytes NoAcquire e = h.truth
-    bytes (AcquireOpen true g) e = h.waiting c (ap is_whole e)
-    bytes (AcquireOpen false g) e = h.truth
-
     storing : (i : ℕ) → (i ≡ c) ⊎ (i ≡ c → ⊥) → is_whole (set c (after_grant k (b.pair c)) b.pair i).acquiring ≡ true
         → is_whole (b.pair i).acquiring ≡ true
     storing i (inl same) e = absurd (let f : is_whole (set c (after_grant k (b.pair c)) b.pair c).acquiring ≡ true =
         rw same at e in let g : false ≡ true =
         sym (ap (λ (p : ClientBlock). is_whole p.acquiring) (set-same c (after_grant k (b.pair c)) b.pair)) ∙ f in cc)
-    storing i (inr other) e =
-        sym (ap (λ (p : ClientBlock). is_whole p.acquiring) (set-other c i (after_grant k (b.pair c)) b.pair other))
-        ∙ e
+    storing i (inr other) e = cc (set-other c i (after_grant k (b.pair c)) b.pair other, e)
 
 -- ---- messages that are taken
 
 sized_access : {w : ℕ} (c source : ℕ) (m : MessageA w) (tracker : ℕ) (p : Bool) (o : Option Cap) (rest : List Packet)
-    (h : AbstractState w) → AllSized h.state
-    → AllSized (access_taken c source m tracker p o rest h).state
+    (h : AbstractState w) → AllSized h.state → AllSized (access_taken c source m tracker p o rest h).state
 sized_access {w} c source m tracker p o rest h before = go p o
   where
     n : ℕ
@@ -125,68 +110,51 @@ sized_access {w} c source m tracker p o rest h before = go p o
     b = h.state.block n
 
     answered : (i : ℕ) → AreSized (set n (performed_block (performs m) b) h.state.block i)
-    answered i = sized_block n (performed_block (performs m) b) h.state.block
-        (sized_same b (performed_block (performs m) b) (length-bytes _ (64 * n) 64) (λ j. refl) (λ j e. e) (before n))
-        before i
+    answered i = sized_block n h.state.block (sized_same (performed_block (performs m) b) (length-bytes _ (64 * n) 64)
+        (λ j. refl) (λ j e. e) (before n)) before i
 
     go : (p : Bool) (o : Option Cap) → AllSized (access_taken c source m tracker p o rest h).state
-    go true (Some k) i = sized_block n (served_block c false source tracker k b) h.state.block
-        (sized_served c false source tracker k b (before n)) before i
-    go true None i = answered i
-    go false o i = answered i
+    go true (Some k) i = sized_block n h.state.block (sized_served c false source tracker k (before n)) before i
+    go p o i = answered i
 
 sized_request : {w : ℕ} (clients c source : ℕ) (m : Message w) (tracker : ℕ) (rest : List Packet) (h : AbstractState w)
     → AllSized h.state → AllSized (request_taken clients c source m tracker rest h).state
-sized_request clients c source (message.A m) tracker rest h before = sized_access c source m tracker _ _ rest h before
-sized_request clients c source (message.B m) tracker rest h before = before
-sized_request clients c source (message.C m) tracker rest h before = before
-sized_request clients c source (message.D m) tracker rest h before = before
-sized_request clients c source (message.E m) tracker rest h before = before
+sized_request clients c source (Message.A m) tracker rest h before = sized_access c source m tracker _ _ rest h before
+sized_request clients c source m tracker rest h before = before
 
 sized_acquire : {w : ℕ} (clients : ℕ) (p : Profile) (c n : ℕ) (x : AcquirePhase) (tracker : ℕ) (rest : List Packet)
-    (h : AbstractState w) → AllSized h.state
-    → AllSized (acquire_taken clients p c n x tracker rest h).state
+    (h : AbstractState w) → AllSized h.state → AllSized (acquire_taken clients p c n x tracker rest h).state
 sized_acquire clients p c n NoAcquire tracker rest h before = before
 sized_acquire {w} clients p c n (AcquireOpen whole g) tracker rest h before =
-    either _ _ _ (λ i. sized_block n _ h.state.block (sized_served c true (b.source c) tracker _ b (before n)) before i)
-    (λ i. sized_block n _ h.state.block (sized_pair c (after_grant_sent _ (b.pair c)) b _ refl refl refl refl
+    let either : (x : Bool) (s t : State (List ℕ)) → AllSized s → AllSized t → AllSized (if x then s else t) =
+    elim [ true ↦ λ s t f g. f | false ↦ λ s t f g. g ] in
+    let b : Block (List ℕ) = h.state.block n in
+    either _ _ _ (λ i. sized_block n h.state.block (sized_served c true (b.source c) tracker _ (before n)) before i)
+    (λ i. sized_block n h.state.block (sized_pair c (after_grant_sent _ (b.pair c)) _ refl refl refl refl
     (before n)) before i)
-  where
-    b : Block (List ℕ)
-    b = h.state.block n
-
-    either : (x : Bool) (s t : State (List ℕ)) → AllSized s → AllSized t → AllSized (if x then s else t)
-    either true s t f g = f
-    either false s t f g = g
 
 sized_granted : {w : ℕ} (clients : ℕ) (p : Profile) (c q n : ℕ) (r : Report) (x : AcquirePhase) (rest : List Packet)
-    (h : AbstractState w) → AllSized h.state
-    → AllSized (granted_after clients p c q n r x rest h).state
+    (h : AbstractState w) → AllSized h.state → AllSized (granted_after clients p c q n r x rest h).state
 sized_granted clients p c q n r NoAcquire rest h before = before
 sized_granted clients p c q n r (AcquireOpen whole g) rest h before =
-    λ i. sized_block n _ h.state.block (sized_granted_block c q r _ _ (h.state.block n) (before n)) before i
+    λ i. sized_block n h.state.block (sized_granted_block c q r _ _ (before n)) before i
 
 sized_last : {w : ℕ} (clients : ℕ) (p : Profile) (c n : ℕ) (r : Report) (v : Service) (rest : List Packet)
     (h : AbstractState w) → AllSized h.state → AllSized (last_taken clients p c n r v rest h).state
-sized_last clients p c n r Free rest h before = before
 sized_last clients p c n r (Waits q true source k) rest h before =
     sized_granted clients p c q n r ((h.state.block n).pair q).acquiring rest h before
-sized_last clients p c n r (Waits q false source k) rest h before = λ i.
-    sized_block n (ended_block c r (performs (h.request n)) (h.state.block n)) h.state.block
-    (sized_same (h.state.block n) (ended_block c r (performs (h.request n)) (h.state.block n))
-    (length-bytes _ (64 * block_at (h.request n).address) 64)
-    (λ j. refl) (λ j e. still_acquires c (after_report r ((h.state.block n).pair c)) (h.state.block n).pair refl j e)
-    (before n)) before i
-sized_last clients p c n r (GrantSent q d k) rest h before = before
-sized_last clients p c n r (GrantTaken q) rest h before = before
+sized_last clients p c n r (Waits q false source k) rest h before =
+    λ i. sized_block n h.state.block (sized_same (ended_block c r (performs (h.request n)) (h.state.block n))
+    (length-bytes _ (64 * block_at (h.request n).address) 64) (λ j. refl)
+    (λ j e. still_acquires c (after_report r ((h.state.block n).pair c)) (h.state.block n).pair refl j e) (before n))
+    before i
+sized_last clients p c n r v rest h before = before
 
 sized_taken : {w : ℕ} (c n : ℕ) (v : Service) (rest : List Packet) (h : AbstractState w) → AllSized h.state
     → AllSized (taken_by_client c n v rest h).state
-sized_taken c n Free rest h before = before
-sized_taken c n (Waits q own source k) rest h before = before
 sized_taken c n (GrantSent q d k) rest h before =
-    λ i. sized_block n _ h.state.block (sized_taken_block c d k (h.state.block n) (before n)) before i
-sized_taken c n (GrantTaken q) rest h before = before
+    λ i. sized_block n h.state.block (sized_taken_block c d k (before n)) before i
+sized_taken c n v rest h before = before
 
 pub sized-kind_taken : {w : ℕ} (config : Config) (tracker c : ℕ) (k : Kind) (i : ℕ) (rest : List Packet)
     (h : AbstractState w) → AllSized h.state → AllSized (kind_taken config tracker c k i rest h).state
@@ -195,41 +163,36 @@ sized-kind_taken config tracker c Request i rest h before = sized_request _ c i 
 sized-kind_taken config tracker c Acquire i rest h before =
     sized_acquire _ config.profile c i ((h.state.block i).pair c).acquiring tracker rest h before
 sized-kind_taken config tracker c Probe i rest h before = λ j.
-    sized_block i _ h.state.block (sized_pair c (after_probe _ ((h.state.block i).pair c)) (h.state.block i) _ refl refl
+    sized_block i h.state.block (sized_pair c (after_probe _ ((h.state.block i).pair c)) _ refl refl
     refl refl (before i)) before j
 sized-kind_taken {w} config tracker c ProbeAck i rest h before =
-    either _ _ _ (λ j. sized_block i _ h.state.block (sized_pair c (after_report _ ((h.state.block i).pair c))
-    (h.state.block i) _ refl refl refl refl (before i)) before j)
-    (sized_last _ config.profile c i _ (h.state.block i).service rest h before)
-  where
-    either : (b : Bool) (s t : AbstractState w) → AllSized s.state → AllSized t.state
-        → AllSized (if b then s else t).state
-    either true s t f g = f
-    either false s t f g = g
+    let either : (b : Bool) (s t : AbstractState w) → AllSized s.state → AllSized t.state
+    → AllSized (if b then s else t).state = elim [ true ↦ λ s t f g. f | false ↦ λ s t f g. g ] in
+    either _ _ _ (λ j. sized_block i h.state.block (sized_pair c (after_report _ ((h.state.block i).pair c)) _ refl refl
+    refl refl (before i)) before j) (sized_last _ config.profile c i _ (h.state.block i).service rest h before)
 sized-kind_taken config tracker c Release i rest h before = λ j.
-    sized_block i _ h.state.block (sized_pair c (after_release_taken _ ((h.state.block i).pair c)) (h.state.block i) _
+    sized_block i h.state.block (sized_pair c (after_release_taken _ ((h.state.block i).pair c)) _
     refl refl refl refl (before i)) before j
 sized-kind_taken config tracker c Answer i rest h before = before
 sized-kind_taken config tracker c Grant i rest h before = sized_taken c i (h.state.block i).service rest h before
 sized-kind_taken config tracker c ReleaseAck i rest h before = λ j.
-    sized_block i _ h.state.block (sized_pair c (after_release_ack ((h.state.block i).pair c)) (h.state.block i) _ refl
+    sized_block i h.state.block (sized_pair c (after_release_ack ((h.state.block i).pair c)) _ refl
     refl refl refl (before i)) before j
-sized-kind_taken config tracker c GrantAck i rest h before = λ j.
-    sized_block i (freed_block (h.state.block i)) h.state.block
-    (sized_same (h.state.block i) (freed_block (h.state.block i)) (before i).truth (λ d. refl) (λ d e. e) (before i))
-    before j
+sized-kind_taken config tracker c GrantAck i rest h before =
+    λ j. sized_block i h.state.block (sized_same (freed_block (h.state.block i)) (before i).truth (λ d. refl) (λ d e. e)
+    (before i)) before j
 
 -- ---- operations that are asked
 
 -- what the client's answer says of a Store that is done: it is one of a word, of a block that the client may write
 abbrev pub IsSizedAsk : {w : ℕ} → ℕ → Op w → Reply → AbstractState w → Type 0
-IsSizedAsk c (op.Store address size value) reply.Stored h = (is_word address size ≡ true)
-    × (same_perm ((h.state.block (block_at address)).pair c).held perm.Trunk ≡ true)
+IsSizedAsk c (Op.Store address size value) Reply.Stored h = (is_word address size ≡ true)
+    × (same_perm ((h.state.block (block_at address)).pair c).held Perm.Trunk ≡ true)
 IsSizedAsk c o r h = ⊤
 
-sized_acquiring : (c source : ℕ) (whole : Bool) (g : Grow) (bytes : List ℕ) (b : Block (List ℕ))
+sized_acquiring : (c source : ℕ) (whole : Bool) (g : Grow) (bytes : List ℕ) {b : Block (List ℕ)}
     → (whole ≡ true → length bytes ≡ 64) → AreSized b → AreSized (acquiring_block c source whole g bytes b)
-sized_acquiring c source whole g bytes b long h = record { truth = h.truth; waiting = λ d e. go d (cases_eq d c) e }
+sized_acquiring c source whole g bytes {b} long h = record { truth = h.truth; waiting = λ d e. go d (cases_eq d c) e }
   where
     after : ClientBlock
     after = after_acquire whole g (b.pair c)
@@ -243,50 +206,48 @@ sized_acquiring c source whole g bytes b long h = record { truth = h.truth; wait
     go d (inr other) e = ap length (set-other c d bytes b.waiting other) ∙ h.waiting d
         (sym (ap (λ (p : ClientBlock). is_whole p.acquiring) (set-other c d after b.pair other)) ∙ e)
 
-pub sized-asked : {w : ℕ} (caching : ℕ → Bool) (c : ℕ) (o : Op w) (r : Reply) (h : AbstractState w)
-    → IsInvariant caching h.state → IsTypedOp o → IsSizedAsk c o r h
-    → AllSized h.state → AllSized (asked c o r h).state
-sized-asked caching c (op.Load address size) r h inv typed ask before = before
-sized-asked caching c (op.Store address size value) reply.Stored h inv typed ask before = λ i.
+pub sized-asked : {w : ℕ} {caching : ℕ → Bool} (c : ℕ) (o : Op w) (r : Reply) (h : AbstractState w)
+    → IsInvariant caching h.state → IsTypedOp o → IsSizedAsk c o r h → AllSized h.state → AllSized (asked c o r h).state
+sized-asked c (Op.Load address size) r h inv typed ask before = before
+sized-asked c (Op.Store address size value) Reply.Stored h inv typed ask before = λ i.
     let n : ℕ = block_at address in
     let b : Block (List ℕ) = h.state.block n in
     let long : length (b.copy c) ≡ 64 = ap length ((inv.blocks n).copies c (trunk-some (b.pair c).held ask.1))
     ∙ (before n).truth in
-    sized_block n (stored_block c (copy_stored address size value (b.copy c)) b) h.state.block
-    (sized_same b (stored_block c (copy_stored address size value (b.copy c)) b)
+    sized_block n h.state.block
+    (sized_same (stored_block c (copy_stored address size value (b.copy c)) b)
     (length-stored address size value (b.copy c) long (word_room address size ask.0)) (λ d. refl) (λ d e. e) (before n))
     before i
-sized-asked caching c (op.Store address size value) (reply.Value v) h inv typed ask before = before
-sized-asked caching c (op.Store address size value) reply.Miss h inv typed ask before = before
-sized-asked caching c (op.Store address size value) (reply.Started source) h inv typed ask before = before
-sized-asked caching c (op.Store address size value) (reply.Busy why) h inv typed ask before = before
-sized-asked caching c (op.Acquire n g) (reply.Started source) h inv typed ask before = λ i.
-    sized_block n _ h.state.block (sized_acquiring c source false g ((h.state.block n).waiting c) (h.state.block n)
+sized-asked c (Op.Store address size value) (Reply.Value v) h inv typed ask before = before
+sized-asked c (Op.Store address size value) Reply.Miss h inv typed ask before = before
+sized-asked c (Op.Store address size value) (Reply.Started source) h inv typed ask before = before
+sized-asked c (Op.Store address size value) (Reply.Busy why) h inv typed ask before = before
+sized-asked c (Op.Acquire n g) (Reply.Started source) h inv typed ask before = λ i.
+    sized_block n h.state.block (sized_acquiring c source false g ((h.state.block n).waiting c)
     (λ e. absurd cc) (before n)) before i
-sized-asked caching c (op.Acquire n g) (reply.Value v) h inv typed ask before = before
-sized-asked caching c (op.Acquire n g) reply.Stored h inv typed ask before = before
-sized-asked caching c (op.Acquire n g) reply.Miss h inv typed ask before = before
-sized-asked caching c (op.Acquire n g) (reply.Busy why) h inv typed ask before = before
-sized-asked caching c (op.AcquireWhole n bytes) (reply.Started source) h inv typed ask before = λ i.
-    sized_block n _ h.state.block (sized_acquiring c source true _ bytes (h.state.block n) (λ e. typed) (before n))
-    before i
-sized-asked caching c (op.AcquireWhole n bytes) (reply.Value v) h inv typed ask before = before
-sized-asked caching c (op.AcquireWhole n bytes) reply.Stored h inv typed ask before = before
-sized-asked caching c (op.AcquireWhole n bytes) reply.Miss h inv typed ask before = before
-sized-asked caching c (op.AcquireWhole n bytes) (reply.Busy why) h inv typed ask before = before
-sized-asked caching c (op.Release n p) (reply.Started source) h inv typed ask before = λ i.
-    sized_block n _ h.state.block (sized_pair c (after_release p ((h.state.block n).pair c)) (h.state.block n) _ refl
+sized-asked c (Op.Acquire n g) (Reply.Value v) h inv typed ask before = before
+sized-asked c (Op.Acquire n g) Reply.Stored h inv typed ask before = before
+sized-asked c (Op.Acquire n g) Reply.Miss h inv typed ask before = before
+sized-asked c (Op.Acquire n g) (Reply.Busy why) h inv typed ask before = before
+sized-asked c (Op.AcquireWhole n bytes) (Reply.Started source) h inv typed ask before =
+    λ i. sized_block n h.state.block (sized_acquiring c source true _ bytes (λ e. typed) (before n)) before i
+sized-asked c (Op.AcquireWhole n bytes) (Reply.Value v) h inv typed ask before = before
+sized-asked c (Op.AcquireWhole n bytes) Reply.Stored h inv typed ask before = before
+sized-asked c (Op.AcquireWhole n bytes) Reply.Miss h inv typed ask before = before
+sized-asked c (Op.AcquireWhole n bytes) (Reply.Busy why) h inv typed ask before = before
+sized-asked c (Op.Release n p) (Reply.Started source) h inv typed ask before = λ i.
+    sized_block n h.state.block (sized_pair c (after_release p ((h.state.block n).pair c)) _ refl
     refl refl refl (before n)) before i
-sized-asked caching c (op.Release n p) (reply.Value v) h inv typed ask before = before
-sized-asked caching c (op.Release n p) reply.Stored h inv typed ask before = before
-sized-asked caching c (op.Release n p) reply.Miss h inv typed ask before = before
-sized-asked caching c (op.Release n p) (reply.Busy why) h inv typed ask before = before
-sized-asked caching c (op.Access (message.A m)) (reply.Started source) h inv typed ask before = before
-sized-asked caching c (op.Access (message.A m)) (reply.Value v) h inv typed ask before = before
-sized-asked caching c (op.Access (message.A m)) reply.Stored h inv typed ask before = before
-sized-asked caching c (op.Access (message.A m)) reply.Miss h inv typed ask before = before
-sized-asked caching c (op.Access (message.A m)) (reply.Busy why) h inv typed ask before = before
-sized-asked caching c (op.Access (message.B m)) r h inv typed ask before = before
-sized-asked caching c (op.Access (message.C m)) r h inv typed ask before = before
-sized-asked caching c (op.Access (message.D m)) r h inv typed ask before = before
-sized-asked caching c (op.Access (message.E m)) r h inv typed ask before = before
+sized-asked c (Op.Release n p) (Reply.Value v) h inv typed ask before = before
+sized-asked c (Op.Release n p) Reply.Stored h inv typed ask before = before
+sized-asked c (Op.Release n p) Reply.Miss h inv typed ask before = before
+sized-asked c (Op.Release n p) (Reply.Busy why) h inv typed ask before = before
+sized-asked c (Op.Access (Message.A m)) (Reply.Started source) h inv typed ask before = before
+sized-asked c (Op.Access (Message.A m)) (Reply.Value v) h inv typed ask before = before
+sized-asked c (Op.Access (Message.A m)) Reply.Stored h inv typed ask before = before
+sized-asked c (Op.Access (Message.A m)) Reply.Miss h inv typed ask before = before
+sized-asked c (Op.Access (Message.A m)) (Reply.Busy why) h inv typed ask before = before
+sized-asked c (Op.Access (Message.B m)) r h inv typed ask before = before
+sized-asked c (Op.Access (Message.C m)) r h inv typed ask before = before
+sized-asked c (Op.Access (Message.D m)) r h inv typed ask before = before
+sized-asked c (Op.Access (Message.E m)) r h inv typed ask before = before

@@ -4,33 +4,26 @@ use Rattle.tl_coherence.proofs.simulation.Imports.{Verdict, Deliver, IsTypedOp, 
 use Rattle.tl_coherence.proofs.simulation.Imports.{stepped_at, client_took, is_to_client, System, terms_at}
 use Rattle.tl_coherence.proofs.simulation.Imports.{with_channel, with_messages, SimulationRelation}
 use Rattle.std.proofs.Common.{◌≡◌, ℕ, Bool, true, false, List, [], ◌∷◌, Option, Some, None, refl, ◌∙◌, ap, subst}
-use Rattle.std.specs.Prelude.{if◌then◌else◌, All, length, Result, Ok, Err, unwrap_or, is_some}
+use Rattle.std.specs.Prelude.{if◌then◌else◌, All, length, Result, Ok, unwrap_or, is_some}
 use Rattle.std.proofs.lemmas.List.Elements.{All-head}
 use Rattle.tl_params.specs.declared.perm.Perm.{Perm}
-use Rattle.tl_params.specs.declared.perm.Perm.TheVariants as perm
 use Rattle.tl_rules.specs.statement.Conformance.{same_perm}
-use Rattle.tl_client.specs.declared.verdict.Verdict.TheVariants as verdict
 use Rattle.tl_client.specs.statement.Ask as ask
-use Rattle.tl_client.specs.statement.Ask.{Asked}
 use Rattle.tl_client.specs.statement.Endpoint as client
-use Rattle.tl_client.specs.statement.Endpoint.{zeros, copy_at}
-use Rattle.tl_client.specs.statement.EndpointInvariant.{holds}
+use Rattle.tl_client.{specs.statement.Endpoint.zeros, specs.statement.Endpoint.copy_at}
+use Rattle.tl_client.{specs.statement.EndpointInvariant.holds, specs.laws.Sound.IsSoundIfAny}
+use Rattle.tl_client.{specs.laws.Sound.IsSoundAnswer, proofs.endpoint.Cases.offered-cases}
+use Rattle.tl_client.{proofs.messages.Sound.asked-sound, proofs.messages.Sound.offered-sound}
 use Rattle.tl_client.specs.statement.Offer as offer
-use Rattle.tl_client.specs.laws.Sound.{IsSoundIfAny, IsSoundAnswer}
-use Rattle.tl_client.proofs.endpoint.Cases.{offered-cases}
-use Rattle.tl_client.proofs.messages.Sound.{asked-sound, offered-sound}
 use Rattle.tl_manager.specs.code.Kept as manager
-use Rattle.tl_manager.specs.code.Kept.{Each}
+use Rattle.tl_manager.{specs.code.Kept.Each, proofs.calls.Reactions.reaction_handable}
 use Rattle.tl_manager.specs.statement.Reaction as manager_reaction
 use Rattle.tl_manager.specs.statement.End as manager_end
 use Rattle.tl_manager.specs.statement.Offer as manager_offer
-use Rattle.tl_manager.proofs.calls.Reactions.{reaction_handable}
-use Rattle.tl_coherence.specs.declared.event.Event.{Event}
-use Rattle.tl_coherence.specs.declared.event.Event.TheVariants.{Ask}
-use Rattle.tl_coherence.specs.statement.Headline.{IsTyped}
+use Rattle.tl_coherence.specs.{declared.event.Event.Event, declared.event.Event.TheVariants.Ask}
+use Rattle.tl_coherence.specs.{statement.Headline.IsTyped, statement.System.with_client, statement.System.with_manager}
+use Rattle.tl_coherence.specs.{refinement.SimulationRelation.AreLanes}
 use Rattle.tl_coherence.specs.statement.Step.{client_of, delivered, handed_by, judged, manager_took}
-use Rattle.tl_coherence.specs.statement.System.{with_client, with_manager}
-use Rattle.tl_coherence.specs.refinement.SimulationRelation.{AreLanes}
 use Rattle.tl_coherence.proofs.simulation.BeatsInFlight.{IsGood, IsFitIfAny, IsFitAnswer, all-messages, all-popped}
 use Rattle.tl_coherence.proofs.simulation.BeatsInFlight.{good-message, good-handed, level-terms, fit-asked, fit-taken}
 
@@ -40,20 +33,19 @@ copy_of : (o : Option (List ℕ)) → is_some o ≡ false → length (unwrap_or 
 copy_of None e = refl
 copy_of (Some bytes) e = absurd cc
 
-pub copy-long : {w : ℕ} (config : Config) (log : Log w) (mail : AccessMessages w) (request : ℕ → MessageA w)
-    (s : State (List ℕ)) (sys : System w)
+pub copy-long : {w : ℕ} {config : Config} {log : Log w} {mail : AccessMessages w} {request : ℕ → MessageA w}
+    {s : State (List ℕ)} {sys : System w}
     → SimulationRelation config log mail request s sys → (c n : ℕ) → length (copy_at (sys.clients c) n) ≡ 64
-copy-long {w} config log mail request s sys h c n = go ((s.block n).pair c).held refl
+copy-long {w} {s} {sys} h c n = go ((s.block n).pair c).held refl
   where
-    there : same_perm ((s.block n).pair c).held perm.None ≡ false → length (copy_at (sys.clients c) n) ≡ 64
-    there e = ap (λ (o : Option (List ℕ)). length (unwrap_or o zeros)) (h.copies c n e) ∙ ap length
-        ((h.invariant.blocks n).copies c e) ∙ (h.sized n).truth
+    there : same_perm ((s.block n).pair c).held Perm.None ≡ false → length (copy_at (sys.clients c) n) ≡ 64
+    there e = cc (h.copies c n e, (h.invariant.blocks n).copies c e, (h.sized n).truth)
 
     go : (p : Perm) → ((s.block n).pair c).held ≡ p → length (copy_at (sys.clients c) n) ≡ 64
-    go perm.None e = copy_of ((sys.clients c).copies n)
+    go Perm.None e = copy_of ((sys.clients c).copies n)
         ((h.kept c).copies_held n ∙ ap holds ((h.known c).held_is n ∙ e))
-    go perm.Branch e = there (ap (λ p. same_perm p perm.None) e)
-    go perm.Trunk e = there (ap (λ p. same_perm p perm.None) e)
+    go Perm.Branch e = there (ap (λ p. same_perm p Perm.None) e)
+    go Perm.Trunk e = there (ap (λ p. same_perm p Perm.None) e)
 
 -- ---- what is handed out
 
@@ -61,34 +53,26 @@ abbrev AllGood : {w : ℕ} → Config → System w → Type 0
 AllGood config sys = (d : ℕ) (at : Channel) → All (IsGood config d) (sys.channels d at)
 
 one_good : {w : ℕ} (config : Config) (c : ℕ) (m : Option (Message w)) (sys : System w) (terms : client.EndConfig)
-    → IsWidth w → terms_at config c ≡ Some terms
-    → IsSoundIfAny terms.level m → IsFitIfAny config.blocks m → AllGood config sys
-    → AllGood config (with_messages (handed_by c m) sys)
+    → IsWidth w → terms_at config c ≡ Some terms → IsSoundIfAny terms.level m → IsFitIfAny config.blocks m
+    → AllGood config sys → AllGood config (with_messages (handed_by c m) sys)
 one_good {w} config c None sys terms width known sound fit before d at =
     all-messages (IsGood config) [] sys tt before d at
 one_good {w} config c (Some m) sys terms width known sound fit before d at =
-    all-messages (IsGood config) (handed_by c (Some m)) sys (
-      good-message config c terms.level m width (level-terms config c terms known).0 sound fit.ours fit.inside
-          fit.long,
-      tt,
-    ) before d at
+    all-messages (IsGood config) (handed_by c (Some m)) sys
+    (good-message config c width (level-terms config c terms known).0 sound fit.ours fit.inside fit.long, tt) before d
+    at
 
 judged_good : {w : ℕ} (config : Config) (c : ℕ) (ch : Channel) (x : Beat w) (queue : List (Beat w))
-    (a : Result (Verdict × Option (Message w)) Rule)
-    (e : client.Endpoint w) (sys : System w) (terms : client.EndConfig) → IsWidth w
-    → terms_at config c ≡ Some terms → IsSoundAnswer terms.level a → IsFitAnswer config.blocks a
-    → sys.channels c ch ≡ x ∷ queue → AllGood config sys
-    → AllGood config (judged a c ch x queue e sys).after
-judged_good config c ch x queue (Err rule) e sys terms width known sound fit first before d at = before d at
-judged_good config c ch x queue (Ok (verdict.Stalled, m)) e sys terms width known sound fit first before d at =
-    before d at
-judged_good config c ch x queue (Ok (verdict.Taken, m)) e sys terms width known sound fit first before d at =
+    (a : Result (Verdict × Option (Message w)) Rule) (e : client.Endpoint w) (sys : System w) (terms : client.EndConfig)
+    → IsWidth w → terms_at config c ≡ Some terms → IsSoundAnswer terms.level a → IsFitAnswer config.blocks a
+    → sys.channels c ch ≡ x ∷ queue → AllGood config sys → AllGood config (judged a c ch x queue e sys).after
+judged_good config c ch x queue (Ok (Verdict.Taken, m)) e sys terms width known sound fit first before d at =
     one_good config c m (with_client c e (with_channel c ch queue sys)) terms width known sound fit
     (all-popped (IsGood config) c ch x queue sys first before) d at
-judged_good config c ch x queue (Ok (verdict.Done source finish, m)) e sys terms width known sound fit first before d
-    at =
-    one_good config c m (with_client c e (with_channel c ch queue sys)) terms width known sound fit
+judged_good config c ch x queue (Ok (Verdict.Done source finish, m)) e sys terms width known sound fit first before d
+    at = one_good config c m (with_client c e (with_channel c ch queue sys)) terms width known sound fit
     (all-popped (IsGood config) c ch x queue sys first before) d at
+judged_good config c ch x queue a e sys terms width known sound fit first before d at = before d at
 
 manager_good : {w : ℕ} (config : Config) (link : Link) (ch : Channel) (x : Beat w) (queue : List (Beat w))
     (j : manager_offer.Judgement) (e : manager_end.End w)
@@ -100,19 +84,17 @@ manager_good config link ch x queue manager_offer.Waits e sys width sound trace 
 manager_good {w} config link ch x queue manager_offer.Passes e sys width sound trace first before d at =
     all-messages (IsGood config) (manager_reaction.reaction config link x e).handed
     (with_manager (manager_offer.taken link x (manager_reaction.reaction config link x e) e)
-    (with_channel link.0 ch queue sys))
-    (good-handed config (manager_reaction.reaction config link x e).handed width
-    (reaction_handable config link x e width sound trace))
-    (all-popped (IsGood config) link.0 ch x queue sys first before) d at
+    (with_channel link.0 ch queue sys)) (good-handed config (manager_reaction.reaction config link x e).handed width
+    (reaction_handable config link x e width sound trace)) (all-popped (IsGood config) link.0 ch x queue sys first
+    before) d at
 
 -- ---- an event
 
-pub good-after : {w : ℕ} (config : Config) (log : Log w) (mail : AccessMessages w) (request : ℕ → MessageA w)
-    (s : State (List ℕ)) (sys : System w) → IsWidth w
-    → SimulationRelation config log mail request s sys → (event : Event w) → IsTyped event
-    → AllGood config (stepped config event sys).after
+pub good-after : {w : ℕ} {config : Config} {log : Log w} {mail : AccessMessages w} {request : ℕ → MessageA w}
+    {s : State (List ℕ)} {sys : System w} → IsWidth w → SimulationRelation config log mail request s sys
+    → (event : Event w) → IsTyped event → AllGood config (stepped config event sys).after
 unfolding stepped manager_offer.offered
-good-after {w} config log mail request s sys width h event typed =
+good-after {w} {config} {log} {mail} {request} {s} {sys} width h event typed =
     go (terms_at config (client_of event)) refl event refl typed
   where
     before : AllGood config sys
@@ -122,28 +104,26 @@ good-after {w} config log mail request s sys width h event typed =
         → AllGood config (with_messages (handed_by c (ask.asked terms o (sys.clients c)).message)
         (with_client c (ask.asked terms o (sys.clients c)).after sys))
     asked_good c o terms known typed_op =
+        let fitted : terms.blocks ≡ config.blocks → IsFitIfAny terms.blocks (ask.asked terms o (sys.clients c)).message
+        → IsFitIfAny config.blocks (ask.asked terms o (sys.clients c)).message =
+        λ e f. subst (λ (n : ℕ). IsFitIfAny n (ask.asked terms o (sys.clients c)).message) e f in
         one_good config c (ask.asked terms o (sys.clients c)).message
         (with_client c (ask.asked terms o (sys.clients c)).after sys) terms width known
         (asked-sound terms o (sys.clients c) width)
         (fitted (level-terms config c terms known).1
-        (fit-asked terms o (sys.clients c) typed_op (copy-long config log mail request s sys h c))) before
-      where
-        fitted : terms.blocks ≡ config.blocks → IsFitIfAny terms.blocks (ask.asked terms o (sys.clients c)).message
-            → IsFitIfAny config.blocks (ask.asked terms o (sys.clients c)).message
-        fitted e f = subst (λ (n : ℕ). IsFitIfAny n (ask.asked terms o (sys.clients c)).message) e f
+        (fit-asked terms o (sys.clients c) typed_op (copy-long h c))) before
 
     offered_fit : (c : ℕ) (ch : Channel) (x : Beat w) (terms : client.EndConfig) → terms_at config c ≡ Some terms
         → IsFitAnswer config.blocks (offer.offered terms ch x (sys.clients c)).answer
     offered_fit c ch x terms known =
+        let fitted : terms.blocks ≡ config.blocks
+        → IsFitAnswer terms.blocks (offer.offered terms ch x (sys.clients c)).answer
+        → IsFitAnswer config.blocks (offer.offered terms ch x (sys.clients c)).answer =
+        λ e f. subst (λ (n : ℕ). IsFitAnswer n (offer.offered terms ch x (sys.clients c)).answer) e f in
         let same = (level-terms config c terms known).1 in
         fitted same (offered-cases terms ch x (sys.clients c) (λ o. IsFitAnswer terms.blocks o.answer) (λ rule. tt) tt
         (λ passed. fit-taken terms.blocks x (sys.clients c) passed.inside
-        (copy-long config log mail request s sys h c)))
-      where
-        fitted : terms.blocks ≡ config.blocks
-            → IsFitAnswer terms.blocks (offer.offered terms ch x (sys.clients c)).answer
-            → IsFitAnswer config.blocks (offer.offered terms ch x (sys.clients c)).answer
-        fitted e f = subst (λ (n : ℕ). IsFitAnswer n (offer.offered terms ch x (sys.clients c)).answer) e f
+        (copy-long h c)))
 
     delivered_good : (c : ℕ) (ch : Channel) (terms : client.EndConfig) (beats : List (Beat w))
         → sys.channels c ch ≡ beats → terms_at config c ≡ Some terms
@@ -156,16 +136,13 @@ good-after {w} config log mail request s sys width h event typed =
             (manager_offer.offered config (record { 0 = c }) ch x sys.manager) sys).after
         to true = judged_good config c ch x queue (offer.offered terms ch x (sys.clients c)).answer
             (offer.offered terms ch x (sys.clients c)).after sys terms width known
-            (offered-sound terms ch x (sys.clients c))
-            (offered_fit c ch x terms known) first before
+            (offered-sound terms ch x (sys.clients c)) (offered_fit c ch x terms known) first before
         to false =
+            let same : sys.channels c ch ≡ x ∷ queue → All (IsGood config c) (sys.channels c ch)
+            → All (IsGood config c) (x ∷ queue) = λ e f. rw e at f in
             let head : IsGood config c x = All-head (IsGood config c) x queue (same first (before c ch)) in
             manager_good config (record { 0 = c }) ch x queue (manager_offer.judged config (record { 0 = c }) ch x
             sys.manager) sys.manager sys width head.sound h.manager_kept.sound first before
-          where
-            same : sys.channels c ch ≡ x ∷ queue → All (IsGood config c) (sys.channels c ch)
-                → All (IsGood config c) (x ∷ queue)
-            same e f = rw e at f
 
     go : (o : Option client.EndConfig) → terms_at config (client_of event) ≡ o → (ev : Event w) → ev ≡ event
         → IsTyped ev → AllGood config (stepped_at config o ev sys).after
@@ -174,16 +151,16 @@ good-after {w} config log mail request s sys width h event typed =
     go (Some terms) e (Deliver link ch) f ty = delivered_good link.0 ch terms (sys.channels link.0 ch) refl
         (rw (← f) at e)
 
-pub sound-after : {w : ℕ} (config : Config) (log : Log w) (mail : AccessMessages w) (request : ℕ → MessageA w)
-    (s : State (List ℕ)) (sys : System w) → IsWidth w
+pub sound-after : {w : ℕ} {config : Config} {log : Log w} {mail : AccessMessages w} {request : ℕ → MessageA w}
+    {s : State (List ℕ)} {sys : System w} → IsWidth w
     → SimulationRelation config log mail request s sys → (event : Event w) → IsTyped event → (c : ℕ) (ch : Channel)
     → All (λ x. manager.IsSound config (record { 0 = c }, x)) ((stepped config event sys).after.channels c ch)
-sound-after config log mail request s sys width h event typed c ch k y lt =
-    (good-after config log mail request s sys width h event typed c ch k y lt).sound
+sound-after {config} {log} {mail} {request} {s} {sys} width h event typed c ch k y lt =
+    (good-after width h event typed c ch k y lt).sound
 
-pub typed-after : {w : ℕ} (config : Config) (log : Log w) (mail : AccessMessages w) (request : ℕ → MessageA w)
-    (s : State (List ℕ)) (sys : System w) → IsWidth w
+pub typed-after : {w : ℕ} {config : Config} {log : Log w} {mail : AccessMessages w} {request : ℕ → MessageA w}
+    {s : State (List ℕ)} {sys : System w} → IsWidth w
     → SimulationRelation config log mail request s sys → (event : Event w) → IsTyped event → (c : ℕ) (ch : Channel)
     → All AreLanes ((stepped config event sys).after.channels c ch)
-typed-after config log mail request s sys width h event typed c ch k y lt =
-    (good-after config log mail request s sys width h event typed c ch k y lt).lanes
+typed-after {config} {log} {mail} {request} {s} {sys} width h event typed c ch k y lt =
+    (good-after width h event typed c ch k y lt).lanes

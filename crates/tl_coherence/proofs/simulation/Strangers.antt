@@ -7,54 +7,49 @@ use Rattle.tl_coherence.proofs.simulation.Imports.{Grant, ReleaseAck, GrantAck, 
 use Rattle.std.proofs.Common.{◌≡◌, ℕ, ◌<◌, Bool, true, false, List, [], ◌∷◌, refl, sym, ◌∙◌, ap, arith}
 use Rattle.std.specs.Prelude.{◌==◌, ◌&&◌, if◌then◌else◌, Option, Some, None, option_map, slice_get}
 use Rattle.std.proofs.lemmas.Bool.{eqb-true}
-use Rattle.tl_burst.specs.declared.message.Message.TheVariants as message
-use Rattle.tl_params.specs.declared.config.ClientConfig.{ClientConfig}
-use Rattle.tl_params.specs.declared.level.Level.{Level}
+use Rattle.tl_params.{specs.declared.config.ClientConfig.ClientConfig, specs.declared.level.Level.Level}
 use Rattle.tl_manager.specs.code.Kept as kept
-use Rattle.tl_manager.specs.statement.Service.{service_of_block}
-use Rattle.tl_manager.specs.statement.Offer.{level_of}
-use Rattle.tl_manager.proofs.pending.Granted.{of_served}
-use Rattle.tl_coherence.specs.protocol.Invariant.{resting}
+use Rattle.tl_manager.{specs.statement.Service.service_of_block, specs.statement.Offer.level_of}
+use Rattle.tl_manager.{proofs.pending.Granted.of_served}
+use Rattle.tl_coherence.specs.{protocol.Invariant.resting, protocol.Protocol.view, protocol.Tokens.is_acknowledging}
+use Rattle.tl_coherence.specs.{protocol.Packet.count}
 use Rattle.tl_coherence.specs.refinement.ManagerRelation.{client_in, service_with}
 use Rattle.tl_coherence.specs.protocol.Phase.{Own, Other, Granting, Acknowledging, GrantedOther}
-use Rattle.tl_coherence.specs.protocol.Protocol.{view}
-use Rattle.tl_coherence.specs.protocol.Tokens.{is_acknowledging}
-use Rattle.tl_coherence.specs.protocol.Packet.{count}
-use Rattle.tl_coherence.proofs.protocol.Capacities.{acquire_named, grant_named, release_named}
-use Rattle.tl_coherence.proofs.protocol.TokenNames.{shown_there, kind_there}
-use Rattle.tl_coherence.proofs.protocol.Capacities.{release_ack_named, request_named, answer_named}
-use Rattle.tl_coherence.proofs.queues.Distinct.{IsThere, first-there}
-use Rattle.tl_coherence.proofs.simulation.Owned.{sources-own}
+use Rattle.tl_coherence.proofs.protocol.Capacities.{acquire_named, grant_named, release_named, release_ack_named}
+use Rattle.tl_coherence.proofs.protocol.Capacities.{request_named, answer_named}
+use Rattle.tl_coherence.proofs.{protocol.TokenNames.shown_there, protocol.TokenNames.kind_there}
+use Rattle.tl_coherence.proofs.{queues.Distinct.IsThere, queues.Distinct.first-there, simulation.Owned.sources-own}
 
 no_level : (config : Config) (c : ℕ) → terms_at config c ≡ None → level_of config c ≡ None
-no_level config c is = go (slice_get config.clients.items c) is
-  where
-    go : (o : Option ClientConfig) → option_map {U = EndConfig}
-        (λ x. record { level = x.level; profile = config.profile; sources = x.sources; blocks = config.blocks })
-        o ≡ None → option_map (λ x. x.level) o ≡ None
-    go None e = refl
-    go (Some x) e = absurd cc
+no_level config c is =
+    let go : (o : Option ClientConfig)
+    → option_map {U = EndConfig} (λ x. record {
+      level = x.level;
+      profile = config.profile;
+      sources = x.sources;
+      blocks = config.blocks;
+    }) o ≡ None → option_map (λ x. x.level) o ≡ None =
+    elim [ None ↦ λ e. refl | Some x ↦ λ e. absurd cc ] in
+    go (slice_get config.clients.items c) is
 
 acknowledged_to : (service : Service) (c : ℕ) → is_acknowledging (view service c) ≡ true → client_in service ≡ Some c
 acknowledged_to Free c e = absurd cc
-acknowledged_to (Waits r own source k) c e = never (own && (c == r)) e
-  where
-    never : (b : Bool) → is_acknowledging (if b then Own else Other k) ≡ true
-        → client_in (Waits r own source k) ≡ Some c
-    never true f = absurd cc
-    never false f = absurd cc
-acknowledged_to (GrantSent q d k) c e = never (c == q) e
-  where
-    never : (b : Bool) → is_acknowledging (if b then Granting d k else GrantedOther) ≡ true
-        → client_in (GrantSent q d k) ≡ Some c
-    never true f = absurd cc
-    never false f = absurd cc
-acknowledged_to (GrantTaken q) c e = go (c == q) refl e
-  where
-    go : (b : Bool) → (c == q) ≡ b → is_acknowledging (if b then Acknowledging else GrantedOther) ≡ true
-        → Some q ≡ Some c
-    go true same f = ap (λ (i : ℕ). Some i) (sym (eqb-true c q same))
-    go false differs f = absurd cc
+acknowledged_to (Waits r own source k) c e =
+    let never : (b : Bool) → is_acknowledging (if b then Own else Other k) ≡ true → client_in (Waits r own source k)
+    ≡ Some c = elim [ true ↦ λ f. absurd cc | false ↦ λ f. absurd cc ] in
+    never (own && (c == r)) e
+acknowledged_to (GrantSent q d k) c e =
+    let never : (b : Bool) → is_acknowledging (if b then Granting d k else GrantedOther) ≡ true
+    → client_in (GrantSent q d k) ≡ Some c = elim [ true ↦ λ f. absurd cc | false ↦ λ f. absurd cc ] in
+    never (c == q) e
+acknowledged_to (GrantTaken q) c e =
+    let go : (b : Bool) → (c == q) ≡ b → is_acknowledging (if b then Acknowledging else GrantedOther) ≡ true
+    → Some q ≡ Some c = elim [
+      | true ↦ λ same f. ap (λ (i : ℕ). Some i)
+          (sym (eqb-true c q same))
+      | false ↦ λ differs f. absurd cc
+    ] in
+    go (c == q) refl e
 
 module _ {w : ℕ} (config : Config) (log : Log w) (mail : AccessMessages w) (request : ℕ → MessageA w)
     (s : State (List ℕ)) (matched : SimulationRelation config log mail request s (system_after config log))
@@ -77,52 +72,48 @@ module _ {w : ℕ} (config : Config) (log : Log w) (mail : AccessMessages w) (re
 
   not_acknowledging : (n : ℕ) → shown GrantAck c (s.block n) ≡ true → ⊥
   not_acknowledging n e =
+      let lawless : (o : Option Level) (m : Message w) → o ≡ None → kept.illegal_message_at o m ≡ None → ⊥ =
+      elim [ None ↦ λ m h f. absurd cc | Some l ↦ λ m h f. absurd cc ] in
       let served : service_of_block n (services (system_after config log).manager.trace) ≡ service_with (Some c)
-      (s.block n).tracker (request n) =
-      matched.managed.serving_is n ∙ ap (λ (o : Option ℕ). service_with o (s.block n).tracker (request n))
-      (acknowledged_to (s.block n).service c e) in
+      (s.block n).tracker (request n) = cc (matched.managed.serving_is n, acknowledged_to (s.block n).service c e)
+      in
       let performable = of_served (kept.IsPerformable config) n (services (system_after config log).manager.trace) _
       served matched.manager_kept.requests in
-      lawless (level_of config c) (message.A (request n)) (no_level config c is) performable.lawful
-    where
-      lawless : (o : Option Level) (m : Message w) → o ≡ None → kept.illegal_message_at o m ≡ None → ⊥
-      lawless None m h f = absurd cc
-      lawless (Some l) m h f = absurd cc
+      lawless (level_of config c) (Message.A (request n)) (no_level config c is) performable.lawful
 
   nothing_shown : (ch : Channel) (k : Kind) (n : ℕ) → is_on ch k ≡ true → 0 < count k n (packets_on ch (s.link c)) → ⊥
   nothing_shown ch Request n on_it there =
-      absurd (let e = request_named _ s c n matched.invariant (shown_there _ s c ch Request n matched.invariant on_it
+      absurd (let e = request_named _ s c n matched.invariant (shown_there c ch Request n matched.invariant on_it
       there) in let both : Asked ≡ SourceFree = sym e ∙ no_use n in cc)
   nothing_shown ch Answer n on_it there =
-      absurd (let e = answer_named _ s c n matched.invariant (shown_there _ s c ch Answer n matched.invariant on_it
+      absurd (let e = answer_named _ s c n matched.invariant (shown_there c ch Answer n matched.invariant on_it
       there) in let both = sym e ∙ no_use n in cc)
   nothing_shown ch Acquire n on_it there =
-      absurd (let e = acquire_named _ s c n matched.invariant (shown_there _ s c ch Acquire n matched.invariant on_it
+      absurd (let e = acquire_named _ s c n matched.invariant (shown_there c ch Acquire n matched.invariant on_it
       there) in let both = sym e ∙ no_use _ in cc)
   nothing_shown ch Grant n on_it there =
-      absurd (let e = grant_named _ s c n matched.invariant (shown_there _ s c ch Grant n matched.invariant on_it there)
+      absurd (let e = grant_named _ s c n matched.invariant (shown_there c ch Grant n matched.invariant on_it there)
       in let both = sym e ∙ no_use _ in cc)
   nothing_shown ch Release n on_it there =
-      absurd (let e = release_named _ s c n matched.invariant (shown_there _ s c ch Release n matched.invariant on_it
+      absurd (let e = release_named _ s c n matched.invariant (shown_there c ch Release n matched.invariant on_it
       there) in let both = sym e ∙ no_let _ in cc)
   nothing_shown ch ReleaseAck n on_it there =
-      absurd (let e = release_ack_named _ s c n matched.invariant (shown_there _ s c ch ReleaseAck n matched.invariant
+      absurd (let e = release_ack_named _ s c n matched.invariant (shown_there c ch ReleaseAck n matched.invariant
       on_it there) in let both = sym e ∙ no_let _ in cc)
   nothing_shown ch Probe n on_it there =
-      absurd (let it = shown_there _ s c ch Probe n matched.invariant on_it there in
+      absurd (let it = shown_there c ch Probe n matched.invariant on_it there in
       let none : shown Probe c (s.block n) ≡ false =
       rw (at_rest n) refl in let both : true ≡ false = sym it ∙ none in cc)
   nothing_shown ch ProbeAck n on_it there =
-      absurd (let it = shown_there _ s c ch ProbeAck n matched.invariant on_it there in
+      absurd (let it = shown_there c ch ProbeAck n matched.invariant on_it there in
       let none : shown ProbeAck c (s.block n) ≡ false =
       rw (at_rest n) refl in let both : true ≡ false = sym it ∙ none in cc)
   nothing_shown ch GrantAck n on_it there =
-      not_acknowledging n (shown_there _ s c ch GrantAck n matched.invariant on_it there)
+      not_acknowledging n (shown_there c ch GrantAck n matched.invariant on_it there)
 
   pub no_tokens : (ch : Channel) → packets_on ch (s.link c) ≡ []
-  no_tokens ch = go (packets_on ch (s.link c))
+  no_tokens ch =
+      let go : (xs : List Packet) → ((x : Packet) → IsThere x xs → ⊥) → xs ≡ [] =
+      elim [ [] ↦ λ none. refl | x ∷ xs ↦ λ none. absurd (none x (first-there x xs)) ] in
+      go (packets_on ch (s.link c))
       (λ x there. nothing_shown ch x.kind x.number (kind_there _ s c ch x matched.invariant there) there)
-    where
-      go : (xs : List Packet) → ((x : Packet) → IsThere x xs → ⊥) → xs ≡ []
-      go [] none = refl
-      go (x ∷ xs) none = absurd (none x (first-there x xs))

@@ -5,45 +5,29 @@ use Rattle.tl_coherence.proofs.theorem.Imports.{one_memory_after, System, Kind, 
 use Rattle.tl_coherence.proofs.theorem.Imports.{is_caching}
 use Rattle.std.proofs.Common.{◌≡◌, ℕ, ◌+◌, ◌-◌, ◌*◌, ◌%◌, ◌^◌, ◌≤◌, Bool, true, false, List, ◌∷◌, ◌++◌, length, take}
 use Rattle.std.proofs.Common.{drop, Option, Some, None, refl, sym, ◌∙◌, ap, subst, cond, arith}
-use Rattle.std.specs.Prelude.{replicate}
-use Rattle.std.proofs.lemmas.Bool.{eqb-true}
+use Rattle.std.{specs.Prelude.replicate, proofs.lemmas.Bool.eqb-true, proofs.lemmas.Nat.pow_pos}
 use Rattle.std.proofs.lemmas.List.{append_assoc, drop_at, take_at, length-replicate}
-use Rattle.std.proofs.lemmas.Nat.{pow_pos}
-use Rattle.tl_beat.specs.declared.beat.Beat.TheVariants as beat
-use Rattle.tl_beat.specs.declared.beat.BeatA.{BeatA}
-use Rattle.tl_beat.specs.declared.channel.Channel.TheVariants as channel
-use Rattle.tl_beat.specs.declared.opcode.OpD.TheVariants as opd
-use Rattle.tl_burst.specs.declared.message.Message.TheVariants as message
-use Rattle.tl_burst.specs.declared.message.MessageA.{MessageA}
-use Rattle.tl_burst.specs.declared.message.MessageD.{MessageD}
+use Rattle.tl_beat.{specs.declared.beat.BeatA.BeatA, specs.declared.opcode.OpD.OpD}
+use Rattle.tl_burst.{specs.declared.message.MessageA.MessageA, specs.declared.message.MessageD.MessageD}
+use Rattle.tl_burst.{specs.statement.Messages.History, specs.statement.Messages.unfinished}
 use Rattle.tl_burst.specs.statement.Burst.{a_beat_of, beats_of, burst_of, d_beat_of, data_beats, IsBlankAfter}
-use Rattle.tl_burst.specs.statement.Messages.{History, unfinished}
-use Rattle.tl_params.specs.declared.key.Key.TheVariants.{RequestSource}
-use Rattle.tl_params.specs.declared.level.Level.{Level}
-use Rattle.tl_rules.specs.statement.Admission.{payload_of}
+use Rattle.tl_params.{specs.declared.key.Key.TheVariants.RequestSource, specs.declared.level.Level.Level}
+use Rattle.tl_rules.{specs.statement.Admission.payload_of, specs.statement.Effect.as_payload}
+use Rattle.tl_rules.{specs.statement.Effect.answer_of, specs.statement.History.pending}
+use Rattle.tl_rules.{specs.statement.History.request_of, proofs.Bursts.control_of_legal, proofs.Bursts.control_aligned}
+use Rattle.tl_rules.{proofs.Payload.payload-d}
 use Rattle.tl_rules.specs.statement.Effect as memory
-use Rattle.tl_rules.specs.statement.Effect.{as_payload, answer_of}
-use Rattle.tl_rules.specs.statement.History.{pending, request_of}
-use Rattle.tl_rules.proofs.Bursts.{control_of_legal, control_aligned}
-use Rattle.tl_rules.proofs.Payload.{payload-d}
-use Rattle.tl_client.specs.declared.operation.Op.TheVariants.{Access}
-use Rattle.tl_client.specs.declared.verdict.Finish.TheVariants as finish
-use Rattle.tl_client.specs.statement.Offer.{address_asked, finish_of, padded}
-use Rattle.tl_client.specs.statement.Requests.{open_beat}
-use Rattle.tl_client.specs.statement.Send.{sourced}
-use Rattle.tl_manager.specs.statement.Handing.{access_answer, no_payload}
-use Rattle.tl_manager.specs.code.Kept.{illegal_message_at}
-use Rattle.tl_manager.specs.statement.Offer.{level_of}
+use Rattle.tl_client.{specs.declared.operation.Op.TheVariants.Access, specs.statement.Offer.finish_of}
+use Rattle.tl_client.{specs.statement.Offer.padded, specs.statement.Requests.open_beat, specs.statement.Send.sourced}
+use Rattle.tl_manager.{specs.statement.Handing.access_answer, specs.statement.Handing.no_payload}
+use Rattle.tl_manager.{specs.code.Kept.illegal_message_at, specs.statement.Offer.level_of}
 use Rattle.tl_manager.proofs.messages.Filled.{data_room, payload-long, payload-zero, room_in_beats}
 use Rattle.tl_coherence.specs.refinement.MemoryRelation.{Answers, IsOpened, IsReach}
-use Rattle.tl_coherence.specs.statement.Machine.{Requests, finish_with}
-use Rattle.tl_coherence.specs.protocol.Protocol.{Replied}
+use Rattle.tl_coherence.specs.{statement.Machine.Requests, statement.Machine.finish_with, protocol.Protocol.Replied}
 use Rattle.tl_coherence.specs.refinement.PacketMessages.{message_of_kind, block_message}
 use Rattle.tl_coherence.specs.refinement.SimulationRelation.{IsRequest, IsSourced, asked_for, block_used, first_of}
-use Rattle.tl_coherence.proofs.client.AnswersKept.{answer_message}
-use Rattle.tl_coherence.proofs.protocol.HeadOfD.{IsAnswerDue, answer-due}
-use Rattle.tl_coherence.proofs.links.Ending.{IsEnding}
-use Rattle.tl_coherence.proofs.links.Granting.{same-response}
+use Rattle.tl_coherence.proofs.{client.AnswersKept.answer_message, protocol.HeadOfD.IsAnswerDue}
+use Rattle.tl_coherence.proofs.{protocol.HeadOfD.answer-due, links.Ending.IsEnding, links.Granting.same-response}
 
 -- ---- the bytes of an answer
 
@@ -59,7 +43,7 @@ bytes_again first bytes =
     ∙ take_at bytes (replicate more none) (length bytes) refl
 
 -- the address of a lawful access is aligned
-aligned : {w : ℕ} (o : Option Level) (m : MessageA w) → IsWidth w → illegal_message_at o (message.A m) ≡ None
+aligned : {w : ℕ} (o : Option Level) (m : MessageA w) → IsWidth w → illegal_message_at o (Message.A m) ≡ None
     → m.address % 2 ^ m.size ≡ 0
 aligned None m width lawful = absurd cc
 aligned {w} (Some l) m width lawful =
@@ -68,77 +52,60 @@ aligned {w} (Some l) m width lawful =
 
 -- the bytes that come are those of the reply
 bytes_come : {w : ℕ} (o : Option Level) (m : MessageA w) (bytes : List ℕ) (beats : List (Beat w)) → IsWidth w
-    → illegal_message_at o (message.A m) ≡ None → length bytes ≡ 2 ^ m.size
-    → beats ≡ burst_of (message.D (answer_message opd.AccessAckData (as_payload (m.address % w) bytes) m))
+    → illegal_message_at o (Message.A m) ≡ None → length bytes ≡ 2 ^ m.size
+    → beats ≡ burst_of (Message.D (answer_message OpD.AccessAckData (as_payload (m.address % w) bytes) m))
     → take (2 ^ m.size) (drop (m.address % w) (payload_of beats)) ≡ bytes
 bytes_come {w} o m bytes beats width lawful long burst =
-    ap (λ (p : List ℕ). take (2 ^ m.size) (drop (m.address % w) p)) whole
-    ∙ ap (λ (n : ℕ). take n (drop (m.address % w) (as_payload (m.address % w) bytes))) (sym long) ∙ bytes_again
-    (m.address % w) bytes
-  where
-    d : MessageD w
-    d = answer_message opd.AccessAckData (as_payload (m.address % w) bytes) m
-
-    carried : m.address % w + 2 ^ m.size ≤ w * data_beats w m.size
-    carried = room_in_beats w m.size m.address width m.small (aligned o m width lawful)
-
-    room : w * data_beats w m.size ≤ 64
-    room = data_room w m.size width m.small
-
-    blank : IsBlankAfter (beats_of (message.D d)) (message.D d)
-    blank = (
+    let d : MessageD w = answer_message OpD.AccessAckData (as_payload (m.address % w) bytes) m in
+    let carried = room_in_beats w m.size m.address width m.small (aligned o m width lawful) in
+    let room : w * data_beats w m.size ≤ 64 = data_room w m.size width m.small in
+    let blank : IsBlankAfter (beats_of (Message.D d)) (Message.D d) = (
       payload-zero (m.address % w) (2 ^ m.size) (w * data_beats w m.size) bytes long carried room,
       pow_pos
           (data_beats w m.size),
-    )
-
-    whole : payload_of beats ≡ as_payload (m.address % w) bytes
-    whole = payload-d d beats width (payload-long (m.address % w) (2 ^ m.size) bytes long
-        (omega (arith, carried, room))) (burst, blank)
+    ) in
+    let whole = payload-d d beats width (payload-long (m.address % w) (2 ^ m.size) bytes long
+    (omega (arith, carried, room))) (burst, blank) in
+    cc (whole, long, bytes_again (m.address % w) bytes)
 
 -- ---- how the client ends an access that is answered
 
 ends_answered : {w : ℕ} (o : Option Level) (m : MessageA w) (d : MessageD w) (r : memory.AccessResult)
-    (beats : List (Beat w)) → IsWidth w → illegal_message_at o (message.A m) ≡ None
-    → message.D d ≡ access_answer m (answer_of (message.A m) r) → IsReach m r → beats ≡ burst_of (message.D d)
-    → finish_of w d.opcode d.param d.size m.address (payload_of beats) ≡ finish_with (message.A m) r
+    (beats : List (Beat w)) → IsWidth w → illegal_message_at o (Message.A m) ≡ None
+    → Message.D d ≡ access_answer m (answer_of (Message.A m) r) → IsReach m r → beats ≡ burst_of (Message.D d)
+    → finish_of w d.opcode d.param d.size m.address (payload_of beats) ≡ finish_with (Message.A m) r
 ends_answered {w} o m d memory.Done beats width lawful answer reach burst =
-    ap (λ (i : MessageD w). finish_of w i.opcode i.param i.size m.address (payload_of beats))
-    (same-response d (answer_message opd.AccessAck no_payload m) answer)
+    cc (same-response d (answer_message OpD.AccessAck no_payload m) answer)
 ends_answered {w} o m d memory.Hinted beats width lawful answer reach burst =
-    ap (λ (i : MessageD w). finish_of w i.opcode i.param i.size m.address (payload_of beats))
-    (same-response d (answer_message opd.HintAck no_payload m) answer)
+    cc (same-response d (answer_message OpD.HintAck no_payload m) answer)
 ends_answered {w} o m d (memory.Bytes bytes) beats width lawful answer reach burst =
-    let same = same-response d (answer_message opd.AccessAckData (as_payload (m.address % w) bytes) m) answer in
+    let same = same-response d (answer_message OpD.AccessAckData (as_payload (m.address % w) bytes) m) answer in
     ap (λ (i : MessageD w). finish_of w i.opcode i.param i.size m.address (payload_of beats)) same
-    ∙ ap (λ (b : List ℕ). finish.Data m.size (padded b))
-    (bytes_come o m bytes beats width lawful reach (burst ∙ ap (λ (i : MessageD w). burst_of (message.D i)) same))
+    ∙ ap (λ (b : List ℕ). Finish.Data m.size (padded b))
+    (bytes_come o m bytes beats width lawful reach (burst ∙ ap (λ (i : MessageD w). burst_of (Message.D i)) same))
 
 -- the source makes no difference
 finish_sourced : {w : ℕ} (source : ℕ) (m : MessageA w) (r : memory.AccessResult)
-    → finish_with (message.A (sourced source m)) r ≡ finish_with (message.A m) r
+    → finish_with (Message.A (sourced source m)) r ≡ finish_with (Message.A m) r
 finish_sourced source m memory.Done = refl
-finish_sourced source m memory.Hinted = refl
-finish_sourced source m (memory.Bytes bytes) = refl
+finish_sourced source m r = refl
 
 -- ---- as the machine allows
 
 -- what is open ends with its reply
 open_ends : {w : ℕ} (c source : ℕ) (m : Machine w) (a : MessageA w) (r : memory.AccessResult) (x : Beat w)
-    → m.opened c Requests source ≡ Some (record { asked = Access (message.A a); answer = Some r })
-    → Ends (m.opened c (pool_of (finish_with (message.A a) r)) source) x (finish_with (message.A a) r)
+    → m.opened c Requests source ≡ Some (record { asked = Access (Message.A a); answer = Some r })
+    → Ends (m.opened c (pool_of (finish_with (Message.A a) r)) source) x (finish_with (Message.A a) r)
 open_ends c source m a memory.Done x e = rw e refl
-open_ends c source m a memory.Hinted x e = rw e refl
-open_ends c source m a (memory.Bytes bytes) x e = rw e refl
+open_ends c source m a r x e = rw e refl
 
 -- a request that is open is the pending one
 request_open : {w : ℕ} (source : ℕ) (x : BeatA w) (t : History w) → open_beat source t ≡ Some x
     → request_of source t ≡ Some x
-request_open {w} source x t e = go (pending (RequestSource source) t) e
-  where
-    go : (b : Bool) → cond b (request_of source t) None ≡ Some x → request_of source t ≡ Some x
-    go true f = f
-    go false f = absurd cc
+request_open {w} source x t e =
+    let go : (b : Bool) → cond b (request_of source t) None ≡ Some x → request_of source t ≡ Some x =
+    elim [ true ↦ λ f. f | false ↦ λ f. absurd cc ] in
+    go (pending (RequestSource source) t) e
 
 sourced_request : {w : ℕ} (config : Config) (c source : ℕ) (m : Message w) (u : SourceState) → u ≡ Replied
     → IsSourced config c source m u → IsRequest config c source m
@@ -151,73 +118,83 @@ asked_replied u m acquire e = rw e refl
 record IsOver {w : ℕ} (config : Config) (log : Log w) (c source : ℕ) (h : AbstractState w) : Type 0 where
   pub asked : MessageA w
   pub reply : memory.AccessResult
-  pub request : h.mail.request c source ≡ message.A (sourced source asked)
-  pub lawful : illegal_message_at (level_of config c) (message.A (sourced source asked)) ≡ None
+  pub request : h.mail.request c source ≡ Message.A (sourced source asked)
+  pub lawful : illegal_message_at (level_of config c) (Message.A (sourced source asked)) ≡ None
   pub opened : (one_memory_after config log).opened c Requests source ≡ Some
-      (record { asked = Access (message.A asked); answer = Some reply })
+      (record { asked = Access (Message.A asked); answer = Some reply })
   pub answer : h.mail.answer c source ≡ access_answer (sourced source asked)
-      (answer_of (message.A (sourced source asked)) reply)
+      (answer_of (Message.A (sourced source asked)) reply)
   pub reach : IsReach (sourced source asked) reply
   pub pending_is : request_of source ((system_after config log).clients c).past ≡ Some
       (a_beat_of (sourced source asked) 0)
 
-over : {w : ℕ} (config : Config) (log : Log w) (c source : ℕ) (h : AbstractState w)
+over : {w : ℕ} {config : Config} {log : Log w} (c source : ℕ) (h : AbstractState w)
     → SimulationRelation config log h.mail h.request h.state (system_after config log)
     → h.state.uses c source ≡ Replied → IsOver config log c source h
-over {w} config log c source h is used = record {
-  asked = open_.1.0;
-  reply = open_.0;
-  request = open_.1.1;
-  lawful = (subst (IsRequest config c source) open_.1.1 (sourced_request config c source (h.mail.request c source)
-      (h.state.uses c source) used (is.sourced c source))).1;
-  opened = open_.1.2;
-  answer = answers.0;
-  reach = answers.1;
-  pending_is = request_open source (a_beat_of (sourced source open_.1.0) 0) ((system_after config log).clients c).past
-      ((is.known c).opens source ∙ asked_replied (h.state.uses c source) (h.mail.request c source)
-      (block_message Acquire c (block_used (h.state.uses c source))
-      (h.state.block (block_used (h.state.uses c source)))) used ∙ ap first_of open_.1.1);
-}
-  where
-    opened_as : (u : SourceState) → u ≡ Replied
-        → IsOpened c source h.mail h.state u ((one_memory_after config log).opened c Requests source)
-        → IsOpened c source h.mail h.state Replied ((one_memory_after config log).opened c Requests source)
-    opened_as u e i = rw e at i
-
-    open_ : IsOpened c source h.mail h.state Replied ((one_memory_after config log).opened c Requests source)
-    open_ = opened_as (h.state.uses c source) used (is.beside.requests c source)
-
-    answers : Answers (message.A (sourced source open_.1.0)) open_.0 (h.mail.answer c source)
-    answers = subst (λ (i : Message w). Answers i open_.0 (h.mail.answer c source)) open_.1.1 open_.2
+over {w} {config} {log} c source h is used =
+    let opened_as : (u : SourceState) → u ≡ Replied
+    → IsOpened c source h.mail h.state u ((one_memory_after config log).opened c Requests source)
+    → IsOpened c source h.mail h.state Replied ((one_memory_after config log).opened c Requests source) =
+    λ u e i. rw e at i in
+    let open_ = opened_as (h.state.uses c source) used (is.beside.requests c source) in
+    let answers : Answers (Message.A (sourced source open_.1.0)) open_.0 (h.mail.answer c source) =
+    subst (λ (i : Message w). Answers i open_.0 (h.mail.answer c source)) open_.1.1 open_.2 in
+    record {
+      asked = open_.1.0;
+      reply = open_.0;
+      request = open_.1.1;
+      lawful = (subst (IsRequest config c source) open_.1.1 (sourced_request config c source (h.mail.request c source)
+          (h.state.uses c source) used (is.sourced c source))).1;
+      opened = open_.1.2;
+      answer = answers.0;
+      reach = answers.1;
+      pending_is = request_open source (a_beat_of (sourced source open_.1.0) 0)
+          ((system_after config log).clients c).past
+          ((is.known c).opens source ∙ asked_replied (h.state.uses c source) (h.mail.request c source)
+          (block_message Acquire c (block_used (h.state.uses c source))
+          (h.state.block (block_used (h.state.uses c source)))) used ∙ ap first_of open_.1.1);
+    }
 
 -- the beats of the response, whole
-whole_response : {w : ℕ} (config : Config) (log : Log w) (link : Link) (ch : Channel) (h : AbstractState w) (x : Beat w)
-    (source : ℕ) (f : Finish) (end : IsEnding config log link ch h x source f)
-    → beat.D (d_beat_of end.response end.first.next.k) ∷ unfinished channel.D
-    ((system_after config log).clients link.0).past ≡ burst_of (message.D end.response)
-whole_response {w} config log link ch h x source f end =
-    ap (λ (y : Beat w). y ∷ unfinished channel.D ((system_after config log).clients link.0).past) (sym end.beat_is)
-    ∙ (end.first.next.last (eqb-true (end.first.next.k + 1) _ (sym end.first.next.completes_is ∙ end.last))).1
-    ∙ ap burst_of end.response_is
+whole_response : {w : ℕ} {config : Config} {log : Log w} {link : Link} {ch : Channel} {h : AbstractState w} {x : Beat w}
+    {source : ℕ} {f : Finish} (end : IsEnding config log link ch h x source f)
+    → Beat.D (d_beat_of end.response end.first.next.k) ∷ unfinished Channel.D
+    ((system_after config log).clients link.0).past ≡ burst_of (Message.D end.response)
+whole_response {w} end =
+    cc (
+      end.beat_is,
+      (end.first.next.last (eqb-true (end.first.next.k + 1) _ (sym end.first.next.completes_is
+          ∙ end.last))).1,
+      end.response_is,
+    )
 
 -- an answer ends its access as the machine allows
-pub ends-answer : {w : ℕ} (config : Config) (log : Log w) (link : Link) (ch : Channel) (h : AbstractState w)
-    (x : Beat w) (source : ℕ) (f : Finish) → IsWidth w
-    → SimulationRelation config log h.mail h.request h.state (system_after config log)
-    → (end : IsEnding config log link ch h x source f) → end.first.kind ≡ Answer
+pub ends-answer : {w : ℕ} {config : Config} {log : Log w} {link : Link} {ch : Channel} {h : AbstractState w}
+    {x : Beat w} {source : ℕ} {f : Finish} → IsWidth w → SimulationRelation config log h.mail h.request h.state
+    (system_after config log) → (end : IsEnding config log link ch h x source f) → end.first.kind ≡ Answer
     → Ends ((one_memory_after config log).opened link.0 (pool_of f) source) x f
-ends-answer {w} config log link ch h x source f width is end e =
+ends-answer {w} {config} {log} {link} {ch} {h} {x} {source} {f} width is end e =
+    let sys : System w = system_after config log in
+    let m : Machine w = one_memory_after config log in
+    let it : IsOver config log c n h = over c n h is due.used in
+    let asked_is : request_of end.response.source (sys.clients c).past ≡ Some (a_beat_of (sourced n it.asked) 0) =
+    ap (λ (i : ℕ). request_of i (sys.clients c).past) (sym end.source_is ∙ from) ∙ it.pending_is in
+    let payload : List ℕ = payload_of (Beat.D (d_beat_of end.response end.first.next.k) ∷ unfinished Channel.D
+    (sys.clients c).past) in
+    let fin : f ≡ finish_with (Message.A it.asked) it.reply =
+    cc (
+      end.finish_is,
+      asked_is,
+      ends_answered (level_of config c) (sourced n it.asked) end.response it.reply _
+          width it.lawful (response_is ∙ it.answer) it.reach (whole_response end),
+      finish_sourced n it.asked it.reply,
+    )
+    in
     subst (λ (i : Finish). Ends (m.opened c (pool_of i) source) x i) (sym fin)
-    (subst (λ (i : ℕ). Ends (m.opened c (pool_of (finish_with (message.A it.asked) it.reply)) i) x
-    (finish_with (message.A it.asked) it.reply)) (sym from)
+    (subst (λ (i : ℕ). Ends (m.opened c (pool_of (finish_with (Message.A it.asked) it.reply)) i) x
+    (finish_with (Message.A it.asked) it.reply)) (sym from)
     (open_ends c n m it.asked it.reply x it.opened))
   where
-    sys : System w
-    sys = system_after config log
-
-    m : Machine w
-    m = one_memory_after config log
-
     c : ℕ
     c = link.0
 
@@ -228,27 +205,8 @@ ends-answer {w} config log link ch h x source f width is end e =
     due = answer-due (is_caching config) c n end.first.rest h.mail h.state is.invariant (is.answered c n)
         (end.first.tokens ∙ ap (λ (i : Kind). packet i n ∷ end.first.rest) e)
 
-    it : IsOver config log c n h
-    it = over config log c n h is due.used
-
-    response_is : message.D end.response ≡ h.mail.answer c n
+    response_is : Message.D end.response ≡ h.mail.answer c n
     response_is = sym end.response_is ∙ ap (λ (i : Kind). message_of_kind i h.mail h.state c n) e
 
     from : source ≡ n
-    from = end.source_is ∙ ap (λ (i : MessageD w). i.source)
-        (same-response end.response due.answer (response_is ∙ due.answer_is)) ∙ due.from
-
-    asked_is : request_of end.response.source (sys.clients c).past ≡ Some (a_beat_of (sourced n it.asked) 0)
-    asked_is = ap (λ (i : ℕ). request_of i (sys.clients c).past) (sym end.source_is ∙ from) ∙ it.pending_is
-
-    payload : List ℕ
-    payload = payload_of (beat.D (d_beat_of end.response end.first.next.k) ∷ unfinished channel.D (sys.clients c).past)
-
-    fin : f ≡ finish_with (message.A it.asked) it.reply
-    fin =
-        end.finish_is
-        ∙ ap (λ (i : Option (BeatA w)). finish_of w end.response.opcode end.response.param end.response.size
-        (address_asked i) payload) asked_is
-        ∙ ends_answered (level_of config c) (sourced n it.asked) end.response it.reply _ width it.lawful
-        (response_is ∙ it.answer) it.reach (whole_response config log link ch h x source f end)
-        ∙ finish_sourced n it.asked it.reply
+    from = cc (end.source_is, same-response end.response due.answer (response_is ∙ due.answer_is), due.from)

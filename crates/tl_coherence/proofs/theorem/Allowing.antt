@@ -1,26 +1,15 @@
 -- What the one-memory machine allows at a delivery: how a Grant and a ReleaseAck end their operations.
 use Rattle.tl_coherence.proofs.theorem.Imports.{Beat, Link, Channel, Config, Grow, Perm, Finish, AbstractState, Log}
 use Rattle.tl_coherence.proofs.theorem.Imports.{system_after, Ends, Machine, pool_of, AcquirePhase, AcquireOpen, packet}
-use Rattle.tl_coherence.proofs.theorem.Imports.{one_memory_after, System, Kind, Request, Acquire, Probe, ProbeAck}
-use Rattle.tl_coherence.proofs.theorem.Imports.{Release, Answer, Grant, ReleaseAck, GrantAck, SimulationRelation}
-use Rattle.tl_coherence.proofs.theorem.Imports.{is_caching}
+use Rattle.tl_coherence.proofs.theorem.Imports.{one_memory_after, System, Kind, Answer, Grant, ReleaseAck}
+use Rattle.tl_coherence.proofs.theorem.Imports.{SimulationRelation, is_caching, Message}
 use Rattle.std.proofs.Common.{◌≡◌, ℕ, Bool, true, false, List, ◌∷◌, Option, Some, None, refl, sym, ◌∙◌, ap, subst}
-use Rattle.tl_beat.specs.declared.channel.Channel.TheVariants as channel
-use Rattle.tl_burst.specs.declared.message.Message.TheVariants as message
-use Rattle.tl_burst.specs.declared.message.MessageD.{MessageD}
-use Rattle.tl_burst.specs.statement.Burst.{d_beat_of}
-use Rattle.tl_params.specs.declared.param.Cap.{Cap}
-use Rattle.tl_params.specs.declared.param.Cap.TheVariants as cap
-use Rattle.tl_params.specs.declared.param.Grow.TheVariants as grow
-use Rattle.tl_params.specs.declared.perm.Perm.TheVariants as perm
-use Rattle.tl_params.specs.statement.Param.{cap_right}
-use Rattle.tl_rules.specs.statement.History.{capped}
-use Rattle.tl_client.specs.declared.verdict.Finish.TheVariants as finish
+use Rattle.tl_burst.{specs.declared.message.MessageD.MessageD, specs.statement.Burst.d_beat_of}
+use Rattle.tl_params.{specs.declared.param.Cap.Cap, specs.statement.Param.cap_right}
 use Rattle.tl_manager.proofs.blocks.Recording.{cap-gives}
-use Rattle.tl_coherence.specs.refinement.MemoryRelation.{IsLet, op_of}
+use Rattle.tl_coherence.specs.{refinement.MemoryRelation.IsLet, refinement.MemoryRelation.op_of}
+use Rattle.tl_coherence.specs.{protocol.Phase.grant_fits, protocol.Protocol.is_on}
 use Rattle.tl_coherence.specs.statement.Machine.{EndsOp, Open, Releases, cap_named}
-use Rattle.tl_coherence.specs.protocol.Phase.{grant_fits}
-use Rattle.tl_coherence.specs.protocol.Protocol.{is_on}
 use Rattle.tl_coherence.specs.refinement.PacketMessages.{message_of_kind, block_message}
 use Rattle.tl_coherence.proofs.protocol.HeadOfD.{ack_message, ack-due, grant-due, grant-rendered, grant_message}
 use Rattle.tl_coherence.proofs.links.Ending.{IsEnding}
@@ -28,43 +17,40 @@ use Rattle.tl_coherence.proofs.links.Granting.{granted-at, opened-acquire, relea
 
 -- what is granted to a store of the whole block is Trunk
 whole_trunk : (recorded held : Perm) (d : Bool) (k : Cap) (g : Grow)
-    → grant_fits recorded held d k (AcquireOpen true g) ≡ true → cap_right k ≡ perm.Trunk
-whole_trunk perm.Trunk held d cap.ToT g e = refl
-whole_trunk perm.Trunk held d cap.ToB g e = absurd cc
-whole_trunk perm.Trunk held d cap.ToN g e = absurd cc
-whole_trunk perm.Branch held d cap.ToT g e = refl
-whole_trunk perm.Branch held d cap.ToB grow.NtoB e = absurd cc
-whole_trunk perm.Branch held d cap.ToB grow.NtoT e = absurd cc
-whole_trunk perm.Branch held d cap.ToB grow.BtoT e = absurd cc
-whole_trunk perm.Branch held d cap.ToN g e = absurd cc
-whole_trunk perm.None held d cap.ToT g e = refl
-whole_trunk perm.None held d cap.ToB g e = absurd cc
-whole_trunk perm.None held d cap.ToN grow.NtoB e = absurd cc
-whole_trunk perm.None held d cap.ToN grow.NtoT e = absurd cc
-whole_trunk perm.None held d cap.ToN grow.BtoT e = absurd cc
+    → grant_fits recorded held d k (AcquireOpen true g) ≡ true → cap_right k ≡ Perm.Trunk
+whole_trunk Perm.Trunk held d Cap.ToT g e = refl
+whole_trunk Perm.Trunk held d Cap.ToB g e = absurd cc
+whole_trunk Perm.Trunk held d Cap.ToN g e = absurd cc
+whole_trunk Perm.Branch held d Cap.ToT g e = refl
+whole_trunk Perm.Branch held d Cap.ToB Grow.NtoB e = absurd cc
+whole_trunk Perm.Branch held d Cap.ToB Grow.NtoT e = absurd cc
+whole_trunk Perm.Branch held d Cap.ToB Grow.BtoT e = absurd cc
+whole_trunk Perm.Branch held d Cap.ToN g e = absurd cc
+whole_trunk Perm.None held d Cap.ToT g e = refl
+whole_trunk Perm.None held d Cap.ToB g e = absurd cc
+whole_trunk Perm.None held d Cap.ToN Grow.NtoB e = absurd cc
+whole_trunk Perm.None held d Cap.ToN Grow.NtoT e = absurd cc
+whole_trunk Perm.None held d Cap.ToN Grow.BtoT e = absurd cc
 
 ends_granted : {w : ℕ} (n : ℕ) (bytes : List ℕ) (x : Beat w) (k : Cap) (whole : Bool) (g : Grow) (y : AcquirePhase)
-    → y ≡ AcquireOpen whole g → cap_named x ≡ cap_right k
-    → (whole ≡ true → cap_right k ≡ perm.Trunk)
-    → EndsOp (op_of {w = w} y n bytes) None x (finish.Granted (cap_right k))
-ends_granted n bytes x k true g y e named trunk = rw e (ap finish.Granted (trunk refl))
-ends_granted n bytes x k false g y e named trunk = rw e (ap finish.Granted (sym named))
+    → y ≡ AcquireOpen whole g → cap_named x ≡ cap_right k → (whole ≡ true → cap_right k ≡ Perm.Trunk)
+    → EndsOp (op_of {w = w} y n bytes) None x (Finish.Granted (cap_right k))
+ends_granted n bytes x k true g y e named trunk = rw e (ap Finish.Granted (trunk refl))
+ends_granted n bytes x k false g y e named trunk = rw e (ap Finish.Granted (sym named))
 
 let_open : {w : ℕ} (n : ℕ) (o : Option ℕ) (opened : Option (Open w)) (x : Beat w) → o ≡ Some n → IsLet o opened
-    → Ends opened x finish.Released
-let_open {w} n o opened x e is = go (rw e at is)
-  where
-    go : IsLet (Some n) opened → Ends opened x finish.Released
-    go found = rw found.1 refl
+    → Ends opened x Finish.Released
+let_open {w} n o opened x e is =
+    let go : IsLet (Some n) opened → Ends opened x Finish.Released = λ found. rw found.1 refl in
+    go (rw e at is)
 
 -- a Grant, and a ReleaseAck, end their operations as the machine allows
-pub ends-transfer : {w : ℕ} (config : Config) (log : Log w) (link : Link) (ch : Channel) (h : AbstractState w)
-    (x : Beat w) (source : ℕ) (f : Finish)
-    → SimulationRelation config log h.mail h.request h.state (system_after config log)
-    → (end : IsEnding config log link ch h x source f) → (end.first.kind ≡ Answer → ⊥)
+pub ends-transfer : {w : ℕ} {config : Config} {log : Log w} {link : Link} {ch : Channel} {h : AbstractState w}
+    {x : Beat w} {source : ℕ} {f : Finish} → SimulationRelation config log h.mail h.request h.state
+    (system_after config log) → (end : IsEnding config log link ch h x source f) → (end.first.kind ≡ Answer → ⊥)
     → Ends ((one_memory_after config log).opened link.0 (pool_of f) source) x f
 unfolding block_message
-ends-transfer {w} config log link ch h x source f is end other = go end.first.kind refl end.first.own
+ends-transfer {w} {config} {log} {link} {h} {x} {source} {f} is end other = go end.first.kind refl end.first.own
   where
     sys : System w
     sys = system_after config log
@@ -81,31 +67,29 @@ ends-transfer {w} config log link ch h x source f is end other = go end.first.ki
     tokens : (k : Kind) → end.first.kind ≡ k → (h.state.link c).d ≡ packet k n ∷ end.first.rest
     tokens k e = end.first.tokens ∙ ap (λ (i : Kind). packet i n ∷ end.first.rest) e
 
-    response_is : (k : Kind) → end.first.kind ≡ k → message_of_kind k h.mail h.state c n ≡ message.D end.response
+    response_is : (k : Kind) → end.first.kind ≡ k → message_of_kind k h.mail h.state c n ≡ Message.D end.response
     response_is k e = ap (λ (i : Kind). message_of_kind i h.mail h.state c n) (sym e) ∙ end.response_is
 
-    go : (k : Kind) → end.first.kind ≡ k → is_on channel.D end.first.kind ≡ true
+    go : (k : Kind) → end.first.kind ≡ k → is_on Channel.D end.first.kind ≡ true
         → Ends (m.opened c (pool_of f) source) x f
     go Grant e own =
         let due = grant-due (is_caching config) c n end.first.rest h.state is.invariant (tokens Grant e) in
         let sent : MessageD w = grant_message due.data_too due.k ((h.state.block n).source c) (h.state.block n).tracker
         (h.state.block n).truth in
-        let same : end.response ≡ sent =
-        same-response end.response sent (sym (response_is Grant e) ∙ grant-rendered c n h.state due) in
-        let fin : f ≡ finish.Granted (cap_right due.k) = end.finish_is
-        ∙ granted-at (d_beat_of end.response end.first.next.k) (sys.clients c) due.data_too due.k
-        (ap (λ (i : MessageD w). i.opcode) same)
-        (ap (λ (i : MessageD w). i.param) same) in
+        let same = same-response end.response sent (sym (response_is Grant e) ∙ grant-rendered c n h.state due) in
+        let fin : f ≡ Finish.Granted (cap_right due.k) =
+        cc (
+          end.finish_is,
+          granted-at (d_beat_of end.response end.first.next.k) (sys.clients c) due.data_too due.k
+              (ap (λ (i : MessageD w). i.opcode) same) (ap (λ (i : MessageD w). i.param) same),
+        ) in
         let from : source ≡ (h.state.block n).source c = end.source_is ∙ ap (λ (i : MessageD w). i.source) same in
         let opened = opened-acquire config log h sys c source n (h.state.uses c source) is refl
         (ap (h.state.uses c) from ∙ due.used) in
-        let named : cap_named x ≡ cap_right due.k =
-        ap (λ (y : Beat w). cap_named y) end.beat_is ∙ ap (λ (i : MessageD w). capped i.param) same ∙ cap-gives
-        due.k in
-        let fits : grant_fits ((h.state.block n).pair c).recorded ((h.state.block n).pair c).held due.data_too due.k
-        (AcquireOpen due.whole due.g) ≡ true = due.fits in
+        let named : cap_named x ≡ cap_right due.k = cc (end.beat_is, same, cap-gives due.k) in
+        let fits = due.fits in
         subst (λ (i : Finish). Ends (m.opened c (pool_of i) source) x i) (sym fin)
-        (subst (λ (o : Option (Open w)). Ends o x (finish.Granted (cap_right due.k))) (sym opened)
+        (subst (λ (o : Option (Open w)). Ends o x (Finish.Granted (cap_right due.k))) (sym opened)
         (ends_granted n ((h.state.block n).waiting c) x due.k due.whole due.g ((h.state.block n).pair c).acquiring
         due.wants named
         (λ whole. whole_trunk ((h.state.block n).pair c).recorded ((h.state.block n).pair c).held due.data_too due.k
@@ -116,18 +100,12 @@ ends-transfer {w} config log link ch h x source f is end other = go end.first.ki
     go ReleaseAck e own =
         let sent : MessageD w = ack_message ((h.state.block n).release_source c) in
         let same : end.response ≡ sent = same-response end.response sent (sym (response_is ReleaseAck e)) in
-        let fin : f ≡ finish.Released = end.finish_is ∙ released-at (d_beat_of end.response end.first.next.k)
+        let fin : f ≡ Finish.Released = end.finish_is ∙ released-at (d_beat_of end.response end.first.next.k)
         (sys.clients c) (ap (λ (i : MessageD w). i.opcode) same) in
-        let from : source ≡ (h.state.block n).release_source c = end.source_is ∙ ap (λ (i : MessageD w). i.source) same
-        in
-        let lets : h.state.lets c source ≡ Some n = ap (h.state.lets c) from ∙ ack-due (is_caching config) c n
-        end.first.rest h.state is.invariant (tokens ReleaseAck e) in
+        let from : source ≡ (h.state.block n).release_source c = cc (end.source_is, same) in
+        let lets : h.state.lets c source ≡ Some n = ap (h.state.lets c) from ∙ ack-due c n
+        end.first.rest is.invariant (tokens ReleaseAck e) in
         subst (λ (i : Finish). Ends (m.opened c (pool_of i) source) x i) (sym fin)
         (let_open n (h.state.lets c source) (m.opened c Releases source) x lets (is.beside.releases c source))
     go Answer e own = absurd (other e)
-    go Request e own = absurd (let g : false ≡ true = rw e at own in cc)
-    go Acquire e own = absurd (let g : false ≡ true = rw e at own in cc)
-    go Probe e own = absurd (let g : false ≡ true = rw e at own in cc)
-    go ProbeAck e own = absurd (let g : false ≡ true = rw e at own in cc)
-    go Release e own = absurd (let g : false ≡ true = rw e at own in cc)
-    go GrantAck e own = absurd (let g : false ≡ true = rw e at own in cc)
+    go k e own = absurd (let g : false ≡ true = rw e at own in cc)

@@ -4,44 +4,32 @@ use Rattle.tl_coherence.proofs.theorem.Imports.{Log, system_after, Machine, one_
 use Rattle.tl_coherence.proofs.theorem.Imports.{SimulationRelation}
 use Rattle.std.proofs.Common.{◌≡◌, ℕ, Bool, true, false, List, [], ◌∷◌, Option, Some, None, refl, sym, ◌∙◌, ap, subst}
 use Rattle.std.proofs.Common.{◌⊎◌, inl, inr}
-use Rattle.std.specs.Prelude.{All, Ok}
-use Rattle.std.proofs.lemmas.List.Elements.{All-head}
-use Rattle.tl_beat.specs.declared.beat.Beat.TheVariants as beat
+use Rattle.std.{specs.Prelude.All, specs.Prelude.Ok, proofs.lemmas.List.Elements.All-head}
 use Rattle.tl_beat.specs.declared.beat.BeatE.{BeatE}
-use Rattle.tl_beat.specs.declared.channel.Channel.TheVariants as channel
-use Rattle.tl_burst.specs.declared.message.Message.TheVariants as message
 use Rattle.tl_burst.specs.statement.Messages.{channel_of}
-use Rattle.tl_client.specs.declared.verdict.Verdict.{Verdict}
-use Rattle.tl_client.specs.statement.Endpoint.{EndConfig}
+use Rattle.tl_client.{specs.declared.verdict.Verdict.Verdict, specs.statement.Endpoint.EndConfig}
 use Rattle.tl_manager.specs.code.Kept as manager
-use Rattle.tl_manager.specs.statement.Reaction.{reaction}
-use Rattle.tl_manager.proofs.calls.Events.{reaction-ack}
-use Rattle.tl_coherence.specs.refinement.MemoryRelation.{IsAccess}
-use Rattle.tl_coherence.specs.statement.Draining.{is_moving}
+use Rattle.tl_manager.{specs.statement.Reaction.reaction, proofs.calls.Events.reaction-ack}
+use Rattle.tl_coherence.specs.{refinement.MemoryRelation.IsAccess, statement.Draining.is_moving}
+use Rattle.tl_coherence.specs.{statement.OneMemory.performing, statement.OneMemory.accesses_answered}
+use Rattle.tl_coherence.specs.{statement.System.terms_at}
 use Rattle.tl_coherence.specs.statement.Machine.{Performs, Requests, moved}
-use Rattle.tl_coherence.specs.statement.OneMemory.{performing, accesses_answered}
 use Rattle.tl_coherence.specs.statement.Step.{Step, stepped, handed_by, is_to_client}
-use Rattle.tl_coherence.specs.statement.System.{terms_at}
-use Rattle.tl_coherence.proofs.memory.BesideRequests.{IsOnce, once-performs}
-use Rattle.tl_coherence.proofs.links.HeadsOfLinks.{first-of}
+use Rattle.tl_coherence.proofs.{memory.BesideRequests.IsOnce, memory.BesideRequests.once-performs}
+use Rattle.tl_coherence.proofs.{links.HeadsOfLinks.first-of, deliveries.DeliverDUnmoved.unmoved}
+use Rattle.tl_coherence.proofs.{deliveries.Matching.not_moving, deliveries.Matching.stepped-nobody}
+use Rattle.tl_coherence.proofs.{simulation.Moved.client-moves, simulation.Moved.manager-moves}
+use Rattle.tl_coherence.proofs.{deliveries.ReportsAfter.once-followed_c, deliveries.RequestsDelivered.once-delivered_a}
+use Rattle.tl_coherence.proofs.{simulation.SoundAfter.copy-long, queues.Steps.stepped-empty}
 use Rattle.tl_coherence.proofs.simulation.BeatsInFlight.{IsOfClient, IsFitAnswer, fit-taken}
-use Rattle.tl_coherence.proofs.deliveries.DeliverDUnmoved.{unmoved}
-use Rattle.tl_coherence.proofs.deliveries.Matching.{not_moving, stepped-nobody}
-use Rattle.tl_coherence.proofs.simulation.Moved.{client-moves, manager-moves}
-use Rattle.tl_coherence.proofs.deliveries.ReportsAfter.{once-followed_c}
-use Rattle.tl_coherence.proofs.deliveries.RequestsDelivered.{once-delivered_a}
-use Rattle.tl_coherence.proofs.simulation.SoundAfter.{copy-long}
-use Rattle.tl_coherence.proofs.queues.Steps.{stepped-empty}
 
 -- ---- what a client hands out answers no access
 
 ours-quiet : {w : ℕ} (c : ℕ) (m : Message w) → IsOfClient m → accesses_answered (handed_by c (Some m)) ≡ []
 unfolding accesses_answered
-ours-quiet c (message.A m) is = refl
-ours-quiet c (message.C m) is = refl
-ours-quiet c (message.E m) is = refl
-ours-quiet c (message.B m) is = absurd is
-ours-quiet c (message.D m) is = absurd is
+ours-quiet c (Message.B m) is = absurd is
+ours-quiet c (Message.D m) is = absurd is
+ours-quiet c m is = refl
 
 none-quiet : (w c : ℕ) → accesses_answered (handed_by {w = w} c None) ≡ []
 unfolding accesses_answered
@@ -68,8 +56,7 @@ performs-answering : {w : ℕ} (l : List (ℕ × ℕ)) (h : AbstractState w) (be
     → IsAnswering l h before next → Performs l next (performing l next)
 performs-answering l h before next (inl none) = performs-none l next none
 performs-answering {w} l h before next (inr (q, source, one, opened, still)) =
-    subst (λ (m : Machine w). Performs l m (performing l m)) (sym still)
-    (once-performs l h before (inr (q, source, one, opened)))
+    rw still (once-performs l h before (inr (q, source, one, opened)))
 
 still-none : {w : ℕ} (config : Config) (link : Link) (ch : Channel) (sys : System w)
     → is_moving (stepped config (Deliver link ch) sys).outcome ≡ false
@@ -77,7 +64,7 @@ still-none : {w : ℕ} (config : Config) (link : Link) (ch : Channel) (sys : Sys
 unfolding accesses_answered
 still-none config link ch sys still = rw ((unmoved config link ch sys still).handed) refl
 
-ack-none : {w : ℕ} (config : Config) (link : Link) (x : Beat w) (sys : System w) → (y : BeatE) → x ≡ beat.E y
+ack-none : {w : ℕ} (config : Config) (link : Link) (x : Beat w) (sys : System w) → (y : BeatE) → x ≡ Beat.E y
     → accesses_answered (reaction config link x sys.manager).handed ≡ []
 unfolding accesses_answered
 ack-none config link x sys y e = rw (e, reaction-ack config link y sys.manager) refl
@@ -101,18 +88,16 @@ answering-delivered {w} config log link ch h width is = go (is_moving (stepped c
     c = link.0
 
     Then : Channel → Type 0
-    Then at =
-        IsAnswering (accesses_answered (stepped config (Deliver link at) sys).handed) h m
+    Then at = IsAnswering (accesses_answered (stepped config (Deliver link at) sys).handed) h m
         (moved (Deliver link at) (stepped config (Deliver link at) sys).outcome m)
 
     head : (at : Channel) (x : Beat w) (queue : List (Beat w)) → sys.channels c at ≡ x ∷ queue
         → manager.IsSound config (record { 0 = c }, x)
-    head at x queue beats = All-head (λ y. manager.IsSound config (record { 0 = c }, y)) x queue
-        (same beats (is.sound c at))
-      where
-        same : sys.channels c at ≡ x ∷ queue → All (λ y. manager.IsSound config (record { 0 = c }, y))
-            (sys.channels c at) → All (λ y. manager.IsSound config (record { 0 = c }, y)) (x ∷ queue)
-        same e f = rw e at f
+    head at x queue beats =
+        let same : sys.channels c at ≡ x ∷ queue → All (λ y. manager.IsSound config (record { 0 = c }, y))
+        (sys.channels c at) → All (λ y. manager.IsSound config (record { 0 = c }, y)) (x ∷ queue) =
+        λ e f. rw e at f in
+        All-head (λ y. manager.IsSound config (record { 0 = c }, y)) x queue (same beats (is.sound c at))
 
     -- a client takes it
     down : (at : Channel) (terms : EndConfig) (x : Beat w) (queue : List (Beat w)) → is_to_client at ≡ true
@@ -122,8 +107,7 @@ answering-delivered {w} config log link ch h width is = go (is_moving (stepped c
         let t = client-moves config link at sys terms x queue known beats theirs moving in
         let fit : IsFitAnswer config.blocks (Ok (t.verdict_is, t.message)) =
         subst (IsFitAnswer config.blocks) t.answer
-        (fit-taken config.blocks x (sys.clients c) (head at x queue beats).inside
-        (copy-long config log h.mail h.request h.state sys is c)) in
+        (fit-taken config.blocks x (sys.clients c) (head at x queue beats).inside (copy-long is c)) in
         inl (ap (λ (s : Step w). accesses_answered s.handed) t.step_is
         ∙ fit-quiet config.blocks c t.verdict_is t.message fit)
 
@@ -134,40 +118,32 @@ answering-delivered {w} config log link ch h width is = go (is_moving (stepped c
         → IsOnce (accesses_answered (reaction config link x sys.manager).handed) h m → Then at
     up at terms x queue theirs known beats moving once =
         let t = manager-moves config link at sys terms x queue known beats theirs moving in
-        let same : accesses_answered (stepped config (Deliver link at) sys).handed ≡ accesses_answered
-        (reaction config link x sys.manager).handed =
-        ap (λ (s : Step w). accesses_answered s.handed) t.step_is in
-        let still : moved (Deliver link at) (stepped config (Deliver link at) sys).outcome m ≡ m =
-        ap (λ (s : Step w). moved (Deliver link at) s.outcome m) t.step_is in
+        let same = ap (λ (s : Step w). accesses_answered s.handed) t.step_is in
+        let still = ap (λ (s : Step w). moved (Deliver link at) s.outcome m) t.step_is in
         elim once [
           | inl none ↦ inl (same ∙ none)
           | inr one ↦ inr (one.0, one.1, same ∙ one.2, one.3, still)
         ]
 
     moves : (at : Channel) (terms : EndConfig) (beats : List (Beat w)) → terms_at config c ≡ Some terms
-        → sys.channels c at ≡ beats
-        → is_moving (stepped config (Deliver link at) sys).outcome ≡ true → Then at
+        → sys.channels c at ≡ beats → is_moving (stepped config (Deliver link at) sys).outcome ≡ true → Then at
     moves at terms [] known none moving =
         absurd (not_moving _ _ (stepped-empty config link at sys terms known none) moving refl)
-    moves channel.A terms (x ∷ queue) known beats moving =
-        let t = manager-moves config link channel.A sys terms x queue known beats refl moving in
-        up channel.A terms x queue refl known beats moving
+    moves Channel.A terms (x ∷ queue) known beats moving =
+        let t = manager-moves config link Channel.A sys terms x queue known beats refl moving in
+        up Channel.A terms x queue refl known beats moving
         (subst (λ (s : Step w). IsOnce (accesses_answered s.handed) h m) t.step_is
-        (once-delivered_a config log h sys c terms m width is known is.beside))
-    moves channel.B terms (x ∷ queue) known beats moving = down channel.B terms x queue refl known beats moving
-    moves channel.C terms (x ∷ queue) known beats moving = up channel.C terms x queue refl known beats moving
-        (once-followed_c config log h sys c x queue m width is beats is.beside)
-    moves channel.D terms (x ∷ queue) known beats moving = down channel.D terms x queue refl known beats moving
-    moves channel.E terms (x ∷ queue) known beats moving = up channel.E terms x queue refl known beats moving
-        (inl (acked x (first-of config log h c terms channel.E x queue width is known beats).on))
-      where
-        acked : (y : Beat w) → channel_of y ≡ channel.E → accesses_answered (reaction config link y sys.manager).handed
-            ≡ []
-        acked (beat.E y) e = ack-none config link (beat.E y) sys y refl
-        acked (beat.A y) e = absurd cc
-        acked (beat.B y) e = absurd cc
-        acked (beat.C y) e = absurd cc
-        acked (beat.D y) e = absurd cc
+        (once-delivered_a h c terms width is known is.beside))
+    moves Channel.B terms (x ∷ queue) known beats moving = down Channel.B terms x queue refl known beats moving
+    moves Channel.C terms (x ∷ queue) known beats moving = up Channel.C terms x queue refl known beats moving
+        (once-followed_c h c x queue width is beats is.beside)
+    moves Channel.D terms (x ∷ queue) known beats moving = down Channel.D terms x queue refl known beats moving
+    moves Channel.E terms (x ∷ queue) known beats moving =
+        let acked : (y : Beat w) → channel_of y ≡ Channel.E
+        → accesses_answered (reaction config link y sys.manager).handed ≡ [] =
+        elim [ Beat.E y ↦ λ e. ack-none config link (Beat.E y) sys y refl | y ↦ λ e. absurd cc ] in
+        up Channel.E terms x queue refl known beats moving
+        (inl (acked x (first-of config log h c terms Channel.E x queue width is known beats).on))
 
     found : (o : Option EndConfig) → terms_at config c ≡ o
         → is_moving (stepped config (Deliver link ch) sys).outcome ≡ true → Then ch
@@ -178,7 +154,7 @@ answering-delivered {w} config log link ch h width is = go (is_moving (stepped c
     go true moving = found (terms_at config c) refl moving
     go false still = inl (still-none config link ch sys still)
 
-pub performs-delivered : {w : ℕ} (config : Config) (log : Log w) (link : Link) (ch : Channel) (h : AbstractState w)
+pub performs-delivered : {w : ℕ} {config : Config} {log : Log w} (link : Link) (ch : Channel) (h : AbstractState w)
     → IsWidth w → SimulationRelation config log h.mail h.request h.state (system_after config log)
     → Performs (accesses_answered (stepped config (Deliver link ch) (system_after config log)).handed)
     (moved (Deliver link ch) (stepped config (Deliver link ch) (system_after config log)).outcome
@@ -186,7 +162,7 @@ pub performs-delivered : {w : ℕ} (config : Config) (log : Log w) (link : Link)
     (one_memory_after config ((Deliver link ch, (stepped config (Deliver link ch) (system_after config log)).outcome)
     ∷ log))
 unfolding one_memory_after
-performs-delivered config log link ch h width is =
+performs-delivered {config} {log} link ch h width is =
     performs-answering (accesses_answered (stepped config (Deliver link ch) (system_after config log)).handed) h
     (one_memory_after config log)
     (moved (Deliver link ch) (stepped config (Deliver link ch) (system_after config log)).outcome

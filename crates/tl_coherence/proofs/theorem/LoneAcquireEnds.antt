@@ -3,75 +3,57 @@ use Rattle.tl_coherence.proofs.theorem.Imports.{Link, Channel, Config, Grow, Per
 use Rattle.tl_coherence.proofs.theorem.Imports.{system_after, AcquirePhase, AcquireOpen, SourceState, is_caching}
 use Rattle.std.proofs.Common.{◌≡◌, subst, ℕ, zero, suc, Bool, true, false, List, ◌∷◌, Option, Some, None, refl, sym}
 use Rattle.std.proofs.Common.{◌∙◌, ap}
-use Rattle.tl_params.specs.declared.perm.Perm.TheVariants as perm
 use Rattle.tl_params.specs.declared.profile.Profile.{Profile}
-use Rattle.tl_params.specs.declared.profile.Profile.TheVariants as profile
-use Rattle.tl_client.specs.declared.operation.Op.{Op}
-use Rattle.tl_client.specs.declared.operation.Op.TheVariants.{Acquire, AcquireWhole}
-use Rattle.tl_client.specs.declared.reply.Reply.TheVariants.{Started}
-use Rattle.tl_client.specs.statement.Ask.{whole_grow}
-use Rattle.tl_client.specs.statement.Endpoint.{held_at}
+use Rattle.tl_client.{specs.declared.operation.Op.Op, specs.declared.reply.Reply.TheVariants.Started}
+use Rattle.tl_client.{specs.statement.Ask.whole_grow, specs.statement.Endpoint.held_at}
 use Rattle.tl_rules.specs.statement.Conformance.{same_perm}
-use Rattle.tl_coherence.specs.declared.event.Event.TheVariants.{Ask}
-use Rattle.tl_coherence.specs.declared.event.Outcome.{Outcome}
-use Rattle.tl_coherence.specs.declared.event.Outcome.TheVariants.{Replied}
+use Rattle.tl_coherence.specs.{declared.event.Event.TheVariants.Ask, declared.event.Outcome.Outcome}
+use Rattle.tl_coherence.specs.{declared.event.Outcome.TheVariants.Replied, statement.Headline.IsGiven}
+use Rattle.tl_coherence.specs.{statement.Load.outstanding, statement.Log.IsLog, protocol.Phase.ClientBlock}
+use Rattle.tl_coherence.specs.{protocol.PhaseSteps.after_acquire}
 use Rattle.tl_coherence.specs.statement.Draining.{LoneAcquire, LoneAcquireWhole, IsDrained, grown_to}
 use Rattle.tl_coherence.specs.refinement.AbstractStep.{asked, abstract_step, abstract_step_by}
-use Rattle.tl_coherence.specs.statement.Headline.{IsGiven}
-use Rattle.tl_coherence.specs.statement.Load.{outstanding}
-use Rattle.tl_coherence.specs.statement.Log.{IsLog}
 use Rattle.tl_coherence.specs.statement.Movable.{next_delivery, drained, with_delivery}
-use Rattle.tl_coherence.specs.protocol.Phase.{ClientBlock}
-use Rattle.tl_coherence.specs.protocol.PhaseSteps.{after_acquire}
 use Rattle.tl_coherence.specs.protocol.Protocol.{Block, State, SourceFree, Acquires, acquire_asked, acquiring_block}
-use Rattle.tl_coherence.proofs.memory.Beside.{set_at-there}
-use Rattle.tl_coherence.proofs.outstanding.Counted.{outstanding-open}
+use Rattle.tl_coherence.proofs.{memory.Beside.set_at-there, outstanding.Counted.outstanding-open}
+use Rattle.tl_coherence.proofs.{links.FromInvariant.matched-given, deliveries.Matching.shadow}
+use Rattle.tl_coherence.proofs.{outstanding.Movement.closed-when-counted, outstanding.Progress.counted}
+use Rattle.tl_coherence.proofs.{manager.UnwaitedRequests.next_tracker, bound.Settling.given-before}
+use Rattle.tl_coherence.proofs.{bound.Settling.given-delivering, protocol.QuiescentProtocol.IsClosed}
+use Rattle.tl_coherence.proofs.{queues.Tokens.set-same, queues.Tokens.set_at-same}
 use Rattle.tl_coherence.proofs.simulation.FollowCases.{delivered-cases, on-first}
-use Rattle.tl_coherence.proofs.links.FromInvariant.{matched-given}
 use Rattle.tl_coherence.proofs.theorem.LoneAcquireSteps.{Brings, IsLone, grown, lone-kind_taken}
-use Rattle.tl_coherence.proofs.deliveries.Matching.{shadow}
-use Rattle.tl_coherence.proofs.outstanding.Movement.{closed-when-counted}
-use Rattle.tl_coherence.proofs.outstanding.Progress.{counted}
-use Rattle.tl_coherence.proofs.manager.UnwaitedRequests.{next_tracker}
-use Rattle.tl_coherence.proofs.bound.Settling.{given-before, given-delivering}
-use Rattle.tl_coherence.proofs.protocol.QuiescentProtocol.{IsClosed}
-use Rattle.tl_coherence.proofs.queues.Tokens.{set-same, set_at-same}
 
 -- ---- logs
 
-given_delivering : {w : ℕ} (config : Config) (o : Option (Link × Channel)) (log : Log w) → IsGiven config log
+given_delivering : {w : ℕ} {config : Config} (o : Option (Link × Channel)) {log : Log w} → IsGiven config log
     → IsGiven config (with_delivery config o log)
-given_delivering config None log given = given
-given_delivering config (Some d) log given = given-delivering config d.0 d.1 log given
+given_delivering None given = given
+given_delivering {config} (Some d) {log} given = given-delivering config d.0 d.1 log given
 
 -- nothing is open where nothing is outstanding
-nothing_open : {w : ℕ} (config : Config) (log : Log w) → IsGiven config log → outstanding log ≡ 0
+nothing_open : {w : ℕ} {config : Config} {log : Log w} → IsGiven config log → outstanding log ≡ 0
     → IsClosed (shadow config log).state
-nothing_open config log given none =
-    closed-when-counted config log (shadow config log).mail (shadow config log).request (shadow config log).state
-    (matched-given config log given) given.width
-    (sym (outstanding-open config log (shadow config log).state
-    (counted config log given.width given.typed given.is_log)) ∙ none)
+nothing_open {config} {log} given none = closed-when-counted config log (shadow config log).mail
+    (shadow config log).request (shadow config log).state (matched-given config log given) given.width
+    (sym (outstanding-open (counted config log given.width given.typed given.is_log)) ∙ none)
 
 -- ---- as it starts
 
-lone_asked : (p : Profile) (c n source : ℕ) (whole : Bool) (g : Grow) (bytes : List ℕ) (s : State (List ℕ)) → IsClosed s
+lone_asked : (p : Profile) (c n source : ℕ) (whole : Bool) (g : Grow) (bytes : List ℕ) {s : State (List ℕ)} → IsClosed s
     → IsLone p c n source (AcquireOpen whole g) (acquire_asked c n source whole g bytes s)
-lone_asked p c n source whole g bytes s closed = record {
-  others = λ d i else_. set_at-there c source (Acquires n) s.uses d i else_ ∙ closed.uses d i;
-  brings = wanting (s'.uses c source) ((s'.block n).pair c) (set_at-same c source (Acquires n) s.uses)
-      (ap (λ (b : Block (List ℕ)). (b.pair c).acquiring)
-      (set-same n (acquiring_block c source whole g bytes (s.block n)) s.block)
-      ∙ ap (λ (x : ClientBlock). x.acquiring) (set-same c (after_acquire whole g ((s.block n).pair c))
-      (s.block n).pair));
-}
-  where
-    s' : State (List ℕ)
-    s' = acquire_asked c n source whole g bytes s
-
-    wanting : (u : SourceState) (x : ClientBlock) → u ≡ Acquires n → x.acquiring ≡ AcquireOpen whole g
-        → Brings p n (AcquireOpen whole g) u x
-    wanting u x e f = rw e (refl, f)
+lone_asked p c n source whole g bytes {s} closed =
+    let s' : State (List ℕ) = acquire_asked c n source whole g bytes s in
+    let wanting : (u : SourceState) (x : ClientBlock) → u ≡ Acquires n → x.acquiring ≡ AcquireOpen whole g
+    → Brings p n (AcquireOpen whole g) u x = λ u x e f. rw e (refl, f) in
+    record {
+      others = λ d i else_. set_at-there (Acquires n) s.uses else_ ∙ closed.uses d i;
+      brings = wanting (s'.uses c source) ((s'.block n).pair c) (set_at-same c source (Acquires n) s.uses)
+          (ap (λ (b : Block (List ℕ)). (b.pair c).acquiring)
+          (set-same n (acquiring_block c source whole g bytes (s.block n)) s.block)
+          ∙ ap (λ (x : ClientBlock). x.acquiring) (set-same c (after_acquire whole g ((s.block n).pair c))
+          (s.block n).pair));
+    }
 
 -- what is asked for wants this, and is alone
 record Begins {w : ℕ} (config : Config) (log : Log w) (c n source : ℕ) (op : Op w) (a : AcquirePhase) : Type 0 where
@@ -80,79 +62,74 @@ record Begins {w : ℕ} (config : Config) (log : Log w) (c n source : ℕ) (op :
   begins : IsClosed (shadow config log).state
       → IsLone config.profile c n source a (asked c op (Started source) (shadow config log)).state
 
-lone_started : {w : ℕ} (config : Config) (log : Log w) (c n source : ℕ) (op : Op w) (a : AcquirePhase)
+lone_started : {w : ℕ} {config : Config} {log : Log w} {c n source : ℕ} {op : Op w} {a : AcquirePhase}
     → Begins config log c n source op a
     → IsLone config.profile c n source a (shadow config ((Ask c op, Replied (Started source)) ∷ log)).state
 unfolding shadow IsLog
-lone_started {w} config log c n source op a is =
-    subst (λ (o : Outcome w). IsLone config.profile c n source a
-    (abstract_step_by config (Ask c op) o (system_after config log) (shadow config log)).state) is.given.is_log.0
-    (is.begins (nothing_open config log (given-before config (Ask c op, Replied (Started source)) log is.given)
-    is.alone))
+lone_started {w} {config} {log} {c} {n} {source} {op} {a} is =
+    rw (← is.given.is_log.0)
+    (is.begins (nothing_open (given-before config (Ask c op, Replied (Started source)) log is.given) is.alone))
 
 -- ---- as it is drained
 
-lone_delivered : {w : ℕ} (config : Config) (log : Log w) (c n source : ℕ) (a : AcquirePhase) (link : Link)
+lone_delivered : {w : ℕ} {config : Config} {log : Log w} {c n source : ℕ} {a : AcquirePhase} (link : Link)
     (ch : Channel) → IsGiven config log → IsLone config.profile c n source a (shadow config log).state
     → IsLone config.profile c n source a (abstract_step config (Deliver link ch) (system_after config log)
     (shadow config log)).state
-lone_delivered {w} config log c n source a link ch given is =
+lone_delivered {w} {config} {log} {c} {n} {source} {a} link ch given is =
     let h : AbstractState w = shadow config log in
     let matched = matched-given config log given in
-    delivered-cases config log h.mail h.request h.state (system_after config log) link ch
+    delivered-cases link ch
     (λ (i : AbstractState w). IsLone config.profile c n source a i.state) given.width matched is
     (λ x queue d.
     lone-kind_taken config.profile c n source a (is_caching config) config
     (next_tracker (system_after config log)) link.0 d.first.kind d.first.number d.first.rest h matched.invariant
     matched.given
-    (on-first config h.mail h.state (system_after config log) link ch x queue d) is)
+    (on-first d) is)
 
-lone_next : {w : ℕ} (config : Config) (log : Log w) (c n source : ℕ) (a : AcquirePhase) (o : Option (Link × Channel))
+lone_next : {w : ℕ} {config : Config} {log : Log w} {c n source : ℕ} {a : AcquirePhase} (o : Option (Link × Channel))
     → IsGiven config log → IsLone config.profile c n source a (shadow config log).state
     → IsLone config.profile c n source a (shadow config (with_delivery config o log)).state
 unfolding shadow
-lone_next config log c n source a None given is = is
-lone_next config log c n source a (Some d) given is = lone_delivered config log c n source a d.0 d.1 given is
+lone_next None given is = is
+lone_next {config} {log} {c} {n} {source} {a} (Some d) given is = lone_delivered d.0 d.1 given is
 
 -- what holds after n deliveries, each the next one
 record IsLoneAfter {w : ℕ} (config : Config) (log : Log w) (c n source : ℕ) (a : AcquirePhase) : Type 0 where
   given : IsGiven config log
   lone : IsLone config.profile c n source a (shadow config log).state
 
-lone_drained : {w : ℕ} (config : Config) (k : ℕ) (log : Log w) (c n source : ℕ) (a : AcquirePhase)
+lone_drained : {w : ℕ} {config : Config} (k : ℕ) {log : Log w} {c n source : ℕ} {a : AcquirePhase}
     → IsLoneAfter config log c n source a → IsLoneAfter config (drained config k log) c n source a
 unfolding drained
-lone_drained config zero log c n source a is = is
-lone_drained config (suc k) log c n source a is =
+lone_drained zero is = is
+lone_drained {config} (suc k) {log} {c} {n} {source} {a} is =
     let o = next_delivery config (system_after config log) in
-    lone_drained config k (with_delivery config o log) c n source a
+    lone_drained k
     (record {
-      given = given_delivering config o log is.given;
-      lone =
-          lone_next config log c n source a o is.given is.lone;
+      given = given_delivering o is.given;
+      lone = lone_next o is.given is.lone;
     })
 
 -- ---- what it has brought
 
 brought : (p : Profile) (n : ℕ) (a : AcquirePhase) (u : SourceState) (x : ClientBlock) → u ≡ SourceFree
     → Brings p n a u x → grown p a x.held ≡ true
-brought p n a u x e is = go (rw e at is)
-  where
-    go : Brings p n a SourceFree x → grown p a x.held ≡ true
-    go i = i
+brought p n a u x e is =
+    let go : Brings p n a SourceFree x → grown p a x.held ≡ true = λ i. i in
+    go (rw e at is)
 
-alone-drained : {w : ℕ} (config : Config) (log : Log w) (c block source n : ℕ) (op : Op w) (a : AcquirePhase)
-    → Begins config log c block source op a
-    → IsDrained config ((Ask c op, Replied (Started source)) ∷ log) n
+alone-drained : {w : ℕ} {config : Config} {log : Log w} {c block source n : ℕ} {op : Op w} {a : AcquirePhase}
+    → Begins config log c block source op a → IsDrained config ((Ask c op, Replied (Started source)) ∷ log) n
     → grown config.profile a
-    (held_at ((system_after config (drained config n ((Ask c op, Replied (Started source)) ∷ log))).clients c)
-    block) ≡ true
-alone-drained {w} config log c block source n op a is drains =
+    (held_at ((system_after config (drained config n ((Ask c op, Replied (Started source)) ∷ log))).clients c) block)
+    ≡ true
+alone-drained {w} {config} {log} {c} {block} {source} {n} {op} {a} is drains =
     let start : Log w = (Ask c op, Replied (Started source)) ∷ log in
     let end : Log w = drained config n start in
-    let lone = lone_drained config n start c block source a
-    (record { given = is.given; lone = lone_started config log c block source op a is }) in
-    let closed = nothing_open config end lone.given drains.nothing_left in
+    let lone = lone_drained n
+    (record { given = is.given; lone = lone_started is }) in
+    let closed = nothing_open lone.given drains.nothing_left in
     ap (grown config.profile a) (((matched-given config end lone.given).known c).held_is block)
     ∙ brought config.profile block a ((shadow config end).state.uses c source)
     (((shadow config end).state.block block).pair c)
@@ -161,36 +138,34 @@ alone-drained {w} config log c block source n op a is drains =
 pub alone : {w : ℕ} → LoneAcquire w
 alone config log client block source n grow none given drains =
     let s = (shadow config log).state in
-    alone-drained config log client block source n (Acquire block grow) (AcquireOpen false grow)
+    alone-drained
     (record {
       given = given;
       alone = none;
       begins = λ closed. lone_asked config.profile client block source false grow
-          ((s.block block).waiting client) s closed;
+          ((s.block block).waiting client) closed;
     }) drains
 
-is_trunk : (held : Perm) → same_perm perm.Trunk held ≡ true → held ≡ perm.Trunk
-is_trunk perm.Trunk e = refl
-is_trunk perm.Branch e = absurd cc
-is_trunk perm.None e = absurd cc
+is_trunk : (held : Perm) → same_perm Perm.Trunk held ≡ true → held ≡ Perm.Trunk
+is_trunk Perm.Trunk e = refl
+is_trunk held e = absurd cc
 
-whole-brings : (p : Profile) (before held : Perm) → grown_to p (whole_grow before) held ≡ true → held ≡ perm.Trunk
-whole-brings profile.One perm.None held e = is_trunk held e
-whole-brings profile.One perm.Branch held e = is_trunk held e
-whole-brings profile.One perm.Trunk held e = is_trunk held e
-whole-brings profile.Two perm.None held e = is_trunk held e
-whole-brings profile.Two perm.Branch held e = is_trunk held e
-whole-brings profile.Two perm.Trunk held e = is_trunk held e
+whole-brings : (p : Profile) (before held : Perm) → grown_to p (whole_grow before) held ≡ true → held ≡ Perm.Trunk
+whole-brings Profile.One Perm.None held e = is_trunk held e
+whole-brings Profile.One Perm.Branch held e = is_trunk held e
+whole-brings Profile.One Perm.Trunk held e = is_trunk held e
+whole-brings Profile.Two Perm.None held e = is_trunk held e
+whole-brings Profile.Two Perm.Branch held e = is_trunk held e
+whole-brings Profile.Two Perm.Trunk held e = is_trunk held e
 
 pub alone_whole : {w : ℕ} → LoneAcquireWhole w
 alone_whole config log client block source n bytes none given drains =
     let s = (shadow config log).state in
     let before : Perm = ((s.block block).pair client).held in
     whole-brings config.profile before _
-    (alone-drained config log client block source n (AcquireWhole block bytes) (AcquireOpen true (whole_grow before))
+    (alone-drained
     (record {
       given = given;
       alone = none;
-      begins = λ closed. lone_asked config.profile client block source true
-          (whole_grow before) bytes s closed;
+      begins = λ closed. lone_asked config.profile client block source true (whole_grow before) bytes closed;
     }) drains)

@@ -7,16 +7,12 @@ use Rattle.std.proofs.Common.{◌≡◌, subst, ℕ, Bool, true, false, List, �
 use Rattle.std.proofs.Common.{length}
 use Rattle.std.specs.Prelude.{if◌then◌else◌, not, ◌==◌, ◌&&◌, ◌||◌}
 use Rattle.std.proofs.lemmas.Bool.{cases_eq}
-use Rattle.tl_params.specs.declared.param.Cap.{Cap}
-use Rattle.tl_params.specs.declared.param.Cap.TheVariants as cap
-use Rattle.tl_params.specs.declared.param.Grow.TheVariants as grow
-use Rattle.tl_params.specs.declared.param.Report.{Report}
-use Rattle.tl_params.specs.declared.perm.Perm.TheVariants as perm
-use Rattle.tl_params.specs.declared.profile.Profile.{Profile}
-use Rattle.tl_params.specs.declared.profile.Profile.TheVariants as profile
-use Rattle.tl_params.specs.statement.Param.{cap_right}
+use Rattle.tl_params.{specs.declared.param.Cap.Cap, specs.declared.param.Report.Report}
+use Rattle.tl_params.{specs.declared.profile.Profile.Profile, specs.statement.Param.cap_right}
 use Rattle.tl_rules.specs.statement.Conformance.{same_perm}
-use Rattle.tl_coherence.specs.statement.Draining.{grown_to}
+use Rattle.tl_coherence.specs.{statement.Draining.grown_to, protocol.Tokens.shown, protocol.Tokens.is_sent}
+use Rattle.tl_coherence.specs.{refinement.PacketMessages.report_told, protocol.Packet.Packet, protocol.Packet.set}
+use Rattle.tl_coherence.specs.{protocol.Packet.set_at}
 use Rattle.tl_coherence.specs.refinement.AbstractStep.{acquire_taken, gift, granted_after, is_unheld, kind_taken}
 use Rattle.tl_coherence.specs.refinement.AbstractStep.{last_taken, some_below, taken_by_client, with_state}
 use Rattle.tl_coherence.specs.protocol.Invariant.{IsInvariant, cap_asked, is_replied}
@@ -24,28 +20,19 @@ use Rattle.tl_coherence.specs.protocol.Phase.{ClientBlock, Own, Other, NoAcquire
 use Rattle.tl_coherence.specs.protocol.PhaseSteps.{after_grant_sent, after_probe, after_report, is_granted_data}
 use Rattle.tl_coherence.specs.protocol.Protocol.{Service, Free, Waits, GrantSent, GrantTaken, Block, State, SourceFree}
 use Rattle.tl_coherence.specs.protocol.Protocol.{Asked, InService, Replied, Acquires, view, on, is_probed}
-use Rattle.tl_coherence.specs.protocol.Tokens.{shown, is_sent}
-use Rattle.tl_coherence.specs.protocol.Protocol.{acquire_granted, acquire_served, granted_at_once}
-use Rattle.tl_coherence.specs.protocol.Protocol.{granted_pair, probe_taken, report_taken, reported_block, served_block}
-use Rattle.tl_coherence.specs.protocol.Protocol.{served_pair}
-use Rattle.tl_coherence.specs.refinement.PacketMessages.{report_told}
-use Rattle.tl_coherence.specs.protocol.Packet.{Packet, set, set_at}
+use Rattle.tl_coherence.specs.protocol.Protocol.{acquire_granted, acquire_served, granted_at_once, granted_pair}
+use Rattle.tl_coherence.specs.protocol.Protocol.{probe_taken, report_taken, reported_block, served_block, served_pair}
 use Rattle.tl_coherence.specs.refinement.SimulationRelation.{IsGivenAsked, gives_asked}
-use Rattle.tl_coherence.proofs.memory.Beside.{IsElsewhere, place-cases}
-use Rattle.tl_coherence.proofs.protocol.TokenNames.{source_of_acquire}
-use Rattle.tl_coherence.proofs.client.ClientEnd.{is_access}
-use Rattle.tl_coherence.proofs.protocol.HeadOfD.{IsGrantDue, grant-due}
-use Rattle.tl_coherence.proofs.client.GrantMatchesAcquire.{AreGiven}
-use Rattle.tl_coherence.proofs.links.Granting.{held_granted}
-use Rattle.tl_coherence.proofs.manager.ManagerAfter.{others_probed}
-use Rattle.tl_coherence.proofs.queues.Phases.{and_left, and_right}
-use Rattle.tl_coherence.proofs.simulation.Sized.{each-set_at}
-use Rattle.tl_coherence.proofs.simulation.SourcedAfter.{first-asked}
+use Rattle.tl_coherence.proofs.{memory.Beside.IsElsewhere, memory.Beside.place-cases}
+use Rattle.tl_coherence.proofs.{protocol.TokenNames.source_of_acquire, client.ClientEnd.is_access}
+use Rattle.tl_coherence.proofs.{protocol.HeadOfD.IsGrantDue, protocol.HeadOfD.grant-due}
+use Rattle.tl_coherence.proofs.{client.GrantMatchesAcquire.AreGiven, links.Granting.held_granted}
+use Rattle.tl_coherence.proofs.{manager.ManagerAfter.others_probed, queues.Phases.and_left, queues.Phases.and_right}
+use Rattle.tl_coherence.proofs.{simulation.Sized.each-set_at, simulation.SourcedAfter.first-asked}
+use Rattle.tl_coherence.proofs.{rank.RankParts.serving-use, queues.Facts.is_other}
 use Rattle.tl_coherence.proofs.protocol.QuiescentProtocol.{owns_ask, serves_another}
 use Rattle.tl_coherence.proofs.queues.Tokens.{same_number, set-each, set-other, set-same, holds-first, set_at-same}
 use Rattle.tl_coherence.proofs.protocol.BothParts.{is_replied-is, not-sent, taken-unseen, granted-unseen}
-use Rattle.tl_coherence.proofs.rank.RankParts.{serving-use}
-use Rattle.tl_coherence.proofs.queues.Facts.{is_other}
 
 -- what may be held by one who wanted this, and of whom nothing else was asked
 abbrev pub grown : Profile → AcquirePhase → Perm → Bool
@@ -56,9 +43,7 @@ grown p (AcquireOpen whole g) held = grown_to p g held
 abbrev pub Brings : Profile → ℕ → AcquirePhase → SourceState → ClientBlock → Type 0
 Brings p n a SourceFree x = grown p a x.held ≡ true
 Brings p n a (Acquires m) x = (m ≡ n) × (x.acquiring ≡ a)
-Brings p n a Asked x = ⊥
-Brings p n a (InService m) x = ⊥
-Brings p n a Replied x = ⊥
+Brings p n a _ x = ⊥
 
 -- client c's Acquire of block n with this source is alone: no other source is in use
 pub record IsLone (p : Profile) (c n source : ℕ) (a : AcquirePhase) (s : State (List ℕ)) : Type 0 where
@@ -74,9 +59,7 @@ brings_steady : (p : Profile) (n : ℕ) (a : AcquirePhase) (u v : SourceState) (
     → Brings p n a u x → Brings p n a v y
 brings_steady p n a SourceFree v x y e same is = rw e (ap (grown p a) same.0 ∙ is)
 brings_steady p n a (Acquires m) v x y e same is = rw e (is.0, same.1 ∙ is.1)
-brings_steady p n a Asked v x y e same is = absurd is
-brings_steady p n a (InService m) v x y e same is = absurd is
-brings_steady p n a Replied v x y e same is = absurd is
+brings_steady p n a u v x y e same is = absurd is
 
 steady_at : (m : ℕ) (b : Block (List ℕ)) (block : ℕ → Block (List ℕ)) (i d : ℕ)
     → (i ≡ m → IsSteady ((block m).pair d) (b.pair d)) → IsSteady ((block i).pair d) ((set m b block i).pair d)
@@ -94,8 +77,7 @@ steady_served : (r : ℕ) (own : Bool) (k : Cap) (pair : ℕ → ClientBlock) (d
 steady_served r own k pair d = go (own && (d == r))
   where
     go : (b : Bool) → IsSteady (pair d) (if b then pair d else record (pair d) {
-      probing =
-          (served_pair r false k pair d).probing;
+      probing = (served_pair r false k pair d).probing;
     })
     go true = (refl, refl)
     go false = (refl, refl)
@@ -113,33 +95,21 @@ steady_granted d q r k pair j =
 
 grows : (p : Profile) (whole : Bool) (g : Grow) (k : Cap) → cap_fits whole g k ≡ true
     → gives_asked p (AcquireOpen whole g) k ≡ true → grown_to p g (cap_right k) ≡ true
-grows profile.One false grow.NtoB cap.ToB e f = refl
-grows profile.One false grow.NtoB cap.ToT e f = absurd cc
-grows profile.Two false grow.NtoB cap.ToB e f = refl
-grows profile.Two false grow.NtoB cap.ToT e f = refl
-grows profile.One whole grow.NtoT cap.ToT e f = refl
-grows profile.Two whole grow.NtoT cap.ToT e f = refl
-grows profile.One whole grow.BtoT cap.ToT e f = refl
-grows profile.Two whole grow.BtoT cap.ToT e f = refl
-grows p false grow.NtoB cap.ToN e f = absurd cc
-grows p true grow.NtoB cap.ToN e f = absurd cc
-grows p true grow.NtoB cap.ToB e f = absurd cc
-grows p true grow.NtoB cap.ToT e f = absurd cc
-grows p false grow.NtoT cap.ToB e f = absurd cc
-grows p true grow.NtoT cap.ToB e f = absurd cc
-grows p false grow.NtoT cap.ToN e f = absurd cc
-grows p true grow.NtoT cap.ToN e f = absurd cc
-grows p false grow.BtoT cap.ToB e f = absurd cc
-grows p true grow.BtoT cap.ToB e f = absurd cc
-grows p false grow.BtoT cap.ToN e f = absurd cc
-grows p true grow.BtoT cap.ToN e f = absurd cc
+grows Profile.One false Grow.NtoB Cap.ToB e f = refl
+grows Profile.Two false Grow.NtoB Cap.ToB e f = refl
+grows Profile.Two false Grow.NtoB Cap.ToT e f = refl
+grows Profile.One whole Grow.NtoT Cap.ToT e f = refl
+grows Profile.Two whole Grow.NtoT Cap.ToT e f = refl
+grows Profile.One whole Grow.BtoT Cap.ToT e f = refl
+grows Profile.Two whole Grow.BtoT Cap.ToT e f = refl
+grows p whole g k e f = absurd cc
 
 fits_cap : (recorded held : Perm) (d : Bool) (k : Cap) (whole : Bool) (g : Grow)
     → grant_fits recorded held d k (AcquireOpen whole g) ≡ true → cap_fits whole g k ≡ true
 fits_cap recorded held d k whole g f =
-    and_left (cap_fits whole g k) (not (whole && d) && (whole || (d || same_perm held perm.Branch)))
+    and_left (cap_fits whole g k) (not (whole && d) && (whole || (d || same_perm held Perm.Branch)))
     (and_right (same_perm recorded (cap_right k))
-    (cap_fits whole g k && (not (whole && d) && (whole || (d || same_perm held perm.Branch)))) f)
+    (cap_fits whole g k && (not (whole && d) && (whole || (d || same_perm held Perm.Branch)))) f)
 
 brings_granted : (p : Profile) (n : ℕ) (a : AcquirePhase) (u : SourceState) (x : ClientBlock) (q : Perm)
     → u ≡ SourceFree → x.held ≡ q → grown p a q ≡ true → Brings p n a u x
@@ -169,9 +139,7 @@ module _ (p : Profile) (c n source : ℕ) (a : AcquirePhase) where
           → (s.uses d i ≡ SourceFree) ⊎ IsOwn s d i
       go SourceFree e b x y = inl (ap₂ s.uses x y ∙ e)
       go (Acquires m) e b x y = inr (x, y, ap₂ s.uses x y ∙ e ∙ ap Acquires b.0, b.1)
-      go Asked e b x y = absurd b
-      go (InService m) e b x y = absurd b
-      go Replied e b x y = absurd b
+      go u e b x y = absurd b
 
   no_access : (s : State (List ℕ)) (d i : ℕ) (u : SourceState) → IsLone p c n source a s → s.uses d i ≡ u
       → is_access u ≡ true → ⊥
@@ -182,13 +150,12 @@ module _ (p : Profile) (c n source : ℕ) (a : AcquirePhase) where
 
   own_acquire : (s : State (List ℕ)) (d i m : ℕ) → IsLone p c n source a s → s.uses d i ≡ Acquires m
       → IsOwn s d i × (m ≡ n)
-  own_acquire s d i m is e = elim (lone_use s is d i) [
-    | inl none ↦ absurd (let no : SourceFree ≡ Acquires m = sym none ∙ e in cc)
-    | inr own ↦ (own, same m (sym e ∙ own.2))
-  ]
-    where
-      same : (k : ℕ) → Acquires k ≡ Acquires n → k ≡ n
-      same k f = cc
+  own_acquire s d i m is e =
+      let same : (k : ℕ) → Acquires k ≡ Acquires n → k ≡ n = λ k f. cc in
+      elim (lone_use s is d i) [
+        | inl none ↦ absurd (let no : SourceFree ≡ Acquires m = sym none ∙ e in cc)
+        | inr own ↦ (own, same m (sym e ∙ own.2))
+      ]
 
   -- its client isn't probed
   unprobed : (caching : ℕ → Bool) (s : State (List ℕ)) → IsInvariant caching s → IsLone p c n source a s
@@ -203,15 +170,13 @@ module _ (p : Profile) (c n source : ℕ) (a : AcquirePhase) where
       go (GrantTaken q) e other = taken-unseen (c == q) other
       go (Waits r false i k) e other = no_access s r i (InService n) is (serving-use caching s n r i k inv e) refl
       go (Waits r true i k) e other =
+          let never : (b : Bool) → b ≡ true → is_other (if b then Own else Other k) ≡ true → ⊥ =
+          elim [ true ↦ λ e f. absurd cc | false ↦ λ e f. absurd cc ] in
           let own : view (s.block n).service r ≡ Own = rw (e, same_number r) refl in
           let wants = owns_ask ((s.block n).pair r) (view (s.block n).service r) ((inv.blocks n).phases r) (rw own refl)
           in
-          let mine = own_acquire s r ((s.block n).source r) n is (source_of_acquire caching s r n inv wants) in
+          let mine = own_acquire s r ((s.block n).source r) n is (source_of_acquire r n inv wants) in
           never (c == r) (ap (λ (j : ℕ). c == j) mine.0.0 ∙ same_number c) other
-        where
-          never : (b : Bool) → b ≡ true → is_other (if b then Own else Other k) ≡ true → ⊥
-          never true e f = absurd cc
-          never false e f = absurd cc
 
   -- ---- messages that are taken
 
@@ -222,16 +187,14 @@ module _ (p : Profile) (c n source : ℕ) (a : AcquirePhase) where
 
   lone_served : (d m i tracker : ℕ) (k : Cap) (rest : List Packet) (s : State (List ℕ)) → IsLone p c n source a s
       → IsLone p c n source a (acquire_served d m i tracker k rest s)
-  lone_served d m i tracker k rest s is =
-      lone_steady s (acquire_served d m i tracker k rest s) (λ e j. refl)
+  lone_served d m i tracker k rest s is = lone_steady s (acquire_served d m i tracker k rest s) (λ e j. refl)
       (steady_at m (served_block d true i tracker k (s.block m)) s.block n c
       (λ here. steady_served d true k (s.block m).pair c)) is
 
   lone_sent : (d m tracker : ℕ) (data_too : Bool) (k : Cap) (rest : List Packet) (s : State (List ℕ))
       → IsLone p c n source a s → IsLone p c n source a (acquire_granted d m tracker data_too k rest s)
-  lone_sent d m tracker data_too k rest s is =
-      lone_steady s (acquire_granted d m tracker data_too k rest s) (λ e j. refl)
-      (steady_at m (granted_at_once d tracker data_too k (s.block m)) s.block n c
+  lone_sent d m tracker data_too k rest s is = lone_steady s (acquire_granted d m tracker data_too k rest s)
+      (λ e j. refl) (steady_at m (granted_at_once d tracker data_too k (s.block m)) s.block n c
       (λ here. steady_pair d (after_grant_sent k ((s.block m).pair d)) (s.block m).pair (refl, refl) c)) is
 
   lone_acquire : {w : ℕ} (clients : ℕ) (profile : Profile) (d m : ℕ) (x : AcquirePhase) (tracker : ℕ)
@@ -249,11 +212,9 @@ module _ (p : Profile) (c n source : ℕ) (a : AcquirePhase) where
       (lone_served d m (b.source d) tracker k rest h.state is) (lone_sent d m tracker data_too given rest h.state is)
 
   lone_probe : (caching : ℕ → Bool) (d m : ℕ) (k : Cap) (rest : List Packet) (s : State (List ℕ))
-      → IsInvariant caching s
-      → is_sent ((s.block m).pair d).probing ≡ true → IsLone p c n source a s
+      → IsInvariant caching s → is_sent ((s.block m).pair d).probing ≡ true → IsLone p c n source a s
       → IsLone p c n source a (probe_taken d m k rest s)
-  lone_probe caching d m k rest s inv sent is =
-      lone_steady s (probe_taken d m k rest s) (λ e i. refl)
+  lone_probe caching d m k rest s inv sent is = lone_steady s (probe_taken d m k rest s) (λ e i. refl)
       (steady_at m _ s.block n c (λ here. go here (cases_eq c d))) is
     where
       go : n ≡ m → (c ≡ d) ⊎ (c ≡ d → ⊥)
@@ -271,53 +232,44 @@ module _ (p : Profile) (c n source : ℕ) (a : AcquirePhase) where
       (steady_at m _ h.state.block n c (λ here. steady_granted d q r _ (h.state.block m).pair c)) is
 
   lone_last : {w : ℕ} (clients : ℕ) (profile : Profile) (d m : ℕ) (r : Report) (v : Service) (rest : List Packet)
-      (h : AbstractState w)
-      → ((q i : ℕ) (k : Cap) → v ≡ Waits q false i k → h.state.uses q i ≡ InService m) → IsLone p c n source a h.state
-      → IsLone p c n source a (last_taken clients profile d m r v rest h).state
-  lone_last clients profile d m r Free rest h used is = is
+      (h : AbstractState w) → ((q i : ℕ) (k : Cap) → v ≡ Waits q false i k → h.state.uses q i ≡ InService m)
+      → IsLone p c n source a h.state → IsLone p c n source a (last_taken clients profile d m r v rest h).state
   lone_last clients profile d m r (Waits q true i k) rest h used is =
       lone_granted clients profile d q m r ((h.state.block m).pair q).acquiring rest h is
   lone_last clients profile d m r (Waits q false i k) rest h used is =
       absurd (no_access h.state q i (InService m) is (used q i k refl) refl)
-  lone_last clients profile d m r (GrantSent q e k) rest h used is = is
-  lone_last clients profile d m r (GrantTaken q) rest h used is = is
+  lone_last clients profile d m r v rest h used is = is
 
   lone_grant : {w : ℕ} (config : Config) (tracker d m : ℕ) (rest : List Packet) (h : AbstractState w)
       → AreGiven p h.state → IsGrantDue d m h.state
       → IsLone p c n source a h.state → IsLone p c n source a (kind_taken config tracker d Grant m rest h).state
-  lone_grant {w} config tracker d m rest h given due is = record {
-    others = λ e i else_. uses_are e i ∙ each-set_at (λ j k (v : SourceState). IsElsewhere c source j k
-        → v ≡ SourceFree) d src SourceFree h.state.uses (λ any. refl) is.others e i else_;
-    brings = brings_granted p n a (after.uses c source) ((after.block n).pair c) (cap_right due.k)
-        (uses_are c source ∙ ap₂ (set_at d src SourceFree h.state.uses) (sym mine.0.0) (sym mine.0.1) ∙ set_at-same d
-        src SourceFree h.state.uses)
-        (ap₂ (λ (i j : ℕ). ((after.block i).pair j).held) (sym mine.1) (sym mine.0.0) ∙ held_granted config tracker d m
-        rest h due)
-        (subst (λ (x : AcquirePhase). grown p x (cap_right due.k) ≡ true) wants
-        (grows p due.whole due.g due.k (fits_cap ((h.state.block m).pair d).recorded ((h.state.block m).pair d).held
-        due.data_too due.k due.whole due.g due.fits) gives));
-  }
+  lone_grant {w} config tracker d m rest h given due is =
+      let after : State (List ℕ) = (kind_taken config tracker d Grant m rest h).state in
+      let uses_are : (e i : ℕ) → after.uses e i ≡ set_at d src SourceFree h.state.uses e i =
+      λ e i. ap (λ (v : Service). (taken_by_client d m v rest h).state.uses e i) due.service in
+      let given_as : IsGivenAsked p (GrantSent d due.data_too due.k) (h.state.block m).pair =
+      subst (λ (v : Service). IsGivenAsked p v (h.state.block m).pair) due.service (given m) in
+      let gives : gives_asked p (AcquireOpen due.whole due.g) due.k ≡ true = cc (due.wants, given_as) in
+      record {
+        others = λ e i else_. uses_are e i ∙ each-set_at (λ j k (v : SourceState). IsElsewhere c source j k
+            → v ≡ SourceFree) d src SourceFree h.state.uses (λ any. refl) is.others e i else_;
+        brings = brings_granted p n a (after.uses c source) ((after.block n).pair c) (cap_right due.k)
+            (uses_are c source ∙ ap₂ (set_at d src SourceFree h.state.uses) (sym mine.0.0) (sym mine.0.1)
+            ∙ set_at-same d src SourceFree h.state.uses) (ap₂ (λ (i j : ℕ). ((after.block i).pair j).held) (sym mine.1)
+            (sym mine.0.0) ∙ held_granted config tracker rest h due)
+            (subst (λ (x : AcquirePhase). grown p x (cap_right due.k) ≡ true) wants
+            (grows p due.whole due.g due.k (fits_cap ((h.state.block m).pair d).recorded ((h.state.block m).pair d).held
+            due.data_too due.k due.whole due.g due.fits) gives));
+      }
     where
       src : ℕ
       src = (h.state.block m).source d
 
-      after : State (List ℕ)
-      after = (kind_taken config tracker d Grant m rest h).state
-
       mine : IsOwn h.state d src × (m ≡ n)
       mine = own_acquire h.state d src m is due.used
 
-      uses_are : (e i : ℕ) → after.uses e i ≡ set_at d src SourceFree h.state.uses e i
-      uses_are e i = ap (λ (v : Service). (taken_by_client d m v rest h).state.uses e i) due.service
-
       wants : AcquireOpen due.whole due.g ≡ a
       wants = sym due.wants ∙ ap₂ (λ (i j : ℕ). ((h.state.block i).pair j).acquiring) mine.1 mine.0.0 ∙ mine.0.3
-
-      given_as : IsGivenAsked p (GrantSent d due.data_too due.k) (h.state.block m).pair
-      given_as = subst (λ (v : Service). IsGivenAsked p v (h.state.block m).pair) due.service (given m)
-
-      gives : gives_asked p (AcquireOpen due.whole due.g) due.k ≡ true
-      gives = ap (λ (x : AcquirePhase). gives_asked p x due.k) (sym due.wants) ∙ given_as
 
   -- It stays alone, and keeps what it has brought, whatever message is taken.
   pub lone-kind_taken : {w : ℕ} (caching : ℕ → Bool) (config : Config) (tracker d : ℕ) (k : Kind) (i : ℕ)
@@ -325,7 +277,7 @@ module _ (p : Profile) (c n source : ℕ) (a : AcquirePhase) where
       → IsInvariant caching h.state → AreGiven p h.state → on k (h.state.link d) ≡ packet k i ∷ rest
       → IsLone p c n source a h.state → IsLone p c n source a (kind_taken config tracker d k i rest h).state
   lone-kind_taken caching config tracker d Request i rest h inv given first is =
-      absurd (no_access h.state d i Asked is (first-asked caching d i rest h inv first) refl)
+      absurd (no_access h.state d i Asked is (first-asked d i rest h inv first) refl)
   lone-kind_taken caching config tracker d Answer i rest h inv given first is =
       absurd (no_access h.state d i Replied is (is_replied-is (h.state.uses d i)
       (holds-first Answer (h.state.link d).d rest (packet Answer i) (λ j. is_replied (h.state.uses d j)) first refl

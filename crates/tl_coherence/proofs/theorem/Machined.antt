@@ -5,43 +5,30 @@ use Rattle.tl_coherence.proofs.theorem.Imports.{one_memory_after, System, Kind, 
 use Rattle.tl_coherence.proofs.theorem.Imports.{Release, Answer, Grant, ReleaseAck, GrantAck, SimulationRelation}
 use Rattle.std.proofs.Common.{◌≡◌, ℕ, Bool, true, false, List, [], ◌∷◌, Option, Some, None, refl, sym, ◌∙◌, ap, subst}
 use Rattle.std.specs.Prelude.{if◌then◌else◌, Result, Ok, Err, is_some}
-use Rattle.tl_beat.specs.declared.channel.Channel.TheVariants as channel
 use Rattle.tl_params.specs.declared.rule.Rule.{Rule}
-use Rattle.tl_client.specs.declared.verdict.Verdict.{Verdict}
-use Rattle.tl_client.specs.declared.verdict.Verdict.TheVariants as verdict
-use Rattle.tl_client.specs.statement.Endpoint.{Endpoint, EndConfig}
-use Rattle.tl_client.specs.statement.Offer.{offered}
+use Rattle.tl_client.{specs.declared.verdict.Verdict.Verdict, specs.statement.Endpoint.Endpoint}
+use Rattle.tl_client.{specs.statement.Endpoint.EndConfig, specs.statement.Offer.offered}
 use Rattle.tl_manager.specs.statement.End as manager_end
 use Rattle.tl_manager.specs.statement.Offer as manager
-use Rattle.tl_coherence.specs.declared.event.Event.{Event}
-use Rattle.tl_coherence.specs.declared.event.Event.TheVariants.{Ask}
-use Rattle.tl_coherence.specs.declared.event.Outcome.{Outcome}
-use Rattle.tl_coherence.specs.declared.event.Outcome.TheVariants as outcome
-use Rattle.tl_coherence.specs.statement.Headline.{AreTyped, Continues}
-use Rattle.tl_coherence.specs.statement.Log.{IsLog}
+use Rattle.tl_coherence.specs.{declared.event.Event.Event, declared.event.Event.TheVariants.Ask}
+use Rattle.tl_coherence.specs.{declared.event.Outcome.Outcome, statement.Headline.AreTyped}
+use Rattle.tl_coherence.specs.{statement.Headline.Continues, statement.Log.IsLog, statement.OneMemory.accesses_answered}
+use Rattle.tl_coherence.specs.{statement.OneMemory.performing, statement.System.terms_at}
 use Rattle.tl_coherence.specs.statement.Machine.{IsStep, Performs, Run, is_client, moved}
-use Rattle.tl_coherence.specs.statement.OneMemory.{accesses_answered, performing}
 use Rattle.tl_coherence.specs.statement.Step.{Step, stepped, judged, manager_took, is_to_client}
 use Rattle.tl_coherence.specs.statement.Step as step
-use Rattle.tl_coherence.specs.statement.System.{terms_at}
-use Rattle.tl_coherence.proofs.theorem.Allowing.{ends-transfer}
-use Rattle.tl_coherence.proofs.theorem.AccessEnds.{ends-answer}
-use Rattle.tl_coherence.proofs.deliveries.AskedAfter.{continues-ask}
-use Rattle.tl_coherence.proofs.theorem.Continuing.{performs-delivered}
-use Rattle.tl_coherence.proofs.links.Ending.{IsEnding, ending}
+use Rattle.tl_coherence.proofs.{theorem.Allowing.ends-transfer, theorem.AccessEnds.ends-answer}
+use Rattle.tl_coherence.proofs.{deliveries.AskedAfter.continues-ask, theorem.Continuing.performs-delivered}
+use Rattle.tl_coherence.proofs.{links.Ending.IsEnding, links.Ending.ending, memory.Runs.AllContinue}
+use Rattle.tl_coherence.proofs.{memory.Runs.run-continued, queues.Steps.stepped-asked}
 use Rattle.tl_coherence.proofs.deliveries.Matching.{shadow, matched, stepped-nobody}
-use Rattle.tl_coherence.proofs.memory.Runs.{AllContinue, run-continued}
-use Rattle.tl_coherence.proofs.queues.Steps.{stepped-asked}
 
 -- ---- what a delivery can come to
 
 is_delivered : {w : ℕ} → Outcome w → Bool
-is_delivered outcome.Empty = true
-is_delivered outcome.Stalled = true
-is_delivered (outcome.Moved x) = true
-is_delivered (outcome.Done x source f) = true
-is_delivered (outcome.Replied r) = false
-is_delivered outcome.NoSuchClient = false
+is_delivered (Outcome.Replied r) = false
+is_delivered Outcome.NoSuchClient = false
+is_delivered _ = true
 
 delivered-so : {w : ℕ} (config : Config) (terms : EndConfig) (c : ℕ) (ch : Channel) (beats : List (Beat w))
     (s : System w) → is_delivered (step.delivered config terms c ch beats s).outcome ≡ true
@@ -52,140 +39,119 @@ delivered-so {w} config terms c ch (x ∷ rest) s = go (is_to_client ch)
     of_client : (r : Result (Verdict × Option (Message w)) Rule) (e : Endpoint w)
         → is_delivered (judged r c ch x rest e s).outcome ≡ true
     of_client (Err rule) e = refl
-    of_client (Ok (verdict.Stalled, m)) e = refl
-    of_client (Ok (verdict.Taken, m)) e = refl
-    of_client (Ok (verdict.Done source f, m)) e = refl
+    of_client (Ok (Verdict.Stalled, m)) e = refl
+    of_client (Ok (Verdict.Taken, m)) e = refl
+    of_client (Ok (Verdict.Done source f, m)) e = refl
 
     of_manager : (a : manager.Reception w × manager_end.End w)
         → is_delivered (manager_took c ch x rest a s).outcome ≡ true
     of_manager (manager.Refused rule, e) = refl
-    of_manager (manager.Stalled, e) = refl
-    of_manager (manager.Sent handed, e) = refl
+    of_manager a = refl
 
     go : (b : Bool) → is_delivered (if b then judged (offered terms ch x (s.clients c)).answer c ch x rest
         (offered terms ch x (s.clients c)).after s else manager_took c ch x rest
-        (manager.offered config (record { 0 = c }) ch x s.manager) s).outcome
-        ≡ true
+        (manager.offered config (record { 0 = c }) ch x s.manager) s).outcome ≡ true
     go true = of_client (offered terms ch x (s.clients c)).answer _
     go false = of_manager _
 
 stepped-so : {w : ℕ} (config : Config) (link : Link) (ch : Channel) (terms : EndConfig) (s : System w)
-    → terms_at config link.0 ≡ Some terms
-    → is_delivered (stepped config (Deliver link ch) s).outcome ≡ true
+    → terms_at config link.0 ≡ Some terms → is_delivered (stepped config (Deliver link ch) s).outcome ≡ true
 unfolding stepped
 stepped-so config link ch terms s known = rw known (delivered-so config terms link.0 ch (s.channels link.0 ch) s)
 
 step_allowed : {w : ℕ} (config : Config) (link : Link) (ch : Channel) (o : Outcome w) (m : Machine w)
     → is_delivered o ≡ true → is_client config link.0 ≡ true
-    → ((x : Beat w) (source : ℕ) (f : Finish) → o ≡ outcome.Done x source f
-    → (ch ≡ channel.D) × Ends (m.opened link.0 (pool_of f) source) x f)
+    → ((x : Beat w) (source : ℕ) (f : Finish) → o ≡ Outcome.Done x source f
+    → (ch ≡ Channel.D) × Ends (m.opened link.0 (pool_of f) source) x f)
     → IsStep config (Deliver link ch) o m (moved (Deliver link ch) o m)
 unfolding is_delivered
-step_allowed config link channel.A outcome.Empty m so known done = (known, tt, refl)
-step_allowed config link channel.B outcome.Empty m so known done = (known, tt, refl)
-step_allowed config link channel.C outcome.Empty m so known done = (known, tt, refl)
-step_allowed config link channel.D outcome.Empty m so known done = (known, tt, refl)
-step_allowed config link channel.E outcome.Empty m so known done = (known, tt, refl)
-step_allowed config link channel.A outcome.Stalled m so known done = (known, tt, refl)
-step_allowed config link channel.B outcome.Stalled m so known done = (known, tt, refl)
-step_allowed config link channel.C outcome.Stalled m so known done = (known, tt, refl)
-step_allowed config link channel.D outcome.Stalled m so known done = (known, tt, refl)
-step_allowed config link channel.E outcome.Stalled m so known done = (known, tt, refl)
-step_allowed config link channel.A (outcome.Moved x) m so known done = (known, tt, refl)
-step_allowed config link channel.B (outcome.Moved x) m so known done = (known, tt, refl)
-step_allowed config link channel.C (outcome.Moved x) m so known done = (known, tt, refl)
-step_allowed config link channel.D (outcome.Moved x) m so known done = (known, tt, refl)
-step_allowed config link channel.E (outcome.Moved x) m so known done = (known, tt, refl)
-step_allowed config link channel.D (outcome.Done x source f) m so known done = (known, (done x source f refl).1, refl)
-step_allowed config link channel.A (outcome.Done x source f) m so known done =
+step_allowed config link Channel.D (Outcome.Done x source f) m so known done = (known, (done x source f refl).1, refl)
+step_allowed config link Channel.A (Outcome.Done x source f) m so known done =
     absurd (let e = (done x source f refl).0 in cc)
-step_allowed config link channel.B (outcome.Done x source f) m so known done =
+step_allowed config link Channel.B (Outcome.Done x source f) m so known done =
     absurd (let e = (done x source f refl).0 in cc)
-step_allowed config link channel.C (outcome.Done x source f) m so known done =
+step_allowed config link Channel.C (Outcome.Done x source f) m so known done =
     absurd (let e = (done x source f refl).0 in cc)
-step_allowed config link channel.E (outcome.Done x source f) m so known done =
+step_allowed config link Channel.E (Outcome.Done x source f) m so known done =
     absurd (let e = (done x source f refl).0 in cc)
-step_allowed config link ch (outcome.Replied r) m so known done = absurd cc
-step_allowed config link ch outcome.NoSuchClient m so known done = absurd cc
+step_allowed config link ch (Outcome.Replied r) m so known done = absurd cc
+step_allowed config link ch Outcome.NoSuchClient m so known done = absurd cc
+step_allowed config link ch o m so known done = (known, tt, refl)
 
 -- ---- events
 
-nobody-continues : {w : ℕ} (config : Config) (log : Log w) (event : Event w)
-    → terms_at config (step.client_of event) ≡ None
-    → Continues config (event, (stepped config event (system_after config log)).outcome) log
+nobody-continues : {w : ℕ} (config : Config) (log : Log w) (event : Event w) → terms_at config (step.client_of event)
+    ≡ None → Continues config (event, (stepped config event (system_after config log)).outcome) log
 unfolding one_memory_after performing Performs accesses_answered
 nobody-continues {w} config log event none =
+    let same : (e : Event w) → moved e Outcome.NoSuchClient (one_memory_after config log) ≡ one_memory_after config
+    log = elim [ Ask c o ↦ refl | Deliver link ch ↦ refl ] in
     rw (stepped-nobody config event (system_after config log) none)
     (one_memory_after config log, [], (rw none refl, refl), same event)
-  where
-    same : (e : Event w) → moved e outcome.NoSuchClient (one_memory_after config log) ≡ one_memory_after config log
-    same (Ask c o) = refl
-    same (Deliver link ch) = refl
 
-continues-delivered : {w : ℕ} (config : Config) (log : Log w) (link : Link) (ch : Channel) (h : AbstractState w)
-    (terms : EndConfig) → IsWidth w
-    → SimulationRelation config log h.mail h.request h.state (system_after config log)
+continues-delivered : {w : ℕ} {config : Config} {log : Log w} (link : Link) (ch : Channel) (h : AbstractState w)
+    (terms : EndConfig) → IsWidth w → SimulationRelation config log h.mail h.request h.state (system_after config log)
     → terms_at config link.0 ≡ Some terms
     → Continues config (Deliver link ch, (stepped config (Deliver link ch) (system_after config log)).outcome) log
-continues-delivered {w} config log link ch h terms width is known = (
+continues-delivered {w} {config} {log} link ch h terms width is known = (
   moved (Deliver link ch) (stepped config (Deliver link ch) (system_after config log)).outcome m,
-  accesses_answered (stepped config (Deliver link ch) (system_after config log)).handed,
-  step_allowed config link ch (stepped config (Deliver link ch) (system_after config log)).outcome m
+  accesses_answered
+      (stepped config (Deliver link ch) (system_after config log)).handed,
+  step_allowed config link ch
+      (stepped config (Deliver link ch) (system_after config log)).outcome m
       (stepped-so config link ch terms (system_after config log) known) (ap is_some known) done,
-  performs-delivered config log link ch h width is,
+  performs-delivered link
+      ch h width is,
 )
   where
     m : Machine w
     m = one_memory_after config log
 
     done : (x : Beat w) (source : ℕ) (f : Finish) → (stepped config (Deliver link ch) (system_after config log)).outcome
-        ≡ outcome.Done x source f → (ch ≡ channel.D)
-        × Ends (m.opened link.0 (pool_of f) source) x f
+        ≡ Outcome.Done x source f → (ch ≡ Channel.D) × Ends (m.opened link.0 (pool_of f) source) x f
     done x source f e = (end.on_d, go end.first.kind refl)
       where
         end : IsEnding config log link ch h x source f
         end = ending config log link ch h x source f width is e
 
         go : (k : Kind) → end.first.kind ≡ k → Ends (m.opened link.0 (pool_of f) source) x f
-        go Answer g = ends-answer config log link ch h x source f width is end g
-        go Request g = ends-transfer config log link ch h x source f is end (λ i. let no_one : Request ≡ Answer =
+        go Answer g = ends-answer width is end g
+        go Request g = ends-transfer is end (λ i. let no_one : Request ≡ Answer =
             sym g ∙ i in cc)
-        go Acquire g = ends-transfer config log link ch h x source f is end (λ i. let no_one : Acquire ≡ Answer =
+        go Acquire g = ends-transfer is end (λ i. let no_one : Acquire ≡ Answer =
             sym g ∙ i in cc)
-        go Probe g = ends-transfer config log link ch h x source f is end (λ i. let no_one : Probe ≡ Answer =
+        go Probe g = ends-transfer is end (λ i. let no_one : Probe ≡ Answer =
             sym g ∙ i in cc)
-        go ProbeAck g = ends-transfer config log link ch h x source f is end (λ i. let no_one : ProbeAck ≡ Answer =
+        go ProbeAck g = ends-transfer is end (λ i. let no_one : ProbeAck ≡ Answer =
             sym g ∙ i in cc)
-        go Release g = ends-transfer config log link ch h x source f is end (λ i. let no_one : Release ≡ Answer =
+        go Release g = ends-transfer is end (λ i. let no_one : Release ≡ Answer =
             sym g ∙ i in cc)
-        go Grant g = ends-transfer config log link ch h x source f is end (λ i. let no_one : Grant ≡ Answer =
+        go Grant g = ends-transfer is end (λ i. let no_one : Grant ≡ Answer =
             sym g ∙ i in cc)
-        go ReleaseAck g = ends-transfer config log link ch h x source f is end (λ i. let no_one : ReleaseAck ≡ Answer =
+        go ReleaseAck g = ends-transfer is end (λ i. let no_one : ReleaseAck ≡ Answer =
             sym g ∙ i in cc)
-        go GrantAck g = ends-transfer config log link ch h x source f is end (λ i. let no_one : GrantAck ≡ Answer =
+        go GrantAck g = ends-transfer is end (λ i. let no_one : GrantAck ≡ Answer =
             sym g ∙ i in cc)
 
-continues_event : {w : ℕ} (config : Config) (log : Log w) (event : Event w) (h : AbstractState w) → IsWidth w
+continues_event : {w : ℕ} {config : Config} {log : Log w} (event : Event w) (h : AbstractState w) → IsWidth w
     → SimulationRelation config log h.mail h.request h.state (system_after config log)
     → Continues config (event, (stepped config event (system_after config log)).outcome) log
-continues_event {w} config log event h width is = go event (terms_at config (step.client_of event)) refl
+continues_event {w} {config} {log} event h width is = go event (terms_at config (step.client_of event)) refl
   where
     go : (e : Event w) (o : Option EndConfig) → terms_at config (step.client_of e) ≡ o
         → Continues config (e, (stepped config e (system_after config log)).outcome) log
     go e None none = nobody-continues config log e none
-    go (Deliver link ch) (Some terms) known = continues-delivered config log link ch h terms width is known
-    go (Ask c o) (Some terms) known =
-        subst (λ (i : Outcome w). Continues config (Ask c o, i) log)
+    go (Deliver link ch) (Some terms) known = continues-delivered link ch h terms width is known
+    go (Ask c o) (Some terms) known = subst (λ (i : Outcome w). Continues config (Ask c o, i) log)
         (sym (ap (λ (x : Step w). x.outcome) (stepped-asked config c o (system_after config log) terms known)))
-        (continues-ask config log h c terms o width is known)
+        (continues-ask h c terms o width is known)
 
 -- Each event goes on from the machine before it.
 pub continues : {w : ℕ} (config : Config) (log : Log w) (x : Event w × Outcome w) → IsWidth w → AreTyped log
     → IsLog config (x ∷ log) → Continues config x log
 unfolding IsLog
-continues {w} config log x width typed logged =
-    subst (λ (o : Outcome w). Continues config (x.0, o) log) (sym logged.0)
-    (continues_event config log x.0 (shadow config log) width (matched config log width typed logged.1))
+continues {w} config log x width typed logged = subst (λ (o : Outcome w). Continues config (x.0, o) log) (sym logged.0)
+    (continues_event x.0 (shadow config log) width (matched config log width typed logged.1))
 
 -- ---- runs
 

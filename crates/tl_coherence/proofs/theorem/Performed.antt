@@ -1,35 +1,24 @@
 -- An access is performed at a moment at which no link holds what excludes it.
 use Rattle.tl_coherence.proofs.flow.Imports.{BeatA, Channel, Message, MessageA, Config, Log, AbstractState}
 use Rattle.tl_coherence.proofs.flow.Imports.{SimulationRelation, MonitorRelations, AccessMessages, State, SourceState}
-use Rattle.tl_coherence.proofs.flow.Imports.{SourceFree, Asked, InService, Replied, Acquires, a_beat_of, block_at}
-use Rattle.tl_coherence.proofs.flow.Imports.{on_link, request_of}
+use Rattle.tl_coherence.proofs.flow.Imports.{SourceFree, Replied, Acquires, a_beat_of, block_at, on_link, request_of}
 use Rattle.std.proofs.Common.{◌≡◌, ℕ, true, List, [], ◌∷◌, Option, Some, None, refl, sym, ◌∙◌, ap, subst, inl, inr}
 use Rattle.tl_beat.specs.declared.beat.Link.{Link}
-use Rattle.tl_burst.specs.declared.message.Message.TheVariants as message
 use Rattle.tl_rules.specs.statement.Effect.{AccessResult, effect}
 use Rattle.tl_rules.specs.statement.Windows.{is_free, needs}
 use Rattle.tl_client.specs.declared.operation.Op.{Op}
-use Rattle.tl_client.specs.declared.operation.Op.TheVariants as op
-use Rattle.tl_coherence.specs.declared.event.Event.{Event}
-use Rattle.tl_coherence.specs.declared.event.Event.TheVariants.{Deliver}
-use Rattle.tl_coherence.specs.declared.event.Outcome.{Outcome}
-use Rattle.tl_coherence.specs.refinement.MemoryRelation.{IsAccess, IsOpened}
-use Rattle.tl_coherence.specs.statement.Flow.{trace_of}
-use Rattle.tl_coherence.specs.statement.Headline.{IsGiven}
-use Rattle.tl_coherence.specs.statement.Log.{IsLog, system_after}
+use Rattle.tl_coherence.specs.{declared.event.Event.Event, declared.event.Event.TheVariants.Deliver}
+use Rattle.tl_coherence.specs.{declared.event.Outcome.Outcome, refinement.MemoryRelation.IsAccess}
+use Rattle.tl_coherence.specs.{refinement.MemoryRelation.IsOpened, statement.Flow.trace_of, statement.Headline.IsGiven}
+use Rattle.tl_coherence.specs.{statement.Log.IsLog, statement.Log.system_after, statement.PerformedFree.PerformedFree}
+use Rattle.tl_coherence.specs.{statement.Step.stepped}
 use Rattle.tl_coherence.specs.statement.Machine.{Machine, Open, Requests, moved, with_memory}
-use Rattle.tl_coherence.specs.statement.OneMemory.{accesses_answered, one_memory_after, performing}
-use Rattle.tl_coherence.specs.statement.PerformedFree.{PerformedFree}
-use Rattle.tl_coherence.specs.statement.Step.{stepped}
-use Rattle.tl_coherence.proofs.bound.Settling.{given-before}
-use Rattle.tl_coherence.proofs.deliveries.Matching.{shadow}
-use Rattle.tl_coherence.proofs.flow.FlowTraces.{trace-flows}
-use Rattle.tl_coherence.proofs.flow.Flows.{flowed}
-use Rattle.tl_coherence.proofs.flow.Renewed.{IsSettledFor}
+use Rattle.tl_coherence.specs.statement.OneMemory.{accesses_answered, one_memory_after}
+use Rattle.tl_coherence.proofs.{bound.Settling.given-before, deliveries.Matching.shadow, flow.FlowTraces.trace-flows}
+use Rattle.tl_coherence.proofs.{flow.Flows.flowed, flow.Renewed.IsSettledFor, links.FromInvariant.matched-given}
+use Rattle.tl_coherence.proofs.{theorem.Continuing.answering-delivered}
 use Rattle.tl_coherence.proofs.flow.Windowed.{asked_flow, free-now, renewed-followed, same_first}
-use Rattle.tl_coherence.proofs.links.FromInvariant.{matched-given}
 use Rattle.tl_coherence.proofs.memory.Beside.{done_at, open-here, performing-one}
-use Rattle.tl_coherence.proofs.theorem.Continuing.{answering-delivered}
 
 -- the answer of what is open
 abbrev answer_in : {w : ℕ} → Option (Open w) → Option AccessResult
@@ -44,22 +33,18 @@ unanswered o i j r e f = let same : None ≡ Some r = ap answer_in (sym e ∙ f)
 -- one that is open with an answer is answered
 replied : {w : ℕ} (c source : ℕ) (mail : AccessMessages w) (s : State (List ℕ)) (u : SourceState)
     (opened : Option (Open w)) (m : Message w) (r : AccessResult) → IsOpened c source mail s u opened
-    → opened ≡ Some (record { asked = op.Access m; answer = Some r }) → u ≡ Replied
+    → opened ≡ Some (record { asked = Op.Access m; answer = Some r }) → u ≡ Replied
 replied c source mail s SourceFree opened m r is e = absurd (let same = sym is ∙ e in cc)
-replied c source mail s Asked opened m r is e = absurd (unanswered opened _ (op.Access m) r is.2 e)
-replied c source mail s (InService n) opened m r is e = absurd (unanswered opened _ (op.Access m) r is.2 e)
 replied c source mail s Replied opened m r is e = refl
-replied c source mail s (Acquires n) opened m r is e = absurd (unanswered opened _ (op.Access m) r is e)
+replied c source mail s (Acquires n) opened m r is e = absurd (unanswered opened _ (Op.Access m) r is e)
+replied c source mail s u opened m r is e = absurd (unanswered opened _ (Op.Access m) r is.2 e)
 
 -- one that is open without an answer isn't
 unreplied : {w : ℕ} (c source : ℕ) (mail : AccessMessages w) (s : State (List ℕ)) (u : SourceState)
     (opened : Option (Open w)) (m : Message w) → IsOpened c source mail s u opened
-    → opened ≡ Some (record { asked = op.Access m; answer = None }) → u ≡ Replied → ⊥
-unreplied c source mail s Replied opened m is e f = unanswered opened (op.Access m) _ is.0 e is.1.2
-unreplied c source mail s SourceFree opened m is e f = cc
-unreplied c source mail s Asked opened m is e f = cc
-unreplied c source mail s (InService n) opened m is e f = cc
-unreplied c source mail s (Acquires n) opened m is e f = cc
+    → opened ≡ Some (record { asked = Op.Access m; answer = None }) → u ≡ Replied → ⊥
+unreplied c source mail s Replied opened m is e f = unanswered opened (Op.Access m) _ is.0 e is.1.2
+unreplied c source mail s u opened m is e f = cc
 
 same_one : (a b : ℕ × ℕ) (rest : List (ℕ × ℕ)) → a ∷ rest ≡ b ∷ [] → (b ≡ a) × (rest ≡ [])
 same_one a b rest e = (cc, cc)
@@ -99,69 +84,66 @@ module _ {w : ℕ} (config : Config) (log : Log w) (link : Link) (ch : Channel) 
       ((one_memory_after config log).opened q Requests source))
       → moved event (stepped config event (system_after config log)).outcome (one_memory_after config log)
       ≡ one_memory_after config log
-      → one_memory_after config after ≡ done_at q source (message.A access.0) (one_memory_after config log)
+      → one_memory_after config after ≡ done_at q source (Message.A access.0) (one_memory_after config log)
   unfolding one_memory_after IsLog
   machine_after q source one access still =
-      ap (λ (r : Outcome w). performing accesses (moved event r (one_memory_after config log))) given.is_log.0
-      ∙ ap (λ (m : Machine w). performing accesses m) still
-      ∙ ap (λ (l : List (ℕ × ℕ)). performing l (one_memory_after config log)) one
-      ∙ performing-one q source (message.A access.0) (one_memory_after config log) access.2
+      cc (
+        given.is_log.0,
+        still,
+        one,
+        performing-one q source (Message.A access.0) (one_memory_after config log)
+            access.2,
+      )
 
   free-after : (q source : ℕ) → accesses ≡ (q, source) ∷ []
       → (access : IsAccess source (h.mail.request q source) None
       ((one_memory_after config log).opened q Requests source))
       → moved event (stepped config event (system_after config log)).outcome (one_memory_after config log)
-      ≡ one_memory_after config log
-      → (x : BeatA w) → request_of source (on_link q (trace_of after)) ≡ Some x → (n : ℕ)
+      ≡ one_memory_after config log → (x : BeatA w) → request_of source (on_link q (trace_of after)) ≡ Some x → (n : ℕ)
       → is_free n None (needs x.opcode) (block_at x.address) (trace_of after) ≡ true
   unfolding shadow system_after
   free-after q source one access still x asks n =
+      let used : h'.state.uses q source ≡ Replied = replied q source h'.mail h'.state (h'.state.uses q source)
+      ((one_memory_after config after).opened q Requests source) (Message.A access.0) answer
+      (is'.beside.requests q source) opened in
+      let free : (m : MessageA w) → h'.mail.request q source ≡ Message.A m → IsSettledFor m h'.state
+      → is_free n None (needs x.opcode) (block_at x.address) (trace_of after) ≡ true =
+      λ m request settled. subst (λ (z : BeatA w). is_free n None (needs z.opcode) (block_at z.address)
+      (trace_of after) ≡ true)
+      (same_first x (a_beat_of m 0) (sym asks ∙ ap (request_of source) (trace-flows q after)
+      ∙ asked_flow config after h' (system_after config after) is' values q source m used request))
+      (free-now config after h' (system_after config after) is' values q source m used request settled n) in
       elim (renewed-followed config log event h given.width is q source used) [
         | inl old ↦ absurd (unreplied q source h.mail h.state (h.state.uses q source)
-            ((one_memory_after config log).opened q Requests source) (message.A access.0) (is.beside.requests q source)
+            ((one_memory_after config log).opened q Requests source) (Message.A access.0) (is.beside.requests q source)
             access.2 old.0)
         | inr new ↦ free new.0 new.1 new.2
       ]
     where
       answer : AccessResult
-      answer = (effect (message.A access.0) (one_memory_after config log).memory).1
+      answer = (effect (Message.A access.0) (one_memory_after config log).memory).1
 
       opened : (one_memory_after config after).opened q Requests source
-          ≡ Some (record { asked = op.Access (message.A access.0); answer = Some answer })
+          ≡ Some (record { asked = Op.Access (Message.A access.0); answer = Some answer })
       opened = ap (λ (m : Machine w). m.opened q Requests source) (machine_after q source one access still)
-          ∙ open-here q Requests source (Some (record { asked = op.Access (message.A access.0); answer = Some answer }))
-          (with_memory (effect (message.A access.0) (one_memory_after config log).memory).0
+          ∙ open-here q Requests source (Some (record { asked = Op.Access (Message.A access.0); answer = Some answer }))
+          (with_memory (effect (Message.A access.0) (one_memory_after config log).memory).0
           (one_memory_after config log))
-
-      used : h'.state.uses q source ≡ Replied
-      used = replied q source h'.mail h'.state (h'.state.uses q source)
-          ((one_memory_after config after).opened q Requests source) (message.A access.0) answer
-          (is'.beside.requests q source) opened
-
-      free : (m : MessageA w) → h'.mail.request q source ≡ message.A m → IsSettledFor m h'.state
-          → is_free n None (needs x.opcode) (block_at x.address) (trace_of after) ≡ true
-      free m request settled =
-          subst (λ (z : BeatA w). is_free n None (needs z.opcode) (block_at z.address) (trace_of after) ≡ true)
-          (same_first x (a_beat_of m 0) (sym asks ∙ ap (request_of source) (trace-flows q after)
-          ∙ asked_flow config after h' (system_after config after) is' values q source m used request))
-          (free-now config after h' (system_after config after) is' values q source m used request settled n)
 
 pub performed_free : {w : ℕ} → PerformedFree w
 performed_free {w} config log link ch o given c source rest x answers asks =
+    let found : (q s : ℕ) → accesses config log link ch o given ≡ (q, s) ∷ []
+    → IsAccess s ((shadow config log).mail.request q s) None ((one_memory_after config log).opened q Requests s)
+    → moved (Deliver link ch) (stepped config (Deliver link ch) (system_after config log)).outcome
+    (one_memory_after config log) ≡ one_memory_after config log → (◌≡◌ {A = ℕ × ℕ} (q, s) (c, source)) × (rest ≡ [])
+    → (rest ≡ []) × ((n : ℕ) → is_free n None (needs x.opcode) (block_at x.address)
+    (trace_of ((Deliver link ch, o) ∷ log)) ≡ true) =
+    λ q s one access still same. (
+      same.1,
+      λ n. free-after config log link ch o given q s one access still x
+          (ap (λ (a : ℕ × ℕ). request_of a.1 (on_link a.0 (trace_of ((Deliver link ch, o) ∷ log)))) same.0 ∙ asks) n,
+    ) in
     elim (answering-delivered config log link ch (shadow config log) given.width (is config log link ch o given)) [
       | inl none ↦ absurd (nothing_one (c, source) rest (sym answers ∙ none))
       | inr one ↦ found one.0 one.1 one.2 one.3 one.4 (same_one (c, source) (one.0, one.1) rest (sym answers ∙ one.2))
     ]
-  where
-    found : (q s : ℕ) → accesses config log link ch o given ≡ (q, s) ∷ []
-        → IsAccess s ((shadow config log).mail.request q s) None ((one_memory_after config log).opened q Requests s)
-        → moved (Deliver link ch) (stepped config (Deliver link ch) (system_after config log)).outcome
-        (one_memory_after config log) ≡ one_memory_after config log → (◌≡◌ {A = ℕ × ℕ} (q, s) (c, source)) × (rest ≡ [])
-        → (rest ≡ [])
-        × ((n : ℕ) → is_free n None (needs x.opcode) (block_at x.address) (trace_of ((Deliver link ch, o) ∷ log))
-        ≡ true)
-    found q s one access still same = (
-      same.1,
-      λ n. free-after config log link ch o given q s one access still x
-          (ap (λ (a : ℕ × ℕ). request_of a.1 (on_link a.0 (trace_of ((Deliver link ch, o) ∷ log)))) same.0 ∙ asks) n,
-    )

@@ -1,9 +1,8 @@
 -- One memory, coherent copies, and nothing that gets stuck.
 use Rattle.std.proofs.Common.{ℕ, arith}
 use Rattle.tl_coherence.specs.statement.Headline.{Headline, OneMemory}
-use Rattle.tl_coherence.proofs.links.FromInvariant.{coherent, unrefused}
-use Rattle.tl_coherence.proofs.theorem.Machined.{continues, run}
-use Rattle.tl_coherence.proofs.outstanding.Progress.{counted, moving}
+use Rattle.tl_coherence.proofs.{links.FromInvariant.coherent, links.FromInvariant.unrefused, theorem.Machined.continues}
+use Rattle.tl_coherence.proofs.{theorem.Machined.run, outstanding.Progress.counted, outstanding.Progress.moving}
 
 pub one_memory : {w : ℕ} → OneMemory w
 one_memory = λ config log given. (

@@ -75,11 +75,7 @@ pub record IsKeptAfter {w : ℕ} (config : Config) (mail : AccessMessages w) (s 
 -- as where the whole is
 pub kept-matched : {w : ℕ} {config : Config} {log : Log w} {mail : AccessMessages w} {request : ℕ → MessageA w}
     {s : State (List ℕ)} {sys : System w} → SimulationRelation config log mail request s sys → IsKeptAfter config mail s
-kept-matched is = record {
-  invariant = is.invariant;
-  sourced = is.sourced;
-  answered = is.answered;
-}
+kept-matched is = record { invariant = is.invariant; sourced = is.sourced; answered = is.answered }
 
 module _ {w : ℕ} (config : Config) (log : Log w) (mail : AccessMessages w) (request : ℕ → MessageA w)
     (s : State (List ℕ)) (sys' : System w) (width : IsWidth w)

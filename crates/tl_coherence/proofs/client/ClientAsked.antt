@@ -46,32 +46,17 @@ release_message : {w : ℕ} (r : Prune) (source n : ℕ) (copy : List ℕ)
 release_message Prune.TtoB source n copy = (
   about OpC.ReleaseData (prune_code Prune.TtoB) source n copy,
   refl,
-  record {
-    releases = refl;
-    of_block = same_block n;
-    whole = refl;
-    from = refl;
-  },
+  record { releases = refl; of_block = same_block n; whole = refl; from = refl },
 )
 release_message Prune.TtoN source n copy = (
   about OpC.ReleaseData (prune_code Prune.TtoN) source n copy,
   refl,
-  record {
-    releases = refl;
-    of_block = same_block n;
-    whole = refl;
-    from = refl;
-  },
+  record { releases = refl; of_block = same_block n; whole = refl; from = refl },
 )
 release_message Prune.BtoN source n copy = (
   about OpC.Release (prune_code Prune.BtoN) source n zeros,
   refl,
-  record {
-    releases = refl;
-    of_block = same_block n;
-    whole = refl;
-    from = refl;
-  },
+  record { releases = refl; of_block = same_block n; whole = refl; from = refl },
 )
 
 pub end-release_asked : {w : ℕ} {c : ℕ} (n source : ℕ) (r : Prune) (copy : List ℕ) (mail : AccessMessages w)

@@ -89,20 +89,12 @@ ack_of : {w : ℕ} (p : Perm) (r : Report) (n : ℕ) (copy : List ℕ)
 ack_of Perm.Trunk r n copy = (
   about OpC.ProbeAckData (report_code r) 0 n copy,
   refl,
-  record {
-    acks = refl;
-    releases_none = refl;
-    of_block = same_block n;
-  },
+  record { acks = refl; releases_none = refl; of_block = same_block n },
 )
 ack_of p r n copy = (
   about OpC.ProbeAck (report_code r) 0 n zeros,
   refl,
-  record {
-    acks = refl;
-    releases_none = refl;
-    of_block = same_block n;
-  },
+  record { acks = refl; releases_none = refl; of_block = same_block n },
 )
 
 -- what is pending after it, but for the Probe

@@ -45,95 +45,18 @@ pub reply-cases : {w : ℕ} (P : Op w → Reply → Type 0) (o : Op w) (r : Repl
     → ((n : ℕ) (p : Prune) (source : ℕ) → P (Op.Release n p) (Reply.Started source))
     → ((x : MessageA w) (source : ℕ) → P (Op.Access (Message.A x)) (Reply.Started source))
     → ((o : Op w) (r : Reply) → IsPlain o r → P o r) → P o r
-reply-cases P (Op.Load address size) (Reply.Value v) is stored acquires stores releases accesses others =
-    others (Op.Load address size) (Reply.Value v) (λ c h. (refl, λ m e. e))
-reply-cases P (Op.Load address size) Reply.Stored is stored acquires stores releases accesses others =
-    others (Op.Load address size) Reply.Stored (λ c h. (refl, λ m e. e))
-reply-cases P (Op.Load address size) Reply.Miss is stored acquires stores releases accesses others =
-    others (Op.Load address size) Reply.Miss (λ c h. (refl, λ m e. e))
-reply-cases P (Op.Load address size) (Reply.Busy why) is stored acquires stores releases accesses others =
-    others (Op.Load address size) (Reply.Busy why) (λ c h. (refl, λ m e. e))
-reply-cases P (Op.Store address size value) (Reply.Value v) is stored acquires stores releases accesses others =
-    others (Op.Store address size value) (Reply.Value v) (λ c h. (refl, λ m e. e))
 reply-cases P (Op.Store address size value) Reply.Stored is stored acquires stores releases accesses others =
     stored address size value
-reply-cases P (Op.Store address size value) Reply.Miss is stored acquires stores releases accesses others =
-    others (Op.Store address size value) Reply.Miss (λ c h. (refl, λ m e. e))
-reply-cases P (Op.Store address size value) (Reply.Busy why) is stored acquires stores releases accesses others =
-    others (Op.Store address size value) (Reply.Busy why) (λ c h. (refl, λ m e. e))
-reply-cases P (Op.Acquire n g) (Reply.Value v) is stored acquires stores releases accesses others =
-    others (Op.Acquire n g) (Reply.Value v) (λ c h. (refl, λ m e. e))
-reply-cases P (Op.Acquire n g) Reply.Stored is stored acquires stores releases accesses others =
-    others (Op.Acquire n g) Reply.Stored (λ c h. (refl, λ m e. e))
-reply-cases P (Op.Acquire n g) Reply.Miss is stored acquires stores releases accesses others =
-    others (Op.Acquire n g) Reply.Miss (λ c h. (refl, λ m e. e))
 reply-cases P (Op.Acquire n g) (Reply.Started source) is stored acquires stores releases accesses others =
     acquires n g source
-reply-cases P (Op.Acquire n g) (Reply.Busy why) is stored acquires stores releases accesses others =
-    others (Op.Acquire n g) (Reply.Busy why) (λ c h. (refl, λ m e. e))
-reply-cases P (Op.AcquireWhole n bytes) (Reply.Value v) is stored acquires stores releases accesses others =
-    others (Op.AcquireWhole n bytes) (Reply.Value v) (λ c h. (refl, λ m e. e))
-reply-cases P (Op.AcquireWhole n bytes) Reply.Stored is stored acquires stores releases accesses others =
-    others (Op.AcquireWhole n bytes) Reply.Stored (λ c h. (refl, λ m e. e))
-reply-cases P (Op.AcquireWhole n bytes) Reply.Miss is stored acquires stores releases accesses others =
-    others (Op.AcquireWhole n bytes) Reply.Miss (λ c h. (refl, λ m e. e))
 reply-cases P (Op.AcquireWhole n bytes) (Reply.Started source) is stored acquires stores releases accesses others =
     stores n bytes source
-reply-cases P (Op.AcquireWhole n bytes) (Reply.Busy why) is stored acquires stores releases accesses others =
-    others (Op.AcquireWhole n bytes) (Reply.Busy why) (λ c h. (refl, λ m e. e))
-reply-cases P (Op.Release n p) (Reply.Value v) is stored acquires stores releases accesses others =
-    others (Op.Release n p) (Reply.Value v) (λ c h. (refl, λ m e. e))
-reply-cases P (Op.Release n p) Reply.Stored is stored acquires stores releases accesses others =
-    others (Op.Release n p) Reply.Stored (λ c h. (refl, λ m e. e))
-reply-cases P (Op.Release n p) Reply.Miss is stored acquires stores releases accesses others =
-    others (Op.Release n p) Reply.Miss (λ c h. (refl, λ m e. e))
 reply-cases P (Op.Release n p) (Reply.Started source) is stored acquires stores releases accesses others =
     releases n p source
-reply-cases P (Op.Release n p) (Reply.Busy why) is stored acquires stores releases accesses others =
-    others (Op.Release n p) (Reply.Busy why) (λ c h. (refl, λ m e. e))
-reply-cases P (Op.Access (Message.A x)) (Reply.Value v) is stored acquires stores releases accesses others =
-    others (Op.Access (Message.A x)) (Reply.Value v) (λ c h. (refl, λ m e. e))
-reply-cases P (Op.Access (Message.A x)) Reply.Stored is stored acquires stores releases accesses others =
-    others (Op.Access (Message.A x)) Reply.Stored (λ c h. (refl, λ m e. e))
-reply-cases P (Op.Access (Message.A x)) Reply.Miss is stored acquires stores releases accesses others =
-    others (Op.Access (Message.A x)) Reply.Miss (λ c h. (refl, λ m e. e))
 reply-cases P (Op.Access (Message.A x)) (Reply.Started source) is stored acquires stores releases accesses others =
     accesses x source
-reply-cases P (Op.Access (Message.A x)) (Reply.Busy why) is stored acquires stores releases accesses others =
-    others (Op.Access (Message.A x)) (Reply.Busy why) (λ c h. (refl, λ m e. e))
-reply-cases P (Op.Access (Message.B x)) (Reply.Value v) is stored acquires stores releases accesses others =
-    others (Op.Access (Message.B x)) (Reply.Value v) (λ c h. (refl, λ m e. e))
-reply-cases P (Op.Access (Message.B x)) Reply.Stored is stored acquires stores releases accesses others =
-    others (Op.Access (Message.B x)) Reply.Stored (λ c h. (refl, λ m e. e))
-reply-cases P (Op.Access (Message.B x)) Reply.Miss is stored acquires stores releases accesses others =
-    others (Op.Access (Message.B x)) Reply.Miss (λ c h. (refl, λ m e. e))
-reply-cases P (Op.Access (Message.B x)) (Reply.Busy why) is stored acquires stores releases accesses others =
-    others (Op.Access (Message.B x)) (Reply.Busy why) (λ c h. (refl, λ m e. e))
-reply-cases P (Op.Access (Message.C x)) (Reply.Value v) is stored acquires stores releases accesses others =
-    others (Op.Access (Message.C x)) (Reply.Value v) (λ c h. (refl, λ m e. e))
-reply-cases P (Op.Access (Message.C x)) Reply.Stored is stored acquires stores releases accesses others =
-    others (Op.Access (Message.C x)) Reply.Stored (λ c h. (refl, λ m e. e))
-reply-cases P (Op.Access (Message.C x)) Reply.Miss is stored acquires stores releases accesses others =
-    others (Op.Access (Message.C x)) Reply.Miss (λ c h. (refl, λ m e. e))
-reply-cases P (Op.Access (Message.C x)) (Reply.Busy why) is stored acquires stores releases accesses others =
-    others (Op.Access (Message.C x)) (Reply.Busy why) (λ c h. (refl, λ m e. e))
-reply-cases P (Op.Access (Message.D x)) (Reply.Value v) is stored acquires stores releases accesses others =
-    others (Op.Access (Message.D x)) (Reply.Value v) (λ c h. (refl, λ m e. e))
-reply-cases P (Op.Access (Message.D x)) Reply.Stored is stored acquires stores releases accesses others =
-    others (Op.Access (Message.D x)) Reply.Stored (λ c h. (refl, λ m e. e))
-reply-cases P (Op.Access (Message.D x)) Reply.Miss is stored acquires stores releases accesses others =
-    others (Op.Access (Message.D x)) Reply.Miss (λ c h. (refl, λ m e. e))
-reply-cases P (Op.Access (Message.D x)) (Reply.Busy why) is stored acquires stores releases accesses others =
-    others (Op.Access (Message.D x)) (Reply.Busy why) (λ c h. (refl, λ m e. e))
-reply-cases P (Op.Access (Message.E x)) (Reply.Value v) is stored acquires stores releases accesses others =
-    others (Op.Access (Message.E x)) (Reply.Value v) (λ c h. (refl, λ m e. e))
-reply-cases P (Op.Access (Message.E x)) Reply.Stored is stored acquires stores releases accesses others =
-    others (Op.Access (Message.E x)) Reply.Stored (λ c h. (refl, λ m e. e))
-reply-cases P (Op.Access (Message.E x)) Reply.Miss is stored acquires stores releases accesses others =
-    others (Op.Access (Message.E x)) Reply.Miss (λ c h. (refl, λ m e. e))
-reply-cases P (Op.Access (Message.E x)) (Reply.Busy why) is stored acquires stores releases accesses others =
-    others (Op.Access (Message.E x)) (Reply.Busy why) (λ c h. (refl, λ m e. e))
 reply-cases P o (Reply.Started source) is stored acquires stores releases accesses others = absurd is
+reply-cases P o r is stored acquires stores releases accesses others = others o r (λ c h. (refl, λ m e. e))
 
 -- ---- channels
 

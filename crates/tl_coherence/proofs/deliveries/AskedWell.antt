@@ -210,7 +210,4 @@ asked-well {w} config log h sys c terms o width is known = asked-cases terms o e
           replies = (refl, unopened _ closed);
           message = refl;
         }
-    well (Op.Access (Message.B x)) free = busy_well config c (Op.Access (Message.B x)) _ h m e
-    well (Op.Access (Message.C x)) free = busy_well config c (Op.Access (Message.C x)) _ h m e
-    well (Op.Access (Message.D x)) free = busy_well config c (Op.Access (Message.D x)) _ h m e
-    well (Op.Access (Message.E x)) free = busy_well config c (Op.Access (Message.E x)) _ h m e
+    well i free = busy_well config c i _ h m e

@@ -93,46 +93,7 @@ busy_well config c (Op.Access (Message.A x)) why h m e = record {
   replies = tt;
   message = refl;
 }
-busy_well config c (Op.Access (Message.B x)) why h m e = record {
-  may = tt;
-  word = tt;
-  source = tt;
-  reply = tt;
-  replies = tt;
-  message = refl;
-}
-busy_well config c (Op.Access (Message.C x)) why h m e = record {
-  may = tt;
-  word = tt;
-  source = tt;
-  reply = tt;
-  replies = tt;
-  message = refl;
-}
-busy_well config c (Op.Access (Message.D x)) why h m e = record {
-  may = tt;
-  word = tt;
-  source = tt;
-  reply = tt;
-  replies = tt;
-  message = refl;
-}
-busy_well config c (Op.Access (Message.E x)) why h m e = record {
-  may = tt;
-  word = tt;
-  source = tt;
-  reply = tt;
-  replies = tt;
-  message = refl;
-}
-busy_well config c o why h m e = record {
-  may = tt;
-  word = tt;
-  source = tt;
-  reply = tt;
-  replies = tt;
-  message = refl;
-}
+busy_well config c o why h m e = record { may = tt; word = tt; source = tt; reply = tt; replies = tt; message = refl }
 
 -- the number that a Load reads is the one memory's
 pub loaded_number : (f : Memory) (address size : ℕ) (bytes : List ℕ) → address % 64 + 2 ^ size ≤ 64

@@ -219,10 +219,7 @@ pub delivered_as : {w : ℕ} (config : Config) (log : Log w) (link : Link) (ch :
     → MemoryRelation h'.mail h'.state
     (one_memory_after config ((Deliver link ch, (stepped config (Deliver link ch) (system_after config log)).outcome)
     ∷ log)) → IsDelivered config log link ch h
-delivered_as {w} config log link ch h h' e carried beside = record {
-  carried = rw e carried;
-  beside = rw e beside;
-}
+delivered_as {w} config log link ch h h' e carried beside = record { carried = rw e carried; beside = rw e beside }
 
 pub delivered-unmoved : {w : ℕ} {config : Config} {log : Log w} (link : Link) (ch : Channel) (h : AbstractState w)
     → SimulationRelation config log h.mail h.request h.state (system_after config log)

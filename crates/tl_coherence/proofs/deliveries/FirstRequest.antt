@@ -2,8 +2,8 @@
 use Rattle.tl_coherence.proofs.deliveries.Imports.{IsWidth, Beat, MessageA, a_beat_of, beats_of, unfinished, Config}
 use Rattle.tl_coherence.proofs.deliveries.Imports.{on_link, block_at, same_block, reaction, End, must_wait}
 use Rattle.tl_coherence.proofs.deliveries.Imports.{AbstractState, kind_taken, Free, packet, is_on, Log, message_of}
-use Rattle.tl_coherence.proofs.deliveries.Imports.{System, Kind, Request, Acquire, Probe, ProbeAck, Release, Answer}
-use Rattle.tl_coherence.proofs.deliveries.Imports.{Grant, ReleaseAck, GrantAck, Packet, SimulationRelation}
+use Rattle.tl_coherence.proofs.deliveries.Imports.{System, Kind, Request, Acquire}
+use Rattle.tl_coherence.proofs.deliveries.Imports.{Packet, SimulationRelation}
 use Rattle.tl_coherence.proofs.deliveries.Imports.{MemoryRelation, Machine, ChannelRelation, accesses_answered}
 use Rattle.tl_coherence.proofs.deliveries.Imports.{performing, Channel, Message}
 use Rattle.std.proofs.Common.{◌≡◌, ℕ, suc, ◌+◌, ◌<◌, ◌==◌, true, false, List, [], ◌∷◌, None, length, refl, sym, ◌∙◌, ap}
@@ -174,13 +174,7 @@ arrival-first {w} {config} {log} h {sys} c x queue width is beats = go (h.state.
         let wanted = wanted-first c i rest is e in
         arrived Acquire i rest (acquire_wanted c i h.state wanted) (on_link-acquire h rest width is e
         wanted)
-    of_kind Probe i rest e = absurd (apart Probe i rest e refl)
-    of_kind ProbeAck i rest e = absurd (apart ProbeAck i rest e refl)
-    of_kind Release i rest e = absurd (apart Release i rest e refl)
-    of_kind Answer i rest e = absurd (apart Answer i rest e refl)
-    of_kind Grant i rest e = absurd (apart Grant i rest e refl)
-    of_kind ReleaseAck i rest e = absurd (apart ReleaseAck i rest e refl)
-    of_kind GrantAck i rest e = absurd (apart GrantAck i rest e refl)
+    of_kind k i rest e = absurd (apart k i rest e refl)
 
     go : (xs : List Packet) → (h.state.link c).a ≡ xs → IsArrival config h sys c x queue
     go [] e = let none : Here [] = rw e at (is.carried c Channel.A) in absurd (nothing x queue (sym none.1 ∙ beats))

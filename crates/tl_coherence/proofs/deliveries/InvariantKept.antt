@@ -90,16 +90,13 @@ pub ready-delivered : {w : ℕ} (config : Config) (log : Log w) (mail : AccessMe
     → SimulationRelation config log mail request s sys → (d : IsDelivery config mail s sys link ch x queue)
     → IsReady (next_tracker sys) link.0 d.first.kind d.first.number (shadow_of mail request s)
 ready-delivered config log mail request s sys link Channel.A x queue width h d = ready-a width h d
-ready-delivered config log mail request s sys link Channel.B x queue width h d =
-    ready-client link Channel.B d.first.kind d.first.number d.first.rest width h refl d.first.own d.moves d.beats
-    d.first.tokens d.first.next
 ready-delivered config log mail request s sys link Channel.C x queue width h d =
     ready_up (next_tracker sys) link.0 Channel.C d.first.kind d.first.number (shadow_of mail request s) refl d.first.own
-ready-delivered config log mail request s sys link Channel.D x queue width h d =
-    ready-client link Channel.D d.first.kind d.first.number d.first.rest width h refl d.first.own d.moves d.beats
-    d.first.tokens d.first.next
 ready-delivered config log mail request s sys link Channel.E x queue width h d =
     ready_up (next_tracker sys) link.0 Channel.E d.first.kind d.first.number (shadow_of mail request s) refl d.first.own
+ready-delivered config log mail request s sys link ch x queue width h d =
+    ready-client link ch d.first.kind d.first.number d.first.rest width h refl d.first.own d.moves d.beats
+    d.first.tokens d.first.next
 
 invariant-delivered : {w : ℕ} {config : Config} {log : Log w} {mail : AccessMessages w} {request : ℕ → MessageA w}
     {s : State (List ℕ)} {sys : System w} {link : Link} {ch : Channel} {x : Beat w} {queue : List (Beat w)} → IsWidth w

@@ -89,10 +89,8 @@ module _ {w : ℕ} (config : Config) (log : Log w) (h : AbstractState w) (sys : 
             source tracker k toks free (free_quiet n free d) unused) flowed
         go true None l = answered (access_taken c source m tracker true None toks h) refl
             (asks-left d h (access_taken c source m tracker true None toks h) l)
-        go false None l = answered (access_taken c source m tracker false None toks h) refl
-            (asks-left d h (access_taken c source m tracker false None toks h) l)
-        go false (Some k) l = answered (access_taken c source m tracker false (Some k) toks h) refl
-            (asks-left d h (access_taken c source m tracker false (Some k) toks h) l)
+        go false o l = answered (access_taken c source m tracker false o toks h) refl
+            (asks-left d h (access_taken c source m tracker false o toks h) l)
 
     -- ---- a ProbeAck
 

@@ -3,7 +3,7 @@ use Rattle.tl_coherence.proofs.flow.Imports.{IsWidth, Beat, Channel, Message, Me
 use Rattle.tl_coherence.proofs.flow.Imports.{channel_of, unfinished, Config, Level, Prune, Report, Profile}
 use Rattle.tl_coherence.proofs.flow.Imports.{on_link, broken_in_order}
 use Rattle.tl_coherence.proofs.flow.Imports.{broken_after, illegal, same_block, level_of, flow, Log}
-use Rattle.tl_coherence.proofs.flow.Imports.{View, Idle, Own, Other, Granting, Acknowledging, GrantedOther}
+use Rattle.tl_coherence.proofs.flow.Imports.{View, Granting, Acknowledging}
 use Rattle.tl_coherence.proofs.flow.Imports.{ProbeSent, ProbeAnswered, ReleasePhase, ReleaseSent, ReleaseAcked}
 use Rattle.tl_coherence.proofs.flow.Imports.{AcquirePhase, NoAcquire, AcquireOpen, ok, is_unreleased, is_unprobed}
 use Rattle.tl_coherence.proofs.flow.Imports.{Block, State, packet, shown, view, is_granting, is_acknowledging}
@@ -196,11 +196,7 @@ flows-b {w} {config} {log} {mail} {request} {s} {sys} c l x queue width is flowe
         elim [ ProbeSent k ↦ λ g i. cc | p ↦ λ g i. cc ] in
         let quiet = acknowledging_quiet ((s.block n).pair c) (view (s.block n).service c)
         ((is.invariant.blocks n).phases c) f in absurd (not_both ((s.block n).pair c).probing shows quiet)
-    unacknowledged n shows Idle f = refl
-    unacknowledged n shows Own f = refl
-    unacknowledged n shows (Other k) f = refl
-    unacknowledged n shows (Granting d k) f = refl
-    unacknowledged n shows GrantedOther f = refl
+    unacknowledged n shows v f = refl
 
     go : (k : Kind) (i : ℕ) → (s.link c).b ≡ packet k i ∷ first.rest → is_on Channel.B k ≡ true
         → IsNext x (unfinished Channel.B (sys.clients c).past) (message_of_kind k mail s c i)

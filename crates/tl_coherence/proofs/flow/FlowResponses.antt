@@ -149,9 +149,8 @@ unreleased_report w source p r n copy = (about OpC.ProbeAck (report_code r) 0 n 
 unreleased_prune : (w : ℕ) (source : ℕ) (p : Prune) (i n : ℕ) (copy : List ℕ) → (i == source) ≡ false
     → IsUnreleased {w = w} source (release p i n copy)
 unfolding IsUnreleased
-unreleased_prune w source Prune.TtoB i n copy e = (about OpC.ReleaseData (prune_code Prune.TtoB) i n copy, refl, e)
-unreleased_prune w source Prune.TtoN i n copy e = (about OpC.ReleaseData (prune_code Prune.TtoN) i n copy, refl, e)
 unreleased_prune w source Prune.BtoN i n copy e = (about OpC.Release (prune_code Prune.BtoN) i n zeros, refl, e)
+unreleased_prune w source p i n copy e = (about OpC.ReleaseData (prune_code p) i n copy, refl, e)
 
 rendered_report : (w : ℕ) (c n source : ℕ) (s : State (List ℕ))
     → IsUnreleased {w = w} source (block_message ProbeAck c n (s.block n))

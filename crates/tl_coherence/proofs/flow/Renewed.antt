@@ -41,10 +41,7 @@ use Rattle.tl_coherence.proofs.queues.Tokens.{set-same, set-other, set_at-same, 
 
 placed : (c k d j : ℕ) → ((d ≡ c) × (j ≡ k)) ⊎ ((d ≡ c) × (j ≡ k) → ⊥)
 placed c k d j = elim (cases_eq d c) [
-  | inl same ↦ elim (cases_eq j k) [
-    | inl here ↦ inl (same, here)
-    | inr other ↦ inr (λ both. other both.1)
-  ]
+  | inl same ↦ elim (cases_eq j k) [ inl here ↦ inl (same, here) | inr other ↦ inr (λ both. other both.1) ]
   | inr ne ↦ inr (λ both. ne both.0)
 ]
 

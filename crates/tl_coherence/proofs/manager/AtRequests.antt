@@ -133,12 +133,7 @@ at_manager-answered {w} {caching} {config} {mail} {request} {c} {k} {n} {m} {s} 
     let memory_is : answering.memory ≡ (effect (A m) e.memory).0 =
     cc (performed-access config (service_for c m e.trace) (with_beat c m k e.trace) e.memory is.access) in
     let memory_here : bytes_from answering.memory (64 * n) 64 ≡ performs m (s.block n).memory =
-    cc (
-      memory_is,
-      is.block,
-      performed-block (level_of config c) m e.memory is.comes.width lawful,
-      known.memory n,
-    ) in
+    cc (memory_is, is.block, performed-block (level_of config c) m e.memory is.comes.width lawful, known.memory n) in
     let memory_else : (i : ℕ) → (i ≡ n → ⊥) → bytes_from answering.memory (64 * i) 64 ≡ bytes_from e.memory (64 * i)
     64 = λ i other. cc (done, memory-coming i is.comes (λ f. other (f ∙ is.block))) in
     let memory_now : (i : ℕ) → bytes_from answering.memory (64 * i) 64 ≡ (u.block i).memory = λ i. elim (cases_eq i n) [

@@ -1,6 +1,6 @@
 -- The manager's end beside the protocol: all that is kept of it in one, and what follows from one trace and one memory.
 use Rattle.tl_coherence.proofs.manager.Imports.{MessageA, Config, bytes_from, IsKept, End, IsInvariant, Log}
-use Rattle.tl_coherence.proofs.manager.Imports.{ManagerRelation, Service, Free, Waits, GrantSent, GrantTaken, State}
+use Rattle.tl_coherence.proofs.manager.Imports.{ManagerRelation, Service, Waits, GrantSent, State}
 use Rattle.tl_coherence.proofs.manager.Imports.{AccessMessages, ServedSourceRelation, System, SimulationRelation}
 use Rattle.tl_coherence.proofs.manager.Imports.{IsServedWith}
 use Rattle.std.proofs.Common.{◌≡◌, ℕ, ◌*◌, Bool, List, [], sym, ◌∙◌}
@@ -50,10 +50,8 @@ at_manager-traced {caching} {config} mail {request} {s} {e} inv kept is with mem
 same_with : {w : ℕ} (mail : AccessMessages w) (service after : Service) (m : MessageA w) → SameService service after
     → IsServedWith mail service m → IsServedWith mail after m
 same_with mail (GrantSent q d k) (Waits r own source j) m e ok = absurd cc
-same_with mail Free after m e ok = rw e ok
-same_with mail (Waits r own source k) after m e ok = rw e ok
-same_with mail (GrantTaken r) after m e ok = rw e ok
 same_with mail (GrantSent q d k) after m e ok = tt
+same_with mail service after m e ok = rw e ok
 
 -- what the manager's end knows stays, where the blocks are the same to it
 pub at_manager-same : {w : ℕ} {caching : ℕ → Bool} {config : Config} {mail : AccessMessages w} {request : ℕ

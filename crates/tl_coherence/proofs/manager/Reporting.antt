@@ -58,29 +58,23 @@ about_none b opcode param source n truth reports releases bare = record {
 pub report-about : {w : ℕ} (r : Report) (n : ℕ) (truth : List ℕ) → IsWidth w → length truth ≡ 64
     → (m : MessageC w) × (probe_ack OpB.ProbeBlock (report_left r) r n truth ≡ Message.C m)
     × IsAbout true n (report_code r) (same_perm (report_left r) Perm.Trunk) truth m
-report-about Report.TtoB n truth width long =
-    (_, refl, about_data true OpC.ProbeAckData (report_code Report.TtoB) 0 n truth width refl refl refl long)
-report-about Report.TtoN n truth width long =
-    (_, refl, about_data true OpC.ProbeAckData (report_code Report.TtoN) 0 n truth width refl refl refl long)
-report-about Report.TtoT n truth width long =
-    (_, refl, about_data true OpC.ProbeAckData (report_code Report.TtoT) 0 n truth width refl refl refl long)
 report-about Report.BtoN n truth width long =
     (_, refl, about_none true OpC.ProbeAck (report_code Report.BtoN) 0 n truth refl refl refl)
 report-about Report.BtoB n truth width long =
     (_, refl, about_none true OpC.ProbeAck (report_code Report.BtoB) 0 n truth refl refl refl)
 report-about Report.NtoN n truth width long =
     (_, refl, about_none true OpC.ProbeAck (report_code Report.NtoN) 0 n truth refl refl refl)
+report-about r n truth width long =
+    (_, refl, about_data true OpC.ProbeAckData (report_code r) 0 n truth width refl refl refl long)
 
 -- a Release
 pub release-about : {w : ℕ} (r : Prune) (source n : ℕ) (truth : List ℕ) → IsWidth w → length truth ≡ 64
     → (m : MessageC w) × (release r source n truth ≡ Message.C m) × IsAbout false n (prune_code r)
     (same_perm (prune_left r) Perm.Trunk) truth m × (m.source ≡ source)
-release-about Prune.TtoB source n truth width long =
-    (_, refl, about_data false OpC.ReleaseData (prune_code Prune.TtoB) source n truth width refl refl refl long, refl)
-release-about Prune.TtoN source n truth width long =
-    (_, refl, about_data false OpC.ReleaseData (prune_code Prune.TtoN) source n truth width refl refl refl long, refl)
 release-about Prune.BtoN source n truth width long =
     (_, refl, about_none false OpC.Release (prune_code Prune.BtoN) source n truth refl refl refl, refl)
+release-about r source n truth width long =
+    (_, refl, about_data false OpC.ReleaseData (prune_code r) source n truth width refl refl refl long, refl)
 
 pub reported-prune : (r : Prune) → reported (prune_code r) ≡ prune_right r
 reported-prune Prune.TtoB = refl

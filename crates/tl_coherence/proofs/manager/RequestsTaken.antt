@@ -147,8 +147,6 @@ at_manager-request_taken {w} {config} {log} h {sys} {c} {source} {k} rest is fir
         → IsInvariant (is_caching config) (access_taken c source m tracker p o rest h).state
         → IsManagerOf config (access_taken c source m tracker p o rest h) after
     go true None f g kept = absurd (let no : false ≡ true = rw g at f in cc)
-    go false None f g kept = answered false None kept refl (done f)
-    go false (Some j) f g kept = answered false (Some j) kept refl (done f)
     go true (Some j) f g kept =
         let some = somebody-probed c k n false m is asked.access refl f in
         let same : some.0 ≡ j = some_cap (cap_probed m.opcode m.param) (Some j) some.0 j some.1 g refl in
@@ -164,6 +162,7 @@ at_manager-request_taken {w} {config} {log} h {sys} {c} {source} {k} rest is fir
           unwaited = unwaited;
         })
         (rw same at some.2) asked.is_it (at_manager-matched is)
+    go false o f g kept = answered false o kept refl (done f)
 
 -- ---- an Acquire
 

@@ -18,10 +18,7 @@ IsElsewhere c source d i = d ≡ c → i ≡ source → ⊥
 
 pub place-cases : (c source d i : ℕ) → ((d ≡ c) × (i ≡ source)) ⊎ IsElsewhere c source d i
 place-cases c source d i = elim (cases_eq d c) [
-  | inl same ↦ elim (cases_eq i source) [
-    | inl also ↦ inl (same, also)
-    | inr other ↦ inr (λ e f. other f)
-  ]
+  | inl same ↦ elim (cases_eq i source) [ inl also ↦ inl (same, also) | inr other ↦ inr (λ e f. other f) ]
   | inr other ↦ inr (λ e f. other e)
 ]
 

@@ -1,14 +1,14 @@
 -- A delivery is next exactly while something is outstanding.
 use Rattle.tl_coherence.proofs.outstanding.Imports.{IsWidth, Beat, Channel, MessageA, Config, EndConfig, outstanding}
 use Rattle.tl_coherence.proofs.outstanding.Imports.{Log, system_after, next_delivery, is_used, is_let, open_requests}
-use Rattle.tl_coherence.proofs.outstanding.Imports.{open_releases, State, SourceState, SourceFree, Asked, Acquires}
+use Rattle.tl_coherence.proofs.outstanding.Imports.{open_releases, State, SourceState, SourceFree}
 use Rattle.tl_coherence.proofs.outstanding.Imports.{terms_at, Packet, one_if, SimulationRelation}
 use Rattle.std.proofs.Common.{◌≡◌, ℕ, zero, suc, ◌+◌, ◌<◌, Bool, true, false, List, [], ◌∷◌, length, refl, sym, ◌∙◌, ap}
 use Rattle.std.proofs.Common.{◌⊎◌, inl, inr, arith, Option, Some, None}
 use Rattle.std.{specs.Prelude.◌==◌, specs.Prelude.is_none, proofs.lemmas.Bool.cases_eq, proofs.lemmas.Bool.eqb-true}
 use Rattle.tl_beat.specs.declared.beat.Link.{Link}
-use Rattle.tl_coherence.specs.{statement.Coherent.IsCoherent, bound.Rank.total, protocol.Protocol.InService}
-use Rattle.tl_coherence.specs.{protocol.Protocol.Replied, statement.OneMemory.one_memory_after}
+use Rattle.tl_coherence.specs.{statement.Coherent.IsCoherent, bound.Rank.total}
+use Rattle.tl_coherence.specs.{statement.OneMemory.one_memory_after}
 use Rattle.tl_coherence.specs.{refinement.PacketMessages.AccessMessages}
 use Rattle.tl_coherence.proofs.{simulation.Bounded.matched-bounded, protocol.TokenNames.AreBounded}
 use Rattle.tl_coherence.proofs.{outstanding.Counted.AreCounted, outstanding.Counted.outstanding-open}
@@ -91,10 +91,7 @@ module _ {w : ℕ} (config : Config) (log : Log w) (mail : AccessMessages w) (re
 
       go : (u : SourceState) → s.uses c source ≡ u → s.uses c source ≡ SourceFree
       go SourceFree e = e
-      go Asked e = used Asked e (λ f. absurd cc)
-      go (InService n) e = used (InService n) e (λ f. absurd cc)
-      go Replied e = used Replied e (λ f. absurd cc)
-      go (Acquires n) e = used (Acquires n) e (λ f. absurd cc)
+      go u e = used u e (λ f. absurd cc)
 
   closed_let : (c source : ℕ) (terms : EndConfig) → terms_at config c ≡ Some terms → s.lets c source ≡ None
   closed_let c source terms at = go (s.lets c source) refl

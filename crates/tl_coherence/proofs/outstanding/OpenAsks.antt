@@ -72,13 +72,7 @@ module _ {X : Type 0} (config : Config) (s : State X) where
       let a = acks-same (clients_in config) (release_asked c n source r s).link s.link
       (λ d. set-part (λ x. x.e) c (with_c (packet Release n) (s.link c)) s.link refl d) in
       record {
-        requests = omega (
-          arith,
-          a,
-          requests-split config s,
-          requests-split config
-              (release_asked c n source r s),
-        );
+        requests = omega (arith, a, requests-split config s, requests-split config (release_asked c n source r s));
         releases = omega (arith, l, was);
       }
 

@@ -169,13 +169,7 @@ module _ {X : Type 0} (config : Config) (s : State X) where
       let a = acks-same (clients_in config) (release_ack_taken c n rest s).link s.link
       (set_e c (record (s.link c) { d = rest }) s.link refl) in
       record {
-        requests = omega (
-          arith,
-          a,
-          requests-split config s,
-          requests-split config
-              (release_ack_taken c n rest s),
-        );
+        requests = omega (arith, a, requests-split config s, requests-split config (release_ack_taken c n rest s));
         releases = omega (arith, l, was);
       }
 
@@ -185,14 +179,7 @@ module _ {X : Type 0} (config : Config) (s : State X) where
       let a = acks-set (clients_in config) c (record (s.link c) { e = rest }) s.link few in
       let more : length (s.link c).e ≡ suc (length rest) = ap length first in
       record {
-        requests = omega (
-          arith,
-          a,
-          more,
-          requests-split config s,
-          requests-split config
-              (grant_ack_taken c n rest s),
-        );
+        requests = omega (arith, a, more, requests-split config s, requests-split config (grant_ack_taken c n rest s));
         releases = refl;
       }
 

@@ -259,11 +259,9 @@ module _ {w : ℕ} (config : Config) (log : Log w) (h : AbstractState w) (width 
           → is_moving (stepped config (Deliver link i) (system_after config log)).outcome ≡ true
           → IsCounted (Deliver link i) (stepped config (Deliver link i) (system_after config log)).outcome
           (abstract_step config (Deliver link i) (system_after config log) h)
-      go Channel.A p m = counted-manager link Channel.A p.2 p.0 p.1 p.3.1 refl p.3.0 m
       go Channel.B p m = counted-b link p.2 p.0 p.1 p.3.1 p.3.0 m
-      go Channel.C p m = counted-manager link Channel.C p.2 p.0 p.1 p.3.1 refl p.3.0 m
       go Channel.D p m = counted-d link p.2 p.0 p.1 p.3.1 p.3.0 m
-      go Channel.E p m = counted-manager link Channel.E p.2 p.0 p.1 p.3.1 refl p.3.0 m
+      go i p m = counted-manager link i p.2 p.0 p.1 p.3.1 refl p.3.0 m
 
   -- What an event starts and ends is what it opens and closes.
   pub counted-followed : (event : Event w) → IsCounted event (stepped config event (system_after config log)).outcome

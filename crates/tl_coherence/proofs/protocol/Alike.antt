@@ -20,10 +20,7 @@ use Rattle.tl_coherence.proofs.protocol.AlikeRequests.{taken_ungranted, ungrante
 -- a pair of which the Probe is no longer on its way
 pub alike-probed : (c : ℕ) (k : Cap) (b : Block (List ℕ)) → (b.pair c).probing ≡ ProbeSent k → (i : ℕ)
     → AreAlike i b (probed_block c k b)
-alike-probed c k b sent i = elim (cases_eq i c) [
-  | inl same ↦ rw same here
-  | inr other ↦ there other
-]
+alike-probed c k b sent i = elim (cases_eq i c) [ inl same ↦ rw same here | inr other ↦ there other ]
   where
     after : ClientBlock
     after = after_probe k (b.pair c)

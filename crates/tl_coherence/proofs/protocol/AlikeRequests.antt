@@ -92,11 +92,7 @@ alike-acquiring c source whole g bytes {b} well calm i = elim (cases_eq i c) [
 
     there : (i ≡ c → ⊥) → AreAlike i b new
     there ne Acquire e f = (
-      (
-        ap (λ (p : ClientBlock). p.acquiring) (set-other c i after b.pair ne),
-        set-other c i source
-            b.source ne,
-      ),
+      (ap (λ (p : ClientBlock). p.acquiring) (set-other c i after b.pair ne), set-other c i source b.source ne),
       inr refl,
     )
     there ne Probe e f = (ap (λ (p : ClientBlock). p.probing) (set-other c i after b.pair ne), inr refl)
@@ -109,10 +105,7 @@ alike-acquiring c source whole g bytes {b} well calm i = elim (cases_eq i c) [
 
 pub alike-releasing : (c source : ℕ) (r : Prune) (b : Block (List ℕ)) → (b.pair c).letting ≡ NoRelease → (i : ℕ)
     → AreAlike i b (releasing_block c source r b)
-alike-releasing c source r b kept i = elim (cases_eq i c) [
-  | inl same ↦ rw same here
-  | inr other ↦ there other
-]
+alike-releasing c source r b kept i = elim (cases_eq i c) [ inl same ↦ rw same here | inr other ↦ there other ]
   where
     after : ClientBlock
     after = after_release r (b.pair c)
@@ -141,11 +134,7 @@ alike-releasing c source r b kept i = elim (cases_eq i c) [
     there ne Probe e f = (ap (λ (p : ClientBlock). p.probing) (set-other c i after b.pair ne), inr refl)
     there ne ProbeAck e f = (ap (λ (p : ClientBlock). p.probing) (set-other c i after b.pair ne), inr refl)
     there ne Release e f = (
-      (
-        ap (λ (p : ClientBlock). p.letting) (set-other c i after b.pair ne),
-        set-other c i source
-            b.release_source ne,
-      ),
+      (ap (λ (p : ClientBlock). p.letting) (set-other c i after b.pair ne), set-other c i source b.release_source ne),
       inr refl,
     )
     there ne Grant e f = ((refl, refl, refl), inr refl)

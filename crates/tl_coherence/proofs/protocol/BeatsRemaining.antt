@@ -1,8 +1,8 @@
 -- How many beats of a message are left on its channel, before and after each event.
 use Rattle.tl_coherence.proofs.protocol.Imports.{Beat, Channel, beats_of, Move, Stays, Pushes, Pops, IsMoved}
 use Rattle.tl_coherence.proofs.protocol.Imports.{channel_for, State, packet, packets_on, is_on, is_transfer, shown}
-use Rattle.tl_coherence.proofs.protocol.Imports.{AccessMessages, block_message, Kind, Request, Acquire, Probe, ProbeAck}
-use Rattle.tl_coherence.proofs.protocol.Imports.{Release, Answer, Grant, ReleaseAck, GrantAck, Packet, one_if, count}
+use Rattle.tl_coherence.proofs.protocol.Imports.{AccessMessages, block_message, Kind, Request}
+use Rattle.tl_coherence.proofs.protocol.Imports.{Answer, Packet, one_if, count}
 use Rattle.std.proofs.Common.{◌≡◌, ℕ, ◌-◌, ◌<◌, ◌≤◌, Bool, true, false, List, [], ◌∷◌, ◌++◌, refl, sym, ap, subst}
 use Rattle.std.proofs.Common.{arith, ◌⊎◌, inl, inr}
 use Rattle.std.{specs.Prelude.length, proofs.lemmas.Bool.cases_eq}
@@ -115,20 +115,7 @@ module _ {w : ℕ} (caching : ℕ → Bool) (n : ℕ) (moves : ℕ → Channel �
       (shows_after d Request m after)
   message-same d Answer m before after = showing.answers d m (shows_before d Answer m before)
       (shows_after d Answer m after)
-  message-same d Acquire m before after = transfer_same d Acquire m refl (shows_before d Acquire m before)
-      (shows_after d Acquire m after)
-  message-same d Probe m before after = transfer_same d Probe m refl (shows_before d Probe m before)
-      (shows_after d Probe m after)
-  message-same d ProbeAck m before after = transfer_same d ProbeAck m refl (shows_before d ProbeAck m before)
-      (shows_after d ProbeAck m after)
-  message-same d Release m before after = transfer_same d Release m refl (shows_before d Release m before)
-      (shows_after d Release m after)
-  message-same d Grant m before after = transfer_same d Grant m refl (shows_before d Grant m before)
-      (shows_after d Grant m after)
-  message-same d ReleaseAck m before after = transfer_same d ReleaseAck m refl (shows_before d ReleaseAck m before)
-      (shows_after d ReleaseAck m after)
-  message-same d GrantAck m before after = transfer_same d GrantAck m refl (shows_before d GrantAck m before)
-      (shows_after d GrantAck m after)
+  message-same d k m before after = transfer_same d k m refl (shows_before d k m before) (shows_after d k m after)
 
   -- as much is left of a token that stays
   pub left-same : (c : ℕ) (ch : Channel) (rest rest' : ℕ → Channel → List (Beat w))

@@ -178,10 +178,7 @@ report_answers-kept {X} caching c q n r f source k rest s inv first last =
     λ d e. rw (eqb-true d c e) last.answered in
     -- the link and the pair of a client, by whether it is c
     let popped : (d : ℕ) → popped_link c rest s.link d ≡ (if d == c then record (s.link d) { c = rest } else s.link d) =
-    λ d. elim (cases_eq d c) [
-      | inl same ↦ rw (same, same_number c) refl
-      | inr ne ↦ rw (ne_eqb d c ne) refl
-    ] in
+    λ d. elim (cases_eq d c) [ inl same ↦ rw (same, same_number c) refl | inr ne ↦ rw (ne_eqb d c ne) refl ] in
     let by_link : (d : ℕ) (ch : Channel) → IsMoved (ended_move (d == c) (d == q) n source ch) (packets_on ch (s.link d))
     (packets_on ch (if d == q then with_d (packet Answer source) (if d == c then record (s.link d) { c = rest } else
     s.link d) else (if d == c then record (s.link d) { c = rest } else s.link d)))
@@ -228,10 +225,7 @@ report_answers-kept {X} caching c q n r f source k rest s inv first last =
     tracked = is_of-is n (s.tracked tracker) (inv.named.trackers tracker n ∙ rw (last.waits, same_number tracker) refl)
 
     pair_is : (d : ℕ) → set c after old d ≡ (if d == c then after_report r (old d) else old d)
-    pair_is d = elim (cases_eq d c) [
-      | inl same ↦ rw (same, same_number c) refl
-      | inr ne ↦ rw (ne_eqb d c ne) refl
-    ]
+    pair_is d = elim (cases_eq d c) [ inl same ↦ rw (same, same_number c) refl | inr ne ↦ rw (ne_eqb d c ne) refl ]
 
     by_pair : (d : ℕ) (j : Kind) (m : Move)
         → agrees m j n (shows j (old d) (Other k)) (shows j (if d == c then after_report r (old d) else old d) Idle)

@@ -202,8 +202,7 @@ grows_to_trunk _ = true
 
 pub low_none : (k : Cap) (p : Perm) → k ≡ Cap.ToN → perm_le p (cap_right k) ≡ true → same_perm p Perm.None ≡ true
 low_none k Perm.None e f = refl
-low_none k Perm.Branch e f = absurd (let g : perm_le Perm.Branch (cap_right Cap.ToN) ≡ true = rw e at f in cc)
-low_none k Perm.Trunk e f = absurd (let g : perm_le Perm.Trunk (cap_right Cap.ToN) ≡ true = rw e at f in cc)
+low_none k p e f = absurd (let g : perm_le p (cap_right Cap.ToN) ≡ true = rw e at f in cc)
 
 is_none : (k : Cap) → same_cap k Cap.ToN ≡ true → k ≡ Cap.ToN
 is_none Cap.ToN e = refl

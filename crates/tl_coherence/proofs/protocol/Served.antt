@@ -155,8 +155,6 @@ sender_shows n j p t e = absurd cc
 other_shows : (n : ℕ) (j : Kind) (m : Move) (k : Cap) (p : ClientBlock) (above : Bool) → is_transfer j ≡ true
     → spares m Acquire ≡ true → is_unprobed p.probing ≡ true → is_above k p.recorded ≡ above
     → agrees (request_move m above n (channel_for j)) j n (shows j p Idle) (shows j (after_served k p) (Other k)) ≡ true
-other_shows n Request m k p above t u q e = absurd cc
-other_shows n Answer m k p above t u q e = absurd cc
 other_shows n Acquire m k p above t u q e = spared-agrees m Acquire n (is_wanting p.acquiring && true) u
 other_shows n Probe m k p true t u q e =
     let not_sent : (y : ProbePhase) → is_unprobed y ≡ true → is_sent y ≡ false =
@@ -169,6 +167,7 @@ other_shows n Release m k p above t u q e = same_again (is_releasing p.letting)
 other_shows n Grant m k p above t u q e = refl
 other_shows n ReleaseAck m k p above t u q e = same_again (is_acked p.letting)
 other_shows n GrantAck m k p above t u q e = refl
+other_shows n j m k p above t u q e = absurd cc
 
 -- both, by whether it is an Acquire, and whether this is the sender
 any_shows : (n source : ℕ) (j : Kind) (own x : Bool) (k : Cap) (p : ClientBlock) → is_transfer j ≡ true

@@ -84,13 +84,7 @@ shown_there {s} c ch k n inv on_it there = go k refl
     go : (j : Kind) → k ≡ j → shows_it s c j n ≡ true
     go Request e = there_shown _ (is_asked (s.uses c n)) (rw e at on_k) (inv.requests c n)
     go Answer e = there_shown _ (is_replied (s.uses c n)) (rw e at on_k) (inv.answers c n)
-    go Acquire e = there_shown _ (shown Acquire c (s.block n)) (rw e at on_k) (inv.transfers c Acquire refl n)
-    go Probe e = there_shown _ (shown Probe c (s.block n)) (rw e at on_k) (inv.transfers c Probe refl n)
-    go ProbeAck e = there_shown _ (shown ProbeAck c (s.block n)) (rw e at on_k) (inv.transfers c ProbeAck refl n)
-    go Release e = there_shown _ (shown Release c (s.block n)) (rw e at on_k) (inv.transfers c Release refl n)
-    go Grant e = there_shown _ (shown Grant c (s.block n)) (rw e at on_k) (inv.transfers c Grant refl n)
-    go ReleaseAck e = there_shown _ (shown ReleaseAck c (s.block n)) (rw e at on_k) (inv.transfers c ReleaseAck refl n)
-    go GrantAck e = there_shown _ (shown GrantAck c (s.block n)) (rw e at on_k) (inv.transfers c GrantAck refl n)
+    go j e = there_shown _ (shown j c (s.block n)) (rw e at on_k) (inv.transfers c j refl n)
 
 -- ---- which token a source, or a tracker, is of
 

@@ -152,13 +152,7 @@ messages-stay {w} {n} {moves} {mail} {mail'} {s} {s'} event d ch =
         (event.before.requests d i) (event.after.requests d i))
     mine Answer i own = replied i (here Answer i (is_replied (s.uses d i)) (is_replied (s'.uses d i)) own
         (event.before.answers d i) (event.after.answers d i))
-    mine Acquire i own = turned Acquire i refl refl (transfer Acquire i own refl)
-    mine Probe i own = turned Probe i refl refl (transfer Probe i own refl)
-    mine ProbeAck i own = turned ProbeAck i refl refl (transfer ProbeAck i own refl)
-    mine Release i own = turned Release i refl refl (transfer Release i own refl)
-    mine Grant i own = turned Grant i refl refl (transfer Grant i own refl)
-    mine ReleaseAck i own = turned ReleaseAck i refl refl (transfer ReleaseAck i own refl)
-    mine GrantAck i own = turned GrantAck i refl refl (transfer GrantAck i own refl)
+    mine k i own = turned k i refl refl (transfer k i own refl)
 
     each : (k : Kind) (i : ℕ) (b : Bool) → is_on ch k ≡ b → Kept k i
     each k i true e = mine k i e

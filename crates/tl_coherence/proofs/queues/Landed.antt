@@ -156,20 +156,15 @@ landed-client {w} c ch x queue m e sys to_client first is heard = record {
     rests : (d : ℕ) (at : Channel)
         → unfinished at (receiver at d after) ≡ (if (d == c) && same_channel at ch then grown x
         (unfinished at (receiver at d sys)) else unfinished at (receiver at d sys))
-    rests d Channel.A = theirs d Channel.A (not_here ch Channel.A to_client refl)
     rests d Channel.B = ours d Channel.B (cases_eq d c)
-    rests d Channel.C = theirs d Channel.C (not_here ch Channel.C to_client refl)
     rests d Channel.D = ours d Channel.D (cases_eq d c)
-    rests d Channel.E = theirs d Channel.E (not_here ch Channel.E to_client refl)
+    rests d at = theirs d at (not_here ch at to_client refl)
 
 -- a client is asked: its message is handed out, if there is one
 pub handed-client : {w : ℕ} (c : ℕ) (m : Option (Message w)) (e : client.Endpoint w) (sys : System w)
     → ((at : Channel) → unfinished at e.past ≡ unfinished at (sys.clients c).past)
     → IsHanded (pushes_at c (pushes_of m)) sys (with_messages (handed_by c m) (with_client c e sys))
-handed-client {w} c m e sys same = record {
-  channels = λ d at. channels-handed c m base d at;
-  rests = rests;
-}
+handed-client {w} c m e sys same = record { channels = λ d at. channels-handed c m base d at; rests = rests }
   where
     base : System w
     base = with_client c e sys
@@ -191,11 +186,9 @@ handed-client {w} c m e sys same = record {
     theirs d at = cc (manager-with_messages (handed_by c m) base)
 
     rests : (d : ℕ) (at : Channel) → unfinished at (receiver at d after) ≡ unfinished at (receiver at d sys)
-    rests d Channel.A = theirs d Channel.A
     rests d Channel.B = ours d Channel.B (cases_eq d c)
-    rests d Channel.C = theirs d Channel.C
     rests d Channel.D = ours d Channel.D (cases_eq d c)
-    rests d Channel.E = theirs d Channel.E
+    rests d at = theirs d at
 
 -- ---- at the manager
 
@@ -258,11 +251,9 @@ rests-manager {w} c ch x queue handed e sys to_manager is heard = rests
     rests : (d : ℕ) (at : Channel)
         → unfinished at (receiver at d after) ≡ (if (d == c) && same_channel at ch then grown x
         (unfinished at (receiver at d sys)) else unfinished at (receiver at d sys))
-    rests d Channel.A = theirs d Channel.A refl (cases_eq d c)
     rests d Channel.B = ours d Channel.B (not_here ch Channel.B to_manager refl)
-    rests d Channel.C = theirs d Channel.C refl (cases_eq d c)
     rests d Channel.D = ours d Channel.D (not_here ch Channel.D to_manager refl)
-    rests d Channel.E = theirs d Channel.E refl (cases_eq d c)
+    rests d at = theirs d at refl (cases_eq d c)
 
 pub landed-manager : {w : ℕ} (c : ℕ) (ch : Channel) (x : Beat w) (queue : List (Beat w)) (pushes : ℕ → Channel
     → Option (Message w)) (handed : Handed w) (e : manager_end.End w) (sys : System w) → is_to_client ch ≡ false

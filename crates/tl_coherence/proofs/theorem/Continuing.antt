@@ -120,10 +120,7 @@ answering-delivered {w} config log link ch h width is = go (is_moving (stepped c
         let t = manager-moves config link at sys terms x queue known beats theirs moving in
         let same = ap (λ (s : Step w). accesses_answered s.handed) t.step_is in
         let still = ap (λ (s : Step w). moved (Deliver link at) s.outcome m) t.step_is in
-        elim once [
-          | inl none ↦ inl (same ∙ none)
-          | inr one ↦ inr (one.0, one.1, same ∙ one.2, one.3, still)
-        ]
+        elim once [ inl none ↦ inl (same ∙ none) | inr one ↦ inr (one.0, one.1, same ∙ one.2, one.3, still) ]
 
     moves : (at : Channel) (terms : EndConfig) (beats : List (Beat w)) → terms_at config c ≡ Some terms
         → sys.channels c at ≡ beats → is_moving (stepped config (Deliver link at) sys).outcome ≡ true → Then at

@@ -106,10 +106,7 @@ lone_drained zero is = is
 lone_drained {config} (suc k) {log} {c} {n} {source} {a} is =
     let o = next_delivery config (system_after config log) in
     lone_drained k
-    (record {
-      given = given_delivering o is.given;
-      lone = lone_next o is.given is.lone;
-    })
+    (record { given = given_delivering o is.given; lone = lone_next o is.given is.lone })
 
 -- ---- what it has brought
 

@@ -1,7 +1,8 @@
 #!/usr/bin/env python3
 """agree.py [--long] [--tool TLTOOL]: replays traces into tl_link_properties, in Icarus, and compares the first fault, its
 line and its rule, with what is said of them: by `tltool monitor` under both profiles, and under liberties by
-reference.py, which is compared with the command too. Then twenty wrong modules have to be told apart.
+reference.py, which is compared with the command too. M1 and M4 are compared with `tltool coherent`. Then the wrong modules
+of wrong.py have to be told apart.
 
 Traces: the examples, random worlds (`tltool random`) and these spoiled, and links drawn at random that end in a fault. Half of
 them are replayed with several beats at one edge."""

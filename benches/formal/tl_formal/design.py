@@ -39,7 +39,7 @@ class Design:
         except (OSError, tomllib.TOMLDecodeError) as error:
             raise Unreadable(f"{map_file}: {error}") from error
         known = {"top", "files", "side", "clock", "reset", "reset_high", "width", "level", "links", "liberties", "source_bits", "sink_bits",
-                 "address_bits", "steady", "ports", "parameters", "fixed", "fields", "addresses", "include", "only"}
+                 "address_bits", "steady", "ports", "parameters", "fixed", "fields", "addresses", "include", "only", "own"}
         if set(table) - known:
             raise Unreadable(f"{map_file}: no such entry: {', '.join(sorted(set(table) - known))}")
         take = lambda name, default: table.get(name, default)
@@ -56,6 +56,7 @@ class Design:
         self.liberties = sum(1 << LIBERTIES.index(it) for it in take("liberties", []))
         self.pattern = take("ports", "{channel}_{field}")
         self.parameters, self.fixed = {**take("parameters", {})}, {**take("fixed", {})}
+        self.own = take("own", False)
         self.fields, self.addresses, self.only = take("fields", {}), take("addresses", {}), take("only", [])
         for name, value in changes.items():
             (self.fixed if name in self.fixed else self.parameters)[name] = value

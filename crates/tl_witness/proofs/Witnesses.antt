@@ -3,20 +3,23 @@ use Rattle.std.proofs.Common.{◌≡◌, ℕ, suc, zero, pred, List, [], ◌∷�
 use Rattle.std.proofs.Common.{length, inl, inr, refl, sym}
 use Rattle.std.proofs.Common.{ap, ◌∙◌, Bool, true, false, Option, Some, None, slice_get, slice_set, arith}
 use Rattle.std.proofs.Common.{append_assoc}
-use Rattle.std.specs.Prelude.{if◌then◌else◌, option_map, ◌==◌}
-use Rattle.std.proofs.lemmas.Bool.{ne_eqb}
+use Rattle.std.specs.Prelude.{codes, option_map, ◌*◌}
+use Rattle.std.proofs.lemmas.Bool.{eq-eqb, lt-ltb, ne_eqb}
 use Rattle.std.proofs.lemmas.List.{append-nil, length-set}
 use Rattle.std.proofs.lemmas.Option.{same_Some}
 use Rattle.tl_beat.specs.declared.beat.Beat.{Beat}
 use Rattle.tl_beat.specs.declared.beat.Link.{Link}
+use Rattle.tl_beat.specs.statement.Digits.{digits}
+use Rattle.tl_explain.specs.statement.Sentences.{perm_name}
 use Rattle.tl_params.specs.declared.perm.Perm.{Perm}
 use Rattle.tl_rules.specs.statement.Conformance.{Trace, on_link}
 use Rattle.tl_rules.specs.statement.History.{held}
 use Rattle.tl_rules.specs.statement.Windows.{leaves}
 use Rattle.tl_beat.specs.declared.channel.Channel.TheVariants as channel
-use Rattle.tl_explain.specs.code.Recorded.{IsBegun}
+use Rattle.tl_explain.specs.code.Recorded.{IsBegun, burst_on}
 use Rattle.tl_explain.specs.declared.bursts.Begun.{Begun}
-use Rattle.tl_monitor.specs.statement.Granting.{coming, given_by}
+use Rattle.tl_monitor.specs.statement.Granting.{coming, coming_on, given_by}
+use Rattle.tl_params.specs.declared.level.Level.{Level}
 use Rattle.tl_explain.specs.code.Recorded.{IsRecord}
 use Rattle.tl_explain.specs.declared.reason.Held.{Held}
 use Rattle.tl_explain.specs.declared.recorder.Recorder.{Recorder}
@@ -32,8 +35,8 @@ use Rattle.tl_rules.specs.statement.Windows.{needs}
 use Rattle.tl_together.specs.code.Windows.{asked_at}
 use Rattle.tl_witness.specs.code.Witness.{IsFresh, KnowsWitness, Records}
 use Rattle.tl_witness.specs.declared.witness.Witness.{Witness}
-use Rattle.tl_witness.specs.statement.Grounds.{access_text, asked_line, conflict_by, conflicts_text, grantee_line}
-use Rattle.tl_witness.specs.statement.Grounds.{holder_line, holder_text, holders_text}
+use Rattle.tl_witness.specs.statement.Grounds.{access_text, asked_line, conflict_by, conflicts_text, holder_text}
+use Rattle.tl_witness.specs.statement.Grounds.{holders_text, permission_line, since_text}
 
 -- ---- elements of lists
 
@@ -162,7 +165,7 @@ holder-left link block given p m left t since is leaving =
 -- one that holds more
 pub holder-told : {w : ℕ} (link block : ℕ) (given p : Perm) (m : Option Mention) (left : Bool) (t : Trace w)
     → IsHeldSince link block p m t → m ≡ last_saying link block t → left ≡ leaves given p → left ≡ false
-    → holder_line link block p m ≡ holder_text link given block t
+    → permission_line link (codes " holds ") block p m ≡ holder_text link given block t
 holder-told link block given p m left t since said is conflicting =
     let test : leaves given (held block (on_link link t)) ≡ false =
     rw (perm-held link block p m t since) at (sym is ∙ conflicting) in
@@ -192,6 +195,23 @@ opening-is None link block given t is e = absurd (let no : None ≡ Some given =
     sym (ap (λ beats. given_by block beats (on_link link t)) is) ∙ e in cc)
 opening-is (Some b) link block given t (newest, earlier, is, control, came, opening) e = sym opening
 
+-- the same of what a recorder keeps
+pub opening-at : {w : ℕ} (r : Recorder) (link n block : ℕ) (given : Perm) (t : Trace w) (h : Witness) (o : Option Begun)
+    → o ≡ burst_on r.bursts channel.D → KnowsWitness h n block t → slice_get h.recorders.items link ≡ Some r
+    → coming block (on_link link t) ≡ Some given
+    → mention_of (option_map (λ b. b.first) o) ≡ burst_opening link channel.D t
+opening-at r link n block given t h o is k there e =
+    let rec = k.each link r there in
+    let begun : IsBegun o link channel.D t = rw (is, ← rec.link_is) (rec.recorded.bursts_are channel.D) in
+    opening-is o link block given t begun e
+
+-- a link to which nothing is being granted
+pub conflict-none : {w : ℕ} (coming' : Option Perm) (link : ℕ) (given : Perm) (block : ℕ) (t : Trace w)
+    (out new : List ℕ) → ((p : Perm) → coming' ≡ Some p → ⊥) → new ≡ out ++ holder_text link given block t
+    → new ≡ out ++ conflict_by coming' link given block t
+conflict-none None link given block t out new apart is = is
+conflict-none (Some p) link given block t out new apart is = absurd (apart p refl)
+
 pub conflict-left : {w : ℕ} (link block : ℕ) (given perm : Perm) (coming' : Option Perm) (left : Bool) (t : Trace w)
     → coming' ≡ Some perm → left ≡ leaves given perm → left ≡ true → [] ≡ conflict_by coming' link given block t
 conflict-left link block given perm coming' left t is left_is leaving =
@@ -200,7 +220,7 @@ conflict-left link block given perm coming' left t is left_is leaving =
 pub conflict-told : {w : ℕ} (link block : ℕ) (given perm : Perm) (coming' : Option Perm) (m : Option Mention)
     (left : Bool) (t : Trace w) → coming' ≡ Some perm → left ≡ leaves given perm → left ≡ false
     → m ≡ burst_opening link channel.D t
-    → grantee_line link block perm m ≡ conflict_by coming' link given block t
+    → permission_line link (codes " is being granted ") block perm m ≡ conflict_by coming' link given block t
 conflict-told link block given perm coming' m left t is left_is conflicting opening =
     rw (is, sym left_is ∙ conflicting, opening) refl
 
@@ -209,14 +229,32 @@ pub conflicts-none : {w : ℕ} (own : ℕ) (given : Perm) (block : ℕ) (t : Tra
 unfolding conflicts_text
 conflicts-none own given block t out = sym (append-nil out)
 
--- one link more: its line, or none of the Grant's own
-pub conflicts-more : {w : ℕ} (n m own : ℕ) (given : Perm) (block : ℕ) (t : Trace w) (line first before after : List ℕ)
-    → m ≡ suc n → before ≡ first ++ conflicts_text n own given block t
-    → (if own == n then [] else conflict_by (coming block (on_link n t)) n given block t) ≡ line
-    → after ≡ before ++ line → after ≡ first ++ conflicts_text m own given block t
+-- one link more: nothing of the Grant's own
+pub conflicts-own : {w : ℕ} (n m own : ℕ) (given : Perm) (block : ℕ) (t : Trace w) (first before : List ℕ)
+    → m ≡ suc n → n ≡ own → before ≡ first ++ conflicts_text n own given block t
+    → before ≡ first ++ conflicts_text m own given block t
 unfolding conflicts_text
-conflicts-more n m own given block t line first before after next so_far is more =
-    rw (more, so_far, next, is) (append_assoc first (conflicts_text n own given block t) line)
+conflicts-own n m own given block t first before next is so_far =
+    so_far ∙ rw (next, eq-eqb own n (sym is)) (ap (λ text. first ++ text)
+    (sym (append-nil (conflicts_text n own given block t))))
+
+-- of another its line
+pub conflicts-more : {w : ℕ} (n m own : ℕ) (given : Perm) (block : ℕ) (t : Trace w) (coming' : Option Perm)
+    (first before after : List ℕ)
+    → m ≡ suc n → (n ≡ own → ⊥) → before ≡ first ++ conflicts_text n own given block t
+    → coming' ≡ coming block (on_link n t)
+    → after ≡ before ++ conflict_by coming' n given block t → after ≡ first ++ conflicts_text m own given block t
+unfolding conflicts_text
+conflicts-more n m own given block t coming' first before after next apart so_far is more =
+    rw (more, so_far, next, ne_eqb own n (λ e. apart (sym e)), is)
+    (append_assoc first (conflicts_text n own given block t) (conflict_by (coming block (on_link n t)) n given block t))
+
+-- what a judge says of a link
+pub coming-here : {w : ℕ} (levels : List Level) (link : Link) (block known : ℕ) (t : Trace w) (o : Option Perm)
+    → known ≡ block → link.0 < length levels → o ≡ coming_on levels link known t
+    → o ≡ coming block (on_link link.0 t)
+coming-here levels link block known t o same lt is =
+    is ∙ rw (same, lt-ltb link.0 (length levels) lt) refl
 
 -- and in which line the request was complete
 pub access-told : {w : ℕ} (n link source : ℕ) (asked other : Request) (block moment : ℕ) (given : Perm) (t : Trace w)
@@ -226,3 +264,28 @@ pub access-told : {w : ℕ} (n link source : ℕ) (asked other : Request) (block
 access-told n link source asked other block moment given t out mid new same given_is at first more =
     rw (more, first, given_is, at, same)
     (append_assoc out (asked_line (asked_at link source t + 1)) (holders_text n (needs asked.opcode) block t))
+
+-- ---- the line of a permission, piece by piece
+
+pub permission-told : (link block times : ℕ) (verb : List ℕ) (perm : Perm) (since : Option Mention)
+    (out a b c d e f g h : List ℕ) → times ≡ 64 * block → a ≡ out ++ codes "  link " → b ≡ a ++ digits 2 link
+    → c ≡ b ++ verb → d ≡ c ++ perm_name perm → e ≡ d ++ codes " of block " → f ≡ e ++ digits 8 times
+    → g ≡ f ++ since_text since → h ≡ g ++ codes "\n" → h ≡ out ++ permission_line link verb block perm since
+unfolding permission_line
+permission-told link block times verb perm since out a b c d e f g h times_is a_is b_is c_is d_is e_is f_is g_is h_is =
+    rw (h_is, g_is, f_is, e_is, d_is, c_is, b_is, a_is, times_is)
+    (pieces out (codes "  link ") (digits 2 link) verb (perm_name perm) (codes " of block ") (digits 8 (64 * block))
+    (since_text since) (codes "\n"))
+  where
+    pieces : (o p q r s t u v z : List ℕ)
+        → o ++ p ++ q ++ r ++ s ++ t ++ u ++ v ++ z ≡ o ++ (p ++ q ++ r ++ s ++ t ++ u ++ v ++ z)
+    pieces o p q r s t u v z =
+        rw (
+          append_assoc o p q,
+          append_assoc o (p ++ q) r,
+          append_assoc o (p ++ q ++ r) s,
+          append_assoc o (p ++ q ++ r ++ s) t,
+          append_assoc o (p ++ q ++ r ++ s ++ t) u,
+          append_assoc o (p ++ q ++ r ++ s ++ t ++ u) v,
+          append_assoc o (p ++ q ++ r ++ s ++ t ++ u ++ v) z,
+        ) refl

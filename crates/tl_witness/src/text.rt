@@ -4,7 +4,7 @@ ghost use Rattle.std.specs.Prelude.{◌+◌, ◌*◌, ◌^◌, ◌<◌, ◌≤�
 ghost use Rattle.std.specs.Fmt.{decimal};
 ghost use Rattle.tl_beat.specs.statement.Digits.{digits};
 ghost use Rattle.tl_explain.specs.statement.Evidence.{mention_of};
-ghost use Rattle.tl_witness.specs.statement.Grounds.{asked_line, grantee_line, holder_line, since_text};
+ghost use Rattle.tl_witness.specs.statement.Grounds.{asked_line, permission_line, since_text};
 
 use arrayvec::ArrayVec;
 use itoa::Buffer;
@@ -13,7 +13,6 @@ use tl_beat::text::append_digits;
 use tl_explain::reason::Held;
 use tl_explain::told::Told;
 use tl_explain::words::perm_name;
-use tl_params::perm::Perm;
 
 /// Appends the lowest hexadecimal digits of a number, this many of them, the highest first.
 pub(crate) fn append_hex(number: u32, count: u8, out: &mut Vec<u8>) -> Result<(), AllocError>
@@ -46,47 +45,25 @@ fn append_since(since: &Option<Told>, out: &mut Vec<u8>) -> Result<(), AllocErro
     }
 }
 
-#[tactic(auto, unfolding(crate::specs::statement::Grounds::holder_line))]
-/// Appends what a link holds of a block, and since which line.
-pub(crate) fn append_holder(
+#[tactic(auto, unfolding(crate::specs::statement::Grounds::permission_line))]
+/// Appends what a link holds of a block, or is being granted, and since which line.
+pub(crate) fn append_permission(
     link: u8,
+    verb: &str,
     block: u32,
     held: &Held,
     out: &mut Vec<u8>,
 ) -> Result<(), AllocError>
-    ensures { OnOk result (block < 2 ^ 26 →
-        out.new.items ≡ out.old.items ++ holder_line link block held.now.perm (mention_of held.now.since)) }
+    ensures { OnOk result (block < 2 ^ 26 → out.new.items
+        ≡ out.old.items ++ permission_line link verb.now block held.now.perm (mention_of held.now.since)) }
 {
     out.extend_from_slice(b"  link ")?;
     append_hex(u32::from(link), 2, out)?;
-    out.extend_from_slice(b" holds ")?;
+    out.extend_from_slice(verb.as_bytes())?;
     out.extend_from_slice(perm_name(held.perm).as_bytes())?;
     out.extend_from_slice(b" of block ")?;
     append_hex(block.saturating_mul(64), 8, out)?;
     append_since(&held.since, out)?;
-    out.push(b'\n')?;
-    Ok(())
-}
-
-#[tactic(auto, unfolding(crate::specs::statement::Grounds::grantee_line))]
-/// Appends what a link is being granted of a block, and since which line.
-pub(crate) fn append_grantee(
-    link: u8,
-    block: u32,
-    given: Perm,
-    since: &Option<Told>,
-    out: &mut Vec<u8>,
-) -> Result<(), AllocError>
-    ensures { OnOk result (block < 2 ^ 26 →
-        out.new.items ≡ out.old.items ++ grantee_line link block given (mention_of since.now)) }
-{
-    out.extend_from_slice(b"  link ")?;
-    append_hex(u32::from(link), 2, out)?;
-    out.extend_from_slice(b" is being granted ")?;
-    out.extend_from_slice(perm_name(given).as_bytes())?;
-    out.extend_from_slice(b" of block ")?;
-    append_hex(block.saturating_mul(64), 8, out)?;
-    append_since(since, out)?;
     out.push(b'\n')?;
     Ok(())
 }

@@ -15,7 +15,7 @@ ghost use Rattle.tl_together.specs.statement.Knows.{Knows};
 ghost use Rattle.tl_witness.specs.statement.Grounds.{conflict_by, conflicts_text, holder_text, holders_text};
 ghost use Rattle.tl_witness.specs.code.Witness.{IsFresh};
 
-use crate::text::{append_grantee, append_holder};
+use crate::text::append_permission;
 use std::alloc::{AllocError, Global};
 use tl_beat::beat::{Beat, Link};
 use tl_beat::channel::Channel;
@@ -126,7 +126,7 @@ impl Witness {
         if leaves(given, held.perm) {
             return Ok(());
         }
-        append_holder(link, self.block, &held, out)
+        append_permission(link, " holds ", self.block, &held, out)
     }
 
     /// Appends a line for each link that holds more of the block than may be held beside so much of it.
@@ -158,7 +158,11 @@ impl Witness {
         if leaves(given, perm) {
             return Ok(());
         }
-        append_grantee(link, self.block, perm, &self.begun(link), out)
+        let granted = Held {
+            perm,
+            since: self.begun(link),
+        };
+        append_permission(link, " is being granted ", self.block, &granted, out)
     }
 
     /// Appends a line for each link but this one that holds, or is being granted, more of the block than may be held

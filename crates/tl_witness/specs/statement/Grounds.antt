@@ -19,17 +19,17 @@ abbrev pub since_text : Option Mention → List ℕ
 since_text None = []
 since_text (Some m) = codes " since line " ++ decimal m.line
 
--- a link holds so much of the block since this message
-unfoldable pub holder_line : ℕ → ℕ → Perm → Option Mention → List ℕ
-holder_line link block perm since =
-    codes "  link " ++ digits 2 link ++ codes " holds " ++ perm_name perm ++ codes " of block " ++ digits 8 (64 * block)
+-- a link holds so much of the block, or is being granted it, since this message
+unfoldable pub permission_line : ℕ → List ℕ → ℕ → Perm → Option Mention → List ℕ
+permission_line link verb block perm since =
+    codes "  link " ++ digits 2 link ++ verb ++ perm_name perm ++ codes " of block " ++ digits 8 (64 * block)
     ++ since_text since ++ codes "\n"
 
 -- the line of a link that holds more of the block than may be held beside so much of it
 abbrev pub holder_text : {w : ℕ} → ℕ → Perm → ℕ → Trace w → List ℕ
 holder_text link given block t =
     if leaves given (held block (on_link link t)) then [] else
-    holder_line link block (held block (on_link link t)) (last_saying link block t)
+    permission_line link (codes " holds ") block (held block (on_link link t)) (last_saying link block t)
 
 -- a line for each of the first n links that hold more of the block than may be held beside so much of it: what the last
 -- message on that link left of it, and the line of that message
@@ -37,17 +37,12 @@ unfoldable pub holders_text : {w : ℕ} → ℕ → Perm → ℕ → Trace w →
 holders_text zero given block t = []
 holders_text (suc n) given block t = holders_text n given block t ++ holder_text n given block t
 
--- a link is being granted so much of the block, by a Grant that began with this beat
-unfoldable pub grantee_line : ℕ → ℕ → Perm → Option Mention → List ℕ
-grantee_line link block perm since =
-    codes "  link " ++ digits 2 link ++ codes " is being granted " ++ perm_name perm ++ codes " of block "
-    ++ digits 8 (64 * block) ++ since_text since ++ codes "\n"
-
 -- the line of a link that holds, or is being granted, more of the block than may be held beside so much of it
 abbrev pub conflict_by : {w : ℕ} → Option Perm → ℕ → Perm → ℕ → Trace w → List ℕ
 conflict_by None link given block t = holder_text link given block t
 conflict_by (Some perm) link given block t =
-    if leaves given perm then [] else grantee_line link block perm (burst_opening link channel.D t)
+    if leaves given perm then [] else
+    permission_line link (codes " is being granted ") block perm (burst_opening link channel.D t)
 
 -- M1: a line for each of the first n links but its own that does
 unfoldable pub conflicts_text : {w : ℕ} → ℕ → ℕ → Perm → ℕ → Trace w → List ℕ

@@ -14,7 +14,7 @@ returns-then-leaves c = λ w n block t k lt.
     c.if-leaves.true)
 
 pub returns : goal.returns
-returns c = on_ok_weaker c.append_holder.result
+returns c = on_ok_weaker c.append_permission.result
     (λ text w n block t k lt.
     let h = c.held-held.result in
     let small : c.args.self.now.block ≡ block = k.block_is in
@@ -22,4 +22,4 @@ returns c = on_ok_weaker c.append_holder.result
     ∙ ap (λ line. c.args.out.now.items ++ line) (holder-told c.args.link block c.args.given h.perm
     (mention_of h.since) c.leaves.result t (c.held-held.ensures.since w n block t k lt)
     (c.held-held.ensures.said w n block t k lt) c.leaves.ensures c.if-leaves.false))
-    c.append_holder.ensures
+    c.append_permission.ensures

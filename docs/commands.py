@@ -1,7 +1,7 @@
 #!/usr/bin/env python3
 """commands.py TOOL: that the man page and the completions in share/ have the commands and options that TOOL's help shows,
 no more and no less; that each command's help lists its codes, each with what `explain CODE` says of it; and that
-`--version` names the toolchain that is here. Prints what differs, and its exit status is 1 then."""
+`--version` names the logic of the toolchain that is here. Prints what differs, and its exit status is 1 then."""
 import pathlib
 import re
 import subprocess
@@ -42,9 +42,9 @@ def wrong_codes(tool):
 
 
 def wrong_version(tool):
-    """The second line of `--version`, where it isn't the toolchain's."""
+    """The second line of `--version`, if it doesn't name the toolchain's logic, which several kits share."""
     proved = said(tool, "--version").splitlines()[1:]
-    if proved != ["proved with " + said("rt", "version").strip()]:
+    if proved != ["proved with Rattle, logic " + said("rt", "version").split()[-1]]:
         yield f"tltool --version: {proved}"
 
 

@@ -19,8 +19,8 @@ const FILE_HELP: &str =
 const EXPLAINED_HELP: &str =
     "The trace to read, twice, so it can be no pipe; or, where there is no such file, the name of a rule or fault";
 
-/// The version, with the toolchain that proved it.
-const VERSION: &str = "1.0.0\nproved with rattle-kit-13f logic dac8208d650f15bf";
+/// The version, with the logic of the toolchain that proved it.
+const VERSION: &str = "1.0.0\nproved with Rattle, logic dac8208d650f15bf";
 
 /// `tltool decode`.
 pub fn decode<'a>(alloc: Global) -> Result<clap::Command<'a>, AllocError>

@@ -48,10 +48,10 @@ def want(holds, text):
         raise Failed(text)
 
 
-def run(command, status=0, **options):
+def run(command, status=0, timeout=600, **options):
     """What a command writes; its exit status has to be the one that is wanted."""
     done = subprocess.run(command, stdout=subprocess.PIPE, stderr=subprocess.STDOUT, text=True,
-                          timeout=600, **options)
+                          timeout=timeout, **options)
     if status is not None and done.returncode != status:
         raise Failed(f"{' '.join(command[:3])} ..: status {done.returncode}, wanted {status}\n{done.stdout[-3000:]}")
     return done.stdout

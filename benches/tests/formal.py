@@ -7,6 +7,7 @@ import re
 from harness import HERE, HOME_BUGS, TLTOOL, test, want, run
 
 FORMAL = os.path.join(HERE, "formal")
+PATIENCE = 1800  # seconds of wall time, on a machine that does much else
 
 # Each bug of the example's cache that a link shows, and the rule that it breaks. One needs beats of 8 bytes.
 CACHE_BUGS = {1: "H11", 3: "H8", 4: "S1", 5: "H12", 6: "H5", 7: "H13", 8: "H10", 9: "H5"}
@@ -14,7 +15,7 @@ WIDE = {4: "tl_cache.toml"}
 
 
 def formal(map_file, *words, status=0):
-    return run([os.path.join(FORMAL, "tl-formal"), os.path.join(FORMAL, map_file), "--tool", TLTOOL, *words], status=status)
+    return run([os.path.join(FORMAL, "tl-formal"), os.path.join(FORMAL, map_file), "--tool", TLTOOL, *words], status=status, timeout=PATIENCE)
 
 
 def fault(told):
@@ -26,7 +27,7 @@ def fault(told):
 
 @test
 def the_rules_for_formal_tools_agree_with_the_monitor():
-    told = run(["python3", os.path.join(FORMAL, "agreement/agree.py"), "--tool", TLTOOL])
+    told = run(["python3", os.path.join(FORMAL, "agreement/agree.py"), "--tool", TLTOOL], timeout=PATIENCE)
     want("25 of 25 wrong modules told apart" in told, told)
 
 

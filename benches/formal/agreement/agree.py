@@ -258,7 +258,7 @@ def main():
     few = [rule for rule in ORDER if by_rule[rule] < (50 if asked.long else 5)]
     if few:
         faults.append(f"too few first faults of {', '.join(few)}")
-    more, apart = between_links(asked.tool, 1000 if asked.long else 30)
+    more, apart = between_links(asked.tool, 1000 if asked.long else 40)
     faults += more
     apart += told_apart(asked.tool, asked.jobs)
     count_wrong = len(WRONG) + len(WRONG_BETWEEN)

@@ -6,25 +6,23 @@ use Rattle.tl_beat.specs.declared.beat.Beat.{Beat}
 use Rattle.tl_beat.specs.declared.beat.Beat.TheVariants as beat
 use Rattle.tl_beat.specs.declared.beat.Link.{Link}
 use Rattle.tl_beat.specs.declared.channel.Channel.{Channel}
-use Rattle.tl_beat.specs.statement.First.{first_if}
-use Rattle.tl_burst.specs.statement.Messages.{History, breaks_burst, burst_length, channel_of, on, same_control}
+use Rattle.tl_burst.specs.statement.Messages.{History, breaks_burst, burst_length, on, same_control}
 use Rattle.tl_burst.specs.statement.Messages.{unfinished}
 use Rattle.tl_burst.specs.statement.Part.{is_empty}
 use Rattle.tl_burst.proofs.ControlFields.{control_a, control_c, control_d}
+use Rattle.tl_monitor.proofs.Continued.{own-channel}
+use Rattle.tl_monitor.proofs.Judged.{continues}
 use Rattle.tl_params.specs.declared.key.Key.{Key}
 use Rattle.tl_params.specs.declared.key.Key.TheVariants.{RequestSource, ReleaseSource, AcquireOf, ReleaseOf, GrantSink}
 use Rattle.tl_params.specs.declared.key.Key.TheVariants.{GrantAckOf, ProbeOf}
 use Rattle.tl_params.specs.declared.level.Level.{Level}
 use Rattle.tl_params.specs.declared.profile.Profile.{Profile}
 use Rattle.tl_params.specs.declared.rule.Rule.{Rule}
-use Rattle.tl_params.specs.declared.rule.Rule.TheVariants.{S1}
-use Rattle.tl_rules.specs.statement.Conformance.{Trace, broken_after, broken_given, broken_order, is_legal, on_link}
+use Rattle.tl_rules.specs.statement.Conformance.{Trace, broken_after, is_legal, on_link}
 use Rattle.tl_rules.specs.statement.History.{begins, opens}
-use Rattle.tl_rules.specs.statement.Legality.{illegal}
 use Rattle.tl_explain.specs.declared.told.Mention.{Mention}
 use Rattle.tl_explain.specs.statement.Evidence.{burst_opening, last_opening, last_where, told}
 use Rattle.tl_explain.specs.statement.Reasons.{comes_in, opening_channel}
-use Rattle.tl_explain.proofs.follows.Links.{on_own}
 use Rattle.tl_explain.proofs.Plain.{both_true}
 
 not_false : (b : Bool) → not b ≡ false → b ≡ true
@@ -35,26 +33,9 @@ never : {A : Type 0} (b : Bool) (m rest : A) → (if b && false then m else rest
 never true m rest = refl
 never false m rest = refl
 
--- ---- a beat that breaks no rule continues the burst
-
-by_burst : {w : ℕ} (x : Beat w) (u : List (Beat w)) (o : Option Rule)
-    → is_none (if is_empty u then o else first_if (breaks_burst x u) S1 None) ≡ true → breaks_burst x u ≡ false
-by_burst x [] o e = refl
-by_burst x (y ∷ u) o e = go (same_control x y) e
-  where
-    go : (b : Bool) → is_none (first_if (not b) S1 None) ≡ true → not b ≡ false
-    go true f = refl
-    go false f = absurd cc
-
-continues : {w : ℕ} (l : Level) (p : Profile) (x : Beat w) (h : History w) → is_none (broken_after l p x h) ≡ true
-    → breaks_burst x (unfinished (channel_of x) h) ≡ false
-unfolding broken_after
-continues l p x h e = go (illegal l (channel_of x) x) e
-  where
-    go : (o : Option Rule) → is_none (broken_given p o x h) ≡ true
-        → breaks_burst x (unfinished (channel_of x) h) ≡ false
-    go None f = by_burst x (unfinished (channel_of x) h) (broken_order p x h) f
-    go (Some r) f = absurd cc
+no_rule : (o : Option Rule) → is_none o ≡ true → o ≡ None
+no_rule None e = refl
+no_rule (Some rule) e = absurd cc
 
 -- ---- the beats of a burst name one key
 
@@ -181,9 +162,9 @@ module _ {w : ℕ} (n : ℕ) (k : Key) (l : Level) (p : Profile) (x : Link × Be
   with_beat own unbroken legal ih false comes =
       joined k x.1 (unfinished ch h) (begins x.1 h) (opens k x.1 h) (told x t) (last_opening n k t)
       (burst_opening n ch t)
-      (ap (λ (c : Channel). is_empty (unfinished c h)) (sym (on_own ch x.1 own)))
+      (ap (λ (c : Channel). is_empty (unfinished c h)) (sym (own-channel ch x.1 own)))
       (opens_key k x.1 (unfinished ch h) h comes)
-      (ap (λ (c : Channel). breaks_burst x.1 (unfinished c h)) (on_own ch x.1 own) ∙ continues l p x.1 h unbroken)
+      (ap (λ (c : Channel). breaks_burst x.1 (unfinished c h)) (own-channel ch x.1 own) ∙ continues l p x.1 h (no_rule _ unbroken))
       comes
       (λ before. ih legal before)
 

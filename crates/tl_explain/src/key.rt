@@ -1,25 +1,29 @@
 //! Which messages open and close a key.
 
-ghost use Rattle.std.specs.Prelude.{◌≡◌};
-ghost use Rattle.tl_explain.specs.code.Recorded.{opens_by, closes_by, says_by};
+ghost use Rattle.std.specs.Prelude.{ℕ, Some, is_some, ◌≡◌};
+ghost use Rattle.tl_burst.specs.statement.Messages.{History};
+ghost use Rattle.tl_explain.specs.code.Recorded.{block_of, comes_by};
+ghost use Rattle.tl_params.specs.declared.key.Key.TheVariants.{GrantAckOf};
+ghost use Rattle.tl_rules.specs.statement.History as history;
 
+use tl_beat::beat::Beat;
 use tl_beat::control::Control;
 use tl_params::key::Key;
 use tl_rules::kind::{is_acquire, is_grant, is_probe, is_probe_ack, is_release, is_release_ack};
 
 /// Whether a message that begins with this beat, and is of this block, opens the key.
 #[inline(always)]
-pub fn opens(key: Key, beat: &Control, block: Option<u32>) -> bool
-    ensures { result ≡ opens_by key beat.now block }
+pub fn opens<const W: usize>(key: Key, beat: &Beat<W>, block: Option<u32>) -> bool
+    ensures { (t : History W) → block ≡ block_of beat.now t → result ≡ history.opens key beat.now t }
 {
     match (key, beat) {
-        (Key::RequestSource(source), Control::A(x)) => x.source == source,
-        (Key::ReleaseSource(source), Control::C(x)) => is_release(x.opcode) && x.source == source,
-        (Key::AcquireOf(of), Control::A(x)) => is_acquire(x.opcode) && block == Some(of),
-        (Key::ReleaseOf(of), Control::C(x)) => is_release(x.opcode) && block == Some(of),
-        (Key::GrantSink(sink), Control::D(x)) => is_grant(x.opcode) && x.sink == sink,
-        (Key::GrantAckOf(of), Control::D(x)) => is_grant(x.opcode) && block == Some(of),
-        (Key::ProbeOf(of), Control::B(x)) => is_probe(x.opcode) && block == Some(of),
+        (Key::RequestSource(source), Beat::A(x)) => x.source == source,
+        (Key::ReleaseSource(source), Beat::C(x)) => is_release(x.opcode) && x.source == source,
+        (Key::AcquireOf(of), Beat::A(x)) => is_acquire(x.opcode) && block == Some(of),
+        (Key::ReleaseOf(of), Beat::C(x)) => is_release(x.opcode) && block == Some(of),
+        (Key::GrantSink(sink), Beat::D(x)) => is_grant(x.opcode) && x.sink == sink,
+        (Key::GrantAckOf(of), Beat::D(x)) => is_grant(x.opcode) && block == Some(of),
+        (Key::ProbeOf(of), Beat::B(x)) => is_probe(x.opcode) && block == Some(of),
         _ => false,
     }
 }
@@ -27,20 +31,26 @@ pub fn opens(key: Key, beat: &Control, block: Option<u32>) -> bool
 /// Whether a message that is complete with this beat, and is of this block, closes the key. The last
 /// Grant that opened the key had the sink `granted`.
 #[inline(always)]
-pub fn closes(key: Key, beat: &Control, block: Option<u32>, granted: Option<u8>) -> bool
-    ensures { result ≡ closes_by key beat.now block granted }
+pub fn closes<const W: usize>(
+    key: Key,
+    beat: &Beat<W>,
+    block: Option<u32>,
+    granted: Option<u8>,
+) -> bool
+    ensures { (t : History W) → block ≡ block_of beat.now t →
+        ((b : ℕ) → key ≡ GrantAckOf b → granted ≡ history.grant_sink b t) →
+        result ≡ history.closes key beat.now t }
 {
     match (key, beat) {
-        (Key::RequestSource(source), Control::D(x)) => {
+        (Key::RequestSource(source), Beat::D(x)) => {
             !is_release_ack(x.opcode) && x.source == source
         }
-        (Key::ReleaseSource(source), Control::D(x)) => is_release_ack(x.opcode)
-            && x.source == source,
-        (Key::AcquireOf(of), Control::D(x)) => is_grant(x.opcode) && block == Some(of),
-        (Key::ReleaseOf(of), Control::D(x)) => is_release_ack(x.opcode) && block == Some(of),
-        (Key::GrantSink(sink), Control::E(given)) => *given == sink,
-        (Key::GrantAckOf(_), Control::E(given)) => granted == Some(*given),
-        (Key::ProbeOf(of), Control::C(x)) => is_probe_ack(x.opcode) && block == Some(of),
+        (Key::ReleaseSource(source), Beat::D(x)) => is_release_ack(x.opcode) && x.source == source,
+        (Key::AcquireOf(of), Beat::D(x)) => is_grant(x.opcode) && block == Some(of),
+        (Key::ReleaseOf(of), Beat::D(x)) => is_release_ack(x.opcode) && block == Some(of),
+        (Key::GrantSink(sink), Beat::E(x)) => x.sink == sink,
+        (Key::GrantAckOf(_), Beat::E(x)) => granted == Some(x.sink),
+        (Key::ProbeOf(of), Beat::C(x)) => is_probe_ack(x.opcode) && block == Some(of),
         _ => false,
     }
 }
@@ -48,12 +58,25 @@ pub fn closes(key: Key, beat: &Control, block: Option<u32>, granted: Option<u8>)
 /// Whether a message that is complete with this beat, and is of this block, leaves what is held of
 /// the block `of`.
 #[inline(always)]
-pub fn says_held(of: u32, beat: &Control, block: Option<u32>) -> bool
-    ensures { result ≡ says_by of beat.now block }
+pub fn says_held<const W: usize>(of: u32, beat: &Beat<W>, block: Option<u32>) -> bool
+    ensures { (t : History W) → block ≡ block_of beat.now t →
+        result ≡ is_some (history.says_held of beat.now t) }
 {
     match beat {
-        Control::C(x) => (is_probe_ack(x.opcode) || is_release(x.opcode)) && block == Some(of),
-        Control::D(x) => is_grant(x.opcode) && block == Some(of),
+        Beat::C(x) => (is_probe_ack(x.opcode) || is_release(x.opcode)) && block == Some(of),
+        Beat::D(x) => is_grant(x.opcode) && block == Some(of),
+        _ => false,
+    }
+}
+
+/// Whether a burst of which this is the newest beat is of a message that opens the key, by its source or sink.
+pub fn comes(key: Key, newest: &Control) -> bool
+    ensures { result ≡ comes_by key newest.now }
+{
+    match (key, newest) {
+        (Key::RequestSource(source), Control::A(x)) => x.source == source,
+        (Key::ReleaseSource(source), Control::C(x)) => is_release(x.opcode) && x.source == source,
+        (Key::GrantSink(sink), Control::D(x)) => is_grant(x.opcode) && x.sink == sink,
         _ => false,
     }
 }

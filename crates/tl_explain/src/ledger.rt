@@ -2,14 +2,15 @@
 
 ghost use Rattle.tl_beat.specs.statement.Width.{IsWidth};
 
-use crate::bursts::{Bursts, is_small};
-use crate::told::{Mention, Spelling, Told};
+use crate::bursts::is_small;
+use crate::told::Spelling;
 use crate::words::append_beat_line;
 use std::alloc::{AllocError, Global};
 use std::collections::BTreeMap;
 use std::io;
 use std::io::Write;
 use tl_beat::beat::{Beat, Link};
+use tl_monitor::bursts::Bursts;
 use tl_monitor::byte_table::ByteTable;
 use tl_params::key::block_at;
 use tl_rules::kind::{is_grant, is_probe, is_probe_ack, is_release, is_release_ack};
@@ -42,7 +43,7 @@ struct Pending {
 /// their block, and the bursts that aren't complete.
 #[derive(Drop)]
 struct LinkLedger {
-    bursts: Bursts,
+    bursts: Bursts<Opening>,
     requests: ByteTable<Opening>,
     releases: ByteTable<Opening>,
     grants: ByteTable<Opening>,
@@ -149,24 +150,17 @@ impl LinkLedger {
     ) -> Result<(), LedgerFault>
         requires { IsWidth W }
     {
-        if !is_small(beat) || !self.bursts.has_room(beat) {
+        if !is_small(beat) || !self.bursts.continues(beat) {
             return Err(LedgerFault::Unrecorded);
         }
         let first = self.bursts.begins(beat);
         let last = self.bursts.completes(beat);
-        let spelling = Spelling::of(line);
-        if !first || !last {
-            let mention = Mention {
-                line: number,
-                control: beat.control(),
-            };
-            self.bursts.take(&Told { mention, spelling }, last);
-        }
+        let opening = Opening {
+            line: number,
+            spelling: Spelling::of(line),
+        };
+        self.bursts.take(last, beat, &opening);
         if first {
-            let opening = Opening {
-                line: number,
-                spelling,
-            };
             self.open(beat, opening)?;
         }
         if last {
@@ -188,14 +182,10 @@ impl LinkLedger {
         }
         let bursts = [self.bursts.a, self.bursts.b, self.bursts.c, self.bursts.d];
         for burst in bursts {
-            if let Some(begun) = burst {
-                let opening = Opening {
-                    line: begun.first.mention.line,
-                    spelling: begun.first.spelling,
-                };
+            if let Some(unfinished) = burst {
                 pending.push(Pending {
                     kind: Kind::Burst,
-                    opening,
+                    opening: unfinished.beside,
                 })?;
             }
         }

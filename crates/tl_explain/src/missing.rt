@@ -2,12 +2,15 @@
 
 ghost use Rattle.std.specs.Prelude.{◌≡◌};
 ghost use Rattle.tl_explain.specs.code.Chosen;
+ghost use Rattle.tl_explain.specs.code.Recorded.{begun_by};
 
-use crate::bursts::Begun;
-use crate::key::opens;
+use crate::bursts::begun_of;
+use crate::key::comes;
 use crate::reason::{Held, Reason};
 use crate::told::Told;
 use crate::turn::Turn;
+use crate::turns::Moment;
+use tl_monitor::bursts::Unfinished;
 use tl_params::key::Key;
 
 /// Where the key is pending.
@@ -20,8 +23,12 @@ pub fn where_pending(key: Key, turn: &Turn) -> Option<Reason>
 
 /// Where no complete message has the key pending. The burst is that which is unfinished on the
 /// channel whose messages open the key.
-pub fn where_not_pending(key: Key, turn: &Turn, burst: &Option<Begun>) -> Option<Reason>
-    ensures { result ≡ Chosen.where_missing key turn.now burst.now }
+pub fn where_not_pending(
+    key: Key,
+    turn: &Turn,
+    burst: &Option<Unfinished<Moment>>,
+) -> Option<Reason>
+    ensures { result ≡ Chosen.where_missing key turn.now (begun_by burst.now) }
 {
     let Some(opening) = turn.opening else {
         return Some(Reason::Never(key));
@@ -36,11 +43,11 @@ pub fn where_not_pending(key: Key, turn: &Turn, burst: &Option<Begun>) -> Option
 }
 
 /// Where the burst is that of the message which has opened the key.
-fn where_unfinished(key: Key, opening: Told, burst: &Option<Begun>) -> Option<Reason>
-    ensures { result ≡ Chosen.unfinished_by key opening burst.now }
+fn where_unfinished(key: Key, opening: Told, burst: &Option<Unfinished<Moment>>) -> Option<Reason>
+    ensures { result ≡ Chosen.unfinished_by key opening (begun_by burst.now) }
 {
-    let begun = (*burst)?;
-    if begun.first.mention.line == opening.mention.line && opens(key, &begun.newest, None) {
+    let begun = begun_of(burst)?;
+    if begun.first.mention.line == opening.mention.line && comes(key, &begun.newest) {
         Some(Reason::Unfinished(key, opening, begun.came))
     } else {
         None

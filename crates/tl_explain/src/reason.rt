@@ -12,7 +12,7 @@ ghost use Rattle.tl_params.specs.statement.Param.{cap_of, prune_of};
 ghost use Rattle.tl_rules.specs.statement.Conformance;
 
 use crate::answer::for_answer;
-use crate::bursts::Begun;
+use crate::bursts::{Begun, begun_of};
 use crate::missing::{first_of, unless_held, where_not_pending, where_pending};
 use crate::recorder::Recorder;
 use crate::told::Told;
@@ -307,10 +307,11 @@ fn chosen_reason<const W: usize>(
 ) -> Option<Reason>
     ensures { result ≡ Chosen.reason_by profile rule beat.now recorder.now }
 {
+    let burst = begun_of(recorder.bursts.of(beat));
     if rule == Rule::S1 {
-        return where_differs(beat, recorder.bursts.on(beat.channel()));
+        return where_differs(beat, burst);
     }
-    if !recorder.bursts.begins(beat) {
+    if burst.is_some() {
         return None;
     }
     for_message(profile, rule, beat, recorder)

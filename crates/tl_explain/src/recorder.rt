@@ -7,10 +7,12 @@ ghost use Rattle.tl_explain.specs.statement.Evidence.{next_line};
 ghost use Rattle.tl_rules.specs.statement.Conformance.{Trace};
 
 use crate::blocks::Blocks;
-use crate::bursts::{Bursts, is_small};
+use crate::bursts::is_small;
 use crate::told::{Mention, Spelling, Told};
 use crate::turns::{Moment, Subject, Turns};
 use tl_beat::beat::{Beat, Link};
+use tl_burst::burst::burst_length;
+use tl_monitor::bursts::Bursts;
 
 /// A recorder can't go on: a monitor has taken no such beats.
 #[derive(Clone, Copy, Debug, PartialEq, Eq)]
@@ -20,7 +22,7 @@ pub struct Unrecorded;
 #[derive(Drop)]
 pub struct Recorder {
     pub subject: Subject,
-    pub bursts: Bursts,
+    pub bursts: Bursts<Moment>,
     blocks: Blocks,
     pub turns: Turns,
 }
@@ -55,7 +57,7 @@ impl Recorder {
         if link != self.subject.link {
             return Ok(());
         }
-        if !is_small(beat) || !self.bursts.has_room(beat) {
+        if !is_small(beat) || !self.bursts.continues(beat) {
             return Err(Unrecorded);
         }
         let moment = Moment {
@@ -66,13 +68,14 @@ impl Recorder {
                 },
                 spelling: Spelling::of(line),
             },
+            length: burst_length(beat),
             first: self.bursts.begins(beat),
             last: self.bursts.completes(beat),
             block: self.blocks.of(beat),
         };
-        self.turns.take(self.subject, &moment);
+        self.turns.take(self.subject, beat, &moment);
         self.blocks.take(beat, moment.first);
-        self.bursts.take(&moment.told, moment.last);
+        self.bursts.take(moment.last, beat, &moment);
         Ok(())
     }
 }

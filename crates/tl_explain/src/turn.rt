@@ -12,6 +12,16 @@ pub struct Turn {
     pub closing: Option<Told>,
 }
 
+/// Keeps a message, where it is one to be kept.
+#[inline(always)]
+pub fn keep_if(slot: &mut Option<Told>, keeps: bool, told: &Told)
+    ensures { slot.new ≡ (if keeps then Some told.now else slot.old) }
+{
+    if keeps {
+        *slot = Some(*told);
+    }
+}
+
 impl Turn {
     /// No message has opened or closed the key.
     pub fn new() -> Self
@@ -30,12 +40,8 @@ impl Turn {
         ensures opening { self.new.opening ≡ (if opens then Some told.now else self.old.opening) }
         ensures closing { self.new.closing ≡ (if closes then Some told.now else self.old.closing) }
     {
-        if opens {
-            self.opening = Some(*told);
-        }
-        if closes {
-            self.closing = Some(*told);
-        }
+        keep_if(&mut self.opening, opens, told);
+        keep_if(&mut self.closing, closes, told);
     }
 
     /// The message that opened the key, where none has closed it.

@@ -1,16 +1,16 @@
 //! The messages that opened and closed the keys of a subject, and the one that left what is held.
 
-ghost use Rattle.std.specs.Prelude.{ℕ, ◌≡◌, ◌&&◌, ◌∷◌, [], if◌then◌else◌, Option, Some};
-ghost use Rattle.tl_beat.specs.declared.beat.Beat.{Beat};
+ghost use Rattle.std.specs.Prelude.{ℕ, ◌≡◌, ◌&&◌, ◌∷◌, []};
 ghost use Rattle.tl_beat.specs.declared.beat.Link.{Link};
-ghost use Rattle.tl_explain.specs.code.Recorded.{AreTurns, IsMoment, IsTurn, says_by, sink_in};
+ghost use Rattle.tl_explain.specs.code.Recorded.{AreTurns, IsMoment, IsTurn, sink_in};
+ghost use Rattle.tl_explain.specs.statement.Evidence.{last_saying, mention_of};
 ghost use Rattle.tl_rules.specs.statement.Conformance.{Trace};
 ghost use Rattle.tl_explain.specs.declared.turns.Subject.{Subject};
 
 use crate::key::{closes, opens, says_held};
 use crate::told::Told;
-use crate::turn::Turn;
-use tl_beat::beat::Link;
+use crate::turn::{Turn, keep_if};
+use tl_beat::beat::{Beat, Link};
 use tl_beat::control::Control;
 use tl_params::key::Key;
 
@@ -23,10 +23,12 @@ pub struct Subject {
     pub sink: u8,
 }
 
-/// A beat, whether it begins a message and completes one, and the block of its message.
+/// A beat, how many beats its burst has, whether it begins a message and completes one, and the block of
+/// its message.
 #[derive(Clone, Copy)]
 pub struct Moment {
     pub told: Told,
+    pub length: u8,
     pub first: bool,
     pub last: bool,
     pub block: Option<u32>,
@@ -70,31 +72,27 @@ fn both(one: bool, other: bool) -> bool
 
 /// Follows one key by one beat.
 #[inline(always)]
-fn note(turn: &mut Turn, key: Key, moment: &Moment)
-    ensures { (w n : ℕ) (x : Link × Beat w) (t : Trace w) → IsMoment moment.now n x t → IsTurn turn.old n key t →
-        IsTurn turn.new n key (x ∷ t) }
+fn note<const W: usize>(turn: &mut Turn, key: Key, beat: &Beat<W>, moment: &Moment)
+    ensures { (n : ℕ) (link : Link) (t : Trace W) → IsMoment moment.now n (link, beat.now) t →
+        IsTurn turn.old n key t → IsTurn turn.new n key ((link, beat.now) ∷ t) }
 {
     let granted = sink_of(&turn.opening);
-    let control = &moment.told.mention.control;
     turn.take(
         &moment.told,
-        both(moment.first, opens(key, control, moment.block)),
-        both(moment.last, closes(key, control, moment.block, granted)),
+        both(moment.first, opens(key, beat, moment.block)),
+        both(moment.last, closes(key, beat, moment.block, granted)),
     );
 }
 
 /// Notes a message that leaves what is held of a block.
 #[inline(always)]
-fn note_said(said: &mut Option<Told>, block: u32, moment: &Moment)
-    ensures { said.new ≡ (if moment.now.last && says_by block moment.now.told.mention.control moment.now.block then Some
-        moment.now.told else said.old) }
+fn note_said<const W: usize>(said: &mut Option<Told>, block: u32, beat: &Beat<W>, moment: &Moment)
+    ensures { (n : ℕ) (link : Link) (t : Trace W) → IsMoment moment.now n (link, beat.now) t →
+        mention_of said.old ≡ last_saying n block t →
+        mention_of said.new ≡ last_saying n block ((link, beat.now) ∷ t) }
 {
-    if both(
-        moment.last,
-        says_held(block, &moment.told.mention.control, moment.block),
-    ) {
-        *said = Some(moment.told);
-    }
+    let says = says_held(block, beat, moment.block);
+    keep_if(said, both(moment.last, says), &moment.told);
 }
 
 impl Turns {
@@ -115,25 +113,28 @@ impl Turns {
     }
 
     /// Follows the keys by one beat of their link.
-    pub fn take(&mut self, subject: Subject, moment: &Moment)
-        ensures { (w : ℕ) (x : Link × Beat w) (t : Trace w) → IsMoment moment.now subject.link.0 x t →
-            AreTurns self.old subject t → AreTurns self.new subject (x ∷ t) }
+    pub fn take<const W: usize>(&mut self, subject: Subject, beat: &Beat<W>, moment: &Moment)
+        ensures { (link : Link) (t : Trace W) → IsMoment moment.now subject.link.0 (link, beat.now) t →
+            AreTurns self.old subject t → AreTurns self.new subject ((link, beat.now) ∷ t) }
     {
-        note(
-            &mut self.request,
-            Key::RequestSource(subject.source),
-            moment,
-        );
+        let Subject {
+            block,
+            source,
+            sink,
+            ..
+        } = subject;
+        note(&mut self.request, Key::RequestSource(source), beat, moment);
         note(
             &mut self.release_with_source,
-            Key::ReleaseSource(subject.source),
+            Key::ReleaseSource(source),
+            beat,
             moment,
         );
-        note(&mut self.acquire, Key::AcquireOf(subject.block), moment);
-        note(&mut self.release, Key::ReleaseOf(subject.block), moment);
-        note(&mut self.sink, Key::GrantSink(subject.sink), moment);
-        note(&mut self.grant_ack, Key::GrantAckOf(subject.block), moment);
-        note(&mut self.probe, Key::ProbeOf(subject.block), moment);
-        note_said(&mut self.said, subject.block, moment);
+        note(&mut self.acquire, Key::AcquireOf(block), beat, moment);
+        note(&mut self.release, Key::ReleaseOf(block), beat, moment);
+        note(&mut self.sink, Key::GrantSink(sink), beat, moment);
+        note(&mut self.grant_ack, Key::GrantAckOf(block), beat, moment);
+        note(&mut self.probe, Key::ProbeOf(block), beat, moment);
+        note_said(&mut self.said, block, beat, moment);
     }
 }

@@ -15,7 +15,7 @@ use Rattle.tl_burst.proofs.ControlFields.{control_a, control_b, control_c, contr
 use Rattle.tl_burst.proofs.Splitting.{some_data_beats}
 use Rattle.tl_beat.specs.statement.Opcode.{a_carries_data, b_carries_data, c_carries_data, d_carries_data}
 use Rattle.tl_beat.specs.statement.Control.{control_of}
-use Rattle.tl_monitor.specs.code.Bursts.{IsOf, is_last, left_after, burst_next, burst_with}
+use Rattle.tl_monitor.specs.code.Bursts.{IsOf, beside_first, is_last, left_after, burst_next, burst_with}
 use Rattle.tl_monitor.specs.declared.bursts.Unfinished.{Unfinished}
 
 -- ---- how long bursts are
@@ -66,11 +66,11 @@ same-length x y beats e = burst-same x y (not-false (same_control x y) e)
 
 -- ---- first and last beats
 
-pub first-is : {w : ℕ} (u : Option Unfinished) (beats : List (Beat w)) → IsOf u beats → is_empty beats ≡ is_none u
+pub first-is : {w : ℕ} {P : Type 0} (u : Option (Unfinished P)) (beats : List (Beat w)) → IsOf u beats → is_empty beats ≡ is_none u
 first-is None beats e = rw e refl
 first-is (Some u) beats (x, earlier, e, same, long, more) = rw e refl
 
-last-length : {w : ℕ} (x : Beat w) (u : Option Unfinished) (beats : List (Beat w)) → IsWidth w → IsOf u beats
+last-length : {w : ℕ} {P : Type 0} (x : Beat w) (u : Option (Unfinished P)) (beats : List (Beat w)) → IsWidth w → IsOf u beats
     → breaks_burst x beats ≡ false → length beats + suc (left_after x u) ≡ burst_length x
 last-length x None beats width e cont = let p = burst-positive x width in let z : length beats ≡ 0 = ap length e in
     omega (arith, p, z)
@@ -95,74 +95,74 @@ at_most (suc (suc n)) = leb-false' n
     leb-false' n = let apart : suc (suc n) - 1 ≢ 0 = λ e. omega (arith, e) in
         lt-leb (suc (suc n)) 1 (omega arith) ∙ sym (ne_eqb (suc (suc n) - 1) 0 apart)
 
-last-is_zero : {w : ℕ} (x : Beat w) (u : Option Unfinished) → is_last x u ≡ (left_after x u == 0)
+last-is_zero : {w : ℕ} {P : Type 0} (x : Beat w) (u : Option (Unfinished P)) → is_last x u ≡ (left_after x u == 0)
 last-is_zero x None = at_most (burst_length x)
 last-is_zero x (Some u) = at_most u.left
 
-pub last-is : {w : ℕ} (x : Beat w) (u : Option Unfinished) (beats : List (Beat w)) → IsWidth w → IsOf u beats
+pub last-is : {w : ℕ} {P : Type 0} (x : Beat w) (u : Option (Unfinished P)) (beats : List (Beat w)) → IsWidth w → IsOf u beats
     → breaks_burst x beats ≡ false → completes x beats ≡ is_last x u
 last-is x u beats width of cont = ends_where (length beats) (left_after x u) (burst_length x)
     (last-length x u beats width of cont) ∙ sym (last-is_zero x u)
 
 -- ---- the burst with one more beat
 
-of_next : {w : ℕ} (x : Beat w) (beats : List (Beat w)) (left : ℕ) (done : Bool)
+of_next : {w : ℕ} {P : Type 0} (x : Beat w) (p : P) (beats : List (Beat w)) (left : ℕ) (done : Bool)
     → length beats + suc left ≡ burst_length x → done ≡ (left == 0)
-    → IsOf (if left == 0 then None else Some (record { control = control_of x; left = left }))
+    → IsOf (if left == 0 then None else Some (record { control = control_of x; left = left; beside = p }))
     (if done then [] else x ∷ beats)
-of_next x beats left done long e = elim (cases_eq left 0) [
+of_next x p beats left done long e = elim (cases_eq left 0) [
   | inl none ↦ rw (e, eq-eqb left 0 none) refl
   | inr some ↦ rw (e, ne_eqb left 0 some) (x, beats, refl, refl, omega arith, omega (arith, some))
 ]
 
-pub of-next : {w : ℕ} (x : Beat w) (u : Option Unfinished) (beats : List (Beat w)) → IsWidth w → IsOf u beats
-    → breaks_burst x beats ≡ false → IsOf (burst_next x u) (grown x beats)
-of-next x u beats width of cont =
+pub of-next : {w : ℕ} {P : Type 0} (x : Beat w) (p : P) (u : Option (Unfinished P)) (beats : List (Beat w)) → IsWidth w → IsOf u beats
+    → breaks_burst x beats ≡ false → IsOf (burst_next x p u) (grown x beats)
+of-next x p u beats width of cont =
     let long = last-length x u beats width of cont in
-    of_next x beats (left_after x u) (completes x beats) long
+    of_next x (beside_first p u) beats (left_after x u) (completes x beats) long
     (ends_where (length beats) (left_after x u) (burst_length x) long)
 
-of_with : {w : ℕ} (ch : Channel) (x : Beat w) (u : Option Unfinished) (beats : List (Beat w)) → IsOf u beats
-    → (on ch x ≡ true → IsOf (burst_next x u) (grown x beats))
-    → IsOf (burst_with ch x u) (if on ch x then grown x beats else beats)
-of_with ch x u beats of next = elim (cases_Bool (on ch x)) [
+of_with : {w : ℕ} {P : Type 0} (ch : Channel) (x : Beat w) (p : P) (u : Option (Unfinished P)) (beats : List (Beat w)) → IsOf u beats
+    → (on ch x ≡ true → IsOf (burst_next x p u) (grown x beats))
+    → IsOf (burst_with ch x p u) (if on ch x then grown x beats else beats)
+of_with ch x p u beats of next = elim (cases_Bool (on ch x)) [
   | inl here ↦ rw here (next here)
   | inr other ↦ rw other of
 ]
 
-own_channel : {w : ℕ} (ch : Channel) (x : Beat w) → on ch x ≡ true → ch ≡ channel_of x
-own_channel channel.A (A x) e = refl
-own_channel channel.B (B x) e = refl
-own_channel channel.C (C x) e = refl
-own_channel channel.D (D x) e = refl
-own_channel channel.E (E x) e = refl
-own_channel channel.A (B x) e = absurd cc
-own_channel channel.A (C x) e = absurd cc
-own_channel channel.A (D x) e = absurd cc
-own_channel channel.A (E x) e = absurd cc
-own_channel channel.B (A x) e = absurd cc
-own_channel channel.B (C x) e = absurd cc
-own_channel channel.B (D x) e = absurd cc
-own_channel channel.B (E x) e = absurd cc
-own_channel channel.C (A x) e = absurd cc
-own_channel channel.C (B x) e = absurd cc
-own_channel channel.C (D x) e = absurd cc
-own_channel channel.C (E x) e = absurd cc
-own_channel channel.D (A x) e = absurd cc
-own_channel channel.D (B x) e = absurd cc
-own_channel channel.D (C x) e = absurd cc
-own_channel channel.D (E x) e = absurd cc
-own_channel channel.E (A x) e = absurd cc
-own_channel channel.E (B x) e = absurd cc
-own_channel channel.E (C x) e = absurd cc
-own_channel channel.E (D x) e = absurd cc
+pub own-channel : {w : ℕ} (ch : Channel) (x : Beat w) → on ch x ≡ true → ch ≡ channel_of x
+own-channel channel.A (A x) e = refl
+own-channel channel.B (B x) e = refl
+own-channel channel.C (C x) e = refl
+own-channel channel.D (D x) e = refl
+own-channel channel.E (E x) e = refl
+own-channel channel.A (B x) e = absurd cc
+own-channel channel.A (C x) e = absurd cc
+own-channel channel.A (D x) e = absurd cc
+own-channel channel.A (E x) e = absurd cc
+own-channel channel.B (A x) e = absurd cc
+own-channel channel.B (C x) e = absurd cc
+own-channel channel.B (D x) e = absurd cc
+own-channel channel.B (E x) e = absurd cc
+own-channel channel.C (A x) e = absurd cc
+own-channel channel.C (B x) e = absurd cc
+own-channel channel.C (D x) e = absurd cc
+own-channel channel.C (E x) e = absurd cc
+own-channel channel.D (A x) e = absurd cc
+own-channel channel.D (B x) e = absurd cc
+own-channel channel.D (C x) e = absurd cc
+own-channel channel.D (E x) e = absurd cc
+own-channel channel.E (A x) e = absurd cc
+own-channel channel.E (B x) e = absurd cc
+own-channel channel.E (C x) e = absurd cc
+own-channel channel.E (D x) e = absurd cc
 
 -- what is kept of each channel's burst, with one more beat
-pub bursts-next : {w : ℕ} (ch : Channel) (x : Beat w) (t : History w) (u : Option Unfinished) → IsWidth w
+pub bursts-next : {w : ℕ} {P : Type 0} (ch : Channel) (x : Beat w) (p : P) (t : History w) (u : Option (Unfinished P)) → IsWidth w
     → IsOf u (unfinished ch t) → breaks_burst x (unfinished (channel_of x) t) ≡ false
-    → IsOf (burst_with ch x u) (unfinished ch (x ∷ t))
+    → IsOf (burst_with ch x p u) (unfinished ch (x ∷ t))
 unfolding unfinished
-bursts-next ch x t u width of cont = of_with ch x u (unfinished ch t) of (λ here.
-    let own : ch ≡ channel_of x = own_channel ch x here in
+bursts-next ch x p t u width of cont = of_with ch x p u (unfinished ch t) of (λ here.
+    let own : ch ≡ channel_of x = own-channel ch x here in
     let cont' : breaks_burst x (unfinished ch t) ≡ false = ap (λ c. breaks_burst x (unfinished c t)) own ∙ cont in
-    of-next x u (unfinished ch t) width of cont')
+    of-next x p u (unfinished ch t) width of cont')

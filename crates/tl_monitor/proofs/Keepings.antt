@@ -261,7 +261,7 @@ keeps-more {w} l p old new x t width keeps legal next =
     ∙ sym (block-next b x t ∙ ap₂ (λ f g. if bears_on b x t then block_next f g x (kept_block b t) else kept_block b t)
     first last) in
     record {
-      bursts_are = λ ch. rw (next.bursts_are ch) (bursts-next ch x t (burst_on old.bursts ch) width
+      bursts_are = λ ch. rw (next.bursts_are ch) (bursts-next ch x tt t (burst_on old.bursts ch) width
           (keeps.bursts_are ch) (continues l p x t legal));
       requests_are = λ s. next.requests_are s ∙ ap (request_next (is_first x old) (link_state.completes x old) x s)
           (keeps.requests_are s)

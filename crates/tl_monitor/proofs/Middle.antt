@@ -2,7 +2,7 @@
 use Rattle.std.proofs.Common.{◌≡◌, ℕ, Bool, true, false, Some, None, refl, sym, ap, List, length, ◌<◌, arith, ◌∙◌}
 use Rattle.std.proofs.lemmas.Bool.{or_parts}
 use Rattle.std.proofs.lemmas.List.{length-map}
-use Rattle.std.specs.Prelude.{not, ◌&&◌, Result, Ok, Err, Option, if◌then◌else◌, ◌==◌, slice_index_or}
+use Rattle.std.specs.Prelude.{not, ◌&&◌, Result, Ok, Err, Option, if◌then◌else◌, ◌==◌, slice_index_or, ⊤}
 use Rattle.tl_beat.specs.declared.beat.Beat.{Beat}
 use Rattle.tl_beat.specs.declared.beat.Beat.TheVariants as beat
 use Rattle.tl_beat.specs.declared.beat.BeatD.{BeatD}
@@ -20,7 +20,7 @@ use Rattle.tl_params.proofs.Refusals.{none_broken}
 use Rattle.tl_rules.specs.statement.Conformance.{broken_after}
 use Rattle.tl_rules.specs.statement.Legality.{illegal, d_of_level, d_has_param, d_has_sink, d_has_size}
 use Rattle.tl_rules.proofs.Bursts.{next_rule}
-use Rattle.tl_monitor.specs.code.Bursts.{IsOf, burst_next, burst_with, left_after}
+use Rattle.tl_monitor.specs.code.Bursts.{IsOf, beside_first, burst_next, burst_with, left_after}
 use Rattle.tl_monitor.specs.code.Keeps.{Keeps, TakesBeat}
 use Rattle.tl_monitor.specs.code.Lawful.{IsLawful, AreLawful}
 use Rattle.tl_monitor.specs.declared.bursts.Unfinished.{Unfinished}
@@ -41,7 +41,7 @@ lawful_later {w} l x y legal same clean granted =
     rw (clean, granted, k.0, k.1, k.2, k.4, one.0, two.0, three.0) refl
 
 -- nor after what has passed
-pub middle-passes : {w : ℕ} (k : LinkState) (l : Level) (p : Profile) (x : Beat w) (y : BeatD w) (u : Unfinished)
+pub middle-passes : {w : ℕ} (k : LinkState) (l : Level) (p : Profile) (x : Beat w) (y : BeatD w) (u : Unfinished ⊤)
     (t : History w) → x ≡ beat.D y → k.bursts.d ≡ Some u → has_control x u.control ≡ true → y.corrupt ≡ false
     → y.denied ≡ false → IsLawful w l k.bursts.d → Keeps k t → None ≡ broken_after l p x t
 unfolding broken_after
@@ -52,20 +52,20 @@ middle-passes {w} k l p x y u t own some same clean granted lawful keeps =
     let passes : illegal l channel.D (beat.D y) ≡ None = lawful u some y like (rw (clean, granted) refl) in
     rw (own, passes, beats, ← control, like) refl
 
-next_lawful : {w : ℕ} (l : Level) (y : BeatD w) (u : Option Unfinished) → illegal l channel.D (beat.D y) ≡ None
-    → IsLawful w l (burst_next (beat.D y) u)
+next_lawful : {w : ℕ} (l : Level) (y : BeatD w) (u : Option (Unfinished ⊤)) → illegal l channel.D (beat.D y) ≡ None
+    → IsLawful w l (burst_next (beat.D y) tt u)
 next_lawful {w} l y u legal = go (left_after (beat.D y) u == 0)
   where
     go : (done : Bool)
-        → IsLawful w l (if done then None else Some (record { control = control_of (beat.D y); left = left_after (beat.D y) u }))
+        → IsLawful w l (if done then None else Some (record { control = control_of (beat.D y); left = left_after (beat.D y) u; beside = beside_first tt u }))
     go true = λ v is x same clean. absurd cc
     go false = λ v is x same clean.
-        let one : record { control = control_of (beat.D y); left = left_after (beat.D y) u } ≡ v = cc in
+        let one : record { control = control_of (beat.D y); left = left_after (beat.D y) u; beside = beside_first tt u } ≡ v = cc in
         let bits = or_parts x.corrupt x.denied clean in
-        lawful_later l x y legal (rw (← ap (λ (b : Unfinished). b.control) one) at same) bits.0 bits.1
+        lawful_later l x y legal (rw (← ap (λ (b : Unfinished ⊤). b.control) one) at same) bits.0 bits.1
 
-with_lawful : {w : ℕ} (l : Level) (x : Beat w) (u : Option Unfinished) → illegal l (channel_of x) x ≡ None
-    → IsLawful w l u → IsLawful w l (burst_with channel.D x u)
+with_lawful : {w : ℕ} (l : Level) (x : Beat w) (u : Option (Unfinished ⊤)) → illegal l (channel_of x) x ≡ None
+    → IsLawful w l u → IsLawful w l (burst_with channel.D x tt u)
 with_lawful l (beat.A x) u legal lawful = lawful
 with_lawful l (beat.B x) u legal lawful = lawful
 with_lawful l (beat.C x) u legal lawful = lawful

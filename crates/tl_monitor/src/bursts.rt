@@ -5,64 +5,72 @@ ghost use Rattle.tl_beat.specs.statement.Width.{IsWidth};
 ghost use Rattle.tl_beat.specs.declared.channel.Channel.TheVariants as channel;
 ghost use Rattle.tl_burst.specs.statement.Messages;
 ghost use Rattle.tl_burst.specs.statement.Part.{is_small};
-ghost use Rattle.tl_monitor.specs.code.Bursts.{burst_on, is_last, burst_next, burst_with, IsMiddle};
+ghost use Rattle.tl_monitor.specs.code.Bursts.{burst_on, continues_burst, is_last, burst_next, burst_with, IsMiddle};
 
 use tl_beat::beat::Beat;
 use tl_beat::control::Control;
 use tl_burst::burst::burst_length;
 
-/// A burst that has begun and isn't complete: the control fields of its beats, and how many of them
-/// are still to come.
+/// A burst that has begun and isn't complete: the control fields of its beats, how many of them are
+/// still to come, and what stands beside the first.
 #[derive(Clone, Copy)]
-pub struct Unfinished {
+pub struct Unfinished<P> {
     pub control: Control,
     pub left: u8,
+    pub beside: P,
 }
 
 /// What is unfinished on each channel.
 #[derive(Clone, Copy)]
-pub struct Bursts {
-    pub a: Option<Unfinished>,
-    pub b: Option<Unfinished>,
-    pub c: Option<Unfinished>,
-    pub d: Option<Unfinished>,
-    pub e: Option<Unfinished>,
+pub struct Bursts<P> {
+    pub a: Option<Unfinished<P>>,
+    pub b: Option<Unfinished<P>>,
+    pub c: Option<Unfinished<P>>,
+    pub d: Option<Unfinished<P>>,
+    pub e: Option<Unfinished<P>>,
 }
 
-/// Takes the next beat of a burst, which completes the message or doesn't.
+/// Takes the next beat of a burst, which completes the message or doesn't. What is to stand beside it is kept of
+/// the first.
 #[inline(always)]
-fn advance<const W: usize>(last: bool, beat: &Beat<W>, burst: &mut Option<Unfinished>)
+fn advance<const W: usize, P: Copy>(
+    last: bool,
+    beat: &Beat<W>,
+    beside: &P,
+    burst: &mut Option<Unfinished<P>>,
+)
     requires width { IsWidth W }
     requires small { IsTrue (is_small beat.now) }
     requires last { last ≡ is_last beat.now burst.old }
-    ensures { burst.new ≡ burst_next beat.now burst.old }
+    ensures { burst.new ≡ burst_next beat.now beside.now burst.old }
 {
     if last {
         *burst = None;
         return;
     }
-    let left = match burst {
-        None => burst_length(beat).saturating_sub(1),
-        Some(burst) => burst.left.saturating_sub(1),
+    let (left, beside) = match burst {
+        None => (burst_length(beat).saturating_sub(1), *beside),
+        Some(burst) => (burst.left.saturating_sub(1), burst.beside),
     };
     *burst = Some(Unfinished {
         control: beat.control(),
         left,
+        beside,
     });
 }
 
 /// Counts a beat in the middle of a burst, which has the control fields of those before it.
 #[inline(always)]
-fn count_in<const W: usize>(beat: &Beat<W>, burst: &mut Option<Unfinished>)
+fn count_in<const W: usize, P: Copy>(beat: &Beat<W>, burst: &mut Option<Unfinished<P>>)
     requires { IsMiddle beat.now burst.old }
-    ensures { burst.new ≡ burst_next beat.now burst.old }
+    ensures { (beside : P) → burst.new ≡ burst_next beat.now beside burst.old }
 {
     if let Some(burst) = burst {
         burst.left -= 1;
     }
 }
 
-impl Bursts {
+impl<P: Copy> Bursts<P> {
     /// No burst on any channel.
     pub fn new() -> Self
         ensures a { result.a ≡ None }
@@ -82,7 +90,7 @@ impl Bursts {
 
     /// What is unfinished on the channel of a beat.
     #[inline(always)]
-    pub fn of<const W: usize>(&self, beat: &Beat<W>) -> &Option<Unfinished>
+    pub fn of<const W: usize>(&self, beat: &Beat<W>) -> &Option<Unfinished<P>>
         ensures { result.now ≡ burst_on self.now (Messages.channel_of beat.now) }
     {
         match beat {
@@ -102,24 +110,46 @@ impl Bursts {
         self.of(beat).is_none()
     }
 
-    /// Takes a beat, which completes its message or doesn't.
+    /// Whether a beat has the control fields of the burst that is unfinished on its channel, where one is.
+    pub fn continues<const W: usize>(&self, beat: &Beat<W>) -> bool
+        ensures { result ≡ continues_burst beat.now (burst_on self.now (Messages.channel_of beat.now)) }
+    {
+        match self.of(beat) {
+            None => true,
+            Some(burst) => beat.has_control(&burst.control),
+        }
+    }
+
+    /// Whether a beat completes its message, where it continues the burst on its channel.
+    pub fn completes<const W: usize>(&self, beat: &Beat<W>) -> bool
+        requires width { IsWidth W }
+        requires small { IsTrue (is_small beat.now) }
+        ensures { result ≡ is_last beat.now (burst_on self.now (Messages.channel_of beat.now)) }
+    {
+        match self.of(beat) {
+            None => burst_length(beat) <= 1,
+            Some(burst) => burst.left <= 1,
+        }
+    }
+
+    /// Takes a beat with what is to stand beside it, which completes its message or doesn't.
     #[inline(always)]
-    pub fn take<const W: usize>(&mut self, last: bool, beat: &Beat<W>)
+    pub fn take<const W: usize>(&mut self, last: bool, beat: &Beat<W>, beside: &P)
         requires width { IsWidth W }
         requires small { IsTrue (is_small beat.now) }
         requires last { last ≡ is_last beat.now (burst_on self.old (Messages.channel_of beat.now)) }
-        ensures a { self.new.a ≡ burst_with channel.A beat.now self.old.a }
-        ensures b { self.new.b ≡ burst_with channel.B beat.now self.old.b }
-        ensures c { self.new.c ≡ burst_with channel.C beat.now self.old.c }
-        ensures d { self.new.d ≡ burst_with channel.D beat.now self.old.d }
-        ensures e { self.new.e ≡ burst_with channel.E beat.now self.old.e }
+        ensures a { self.new.a ≡ burst_with channel.A beat.now beside.now self.old.a }
+        ensures b { self.new.b ≡ burst_with channel.B beat.now beside.now self.old.b }
+        ensures c { self.new.c ≡ burst_with channel.C beat.now beside.now self.old.c }
+        ensures d { self.new.d ≡ burst_with channel.D beat.now beside.now self.old.d }
+        ensures e { self.new.e ≡ burst_with channel.E beat.now beside.now self.old.e }
     {
         match beat {
-            Beat::A(_) => advance(last, beat, &mut self.a),
-            Beat::B(_) => advance(last, beat, &mut self.b),
-            Beat::C(_) => advance(last, beat, &mut self.c),
-            Beat::D(_) => advance(last, beat, &mut self.d),
-            Beat::E(_) => advance(last, beat, &mut self.e),
+            Beat::A(_) => advance(last, beat, beside, &mut self.a),
+            Beat::B(_) => advance(last, beat, beside, &mut self.b),
+            Beat::C(_) => advance(last, beat, beside, &mut self.c),
+            Beat::D(_) => advance(last, beat, beside, &mut self.d),
+            Beat::E(_) => advance(last, beat, beside, &mut self.e),
         }
     }
 
@@ -127,11 +157,11 @@ impl Bursts {
     #[inline(always)]
     pub fn count<const W: usize>(&mut self, beat: &Beat<W>)
         requires { IsMiddle beat.now (burst_on self.old (Messages.channel_of beat.now)) }
-        ensures a { self.new.a ≡ burst_with channel.A beat.now self.old.a }
-        ensures b { self.new.b ≡ burst_with channel.B beat.now self.old.b }
-        ensures c { self.new.c ≡ burst_with channel.C beat.now self.old.c }
-        ensures d { self.new.d ≡ burst_with channel.D beat.now self.old.d }
-        ensures e { self.new.e ≡ burst_with channel.E beat.now self.old.e }
+        ensures a { (beside : P) → self.new.a ≡ burst_with channel.A beat.now beside self.old.a }
+        ensures b { (beside : P) → self.new.b ≡ burst_with channel.B beat.now beside self.old.b }
+        ensures c { (beside : P) → self.new.c ≡ burst_with channel.C beat.now beside self.old.c }
+        ensures d { (beside : P) → self.new.d ≡ burst_with channel.D beat.now beside self.old.d }
+        ensures e { (beside : P) → self.new.e ≡ burst_with channel.E beat.now beside self.old.e }
     {
         match beat {
             Beat::A(_) => count_in(beat, &mut self.a),

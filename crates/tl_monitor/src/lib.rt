@@ -2,7 +2,7 @@
 #![tactic(auto)]
 
 mod blocks;
-mod bursts;
+pub mod bursts;
 pub mod byte_table;
 mod change;
 pub mod fault;

@@ -29,7 +29,7 @@ use tl_rules::table::Release;
 /// of the message that opened it, by source, by sink and by block.
 #[derive(Drop)]
 pub struct LinkState {
-    pub bursts: Bursts,
+    pub bursts: Bursts<()>,
     pub requests: ByteTable<Request>,
     pub releases: ByteTable<Release>,
     /// The block that was granted with each sink.
@@ -198,7 +198,7 @@ impl LinkState {
         if first && last {
             return;
         }
-        self.bursts.take(last, beat);
+        self.bursts.take(last, beat, &());
     }
 
     /// Takes a beat that breaks no rule, which begins a message or doesn't, and completes it or doesn't.
@@ -226,7 +226,7 @@ impl LinkState {
         if first && last {
             return Ok(());
         }
-        self.bursts.take(last, beat);
+        self.bursts.take(last, beat, &());
         Ok(())
     }
 

@@ -13,7 +13,7 @@ use tl_rules::past::{Past, Probe, Request};
 use tl_rules::perm::Perm;
 
 /// Whether a burst that isn't complete is of a request with this source.
-fn comes_request(source: u8, burst: &Option<Unfinished>) -> bool
+fn comes_request(source: u8, burst: &Option<Unfinished<()>>) -> bool
     ensures { result ≡ comes_request source burst.now }
 {
     match burst {
@@ -28,7 +28,7 @@ fn comes_request(source: u8, burst: &Option<Unfinished>) -> bool
 }
 
 /// Whether a burst that isn't complete is of a Release with this source.
-fn comes_release(source: u8, burst: &Option<Unfinished>) -> bool
+fn comes_release(source: u8, burst: &Option<Unfinished<()>>) -> bool
     ensures { result ≡ comes_release source burst.now }
 {
     match burst {
@@ -43,7 +43,7 @@ fn comes_release(source: u8, burst: &Option<Unfinished>) -> bool
 }
 
 /// Whether a burst that isn't complete is of a Grant with this sink.
-fn comes_grant(sink: u8, burst: &Option<Unfinished>) -> bool
+fn comes_grant(sink: u8, burst: &Option<Unfinished<()>>) -> bool
     ensures { result ≡ comes_grant sink burst.now }
 {
     match burst {

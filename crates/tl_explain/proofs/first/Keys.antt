@@ -1,15 +1,12 @@
 -- Where a rule is the first that a beat breaks, a reason is told.
-use Rattle.std.proofs.Common.{◌≡◌, ℕ, ◌==◌, ◌&&◌, ◌||◌, ◌∷◌, List, true, false, Bool, refl, sym, ap, ap₂, ◌∙◌}
+use Rattle.std.proofs.Common.{◌≡◌, ℕ, ◌==◌, ◌&&◌, ◌||◌, true, false, Bool, refl, sym, ap, ap₂, ◌∙◌}
 use Rattle.std.proofs.Common.{inl, inr, ◌⊎◌}
 use Rattle.std.specs.Prelude.{Option, Some, None, is_some, if◌then◌else◌}
 use Rattle.tl_beat.specs.declared.beat.Beat.{Beat}
 use Rattle.tl_beat.specs.declared.beat.Beat.TheVariants as beat
 use Rattle.tl_beat.specs.declared.beat.BeatC.{BeatC}
-use Rattle.tl_beat.specs.statement.Control.{control_of}
 use Rattle.tl_burst.specs.statement.Messages.{History, unfinished}
 use Rattle.tl_params.specs.declared.key.Key.{Key}
-use Rattle.tl_params.specs.declared.key.Key.TheVariants.{RequestSource, ReleaseSource, AcquireOf, ReleaseOf, GrantSink}
-use Rattle.tl_params.specs.declared.key.Key.TheVariants.{GrantAckOf, ProbeOf}
 use Rattle.tl_params.specs.declared.level.Level.{Level}
 use Rattle.tl_params.specs.declared.profile.Profile.{Profile}
 use Rattle.tl_params.specs.declared.rule.Rule.{Rule}
@@ -30,12 +27,12 @@ use Rattle.tl_explain.specs.code.Chosen.{first_reason, for_message}
 use Rattle.tl_explain.specs.code.Chosen.{for_probe_ack, for_release}
 use Rattle.tl_explain.specs.code.Chosen.{is_of_bursts, missing_by}
 use Rattle.tl_explain.specs.code.Chosen.{where_missing, where_pending}
-use Rattle.tl_explain.specs.code.Recorded.{IsBegun, IsTurn, open_message, opens_by}
+use Rattle.tl_explain.specs.code.Recorded.{IsBegun, IsTurn, open_message, comes_by}
 use Rattle.tl_explain.specs.statement.Evidence.{is_open, mention_of}
 use Rattle.tl_explain.specs.statement.Reasons.{comes_in, opening_channel}
 use Rattle.tl_explain.proofs.Found.{opened}
 use Rattle.tl_explain.proofs.Rests.{pending_open}
-use Rattle.tl_explain.proofs.sound.Openings.{opened_some}
+use Rattle.tl_explain.proofs.sound.Openings.{comes-is, opened_some}
 use Rattle.tl_explain.proofs.WholeBursts.{burst_opened, none_comes}
 use Rattle.tl_explain.proofs.Plain.{is_one, same_true}
 
@@ -58,28 +55,6 @@ either_told None b (inl e) = absurd cc
 either_told None b (inr e) = e
 
 -- ---- what is told of a key
-
-opens_it : {w : ℕ} (k : Key) (y : Beat w) (u : List (Beat w)) → comes_in k (y ∷ u) ≡ true
-    → opens_by k (control_of y) None ≡ true
-opens_it (RequestSource s) (beat.A x) u e = e
-opens_it (RequestSource s) (beat.B x) u e = absurd cc
-opens_it (RequestSource s) (beat.C x) u e = absurd cc
-opens_it (RequestSource s) (beat.D x) u e = absurd cc
-opens_it (RequestSource s) (beat.E x) u e = absurd cc
-opens_it (ReleaseSource s) (beat.A x) u e = absurd cc
-opens_it (ReleaseSource s) (beat.B x) u e = absurd cc
-opens_it (ReleaseSource s) (beat.C x) u e = e
-opens_it (ReleaseSource s) (beat.D x) u e = absurd cc
-opens_it (ReleaseSource s) (beat.E x) u e = absurd cc
-opens_it (GrantSink s) (beat.A x) u e = absurd cc
-opens_it (GrantSink s) (beat.B x) u e = absurd cc
-opens_it (GrantSink s) (beat.C x) u e = absurd cc
-opens_it (GrantSink s) (beat.D x) u e = e
-opens_it (GrantSink s) (beat.E x) u e = absurd cc
-opens_it (AcquireOf k) y u e = absurd cc
-opens_it (ReleaseOf k) y u e = absurd cc
-opens_it (GrantAckOf k) y u e = absurd cc
-opens_it (ProbeOf k) y u e = absurd cc
 
 module _ {w : ℕ} (n : ℕ) (t : Trace w) (k : Key) (turn : Turn) (is : IsTurn turn n k t) where
   abbrev now : History w
@@ -105,7 +80,7 @@ module _ {w : ℕ} (n : ℕ) (t : Trace w) (k : Key) (turn : Turn) (is : IsTurn 
       unfinished_is turn.opening turn.closing (open_message turn) m.0 b of.1 m.1 line opens_key
     where
       unfinished_is : (o c q : Option Told) (m : Told) (b : Begun) → o ≡ Some m → q ≡ Some m
-          → (b.first.mention.line == m.mention.line) ≡ true → opens_by k b.newest None ≡ true
+          → (b.first.mention.line == m.mention.line) ≡ true → comes_by k b.newest ≡ true
           → is_some (missing_by k o c q (Some b)) ≡ true
       unfinished_is o c q m b f g here opens = rw (f, g, here, opens) refl
 
@@ -122,8 +97,8 @@ module _ {w : ℕ} (n : ℕ) (t : Trace w) (k : Key) (turn : Turn) (is : IsTurn 
       line : (b.first.mention.line == m.0.mention.line) ≡ true
       line = same_true b.first.mention.line m.0.mention.line (ap (λ (z : Mention). z.line) same)
 
-      opens_key : opens_by k b.newest None ≡ true
-      opens_key = rw begun.3 (opens_it k begun.0 begun.1 (rw begun.2 at comes))
+      opens_key : comes_by k b.newest ≡ true
+      opens_key = ap (comes_by k) begun.3 ∙ comes-is k begun.0 begun.1 ∙ sym (ap (comes_in k) begun.2) ∙ comes
 
 -- ---- a reason of messages is of no rule of bursts
 

@@ -36,7 +36,7 @@ use Rattle.tl_explain.specs.code.Chosen.{differs_by, first_reason, for_acknowled
 use Rattle.tl_explain.specs.code.Chosen.{for_message_c, for_probe, for_probe_ack, for_release, for_request, held_by}
 use Rattle.tl_explain.specs.code.Chosen.{kind_by, probe_by, reason_by, unless_held}
 use Rattle.tl_explain.specs.code.Chosen.{where_missing, where_pending}
-use Rattle.tl_explain.specs.code.Recorded.{IsBegun, IsRecord, IsTurn, burst_on, open_message}
+use Rattle.tl_explain.specs.code.Recorded.{IsBegun, IsRecord, IsTurn, begun_on, open_message}
 use Rattle.tl_explain.specs.statement.Evidence.{is_open}
 use Rattle.tl_explain.specs.statement.Reasons.{HasBlockAsked, IsSubject, is_always_told}
 use Rattle.tl_explain.proofs.Found.{decides, grant_told, not_false, perm_is}
@@ -226,12 +226,12 @@ module _ {w : ℕ} (p : Profile) (r : Recorder) (t : Trace w) (rec : IsRecord r 
 
       of_release_source : (b : Bool) → pending (ReleaseSource x.source) h ≡ b
           → (b && not (comes_in_release x.source (unfinished channel.C h))) ≡ false
-          → is_some (where_missing (ReleaseSource x.source) r.turns.release_with_source r.bursts.c) ≡ true
+          → is_some (where_missing (ReleaseSource x.source) r.turns.release_with_source (begun_on r channel.C)) ≡ true
       of_release_source false off f =
-          free_told l t (ReleaseSource x.source) r.turns.release_with_source released r.bursts.c off
+          free_told l t (ReleaseSource x.source) r.turns.release_with_source released (begun_on r channel.C) off
       of_release_source true on f =
-          unfinished_told l t (ReleaseSource x.source) r.turns.release_with_source released p r.bursts.c
-          (rec.bursts_are channel.C) on (not_false (comes_in_release x.source (unfinished channel.C h)) f) v clean
+          unfinished_told l t (ReleaseSource x.source) r.turns.release_with_source released p (begun_on r channel.C)
+          (rec.begun_are channel.C) on (not_false (comes_in_release x.source (unfinished channel.C h)) f) v clean
 
       other_kind : pending (RequestSource x.source) h ≡ true → admits x.opcode (request_of x.source h) ≡ false
           → is_some (kind_by x (open_message r.turns.request)) ≡ true
@@ -244,22 +244,22 @@ module _ {w : ℕ} (p : Profile) (r : Recorder) (t : Trace w) (rec : IsRecord r 
       of_request_source : (b : Bool) → pending (RequestSource x.source) h ≡ b
           → (b && (not (comes_in_request x.source (unfinished channel.A h)) && admits x.opcode
           (request_of x.source h))) ≡ false
-          → (is_some (where_missing (RequestSource x.source) r.turns.request r.bursts.a) ≡ true)
+          → (is_some (where_missing (RequestSource x.source) r.turns.request (begun_on r channel.A)) ≡ true)
           ⊎ (is_some (kind_by x (open_message r.turns.request)) ≡ true)
       of_request_source false off f =
-          inl (free_told l t (RequestSource x.source) r.turns.request asked r.bursts.a off)
+          inl (free_told l t (RequestSource x.source) r.turns.request asked (begun_on r channel.A) off)
       of_request_source true on f =
           elim (and_false (not (comes_in_request x.source (unfinished channel.A h)))
           (admits x.opcode (request_of x.source h)) f) [
-            | inl late ↦ inl (unfinished_told l t (RequestSource x.source) r.turns.request asked p r.bursts.a
-                (rec.bursts_are channel.A) on (not_false (comes_in_request x.source (unfinished channel.A h)) late)
+            | inl late ↦ inl (unfinished_told l t (RequestSource x.source) r.turns.request asked p (begun_on r channel.A)
+                (rec.begun_are channel.A) on (not_false (comes_in_request x.source (unfinished channel.A h)) late)
                 v clean)
             | inr bad ↦ inr (other_kind on bad)
           ]
 
       go : (b : Bool) → is_release_ack x.opcode ≡ b → is_some (for_answer p H2 x r) ≡ true
       go true ack = rw ack (of_release_source (pending (ReleaseSource x.source) h) refl (rw ack at e))
-      go false ack = rw ack (either_told (where_missing (RequestSource x.source) r.turns.request r.bursts.a)
+      go false ack = rw ack (either_told (where_missing (RequestSource x.source) r.turns.request (begun_on r channel.A))
           (kind_by x (open_message r.turns.request))
           (of_request_source (pending (RequestSource x.source) h) refl (rw ack at e)))
 
@@ -311,11 +311,11 @@ module _ {w : ℕ} (p : Profile) (r : Recorder) (t : Trace w) (rec : IsRecord r 
 
       ungranted : IsToldOf H8 → (b : Bool) → pending (GrantSink x.sink) h ≡ b
           → (not b || comes_in_grant x.sink (unfinished channel.D h)) ≡ true
-          → is_some (where_missing (GrantSink x.sink) r.turns.sink r.bursts.d) ≡ true
+          → is_some (where_missing (GrantSink x.sink) r.turns.sink (begun_on r channel.D)) ≡ true
       ungranted (inl never) b f bad = absurd cc
-      ungranted (inr clean) false off bad = free_told l t (GrantSink x.sink) r.turns.sink turn r.bursts.d off
-      ungranted (inr clean) true on bad = unfinished_told l t (GrantSink x.sink) r.turns.sink turn p r.bursts.d
-          (rec.bursts_are channel.D) on bad clean.0 clean.1
+      ungranted (inr clean) false off bad = free_told l t (GrantSink x.sink) r.turns.sink turn (begun_on r channel.D) off
+      ungranted (inr clean) true on bad = unfinished_told l t (GrantSink x.sink) r.turns.sink turn p (begun_on r channel.D)
+          (rec.begun_are channel.D) on bad clean.0 clean.1
 
   of_order : (rule : Rule) (link : Link) (x : Beat w) → IsSubject r.subject link x → HasBlockAsked r.subject x t
       → IsToldOf rule → broken_order p x h ≡ Some rule → is_some (for_message p rule x r) ≡ true
@@ -346,8 +346,8 @@ module _ {w : ℕ} (p : Profile) (r : Recorder) (t : Trace w) (rec : IsRecord r 
       of_first : is_some (for_message p rule x r) ≡ true → begins x h ≡ true → is_some (reason_by p rule x r) ≡ true
       of_first some first = rw (
         not_of_bursts p r rule x some,
-        no_burst (burst_on r.bursts (channel_of x)) x first
-            (rec.bursts_are (channel_of x)),
+        no_burst (begun_on r (channel_of x)) x first
+            (rec.begun_are (channel_of x)),
       ) some
 
       go : (b : Bool) → begins x h ≡ b
@@ -357,6 +357,6 @@ module _ {w : ℕ} (p : Profile) (r : Recorder) (t : Trace w) (rec : IsRecord r 
       go true first f = of_first (of_order rule link x is asked told f) first
       go false later f = elim (decides (breaks_burst x (unfinished (channel_of x) h)) S1 None rule f) [
         | inl bad ↦ subst (λ (q : Rule). is_some (reason_by p q x r) ≡ true) bad.1
-            (differs_told x (burst_on r.bursts (channel_of x)) (rec.bursts_are (channel_of x)) bad.0)
+            (differs_told x (begun_on r (channel_of x)) (rec.begun_are (channel_of x)) bad.0)
         | inr none ↦ absurd cc
       ]

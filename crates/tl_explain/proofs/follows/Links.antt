@@ -1,5 +1,5 @@
 -- A beat of another link.
-use Rattle.std.proofs.Common.{◌≡◌, ℕ, ◌+◌, ◌==◌, List, [], ◌∷◌, length}
+use Rattle.std.proofs.Common.{◌≡◌, ℕ, ◌==◌, List, [], ◌∷◌, length}
 use Rattle.std.proofs.Common.{true, false, Bool, refl, sym, ap, ◌∙◌, arith}
 use Rattle.std.specs.Prelude.{Option, Some, None, is_none, if◌then◌else◌}
 use Rattle.tl_beat.specs.declared.beat.Beat.{Beat}
@@ -7,16 +7,14 @@ use Rattle.tl_beat.specs.declared.beat.Beat.TheVariants as beat
 use Rattle.tl_beat.specs.declared.beat.BeatA.{BeatA}
 use Rattle.tl_beat.specs.declared.beat.BeatC.{BeatC}
 use Rattle.tl_beat.specs.declared.beat.Link.{Link}
-use Rattle.tl_burst.specs.statement.Messages.{History, channel_of, grown, on, unfinished}
-use Rattle.tl_burst.specs.statement.Part.{completes, is_empty}
+use Rattle.tl_burst.specs.statement.Messages.{History, breaks_burst, burst_length, channel_of, grown, on, unfinished}
+use Rattle.tl_burst.specs.statement.Part.{is_empty}
 use Rattle.tl_params.specs.declared.key.Key.{Key}
 use Rattle.tl_rules.specs.statement.Conformance.{Trace, on_link}
-use Rattle.tl_rules.specs.statement.History.{begins, block_at, ends, opens}
+use Rattle.tl_rules.specs.statement.History.{begins, block_at, opens}
 use Rattle.tl_rules.specs.statement.History.{request_of, release_of}
 use Rattle.tl_beat.specs.statement.Control.{control_of}
-use Rattle.tl_beat.specs.declared.control.Control.{Control}
 use Rattle.tl_explain.specs.declared.told.Mention.{Mention}
-use Rattle.tl_explain.specs.declared.told.Told.{Told}
 use Rattle.tl_explain.specs.declared.turn.Turn.{Turn}
 use Rattle.tl_explain.specs.declared.turns.Moment.{Moment}
 use Rattle.tl_explain.specs.declared.turns.Subject.{Subject}
@@ -29,10 +27,27 @@ use Rattle.tl_beat.specs.declared.channel.Channel.TheVariants as channel
 use Rattle.tl_monitor.specs.code.Count.{at}
 use Rattle.tl_explain.specs.statement.Evidence.{last_saying, last_where, burst_opening, mention_of, told}
 use Rattle.tl_explain.specs.code.Recorded.{AreBlocks, AreTurns, IsBegun, IsMoment, IsRecord, IsTurn, asked_next}
-use Rattle.tl_explain.specs.code.Recorded.{burst_after, burst_on, burst_with, channel_in, completes_burst}
-use Rattle.tl_explain.specs.code.Recorded.{released_next, same_channel, block_asked, block_of, block_released}
+use Rattle.tl_explain.specs.code.Recorded.{begun_by, begun_on, released_next, block_asked, block_of, block_released}
+use Rattle.tl_explain.proofs.sound.Openings.{grown_is}
+use Rattle.tl_monitor.specs.declared.bursts.Bursts.{Bursts}
+use Rattle.tl_monitor.specs.declared.bursts.Unfinished.{Unfinished}
+use Rattle.tl_monitor.specs.code.Bursts.{IsOf, beside_first, burst_next, burst_on, burst_with, continues_burst, is_last}
+use Rattle.tl_monitor.specs.code.Bursts.{left_after}
+use Rattle.tl_monitor.proofs.Continued.{bursts-next, first-is, last-is}
+use Rattle.std.proofs.lemmas.Bool.{cases_Bool}
+use Rattle.std.proofs.Common.{inl, inr, not, ◌-◌, suc, ◌<◌}
+use Rattle.tl_beat.specs.statement.Width.{IsWidth}
+use Rattle.tl_beat.specs.statement.Control.{has_control}
 use Rattle.tl_explain.proofs.follows.Keys.{here}
 use Rattle.tl_explain.proofs.Plain.{same_true}
+
+-- a beat that makes nothing of a burst
+begun_kept : {w : ℕ} (b : Option Begun) (n : ℕ) (ch : Channel) (x : Link × Beat w) (t : Trace w)
+    → unfinished ch (on_link n (x ∷ t)) ≡ unfinished ch (on_link n t)
+    → burst_opening n ch (x ∷ t) ≡ burst_opening n ch t → IsBegun b n ch t → IsBegun b n ch (x ∷ t)
+begun_kept None n ch x t beats opening is = beats ∙ is
+begun_kept (Some b) n ch x t beats opening is =
+    (is.0, is.1, beats ∙ is.2, is.3, ap length beats ∙ is.4, opening ∙ is.5)
 
 module _ {w : ℕ} (n : ℕ) (x : Link × Beat w) (t : Trace w) (elsewhere : (x.0.0 == n) ≡ false) where
   not_on : on_link n (x ∷ t) ≡ on_link n t
@@ -55,18 +70,6 @@ module _ {w : ℕ} (n : ℕ) (x : Link × Beat w) (t : Trace w) (elsewhere : (x.
   unfolding burst_opening
   opening_kept ch = rw elsewhere refl
 
-  begun_kept : (b : Option Begun) (ch : Channel) → IsBegun b n ch t → IsBegun b n ch (x ∷ t)
-  begun_kept None ch is = ap (unfinished ch) not_on ∙ is
-  begun_kept (Some b) ch is = (
-    is.0,
-    is.1,
-    ap (unfinished ch) not_on ∙ is.2,
-    is.3,
-    ap (λ (h : History w). length (unfinished ch h))
-        not_on ∙ is.4,
-    opening_kept ch ∙ is.5,
-  )
-
 turns_kept : {w : ℕ} (r : Turns) (subject : Subject) (x : Link × Beat w) (t : Trace w)
     → (x.0.0 == subject.link.0) ≡ false → AreTurns r subject t → AreTurns r subject (x ∷ t)
 turns_kept r subject x t elsewhere is = record {
@@ -83,93 +86,28 @@ turns_kept r subject x t elsewhere is = record {
 pub record_kept : {w : ℕ} (r : Recorder) (x : Link × Beat w) (t : Trace w) → (x.0.0 == r.subject.link.0) ≡ false
     → IsRecord r t → IsRecord r (x ∷ t)
 record_kept r x t elsewhere is = record {
-  bursts_are = λ ch. begun_kept r.subject.link.0 x t elsewhere (burst_on r.bursts ch) ch (is.bursts_are ch);
+  bursts_are = rw (not_on r.subject.link.0 x t elsewhere) is.bursts_are;
+  begun_are = λ ch. begun_kept (begun_on r ch) r.subject.link.0 ch x t
+      (ap (unfinished ch) (not_on r.subject.link.0 x t elsewhere))
+      (opening_kept r.subject.link.0 x t elsewhere ch) (is.begun_are ch);
   blocks_are = rw (not_on r.subject.link.0 x t elsewhere) is.blocks_are;
   turns_are = turns_kept r.turns r.subject x t elsewhere is.turns_are;
 }
 
 -- ---- a beat of the link: what it makes of the burst on its channel
 
-on_is : {w : ℕ} (ch : Channel) (x : Beat w) → same_channel ch (channel_in (control_of x)) ≡ on ch x
-on_is channel.A (beat.A x) = refl
-on_is channel.A (beat.B x) = refl
-on_is channel.A (beat.C x) = refl
-on_is channel.A (beat.D x) = refl
-on_is channel.A (beat.E x) = refl
-on_is channel.B (beat.A x) = refl
-on_is channel.B (beat.B x) = refl
-on_is channel.B (beat.C x) = refl
-on_is channel.B (beat.D x) = refl
-on_is channel.B (beat.E x) = refl
-on_is channel.C (beat.A x) = refl
-on_is channel.C (beat.B x) = refl
-on_is channel.C (beat.C x) = refl
-on_is channel.C (beat.D x) = refl
-on_is channel.C (beat.E x) = refl
-on_is channel.D (beat.A x) = refl
-on_is channel.D (beat.B x) = refl
-on_is channel.D (beat.C x) = refl
-on_is channel.D (beat.D x) = refl
-on_is channel.D (beat.E x) = refl
-on_is channel.E (beat.A x) = refl
-on_is channel.E (beat.B x) = refl
-on_is channel.E (beat.C x) = refl
-on_is channel.E (beat.D x) = refl
-on_is channel.E (beat.E x) = refl
-
-pub on_own : {w : ℕ} (ch : Channel) (x : Beat w) → on ch x ≡ true → ch ≡ channel_of x
-on_own channel.A (beat.A x) e = refl
-on_own channel.A (beat.B x) e = absurd cc
-on_own channel.A (beat.C x) e = absurd cc
-on_own channel.A (beat.D x) e = absurd cc
-on_own channel.A (beat.E x) e = absurd cc
-on_own channel.B (beat.A x) e = absurd cc
-on_own channel.B (beat.B x) e = refl
-on_own channel.B (beat.C x) e = absurd cc
-on_own channel.B (beat.D x) e = absurd cc
-on_own channel.B (beat.E x) e = absurd cc
-on_own channel.C (beat.A x) e = absurd cc
-on_own channel.C (beat.B x) e = absurd cc
-on_own channel.C (beat.C x) e = refl
-on_own channel.C (beat.D x) e = absurd cc
-on_own channel.C (beat.E x) e = absurd cc
-on_own channel.D (beat.A x) e = absurd cc
-on_own channel.D (beat.B x) e = absurd cc
-on_own channel.D (beat.C x) e = absurd cc
-on_own channel.D (beat.D x) e = refl
-on_own channel.D (beat.E x) e = absurd cc
-on_own channel.E (beat.A x) e = absurd cc
-on_own channel.E (beat.B x) e = absurd cc
-on_own channel.E (beat.C x) e = absurd cc
-on_own channel.E (beat.D x) e = absurd cc
-on_own channel.E (beat.E x) e = refl
+-- the beat continues the burst
+continues : {w : ℕ} (x : Beat w) (u : Option (Unfinished Moment)) (beats : List (Beat w)) → IsOf u beats
+    → continues_burst x u ≡ true → breaks_burst x beats ≡ false
+continues x None beats of c = ap (breaks_burst x) of
+continues x (Some u) beats (y, earlier, e, same, long, more) c =
+    ap (breaks_burst x) e ∙ ap not (sym (ap (has_control x) same) ∙ c)
 
 abbrev BegunOf : {w : ℕ} → Option Begun → List (Beat w) → Option Mention → Type 0
 BegunOf None u opening = u ≡ []
 BegunOf {w} (Some b) u opening =
     (newest : Beat w) × (earlier : List (Beat w)) × (u ≡ newest ∷ earlier) × (b.newest ≡ control_of newest)
     × (length u ≡ b.came) × (opening ≡ Some b.first.mention)
-
-abbrev opening_after : {w : ℕ} → Bool → List (Beat w) → List (Beat w) → Mention → Option Mention → Option Mention
-opening_after here new old m opening =
-    if here then (if is_empty new then None else if is_empty old then Some m else opening) else opening
-
-begun_step : {w : ℕ} (here last : Bool) (y : Beat w) (u v : List (Beat w)) (was is : Option Mention) (b : Option Begun)
-    (m : Told) → m.mention.control ≡ control_of y
-    → v ≡ (if here then grown y u else u) → is ≡ opening_after here v u m.mention was
-    → (here ≡ true → last ≡ completes y u) → BegunOf b u was
-    → BegunOf (if here then burst_after m last b else b) v is
-begun_step false last y u v was is None m e grows opens finishes begun = grows ∙ begun
-begun_step false last y u v was is (Some b) m e grows opens finishes begun =
-    (begun.0, begun.1, grows ∙ begun.2, begun.3, ap length grows ∙ begun.4, opens ∙ begun.5)
-begun_step true true y u v was is b m e grows opens finishes begun = grows ∙ rw (← finishes refl) refl
-begun_step true false y u v was is None m e grows opens finishes begun =
-    let now : v ≡ y ∷ [] = grows ∙ rw (← finishes refl, begun) refl in
-    (y, [], now, e, ap length now ∙ refl, opens ∙ rw (now, begun) refl)
-begun_step true false y u v was is (Some b) m e grows opens finishes begun =
-    let now : v ≡ y ∷ u = grows ∙ rw (← finishes refl) refl in
-    let long : length (y ∷ u) ≡ b.came + 1 = omega (arith, begun.4) in
-    (y, u, now, e, ap length now ∙ long, opens ∙ rw (now, begun.2) begun.5)
 
 into : {w : ℕ} (b : Option Begun) (n : ℕ) (ch : Channel) (t : Trace w) → IsBegun b n ch t
     → BegunOf b (unfinished ch (on_link n t)) (burst_opening n ch t)
@@ -181,45 +119,69 @@ back : {w : ℕ} (b : Option Begun) (n : ℕ) (ch : Channel) (t : Trace w)
 back None n ch t is = is
 back (Some b) n ch t is = is
 
-unfinished_taken : {w : ℕ} (n : ℕ) (ch : Channel) (x : Link × Beat w) (t : Trace w) → (x.0.0 == n) ≡ true
-    → unfinished ch (on_link n (x ∷ t)) ≡ (if on ch x.1 then grown x.1 (unfinished ch (on_link n t)) else unfinished ch
-    (on_link n t))
+-- the burst with its next beat, which is the last or isn't
+abbrev next_burst : {w : ℕ} → Beat w → Moment → Option (Unfinished Moment) → Bool → Option (Unfinished Moment)
+next_burst y m u done = if done then None else Some
+    (record { control = control_of y; left = left_after y u; beside = beside_first m u })
+
+begun_next : {w : ℕ} (y : Beat w) (m : Moment) (u : Option (Unfinished Moment)) (beats v : List (Beat w))
+    (was is : Option Mention) → m.length ≡ burst_length y → v ≡ grown y beats
+    → is ≡ (if is_empty v then None else if is_empty beats then Some m.told.mention else was) → IsOf u beats
+    → BegunOf (begun_by u) beats was → IsOf (burst_next y m u) v → BegunOf (begun_by (burst_next y m u)) v is
+begun_next {w} y m u beats v was is long grows opens of begun next = go (left_after y u == 0) next
+  where
+    came : (u : Option (Unfinished Moment)) → IsOf u beats → BegunOf (begun_by u) beats was → 0 < left_after y u
+        → length (y ∷ beats) ≡ (beside_first m u).length - left_after y u
+    came None of begun more = let none : length beats ≡ 0 = ap length of in omega (arith, long, none, more)
+    came (Some u) (x, earlier, e, same, all, left) begun more =
+        let some : length beats ≡ suc (length earlier) = ap length e in
+        let so_far : length beats ≡ u.beside.length - u.left = begun.4 in
+        omega (arith, some, so_far, more)
+
+    first : (u : Option (Unfinished Moment)) → IsOf u beats → BegunOf (begun_by u) beats was
+        → (if is_empty beats then Some m.told.mention else was) ≡ Some (beside_first m u).told.mention
+    first None of begun = rw of refl
+    first (Some u) of begun = rw begun.2 begun.5
+
+    go : (done : Bool) → IsOf (next_burst y m u done) v → BegunOf (begun_by (next_burst y m u done)) v is
+    go true next = next
+    go false (x, earlier, e, same, all, more) =
+        let now : v ≡ y ∷ beats = grown_is y beats v grows (ap is_empty e) in (
+          y,
+          beats,
+          now,
+          refl,
+          ap length now ∙ came u of begun more,
+          opens ∙ rw now (first u of begun),
+        )
+
+unfinished_taken : {w : ℕ} (n : ℕ) (x : Link × Beat w) (t : Trace w) → (x.0.0 == n) ≡ true
+    → (ch : Channel) → on ch x.1 ≡ true
+    → unfinished ch (on_link n (x ∷ t)) ≡ grown x.1 (unfinished ch (on_link n t))
 unfolding unfinished on_link
-unfinished_taken n ch x t own = rw own refl
+unfinished_taken n x t own ch here = rw (own, here) refl
 
-opening_taken : {w : ℕ} (n : ℕ) (ch : Channel) (x : Link × Beat w) (t : Trace w) → (x.0.0 == n) ≡ true
-    → burst_opening n ch (x ∷ t) ≡ opening_after (on ch x.1) (unfinished ch (on_link n (x ∷ t)))
-    (unfinished ch (on_link n t)) (told x t) (burst_opening n ch t)
-unfolding burst_opening
-opening_taken n ch x t own = rw own refl
-
-begun_taken : {w : ℕ} (n : ℕ) (ch : Channel) (x : Link × Beat w) (t : Trace w) (b : Option Begun) (m : Told)
-    (last : Bool) → (x.0.0 == n) ≡ true → m.mention ≡ told x t
-    → (on ch x.1 ≡ true → last ≡ completes x.1 (unfinished ch (on_link n t))) → IsBegun b n ch t
-    → IsBegun (burst_with ch m last b) n ch (x ∷ t)
-begun_taken n ch x t b m last own is finishes begun =
-    let control : m.mention.control ≡ control_of x.1 = ap (λ (y : Mention). y.control) is in
-    let same : same_channel ch (channel_in m.mention.control) ≡ on ch x.1 =
-    ap (λ (y : Control). same_channel ch (channel_in y)) control ∙ on_is ch x.1 in
-    let opening = opening_taken n ch x t own ∙ ap
-    (λ (y : Mention). opening_after (on ch x.1) (unfinished ch (on_link n (x ∷ t))) (unfinished ch (on_link n t)) y
-    (burst_opening n ch t)) (sym is) in
-    let step = begun_step (on ch x.1) last x.1 (unfinished ch (on_link n t)) (unfinished ch (on_link n (x ∷ t)))
-    (burst_opening n ch t) (burst_opening n ch (x ∷ t)) b m control
-    (unfinished_taken n ch x t own) opening finishes (into b n ch t begun) in
-    back (burst_with ch m last b) n ch (x ∷ t) (rw same step)
+begun_taken : {w : ℕ} (n : ℕ) (ch : Channel) (x : Link × Beat w) (t : Trace w) (u : Option (Unfinished Moment))
+    (m : Moment) → (x.0.0 == n) ≡ true → IsMoment m n x t → IsOf u (unfinished ch (on_link n t))
+    → IsOf (burst_with ch x.1 m u) (unfinished ch (on_link n (x ∷ t))) → IsBegun (begun_by u) n ch t
+    → IsBegun (begun_by (burst_with ch x.1 m u)) n ch (x ∷ t)
+unfolding burst_opening unfinished on_link
+begun_taken n ch x t u m own is of next begun = elim (cases_Bool (on ch x.1)) [
+  | inl here ↦
+      let grows = unfinished_taken n x t own ch here in
+      let opens : burst_opening n ch (x ∷ t) ≡ (if is_empty (unfinished ch (on_link n (x ∷ t))) then None else if
+      is_empty (unfinished ch (on_link n t)) then Some m.told.mention else burst_opening n ch t) =
+      rw (own, here, is.told_is) refl in
+      rw here (back (begun_by (burst_next x.1 m u)) n ch (x ∷ t)
+      (begun_next x.1 m u (unfinished ch (on_link n t)) (unfinished ch (on_link n (x ∷ t))) (burst_opening n ch t)
+      (burst_opening n ch (x ∷ t)) is.length_is grows opens of (into (begun_by u) n ch t begun) (rw here at next)))
+  | inr other ↦
+      let beats : unfinished ch (on_link n (x ∷ t)) ≡ unfinished ch (on_link n t) = rw (own, other) refl in
+      let opening : burst_opening n ch (x ∷ t) ≡ burst_opening n ch t = rw (own, other) refl in
+      rw other (begun_kept (begun_by u) n ch x t beats opening begun)
+]
 
 -- ---- and of the moment, and of the blocks
-
-first_is : {w : ℕ} (b : Option Begun) (u : List (Beat w)) (was : Option Mention) → BegunOf b u was
-    → is_none b ≡ is_empty u
-first_is None u was begun = rw begun refl
-first_is (Some b) u was begun = rw begun.2 refl
-
-last_is : {w : ℕ} (y : Beat w) (b : Option Begun) (u : List (Beat w)) (was : Option Mention) → BegunOf b u was
-    → completes_burst y b ≡ completes y u
-last_is y None u was begun = rw begun refl
-last_is y (Some b) u was begun = rw begun.4 refl
 
 asked_if : {w : ℕ} (c : Bool) (x : BeatA w) (r : Option (BeatA w))
     → (if c then Some (block_at x.address) else block_asked r) ≡ block_asked (if c then Some x else r)
@@ -262,41 +224,64 @@ pub on_own_link : {w : ℕ} (n : ℕ) (x : Link × Beat w) (t : Trace w) → (x.
 unfolding on_link
 on_own_link n x t own = rw own refl
 
-pub record_taken : {w : ℕ} (r q : Recorder) (m : Moment) (x : Link × Beat w) (t : Trace w) → x.0.0 ≡ r.subject.link.0
-    → m.told.mention ≡ told x t
+pub by_channel : {w : ℕ} (new old : Bursts Moment) (x : Beat w) (m : Moment) → new.a ≡ burst_with channel.A x m old.a
+    → new.b ≡ burst_with channel.B x m old.b → new.c ≡ burst_with channel.C x m old.c
+    → new.d ≡ burst_with channel.D x m old.d → new.e ≡ burst_with channel.E x m old.e
+    → (ch : Channel) → burst_on new ch ≡ burst_with ch x m (burst_on old ch)
+by_channel new old x m a b c d e channel.A = a
+by_channel new old x m a b c d e channel.B = b
+by_channel new old x m a b c d e channel.C = c
+by_channel new old x m a b c d e channel.D = d
+by_channel new old x m a b c d e channel.E = e
+
+-- the next beat of a link
+pub moment_is : {w : ℕ} (r : Recorder) (m : Moment) (x : Link × Beat w) (t : Trace w) → IsWidth w
+    → x.0.0 ≡ r.subject.link.0 → m.told.mention ≡ told x t → m.length ≡ burst_length x.1
     → m.first ≡ is_none (burst_on r.bursts (channel_of x.1))
-    → m.last ≡ completes_burst x.1 (burst_on r.bursts (channel_of x.1))
-    → ((h : History w) → AreBlocks r.blocks h → m.block ≡ block_of x.1 h) → q.subject ≡ r.subject
-    → (IsMoment m r.subject.link.0 x t → AreTurns r.turns r.subject t → AreTurns q.turns r.subject (x ∷ t))
+    → m.last ≡ is_last x.1 (burst_on r.bursts (channel_of x.1))
+    → ((h : History w) → AreBlocks r.blocks h → m.block ≡ block_of x.1 h)
+    → continues_burst x.1 (burst_on r.bursts (channel_of x.1)) ≡ true → IsRecord r t
+    → IsMoment m r.subject.link.0 x t
+moment_is r m x t width own is long first last block goes rec =
+    let h = on_link r.subject.link.0 t in
+    let u = burst_on r.bursts (channel_of x.1) in
+    let of = rec.bursts_are (channel_of x.1) in
+    record {
+      told_is = is;
+      length_is = long;
+      of_link = own;
+      first_is = first ∙ sym (first-is u (unfinished (channel_of x.1) h) of);
+      last_is = last ∙ sym (last-is x.1 u (unfinished (channel_of x.1) h) width of
+          (continues x.1 u (unfinished (channel_of x.1) h) of goes));
+      block_is = block h rec.blocks_are;
+    }
+
+pub record_taken : {w : ℕ} (r q : Recorder) (m : Moment) (x : Link × Beat w) (t : Trace w) → IsWidth w
+    → IsMoment m r.subject.link.0 x t → q.subject ≡ r.subject
+    → continues_burst x.1 (burst_on r.bursts (channel_of x.1)) ≡ true
+    → AreTurns q.turns r.subject (x ∷ t)
     → ((s : ℕ) → at q.blocks.asked s ≡ asked_next m.first x.1 s (at r.blocks.asked s))
     → ((s : ℕ) → at q.blocks.released s ≡ released_next m.first x.1 s (at r.blocks.released s))
-    → ((ch : Channel) → burst_on q.bursts ch ≡ burst_with ch m.told m.last (burst_on r.bursts ch)) → IsRecord r t
+    → ((ch : Channel) → burst_on q.bursts ch ≡ burst_with ch x.1 m (burst_on r.bursts ch)) → IsRecord r t
     → IsRecord q (x ∷ t)
-record_taken r q m x t own is first last block same turns asked released bursts rec =
+record_taken {w} r q m x t width is same goes turns asked released bursts rec =
     let n = r.subject.link.0 in
-    let here : (x.0.0 == n) ≡ true = same_true x.0.0 n own in
-    let begun = into (burst_on r.bursts (channel_of x.1)) n (channel_of x.1) t (rec.bursts_are (channel_of x.1)) in
-    let begins_is : m.first ≡ begins x.1 (on_link n t) = first ∙ first_is (burst_on r.bursts (channel_of x.1))
-    (unfinished (channel_of x.1) (on_link n t)) (burst_opening n (channel_of x.1) t) begun in
-    let ends_is : m.last ≡ ends x.1 (on_link n t) = last ∙ last_is x.1 (burst_on r.bursts (channel_of x.1))
-    (unfinished (channel_of x.1) (on_link n t)) (burst_opening n (channel_of x.1) t) begun in
-    let moment : IsMoment m n x t = record {
-      told_is = is;
-      of_link = own;
-      first_is = begins_is;
-      last_is =
-          ends_is;
-      block_is = block (on_link n t) rec.blocks_are;
-    } in
-    let all_bursts : (ch : Channel) → IsBegun (burst_on q.bursts ch) n ch (x ∷ t) =
-    λ ch. rw (bursts ch) (begun_taken n ch x t (burst_on r.bursts ch) m.told m.last here is
-    (λ on_it. ends_is ∙ ap (λ (c : Channel). completes x.1 (unfinished c (on_link n t))) (sym (on_own ch x.1 on_it)))
-    (rec.bursts_are ch)) in
+    let here : (x.0.0 == n) ≡ true = same_true x.0.0 n is.of_link in
+    let own : on_link n (x ∷ t) ≡ x.1 ∷ on_link n t = on_own_link n x t here in
+    let goes_on = continues x.1 (burst_on r.bursts (channel_of x.1)) (unfinished (channel_of x.1) (on_link n t))
+    (rec.bursts_are (channel_of x.1)) goes in
+    let next : (ch : Channel) → IsOf (burst_with ch x.1 m (burst_on r.bursts ch)) (unfinished ch (on_link n (x ∷ t))) =
+    λ ch. rw own (bursts-next ch x.1 m (on_link n t) (burst_on r.bursts ch) width (rec.bursts_are ch) goes_on) in
+    let all_bursts : (ch : Channel) → IsOf (burst_on q.bursts ch) (unfinished ch (on_link n (x ∷ t))) =
+    λ ch. rw (bursts ch) (next ch) in
+    let all_begun : (ch : Channel) → IsBegun (begun_on q ch) n ch (x ∷ t) =
+    λ ch. rw (bursts ch) (begun_taken n ch x t (burst_on r.bursts ch) m here is (rec.bursts_are ch) (next ch)
+    (rec.begun_are ch)) in
     let all_blocks : AreBlocks q.blocks (on_link n (x ∷ t)) =
-    rw (on_own_link n x t here) (blocks_taken r.blocks q.blocks x.1 (on_link n t) m.first begins_is asked released
-    rec.blocks_are) in
+    rw own (blocks_taken r.blocks q.blocks x.1 (on_link n t) m.first is.first_is asked released rec.blocks_are) in
     record {
       bursts_are = rw same all_bursts;
+      begun_are = rw same all_begun;
       blocks_are = rw same all_blocks;
-      turns_are = rw same (turns moment rec.turns_are);
+      turns_are = rw same turns;
     }

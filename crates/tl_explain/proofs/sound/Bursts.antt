@@ -22,7 +22,7 @@ use Rattle.tl_explain.specs.declared.reason.Reason.TheVariants.{WrongProbe, Misr
 use Rattle.tl_explain.specs.declared.recorder.Recorder.{Recorder}
 use Rattle.tl_explain.specs.code.Chosen.{for_message}
 use Rattle.tl_explain.specs.code.Chosen.{differs_by, is_of_bursts, reason_by}
-use Rattle.tl_explain.specs.code.Recorded.{IsBegun, IsRecord, burst_on}
+use Rattle.tl_explain.specs.code.Recorded.{IsBegun, IsRecord, begun_on}
 use Rattle.tl_explain.specs.statement.Reasons.{IsEvidence, is_of_messages, IsSubject}
 use Rattle.tl_explain.specs.statement.Reasons.{convicted}
 use Rattle.tl_explain.specs.statement.Since.{IsBurstSince}
@@ -119,14 +119,14 @@ pub reason_found : {w : ℕ} (p : Profile) (rule : Rule) (link : Link) (x : Beat
     → IsRecord r t → IsSubject r.subject link x
     → IsFound p rule x r.subject.link.0 t (reason_by p rule x r)
 reason_found p rule link x r t rec is =
-    by_flag (IsFound p rule x r.subject.link.0 t) (is_of_bursts rule) (differs_by x (burst_on r.bursts (channel_of x)))
-    (if is_none (burst_on r.bursts (channel_of x)) then for_message p rule x r else None)
-    (λ e. subst (λ (s : Rule). IsFound p s x r.subject.link.0 t (differs_by x (burst_on r.bursts (channel_of x))))
+    by_flag (IsFound p rule x r.subject.link.0 t) (is_of_bursts rule) (differs_by x (begun_on r (channel_of x)))
+    (if is_none (begun_on r (channel_of x)) then for_message p rule x r else None)
+    (λ e. subst (λ (s : Rule). IsFound p s x r.subject.link.0 t (differs_by x (begun_on r (channel_of x))))
     (sym (bursts_rule rule e))
-    (differs_found p x r.subject.link.0 t (burst_on r.bursts (channel_of x)) (rec.bursts_are (channel_of x))))
-    (λ other. by_flag (IsFound p rule x r.subject.link.0 t) (is_none (burst_on r.bursts (channel_of x)))
+    (differs_found p x r.subject.link.0 t (begun_on r (channel_of x)) (rec.begun_are (channel_of x))))
+    (λ other. by_flag (IsFound p rule x r.subject.link.0 t) (is_none (begun_on r (channel_of x)))
     (for_message p rule x r) None
     (λ none. found_of_sound p rule x r.subject.link.0 t (for_message p rule x r)
-    (none_begun (burst_on r.bursts (channel_of x)) x r.subject.link.0 t none (rec.bursts_are (channel_of x))) other
+    (none_begun (begun_on r (channel_of x)) x r.subject.link.0 t none (rec.begun_are (channel_of x))) other
     (message_sound p r t rec rule link x is))
     (λ e. tt))

@@ -1,5 +1,5 @@
 -- The reasons of keys.
-use Rattle.std.proofs.Common.{◌≡◌, ℕ, ◌==◌, ◌&&◌, List, ◌∷◌, true, false, Bool}
+use Rattle.std.proofs.Common.{◌≡◌, ℕ, ◌==◌, ◌&&◌, true, false, Bool}
 use Rattle.std.proofs.Common.{refl, sym, ap, ◌∙◌, subst}
 use Rattle.std.specs.Prelude.{Option, Some, None, IfSome, if◌then◌else◌, nat_le}
 use Rattle.std.proofs.lemmas.Bool.{eqb-true}
@@ -9,8 +9,6 @@ use Rattle.tl_params.specs.declared.key.Key.{Key}
 use Rattle.tl_params.specs.declared.profile.Profile.{Profile}
 use Rattle.tl_params.specs.declared.rule.Rule.{Rule}
 use Rattle.tl_rules.specs.statement.Conformance.{Trace, on_link}
-use Rattle.tl_beat.specs.statement.Control.{control_of}
-use Rattle.tl_beat.specs.declared.control.Control.{Control}
 use Rattle.tl_explain.specs.declared.bursts.Begun.{Begun}
 use Rattle.tl_explain.specs.declared.reason.Reason.{Reason}
 use Rattle.tl_explain.specs.declared.reason.Reason.TheVariants.{Unfinished}
@@ -18,7 +16,7 @@ use Rattle.tl_explain.specs.declared.told.Told.{Told}
 use Rattle.tl_explain.specs.declared.turn.Turn.{Turn}
 use Rattle.tl_explain.specs.code.Chosen.{first_reason, pending_by, closed_by, unfinished_by, opened_by}
 use Rattle.tl_explain.specs.code.Chosen.{missing_by, where_pending, where_missing}
-use Rattle.tl_explain.specs.code.Recorded.{IsBegun, IsTurn, open_message, opens_by}
+use Rattle.tl_explain.specs.code.Recorded.{IsBegun, IsTurn, open_message, comes_by}
 use Rattle.tl_explain.specs.statement.Evidence.{is_closing, is_opening}
 use Rattle.tl_explain.specs.statement.Evidence.{mention_of}
 use Rattle.tl_explain.specs.statement.Reasons.{IsTold}
@@ -27,7 +25,7 @@ use Rattle.tl_explain.specs.statement.Reasons.{opening_channel, rule_of_missing,
 use Rattle.tl_explain.specs.statement.Reasons.{rule_of_unfinished}
 use Rattle.tl_explain.specs.statement.Since.{IsPendingSince}
 use Rattle.tl_explain.proofs.Places.{last_found, none_found}
-use Rattle.tl_explain.proofs.sound.Openings.{burst_since, later_line, open_since, opened_some}
+use Rattle.tl_explain.proofs.sound.Openings.{comes-is, burst_since, later_line, open_since, opened_some}
 use Rattle.tl_explain.proofs.Plain.{is_one, both_true}
 
 module _ {w : ℕ} (p : Profile) (rule : Rule) (x : Beat w) (n : ℕ) (t : Trace w) where
@@ -87,17 +85,16 @@ module _ {w : ℕ} (p : Profile) (rule : Rule) (x : Beat w) (n : ℕ) (t : Trace
   -- the burst of the message that opened the key
   pub unfinished_sound : (k : Key) (b : Option Begun) → IsBegun b n (opening_channel k) t
       → rule_of_unfinished x k ≡ Some rule
-      → ((y : Beat w) (ys : List (Beat w)) → opens_by k (control_of y) None ≡ true → comes_in k (y ∷ ys) ≡ true)
       → (opening : Told) → IsPendingSince n k opening.mention t → IsSound (unfinished_by k opening b)
-  unfinished_sound k None begun e comes opening since = tt
-  unfinished_sound k (Some b) begun e comes opening since =
-      go ((b.first.mention.line == opening.mention.line) && opens_by k b.newest None) refl
+  unfinished_sound k None begun e opening since = tt
+  unfinished_sound k (Some b) begun e opening since =
+      go ((b.first.mention.line == opening.mention.line) && comes_by k b.newest) refl
     where
-      go : (c : Bool) → ((b.first.mention.line == opening.mention.line) && opens_by k b.newest None) ≡ c
+      go : (c : Bool) → ((b.first.mention.line == opening.mention.line) && comes_by k b.newest) ≡ c
           → IsSound (if c then Some (Unfinished k opening b.came) else None)
       go false f = tt
       go true f =
-          let both = both_true (b.first.mention.line == opening.mention.line) (opens_by k b.newest None) f in (
+          let both = both_true (b.first.mention.line == opening.mention.line) (comes_by k b.newest) f in (
             (
               since,
               (
@@ -106,8 +103,8 @@ module _ {w : ℕ} (p : Profile) (rule : Rule) (x : Beat w) (n : ℕ) (t : Trace
                 burst_since n (opening_channel k) t b.first.mention begun.5,
                 eqb-true b.first.mention.line opening.mention.line both.0,
                 sym begun.4,
-                ap (comes_in k) begun.2 ∙ comes begun.0 begun.1
-                    (ap (λ (c : Control). opens_by k c None) (sym begun.3) ∙ both.1),
+                ap (comes_in k) begun.2 ∙ sym (comes-is k begun.0 begun.1)
+                    ∙ sym (ap (comes_by k) begun.3) ∙ both.1,
               ),
             ),
             e,

@@ -9,9 +9,10 @@ use Rattle.tl_beat.specs.declared.beat.Link.{Link}
 use Rattle.tl_beat.specs.declared.channel.Channel.{Channel}
 use Rattle.tl_burst.specs.statement.Messages.{History, burst_length, carried_on, grown, on, unfinished}
 use Rattle.tl_burst.specs.statement.Part.{is_empty}
+use Rattle.tl_monitor.proofs.Continued.{own-channel}
 use Rattle.tl_params.specs.declared.key.Key.{Key}
-use Rattle.tl_params.specs.declared.key.Key.TheVariants.{RequestSource, ReleaseSource}
-use Rattle.tl_params.specs.declared.key.Key.TheVariants.{ProbeOf}
+use Rattle.tl_params.specs.declared.key.Key.TheVariants.{RequestSource, ReleaseSource, AcquireOf, ReleaseOf, GrantSink}
+use Rattle.tl_params.specs.declared.key.Key.TheVariants.{GrantAckOf, ProbeOf}
 use Rattle.tl_rules.specs.statement.Conformance.{Trace, on_link}
 use Rattle.tl_rules.specs.statement.History.{begins, block_at, opens, is_probe}
 use Rattle.tl_rules.specs.statement.History.{is_release}
@@ -21,11 +22,11 @@ use Rattle.tl_beat.specs.declared.control.Control.TheVariants as control
 use Rattle.tl_explain.specs.declared.told.Mention.{Mention}
 use Rattle.tl_explain.specs.declared.told.Told.{Told}
 use Rattle.tl_explain.specs.declared.turn.Turn.{Turn}
-use Rattle.tl_explain.specs.code.Recorded.{IsTurn, open_message}
+use Rattle.tl_explain.specs.code.Recorded.{IsTurn, comes_by, open_message}
 use Rattle.tl_explain.specs.statement.Evidence.{burst_opening, is_open}
+use Rattle.tl_explain.specs.statement.Reasons.{comes_in}
 use Rattle.tl_explain.specs.statement.Evidence.{mention_of, told}
 use Rattle.tl_explain.specs.statement.Since.{IsBurstSince, IsPendingSince}
-use Rattle.tl_explain.proofs.follows.Links.{on_own}
 use Rattle.tl_explain.proofs.Places.{pending_since}
 use Rattle.tl_explain.proofs.Rests.{pending_open}
 use Rattle.tl_explain.proofs.Plain.{is_one, both_true}
@@ -34,6 +35,28 @@ pub later_line : (a b : ℕ) → nat_le a b ≡ false → b < a
 later_line a b e = grind arith
 
 -- ---- keys
+
+-- the newest beat of a burst tells of which key it is
+pub comes-is : {w : ℕ} (k : Key) (y : Beat w) (ys : List (Beat w)) → comes_by k (control_of y) ≡ comes_in k (y ∷ ys)
+comes-is (RequestSource s) (beat.A x) ys = refl
+comes-is (RequestSource s) (beat.B x) ys = refl
+comes-is (RequestSource s) (beat.C x) ys = refl
+comes-is (RequestSource s) (beat.D x) ys = refl
+comes-is (RequestSource s) (beat.E x) ys = refl
+comes-is (ReleaseSource s) (beat.A x) ys = refl
+comes-is (ReleaseSource s) (beat.B x) ys = refl
+comes-is (ReleaseSource s) (beat.C x) ys = refl
+comes-is (ReleaseSource s) (beat.D x) ys = refl
+comes-is (ReleaseSource s) (beat.E x) ys = refl
+comes-is (GrantSink s) (beat.A x) ys = refl
+comes-is (GrantSink s) (beat.B x) ys = refl
+comes-is (GrantSink s) (beat.C x) ys = refl
+comes-is (GrantSink s) (beat.D x) ys = refl
+comes-is (GrantSink s) (beat.E x) ys = refl
+comes-is (AcquireOf k) y ys = refl
+comes-is (ReleaseOf k) y ys = refl
+comes-is (GrantAckOf k) y ys = refl
+comes-is (ProbeOf k) y ys = refl
 
 pub opened_some : (opening closing : Option Told) (m : Told)
     → (if is_open (mention_of opening) (mention_of closing) then opening else None) ≡ Some m
@@ -54,7 +77,7 @@ open_since turn n k t is m e =
 
 -- ---- bursts
 
-grown_is : {w : ℕ} (y : Beat w) (u v : List (Beat w)) → v ≡ grown y u → is_empty v ≡ false → v ≡ y ∷ u
+pub grown_is : {w : ℕ} (y : Beat w) (u v : List (Beat w)) → v ≡ grown y u → is_empty v ≡ false → v ≡ y ∷ u
 grown_is y u v e f = go (length u + 1 == burst_length y) e
   where
     go : (b : Bool) → v ≡ (if b then [] else y ∷ u) → v ≡ y ∷ u
@@ -123,7 +146,7 @@ module _ {w : ℕ} (n : ℕ) (ch : Channel) (x : Link × Beat w) (t : Trace w) (
         sym is,
         same_number x.0.0 n own,
         mine,
-        ap (λ (c : Channel). is_empty (unfinished c (on_link n t))) (sym (on_own ch x.1 mine)) ∙ ap is_empty none,
+        ap (λ (c : Channel). is_empty (unfinished c (on_link n t))) (sym (own-channel ch x.1 mine)) ∙ ap is_empty none,
         refl,
         one ∙ ap (λ (u : List (Beat w)). x.1 ∷ u) none,
       )

@@ -1,5 +1,5 @@
 -- The reason of a rule.
-use Rattle.std.proofs.Common.{◌≡◌, ℕ, List, ◌∷◌, true, false, Bool}
+use Rattle.std.proofs.Common.{◌≡◌, ℕ, true, false, Bool}
 use Rattle.std.proofs.Common.{refl, subst}
 use Rattle.std.specs.Prelude.{Option, Some, None, if◌then◌else◌}
 use Rattle.tl_beat.specs.declared.beat.Beat.{Beat}
@@ -31,10 +31,10 @@ use Rattle.tl_explain.specs.code.Chosen.{where_pending, where_missing, unless_he
 use Rattle.tl_explain.specs.code.Chosen.{size_by, grant_by, probe_by}
 use Rattle.tl_explain.specs.code.Chosen.{report_by, for_request, for_probe, for_release, for_probe_ack, for_message_c}
 use Rattle.tl_explain.specs.code.Chosen.{for_answer, for_acknowledgement, for_message}
-use Rattle.tl_explain.specs.code.Recorded.{IsRecord, IsTurn, open_message, opens_by}
+use Rattle.tl_explain.specs.code.Recorded.{IsRecord, IsTurn, begun_on, open_message}
 use Rattle.tl_explain.specs.statement.Evidence.{last_saying, mention_of}
 use Rattle.tl_explain.specs.statement.Reasons.{IsSubject}
-use Rattle.tl_explain.specs.statement.Reasons.{block_named, comes_in}
+use Rattle.tl_explain.specs.statement.Reasons.{block_named}
 use Rattle.tl_explain.specs.statement.Reasons.{rule_of_held}
 use Rattle.tl_explain.proofs.sound.Openings.{open_since}
 use Rattle.tl_explain.proofs.sound.Keys.{IsSound, first_sound, missing_sound, pending_sound, unfinished_sound}
@@ -52,30 +52,6 @@ holds_sound : {w : ℕ} (p : Profile) (rule : Rule) (x : Beat w) (n : ℕ) (t : 
     → IsSound p rule x n t (unless_held fits (held_by said))
 holds_sound p rule x n t k true said named is broken = tt
 holds_sound p rule x n t k false said named is broken = ((k, named, held_told n k t said is), broken refl)
-
-comes_request : {w : ℕ} (y : Beat w) (ys : List (Beat w)) (s : ℕ)
-    → opens_by (RequestSource s) (control_of y) None ≡ true → comes_in (RequestSource s) (y ∷ ys) ≡ true
-comes_request (beat.A x) ys s e = e
-comes_request (beat.B x) ys s e = absurd cc
-comes_request (beat.C x) ys s e = absurd cc
-comes_request (beat.D x) ys s e = absurd cc
-comes_request (beat.E x) ys s e = absurd cc
-
-comes_release : {w : ℕ} (y : Beat w) (ys : List (Beat w)) (s : ℕ)
-    → opens_by (ReleaseSource s) (control_of y) None ≡ true → comes_in (ReleaseSource s) (y ∷ ys) ≡ true
-comes_release (beat.A x) ys s e = absurd cc
-comes_release (beat.B x) ys s e = absurd cc
-comes_release (beat.C x) ys s e = e
-comes_release (beat.D x) ys s e = absurd cc
-comes_release (beat.E x) ys s e = absurd cc
-
-comes_grant : {w : ℕ} (y : Beat w) (ys : List (Beat w)) (s : ℕ) → opens_by (GrantSink s) (control_of y) None ≡ true
-    → comes_in (GrantSink s) (y ∷ ys) ≡ true
-comes_grant (beat.A x) ys s e = absurd cc
-comes_grant (beat.B x) ys s e = absurd cc
-comes_grant (beat.C x) ys s e = absurd cc
-comes_grant (beat.D x) ys s e = e
-comes_grant (beat.E x) ys s e = absurd cc
 
 module _ {w : ℕ} (p : Profile) (r : Recorder) (t : Trace w) (rec : IsRecord r t) where
   abbrev n : ℕ
@@ -295,23 +271,21 @@ module _ {w : ℕ} (p : Profile) (r : Recorder) (t : Trace w) (rec : IsRecord r 
       → Sound rule (beat.D x) (for_answer p rule x r)
   answer_sound H2 x source sink =
       by_flag (Sound H2 (beat.D x)) (is_release_ack x.opcode)
-      (where_missing (ReleaseSource x.source) r.turns.release_with_source r.bursts.c)
-      (first_reason (where_missing (RequestSource x.source) r.turns.request r.bursts.a)
+      (where_missing (ReleaseSource x.source) r.turns.release_with_source (begun_on r channel.C))
+      (first_reason (where_missing (RequestSource x.source) r.turns.request (begun_on r channel.A))
       (kind_by x (open_message r.turns.request)))
-      (λ ack. missing_sound p H2 (beat.D x) n t (ReleaseSource x.source) r.turns.release_with_source r.bursts.c
+      (λ ack. missing_sound p H2 (beat.D x) n t (ReleaseSource x.source) r.turns.release_with_source (begun_on r channel.C)
       (release_turn x.source source)
       (rw (ack, same_true x.source x.source refl) refl)
-      (unfinished_sound p H2 (beat.D x) n t (ReleaseSource x.source) r.bursts.c (rec.bursts_are channel.C)
-      (rw (ack, same_true x.source x.source refl) refl)
-      (λ y ys e. comes_release y ys x.source e)))
-      (λ other. first_sound p H2 (beat.D x) n t (where_missing (RequestSource x.source) r.turns.request r.bursts.a)
+      (unfinished_sound p H2 (beat.D x) n t (ReleaseSource x.source) (begun_on r channel.C) (rec.begun_are channel.C)
+      (rw (ack, same_true x.source x.source refl) refl)))
+      (λ other. first_sound p H2 (beat.D x) n t (where_missing (RequestSource x.source) r.turns.request (begun_on r channel.A))
       (kind_by x (open_message r.turns.request))
-      (missing_sound p H2 (beat.D x) n t (RequestSource x.source) r.turns.request r.bursts.a
+      (missing_sound p H2 (beat.D x) n t (RequestSource x.source) r.turns.request (begun_on r channel.A)
       (source_turn x.source source)
       (rw (other, same_true x.source x.source refl) refl)
-      (unfinished_sound p H2 (beat.D x) n t (RequestSource x.source) r.bursts.a (rec.bursts_are channel.A)
-      (rw (other, same_true x.source x.source refl) refl)
-      (λ y ys e. comes_request y ys x.source e)))
+      (unfinished_sound p H2 (beat.D x) n t (RequestSource x.source) (begun_on r channel.A) (rec.begun_are channel.A)
+      (rw (other, same_true x.source x.source refl) refl)))
       (kind_sound p x n t (open_message r.turns.request) (λ m e. open_since r.turns.request n (RequestSource x.source) t
       (source_turn x.source source) m e) other))
   answer_sound H3 x source sink = go (is_release_ack x.opcode) refl
@@ -360,11 +334,10 @@ module _ {w : ℕ} (p : Profile) (r : Recorder) (t : Trace w) (rec : IsRecord r 
   acknowledged_sound : (rule : Rule) (x : BeatE) → r.subject.sink ≡ x.sink
       → Sound rule (beat.E x) (for_acknowledgement rule x r)
   acknowledged_sound H8 x sink =
-      missing_sound p H8 (beat.E x) n t (GrantSink x.sink) r.turns.sink r.bursts.d (sink_turn x.sink sink)
+      missing_sound p H8 (beat.E x) n t (GrantSink x.sink) r.turns.sink (begun_on r channel.D) (sink_turn x.sink sink)
       (rw (same_true x.sink x.sink refl) refl)
-      (unfinished_sound p H8 (beat.E x) n t (GrantSink x.sink) r.bursts.d (rec.bursts_are channel.D)
-      (rw (same_true x.sink x.sink refl) refl)
-      (λ y ys e. comes_grant y ys x.sink e))
+      (unfinished_sound p H8 (beat.E x) n t (GrantSink x.sink) (begun_on r channel.D) (rec.begun_are channel.D)
+      (rw (same_true x.sink x.sink refl) refl))
   acknowledged_sound L1 x sink = tt
   acknowledged_sound L2 x sink = tt
   acknowledged_sound L3 x sink = tt

@@ -23,6 +23,7 @@ use Rattle.tl_params.specs.declared.rule.Rule.{Rule}
 use Rattle.tl_params.specs.declared.rule.Rule.TheVariants.{S1, H1, H2, H3, H4, H5, H6, H7, H8, H9, H10, H11, H12, H13}
 use Rattle.tl_rules.specs.statement.History.{block_at, is_acquire, is_grant, is_probe, is_probe_ack, is_release}
 use Rattle.tl_rules.specs.statement.History.{is_release_ack}
+use Rattle.tl_beat.specs.declared.channel.Channel.TheVariants as channel
 use Rattle.tl_beat.specs.statement.Control.{has_control}
 use Rattle.tl_beat.specs.declared.control.Control.{Control}
 use Rattle.tl_beat.specs.declared.control.Control.TheVariants as control
@@ -35,7 +36,7 @@ use Rattle.tl_explain.specs.declared.reason.Reason.TheVariants.{WrongProbe, Misr
 use Rattle.tl_explain.specs.declared.recorder.Recorder.{Recorder}
 use Rattle.tl_explain.specs.declared.told.Told.{Told}
 use Rattle.tl_explain.specs.declared.turn.Turn.{Turn}
-use Rattle.tl_explain.specs.code.Recorded.{burst_on, open_message, opens_by}
+use Rattle.tl_explain.specs.code.Recorded.{begun_on, open_message, comes_by}
 use Rattle.tl_explain.specs.statement.Evidence.{left_of, mention_of}
 
 -- this reason, or else that
@@ -58,7 +59,7 @@ closed_by k opening (Some closing) = Some (Closed k opening closing)
 abbrev pub unfinished_by : Key → Told → Option Begun → Option Reason
 unfinished_by k opening None = None
 unfinished_by k opening (Some b) =
-    if (b.first.mention.line == opening.mention.line) && opens_by k b.newest None then Some
+    if (b.first.mention.line == opening.mention.line) && comes_by k b.newest then Some
     (Unfinished k opening b.came) else None
 
 abbrev pub opened_by : Key → Told → Option Told → Option Told → Option Begun → Option Reason
@@ -185,8 +186,8 @@ for_message_c rule x r = if is_release x.opcode then for_release rule x r else i
 abbrev pub where_unasked : {w : ℕ} → BeatD w → Recorder → Option Reason
 where_unasked x r =
     if is_release_ack x.opcode
-    then where_missing (ReleaseSource x.source) r.turns.release_with_source r.bursts.c
-    else first_reason (where_missing (RequestSource x.source) r.turns.request r.bursts.a)
+    then where_missing (ReleaseSource x.source) r.turns.release_with_source (begun_on r channel.C)
+    else first_reason (where_missing (RequestSource x.source) r.turns.request (begun_on r channel.A))
     (kind_by x (open_message r.turns.request))
 
 abbrev pub asked_by : {w : ℕ} → BeatD w → Recorder → Option Told
@@ -201,7 +202,7 @@ for_answer p H7 x r = if is_grant x.opcode then where_pending (GrantSink x.sink)
 for_answer p _ x r = None
 
 abbrev pub for_acknowledgement : Rule → BeatE → Recorder → Option Reason
-for_acknowledgement H8 x r = where_missing (GrantSink x.sink) r.turns.sink r.bursts.d
+for_acknowledgement H8 x r = where_missing (GrantSink x.sink) r.turns.sink (begun_on r channel.D)
 for_acknowledgement _ x r = None
 
 abbrev pub for_message : {w : ℕ} → Profile → Rule → Beat w → Recorder → Option Reason
@@ -222,5 +223,5 @@ is_of_bursts _ = false
 
 abbrev pub reason_by : {w : ℕ} → Profile → Rule → Beat w → Recorder → Option Reason
 reason_by p rule x r =
-    if is_of_bursts rule then differs_by x (burst_on r.bursts (channel_of x)) else
-    if is_none (burst_on r.bursts (channel_of x)) then for_message p rule x r else None
+    if is_of_bursts rule then differs_by x (begun_on r (channel_of x)) else
+    if is_none (begun_on r (channel_of x)) then for_message p rule x r else None

@@ -1,6 +1,6 @@
 -- What a recorder keeps of the beats before the one at fault.
-use Rattle.std.specs.Prelude.{ℕ, Bool, true, false, not, ◌&&◌, ◌||◌, List, [], ◌∷◌, ◌==◌}
-use Rattle.std.specs.Prelude.{◌+◌, ◌≡◌, if◌then◌else◌, length, nat_lt, Option, Some, None}
+use Rattle.std.specs.Prelude.{ℕ, Bool, false, ◌&&◌, List, [], ◌∷◌, ◌==◌}
+use Rattle.std.specs.Prelude.{◌-◌, ◌≡◌, if◌then◌else◌, length, Option, Some, None}
 use Rattle.tl_beat.specs.declared.beat.Beat.{Beat}
 use Rattle.tl_beat.specs.declared.beat.Beat.TheVariants as beat
 use Rattle.tl_beat.specs.declared.beat.BeatA.{BeatA}
@@ -13,8 +13,8 @@ use Rattle.tl_params.specs.declared.key.Key.{Key}
 use Rattle.tl_params.specs.declared.key.Key.TheVariants.{RequestSource, ReleaseSource, AcquireOf}
 use Rattle.tl_params.specs.declared.key.Key.TheVariants.{ReleaseOf, GrantSink, GrantAckOf, ProbeOf}
 use Rattle.tl_rules.specs.statement.Conformance.{Trace, on_link}
-use Rattle.tl_rules.specs.statement.History.{begins, ends, block_at, is_acquire, is_grant, is_probe}
-use Rattle.tl_rules.specs.statement.History.{is_probe_ack, is_release, is_release_ack, request_of, release_of}
+use Rattle.tl_rules.specs.statement.History.{begins, ends, block_at, is_grant}
+use Rattle.tl_rules.specs.statement.History.{is_release, is_release_ack, request_of, release_of}
 use Rattle.tl_monitor.specs.code.Count.{at}
 use Rattle.tl_explain.specs.declared.told.Told.{Told}
 use Rattle.tl_beat.specs.statement.Control.{control_of}
@@ -22,7 +22,8 @@ use Rattle.tl_beat.specs.declared.control.Control.{Control}
 use Rattle.tl_beat.specs.declared.control.Control.TheVariants as control
 use Rattle.tl_explain.specs.declared.turn.Turn.{Turn}
 use Rattle.tl_explain.specs.declared.bursts.Begun.{Begun}
-use Rattle.tl_explain.specs.declared.bursts.Bursts.{Bursts}
+use Rattle.tl_monitor.specs.declared.bursts.Unfinished.{Unfinished}
+use Rattle.tl_monitor.specs.code.Bursts.{burst_on, IsOf}
 use Rattle.tl_explain.specs.declared.blocks.Blocks.{Blocks}
 use Rattle.tl_explain.specs.declared.turns.Moment.{Moment}
 use Rattle.tl_explain.specs.declared.turns.Subject.{Subject}
@@ -40,41 +41,14 @@ channel_in (control.C x) = channel.C
 channel_in (control.D x) = channel.D
 channel_in (control.E x) = channel.E
 
-abbrev pub same_channel : Channel → Channel → Bool
-same_channel channel.A channel.A = true
-same_channel channel.B channel.B = true
-same_channel channel.C channel.C = true
-same_channel channel.D channel.D = true
-same_channel channel.E channel.E = true
-same_channel _ _ = false
+-- what is told of a burst, where one is unfinished
+abbrev pub begun_by : Option (Unfinished Moment) → Option Begun
+begun_by None = None
+begun_by (Some u) = Some (record { first = u.beside.told; newest = u.control; came = u.beside.length - u.left })
 
-abbrev pub burst_on : Bursts → Channel → Option Begun
-burst_on b channel.A = b.a
-burst_on b channel.B = b.b
-burst_on b channel.C = b.c
-burst_on b channel.D = b.d
-burst_on b channel.E = b.e
-
--- the longest burst has sixteen beats
-abbrev pub has_room : Option Begun → Bool
-has_room None = true
-has_room (Some b) = nat_lt b.came 16
-
-abbrev pub completes_burst : {w : ℕ} → Beat w → Option Begun → Bool
-completes_burst x None = 1 == burst_length x
-completes_burst x (Some b) = b.came + 1 == burst_length x
-
-abbrev pub begun_with : Told → Option Begun → Begun
-begun_with m None = record { first = m; newest = m.mention.control; came = 1 }
-begun_with m (Some b) = record { first = b.first; newest = m.mention.control; came = b.came + 1 }
-
-abbrev pub burst_after : Told → Bool → Option Begun → Option Begun
-burst_after m completes burst = if completes then None else Some (begun_with m burst)
-
--- with a beat that may be of another channel
-abbrev pub burst_with : Channel → Told → Bool → Option Begun → Option Begun
-burst_with ch m completes burst = if same_channel ch (channel_in m.mention.control) then burst_after m completes burst
-    else burst
+-- what is told of the burst on a channel
+abbrev pub begun_on : Recorder → Channel → Option Begun
+begun_on r ch = begun_by (burst_on r.bursts ch)
 
 -- this is the burst that is unfinished on the channel of link n
 abbrev pub IsBegun : {w : ℕ} → Option Begun → ℕ → Channel → Trace w → Type 0
@@ -121,33 +95,12 @@ released_next first (beat.C x) s before = if first && (is_release x.opcode && (x
     (block_at x.address) else before
 released_next first _ s before = before
 
--- a message of this block that begins with a beat opens the key
-abbrev pub opens_by : Key → Control → Option ℕ → Bool
-opens_by (RequestSource s) (control.A x) block = x.source == s
-opens_by (ReleaseSource s) (control.C x) block = is_release x.opcode && (x.source == s)
-opens_by (AcquireOf k) (control.A x) block = is_acquire x.opcode && is_number k block
-opens_by (ReleaseOf k) (control.C x) block = is_release x.opcode && is_number k block
-opens_by (GrantSink s) (control.D x) block = is_grant x.opcode && (x.sink == s)
-opens_by (GrantAckOf k) (control.D x) block = is_grant x.opcode && is_number k block
-opens_by (ProbeOf k) (control.B x) block = is_probe x.opcode && is_number k block
-opens_by _ _ block = false
-
--- a message of this block that is complete with a beat closes the key, where the last Grant that opened it had this
--- sink
-abbrev pub closes_by : Key → Control → Option ℕ → Option ℕ → Bool
-closes_by (RequestSource s) (control.D x) block granted = not (is_release_ack x.opcode) && (x.source == s)
-closes_by (ReleaseSource s) (control.D x) block granted = is_release_ack x.opcode && (x.source == s)
-closes_by (AcquireOf k) (control.D x) block granted = is_grant x.opcode && is_number k block
-closes_by (ReleaseOf k) (control.D x) block granted = is_release_ack x.opcode && is_number k block
-closes_by (GrantSink s) (control.E sink) block granted = sink == s
-closes_by (GrantAckOf k) (control.E sink) block granted = is_number sink granted
-closes_by (ProbeOf k) (control.C x) block granted = is_probe_ack x.opcode && is_number k block
-closes_by _ _ block granted = false
-
-abbrev pub says_by : ℕ → Control → Option ℕ → Bool
-says_by k (control.C x) block = (is_probe_ack x.opcode || is_release x.opcode) && is_number k block
-says_by k (control.D x) block = is_grant x.opcode && is_number k block
-says_by k _ block = false
+-- a burst of which this is the newest beat is of a message that opens the key, by its source or sink
+abbrev pub comes_by : Key → Control → Bool
+comes_by (RequestSource s) (control.A x) = x.source == s
+comes_by (ReleaseSource s) (control.C x) = is_release x.opcode && (x.source == s)
+comes_by (GrantSink s) (control.D x) = is_grant x.opcode && (x.sink == s)
+comes_by _ _ = false
 
 abbrev pub sink_in : Option Told → Option ℕ
 sink_in None = None
@@ -165,6 +118,7 @@ pub record IsTurn {w : ℕ} (turn : Turn) (n : ℕ) (k : Key) (t : Trace w) : Ty
 -- the moment is that of the beat x of link n behind t
 pub record IsMoment {w : ℕ} (m : Moment) (n : ℕ) (x : Link × Beat w) (t : Trace w) : Type 0 where
   pub told_is : m.told.mention ≡ told x t
+  pub length_is : m.length ≡ burst_length x.1
   pub of_link : x.0.0 ≡ n
   pub first_is : m.first ≡ begins x.1 (on_link n t)
   pub last_is : m.last ≡ ends x.1 (on_link n t)
@@ -188,6 +142,7 @@ pub record AreBlocks {w : ℕ} (b : Blocks) (t : History w) : Type 0 where
 
 -- all that is recorded is what the trace has
 pub record IsRecord {w : ℕ} (r : Recorder) (t : Trace w) : Type 0 where
-  pub bursts_are : (ch : Channel) → IsBegun (burst_on r.bursts ch) r.subject.link.0 ch t
+  pub bursts_are : (ch : Channel) → IsOf (burst_on r.bursts ch) (unfinished ch (on_link r.subject.link.0 t))
+  pub begun_are : (ch : Channel) → IsBegun (begun_on r ch) r.subject.link.0 ch t
   pub blocks_are : AreBlocks r.blocks (on_link r.subject.link.0 t)
   pub turns_are : AreTurns r.turns r.subject t

@@ -1,5 +1,5 @@
 -- That the beats of an unfinished response break no rule by themselves.
-use Rattle.std.specs.Prelude.{ℕ, true, false, ◌≡◌, ◌<◌, List, length, slice_index_or, Option, Some, None}
+use Rattle.std.specs.Prelude.{ℕ, true, false, ◌≡◌, ◌<◌, List, length, slice_index_or, Option, Some, None, ⊤}
 use Rattle.tl_beat.specs.declared.beat.Beat.TheVariants as beat
 use Rattle.tl_beat.specs.declared.beat.BeatD.{BeatD}
 use Rattle.tl_beat.specs.declared.channel.Channel.TheVariants as channel
@@ -11,8 +11,8 @@ use Rattle.tl_monitor.specs.declared.bursts.Unfinished.{Unfinished}
 use Rattle.tl_monitor.specs.declared.monitor.MonitoredLink.{MonitoredLink}
 
 -- a beat with the control fields of the unfinished response, neither corrupt nor denied, breaks no rule by itself
-abbrev pub IsLawful : ℕ → Level → Option Unfinished → Type 0
-IsLawful w level burst = (u : Unfinished) → burst ≡ Some u → (x : BeatD w) → has_control (beat.D x) u.control ≡ true
+abbrev pub IsLawful : ℕ → Level → Option (Unfinished ⊤) → Type 0
+IsLawful w level burst = (u : Unfinished ⊤) → burst ≡ Some u → (x : BeatD w) → has_control (beat.D x) u.control ≡ true
     → is_spoiled (beat.D x) ≡ false → illegal level channel.D (beat.D x) ≡ None
 
 -- so it is on each link

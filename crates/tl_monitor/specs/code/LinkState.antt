@@ -63,7 +63,7 @@ sink_with first last _ block s b = b
 
 -- these are the tables with one more beat
 pub record IsNext {w : ℕ} (old : LinkState) (x : Beat w) (new : LinkState) : Type 0 where
-  pub bursts_are : (ch : Channel) → burst_on new.bursts ch ≡ burst_with ch x (burst_on old.bursts ch)
+  pub bursts_are : (ch : Channel) → burst_on new.bursts ch ≡ burst_with ch x tt (burst_on old.bursts ch)
   pub requests_are : (s : ℕ) → at new.requests s ≡ request_next (is_first x old) (completes x old) x s
       (at old.requests s)
   pub releases_are : (s : ℕ) → at new.releases s ≡ release_next (is_first x old) (completes x old) x s

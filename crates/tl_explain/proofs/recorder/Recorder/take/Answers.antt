@@ -1,5 +1,13 @@
-use Rattle.std.proofs.Common.{refl, rules}
-use Rattle.tl_explain.proofs.follows.Links.{record_kept, record_taken}
+use Rattle.std.proofs.Common.{◌≡◌, refl, rules, true}
+use Rattle.tl_beat.specs.declared.beat.Beat.{Beat}
+use Rattle.tl_beat.specs.declared.beat.Link.{Link}
+use Rattle.tl_burst.specs.statement.Messages.{channel_of}
+use Rattle.tl_monitor.specs.code.Bursts.{burst_on, continues_burst}
+use Rattle.tl_explain.specs.declared.recorder.Recorder.{Recorder}
+use Rattle.tl_explain.specs.declared.told.Mention.{Mention}
+use Rattle.tl_explain.specs.declared.turns.Moment.{Moment}
+use Rattle.tl_explain.specs.statement.Evidence.{told}
+use Rattle.tl_explain.proofs.follows.Links.{by_channel, moment_is, record_kept, record_taken}
 use Rattle.tl_explain.proofs.recorder.Recorder.take.Goals as goal
 
 pub returns-then-ne-clause-record : goal.returns-then-ne-clause-record
@@ -7,24 +15,30 @@ returns-then-ne-clause-record g c = λ t number is. record_kept c.args.self.now 
     (search rules) is
 
 pub returns-clause-record : goal.returns-clause-record
-returns-clause-record g c =
-    λ t number is. record_taken c.args.self.now (record {
-      subject = c.args.self.now.subject;
-      bursts =
-          c.take-3.new.self;
-      blocks = c.take-2.new.self;
-      turns = c.take.new.self;
-    })
-    (record {
-      told = record {
-        mention = record { line = c.args.number; control = c.control.result };
-        spelling =
-            c.of.result;
-      };
+returns-clause-record g c = λ t number is.
+    let own : c.args.link.0 ≡ c.args.self.now.subject.link.0 =
+    search (rules, c.ne.ensures, c.if-ne.false) in
+    let goes : continues_burst c.args.beat.now (burst_on c.args.self.now.bursts (channel_of c.args.beat.now)) ≡ true =
+    search (rules, c.continues.ensures, c.if-not-continues.false) in
+    let mention : Mention = record { line = c.args.number; control = c.control.result } in
+    let tells : mention ≡ told (c.args.link, c.args.beat.now) t = search (rules, c.control.ensures, number) in
+    let moment : Moment = record {
+      told = record { mention = mention; spelling = c.of.result };
+      length = c.burst_length.result;
       first = c.begins.result;
       last = c.completes.result;
       block = c.of-2.result;
-    })
-    (c.args.link, c.args.beat.now) t (search rules) (search rules) c.begins.ensures c.completes.ensures c.of-2.ensures
-    refl (c.take.ensures g.row.W (c.args.link, c.args.beat.now) t) c.take-2.ensures.asked c.take-2.ensures.released
-    c.take-3.ensures is
+    } in
+    let new : Recorder = record {
+      subject = c.args.self.now.subject;
+      bursts = c.take-3.new.self;
+      blocks = c.take-2.new.self;
+      turns = c.take.new.self;
+    } in
+    let beat : Link × Beat g.row.W = (c.args.link, c.args.beat.now) in
+    let at = moment_is c.args.self.now moment beat t c.requires own tells c.burst_length.ensures c.begins.ensures
+    c.completes.ensures c.of-2.ensures goes is in
+    record_taken c.args.self.now new moment beat t c.requires at refl goes
+    (c.take.ensures c.args.link t at is.turns_are) c.take-2.ensures.asked c.take-2.ensures.released
+    (by_channel c.take-3.new.self c.args.self.now.bursts c.args.beat.now moment c.take-3.ensures.a c.take-3.ensures.b
+    c.take-3.ensures.c c.take-3.ensures.d c.take-3.ensures.e) is

@@ -55,7 +55,7 @@ module _ {w : ℕ} (k : ℕ) (state : LinkState) (t : History w) (keeps : Keeps 
       grouped true b c = refl
       grouped false b c = refl
 
-  coming-by : (o : Option Unfinished) (beats : List (Beat w)) → unfinished channel.D t ≡ beats → IsOf o beats
+  coming-by : {P : Type 0} (o : Option (Unfinished P)) (beats : List (Beat w)) → unfinished channel.D t ≡ beats → IsOf o beats
       → coming_by k state o ≡ given_by k beats t
   coming-by None beats e is = rw is refl
   coming-by (Some u) beats e (beat.D x, earlier, is, control, count, left) =

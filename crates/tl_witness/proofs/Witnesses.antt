@@ -16,7 +16,7 @@ use Rattle.tl_rules.specs.statement.Conformance.{Trace, on_link}
 use Rattle.tl_rules.specs.statement.History.{held}
 use Rattle.tl_rules.specs.statement.Windows.{leaves}
 use Rattle.tl_beat.specs.declared.channel.Channel.TheVariants as channel
-use Rattle.tl_explain.specs.code.Recorded.{IsBegun, burst_on}
+use Rattle.tl_explain.specs.code.Recorded.{IsBegun, begun_on}
 use Rattle.tl_explain.specs.declared.bursts.Begun.{Begun}
 use Rattle.tl_monitor.specs.statement.Granting.{coming, coming_on, given_by}
 use Rattle.tl_params.specs.declared.level.Level.{Level}
@@ -197,12 +197,12 @@ opening-is (Some b) link block given t (newest, earlier, is, control, came, open
 
 -- the same of what a recorder keeps
 pub opening-at : {w : ℕ} (r : Recorder) (link n block : ℕ) (given : Perm) (t : Trace w) (h : Witness) (o : Option Begun)
-    → o ≡ burst_on r.bursts channel.D → KnowsWitness h n block t → slice_get h.recorders.items link ≡ Some r
+    → o ≡ begun_on r channel.D → KnowsWitness h n block t → slice_get h.recorders.items link ≡ Some r
     → coming block (on_link link t) ≡ Some given
     → mention_of (option_map (λ b. b.first) o) ≡ burst_opening link channel.D t
 opening-at r link n block given t h o is k there e =
     let rec = k.each link r there in
-    let begun : IsBegun o link channel.D t = rw (is, ← rec.link_is) (rec.recorded.bursts_are channel.D) in
+    let begun : IsBegun o link channel.D t = rw (is, ← rec.link_is) (rec.recorded.begun_are channel.D) in
     opening-is o link block given t begun e
 
 -- a link to which nothing is being granted

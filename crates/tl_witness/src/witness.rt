@@ -18,7 +18,7 @@ ghost use Rattle.tl_witness.specs.code.Witness.{IsFresh};
 use crate::text::append_permission;
 use std::alloc::{AllocError, Global};
 use tl_beat::beat::{Beat, Link};
-use tl_beat::channel::Channel;
+use tl_explain::bursts::begun_of;
 use tl_explain::reason::{Held, held_of};
 use tl_explain::recorder::{Recorder, Unrecorded};
 use tl_explain::told::Told;
@@ -111,7 +111,7 @@ impl Witness {
         ensures { (w n block : ℕ) (given : Perm) (t : Trace w) → KnowsWitness self.now n block t → link < n →
             coming block (on_link link t) ≡ Some given → mention_of result ≡ burst_opening link channel.D t }
     {
-        match self.recorder(link)?.bursts.on(Channel::D) {
+        match begun_of(&self.recorder(link)?.bursts.d) {
             None => None,
             Some(begun) => Some(begun.first),
         }

@@ -18,7 +18,7 @@ given_by_control k state (D x) =
     if is_grant x.opcode && (is_for k (at state.requests x.source) && not x.denied) then Some (capped x.param) else None
 given_by_control k state _ = None
 
-abbrev pub coming_by : ℕ → LinkState → Option Unfinished → Option Perm
+abbrev pub coming_by : {P : Type 0} → ℕ → LinkState → Option (Unfinished P) → Option Perm
 coming_by k state None = None
 coming_by k state (Some u) = given_by_control k state u.control
 

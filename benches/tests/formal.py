@@ -34,7 +34,7 @@ def the_rules_for_formal_tools_agree_with_the_monitor():
 @test
 def bounded_search_finds_the_bugs_of_the_cache():
     for bug, rule in CACHE_BUGS.items():
-        told = formal(WIDE.get(bug, "tl_cache_small.toml"), "--set", f"bug={bug}", "--search", "60", "--block-bits", "2", status=1)
+        told = formal(WIDE.get(bug, "tl_cache_small.toml"), "--set", f"bug={bug}", "--search", "300", "--block-bits", "2", status=1)
         want(fault(told) == (rule, rule), f"bug {bug}: {told}")
 
 
@@ -42,25 +42,25 @@ def bounded_search_finds_the_bugs_of_the_cache():
 def bounded_search_finds_the_bugs_of_the_manager_between_its_links():
     for bug, rule in HOME_BUGS.items():
         if rule in ("M1", "M4"):
-            told = formal("tl_home_wide.toml", "--set", f"bug={bug}", "--search", "100", "--block-bits", "1", status=1)
+            told = formal("tl_home_wide.toml", "--set", f"bug={bug}", "--search", "400", "--block-bits", "1", status=1)
             want(fault(told) == (rule, rule), f"bug {bug}: {told}")
 
 
 @test
 def the_device_is_proved():
-    told = formal("tl_device.toml", "--search", "5", "--prove", "60")
+    told = formal("tl_device.toml", "--search", "5", "--prove", "400")
     want(len(re.findall(r"^\w+ +proved ", told, re.M)) == 16, told)
 
 
 @test
 def the_cache_is_proved():
-    told = formal("tl_cache_small.toml", "--search", "0", "--prove", "500", "--block-bits", "2")
+    told = formal("tl_cache_small.toml", "--search", "0", "--prove", "1500", "--block-bits", "2")
     want(len(re.findall(r"^\w+ +proved ", told, re.M)) == 16, told)
 
 
 @test
 def the_manager_with_one_link_is_proved():
-    told = formal("tl_home_one.toml", "--search", "0", "--prove", "300", "--block-bits", "1")
+    told = formal("tl_home_one.toml", "--search", "0", "--prove", "1200", "--block-bits", "1")
     want(len(re.findall(r"^\w+ +proved ", told, re.M)) == 13, told)
 
 

@@ -18,7 +18,7 @@ use tl_engine::status::{Status, ToolFault};
 use tl_engine::tool::run_tool;
 
 /// The traces, by their names in data/.
-const TRACES: [&str; 44] = [
+const TRACES: [&str; 45] = [
     "two_caches.trace",
     "wrong_report.trace",
     "rules/L1.trace",
@@ -49,6 +49,7 @@ const TRACES: [&str; 44] = [
     "rules/H5_right.trace",
     "rules/H6.trace",
     "rules/H6_right.trace",
+    "rules/H6_without_data.trace",
     "rules/H7.trace",
     "rules/H7_right.trace",
     "rules/H8.trace",
@@ -66,17 +67,20 @@ const TRACES: [&str; 44] = [
 ];
 
 /// The traces whose links are judged together.
-const TOGETHER: [&str; 12] = [
+const TOGETHER: [&str; 15] = [
     "two_caches.trace",
     "wrong_report.trace",
     "rules/M1.trace",
     "rules/M1_right.trace",
     "rules/M1_begun.trace",
     "rules/M1_begun_right.trace",
+    "rules/M1_other_block.trace",
     "rules/M2.trace",
     "rules/M2_right.trace",
+    "rules/M2_later_beat.trace",
     "rules/M3.trace",
     "rules/M3_right.trace",
+    "rules/M3_later_beat.trace",
     "rules/M4.trace",
     "rules/M4_right.trace",
 ];

@@ -9,7 +9,8 @@ ghost use Rattle.tl_concord.specs.statement.WholeStores.{WholeStores};
 ghost use Rattle.tl_concord.specs.statement.WritesBeside.{WritesBesideNoGrant};
 
 /// Whatever happens to a manager and its clients, no response that begins breaks a rule of memory: no Grant begins
-/// while another link holds, or is being granted, what conflicts with it, and no answer to an access that had no moment at which it may be performed.
+/// while another link holds, or is being granted, what conflicts with it, and no answer to an access that had no
+/// moment at which it may be performed.
 pub fn begins_unbroken<const W: usize>()
     requires { IsWidth W }
     ensures { Beginnings W }

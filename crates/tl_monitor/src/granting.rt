@@ -1,4 +1,4 @@
-//! What a Grant gives that has begun and isn't complete.
+//! What an unfinished Grant gives of a block.
 
 ghost use Rattle.std.specs.Prelude.{◌≡◌, ◌&&◌, not, if◌then◌else◌, None, Some};
 ghost use Rattle.tl_monitor.specs.code.Coming.{coming_in, given_by_control, is_for};
@@ -22,7 +22,7 @@ fn is_for(block: u32, asked: Option<Request>) -> bool
     }
 }
 
-/// What a response gives of a block, if it is a Grant of the block that isn't denied.
+/// The permission that a response gives of a block, if it is a Grant of the block and isn't denied.
 fn given_by(state: &LinkState, block: u32, x: &ControlD) -> Option<Perm>
     ensures { result ≡ given_by_control block state.now (control.D x.now) }
 {
@@ -35,7 +35,7 @@ fn given_by(state: &LinkState, block: u32, x: &ControlD) -> Option<Perm>
 }
 
 impl LinkState {
-    /// What the Grant of a block gives that has begun and isn't complete.
+    /// The permission that the unfinished Grant of a block gives, where one has begun that isn't denied.
     pub fn coming(&self, block: u32) -> Option<Perm>
         ensures { result ≡ coming_in block self.now }
     {

@@ -40,8 +40,8 @@ impl<const W: usize> Judge<W> {
         self.monitor.request(link, source)
     }
 
-    /// What the Grant of a block gives on a link that has begun and isn't complete; nothing on a link without a
-    /// level.
+    /// The permission that the unfinished Grant of a block gives on a link, where one has begun that isn't denied;
+    /// nothing on a link without a level.
     pub fn coming(&self, link: Link, block: u32) -> Option<Perm>
         ensures { (levels : List Level) (p : Profile) (t : Trace W) → Knows self.now levels p t false →
             result ≡ coming_on levels link block t }

@@ -52,8 +52,8 @@ pub fn is_free<const W: usize>(monitor: &Monitor<W>, links: u8, given: Perm, blo
     free
 }
 
-/// Whether each of so many links, but this one, holds no more of a block than may be held beside so much of it, a
-/// Grant counted from its first beat on.
+/// Whether no link but this one holds a permission of the block which conflicts with the given one. A Grant counts
+/// as held from its first beat on.
 pub fn is_grantable<const W: usize>(
     monitor: &Monitor<W>,
     links: u8,

@@ -22,7 +22,8 @@ use tl_rules::kind::capped;
 use tl_together::breach::MemoryRule;
 use tl_together::judge::{Judge, needs};
 
-/// Appends, of the answer to an access, when that was complete, and each link that holds more than may be held beside it.
+/// Appends in which line the request of an access was complete, and each link that holds a permission which
+/// conflicts with the access.
 fn tell_access<const W: usize>(
     witness: &Witness,
     judge: &Judge<W>,

@@ -106,7 +106,7 @@ impl Witness {
         }
     }
 
-    /// The first beat of the response that has begun on a link and isn't complete.
+    /// The first beat of the unfinished response on a link.
     fn begun(&self, link: u8) -> Option<Told>
         ensures { (w n block : ℕ) (given : Perm) (t : Trace w) → KnowsWitness self.now n block t → link < n →
             coming block (on_link link t) ≡ Some given → mention_of result ≡ burst_opening link channel.D t }
@@ -117,7 +117,7 @@ impl Witness {
         }
     }
 
-    /// Appends what a link holds of the block, if it is more than may be held beside so much of it.
+    /// Appends what a link holds of the block, if it conflicts with this permission.
     fn tell_holder(&self, link: u8, given: Perm, out: &mut Vec<u8>) -> Result<(), AllocError>
         ensures { OnOk result ((w n block : ℕ) (t : Trace w) → KnowsWitness self.now n block t → link < n →
             out.new.items ≡ out.old.items ++ holder_text link given block t) }
@@ -129,7 +129,7 @@ impl Witness {
         append_permission(link, " holds ", self.block, &held, out)
     }
 
-    /// Appends a line for each link that holds more of the block than may be held beside so much of it.
+    /// Appends a line for each link that holds a permission of the block which conflicts with this one.
     pub fn tell_holders(&self, given: Perm, out: &mut Vec<u8>) -> Result<(), AllocError>
         ensures { OnOk result ((w n block : ℕ) (t : Trace w) → KnowsWitness self.now n block t →
             out.new.items ≡ out.old.items ++ holders_text n given block t) }
@@ -140,7 +140,7 @@ impl Witness {
         Ok(())
     }
 
-    /// Appends what a link holds of the block, or is being granted, if it is more than may be held beside so much of it.
+    /// Appends what a link holds of the block, or is being granted, if it conflicts with this permission.
     fn tell_conflict(
         &self,
         coming: Option<Perm>,
@@ -165,8 +165,8 @@ impl Witness {
         append_permission(link, " is being granted ", self.block, &granted, out)
     }
 
-    /// Appends a line for each link but this one that holds, or is being granted, more of the block than may be held
-    /// beside so much of it.
+    /// Appends a line for each link but this one that holds, or is being granted, a permission of the block which
+    /// conflicts with this one.
     pub fn tell_conflicts<const W: usize>(
         &self,
         judge: &Judge<W>,

@@ -35,8 +35,8 @@ is_performed x = is_access_ack x.opcode && not x.denied
 
 -- ---- the rules of memory
 
--- Each of the first n links but this one holds no more of the block than may be held beside so much of it. A Grant counts
--- as held from its first beat on.
+-- None of the first n links but this one holds a permission of the block which conflicts with the given one. A Grant
+-- counts as held from its first beat on.
 unfoldable pub is_grantable : {w : ℕ} → ℕ → ℕ → Perm → ℕ → Trace w → Bool
 is_grantable zero link given block t = true
 is_grantable (suc n) link given block t =

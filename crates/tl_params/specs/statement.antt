@@ -1,5 +1,6 @@
 pub mod Config
 pub mod Header
+pub mod Liberties
 pub mod Names
 pub mod Param
 pub mod Range

@@ -6,6 +6,7 @@ pub mod config;
 pub mod header;
 pub mod key;
 pub mod level;
+pub mod liberties;
 pub mod param;
 pub mod perm;
 pub mod profile;

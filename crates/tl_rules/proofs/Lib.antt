@@ -2,6 +2,7 @@ mod Zeros
 pub mod Blocks
 pub mod Bursts
 pub mod Checks
+pub mod Excused
 pub mod Handed
 pub mod Lanes
 pub mod Later
@@ -14,6 +15,7 @@ pub mod Numbers
 pub mod Open
 pub mod Payload
 pub mod Places
+pub mod Profiles
 pub mod Rooms
 pub mod Rows
 pub mod Sent

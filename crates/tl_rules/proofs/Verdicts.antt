@@ -1,5 +1,6 @@
 -- A verdict of two groups of rules, one after the other.
-use Rattle.std.proofs.Common.{◌≡◌, ℕ, Bool, true, false, Option, Some, None, Err, refl, sym}
+use Rattle.std.proofs.Common.{◌≡◌, ℕ, Bool, true, false, Option, Some, None, Ok, Err, refl, sym}
+use Rattle.std.specs.Prelude.{⊤}
 use Rattle.std.specs.Option.{option_or}
 use Rattle.tl_beat.specs.declared.channel.Channel.TheVariants as channel
 use Rattle.tl_beat.specs.declared.beat.BeatA.{BeatA}
@@ -14,7 +15,7 @@ use Rattle.tl_params.specs.statement.Refusal.{ok_unless}
 use Rattle.tl_rules.specs.statement.Legality.{illegal}
 use Rattle.tl_rules.specs.code.Control.{a_control, a_own, b_control, b_own, c_control, c_own, d_control, d_own}
 
-or-first_if : (t : Bool) (r : Rule) (x y : Option Rule) → option_or (first_if t r x) y ≡ first_if t r (option_or x y)
+pub or-first_if : (t : Bool) (r : Rule) (x y : Option Rule) → option_or (first_if t r x) y ≡ first_if t r (option_or x y)
 or-first_if true r x y = refl
 or-first_if false r x y = refl
 
@@ -47,3 +48,8 @@ pub broken_first : (o first rest : Option Rule) (r : Rule) → o ≡ option_or f
     → ok_unless o ≡ Err r
 broken_first o None rest r is e = absurd cc
 broken_first o (Some s) rest r is e = rw is (sym e)
+
+-- the second group decides where the first breaks none
+pub passed_first : (o first rest : Option Rule) (u : ⊤) → o ≡ option_or first rest → Ok u ≡ ok_unless first → o ≡ rest
+passed_first o None rest u is e = is
+passed_first o (Some r) rest u is e = absurd cc

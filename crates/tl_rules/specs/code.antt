@@ -1,4 +1,5 @@
 pub mod Control
+pub mod Excused
 pub mod Merge
 pub mod Open
 pub mod Place

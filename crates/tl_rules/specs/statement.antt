@@ -3,4 +3,5 @@ pub mod Conformance
 pub mod Effect
 pub mod History
 pub mod Legality
+pub mod Liberties
 pub mod Windows

@@ -1,4 +1,5 @@
 //! Legality by level and channel alone, of a beat and of a whole message.
 
 pub mod beat;
+mod liberty;
 pub mod message;

@@ -15,8 +15,9 @@ mod mask;
 pub mod merge;
 pub mod order;
 pub mod past;
+pub mod past_under;
 pub mod perform;
 pub mod place;
 pub mod table;
 
-pub use tl_params::{config, key, level, param, perm, profile, report, rule};
+pub use tl_params::{config, key, level, liberties, param, perm, profile, report, rule};

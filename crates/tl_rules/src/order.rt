@@ -5,46 +5,54 @@ ghost use Rattle.std.specs.Prelude.{true, false, not, Option, Some, ◌≡◌, �
 ghost use Rattle.tl_beat.specs.declared.beat.BeatA.{BeatA};
 ghost use Rattle.tl_beat.specs.statement.Opcode.{c_carries_data};
 ghost use Rattle.tl_burst.specs.statement.Messages.{History};
-ghost use Rattle.tl_params.specs.declared.profile.Profile.{Profile};
-ghost use Rattle.tl_params.specs.statement.Param.{prune_of, cap_of};
+ghost use Rattle.tl_params.specs.declared.liberties.Liberties.{Liberties};
+ghost use Rattle.tl_params.specs.statement.Param.{prune_of, cap_of, report_named};
 ghost use Rattle.tl_rules.specs.statement.Conformance;
 ghost use Rattle.tl_rules.specs.statement.History.{pending, is_release_ack};
-ghost use Rattle.tl_rules.specs.code.Open.{request_fields};
+ghost use Rattle.tl_rules.specs.statement.Liberties as under;
+ghost use Rattle.tl_rules.specs.code.Open.{is_number, probe_source, request_fields};
 
 use crate::kind::{
     answers, is_acquire, is_grant, is_probe, is_probe_ack, is_release, is_release_ack,
 };
 use crate::past::{Past, Request};
+use crate::past_under::{AtProfile, PastUnder};
 use tl_beat::beat::{Beat, BeatA, BeatB, BeatC, BeatD, BeatE};
 use tl_beat::opcode::{OpA, OpB, OpC, OpD};
 use tl_params::key::{Key, block_at};
-use tl_params::param::{Cap, Grow, Prune};
+use tl_params::param::{Cap, Grow, Prune, Report};
 use tl_params::perm::Perm;
+use tl_params::liberties::Liberties;
 use tl_params::profile::Profile;
 use tl_params::report::report_of;
 use tl_params::rule::Rule;
 
 #[inline(always)]
-fn either_pending<const W: usize, P: Past<W>>(one: Key, other: Key, past: &P) -> bool
-    ensures { (t : History W) → P.knows past.now t → result ≡ (pending one t || pending other t) }
+fn either_pending<const W: usize, P: PastUnder<W>>(one: Key, other: Key, past: &P) -> bool
+    ensures { (l : Liberties) (t : History W) → P.knows past.now l t → result ≡ (pending one t || pending other t) }
 {
     past.is_pending(one) || past.is_pending(other)
 }
 
 /// Whether an Acquire with this param grows from what is held.
-fn grows_from(param: u8, perm: Perm) -> bool
-    ensures { result ≡ Conformance.grows_from param perm }
+fn grows_from(liberties: Liberties, param: u8, perm: Perm) -> bool
+    ensures { result ≡ under.grows_from_under liberties param perm }
 {
     if param == Grow::BtoT.param() {
         perm != Perm::Trunk
     } else {
-        perm == Perm::None
+        liberties.drops || perm == Perm::None
     }
 }
 
 #[inline(always)]
-fn broken_a<const W: usize, P: Past<W>>(x: &BeatA<W>, past: &P) -> Option<Rule>
-    ensures { (t : History W) → P.knows past.now t → result ≡ Conformance.broken_a x.now t }
+fn broken_a<const W: usize, P: PastUnder<W>>(
+    liberties: Liberties,
+    x: &BeatA<W>,
+    past: &P,
+) -> Option<Rule>
+    ensures { (t : History W) → P.knows past.now liberties t →
+        result ≡ under.broken_a_under liberties x.now t }
 {
     let block = block_at(x.address);
     if past.is_pending(Key::RequestSource(x.source)) {
@@ -56,15 +64,15 @@ fn broken_a<const W: usize, P: Past<W>>(x: &BeatA<W>, past: &P) -> Option<Rule>
     if either_pending(Key::AcquireOf(block), Key::ReleaseOf(block), past) {
         return Some(Rule::H4);
     }
-    if !grows_from(x.param, past.held(block)) {
+    if !grows_from(liberties, x.param, past.held(block)) {
         return Some(Rule::H5);
     }
     None
 }
 
 #[inline(always)]
-fn broken_b<const W: usize, P: Past<W>>(x: &BeatB<W>, past: &P) -> Option<Rule>
-    ensures { (t : History W) → P.knows past.now t → result ≡ Conformance.broken_b x.now t }
+fn broken_b<const W: usize, P: PastUnder<W>>(x: &BeatB<W>, past: &P) -> Option<Rule>
+    ensures { (l : Liberties) (t : History W) → P.knows past.now l t → result ≡ Conformance.broken_b x.now t }
 {
     let block = block_at(x.address);
     if !is_probe(x.opcode) {
@@ -86,8 +94,41 @@ fn prunes_from(param: u8, perm: Perm) -> bool
     }
 }
 
-fn broken_release<const W: usize, P: Past<W>>(x: &BeatC<W>, past: &P) -> Option<Rule>
-    ensures { (t : History W) → P.knows past.now t → result ≡ Conformance.broken_release x.now t }
+/// Whether a Release with this param, which may be any report, starts from what is held.
+fn reports_from(param: u8, perm: Perm) -> bool
+    ensures { result ≡ under.reports_from (report_named param) perm }
+{
+    match Report::from_param(param) {
+        None => false,
+        Some(report) => report.left() == perm,
+    }
+}
+
+/// Whether a param says that nothing is held.
+fn reports_none(param: u8) -> bool
+    ensures { result ≡ under.reports_none param }
+{
+    param == Report::NtoN.param()
+}
+
+/// Whether a Release with this param starts from what is held.
+fn releases_from(liberties: Liberties, param: u8, perm: Perm) -> bool
+    ensures { result ≡ under.releases_from liberties param perm }
+{
+    if liberties.reports {
+        liberties.drops && reports_none(param) || reports_from(param, perm)
+    } else {
+        prunes_from(param, perm)
+    }
+}
+
+fn broken_release<const W: usize, P: PastUnder<W>>(
+    liberties: Liberties,
+    x: &BeatC<W>,
+    past: &P,
+) -> Option<Rule>
+    ensures { (t : History W) → P.knows past.now liberties t →
+        result ≡ under.broken_release_under liberties x.now t }
 {
     let block = block_at(x.address);
     if past.is_pending(Key::ReleaseSource(x.source)) {
@@ -96,7 +137,7 @@ fn broken_release<const W: usize, P: Past<W>>(x: &BeatC<W>, past: &P) -> Option<
     if either_pending(Key::AcquireOf(block), Key::ReleaseOf(block), past) {
         return Some(Rule::H13);
     }
-    if !prunes_from(x.param, past.held(block)) {
+    if !releases_from(liberties, x.param, past.held(block)) {
         return Some(Rule::H13);
     }
     None
@@ -119,64 +160,99 @@ fn answers_wrong_probe(answer: OpC, probe: OpB) -> bool
     answer.carries_data() && probe != OpB::ProbeBlock
 }
 
-fn broken_probe_ack<const W: usize, P: Past<W>>(x: &BeatC<W>, past: &P) -> Option<Rule>
-    ensures { (t : History W) → P.knows past.now t → result ≡ Conformance.broken_probe_ack x.now t }
+/// Whether a report isn't the one that follows from a Probe's cap and from what is held.
+fn misreports(liberties: Liberties, param: u8, cap: u8, perm: Perm) -> bool
+    ensures { result ≡ (not (liberties.drops && under.reports_none param)
+        && not (Conformance.is_report_at param (cap_of cap) perm)) }
+{
+    !(liberties.drops && reports_none(param)) && !is_report(param, cap, perm)
+}
+
+/// Whether a ProbeAck with this source has another than its Probe, where the liberties have it judged.
+fn has_other_source<const W: usize, P: PastUnder<W>>(
+    liberties: Liberties,
+    source: u8,
+    block: u32,
+    past: &P,
+) -> bool
+    ensures { (t : History W) → P.knows past.now liberties t →
+        result ≡ (liberties.ids && not (is_number source (probe_source block t))) }
+{
+    liberties.ids && past.probe_source(block) != Some(source)
+}
+
+fn broken_probe_ack<const W: usize, P: PastUnder<W>>(
+    liberties: Liberties,
+    x: &BeatC<W>,
+    past: &P,
+) -> Option<Rule>
+    ensures { (t : History W) → P.knows past.now liberties t →
+        result ≡ under.broken_probe_ack_under liberties x.now t }
 {
     let block = block_at(x.address);
     let Some(probe) = past.probe(block) else {
         return Some(Rule::H10);
     };
+    if has_other_source(liberties, x.source, block, past) {
+        return Some(Rule::H10);
+    }
     if answers_wrong_probe(x.opcode, probe.opcode) {
         return Some(Rule::H10);
     }
     if past.is_pending(Key::ReleaseOf(block)) {
         return Some(Rule::H11);
     }
-    if !is_report(x.param, probe.param, past.held(block)) {
+    if misreports(liberties, x.param, probe.param, past.held(block)) {
         return Some(Rule::H12);
     }
     None
 }
 
 #[inline(always)]
-fn broken_c<const W: usize, P: Past<W>>(x: &BeatC<W>, past: &P) -> Option<Rule>
-    ensures { (t : History W) → P.knows past.now t → result ≡ Conformance.broken_c x.now t }
+fn broken_c<const W: usize, P: PastUnder<W>>(
+    liberties: Liberties,
+    x: &BeatC<W>,
+    past: &P,
+) -> Option<Rule>
+    ensures { (t : History W) → P.knows past.now liberties t →
+        result ≡ under.broken_c_under liberties x.now t }
 {
     if is_release(x.opcode) {
-        broken_release(x, past)
+        broken_release(liberties, x, past)
     } else if is_probe_ack(x.opcode) {
-        broken_probe_ack(x, past)
+        broken_probe_ack(liberties, x, past)
     } else {
         None
     }
 }
 
 /// Whether a Grant with the param `given` answers an Acquire with this param.
-fn fits_grow(profile: Profile, opcode: OpA, param: u8, given: u8) -> bool
-    ensures { result ≡ Conformance.fits_grow profile opcode param given }
+fn fits_grow(liberties: Liberties, opcode: OpA, param: u8, given: u8) -> bool
+    ensures { result ≡ Conformance.fits_grow (under.profile_under liberties) opcode param given }
 {
     if param != Grow::NtoB.param() {
         return given == Cap::ToT.param();
     }
-    match (profile, opcode) {
-        (Profile::Two, OpA::AcquireBlock) => {
-            given == Cap::ToT.param() || given == Cap::ToB.param()
-        }
-        _ => given == Cap::ToB.param(),
+    if liberties.writer && opcode == OpA::AcquireBlock {
+        return given == Cap::ToT.param() || given == Cap::ToB.param();
     }
+    given == Cap::ToB.param()
 }
 
 /// Whether a Grant isn't one for the request that it answers.
-fn misgrants<const W: usize, P: Past<W>>(
-    profile: Profile,
+fn misgrants<const W: usize, P: PastUnder<W>>(
+    liberties: Liberties,
     x: &BeatD<W>,
     request: &Request,
     past: &P,
 ) -> bool
-    ensures { (t : History W) → P.knows past.now t → (r : Option (BeatA W)) → request_fields r ≡ Some request.now →
-        result ≡ Conformance.misgrants profile x.now r t }
+    ensures { (t : History W) → P.knows past.now liberties t → (r : Option (BeatA W)) →
+        request_fields r ≡ Some request.now → result ≡ under.misgrants_under liberties x.now r t }
 {
-    if !fits_grow(profile, request.opcode, request.param, x.param) {
+    if liberties.denied && x.denied {
+        return past.is_pending(Key::ProbeOf(request.block));
+    }
+    if !fits_grow(liberties, request.opcode, request.param, x.param) {
         return true;
     }
     if x.opcode == OpD::Grant && request.opcode == OpA::AcquireBlock {
@@ -187,10 +263,10 @@ fn misgrants<const W: usize, P: Past<W>>(
     past.is_pending(Key::ProbeOf(request.block))
 }
 
-fn broken_release_ack<const W: usize, P: Past<W>>(x: &BeatD<W>, past: &P) -> Option<Rule>
+fn broken_release_ack<const W: usize, P: PastUnder<W>>(x: &BeatD<W>, past: &P) -> Option<Rule>
     requires { is_release_ack x.now.opcode ≡ true }
-    ensures { (t : History W) → P.knows past.now t → (p : Profile) →
-        result ≡ Conformance.broken_d p x.now t }
+    ensures { (l : Liberties) (t : History W) → P.knows past.now l t →
+        result ≡ under.broken_d_under l x.now t }
 {
     match past.release(x.source) {
         None => Some(Rule::H2),
@@ -198,14 +274,14 @@ fn broken_release_ack<const W: usize, P: Past<W>>(x: &BeatD<W>, past: &P) -> Opt
     }
 }
 
-fn broken_answer<const W: usize, P: Past<W>>(
-    profile: Profile,
+fn broken_answer<const W: usize, P: PastUnder<W>>(
+    liberties: Liberties,
     x: &BeatD<W>,
     past: &P,
 ) -> Option<Rule>
     requires { is_release_ack x.now.opcode ≡ false }
-    ensures { (t : History W) → P.knows past.now t →
-        result ≡ Conformance.broken_d profile x.now t }
+    ensures { (t : History W) → P.knows past.now liberties t →
+        result ≡ under.broken_d_under liberties x.now t }
 {
     let Some(request) = past.request(x.source) else {
         return Some(Rule::H2);
@@ -219,7 +295,7 @@ fn broken_answer<const W: usize, P: Past<W>>(
     if !is_grant(x.opcode) {
         return None;
     }
-    if misgrants(profile, x, &request, past) {
+    if misgrants(liberties, x, &request, past) {
         return Some(Rule::H6);
     }
     if past.is_pending(Key::GrantSink(x.sink)) {
@@ -229,20 +305,25 @@ fn broken_answer<const W: usize, P: Past<W>>(
 }
 
 #[inline(always)]
-fn broken_d<const W: usize, P: Past<W>>(profile: Profile, x: &BeatD<W>, past: &P) -> Option<Rule>
-    ensures { (t : History W) → P.knows past.now t →
-        result ≡ Conformance.broken_d profile x.now t }
+fn broken_d<const W: usize, P: PastUnder<W>>(
+    liberties: Liberties,
+    x: &BeatD<W>,
+    past: &P,
+) -> Option<Rule>
+    ensures { (t : History W) → P.knows past.now liberties t →
+        result ≡ under.broken_d_under liberties x.now t }
 {
     if is_release_ack(x.opcode) {
         broken_release_ack(x, past)
     } else {
-        broken_answer(profile, x, past)
+        broken_answer(liberties, x, past)
     }
 }
 
 #[inline(always)]
-fn broken_e<const W: usize, P: Past<W>>(x: &BeatE, past: &P) -> Option<Rule>
-    ensures { (t : History W) → P.knows past.now t → result ≡ Conformance.broken_e x.now t }
+fn broken_e<const W: usize, P: PastUnder<W>>(x: &BeatE, past: &P) -> Option<Rule>
+    ensures { (l : Liberties) (t : History W) → P.knows past.now l t →
+        result ≡ under.broken_e_under l x.now t }
 {
     if past.has_grant(x.sink) {
         None
@@ -251,8 +332,28 @@ fn broken_e<const W: usize, P: Past<W>>(x: &BeatE, past: &P) -> Option<Rule>
     }
 }
 
-/// The first rule of the order of messages that a message which begins with this beat breaks.
-#[tactic(auto, unfolding(crate::specs::statement::Conformance::broken_order))]
+/// The first rule of the order of messages that a message which begins with this beat breaks, on a link
+/// with these liberties.
+#[tactic(auto, unfolding(crate::specs::statement::Liberties::broken_order_under))]
+#[inline(always)]
+pub fn broken_order_under<const W: usize, P: PastUnder<W>>(
+    liberties: Liberties,
+    beat: &Beat<W>,
+    past: &P,
+) -> Option<Rule>
+    ensures { (t : History W) → P.knows past.now liberties t →
+        result ≡ under.broken_order_under liberties beat.now t }
+{
+    match beat {
+        Beat::A(x) => broken_a(liberties, x, past),
+        Beat::B(x) => broken_b(x, past),
+        Beat::C(x) => broken_c(liberties, x, past),
+        Beat::D(x) => broken_d(liberties, x, past),
+        Beat::E(x) => broken_e(x, past),
+    }
+}
+
+/// The same on a link of this profile.
 #[inline(always)]
 pub fn broken_order<const W: usize, P: Past<W>>(
     profile: Profile,
@@ -262,11 +363,5 @@ pub fn broken_order<const W: usize, P: Past<W>>(
     ensures { (t : History W) → P.knows past.now t →
         result ≡ Conformance.broken_order profile beat.now t }
 {
-    match beat {
-        Beat::A(x) => broken_a(x, past),
-        Beat::B(x) => broken_b(x, past),
-        Beat::C(x) => broken_c(x, past),
-        Beat::D(x) => broken_d(profile, x, past),
-        Beat::E(x) => broken_e(x, past),
-    }
+    broken_order_under(Liberties::of(profile), beat, &AtProfile { past })
 }

@@ -20,6 +20,8 @@ pub struct Block {
     pub release: bool,
     /// The Probe of the block that is pending.
     pub probe: Option<Probe>,
+    /// Its source.
+    pub probe_source: Option<u8>,
     /// The sink of its last Grant, where the GrantAck is pending.
     pub grant: Option<u8>,
 }

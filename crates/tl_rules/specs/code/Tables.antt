@@ -1,18 +1,23 @@
 -- What is kept of a history, key by key, and what it becomes with one more beat.
-use Rattle.std.specs.Prelude.{ℕ, Bool, true, false, not, ◌==◌, ◌&&◌, ◌||◌, if◌then◌else◌, Option, Some, None}
+use Rattle.std.specs.Prelude.{ℕ, Bool, true, false, not, ◌==◌, ◌&&◌, ◌||◌, if◌then◌else◌, Option, Some, None, is_some}
+use Rattle.std.specs.Prelude.{unwrap_or}
 use Rattle.tl_beat.specs.declared.beat.Beat.{Beat}
 use Rattle.tl_beat.specs.declared.beat.Beat.TheVariants as beat
 use Rattle.tl_beat.specs.declared.beat.BeatC.{BeatC}
-use Rattle.tl_burst.specs.statement.Messages.{History}
+use Rattle.tl_beat.specs.declared.channel.Channel.TheVariants as channel
+use Rattle.tl_burst.specs.statement.Messages.{History, unfinished}
 use Rattle.tl_params.specs.declared.key.Key.TheVariants.{RequestSource, ReleaseSource, AcquireOf, ReleaseOf, GrantAckOf}
+use Rattle.tl_params.specs.declared.liberties.Liberties.{Liberties}
+use Rattle.tl_params.specs.declared.perm.Perm.{Perm}
 use Rattle.tl_params.specs.declared.perm.Perm.TheVariants as perm
 use Rattle.tl_rules.specs.declared.past.Request.{Request}
 use Rattle.tl_rules.specs.declared.table.Release.{Release}
 use Rattle.tl_rules.specs.declared.table.Block.{Block}
 use Rattle.tl_rules.specs.statement.History.{block_at, is_acquire, is_probe, is_probe_ack, is_release, is_grant}
 use Rattle.tl_rules.specs.statement.History.{is_release_ack, asks_for, releases, is_sink}
-use Rattle.tl_rules.specs.statement.History.{request_of, release_of, grant_sink, pending, held, reported, capped}
-use Rattle.tl_rules.specs.code.Open.{request_fields, open_probe}
+use Rattle.tl_rules.specs.statement.History.{request_of, release_of, grant_sink, pending, reported, capped}
+use Rattle.tl_rules.specs.statement.Liberties.{given_by_grant, grows_from_none, held_under, left_by_release}
+use Rattle.tl_rules.specs.code.Open.{request_fields, open_probe, probe_source}
 
 abbrev pub release_fields : {w : ℕ} → Option (BeatC w) → Option Release
 release_fields None = None
@@ -30,18 +35,26 @@ kept_release s t = if pending (ReleaseSource s) t then release_fields (release_o
 abbrev pub kept_grant : {w : ℕ} → ℕ → History w → Option ℕ
 kept_grant k t = if pending (GrantAckOf k) t then grant_sink k t else None
 
-abbrev pub kept_block : {w : ℕ} → ℕ → History w → Block
-kept_block k t = record {
-  held = held k t;
+abbrev pub kept_block : {w : ℕ} → Liberties → ℕ → History w → Block
+kept_block l k t = record {
+  held = held_under l k t;
   acquire = pending (AcquireOf k) t;
   release = pending (ReleaseOf k) t;
   probe = open_probe k t;
+  probe_source = probe_source k t;
   grant = kept_grant k t;
 }
 
 -- a block of which nothing is open or held
 abbrev pub empty_block : Block
-empty_block = record { held = perm.None; acquire = false; release = false; probe = None; grant = None }
+empty_block = record {
+  held = perm.None;
+  acquire = false;
+  release = false;
+  probe = None;
+  probe_source = None;
+  grant = None;
+}
 
 -- ---- with one more beat, which begins a message or doesn't, and completes it or doesn't
 
@@ -61,41 +74,43 @@ sink_next first last (beat.D x) s b = if first && (is_grant x.opcode && (x.sink 
 sink_next first last (beat.E x) s b = if last && (x.sink == s) then false else b
 sink_next first last _ s b = b
 
--- the block that a beat bears on
-abbrev pub block_next : {w : ℕ} → Bool → Bool → Beat w → Block → Block
-block_next first last (beat.A x) b = record {
-  held = b.held;
+-- what the message gives that this one answers before its end
+abbrev pub came : {w : ℕ} → Beat w → History w → Option Perm
+came (beat.D x) t = left_by_release x.source (unfinished channel.C t)
+came (beat.E x) t = given_by_grant x.sink (unfinished channel.D t)
+came _ t = None
+
+-- the block that a beat bears on, where this came before the end of the message that it answers
+abbrev pub block_next : {w : ℕ} → Liberties → Bool → Bool → Option Perm → Beat w → Block → Block
+block_next l first last came (beat.A x) b = record b {
+  held = if l.drops && (first && (is_acquire x.opcode && grows_from_none x.param)) then (if last then perm.None else
+      b.held) else b.held;
   acquire = if first && is_acquire x.opcode then true else b.acquire;
-  release = b.release;
-  probe = b.probe;
-  grant = b.grant;
 }
-block_next first last (beat.B x) b = record {
-  held = b.held;
-  acquire = b.acquire;
-  release = b.release;
+block_next l first last came (beat.B x) b = record b {
   probe = if first && is_probe x.opcode then Some (record { opcode = x.opcode; param = x.param }) else b.probe;
-  grant = b.grant;
+  probe_source = if first && is_probe x.opcode then Some x.source else b.probe_source;
 }
-block_next first last (beat.C x) b = record {
-  held = if last && (is_probe_ack x.opcode || is_release x.opcode) then reported x.param else b.held;
-  acquire = b.acquire;
+block_next l first last came (beat.C x) b = record b {
+  held =
+      if l.early && (is_release x.opcode && (not first && not b.release)) then b.held else
+      if last && (is_probe_ack x.opcode || is_release x.opcode) then reported x.param else b.held;
   release = if first && is_release x.opcode then true else b.release;
   probe = if last && is_probe_ack x.opcode then None else b.probe;
-  grant = b.grant;
+  probe_source = if last && is_probe_ack x.opcode then None else b.probe_source;
 }
-block_next first last (beat.D x) b = record {
-  held = if last && is_grant x.opcode then capped x.param else b.held;
+block_next l first last came (beat.D x) b = record b {
+  held =
+      if l.denied && x.denied then b.held else
+      if l.early && (is_grant x.opcode && (not first && not (is_some b.grant))) then b.held else
+      if l.early && is_release_ack x.opcode then (if last then unwrap_or came b.held else b.held) else
+      if last && is_grant x.opcode then capped x.param else b.held;
   acquire = if last && is_grant x.opcode then false else b.acquire;
   release = if last && is_release_ack x.opcode then false else b.release;
-  probe = b.probe;
   grant = if first && is_grant x.opcode then Some x.sink else b.grant;
 }
-block_next first last (beat.E x) b = record {
-  held = b.held;
-  acquire = b.acquire;
-  release = b.release;
-  probe = b.probe;
+block_next l first last came (beat.E x) b = record b {
+  held = if l.early && is_sink x.sink b.grant then (if last then unwrap_or came b.held else b.held) else b.held;
   grant = if last && is_sink x.sink b.grant then None else b.grant;
 }
 

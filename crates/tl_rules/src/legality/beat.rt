@@ -6,16 +6,20 @@ ghost use Rattle.tl_params.specs.statement.Refusal.{ok_unless};
 ghost use Rattle.tl_beat.specs.statement.Width.{IsWidth};
 ghost use Rattle.tl_burst.specs.statement.Part.{IsTakeable};
 ghost use Rattle.tl_rules.specs.statement.Legality.{illegal};
+ghost use Rattle.tl_rules.specs.statement.Liberties.{illegal_under};
 
+use crate::legality::liberty::{
+    excused_denied, excused_param, excused_probe_source, excused_sink, excused_source,
+};
 use crate::{channel, field};
 use tl_beat::beat::{Beat, BeatA, BeatB, BeatC, BeatD};
 use tl_beat::channel::Channel;
 use tl_params::level::Level;
+use tl_params::liberties::Liberties;
 use tl_params::rule::Rule;
 
 /// The first L rule that a beat on this channel of a link of this level breaks, in the order L1,
 /// L7, L2, L3, L4, L5, L6. A beat that breaks none can be given to an assembler.
-#[tactic(auto, unfolding(crate::specs::statement::Legality::illegal))]
 pub fn check_beat<const W: usize>(
     level: Level,
     channel: Channel,
@@ -25,11 +29,26 @@ pub fn check_beat<const W: usize>(
     ensures value { result ≡ ok_unless (illegal level channel beat.now) }
     ensures takeable { OnOk result (IsTakeable beat.now) }
 {
+    check_beat_under(Liberties::none(), level, channel, beat)
+}
+
+/// The same on a link with these liberties.
+#[tactic(auto, unfolding(crate::specs::statement::Liberties::illegal_under, crate::specs::statement::Legality::illegal))]
+pub fn check_beat_under<const W: usize>(
+    liberties: Liberties,
+    level: Level,
+    channel: Channel,
+    beat: &Beat<W>,
+) -> Result<(), Rule>
+    requires { IsWidth W }
+    ensures value { result ≡ ok_unless (illegal_under liberties level channel beat.now) }
+    ensures takeable { OnOk result (IsTakeable beat.now) }
+{
     match (channel, beat) {
         (Channel::A, Beat::A(beat)) => check_a(level, beat),
-        (Channel::B, Beat::B(beat)) => check_b(level, beat),
-        (Channel::C, Beat::C(beat)) => check_c(level, beat),
-        (Channel::D, Beat::D(beat)) => check_d(level, beat),
+        (Channel::B, Beat::B(beat)) => check_b(liberties, level, beat),
+        (Channel::C, Beat::C(beat)) => check_c(liberties, level, beat),
+        (Channel::D, Beat::D(beat)) => check_d(liberties, level, beat),
         (Channel::E, Beat::E(_)) if field::transfers(level) => Ok(()),
         _ => Err(Rule::L1),
     }
@@ -51,10 +70,14 @@ fn check_a<const W: usize>(level: Level, beat: &BeatA<W>) -> Result<(), Rule>
     )
 }
 
-#[tactic(auto, unfolding(crate::specs::statement::Legality::illegal))]
-fn check_b<const W: usize>(level: Level, beat: &BeatB<W>) -> Result<(), Rule>
+#[tactic(auto, unfolding(crate::specs::statement::Liberties::illegal_under))]
+fn check_b<const W: usize>(
+    liberties: Liberties,
+    level: Level,
+    beat: &BeatB<W>,
+) -> Result<(), Rule>
     requires { IsWidth W }
-    ensures value { result ≡ ok_unless (illegal level Channel.B (Beat.B beat.now)) }
+    ensures value { result ≡ ok_unless (illegal_under liberties level Channel.B (Beat.B beat.now)) }
     ensures takeable { OnOk result (IsTakeable (Beat.B beat.now)) }
 {
     channel::control_of_b(
@@ -62,7 +85,7 @@ fn check_b<const W: usize>(level: Level, beat: &BeatB<W>) -> Result<(), Rule>
         beat.opcode,
         beat.param,
         beat.size,
-        beat.source,
+        excused_probe_source(liberties, beat.source),
         beat.address,
     )?;
     channel::own_of_b::<W>(
@@ -74,29 +97,39 @@ fn check_b<const W: usize>(level: Level, beat: &BeatB<W>) -> Result<(), Rule>
     )
 }
 
-#[tactic(auto, unfolding(crate::specs::statement::Legality::illegal))]
-fn check_c<const W: usize>(level: Level, beat: &BeatC<W>) -> Result<(), Rule>
+#[tactic(auto, unfolding(crate::specs::statement::Liberties::illegal_under))]
+fn check_c<const W: usize>(
+    liberties: Liberties,
+    level: Level,
+    beat: &BeatC<W>,
+) -> Result<(), Rule>
     requires { IsWidth W }
-    ensures value { result ≡ ok_unless (illegal level Channel.C (Beat.C beat.now)) }
+    ensures value { result ≡ ok_unless (illegal_under liberties level Channel.C (Beat.C beat.now)) }
     ensures takeable { OnOk result (IsTakeable (Beat.C beat.now)) }
 {
     channel::control_of_c(
         level,
         beat.opcode,
-        beat.param,
+        excused_param(liberties, beat.opcode, beat.param),
         beat.size,
-        beat.source,
+        excused_source(liberties, beat.opcode, beat.source),
         beat.address,
     )?;
     channel::own_of_c(beat.opcode, beat.corrupt)
 }
 
-#[tactic(auto, unfolding(crate::specs::statement::Legality::illegal))]
-fn check_d<const W: usize>(level: Level, beat: &BeatD<W>) -> Result<(), Rule>
+#[tactic(auto, unfolding(crate::specs::statement::Liberties::illegal_under))]
+fn check_d<const W: usize>(
+    liberties: Liberties,
+    level: Level,
+    beat: &BeatD<W>,
+) -> Result<(), Rule>
     requires { IsWidth W }
-    ensures value { result ≡ ok_unless (illegal level Channel.D (Beat.D beat.now)) }
+    ensures value { result ≡ ok_unless (illegal_under liberties level Channel.D (Beat.D beat.now)) }
     ensures takeable { OnOk result (IsTakeable (Beat.D beat.now)) }
 {
-    channel::control_of_d::<W>(level, beat.opcode, beat.param, beat.size, beat.sink)?;
-    channel::own_of_d(beat.opcode, beat.denied, beat.corrupt)
+    let sink = excused_sink(liberties, beat.sink);
+    channel::control_of_d::<W>(level, beat.opcode, beat.param, beat.size, sink)?;
+    let denied = excused_denied(liberties, beat.opcode, beat.denied, beat.corrupt);
+    channel::own_of_d(beat.opcode, denied, beat.corrupt)
 }

@@ -24,12 +24,12 @@ use Rattle.tl_monitor.specs.declared.link_state.LinkState.{LinkState}
 use Rattle.tl_monitor.specs.declared.monitor.Monitor.{Monitor}
 use Rattle.tl_monitor.specs.declared.monitor.MonitoredLink.{MonitoredLink}
 use Rattle.tl_monitor.specs.statement.Granting.{coming, coming_on, given_by, granted, granted_on}
-use Rattle.tl_monitor.specs.statement.Knows.{Knows, held_on}
+use Rattle.tl_monitor.specs.statement.Knows.{KnowsUnder, held_on}
 use Rattle.tl_monitor.proofs.Knowing.{count-is, link_state-of}
 use Rattle.tl_beat.specs.declared.beat.Link.{Link}
 use Rattle.tl_params.specs.declared.level.Level.{Level}
 use Rattle.tl_params.specs.declared.perm.Perm.TheVariants as perm
-use Rattle.tl_params.specs.declared.profile.Profile.{Profile}
+use Rattle.tl_params.specs.declared.liberties.Liberties.{Liberties}
 use Rattle.tl_rules.specs.statement.Conformance.{Trace, on_link}
 use Rattle.std.proofs.lemmas.Bool.{lt-ltb}
 
@@ -40,7 +40,7 @@ kept-for k true (Some x) e = refl
 kept-for k true None e = absurd cc
 kept-for k false o e = absurd cc
 
-module _ {w : ℕ} (k : ℕ) (state : LinkState) (t : History w) (keeps : Keeps state t) where
+module _ {w : ℕ} (lib : Liberties) (k : ℕ) (state : LinkState) (t : History w) (keeps : Keeps lib state t) where
   given-is : (x : BeatD w) (earlier : List (Beat w)) → unfinished channel.D t ≡ beat.D x ∷ earlier
       → given_by_control k state (control_of (beat.D x)) ≡ given_by k (beat.D x ∷ earlier) t
   given-is x earlier e =
@@ -69,15 +69,15 @@ module _ {w : ℕ} (k : ℕ) (state : LinkState) (t : History w) (keeps : Keeps 
   coming-is = coming-by state.bursts.d (unfinished channel.D t) refl (keeps.bursts_are channel.D)
 
 -- on one of the links of a monitor
-pub coming-on-link : {w : ℕ} (m : Monitor w) (levels : List Level) (p : Profile) (t : Trace w) (closed : Bool) (i : ℕ)
+pub coming-on-link : {w : ℕ} (m : Monitor w) (levels : List Level) (lib : Liberties) (t : Trace w) (closed : Bool) (i : ℕ)
     (link : Link) (monitored : MonitoredLink) (block : ℕ) (given : Option Perm)
-    → Knows m levels p t closed → i ≡ link.0 → i < length m.links.items
+    → KnowsUnder m levels lib t closed → i ≡ link.0 → i < length m.links.items
     → monitored ≡ slice_index_or m.links.items i monitored → given ≡ coming_in block monitored.state
     → given ≡ coming_on levels link block t
-coming-on-link m levels p t closed i link monitored block given k i_is lt is given_is =
-    let below : link.0 < length levels = rw (← i_is) (rw (count-is m levels p t closed k) at lt) in
+coming-on-link m levels lib t closed i link monitored block given k i_is lt is given_is =
+    let below : link.0 < length levels = rw (← i_is) (rw (count-is m levels lib t closed k) at lt) in
     rw (lt-ltb link.0 (length levels) below)
-    (given_is ∙ coming-is block monitored.state (on_link i t) (link_state-of m levels p t closed i monitored k lt is)
+    (given_is ∙ coming-is lib block monitored.state (on_link i t) (link_state-of m levels lib t closed i monitored k lt is)
     ∙ ap (λ (n : ℕ). coming block (on_link n t)) i_is)
 
 pub granted-on-link : {w : ℕ} (levels : List Level) (link : Link) (block : ℕ) (t : Trace w) (given : Option Perm)

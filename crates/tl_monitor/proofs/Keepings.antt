@@ -16,19 +16,22 @@ use Rattle.tl_burst.specs.statement.Messages.{History, unfinished, burst_length}
 use Rattle.tl_burst.specs.statement.Part.{is_empty, completes}
 use Rattle.tl_params.specs.declared.key.Key.TheVariants.{GrantSink}
 use Rattle.tl_params.specs.declared.level.Level.{Level}
-use Rattle.tl_params.specs.declared.profile.Profile.{Profile}
+use Rattle.tl_params.specs.declared.liberties.Liberties.{Liberties}
+use Rattle.tl_params.specs.declared.perm.Perm.{Perm}
 use Rattle.tl_rules.specs.declared.past.Request.{Request}
 use Rattle.tl_rules.specs.declared.table.Block.{Block}
-use Rattle.tl_rules.specs.statement.History.{begins, ends, pending, held, is_release_ack, is_grant, is_sink}
-use Rattle.tl_rules.specs.statement.Conformance.{broken_after}
+use Rattle.tl_rules.specs.statement.History.{begins, ends, pending, is_release_ack, is_grant, is_sink}
+use Rattle.tl_rules.specs.statement.Liberties.{broken_after_under, given_by_grant, held_under, left_by_release}
 use Rattle.tl_rules.specs.code.Tables.{kept_request, kept_release, kept_block, request_next, release_next, sink_next}
-use Rattle.tl_rules.specs.code.Tables.{block_next, bears_on}
+use Rattle.tl_rules.specs.code.Tables.{block_next, bears_on, came, came_early}
 use Rattle.tl_rules.proofs.Tables.{request-next, release-next, sink-next, block-next}
 use Rattle.tl_monitor.specs.code.Count.{at}
 use Rattle.tl_monitor.specs.code.KnownBlocks.{known_in}
-use Rattle.tl_monitor.specs.code.Bursts.{burst_on}
+use Rattle.tl_monitor.specs.code.Bursts.{burst_on, IsOf}
 use Rattle.tl_monitor.specs.code.LinkState.{IsEmpty, is_first, touched, is_block, sink_with, block_of_request, IsNext}
+use Rattle.tl_monitor.specs.code.LinkState.{came_early_in, came_in, given_by_control, left_by_control, of_burst}
 use Rattle.tl_monitor.specs.code.LinkState as link_state
+use Rattle.tl_monitor.specs.declared.bursts.Unfinished.{Unfinished}
 use Rattle.tl_monitor.specs.code.Keeps.{Keeps}
 use Rattle.tl_monitor.specs.declared.link_state.LinkState.{LinkState}
 use Rattle.tl_monitor.proofs.Continued.{bursts-next}
@@ -78,34 +81,34 @@ grant_if true b c = refl
 grant_if false b c = refl
 
 -- each that is after a beat stands under its sink
-grants-next : {w : ℕ} (first last : Bool) (x : Beat w) (b s : ℕ) (c : Block) (block at_s at_sink : Option ℕ)
+grants-next : {w : ℕ} (lib : Liberties) (came : Option Perm) (first last : Bool) (x : Beat w) (b s : ℕ) (c : Block) (block at_s at_sink : Option ℕ)
     → ((y : BeatD w) → x ≡ D y → first ≡ true → is_grant y.opcode ≡ true
     → (at_sink ≡ None) × (y.sink ≡ s → at_s ≡ at_sink))
     → ((y : BeatE) → x ≡ E y → y.sink ≡ s → block ≡ at_s)
     → ((n : ℕ) → c.grant ≡ Some n → n ≡ s → at_s ≡ Some b)
-    → (if is_block b block then block_next first last x c else c).grant ≡ Some s
+    → (if is_block b block then block_next lib first last came x c else c).grant ≡ Some s
     → sink_with first last x block s at_s ≡ Some b
-grants-next first last (A x) b s c block at_s at_sink free own stands e =
+grants-next lib came first last (A x) b s c block at_s at_sink free own stands e =
     stands s (same_grant (is_block b block) e) refl
   where
-    same_grant : (here : Bool) → (if here then block_next first last (A x) c else c).grant ≡ Some s → c.grant ≡ Some s
+    same_grant : (here : Bool) → (if here then block_next lib first last came (A x) c else c).grant ≡ Some s → c.grant ≡ Some s
     same_grant true e = e
     same_grant false e = e
-grants-next first last (B x) b s c block at_s at_sink free own stands e =
+grants-next lib came first last (B x) b s c block at_s at_sink free own stands e =
     stands s (same_grant (is_block b block) e) refl
   where
-    same_grant : (here : Bool) → (if here then block_next first last (B x) c else c).grant ≡ Some s → c.grant ≡ Some s
+    same_grant : (here : Bool) → (if here then block_next lib first last came (B x) c else c).grant ≡ Some s → c.grant ≡ Some s
     same_grant true e = e
     same_grant false e = e
-grants-next first last (C x) b s c block at_s at_sink free own stands e =
+grants-next lib came first last (C x) b s c block at_s at_sink free own stands e =
     stands s (same_grant (is_block b block) e) refl
   where
-    same_grant : (here : Bool) → (if here then block_next first last (C x) c else c).grant ≡ Some s → c.grant ≡ Some s
+    same_grant : (here : Bool) → (if here then block_next lib first last came (C x) c else c).grant ≡ Some s → c.grant ≡ Some s
     same_grant true e = e
     same_grant false e = e
-grants-next {w} first last (D x) b s c block at_s at_sink free own stands e =
+grants-next {w} lib came first last (D x) b s c block at_s at_sink free own stands e =
     opened first (is_grant x.opcode) (is_block b block) (free x refl) refl
-    (grant_if (is_block b block) (block_next {w = w} first last (D x) c) c ∙ e)
+    (grant_if (is_block b block) (block_next {w = w} lib first last came (D x) c) c ∙ e)
   where
     named : (o : Option ℕ) → is_block b o ≡ true → o ≡ Some b
     named (Some n) e = ap Some (sym (eqb-true b n e))
@@ -134,8 +137,8 @@ grants-next {w} first last (D x) b s c block at_s at_sink free own stands e =
     opened true false false free is e = stands s e refl
     opened false grant true free is e = stands s e refl
     opened false grant false free is e = stands s e refl
-grants-next {w} first last (E x) b s c block at_s at_sink free own stands e =
-    closed last (is_block b block) refl (grant_if (is_block b block) (block_next {w = w} first last (E x) c) c ∙ e)
+grants-next {w} lib came first last (E x) b s c block at_s at_sink free own stands e =
+    closed last (is_block b block) refl (grant_if (is_block b block) (block_next {w = w} lib first last came (E x) c) c ∙ e)
   where
     none_is : {n : ℕ} → None ≡ Some n → ⊥
     none_is e = cc
@@ -185,12 +188,12 @@ response_alone {w} x ack = short x.opcode ack
     short d.AccessAckData e = absurd cc
     short d.HintAck e = absurd cc
 
-answering-next : {w : ℕ} (l : Level) (p : Profile) (k : LinkState) (x : Beat w) (t : History w) → Keeps k t
-    → broken_after l p x t ≡ None
+answering-next : {w : ℕ} (lib : Liberties) (l : Level) (k : LinkState) (x : Beat w) (t : History w) → Keeps lib k t
+    → broken_after_under lib l x t ≡ None
     → (y : BeatD w) (earlier : List (Beat w)) → unfinished channel.D (x ∷ t) ≡ D y ∷ earlier
     → (is_release_ack y.opcode ≡ false) × (is_some (kept_request y.source (x ∷ t)) ≡ true)
 unfolding unfinished
-answering-next l p k (A x) t keeps legal y earlier e =
+answering-next lib l k (A x) t keeps legal y earlier e =
     let known = keeps.answering y earlier e in (
       known.0,
       ap is_some (request-next y.source (A x) t) ∙ opened _ (begins (A x) t && (x.source == y.source))
@@ -201,18 +204,18 @@ answering-next l p k (A x) t keeps legal y earlier e =
         → is_some (if b then Some new else o) ≡ true
     opened new true o e = refl
     opened new false o e = e
-answering-next l p k (B x) t keeps legal y earlier e = let known = keeps.answering y earlier e in
+answering-next lib l k (B x) t keeps legal y earlier e = let known = keeps.answering y earlier e in
     (known.0, ap is_some (request-next y.source (B x) t) ∙ known.1)
-answering-next l p k (C x) t keeps legal y earlier e = let known = keeps.answering y earlier e in
+answering-next lib l k (C x) t keeps legal y earlier e = let known = keeps.answering y earlier e in
     (known.0, ap is_some (request-next y.source (C x) t) ∙ known.1)
-answering-next l p k (E x) t keeps legal y earlier e = let known = keeps.answering y earlier e in
+answering-next lib l k (E x) t keeps legal y earlier e = let known = keeps.answering y earlier e in
     (known.0, ap is_some (request-next y.source (E x) t) ∙ known.1)
-answering-next {w} l p k (D x) t keeps legal y earlier e = elim (cases_Bool (ends (D x) t)) [
+answering-next {w} lib l k (D x) t keeps legal y earlier e = elim (cases_Bool (ends (D x) t)) [
   | inl done ↦ let over : [] ≡ D y ∷ earlier = rw done at e in absurd (no_beat over)
   | inr unended ↦
       let going : D x ∷ unfinished channel.D t ≡ D y ∷ earlier = rw unended at e in
       let same : x ≡ y = own going in
-      let known = answers l p k x t (unfinished channel.D t) keeps legal refl in
+      let known = answers lib l k x t (unfinished channel.D t) keeps legal refl in
       let apart : is_release_ack x.opcode ≡ false = elim (cases_Bool (is_release_ack x.opcode)) [
         | inl ack ↦ absurd (alone x ack (known.release ack).1 unended)
         | inr other ↦ other
@@ -246,23 +249,57 @@ answering-next {w} l p k (D x) t keeps legal y earlier e = elim (cases_Bool (end
         let done : ends (D x) t ≡ true = ap (λ beats. completes (D x) beats) none ∙ rw (response_alone x ack) refl in
         true-false (sym done ∙ unended)
 
+-- ---- what is answered before its end
+
+left-is : {w : ℕ} {P : Type 0} (source : ℕ) (o : Option (Unfinished P)) (beats : List (Beat w)) → IsOf o beats
+    → left_by_release source beats ≡ of_burst (left_by_control source) o
+left-is source None beats is = rw is refl
+left-is source (Some u) beats (A x, earlier, is, control, count, more) = rw (control, is) refl
+left-is source (Some u) beats (B x, earlier, is, control, count, more) = rw (control, is) refl
+left-is source (Some u) beats (C x, earlier, is, control, count, more) = rw (control, is) refl
+left-is source (Some u) beats (D x, earlier, is, control, count, more) = rw (control, is) refl
+left-is source (Some u) beats (E x, earlier, is, control, count, more) = rw (control, is) refl
+
+given-is : {w : ℕ} {P : Type 0} (sink : ℕ) (o : Option (Unfinished P)) (beats : List (Beat w)) → IsOf o beats
+    → given_by_grant sink beats ≡ of_burst (given_by_control sink) o
+given-is sink None beats is = rw is refl
+given-is sink (Some u) beats (A x, earlier, is, control, count, more) = rw (control, is) refl
+given-is sink (Some u) beats (B x, earlier, is, control, count, more) = rw (control, is) refl
+given-is sink (Some u) beats (C x, earlier, is, control, count, more) = rw (control, is) refl
+given-is sink (Some u) beats (D x, earlier, is, control, count, more) = rw (control, is) refl
+given-is sink (Some u) beats (E x, earlier, is, control, count, more) = rw (control, is) refl
+
+came-early-is : {w : ℕ} (lib : Liberties) (k : LinkState) (x : Beat w) (t : History w) → Keeps lib k t
+    → came_early x t ≡ came_early_in x k
+came-early-is lib k (A x) t keeps = refl
+came-early-is lib k (B x) t keeps = refl
+came-early-is lib k (C x) t keeps = refl
+came-early-is lib k (D x) t keeps = left-is x.source k.bursts.c (unfinished channel.C t) (keeps.bursts_are channel.C)
+came-early-is lib k (E x) t keeps = given-is x.sink k.bursts.d (unfinished channel.D t) (keeps.bursts_are channel.D)
+
+pub came-is : {w : ℕ} (lib : Liberties) (k : LinkState) (x : Beat w) (t : History w) → Keeps lib k t
+    → came lib x t ≡ came_in lib x k
+came-is lib k x t keeps = ap (λ o. if lib.early then o else None) (came-early-is lib k x t keeps)
+
 -- ---- all of it
 
-pub keeps-more : {w : ℕ} (l : Level) (p : Profile) (old new : LinkState) (x : Beat w) (t : History w) → IsWidth w
-    → Keeps old t → broken_after l p x t ≡ None → IsNext old x new → Keeps new (x ∷ t)
-keeps-more {w} l p old new x t width keeps legal next =
+pub keeps-more : {w : ℕ} (lib : Liberties) (l : Level) (old new : LinkState) (x : Beat w) (t : History w) → IsWidth w
+    → Keeps lib old t → broken_after_under lib l x t ≡ None → IsNext lib old x new → Keeps lib new (x ∷ t)
+keeps-more {w} lib l old new x t width keeps legal next =
     let first = begins-is old x t keeps in
-    let last = ends-is l p old x t width keeps legal in
+    let last = ends-is lib l old x t width keeps legal in
     let block = touched (is_first x old) (link_state.completes x old) x old in
-    let blocks : (b : ℕ) → known_in new.blocks b ≡ kept_block b (x ∷ t) = λ b.
-    next.blocks_are b ∙ ap (λ c. if is_block b block then block_next (is_first x old) (link_state.completes x old) x c
-    else c) (keeps.blocks_are b)
-    ∙ sym (same_touched l p old x t b (is_first x old) (link_state.completes x old) keeps legal)
-    ∙ sym (block-next b x t ∙ ap₂ (λ f g. if bears_on b x t then block_next f g x (kept_block b t) else kept_block b t)
-    first last) in
+    let blocks : (b : ℕ) → known_in new.blocks b ≡ kept_block lib b (x ∷ t) = λ b.
+    next.blocks_are b ∙ ap (λ c. if is_block b block then block_next lib (is_first x old) (link_state.completes x old)
+    (came_in lib x old) x c else c) (keeps.blocks_are b)
+    ∙ sym (same_touched lib l old x t b (is_first x old) (link_state.completes x old) (came_in lib x old) keeps legal)
+    ∙ sym (block-next lib b x t ∙ ap (λ o. if bears_on b x t then block_next lib (begins x t) (ends x t) o x
+    (kept_block lib b t) else kept_block lib b t) (came-is lib old x t keeps)
+    ∙ ap₂ (λ f g. if bears_on b x t then block_next lib f g (came_in lib x old) x (kept_block lib b t) else kept_block
+    lib b t) first last) in
     record {
       bursts_are = λ ch. rw (next.bursts_are ch) (bursts-next ch x tt t (burst_on old.bursts ch) width
-          (keeps.bursts_are ch) (continues l p x t legal));
+          (keeps.bursts_are ch) (continues lib l x t legal));
       requests_are = λ s. next.requests_are s ∙ ap (request_next (is_first x old) (link_state.completes x old) x s)
           (keeps.requests_are s)
           ∙ sym (request-next s x t ∙ ap₂ (λ f g. request_next f g x s (kept_request s t)) first last);
@@ -271,17 +308,17 @@ keeps-more {w} l p old new x t width keeps legal next =
           ∙ sym (release-next s x t ∙ ap₂ (λ f g. release_next f g x s (kept_release s t)) first last);
       sinks_are = λ s. ap is_some (next.sinks_are s)
           ∙ sink-with (is_first x old) (link_state.completes x old) x block s (at old.sinks s)
-          (λ y is f g. grant_block l p old x y t keeps legal is f g)
+          (λ y is f g. grant_block lib l old x y t keeps legal is f g)
           ∙ ap (sink_next (is_first x old) (link_state.completes x old) x s) (keeps.sinks_are s)
           ∙ sym (sink-next s x t ∙ ap₂ (λ f g. sink_next f g x s (pending (GrantSink s) t)) first last);
       blocks_are = blocks;
-      granted = λ b s e. next.sinks_are s ∙ grants-next (is_first x old) (link_state.completes x old) x b s
+      granted = λ b s e. next.sinks_are s ∙ grants-next lib (came_in lib x old) (is_first x old) (link_state.completes x old) x b s
           (known_in old.blocks b) block (at old.sinks s) (sink_of x)
           (λ y is f g. (free x y legal is f g, λ its. sym (ap (at old.sinks) its) ∙ ap sink_of (sym is)))
           (λ y is its. ap (λ z. touched (is_first x old) (link_state.completes x old) z old) is ∙ ap (at old.sinks) its)
           (λ n e its. keeps.granted b s (sym (ap (λ c. c.grant) (keeps.blocks_are b)) ∙ e ∙ ap Some its))
           (ap (λ c. c.grant) (sym (next.blocks_are b) ∙ blocks b) ∙ e);
-      answering = answering-next l p old x t keeps legal;
+      answering = answering-next lib l old x t keeps legal;
     }
   where
     sink_of : Beat w → Option ℕ
@@ -292,28 +329,28 @@ keeps-more {w} l p old new x t width keeps legal next =
     not_some None e = refl
     not_some (Some n) e = absurd cc
 
-    grant_block : (l : Level) (p : Profile) (k : LinkState) (x : Beat w) (y : BeatD w) (t : History w) → Keeps k t
-        → broken_after l p x t ≡ None → x ≡ D y → is_first x k ≡ true → is_grant y.opcode ≡ true
+    grant_block : (lib : Liberties) (l : Level) (k : LinkState) (x : Beat w) (y : BeatD w) (t : History w) → Keeps lib k t
+        → broken_after_under lib l x t ≡ None → x ≡ D y → is_first x k ≡ true → is_grant y.opcode ≡ true
         → is_some (touched (is_first x k) (link_state.completes x k) x k) ≡ true
-    grant_block l p k (D z) y t keeps legal is f g =
+    grant_block lib l k (D z) y t keeps legal is f g =
         let same : z ≡ y = cc in
         let grant : is_grant z.opcode ≡ true = ap (λ (v : BeatD w). is_grant v.opcode) same ∙ g in
-        let known = answers l p k z t (unfinished channel.D t) keeps legal refl in
+        let known = answers lib l k z t (unfinished channel.D t) keeps legal refl in
         let other = not_release_ack z.opcode grant in
         grant_touches (is_first (D z) k) (link_state.completes (D z) k) z k f grant other
         (ap is_some (keeps.requests_are z.source) ∙ known.request other)
-    grant_block l p k (A z) y t keeps legal is f g = absurd cc
-    grant_block l p k (B z) y t keeps legal is f g = absurd cc
-    grant_block l p k (C z) y t keeps legal is f g = absurd cc
-    grant_block l p k (E z) y t keeps legal is f g = absurd cc
+    grant_block lib l k (A z) y t keeps legal is f g = absurd cc
+    grant_block lib l k (B z) y t keeps legal is f g = absurd cc
+    grant_block lib l k (C z) y t keeps legal is f g = absurd cc
+    grant_block lib l k (E z) y t keeps legal is f g = absurd cc
 
-    free : (x : Beat w) (y : BeatD w) → broken_after l p x t ≡ None → x ≡ D y → is_first x old ≡ true
+    free : (x : Beat w) (y : BeatD w) → broken_after_under lib l x t ≡ None → x ≡ D y → is_first x old ≡ true
         → is_grant y.opcode ≡ true → sink_of x ≡ None
     free (D z) y legal is f g =
         let same : z ≡ y = cc in
         let grant : is_grant z.opcode ≡ true = ap (λ (v : BeatD w). is_grant v.opcode) same ∙ g in
         not_some (at old.sinks z.sink)
-        (keeps.sinks_are z.sink ∙ sink-free l p z t legal (begins-is old (D z) t keeps ∙ f) grant)
+        (keeps.sinks_are z.sink ∙ sink-free lib l z t legal (begins-is old (D z) t keeps ∙ f) grant)
     free (A z) y legal is f g = absurd cc
     free (B z) y legal is f g = absurd cc
     free (C z) y legal is f g = absurd cc
@@ -321,9 +358,9 @@ keeps-more {w} l p old new x t width keeps legal next =
 
 -- ---- none of it
 
-pub keeps-none : {w : ℕ} (k : LinkState) → IsEmpty k → Keeps {w = w} k []
-unfolding pending held unfinished
-keeps-none {w} k none = record {
+pub keeps-none : {w : ℕ} (lib : Liberties) (k : LinkState) → IsEmpty k → Keeps {w = w} lib k []
+unfolding pending held_under unfinished
+keeps-none {w} lib k none = record {
   bursts_are = λ ch. rw (none.no_burst ch) refl;
   requests_are = none.no_request;
   releases_are = none.no_release;

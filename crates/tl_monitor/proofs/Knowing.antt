@@ -11,17 +11,18 @@ use Rattle.std.proofs.Math.Seq.{get_or-append_seam, map-set_same}
 use Rattle.tl_beat.specs.declared.beat.Beat.{Beat}
 use Rattle.tl_beat.specs.declared.beat.Link.{Link}
 use Rattle.tl_params.specs.declared.level.Level.{Level}
-use Rattle.tl_params.specs.declared.profile.Profile.{Profile}
+use Rattle.tl_params.specs.declared.liberties.Liberties.{Liberties}
 use Rattle.tl_params.specs.declared.rule.Rule.{Rule}
-use Rattle.tl_rules.specs.statement.Conformance.{Trace, on_link, broken_after, broken_on_link, fault_from}
+use Rattle.tl_rules.specs.statement.Conformance.{Trace, on_link}
+use Rattle.tl_rules.specs.statement.Liberties.{broken_after_under, broken_on_link_under, fault_from_under}
 use Rattle.tl_monitor.specs.code.Keeps.{Keeps}
 use Rattle.tl_monitor.specs.code.LinkState.{IsEmpty}
 use Rattle.tl_monitor.proofs.Keepings.{keeps-none}
 use Rattle.tl_monitor.specs.declared.monitor.Monitor.{Monitor}
 use Rattle.tl_monitor.specs.declared.monitor.MonitoredLink.{MonitoredLink}
 use Rattle.tl_params.specs.statement.Config.{IsCount}
-use Rattle.tl_monitor.specs.statement.Knows.{Knows, AreEmpty, levels_of, Answers}
-use Rattle.tl_monitor.specs.statement.Knows.{AnswersTrace, fault_of, broken, trace_fault_of}
+use Rattle.tl_monitor.specs.statement.Knows.{KnowsUnder, AreEmpty, levels_of, Answers}
+use Rattle.tl_monitor.specs.statement.Knows.{AnswersTraceUnder, fault_under, broken, trace_fault_of}
 use Rattle.tl_monitor.specs.declared.fault.MonitorFault.{MonitorFault}
 use Rattle.tl_monitor.specs.declared.fault.MonitorFault.TheVariants as monitor
 
@@ -36,21 +37,21 @@ unfolding on_link
 on_link-other n link x t apart = rw (ne_eqb link.0 n apart) refl
 
 -- a monitor has a level for each link
-pub count-is : {w : ℕ} (m : Monitor w) (levels : List Level) (p : Profile) (t : Trace w) (closed : Bool)
-    → Knows m levels p t closed → length m.links.items ≡ length levels
-count-is m levels p t closed k = sym (length-map m.links.items (λ link. link.level)) ∙ ap length k.levels_are
+pub count-is : {w : ℕ} (m : Monitor w) (levels : List Level) (lib : Liberties) (t : Trace w) (closed : Bool)
+    → KnowsUnder m levels lib t closed → length m.links.items ≡ length levels
+count-is m levels lib t closed k = sym (length-map m.links.items (λ link. link.level)) ∙ ap length k.levels_are
 
 -- what is kept of one link was put anew
-knows-at : {w : ℕ} (m m' : Monitor w) (levels : List Level) (p : Profile) (t s : Trace w) (closed : Bool) (i : ℕ)
+knows-at : {w : ℕ} (m m' : Monitor w) (levels : List Level) (lib : Liberties) (t s : Trace w) (closed : Bool) (i : ℕ)
     (old new : MonitoredLink)
-    → Knows m levels p t closed → m'.profile ≡ m.profile → m'.closed ≡ false
+    → KnowsUnder m levels lib t closed → m'.liberties ≡ m.liberties → m'.closed ≡ false
     → m'.links.items ≡ slice_set m.links.items i new → i < length m.links.items
     → old ≡ slice_index_or m.links.items i old → new.level ≡ old.level
-    → Keeps new.state (on_link i s) → ((n : ℕ) → n ≢ i → on_link n s ≡ on_link n t) → Knows m' levels p s false
-knows-at m m' levels p t s closed i old new k profile_same open_still links lt was level own other = record {
+    → Keeps lib new.state (on_link i s) → ((n : ℕ) → n ≢ i → on_link n s ≡ on_link n t) → KnowsUnder m' levels lib s false
+knows-at m m' levels lib t s closed i old new k liberties_same open_still links lt was level own other = record {
   levels_are = ap levels_of links ∙ map-set_same (λ link. link.level) m.links.items i new old
       (level ∙ ap (λ link. link.level) was) ∙ k.levels_are;
-  profile_is = profile_same ∙ k.profile_is;
+  liberties_are = liberties_same ∙ k.liberties_are;
   closed_is = open_still;
   links_are = λ n d below. elim (cases_eq n i) [
     | inl here ↦ rw (links, here, get_or-set_same m.links.items i new d lt) own
@@ -60,38 +61,44 @@ knows-at m m' levels p t s closed i old new k profile_same open_still links lt w
 }
 
 -- a link has one more beat
-pub knows-more : {w : ℕ} (m m' : Monitor w) (levels : List Level) (p : Profile) (t : Trace w) (closed : Bool) (i : ℕ)
+pub knows-more : {w : ℕ} (m m' : Monitor w) (levels : List Level) (lib : Liberties) (t : Trace w) (closed : Bool) (i : ℕ)
     (link : Link) (x : Beat w) (old new : MonitoredLink)
-    → Knows m levels p t closed → m'.profile ≡ m.profile → m'.closed ≡ false
+    → KnowsUnder m levels lib t closed → m'.liberties ≡ m.liberties → m'.closed ≡ false
     → m'.links.items ≡ slice_set m.links.items i new → i ≡ link.0 → i < length m.links.items
     → old ≡ slice_index_or m.links.items i old → new.level ≡ old.level
-    → Keeps new.state (x ∷ on_link i t) → Knows m' levels p ((link, x) ∷ t) false
-knows-more m m' levels p t closed i link x old new k profile_same open_still links i_is lt was level own =
-    knows-at m m' levels p t ((link, x) ∷ t) closed i old new k profile_same open_still links lt was level
-    (rw (on_link-own i link x t (sym i_is)) own)
+    → Keeps m.liberties new.state (x ∷ on_link i t) → KnowsUnder m' levels lib ((link, x) ∷ t) false
+knows-more m m' levels lib t closed i link x old new k liberties_same open_still links i_is lt was level own =
+    knows-at m m' levels lib t ((link, x) ∷ t) closed i old new k liberties_same open_still links lt was level
+    (rw (on_link-own i link x t (sym i_is)) (rw k.liberties_are at own))
     (λ n apart. on_link-other n link x t (λ e. apart (sym e ∙ sym i_is)))
 
 -- what is kept of the link of a beat
-pub link_state-of : {w : ℕ} (m : Monitor w) (levels : List Level) (p : Profile) (t : Trace w) (closed : Bool) (i : ℕ)
-    (link : MonitoredLink) → Knows m levels p t closed → i < length m.links.items
-    → link ≡ slice_index_or m.links.items i link → Keeps link.state (on_link i t)
-link_state-of m levels p t closed i link k lt is =
-    let at_i : i < length levels = rw (count-is m levels p t closed k) at lt in
+pub link_state-of : {w : ℕ} (m : Monitor w) (levels : List Level) (lib : Liberties) (t : Trace w) (closed : Bool) (i : ℕ)
+    (link : MonitoredLink) → KnowsUnder m levels lib t closed → i < length m.links.items
+    → link ≡ slice_index_or m.links.items i link → Keeps lib link.state (on_link i t)
+link_state-of m levels lib t closed i link k lt is =
+    let at_i : i < length levels = rw (count-is m levels lib t closed k) at lt in
     rw is (k.links_are i link at_i)
 
+-- the same under the liberties of the monitor
+pub link_state-own : {w : ℕ} (m : Monitor w) (levels : List Level) (lib : Liberties) (t : Trace w) (closed : Bool) (i : ℕ)
+    (link : MonitoredLink) → KnowsUnder m levels lib t closed → i < length m.links.items
+    → link ≡ slice_index_or m.links.items i link → Keeps m.liberties link.state (on_link i t)
+link_state-own m levels lib t closed i link k lt is = rw k.liberties_are (link_state-of m levels lib t closed i link k lt is)
+
 -- the fault of a beat is the rule that it breaks after what its link has carried
-pub fault-is : {w : ℕ} (m : Monitor w) (levels : List Level) (p : Profile) (t : Trace w) (closed : Bool) (i : ℕ)
+pub fault-is : {w : ℕ} (m : Monitor w) (levels : List Level) (lib : Liberties) (t : Trace w) (closed : Bool) (i : ℕ)
     (link : Link) (x : Beat w) (monitored : MonitoredLink) (o : Option Rule)
-    → Knows m levels p t closed → m.closed ≡ false → i ≡ link.0 → i < length m.links.items
+    → KnowsUnder m levels lib t closed → m.closed ≡ false → i ≡ link.0 → i < length m.links.items
     → monitored ≡ slice_index_or m.links.items i monitored
-    → o ≡ broken_after monitored.level m.profile x (on_link i t) → fault_of levels p t closed (link, x) ≡ broken o
-fault-is m levels p t closed i link x monitored o k open_still i_is lt is rule =
+    → o ≡ broken_after_under m.liberties monitored.level x (on_link i t) → fault_under levels lib t closed (link, x) ≡ broken o
+fault-is m levels lib t closed i link x monitored o k open_still i_is lt is rule =
     let not_closed : closed ≡ false = sym k.closed_is ∙ open_still in
     let got : slice_get levels link.0 ≡ Some monitored.level =
     rw (← i_is, ← k.levels_are) (slice_get-map (λ link. link.level) m.links.items i
     ∙ ap (option_map (λ link. link.level)) (slice_get_read m.links.items (length m.links.items) i monitored refl lt is))
     in
-    let same : broken_after monitored.level p x (on_link link.0 t) ≡ o = sym (rule ∙ rw (k.profile_is, i_is) refl) in
+    let same : broken_after_under lib monitored.level x (on_link link.0 t) ≡ o = sym (rule ∙ rw (k.liberties_are, i_is) refl) in
     rw (not_closed, got, same) refl
 
 on_link-none : {w : ℕ} (n : ℕ) → on_link {w = w} n [] ≡ []
@@ -119,15 +126,15 @@ empty-more levels i l links link empty lt level_is fresh =
       ];
     }
 
-pub knows-new : {w : ℕ} (m : Monitor w) (levels : List Level) (p : Profile) → m.profile ≡ p
+pub knows-new : {w : ℕ} (m : Monitor w) (levels : List Level) (lib : Liberties) → m.liberties ≡ lib
     → m.closed ≡ false → AreEmpty levels m.links.items
-    → Knows m levels p [] false
-knows-new m levels p profile_is open_still empty = record {
+    → KnowsUnder m levels lib [] false
+knows-new m levels lib liberties_are open_still empty = record {
   levels_are = empty.levels_are;
-  profile_is = profile_is;
+  liberties_are = liberties_are;
   closed_is = open_still;
   links_are = λ n d lt. rw (on_link-none n)
-      (keeps-none (slice_index_or m.links.items n d).state (empty.all_empty n d lt));
+      (keeps-none lib (slice_index_or m.links.items n d).state (empty.all_empty n d lt));
 }
 
 -- the first fault of a trace of which a beginning was judged
@@ -148,49 +155,49 @@ judged {w} i trace x lt is =
     drop_more trace i x lt ∙ ap (λ (y : Link × Beat w). y ∷ drop (i + 1) trace) (sym is) in
     (first, ap reverse more ∙ reverse-append (take i trace) (x ∷ []))
 
-pub known-goes_on : {w : ℕ} (m : Monitor w) (levels : List Level) (p : Profile) (trace : Trace w) (i : ℕ)
+pub known-goes_on : {w : ℕ} (m : Monitor w) (levels : List Level) (lib : Liberties) (trace : Trace w) (i : ℕ)
     (x : Link × Beat w) → i < length trace → x ≡ slice_index_or trace i x
-    → Knows m levels p (x ∷ reverse (take i trace)) false → Knows m levels p (reverse (take (i + 1) trace)) false
-known-goes_on m levels p trace i x lt is k = rw ((judged i trace x lt is).1) k
+    → KnowsUnder m levels lib (x ∷ reverse (take i trace)) false → KnowsUnder m levels lib (reverse (take (i + 1) trace)) false
+known-goes_on m levels lib trace i x lt is k = rw ((judged i trace x lt is).1) k
 
-pub fault-goes_on : {w : ℕ} (levels : List Level) (p : Profile) (trace : Trace w) (i : ℕ) (x : Link × Beat w)
+pub fault-goes_on : {w : ℕ} (levels : List Level) (lib : Liberties) (trace : Trace w) (i : ℕ) (x : Link × Beat w)
     → i < length trace → x ≡ slice_index_or trace i x
-    → fault_of levels p (reverse (take i trace)) false x ≡ None
-    → fault_from levels p (reverse (take i trace)) (drop i trace) ≡ fault_from levels p (reverse (take (i + 1) trace))
+    → fault_under levels lib (reverse (take i trace)) false x ≡ None
+    → fault_from_under lib levels (reverse (take i trace)) (drop i trace) ≡ fault_from_under lib levels (reverse (take (i + 1) trace))
     (drop (i + 1) trace)
-unfolding fault_from
-fault-goes_on levels p trace i x lt is none =
+unfolding fault_from_under
+fault-goes_on levels lib trace i x lt is none =
     let e = judged i trace x lt is in
-    let fine : broken_on_link levels p x (reverse (take i trace)) ≡ None =
-    unbroken (broken_on_link levels p x (reverse (take i trace))) none in
+    let fine : broken_on_link_under lib levels x (reverse (take i trace)) ≡ None =
+    unbroken (broken_on_link_under lib levels x (reverse (take i trace))) none in
     rw (e.0, e.1, fine) refl
 
-fault-found : {w : ℕ} (levels : List Level) (p : Profile) (trace : Trace w) (i : ℕ) (x : Link × Beat w) (r : Rule)
+fault-found : {w : ℕ} (levels : List Level) (lib : Liberties) (trace : Trace w) (i : ℕ) (x : Link × Beat w) (r : Rule)
     → i < length trace → x ≡ slice_index_or trace i x
-    → fault_of levels p (reverse (take i trace)) false x ≡ Some (monitor.Broken r)
-    → fault_from levels p (reverse (take i trace)) (drop i trace) ≡ Some (i, r)
-unfolding fault_from
-fault-found levels p trace i x r lt is found =
+    → fault_under levels lib (reverse (take i trace)) false x ≡ Some (monitor.Broken r)
+    → fault_from_under lib levels (reverse (take i trace)) (drop i trace) ≡ Some (i, r)
+unfolding fault_from_under
+fault-found levels lib trace i x r lt is found =
     let e = judged i trace x lt is in
-    let here : broken_on_link levels p x (reverse (take i trace)) ≡ Some r =
-    broken_by (broken_on_link levels p x (reverse (take i trace))) r found in
+    let here : broken_on_link_under lib levels x (reverse (take i trace)) ≡ Some r =
+    broken_by (broken_on_link_under lib levels x (reverse (take i trace))) r found in
     let count : length (reverse (take i trace)) ≡ i = length-reverse (take i trace) ∙ length-take-le i trace
     (omega arith) in
     rw (e.0, here, count) refl
 
-pub fault-none : {w : ℕ} (levels : List Level) (p : Profile) (trace before : Trace w) (i : ℕ) → length trace ≤ i
-    → fault_from levels p before (drop i trace) ≡ None
-unfolding fault_from
-fault-none levels p trace before i le = rw (drop_all i trace le) refl
+pub fault-none : {w : ℕ} (levels : List Level) (lib : Liberties) (trace before : Trace w) (i : ℕ) → length trace ≤ i
+    → fault_from_under lib levels before (drop i trace) ≡ None
+unfolding fault_from_under
+fault-none levels lib trace before i le = rw (drop_all i trace le) refl
 
-pub fault-answered : {w : ℕ} (levels : List Level) (p : Profile) (beats : Trace w) (i : ℕ) (x : Link × Beat w)
+pub fault-answered : {w : ℕ} (levels : List Level) (lib : Liberties) (beats : Trace w) (i : ℕ) (x : Link × Beat w)
     (e : MonitorFault) → IsCount (length levels) → i < length beats
     → x ≡ slice_index_or beats i x
-    → fault_from levels p [] beats ≡ fault_from levels p (reverse (take i beats)) (drop i beats)
-    → Answers (fault_of levels p (reverse (take i beats)) false x) (Err e)
-    → AnswersTrace levels p beats (Err (trace_fault_of i e))
-fault-answered levels p beats i x (monitor.Broken rule) counted lt is same answer =
-    (counted, same ∙ fault-found levels p beats i x rule lt is answer)
-fault-answered levels p beats i x monitor.Levels counted lt is same answer = counted
-fault-answered levels p beats i x monitor.Memory counted lt is same answer = counted
-fault-answered levels p beats i x monitor.Closed counted lt is same answer = counted
+    → fault_from_under lib levels [] beats ≡ fault_from_under lib levels (reverse (take i beats)) (drop i beats)
+    → Answers (fault_under levels lib (reverse (take i beats)) false x) (Err e)
+    → AnswersTraceUnder levels lib beats (Err (trace_fault_of i e))
+fault-answered levels lib beats i x (monitor.Broken rule) counted lt is same answer =
+    (counted, same ∙ fault-found levels lib beats i x rule lt is answer)
+fault-answered levels lib beats i x monitor.Levels counted lt is same answer = counted
+fault-answered levels lib beats i x monitor.Memory counted lt is same answer = counted
+fault-answered levels lib beats i x monitor.Closed counted lt is same answer = counted

@@ -1,4 +1,5 @@
 pub mod Accesses
+pub mod AtProfile
 pub mod Counts
 pub mod OpenBlocks
 pub mod Granted

@@ -13,7 +13,7 @@ use Rattle.std.proofs.lemmas.Bool.{cases_eq, eq-eqb, ne_eqb}
 use mir.Val.{bool_byte}
 use Rattle.tl_params.specs.declared.perm.Perm.{Perm}
 use Rattle.tl_params.specs.declared.perm.Perm.TheVariants as perm
-use Rattle.tl_rules.specs.declared.past.Probe.{Probe}
+use Rattle.tl_rules.specs.declared.table.PendingProbe.{PendingProbe}
 use Rattle.tl_rules.specs.declared.table.Block.{Block}
 use Rattle.tl_rules.specs.code.Tables.{empty_block}
 use Rattle.tl_monitor.specs.code.Count.{sum_below, one_if}
@@ -55,7 +55,7 @@ open-bytes b h a r p g eh ea er ep eg =
       byte-one (is_some b.grant),
     ) refl
 
-none : (h : Perm) (a r : Bool) (p : Option Probe) (g : Option ℕ) → one_if (is_held h) + one_if a + one_if r + one_if
+none : (h : Perm) (a r : Bool) (p : Option PendingProbe) (g : Option ℕ) → one_if (is_held h) + one_if a + one_if r + one_if
     (is_some p) + one_if (is_some g) ≡ 0
     → record { held = h; acquire = a; release = r; probe = p; grant = g } ≡ empty_block
 none perm.None false false None None e = refl

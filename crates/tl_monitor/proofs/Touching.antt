@@ -7,13 +7,17 @@ use Rattle.tl_beat.specs.declared.beat.Beat.TheVariants.{A, B, C, D, E}
 use Rattle.tl_beat.specs.declared.beat.Link.{Link}
 use Rattle.tl_burst.specs.statement.Messages.{History}
 use Rattle.tl_params.specs.declared.level.Level.{Level}
+use Rattle.tl_params.specs.declared.liberties.Liberties.{Liberties}
 use Rattle.tl_params.specs.declared.profile.Profile.{Profile}
+use Rattle.tl_params.specs.statement.Liberties.{liberties_of}
 use Rattle.tl_params.specs.declared.rule.Rule.TheVariants.{L1}
 use Rattle.tl_rules.specs.declared.table.Block.{Block}
 use Rattle.tl_rules.specs.statement.Conformance.{Trace, on_link, broken_after, broken_on_link, broken_at_level}
 use Rattle.tl_rules.specs.statement.History.{begins, ends, is_acquire, is_probe, is_release_ack, is_grant}
 use Rattle.tl_rules.specs.statement.History.{block_at}
-use Rattle.tl_rules.specs.code.Tables.{kept_block, block_next}
+use Rattle.tl_rules.specs.code.Tables.{block_next, came, kept_block}
+use Rattle.tl_rules.specs.statement.Liberties.{broken_after_under, held_under}
+use Rattle.tl_rules.proofs.Profiles.{after-of, held-of}
 use Rattle.tl_rules.proofs.Tables.{block-next}
 use Rattle.tl_monitor.specs.code.Count.{at}
 use Rattle.tl_monitor.specs.code.LinkState.{touched, is_block, block_of_request, block_of_release}
@@ -50,13 +54,14 @@ left : (here : Bool) (c d : Block) → here ≡ false → (if here then c else d
 left here c d e = rw e refl
 
 -- what is held of the blocks that a beat doesn't touch
-pub unmoved_held : {w : ℕ} (l : Level) (p : Profile) (k : LinkState) (x : Beat w) (t : History w) → Keeps k t
-    → broken_after l p x t ≡ None
-    → LeavesOthers (touched true true x k) x t
-unmoved_held l p k x t keeps legal b apart =
-    ap (λ c. c.held) (block-next b x t ∙ same_touched l p k x t b (begins x t) (ends x t) keeps legal
-    ∙ left (is_block b (touched (begins x t) (ends x t) x k)) (block_next (begins x t) (ends x t) x (kept_block b t))
-    (kept_block b t)
+unmoved_held : {w : ℕ} (lib : Liberties) (l : Level) (k : LinkState) (x : Beat w) (t : History w) → Keeps lib k t
+    → broken_after_under lib l x t ≡ None → (b : ℕ) → is_block b (touched true true x k) ≡ false
+    → held_under lib b (x ∷ t) ≡ held_under lib b t
+unmoved_held lib l k x t keeps legal b apart =
+    ap (λ c. c.held) (block-next lib b x t
+    ∙ same_touched lib l k x t b (begins x t) (ends x t) (came lib x t) keeps legal
+    ∙ left (is_block b (touched (begins x t) (ends x t) x k))
+    (block_next lib (begins x t) (ends x t) (came lib x t) x (kept_block lib b t)) (kept_block lib b t)
     (touched_less (begins x t) (ends x t) x k b apart))
 
 none_beyond : {X : Type 0} (xs : List X) (i : ℕ) → length xs ≤ i → slice_get xs i ≡ None
@@ -84,10 +89,13 @@ pub left_on_link : {w : ℕ} (m : Monitor w) (levels : List Level) (p : Profile)
     → monitored ≡ slice_index_or m.links.items i monitored → block ≡ touched true true x monitored.state
     → broken_on_link levels p (link, x) t ≡ None → LeavesOthers block x (on_link link.0 t)
 left_on_link m levels p t closed i link x monitored block k i_is lt is touched_is fine =
-    let keeps : Keeps monitored.state (on_link link.0 t) =
-    rw (← i_is) (link_state-of m levels p t closed i monitored k lt is) in
-    let below : link.0 < length levels = rw (i_is, count-is m levels p t closed k) at lt in
+    let keeps : Keeps (liberties_of p) monitored.state (on_link link.0 t) =
+    rw (← i_is) (link_state-of m levels (liberties_of p) t closed i monitored k lt is) in
+    let below : link.0 < length levels = rw (i_is, count-is m levels (liberties_of p) t closed k) at lt in
     let level = some_within levels link.0 below in
     let legal : broken_after level.0 p x (on_link link.0 t) ≡ None =
     sym (ap (λ o. broken_at_level o p x (on_link link.0 t)) level.1) ∙ fine in
-    rw touched_is (unmoved_held level.0 p monitored.state x (on_link link.0 t) keeps legal)
+    let unmoved = unmoved_held (liberties_of p) level.0 monitored.state x (on_link link.0 t) keeps
+    (after-of p level.0 x (on_link link.0 t) ∙ legal) in
+    rw touched_is (λ b apart. sym (held-of p b (x ∷ on_link link.0 t)) ∙ unmoved b apart
+    ∙ held-of p b (on_link link.0 t))

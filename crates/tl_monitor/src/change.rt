@@ -1,46 +1,74 @@
 //! What a beat makes of the block that it bears on.
 
-ghost use Rattle.std.specs.Prelude.{Some, ◌≡◌};
+ghost use Rattle.std.specs.Prelude.{Option, Some, ◌≡◌};
 ghost use Rattle.tl_beat.specs.declared.beat.Beat.TheVariants as beat;
-ghost use Rattle.tl_rules.specs.code.Open.{probe_fields};
-ghost use Rattle.tl_rules.specs.code.Tables.{block_next};
+ghost use Rattle.tl_params.specs.declared.perm.Perm.{Perm};
+ghost use Rattle.tl_rules.specs.code.Tables.{block_next, held_with, probe_kept};
 
 use tl_beat::beat::{Beat, BeatA, BeatB, BeatC, BeatD, BeatE};
 use tl_rules::kind::{
-    capped, is_acquire, is_grant, is_probe, is_probe_ack, is_release, is_release_ack, reported,
+    capped, grows_from_none, is_acquire, is_grant, is_probe, is_probe_ack, is_release, is_release_ack, reported,
 };
+use tl_rules::liberties::Liberties;
 use tl_rules::past::Probe;
-use tl_rules::table::Block;
+use tl_rules::perm::Perm;
+use tl_rules::table::{Block, PendingProbe};
 
-fn probe_of<const W: usize>(x: &BeatB<W>) -> Probe
-    ensures { Some result ≡ probe_fields (Some x.now) }
+fn probe_of<const W: usize>(x: &BeatB<W>) -> PendingProbe
+    ensures { Some result ≡ probe_kept (Some x.now) }
 {
-    Probe {
-        opcode: x.opcode,
-        param: x.param,
+    PendingProbe {
+        probe: Probe {
+            opcode: x.opcode,
+            param: x.param,
+        },
+        source: x.source,
     }
 }
 
-fn change_a<const W: usize>(first: bool, last: bool, x: &BeatA<W>, block: &mut Block)
-    ensures { block.new ≡ block_next first last (beat.A x.now) block.old }
+fn change_a<const W: usize>(
+    liberties: Liberties,
+    first: bool,
+    last: bool,
+    x: &BeatA<W>,
+    block: &mut Block,
+)
+    ensures { (came : Option Perm) → block.new ≡ block_next liberties first last came (beat.A x.now) block.old }
 {
-    if first && is_acquire(x.opcode) {
-        block.acquire = true;
+    if !first || !is_acquire(x.opcode) {
+        return;
+    }
+    block.acquire = true;
+    if liberties.drops && last && grows_from_none(x.param) {
+        block.held = Perm::None;
     }
 }
 
-fn change_b<const W: usize>(first: bool, last: bool, x: &BeatB<W>, block: &mut Block)
-    ensures { block.new ≡ block_next first last (beat.B x.now) block.old }
+fn change_b<const W: usize>(
+    liberties: Liberties,
+    first: bool,
+    last: bool,
+    x: &BeatB<W>,
+    block: &mut Block,
+)
+    ensures { (came : Option Perm) → block.new ≡ block_next liberties first last came (beat.B x.now) block.old }
 {
     if first && is_probe(x.opcode) {
         block.probe = Some(probe_of(x));
     }
 }
 
-fn change_c<const W: usize>(first: bool, last: bool, x: &BeatC<W>, block: &mut Block)
-    ensures { block.new ≡ block_next first last (beat.C x.now) block.old }
+fn change_c<const W: usize>(
+    liberties: Liberties,
+    first: bool,
+    last: bool,
+    x: &BeatC<W>,
+    block: &mut Block,
+)
+    ensures { (came : Option Perm) → block.new ≡ block_next liberties first last came (beat.C x.now) block.old }
 {
-    if last && (is_probe_ack(x.opcode) || is_release(x.opcode)) {
+    let answered = liberties.early && is_release(x.opcode) && !first && !block.release;
+    if !answered && last && (is_probe_ack(x.opcode) || is_release(x.opcode)) {
         block.held = reported(x.param);
     }
     if first && is_release(x.opcode) {
@@ -51,11 +79,48 @@ fn change_c<const W: usize>(first: bool, last: bool, x: &BeatC<W>, block: &mut B
     }
 }
 
-fn change_d<const W: usize>(first: bool, last: bool, x: &BeatD<W>, block: &mut Block)
-    ensures { block.new ≡ block_next first last (beat.D x.now) block.old }
+/// What is held of a block after a response that completes its message or doesn't, where `came` is what the
+/// Release leaves that the response answers before its end.
+fn held_with<const W: usize>(
+    liberties: Liberties,
+    first: bool,
+    last: bool,
+    came: Option<Perm>,
+    x: &BeatD<W>,
+    block: &Block,
+) -> Perm
+    ensures { result ≡ held_with liberties first last came x.now block.now }
 {
+    if liberties.denied && x.denied {
+        return block.held;
+    }
+    if liberties.early && is_grant(x.opcode) && !first && block.grant.is_none() {
+        return block.held;
+    }
+    if liberties.early && is_release_ack(x.opcode) {
+        return match came {
+            Some(left) if last => left,
+            _ => block.held,
+        };
+    }
     if last && is_grant(x.opcode) {
-        block.held = capped(x.param);
+        return capped(x.param);
+    }
+    block.held
+}
+
+fn change_d<const W: usize>(
+    liberties: Liberties,
+    first: bool,
+    last: bool,
+    came: Option<Perm>,
+    x: &BeatD<W>,
+    block: &mut Block,
+)
+    ensures { block.new ≡ block_next liberties first last came (beat.D x.now) block.old }
+{
+    block.held = held_with(liberties, first, last, came, x, block);
+    if last && is_grant(x.opcode) {
         block.acquire = false;
     }
     if last && is_release_ack(x.opcode) {
@@ -66,24 +131,44 @@ fn change_d<const W: usize>(first: bool, last: bool, x: &BeatD<W>, block: &mut B
     }
 }
 
-fn change_e(first: bool, last: bool, x: &BeatE, block: &mut Block)
-    ensures { block.new ≡ block_next {w = 8} first last (beat.E x.now) block.old }
+fn change_e(
+    liberties: Liberties,
+    first: bool,
+    last: bool,
+    came: Option<Perm>,
+    x: &BeatE,
+    block: &mut Block,
+)
+    ensures { block.new ≡ block_next {w = 8} liberties first last came (beat.E x.now) block.old }
 {
-    if last && block.grant == Some(x.sink) {
-        block.grant = None;
+    if !last || block.grant != Some(x.sink) {
+        return;
+    }
+    block.grant = None;
+    if liberties.early {
+        if let Some(given) = came {
+            block.held = given;
+        }
     }
 }
 
 /// Makes of a block what a beat does that bears on it, where it begins a message or doesn't, and
-/// completes it or doesn't.
-pub fn change_block<const W: usize>(first: bool, last: bool, beat: &Beat<W>, block: &mut Block)
-    ensures { block.new ≡ block_next first last beat.now block.old }
+/// completes it or doesn't. `came` is what the message gives that this one answers before its end.
+pub fn change_block<const W: usize>(
+    liberties: Liberties,
+    first: bool,
+    last: bool,
+    came: Option<Perm>,
+    beat: &Beat<W>,
+    block: &mut Block,
+)
+    ensures { block.new ≡ block_next liberties first last came beat.now block.old }
 {
     match beat {
-        Beat::A(x) => change_a(first, last, x, block),
-        Beat::B(x) => change_b(first, last, x, block),
-        Beat::C(x) => change_c(first, last, x, block),
-        Beat::D(x) => change_d(first, last, x, block),
-        Beat::E(x) => change_e(first, last, x, block),
+        Beat::A(x) => change_a(liberties, first, last, x, block),
+        Beat::B(x) => change_b(liberties, first, last, x, block),
+        Beat::C(x) => change_c(liberties, first, last, x, block),
+        Beat::D(x) => change_d(liberties, first, last, came, x, block),
+        Beat::E(x) => change_e(liberties, first, last, came, x, block),
     }
 }

@@ -6,8 +6,8 @@ ghost use Rattle.tl_beat.specs.statement.Width.{IsWidth};
 ghost use Rattle.tl_burst.specs.statement.Messages.{History};
 ghost use Rattle.tl_burst.specs.statement.Part.{is_small};
 ghost use Rattle.tl_params.specs.declared.level.Level.{Level};
-ghost use Rattle.tl_params.specs.declared.profile.Profile.{Profile};
-ghost use Rattle.tl_rules.specs.statement.Conformance;
+ghost use Rattle.tl_params.specs.declared.liberties.Liberties.{Liberties};
+ghost use Rattle.tl_rules.specs.statement.Liberties.{broken_after_under, broken_in_order_under};
 ghost use Rattle.tl_monitor.specs.code.Lawful.{IsLawful};
 ghost use Rattle.tl_monitor.specs.code.LinkState.{is_first, IsNext};
 ghost use Rattle.tl_monitor.specs.code.Keeps.{Keeps, answered, Takes, TakesBeat};
@@ -16,15 +16,15 @@ ghost use Rattle.tl_rules.specs.statement.History.{is_acquire};
 ghost use Rattle.tl_beat.specs.declared.beat.Beat.TheVariants.{A, D};
 
 use crate::link_state::{LinkState, is_access};
+use crate::past::KeptUnder;
 use std::alloc::AllocError;
 use tl_beat::beat::{Beat, BeatA, BeatD};
 use tl_burst::burst::burst_length;
 use tl_rules::kind::{answers, is_acquire};
-use tl_rules::legality::beat::check_beat;
+use tl_rules::legality::beat::check_beat_under;
 use tl_rules::level::Level;
-use tl_rules::order::broken_order;
-use tl_rules::past::Past;
-use tl_rules::profile::Profile;
+use tl_rules::liberties::Liberties;
+use tl_rules::order::broken_order_under;
 use tl_rules::rule::Rule;
 
 impl LinkState {
@@ -37,9 +37,9 @@ impl LinkState {
         requires first { is_first beat.now self.old ≡ true }
         requires same { beat.now ≡ A x.now }
         requires access { is_acquire x.now.opcode ≡ false }
-        ensures rule { (p : Profile) (t : History W) → Keeps self.old t →
-            result ≡ Conformance.broken_in_order p beat.now t }
-        ensures takes { Takes self.old beat.now self.new result }
+        ensures rule { (l : Liberties) (t : History W) → Keeps l self.old t →
+            result ≡ broken_in_order_under l beat.now t }
+        ensures takes { (l : Liberties) → Takes l self.old beat.now self.new result }
     {
         if self.requests.get(x.source).is_some() {
             return Some(Rule::H1);
@@ -50,17 +50,22 @@ impl LinkState {
 
     /// The same of an answer that bears on no block.
     #[inline(always)]
-    fn begin_answer<const W: usize>(&mut self, x: &BeatD<W>, beat: &Beat<W>) -> Option<Rule>
+    fn begin_answer<const W: usize>(
+        &mut self,
+        liberties: Liberties,
+        x: &BeatD<W>,
+        beat: &Beat<W>,
+    ) -> Option<Rule>
         requires width { IsWidth W }
         requires small { IsTrue (is_small beat.now) }
         requires first { is_first beat.now self.old ≡ true }
         requires same { beat.now ≡ D x.now }
         requires access { is_access x.now.opcode ≡ true }
-        ensures rule { (p : Profile) (t : History W) → Keeps self.old t →
-            result ≡ Conformance.broken_in_order p beat.now t }
-        ensures takes { Takes self.old beat.now self.new result }
+        ensures rule { (t : History W) → Keeps liberties self.old t →
+            result ≡ broken_in_order_under liberties beat.now t }
+        ensures takes { Takes liberties self.old beat.now self.new result }
     {
-        let Some(request) = Past::<W>::request(self, x.source) else {
+        let Some(request) = self.open_request::<W>(liberties.early, x.source) else {
             return Some(Rule::H2);
         };
         if !answers(x.opcode, request.opcode) {
@@ -77,24 +82,34 @@ impl LinkState {
     /// takes it.
     fn begin<const W: usize>(
         &mut self,
-        profile: Profile,
+        liberties: Liberties,
         beat: &Beat<W>,
     ) -> Result<Option<Rule>, AllocError>
         requires width { IsWidth W }
         requires small { IsTrue (is_small beat.now) }
         requires first { is_first beat.now self.old ≡ true }
-        ensures rule { (t : History W) → Keeps self.old t →
-            answered result ≡ Conformance.broken_in_order profile beat.now t }
-        ensures takes { TakesBeat self.old beat.now self.new result }
+        ensures rule { (t : History W) → Keeps liberties self.old t →
+            answered result ≡ broken_in_order_under liberties beat.now t }
+        ensures takes { TakesBeat liberties self.old beat.now self.new result }
     {
         match beat {
             Beat::A(x) if !is_acquire(x.opcode) => Ok(self.begin_request(x, beat)),
-            Beat::D(x) if is_access(x.opcode) => Ok(self.begin_answer(x, beat)),
-            Beat::A(_) => self.begin_transfer(profile, beat),
-            Beat::B(_) => self.begin_transfer(profile, beat),
-            Beat::C(_) => self.begin_transfer(profile, beat),
-            Beat::D(_) => self.begin_transfer(profile, beat),
-            Beat::E(_) => self.begin_transfer(profile, beat),
+            Beat::D(x) if is_access(x.opcode) => Ok(self.begin_answer(liberties, x, beat)),
+            Beat::A(_) => self.begin_transfer(liberties, beat),
+            Beat::B(_) => self.begin_transfer(liberties, beat),
+            Beat::C(_) => self.begin_transfer(liberties, beat),
+            Beat::D(_) => self.begin_transfer(liberties, beat),
+            Beat::E(_) => self.begin_transfer(liberties, beat),
+        }
+    }
+
+    /// Has questions of a block search no more.
+    #[inline(always)]
+    fn cache(&mut self, block: Option<u32>)
+        ensures { self.new ≡ self.old }
+    {
+        if let Some(block) = block {
+            self.blocks.cache_block(block);
         }
     }
 
@@ -102,37 +117,43 @@ impl LinkState {
     #[inline(always)]
     fn begin_transfer<const W: usize>(
         &mut self,
-        profile: Profile,
+        liberties: Liberties,
         beat: &Beat<W>,
     ) -> Result<Option<Rule>, AllocError>
         requires width { IsWidth W }
         requires small { IsTrue (is_small beat.now) }
         requires first { is_first beat.now self.old ≡ true }
-        ensures rule { (t : History W) → Keeps self.old t →
-            answered result ≡ Conformance.broken_in_order profile beat.now t }
-        ensures takes { TakesBeat self.old beat.now self.new result }
+        ensures rule { (t : History W) → Keeps liberties self.old t →
+            answered result ≡ broken_in_order_under liberties beat.now t }
+        ensures takes { TakesBeat liberties self.old beat.now self.new result }
     {
         let last = burst_length(beat) <= 1;
         let block = self.touched(true, last, beat);
-        if let Some(block) = block {
-            self.blocks.cache_block(block);
-        }
-        if let Some(rule) = broken_order(profile, beat, self) {
+        self.cache(block);
+        let past = KeptUnder {
+            liberties,
+            state: self,
+        };
+        if let Some(rule) = broken_order_under(liberties, beat, &past) {
             return Ok(Some(rule));
         }
-        self.take(true, last, beat, block)?;
+        self.take(liberties, true, last, beat, block)?;
         Ok(None)
     }
 
     /// The rule of bursts that a later beat of a message breaks, or none, and then takes it.
     #[inline(always)]
-    fn go_on_in_arm<const W: usize>(&mut self, beat: &Beat<W>) -> Result<Option<Rule>, AllocError>
+    fn go_on_in_arm<const W: usize>(
+        &mut self,
+        liberties: Liberties,
+        beat: &Beat<W>,
+    ) -> Result<Option<Rule>, AllocError>
         requires width { IsWidth W }
         requires small { IsTrue (is_small beat.now) }
         requires later { is_first beat.now self.old ≡ false }
-        ensures rule { (p : Profile) (t : History W) → Keeps self.old t →
-            answered result ≡ Conformance.broken_in_order p beat.now t }
-        ensures takes { TakesBeat self.old beat.now self.new result }
+        ensures rule { (t : History W) → Keeps liberties self.old t →
+            answered result ≡ broken_in_order_under liberties beat.now t }
+        ensures takes { TakesBeat liberties self.old beat.now self.new result }
     {
         let Some(burst) = self.bursts.of(beat) else {
             return Ok(None);
@@ -145,25 +166,29 @@ impl LinkState {
             return Ok(None);
         }
         let block = self.touched(false, true, beat);
-        self.take(false, true, beat, block)?;
+        self.take(liberties, false, true, beat, block)?;
         Ok(None)
     }
 
     /// The same, put into an arm for each channel, so that the ways of the other channels drop out there.
-    fn go_on<const W: usize>(&mut self, beat: &Beat<W>) -> Result<Option<Rule>, AllocError>
+    fn go_on<const W: usize>(
+        &mut self,
+        liberties: Liberties,
+        beat: &Beat<W>,
+    ) -> Result<Option<Rule>, AllocError>
         requires width { IsWidth W }
         requires small { IsTrue (is_small beat.now) }
         requires later { is_first beat.now self.old ≡ false }
-        ensures rule { (p : Profile) (t : History W) → Keeps self.old t →
-            answered result ≡ Conformance.broken_in_order p beat.now t }
-        ensures takes { TakesBeat self.old beat.now self.new result }
+        ensures rule { (t : History W) → Keeps liberties self.old t →
+            answered result ≡ broken_in_order_under liberties beat.now t }
+        ensures takes { TakesBeat liberties self.old beat.now self.new result }
     {
         match beat {
-            Beat::A(_) => self.go_on_in_arm(beat),
-            Beat::B(_) => self.go_on_in_arm(beat),
-            Beat::C(_) => self.go_on_in_arm(beat),
-            Beat::D(_) => self.go_on_in_arm(beat),
-            Beat::E(_) => self.go_on_in_arm(beat),
+            Beat::A(_) => self.go_on_in_arm(liberties, beat),
+            Beat::B(_) => self.go_on_in_arm(liberties, beat),
+            Beat::C(_) => self.go_on_in_arm(liberties, beat),
+            Beat::D(_) => self.go_on_in_arm(liberties, beat),
+            Beat::E(_) => self.go_on_in_arm(liberties, beat),
         }
     }
 
@@ -171,11 +196,11 @@ impl LinkState {
     /// nor denied is set: whether it was taken. Otherwise nothing changes. It breaks no rule, as those before it break none.
     fn goes_on<const W: usize>(&mut self, beat: &Beat<W>) -> bool
         requires { IsWidth W }
-        ensures rule { OnTrue result ((level : Level) (p : Profile) (t : History W) →
-            IsLawful W level self.old.bursts.d → Keeps self.old t → None ≡ Conformance.broken_after level p beat.now t) }
-        ensures next { OnTrue result (IsNext self.old beat.now self.new) }
-        ensures lawful { OnTrue result ((level : Level) →
-            IsLawful W level self.old.bursts.d → IsLawful W level self.new.bursts.d) }
+        ensures rule { OnTrue result ((l : Liberties) (level : Level) (t : History W) →
+            IsLawful W l level self.old.bursts.d → Keeps l self.old t → None ≡ broken_after_under l level beat.now t) }
+        ensures next { OnTrue result ((l : Liberties) → IsNext l self.old beat.now self.new) }
+        ensures lawful { OnTrue result ((l : Liberties) (level : Level) →
+            IsLawful W l level self.old.bursts.d → IsLawful W l level self.new.bursts.d) }
         ensures unchanged { OnFalse result (self.new ≡ self.old) }
     {
         let Beat::D(response) = beat else {
@@ -197,29 +222,29 @@ impl LinkState {
 
     /// The first rule that a beat breaks on a link of this level, or none, and then takes it. Without memory
     /// nothing changes.
-    #[tactic(auto, unfolding(tl_rules::specs::statement::Conformance::broken_after))]
+    #[tactic(auto, unfolding(tl_rules::specs::statement::Liberties::broken_after_under))]
     pub fn push<const W: usize>(
         &mut self,
+        liberties: Liberties,
         level: Level,
-        profile: Profile,
         beat: &Beat<W>,
     ) -> Result<Option<Rule>, AllocError>
         requires { IsWidth W }
-        ensures rule { (t : History W) → IsLawful W level self.old.bursts.d → Keeps self.old t →
-            answered result ≡ Conformance.broken_after level profile beat.now t }
-        ensures takes { TakesBeat self.old beat.now self.new result }
-        ensures lawful { IsLawful W level self.old.bursts.d → IsLawful W level self.new.bursts.d }
+        ensures rule { (t : History W) → IsLawful W liberties level self.old.bursts.d → Keeps liberties self.old t →
+            answered result ≡ broken_after_under liberties level beat.now t }
+        ensures takes { TakesBeat liberties self.old beat.now self.new result }
+        ensures lawful { IsLawful W liberties level self.old.bursts.d → IsLawful W liberties level self.new.bursts.d }
     {
         if self.goes_on(beat) {
             return Ok(None);
         }
-        match check_beat(level, beat.channel(), beat) {
+        match check_beat_under(liberties, level, beat.channel(), beat) {
             Err(rule) => Ok(Some(rule)),
             Ok(()) => {
                 if self.bursts.begins(beat) {
-                    self.begin(profile, beat)
+                    self.begin(liberties, beat)
                 } else {
-                    self.go_on(beat)
+                    self.go_on(liberties, beat)
                 }
             }
         }

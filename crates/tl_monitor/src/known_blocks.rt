@@ -11,6 +11,8 @@ use crate::change::change_block;
 use std::alloc::{AllocError, Global};
 use std::marker::Model;
 use tl_beat::beat::Beat;
+use tl_rules::liberties::Liberties;
+use tl_rules::perm::Perm;
 use tl_rules::table::Block;
 
 /// What is open or held of blocks. Of these the one that came last is stored only when another comes: many
@@ -68,21 +70,23 @@ impl KnownBlocks {
     #[inline(never)]
     fn change_other<const W: usize>(
         &mut self,
+        liberties: Liberties,
         block: u32,
         first: bool,
         last: bool,
+        came: Option<Perm>,
         beat: &Beat<W>,
     ) -> Result<(), AllocError>
         requires { block ≢ self.old.newest }
         ensures changed { OnOk result ((k : ℕ) → known_in self.new k ≡
-            (if k == block then block_next first last beat.now (known_in self.old k) else known_in self.old k)) }
+            (if k == block then block_next liberties first last came beat.now (known_in self.old k) else known_in self.old k)) }
         ensures unchanged { OnErr result (self.new ≡ self.old) }
         ensures new { OnErr result ((known_in self.old block ≡ empty_block)
-            × (0 < open_of (block_next first last beat.now (known_in self.old block)))) }
+            × (0 < open_of (block_next liberties first last came beat.now (known_in self.old block)))) }
     {
         let old = self.stored.get(block);
         let mut value = old;
-        change_block(first, last, beat, &mut value);
+        change_block(liberties, first, last, came, beat, &mut value);
         if open_of(&value) == 0 || open_of(&old) > 0 {
             return self.stored.set(block, value);
         }
@@ -97,22 +101,24 @@ impl KnownBlocks {
     #[inline(always)]
     pub fn change<const W: usize>(
         &mut self,
+        liberties: Liberties,
         block: u32,
         first: bool,
         last: bool,
+        came: Option<Perm>,
         beat: &Beat<W>,
     ) -> Result<(), AllocError>
         ensures changed { OnOk result ((k : ℕ) → known_in self.new k ≡
-            (if k == block then block_next first last beat.now (known_in self.old k) else known_in self.old k)) }
+            (if k == block then block_next liberties first last came beat.now (known_in self.old k) else known_in self.old k)) }
         ensures unchanged { OnErr result (self.new ≡ self.old) }
         ensures new { OnErr result ((known_in self.old block ≡ empty_block)
-            × (0 < open_of (block_next first last beat.now (known_in self.old block)))) }
+            × (0 < open_of (block_next liberties first last came beat.now (known_in self.old block)))) }
     {
         if block == self.newest {
-            change_block(first, last, beat, &mut self.value);
+            change_block(liberties, first, last, came, beat, &mut self.value);
             return Ok(());
         }
-        self.change_other(block, first, last, beat)
+        self.change_other(liberties, block, first, last, came, beat)
     }
 
     /// How many keys of blocks are pending, and blocks held.

@@ -13,16 +13,23 @@ ghost use Rattle.tl_monitor.specs.code.Blocks.{open_of};
 ghost use Rattle.tl_monitor.specs.code.KnownBlocks.{known_in};
 ghost use Rattle.tl_monitor.specs.code.LinkState.{is_access, is_block, is_first, completes, sink_with, touched};
 ghost use Rattle.tl_monitor.specs.code.LinkState.{block_of_request, block_of_release, entries_in, IsNext, OpensBlock, IsEmpty};
+ghost use Rattle.tl_monitor.specs.code.LinkState.{came_in, given_by_control, left_by_control, of_burst};
+ghost use Rattle.tl_params.specs.declared.liberties.Liberties.{Liberties};
 
-use crate::bursts::Bursts;
+use crate::bursts::{Bursts, Unfinished};
 use crate::byte_table::ByteTable;
 use crate::known_blocks::KnownBlocks;
 use std::alloc::{AllocError, Global};
 use tl_beat::beat::{Beat, BeatA, BeatC, BeatD};
+use tl_beat::control::Control;
 use tl_beat::opcode::OpD;
 use tl_rules::key::block_at;
-use tl_rules::kind::{is_acquire, is_grant, is_probe, is_release, is_release_ack};
+use tl_rules::kind::{
+    capped, is_acquire, is_grant, is_probe, is_release, is_release_ack, reported,
+};
+use tl_rules::liberties::Liberties;
 use tl_rules::past::Request;
+use tl_rules::perm::Perm;
 use tl_rules::table::Release;
 
 /// What is kept of a link: the bursts that are unfinished, and what is pending with the control fields
@@ -61,22 +68,24 @@ fn release_of<const W: usize>(x: &BeatC<W>) -> Release
 #[inline(always)]
 fn update_block<const W: usize>(
     blocks: &mut KnownBlocks,
+    liberties: Liberties,
     first: bool,
     last: bool,
+    came: Option<Perm>,
     beat: &Beat<W>,
     block: Option<u32>,
 ) -> Result<(), AllocError>
     ensures next { OnOk result ((b : ℕ) → known_in blocks.new b ≡
-        (if is_block b block then Tables.block_next first last beat.now (known_in blocks.old b) else known_in blocks.old
+        (if is_block b block then Tables.block_next liberties first last came beat.now (known_in blocks.old b) else known_in blocks.old
         b)) }
     ensures unchanged { OnErr result (blocks.new ≡ blocks.old) }
     ensures new { OnErr result (IfSome block (λ b. (known_in blocks.old b ≡ empty_block)
-        × (0 < open_of (Tables.block_next first last beat.now (known_in blocks.old b))))) }
+        × (0 < open_of (Tables.block_next liberties first last came beat.now (known_in blocks.old b))))) }
     ensures some { OnErr result (is_some block ≡ true) }
 {
     match block {
         None => Ok(()),
-        Some(block) => blocks.change(block, first, last, beat),
+        Some(block) => blocks.change(liberties, block, first, last, came, beat),
     }
 }
 
@@ -127,6 +136,51 @@ impl LinkState {
             Beat::C(x) if first || last => Some(block_at(x.address)),
             Beat::D(x) if first || last => self.answered(x),
             Beat::E(x) => self.sinks.get(x.sink),
+            _ => None,
+        }
+    }
+
+    /// What the message gives that a beat answers before its end, on a link that may have that.
+    #[inline(always)]
+    fn came<const W: usize>(&self, liberties: Liberties, beat: &Beat<W>) -> Option<Perm>
+        ensures { result ≡ came_in liberties beat.now self.now }
+    {
+        if !liberties.early {
+            return None;
+        }
+        match beat {
+            Beat::D(x) => self.left_early(x.source),
+            Beat::E(x) => self.given_early(x.sink),
+            _ => None,
+        }
+    }
+
+    /// What the Release with this source leaves that is unfinished.
+    fn left_early(&self, source: u8) -> Option<Perm>
+        ensures { result ≡ of_burst (left_by_control source) self.now.bursts.c }
+    {
+        match &self.bursts.c {
+            Some(
+                Unfinished {
+                    control: Control::C(x),
+                    ..
+                },
+            ) if is_release(x.opcode) && x.source == source => Some(reported(x.param)),
+            _ => None,
+        }
+    }
+
+    /// What the Grant with this sink gives that is unfinished.
+    fn given_early(&self, sink: u8) -> Option<Perm>
+        ensures { result ≡ of_burst (given_by_control sink) self.now.bursts.d }
+    {
+        match &self.bursts.d {
+            Some(
+                Unfinished {
+                    control: Control::D(x),
+                    ..
+                },
+            ) if is_grant(x.opcode) && x.sink == sink && !x.denied => Some(capped(x.param)),
             _ => None,
         }
     }
@@ -192,7 +246,7 @@ impl LinkState {
         requires first { first ≡ is_first beat.now self.old }
         requires last { last ≡ completes beat.now self.old }
         requires access { touched first last beat.now self.old ≡ None }
-        ensures { IsNext self.old beat.now self.new }
+        ensures { (l : Liberties) → IsNext l self.old beat.now self.new }
     {
         self.update_keys(first, last, beat, None);
         if first && last {
@@ -207,6 +261,7 @@ impl LinkState {
     #[inline(always)]
     pub fn take<const W: usize>(
         &mut self,
+        liberties: Liberties,
         first: bool,
         last: bool,
         beat: &Beat<W>,
@@ -217,11 +272,12 @@ impl LinkState {
         requires first { first ≡ is_first beat.now self.old }
         requires last { last ≡ completes beat.now self.old }
         requires block { block ≡ touched first last beat.now self.old }
-        ensures next { OnOk result (IsNext self.old beat.now self.new) }
+        ensures next { OnOk result (IsNext liberties self.old beat.now self.new) }
         ensures unchanged { OnErr result (self.new ≡ self.old) }
-        ensures new { OnErr result ((b : ℕ) × OpensBlock self.old beat.now b) }
+        ensures new { OnErr result ((b : ℕ) × OpensBlock liberties self.old beat.now b) }
     {
-        update_block(&mut self.blocks, first, last, beat, block)?;
+        let came = self.came(liberties, beat);
+        update_block(&mut self.blocks, liberties, first, last, came, beat, block)?;
         self.update_keys(first, last, beat, block);
         if first && last {
             return Ok(());

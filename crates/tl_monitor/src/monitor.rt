@@ -4,6 +4,7 @@ ghost use Rattle.std.specs.Prelude.{Bool, None, List, IfOk, ◌≡◌};
 ghost use Rattle.tl_beat.specs.declared.beat.Beat.{Beat};
 ghost use Rattle.tl_beat.specs.statement.Width.{IsWidth};
 ghost use Rattle.tl_params.specs.declared.level.Level.{Level};
+ghost use Rattle.tl_params.specs.declared.liberties.Liberties.{Liberties};
 ghost use Rattle.tl_params.specs.declared.profile.Profile.{Profile};
 ghost use Rattle.tl_monitor.specs.code.Lawful.{AreLawful};
 ghost use Rattle.tl_rules.specs.statement.Conformance.{Trace, broken_on_link, on_link};
@@ -14,7 +15,8 @@ use std::alloc::{AllocError, Global};
 use tl_beat::beat::{Beat, Link};
 use tl_rules::config::MOST_CLIENTS;
 use tl_rules::level::Level;
-use tl_rules::past::{Past, Request};
+use tl_rules::liberties::Liberties;
+use tl_rules::past::Request;
 use tl_rules::perm::Perm;
 use tl_rules::profile::Profile;
 use tl_rules::rule::Rule;
@@ -24,9 +26,9 @@ use tl_rules::rule::Rule;
 #[derive(Drop)]
 pub struct Monitor<const W: usize> {
     links: Vec<MonitoredLink>,
-    profile: Profile,
+    liberties: Liberties,
     closed: bool,
-    ghost lawful: { AreLawful W links.items },
+    ghost lawful: { AreLawful W liberties links.items },
 }
 
 /// A link of a monitor: its level, and what is kept of the beats that it has carried.
@@ -38,8 +40,9 @@ pub struct MonitoredLink {
 
 impl<const W: usize> Monitor<W> {
     ghost use Rattle.tl_monitor.specs.statement.Granting.{coming_on, granted_on};
-    ghost use Rattle.tl_monitor.specs.statement.Numbers.{IsMoreWhereRefused, entry_count};
-    ghost use Rattle.tl_monitor.specs.statement.Knows.{Knows, IsNew, Answers, fault_of, recorded_after, closed_after};
+    ghost use Rattle.tl_monitor.specs.statement.Numbers.{IsMoreUnder, IsMoreWhereRefused, entry_count};
+    ghost use Rattle.tl_monitor.specs.statement.Knows.{Knows, KnowsUnder, IsNew, IsNewUnder, Answers};
+    ghost use Rattle.tl_monitor.specs.statement.Knows.{fault_of, fault_under, recorded_after, closed_after, held_on_under};
     ghost use Rattle.tl_monitor.specs.statement.Knows.{request_on, held_on, begins_on, LeavesOthers, AreEmpty};
 
     /// Links of these levels that have carried nothing.
@@ -61,6 +64,18 @@ impl<const W: usize> Monitor<W> {
         requires { IsWidth W }
         ensures { IsNew levels.now profile result }
     {
+        Self::with_liberties(alloc, levels, Liberties::of(profile))
+    }
+
+    /// The same of links with these liberties.
+    pub fn with_liberties(
+        alloc: Global,
+        levels: &[Level],
+        liberties: Liberties,
+    ) -> Result<Self, MonitorFault>
+        requires { IsWidth W }
+        ensures { IsNewUnder levels.now liberties result }
+    {
         if levels.is_empty() || levels.len() > MOST_CLIENTS {
             return Err(MonitorFault::Levels);
         }
@@ -69,7 +84,7 @@ impl<const W: usize> Monitor<W> {
         };
         Ok(Monitor {
             links,
-            profile,
+            liberties,
             closed: false,
         })
     }
@@ -88,6 +103,32 @@ impl<const W: usize> Monitor<W> {
         ensures memory { (levels : List Level) (p : Profile) (t : Trace W) (closed : Bool) →
             Knows self.old levels p t closed →
             IsMoreWhereRefused (on_link link.0 t) beat.now result }
+        ensures answer_under { (levels : List Level) (l : Liberties) (t : Trace W) (closed : Bool) →
+            KnowsUnder self.old levels l t closed →
+            Answers (fault_under levels l t closed (link, beat.now)) result }
+        ensures knows_under { (levels : List Level) (l : Liberties) (t : Trace W) (closed : Bool) →
+            KnowsUnder self.old levels l t closed →
+            KnowsUnder self.new levels l (recorded_after result (link, beat.now) t) (closed_after result) }
+        ensures memory_under { (levels : List Level) (l : Liberties) (t : Trace W) (closed : Bool) →
+            KnowsUnder self.old levels l t closed →
+            IsMoreUnder l (on_link link.0 t) beat.now result }
+    {
+        self.judge(link, beat)
+    }
+
+    /// `push`, by what it says under liberties.
+    #[inline(always)]
+    fn judge(&mut self, link: Link, beat: &Beat<W>) -> Result<(), MonitorFault>
+        requires { IsWidth W }
+        ensures answer { (levels : List Level) (l : Liberties) (t : Trace W) (closed : Bool) →
+            KnowsUnder self.old levels l t closed →
+            Answers (fault_under levels l t closed (link, beat.now)) result }
+        ensures knows { (levels : List Level) (l : Liberties) (t : Trace W) (closed : Bool) →
+            KnowsUnder self.old levels l t closed →
+            KnowsUnder self.new levels l (recorded_after result (link, beat.now) t) (closed_after result) }
+        ensures memory { (levels : List Level) (l : Liberties) (t : Trace W) (closed : Bool) →
+            KnowsUnder self.old levels l t closed →
+            IsMoreUnder l (on_link link.0 t) beat.now result }
     {
         if self.closed {
             return Err(MonitorFault::Closed);
@@ -98,7 +139,7 @@ impl<const W: usize> Monitor<W> {
             return Err(MonitorFault::Broken(Rule::L1));
         }
         let monitored = &mut self.links[n];
-        match monitored.state.push(monitored.level, self.profile, beat) {
+        match monitored.state.push(self.liberties, monitored.level, beat) {
             Ok(None) => Ok(()),
             Ok(Some(rule)) => {
                 self.closed = true;
@@ -110,35 +151,48 @@ impl<const W: usize> Monitor<W> {
 
     /// The request with this source that is pending and complete on a link; none on a link without a level.
     pub fn request(&self, link: Link, source: u8) -> Option<Request>
-        ensures { (levels : List Level) (p : Profile) (t : Trace W) (closed : Bool) →
-            Knows self.now levels p t closed →
+        ensures { (levels : List Level) (l : Liberties) (t : Trace W) (closed : Bool) →
+            KnowsUnder self.now levels l t closed →
             result ≡ request_on levels link source t }
     {
         let n = usize::from(link.0);
         if n >= self.links.len() {
             return None;
         }
-        Past::<W>::request(&self.links[n].state, source)
+        self.links[n].state.open_request::<W>(false, source)
     }
 
     /// What is held of a block on a link; nothing on a link without a level.
     pub fn held(&self, link: Link, block: u32) -> Perm
-        ensures { (levels : List Level) (p : Profile) (t : Trace W) (closed : Bool) →
+        ensures profile { (levels : List Level) (p : Profile) (t : Trace W) (closed : Bool) →
             Knows self.now levels p t closed →
             result ≡ held_on levels link block t }
+        ensures under { (levels : List Level) (l : Liberties) (t : Trace W) (closed : Bool) →
+            KnowsUnder self.now levels l t closed →
+            result ≡ held_on_under l levels link block t }
+    {
+        self.kept_perm(link, block)
+    }
+
+    /// `held`, by what it says under liberties.
+    #[inline(always)]
+    fn kept_perm(&self, link: Link, block: u32) -> Perm
+        ensures { (levels : List Level) (l : Liberties) (t : Trace W) (closed : Bool) →
+            KnowsUnder self.now levels l t closed →
+            result ≡ held_on_under l levels link block t }
     {
         let n = usize::from(link.0);
         if n >= self.links.len() {
             return Perm::None;
         }
-        Past::<W>::held(&self.links[n].state, block)
+        self.links[n].state.blocks.get(block).held
     }
 
     /// The permission that the unfinished Grant of a block gives on a link, where one has begun that isn't denied;
     /// nothing on a link without a level.
     pub fn coming(&self, link: Link, block: u32) -> Option<Perm>
-        ensures { (levels : List Level) (p : Profile) (t : Trace W) (closed : Bool) →
-            Knows self.now levels p t closed →
+        ensures { (levels : List Level) (l : Liberties) (t : Trace W) (closed : Bool) →
+            KnowsUnder self.now levels l t closed →
             result ≡ coming_on levels link block t }
     {
         let n = usize::from(link.0);
@@ -163,8 +217,8 @@ impl<const W: usize> Monitor<W> {
 
     /// Whether a beat begins a message on its link; on a link without a level none does.
     pub fn begins(&self, link: Link, beat: &Beat<W>) -> bool
-        ensures { (levels : List Level) (p : Profile) (t : Trace W) (closed : Bool) →
-            Knows self.now levels p t closed →
+        ensures { (levels : List Level) (l : Liberties) (t : Trace W) (closed : Bool) →
+            KnowsUnder self.now levels l t closed →
             result ≡ begins_on levels link beat.now t }
     {
         let n = usize::from(link.0);

@@ -1,6 +1,10 @@
 //! What the order of messages asks of a link, answered from what is kept of it.
 
 ghost use Rattle.std.specs.Prelude.{Option, ◌≡◌};
+ghost use Rattle.tl_burst.specs.statement.Messages.{History};
+ghost use Rattle.tl_params.specs.declared.liberties.Liberties.{Liberties};
+ghost use Rattle.tl_rules.specs.code.Open.{open_request_if};
+ghost use Rattle.tl_monitor.specs.code.Keeps.{Keeps};
 ghost use Rattle.tl_monitor.specs.code.Past.{comes_request, comes_release, comes_grant};
 ghost use Rattle.tl_monitor.specs.declared.bursts.Unfinished.{Unfinished};
 
@@ -9,7 +13,9 @@ use crate::link_state::LinkState;
 use tl_beat::control::Control;
 use tl_rules::key::Key;
 use tl_rules::kind::{is_grant, is_release};
-use tl_rules::past::{Past, Probe, Request};
+use tl_rules::liberties::Liberties;
+use tl_rules::past::{Probe, Request};
+use tl_rules::past_under::PastUnder;
 use tl_rules::perm::Perm;
 
 /// Whether a burst that isn't complete is of a request with this source.
@@ -57,48 +63,77 @@ fn comes_grant(sink: u8, burst: &Option<Unfinished<()>>) -> bool
     }
 }
 
-impl<const W: usize> Past<W> for LinkState {
-    ghost use Rattle.tl_monitor.specs.code.Keeps.{Keeps};
-
-    ghost knows = { λ k t. Keeps k t };
-
+impl LinkState {
+    /// The request with this source, where one is pending that is complete or, if `early`, may be unfinished.
     #[inline(always)]
-    fn is_pending(&self, key: Key) -> bool {
-        match key {
-            Key::RequestSource(source) => self.requests.get(source).is_some(),
-            Key::ReleaseSource(source) => self.releases.get(source).is_some(),
-            Key::AcquireOf(block) => self.blocks.get(block).acquire,
-            Key::ReleaseOf(block) => self.blocks.get(block).release,
-            Key::GrantSink(sink) => self.sinks.get(sink).is_some(),
-            Key::GrantAckOf(block) => self.blocks.get(block).grant.is_some(),
-            Key::ProbeOf(block) => self.blocks.get(block).probe.is_some(),
-        }
-    }
-
-    fn held(&self, block: u32) -> Perm {
-        self.blocks.get(block).held
-    }
-
-    fn request(&self, source: u8) -> Option<Request> {
-        if comes_request(source, &self.bursts.a) {
+    pub fn open_request<const W: usize>(&self, early: bool, source: u8) -> Option<Request>
+        ensures { (l : Liberties) (t : History W) → Keeps l self.now t → result ≡ open_request_if early source t }
+    {
+        if !early && comes_request(source, &self.bursts.a) {
             None
         } else {
             self.requests.get(source)
         }
     }
+}
+
+/// What is kept of a link that has these liberties.
+#[derive(Clone, Copy)]
+pub struct KeptUnder<'a> {
+    pub liberties: Liberties,
+    pub state: &'a LinkState,
+}
+
+impl<'a, const W: usize> PastUnder<W> for KeptUnder<'a> {
+    ghost use Rattle.tl_monitor.specs.code.Keeps.{Keeps};
+
+    ghost knows = { λ k l t. (k.liberties ≡ l) × Keeps l k.state.now t };
+
+    #[inline(always)]
+    fn is_pending(&self, key: Key) -> bool {
+        let state = self.state;
+        match key {
+            Key::RequestSource(source) => state.requests.get(source).is_some(),
+            Key::ReleaseSource(source) => state.releases.get(source).is_some(),
+            Key::AcquireOf(block) => state.blocks.get(block).acquire,
+            Key::ReleaseOf(block) => state.blocks.get(block).release,
+            Key::GrantSink(sink) => state.sinks.get(sink).is_some(),
+            Key::GrantAckOf(block) => state.blocks.get(block).grant.is_some(),
+            Key::ProbeOf(block) => state.blocks.get(block).probe.is_some(),
+        }
+    }
+
+    fn held(&self, block: u32) -> Perm {
+        self.state.blocks.get(block).held
+    }
+
+    fn request(&self, source: u8) -> Option<Request> {
+        self.state.open_request::<W>(self.liberties.early, source)
+    }
 
     fn release(&self, source: u8) -> Option<u8> {
-        if comes_release(source, &self.bursts.c) {
+        if !self.liberties.early && comes_release(source, &self.state.bursts.c) {
             return None;
         }
-        Some(self.releases.get(source)?.size)
+        Some(self.state.releases.get(source)?.size)
     }
 
     fn probe(&self, block: u32) -> Option<Probe> {
-        self.blocks.get(block).probe
+        match self.state.blocks.get(block).probe {
+            None => None,
+            Some(pending) => Some(pending.probe),
+        }
+    }
+
+    fn probe_source(&self, block: u32) -> Option<u8> {
+        match self.state.blocks.get(block).probe {
+            None => None,
+            Some(pending) => Some(pending.source),
+        }
     }
 
     fn has_grant(&self, sink: u8) -> bool {
-        self.sinks.get(sink).is_some() && !comes_grant(sink, &self.bursts.d)
+        self.state.sinks.get(sink).is_some()
+            && (self.liberties.early || !comes_grant(sink, &self.state.bursts.d))
     }
 }

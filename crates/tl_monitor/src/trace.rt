@@ -2,13 +2,14 @@
 
 ghost use Rattle.tl_beat.specs.statement.Width.{IsWidth};
 ghost use Rattle.std.specs.Prelude.{◌≡◌};
-ghost use Rattle.tl_monitor.specs.statement.Knows.{AnswersTrace, trace_fault_of};
+ghost use Rattle.tl_monitor.specs.statement.Knows.{AnswersTrace, AnswersTraceUnder, trace_fault_of};
 
 use crate::fault::{MonitorFault, TraceFault};
 use crate::monitor::Monitor;
 use std::alloc::Global;
 use tl_beat::beat::{Beat, Link};
 use tl_rules::level::Level;
+use tl_rules::liberties::Liberties;
 use tl_rules::profile::Profile;
 
 /// The fault of a trace whose beat `i` a monitor refuses, which no beat before it has closed.
@@ -32,7 +33,20 @@ pub fn check_trace<const W: usize>(
     requires { IsWidth W }
     ensures { AnswersTrace levels.now profile trace.now result }
 {
-    let mut monitor = match Monitor::new(alloc, levels, profile) {
+    check_trace_under(alloc, levels, Liberties::of(profile), trace)
+}
+
+/// The same on links with these liberties.
+pub fn check_trace_under<const W: usize>(
+    alloc: Global,
+    levels: &[Level],
+    liberties: Liberties,
+    trace: &[(Link, Beat<W>)],
+) -> Result<(), TraceFault>
+    requires { IsWidth W }
+    ensures { AnswersTraceUnder levels.now liberties trace.now result }
+{
+    let mut monitor = match Monitor::with_liberties(alloc, levels, liberties) {
         Ok(monitor) => monitor,
         Err(MonitorFault::Levels) => return Err(TraceFault::Levels),
         Err(_) => return Err(TraceFault::Memory),

@@ -15,6 +15,8 @@ use Rattle.tl_params.specs.declared.perm.Perm.{Perm}
 use Rattle.tl_params.specs.declared.perm.Perm.TheVariants as perm
 use Rattle.tl_rules.specs.declared.past.Probe.{Probe}
 use Rattle.tl_rules.specs.declared.table.Block.{Block}
+use Rattle.tl_rules.specs.declared.table.PendingProbe.{PendingProbe}
+use Rattle.tl_beat.specs.declared.beat.BeatB.{BeatB}
 use Rattle.tl_rules.specs.statement.History.{begins, ends, block_at, is_acquire, is_probe, is_probe_ack, is_release}
 use Rattle.tl_rules.specs.statement.History.{is_grant, is_release_ack, asks_for, releases}
 use Rattle.tl_rules.specs.statement.History.{is_sink, request_of, release_of, probe_of, grant_sink, grants, pending}
@@ -23,7 +25,7 @@ use Rattle.tl_rules.specs.statement.Liberties.{grows_from_none, held_under}
 use Rattle.tl_rules.proofs.Open.{never, still, release-begun, probe-begun}
 use Rattle.tl_rules.specs.code.Open.{request_fields, release_size, probe_fields, open_probe, probe_source, source_of}
 use Rattle.tl_rules.specs.code.Tables.{release_fields, kept_request, kept_release, kept_grant, kept_block, request_next}
-use Rattle.tl_rules.specs.code.Tables.{release_next, sink_next, block_next, bears_on, came}
+use Rattle.tl_rules.specs.code.Tables.{release_next, sink_next, block_next, bears_on, came, came_early, kept_probe, probe_kept}
 
 -- ---- plain steps of what is pending
 
@@ -194,8 +196,33 @@ pub pending-release : {w : ℕ} (s : ℕ) (t : History w) → pending (ReleaseSo
 pending-release s t = there (pending (ReleaseSource s) t) (release_fields (release_of s t))
     (λ p none. release-begun s t p (sized (release_of s t) none))
 
-pub pending-probe : {w : ℕ} (k : ℕ) (t : History w) → pending (ProbeOf k) t ≡ is_some (open_probe k t)
-pending-probe k t = there (pending (ProbeOf k) t) (probe_fields (probe_of k t)) (probe-begun k t)
+probed : {w : ℕ} (o : Option (BeatB w)) → probe_kept o ≡ None → probe_fields o ≡ None
+probed None e = refl
+probed (Some x) e = absurd cc
+
+pub pending-probe : {w : ℕ} (k : ℕ) (t : History w) → pending (ProbeOf k) t ≡ is_some (kept_probe k t)
+pending-probe k t = there (pending (ProbeOf k) t) (probe_kept (probe_of k t))
+    (λ p none. probe-begun k t p (probed (probe_of k t) none))
+
+-- the parts of a Probe that is kept
+abbrev pub probe_in : Option PendingProbe → Option Probe
+probe_in None = None
+probe_in (Some p) = Some p.probe
+
+abbrev pub source_in : Option PendingProbe → Option ℕ
+source_in None = None
+source_in (Some p) = Some p.source
+
+probe_parts : {w : ℕ} (b : Bool) (o : Option (BeatB w))
+    → (probe_in (if b then probe_kept o else None) ≡ (if b then probe_fields o else None))
+    × (source_in (if b then probe_kept o else None) ≡ (if b then source_of o else None))
+probe_parts true None = (refl, refl)
+probe_parts true (Some x) = (refl, refl)
+probe_parts false o = (refl, refl)
+
+pub probe-kept : {w : ℕ} (k : ℕ) (t : History w) → (probe_in (kept_probe k t) ≡ open_probe k t)
+    × (source_in (kept_probe k t) ≡ probe_source k t)
+probe-kept k t = probe_parts (pending (ProbeOf k) t) (probe_of k t)
 
 pub pending-grant : {w : ℕ} (k : ℕ) (t : History w) → pending (GrantAckOf k) t ≡ is_some (kept_grant k t)
 pending-grant k t = there (pending (GrantAckOf k) t) (grant_sink k t) (grant-begun k t)
@@ -269,7 +296,7 @@ responded : (last denied answered early ack grant released asked : Bool) (o : Op
     → (if last then unwrap_or (if denied then None else if answered then None else if early && ack then
     (if released then o else None) else (if grant && (if ack then released else asked) then Some p else None)) h else h)
     ≡ (if (if ack then released else asked) then (if denied then h else if answered then h else if early && ack then
-    (if last then unwrap_or o h else h) else if last && grant then p else h) else h)
+    (if last then unwrap_or (if early then o else None) h else h) else if last && grant then p else h) else h)
 responded false denied answered early ack grant released asked o p h =
     still_held (if ack then released else asked) denied answered (early && ack) h
 responded true true answered early ack grant released asked o p h = either (if ack then released else asked) h
@@ -283,34 +310,32 @@ responded true false false false false grant released asked o p h = granted_or g
 acknowledged : (early before here kept last : Bool) (o : Option Perm) (h : Perm)
     → kept ≡ (if before then here else false)
     → (if last then unwrap_or (if early && (before && here) then o else None) h else h)
-    ≡ (if here then (if early && kept then (if last then unwrap_or o h else h) else h) else h)
+    ≡ (if here then (if early && kept then (if last then unwrap_or (if early then o else None) h else h) else h) else h)
 acknowledged false before here kept last o h e = unsaid last h ∙ either here h
 acknowledged true false here kept last o h e = unsaid last h ∙ rw e (either here h)
 acknowledged true true true kept last o h e = rw e refl
 acknowledged true true false kept last o h e = unsaid last h
 
 same_block : (d b : Block) → d.held ≡ b.held → d.acquire ≡ b.acquire → d.release ≡ b.release → d.probe ≡ b.probe
-    → d.probe_source ≡ b.probe_source → d.grant ≡ b.grant → d ≡ b
-same_block d b h a r p s g =
-    ap (λ (x : Perm × Bool × Bool × Option Probe × Option ℕ × Option ℕ). record {
+    → d.grant ≡ b.grant → d ≡ b
+same_block d b h a r p g =
+    ap (λ (x : Perm × Bool × Bool × Option PendingProbe × Option ℕ). record {
       held = x.0;
       acquire = x.1;
       release = x.2;
       probe = x.3;
-      probe_source = x.4;
-      grant = x.5;
+      grant = x.4;
     })
-    (rw (h, a, r, p, s, g) refl)
+    (rw (h, a, r, p, g) refl)
 
 -- a block whose parts are all chosen by one test is chosen by it
 parts : (here : Bool) (b c d : Block) → d.held ≡ (if here then b.held else c.held)
     → d.acquire ≡ (if here then b.acquire else c.acquire) → d.release ≡ (if here then b.release else c.release)
     → d.probe ≡ (if here then b.probe else c.probe)
-    → d.probe_source ≡ (if here then b.probe_source else c.probe_source)
     → d.grant ≡ (if here then b.grant else c.grant)
     → d ≡ (if here then b else c)
-parts true b c d h a r p s g = same_block d b h a r p s g
-parts false b c d h a r p s g = same_block d c h a r p s g
+parts true b c d h a r p g = same_block d b h a r p g
+parts false b c d h a r p g = same_block d c h a r p g
 
 -- a Grant is of the block of its request, a ReleaseAck of that of its Release
 grant_here : (op : OpD) (released asked : Bool)
@@ -348,42 +373,36 @@ kept_sink true s g = refl
 kept_sink false s g = refl
 
 pub block-next : {w : ℕ} (l : Liberties) (k : ℕ) (x : Beat w) (t : History w)
-    → kept_block l k (x ∷ t) ≡ (if bears_on k x t then block_next l (begins x t) (ends x t) (came x t) x
+    → kept_block l k (x ∷ t) ≡ (if bears_on k x t then block_next l (begins x t) (ends x t) (came l x t) x
     (kept_block l k t) else kept_block l k t)
 unfolding pending held_under probe_of grant_sink
 block-next l k (A x) t =
     let here = block_at x.address == k in
-    parts here (block_next l (begins (A x) t) (ends (A x) t) (came (A x) t) (A x) (kept_block l k t)) (kept_block l k t)
+    parts here (block_next l (begins (A x) t) (ends (A x) t) (came l (A x) t) (A x) (kept_block l k t)) (kept_block l k t)
     (kept_block l k (A x ∷ t))
     (grown (l.drops && (begins (A x) t && (is_acquire x.opcode && grows_from_none x.param))) (ends (A x) t) here
     (held_under l k t))
     (only_opened (begins (A x) t) (is_acquire x.opcode && here) (ends (A x) t) (pending (AcquireOf k) t) ∙ chosen
     (begins (A x) t) (is_acquire x.opcode) here true (pending (AcquireOf k) t))
     (neither (begins (A x) t) (ends (A x) t) (pending (ReleaseOf k) t) ∙ either here (pending (ReleaseOf k) t))
-    (unmoved (begins (A x) t) (ends (A x) t) (pending (ProbeOf k) t) (probe_fields (probe_of k t)) ∙ either here
-    (open_probe k t))
-    (unmoved (begins (A x) t) (ends (A x) t) (pending (ProbeOf k) t) (source_of (probe_of k t)) ∙ either here
-    (probe_source k t))
+    (unmoved (begins (A x) t) (ends (A x) t) (pending (ProbeOf k) t) (probe_kept (probe_of k t)) ∙ either here
+    (kept_probe k t))
     (unmoved (begins (A x) t) (ends (A x) t) (pending (GrantAckOf k) t) (grant_sink k t) ∙ either here (kept_grant k t))
 block-next l k (B x) t =
     let here = block_at x.address == k in
-    parts here (block_next l (begins (B x) t) (ends (B x) t) (came (B x) t) (B x) (kept_block l k t)) (kept_block l k t)
+    parts here (block_next l (begins (B x) t) (ends (B x) t) (came l (B x) t) (B x) (kept_block l k t)) (kept_block l k t)
     (kept_block l k (B x ∷ t))
     (unsaid (ends (B x) t) (held_under l k t) ∙ either here (held_under l k t))
     (neither (begins (B x) t) (ends (B x) t) (pending (AcquireOf k) t) ∙ either here (pending (AcquireOf k) t))
     (neither (begins (B x) t) (ends (B x) t) (pending (ReleaseOf k) t) ∙ either here (pending (ReleaseOf k) t))
-    (rw (fields_if probe_fields (begins (B x) t && (is_probe x.opcode && here)) (Some x) (probe_of k t))
-    (opened (begins (B x) t) (is_probe x.opcode && here) (ends (B x) t) (pending (ProbeOf k) t) (probe_fields (Some x))
-    (probe_fields (probe_of k t)))
-    ∙ chosen (begins (B x) t) (is_probe x.opcode) here (probe_fields (Some x)) (open_probe k t))
-    (rw (fields_if source_of (begins (B x) t && (is_probe x.opcode && here)) (Some x) (probe_of k t))
-    (opened (begins (B x) t) (is_probe x.opcode && here) (ends (B x) t) (pending (ProbeOf k) t) (Some x.source)
-    (source_of (probe_of k t)))
-    ∙ chosen (begins (B x) t) (is_probe x.opcode) here (Some x.source) (probe_source k t))
+    (rw (fields_if probe_kept (begins (B x) t && (is_probe x.opcode && here)) (Some x) (probe_of k t))
+    (opened (begins (B x) t) (is_probe x.opcode && here) (ends (B x) t) (pending (ProbeOf k) t) (probe_kept (Some x))
+    (probe_kept (probe_of k t)))
+    ∙ chosen (begins (B x) t) (is_probe x.opcode) here (probe_kept (Some x)) (kept_probe k t))
     (unmoved (begins (B x) t) (ends (B x) t) (pending (GrantAckOf k) t) (grant_sink k t) ∙ either here (kept_grant k t))
 block-next l k (C x) t =
     let here = block_at x.address == k in
-    parts here (block_next l (begins (C x) t) (ends (C x) t) (came (C x) t) (C x) (kept_block l k t)) (kept_block l k t)
+    parts here (block_next l (begins (C x) t) (ends (C x) t) (came l (C x) t) (C x) (kept_block l k t)) (kept_block l k t)
     (kept_block l k (C x ∷ t))
     (said (l.early && (is_release x.opcode && (not (begins (C x) t) && not (pending (ReleaseOf k) t)))) (ends (C x) t)
     (is_probe_ack x.opcode || is_release x.opcode) here (reported x.param) (held_under l k t))
@@ -391,11 +410,8 @@ block-next l k (C x) t =
     (only_opened (begins (C x) t) (is_release x.opcode && here) (ends (C x) t) (pending (ReleaseOf k) t) ∙ chosen
     (begins (C x) t) (is_release x.opcode) here true (pending (ReleaseOf k) t))
     (closed (begins (C x) t) (ends (C x) t) (is_probe_ack x.opcode && here) (pending (ProbeOf k) t)
-    (probe_fields (probe_of k t))
-    ∙ chosen (ends (C x) t) (is_probe_ack x.opcode) here None (open_probe k t))
-    (closed (begins (C x) t) (ends (C x) t) (is_probe_ack x.opcode && here) (pending (ProbeOf k) t)
-    (source_of (probe_of k t))
-    ∙ chosen (ends (C x) t) (is_probe_ack x.opcode) here None (probe_source k t))
+    (probe_kept (probe_of k t))
+    ∙ chosen (ends (C x) t) (is_probe_ack x.opcode) here None (kept_probe k t))
     (unmoved (begins (C x) t) (ends (C x) t) (pending (GrantAckOf k) t) (grant_sink k t) ∙ either here (kept_grant k t))
 block-next l k (D x) t =
     let here = bears_on k (D x) t in
@@ -403,19 +419,19 @@ block-next l k (D x) t =
     (asks_for k (request_of x.source t)) in
     let released : (is_release_ack x.opcode && releases k (release_of x.source t)) ≡ (is_release_ack x.opcode && here) =
     ack_here x.opcode (releases k (release_of x.source t)) (asks_for k (request_of x.source t)) in
-    parts here (block_next l (begins (D x) t) (ends (D x) t) (came (D x) t) (D x) (kept_block l k t)) (kept_block l k t)
+    parts here (block_next l (begins (D x) t) (ends (D x) t) (came l (D x) t) (D x) (kept_block l k t)) (kept_block l k t)
     (kept_block l k (D x ∷ t))
     (ap (λ g. if ends (D x) t then unwrap_or (if l.denied && x.denied then None else
     if l.early && (is_grant x.opcode && (not (begins (D x) t) && not (pending (GrantAckOf k) t))) then None else
-    if l.early && is_release_ack x.opcode then (if releases k (release_of x.source t) then came (D x) t else None) else
+    if l.early && is_release_ack x.opcode then (if releases k (release_of x.source t) then came_early (D x) t else None) else
     (if g then Some (capped x.param) else None)) (held_under l k t) else held_under l k t) granted
     ∙ responded (ends (D x) t) (l.denied && x.denied)
     (l.early && (is_grant x.opcode && (not (begins (D x) t) && not (pending (GrantAckOf k) t)))) l.early
     (is_release_ack x.opcode) (is_grant x.opcode) (releases k (release_of x.source t)) (asks_for k
-    (request_of x.source t)) (came (D x) t) (capped x.param) (held_under l k t)
+    (request_of x.source t)) (came_early (D x) t) (capped x.param) (held_under l k t)
     ∙ ap (λ waits. if here then (if l.denied && x.denied then held_under l k t else
     if l.early && (is_grant x.opcode && (not (begins (D x) t) && not waits)) then held_under l k t else
-    if l.early && is_release_ack x.opcode then (if ends (D x) t then unwrap_or (came (D x) t) (held_under l k t) else
+    if l.early && is_release_ack x.opcode then (if ends (D x) t then unwrap_or (came l (D x) t) (held_under l k t) else
     held_under l k t) else if ends (D x) t && is_grant x.opcode then capped x.param else held_under l k t) else
     held_under l k t) (pending-grant k t))
     (only_closed (begins (D x) t) (ends (D x) t) (grants k x t) (pending (AcquireOf k) t)
@@ -425,25 +441,21 @@ block-next l k (D x) t =
     (pending (ReleaseOf k) t)
     ∙ ap (λ g. if ends (D x) t && g then false else pending (ReleaseOf k) t) released
     ∙ chosen (ends (D x) t) (is_release_ack x.opcode) here false (pending (ReleaseOf k) t))
-    (unmoved (begins (D x) t) (ends (D x) t) (pending (ProbeOf k) t) (probe_fields (probe_of k t)) ∙ either here
-    (open_probe k t))
-    (unmoved (begins (D x) t) (ends (D x) t) (pending (ProbeOf k) t) (source_of (probe_of k t)) ∙ either here
-    (probe_source k t))
+    (unmoved (begins (D x) t) (ends (D x) t) (pending (ProbeOf k) t) (probe_kept (probe_of k t)) ∙ either here
+    (kept_probe k t))
     (opened (begins (D x) t) (grants k x t) (ends (D x) t) (pending (GrantAckOf k) t) (Some x.sink) (grant_sink k t)
     ∙ ap (λ g. if begins (D x) t && g then Some x.sink else kept_grant k t) granted
     ∙ chosen (begins (D x) t) (is_grant x.opcode) here (Some x.sink) (kept_grant k t))
 block-next {w} l k (E x) t =
     let here = is_sink x.sink (grant_sink k t) in
     let kept = kept_sink (pending (GrantAckOf k) t) x.sink (grant_sink k t) in
-    parts here (block_next {w = w} l (begins (E x) t) (ends (E x) t) (came (E x) t) (E x) (kept_block l k t))
+    parts here (block_next {w = w} l (begins (E x) t) (ends (E x) t) (came l (E x) t) (E x) (kept_block l k t))
     (kept_block l k t) (kept_block l k (E x ∷ t))
     (acknowledged l.early (pending (GrantAckOf k) t) here (is_sink x.sink (kept_grant k t)) (ends (E x) t)
-    (came (E x) t) (held_under l k t) kept)
+    (came_early (E x) t) (held_under l k t) kept)
     (neither (begins (E x) t) (ends (E x) t) (pending (AcquireOf k) t) ∙ either here (pending (AcquireOf k) t))
     (neither (begins (E x) t) (ends (E x) t) (pending (ReleaseOf k) t) ∙ either here (pending (ReleaseOf k) t))
-    (unmoved (begins (E x) t) (ends (E x) t) (pending (ProbeOf k) t) (probe_fields (probe_of k t)) ∙ either here
-    (open_probe k t))
-    (unmoved (begins (E x) t) (ends (E x) t) (pending (ProbeOf k) t) (source_of (probe_of k t)) ∙ either here
-    (probe_source k t))
+    (unmoved (begins (E x) t) (ends (E x) t) (pending (ProbeOf k) t) (probe_kept (probe_of k t)) ∙ either here
+    (kept_probe k t))
     (closed (begins (E x) t) (ends (E x) t) here (pending (GrantAckOf k) t) (grant_sink k t)
     ∙ acked (ends (E x) t) (pending (GrantAckOf k) t) here (grant_sink k t) (is_sink x.sink (kept_grant k t)) kept)

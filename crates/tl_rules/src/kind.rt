@@ -3,9 +3,10 @@
 ghost use Rattle.std.specs.Prelude.{◌≡◌};
 ghost use Rattle.tl_rules.specs.statement.Conformance;
 ghost use Rattle.tl_rules.specs.statement.History;
+ghost use Rattle.tl_rules.specs.statement.Liberties;
 
 use tl_beat::opcode::{OpA, OpB, OpC, OpD};
-use tl_params::param::{Cap, Report};
+use tl_params::param::{Cap, Grow, Report};
 use tl_params::perm::Perm;
 
 /// Whether a message asks for permissions.
@@ -13,6 +14,13 @@ pub fn is_acquire(opcode: OpA) -> bool
     ensures { result ≡ History.is_acquire opcode }
 {
     matches!(opcode, OpA::AcquireBlock | OpA::AcquirePerm)
+}
+
+/// Whether an Acquire with this param grows from nothing held: NtoB or NtoT.
+pub fn grows_from_none(param: u8) -> bool
+    ensures { result ≡ Liberties.grows_from_none param }
+{
+    param != Grow::BtoT.param()
 }
 
 /// Whether a message takes permissions back.

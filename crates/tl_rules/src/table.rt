@@ -10,6 +10,13 @@ pub struct Release {
     pub block: u32,
 }
 
+/// What later messages depend on of a Probe, with its source.
+#[derive(Clone, Copy, Debug, PartialEq, Eq)]
+pub struct PendingProbe {
+    pub probe: Probe,
+    pub source: u8,
+}
+
 /// What is open of a block, and what the client holds of it.
 #[derive(Clone, Copy, Debug, PartialEq, Eq)]
 pub struct Block {
@@ -19,9 +26,7 @@ pub struct Block {
     /// A Release of the block is pending.
     pub release: bool,
     /// The Probe of the block that is pending.
-    pub probe: Option<Probe>,
-    /// Its source.
-    pub probe_source: Option<u8>,
+    pub probe: Option<PendingProbe>,
     /// The sink of its last Grant, where the GrantAck is pending.
     pub grant: Option<u8>,
 }

@@ -7,6 +7,7 @@ use Rattle.tl_beat.specs.declared.channel.Channel.{Channel}
 use Rattle.tl_beat.specs.declared.channel.Channel.TheVariants as channel
 use Rattle.tl_burst.specs.statement.Messages.{History, unfinished}
 use Rattle.tl_params.specs.declared.key.Key.TheVariants.{GrantSink}
+use Rattle.tl_params.specs.declared.liberties.Liberties.{Liberties}
 use Rattle.tl_rules.specs.statement.History.{pending, is_release_ack}
 use Rattle.tl_rules.specs.code.Tables.{kept_request, kept_release, kept_grant, kept_block}
 use Rattle.tl_monitor.specs.code.Count.{at}
@@ -16,14 +17,14 @@ use Rattle.tl_monitor.specs.code.LinkState.{IsNext, OpensBlock}
 use Rattle.tl_params.specs.declared.rule.Rule.{Rule}
 use Rattle.tl_monitor.specs.declared.link_state.LinkState.{LinkState}
 
--- All that is kept is what the history leaves. The block of each GrantAck that is pending stands under
+-- All that is kept is what the history leaves under these liberties. The block of each GrantAck that is pending stands under
 -- its sink, and a burst of channel D that is unfinished answers a request that is pending.
-pub record Keeps {w : ℕ} (k : LinkState) (t : History w) : Type 0 where
+pub record Keeps {w : ℕ} (l : Liberties) (k : LinkState) (t : History w) : Type 0 where
   pub bursts_are : (ch : Channel) → IsOf (burst_on k.bursts ch) (unfinished ch t)
   pub requests_are : (s : ℕ) → at k.requests s ≡ kept_request s t
   pub releases_are : (s : ℕ) → at k.releases s ≡ kept_release s t
   pub sinks_are : (s : ℕ) → is_some (at k.sinks s) ≡ pending (GrantSink s) t
-  pub blocks_are : (b : ℕ) → known_in k.blocks b ≡ kept_block b t
+  pub blocks_are : (b : ℕ) → known_in k.blocks b ≡ kept_block l b t
   pub granted : (b s : ℕ) → kept_grant b t ≡ Some s → at k.sinks s ≡ Some b
   pub answering : (x : BeatD w) (earlier : List (Beat w)) → unfinished channel.D t ≡ beat.D x ∷ earlier
       → (is_release_ack x.opcode ≡ false) × (is_some (kept_request x.source t) ≡ true)
@@ -34,12 +35,12 @@ answered (Ok rule) = rule
 answered (Err e) = None
 
 -- a beat is taken where no rule is answered; otherwise nothing changes
-abbrev pub Takes : {w : ℕ} → LinkState → Beat w → LinkState → Option Rule → Type 0
-Takes old x new None = IsNext old x new
-Takes old x new (Some rule) = new ≡ old
+abbrev pub Takes : {w : ℕ} → Liberties → LinkState → Beat w → LinkState → Option Rule → Type 0
+Takes l old x new None = IsNext l old x new
+Takes l old x new (Some rule) = new ≡ old
 
 -- a beat is taken where no rule is answered; otherwise nothing changes. Where memory is wanting something was to be opened
 -- or held of a block of which nothing was.
-abbrev pub TakesBeat : {w : ℕ} {E : Type 0} → LinkState → Beat w → LinkState → Result (Option Rule) E → Type 0
-TakesBeat old x new (Ok rule) = Takes old x new rule
-TakesBeat old x new (Err e) = (new ≡ old) × ((b : ℕ) × OpensBlock old x b)
+abbrev pub TakesBeat : {w : ℕ} {E : Type 0} → Liberties → LinkState → Beat w → LinkState → Result (Option Rule) E → Type 0
+TakesBeat l old x new (Ok rule) = Takes l old x new rule
+TakesBeat l old x new (Err e) = (new ≡ old) × ((b : ℕ) × OpensBlock l old x b)

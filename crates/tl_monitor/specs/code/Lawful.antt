@@ -5,17 +5,18 @@ use Rattle.tl_beat.specs.declared.beat.BeatD.{BeatD}
 use Rattle.tl_beat.specs.declared.channel.Channel.TheVariants as channel
 use Rattle.tl_beat.specs.statement.Control.{has_control}
 use Rattle.tl_params.specs.declared.level.Level.{Level}
+use Rattle.tl_params.specs.declared.liberties.Liberties.{Liberties}
 use Rattle.tl_rules.specs.statement.Admission.{is_spoiled}
-use Rattle.tl_rules.specs.statement.Legality.{illegal}
+use Rattle.tl_rules.specs.statement.Liberties.{illegal_under}
 use Rattle.tl_monitor.specs.declared.bursts.Unfinished.{Unfinished}
 use Rattle.tl_monitor.specs.declared.monitor.MonitoredLink.{MonitoredLink}
 
 -- a beat with the control fields of the unfinished response, neither corrupt nor denied, breaks no rule by itself
-abbrev pub IsLawful : ℕ → Level → Option (Unfinished ⊤) → Type 0
-IsLawful w level burst = (u : Unfinished ⊤) → burst ≡ Some u → (x : BeatD w) → has_control (beat.D x) u.control ≡ true
-    → is_spoiled (beat.D x) ≡ false → illegal level channel.D (beat.D x) ≡ None
+abbrev pub IsLawful : ℕ → Liberties → Level → Option (Unfinished ⊤) → Type 0
+IsLawful w l level burst = (u : Unfinished ⊤) → burst ≡ Some u → (x : BeatD w) → has_control (beat.D x) u.control ≡ true
+    → is_spoiled (beat.D x) ≡ false → illegal_under l level channel.D (beat.D x) ≡ None
 
 -- so it is on each link
-abbrev pub AreLawful : ℕ → List MonitoredLink → Type 0
-AreLawful w links = (n : ℕ) (d : MonitoredLink) → n < length links
-    → IsLawful w (slice_index_or links n d).level (slice_index_or links n d).state.bursts.d
+abbrev pub AreLawful : ℕ → Liberties → List MonitoredLink → Type 0
+AreLawful w l links = (n : ℕ) (d : MonitoredLink) → n < length links
+    → IsLawful w l (slice_index_or links n d).level (slice_index_or links n d).state.bursts.d

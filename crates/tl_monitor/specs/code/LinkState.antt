@@ -1,20 +1,25 @@
 -- What the tables of a link say, and what they say with one more beat.
-use Rattle.std.specs.Prelude.{ℕ, Bool, true, false, ◌==◌, ◌≡◌, ◌<◌, ◌+◌, ◌^◌, ◌&&◌, ◌||◌, if◌then◌else◌, Option, Some, None}
+use Rattle.std.specs.Prelude.{ℕ, Bool, true, false, not, ◌==◌, ◌≡◌, ◌<◌, ◌+◌, ◌^◌, ◌&&◌, ◌||◌, if◌then◌else◌, Option, Some, None}
 use Rattle.std.specs.Prelude.{is_some, is_none}
 use Rattle.tl_beat.specs.declared.beat.Beat.{Beat}
 use Rattle.tl_beat.specs.declared.beat.Beat.TheVariants as beat
 use Rattle.tl_beat.specs.declared.channel.Channel.{Channel}
+use Rattle.tl_beat.specs.declared.control.Control.{Control}
+use Rattle.tl_beat.specs.declared.control.Control.TheVariants as control
 use Rattle.tl_beat.specs.declared.opcode.OpD.{OpD}
 use Rattle.tl_beat.specs.declared.opcode.OpD.TheVariants as d
 use Rattle.tl_burst.specs.statement.Messages.{channel_of}
+use Rattle.tl_params.specs.declared.liberties.Liberties.{Liberties}
+use Rattle.tl_params.specs.declared.perm.Perm.{Perm}
 use Rattle.tl_rules.specs.declared.past.Request.{Request}
 use Rattle.tl_rules.specs.declared.table.Release.{Release}
-use Rattle.tl_rules.specs.statement.History.{block_at, is_acquire, is_probe, is_grant, is_release_ack}
+use Rattle.tl_rules.specs.statement.History.{block_at, capped, is_acquire, is_grant, is_probe, is_release, is_release_ack, reported}
 use Rattle.tl_rules.specs.code.Tables.{request_next, release_next, block_next, empty_block}
 use Rattle.tl_monitor.specs.code.Count.{at, count_below, sum_below}
 use Rattle.tl_monitor.specs.code.Blocks.{open_of}
 use Rattle.tl_monitor.specs.code.KnownBlocks.{known_in}
 use Rattle.tl_monitor.specs.code.Bursts.{burst_on, burst_with, is_last}
+use Rattle.tl_monitor.specs.declared.bursts.Unfinished.{Unfinished}
 use Rattle.tl_monitor.specs.declared.link_state.LinkState.{LinkState}
 
 -- a beat begins a message, completes one
@@ -55,6 +60,30 @@ abbrev pub is_block : ℕ → Option ℕ → Bool
 is_block k None = false
 is_block k (Some b) = k == b
 
+-- what the Release leaves that has these control fields and this source
+abbrev pub left_by_control : ℕ → Control → Option Perm
+left_by_control source (control.C x) = if is_release x.opcode && (x.source == source) then Some (reported x.param) else None
+left_by_control source _ = None
+
+-- what the Grant gives that has these control fields and this sink; a denied one gives nothing
+abbrev pub given_by_control : ℕ → Control → Option Perm
+given_by_control sink (control.D x) = if is_grant x.opcode && ((x.sink == sink) && not x.denied) then Some
+    (capped x.param) else None
+given_by_control sink _ = None
+
+abbrev pub of_burst : {P : Type 0} → (Control → Option Perm) → Option (Unfinished P) → Option Perm
+of_burst says None = None
+of_burst says (Some u) = says u.control
+
+-- what the message gives that is unfinished and that this one answers
+abbrev pub came_early_in : {w : ℕ} → Beat w → LinkState → Option Perm
+came_early_in (beat.D x) k = of_burst (left_by_control x.source) k.bursts.c
+came_early_in (beat.E x) k = of_burst (given_by_control x.sink) k.bursts.d
+came_early_in _ k = None
+
+abbrev pub came_in : {w : ℕ} → Liberties → Beat w → LinkState → Option Perm
+came_in l x k = if l.early then came_early_in x k else None
+
 -- the block that was granted with a sink, where b was before
 abbrev pub sink_with : {w : ℕ} → Bool → Bool → Beat w → Option ℕ → ℕ → Option ℕ → Option ℕ
 sink_with first last (beat.D x) block s b = if first && (is_grant x.opcode && (x.sink == s)) then block else b
@@ -62,7 +91,7 @@ sink_with first last (beat.E x) block s b = if last && (x.sink == s) then None e
 sink_with first last _ block s b = b
 
 -- these are the tables with one more beat
-pub record IsNext {w : ℕ} (old : LinkState) (x : Beat w) (new : LinkState) : Type 0 where
+pub record IsNext {w : ℕ} (l : Liberties) (old : LinkState) (x : Beat w) (new : LinkState) : Type 0 where
   pub bursts_are : (ch : Channel) → burst_on new.bursts ch ≡ burst_with ch x tt (burst_on old.bursts ch)
   pub requests_are : (s : ℕ) → at new.requests s ≡ request_next (is_first x old) (completes x old) x s
       (at old.requests s)
@@ -72,15 +101,16 @@ pub record IsNext {w : ℕ} (old : LinkState) (x : Beat w) (new : LinkState) : T
       → at new.sinks s ≡ sink_with (is_first x old) (completes x old) x
       (touched (is_first x old) (completes x old) x old) s (at old.sinks s)
   pub blocks_are : (b : ℕ) → known_in new.blocks b
-      ≡ (if is_block b (touched (is_first x old) (completes x old) x old) then block_next (is_first x old)
-      (completes x old) x (known_in old.blocks b) else known_in old.blocks b)
+      ≡ (if is_block b (touched (is_first x old) (completes x old) x old) then block_next l (is_first x old)
+      (completes x old) (came_in l x old) x (known_in old.blocks b) else known_in old.blocks b)
 
 -- a beat of a block of which nothing was open or held, and then something is
-pub record OpensBlock {w : ℕ} (old : LinkState) (x : Beat w) (b : ℕ) : Type 0 where
+pub record OpensBlock {w : ℕ} (l : Liberties) (old : LinkState) (x : Beat w) (b : ℕ) : Type 0 where
   pub is_number : b < 2 ^ 32
   pub is_touched : touched (is_first x old) (completes x old) x old ≡ Some b
   pub was_empty : known_in old.blocks b ≡ empty_block
-  pub then_open : 0 < open_of (block_next (is_first x old) (completes x old) x (known_in old.blocks b))
+  pub then_open : 0 < open_of (block_next l (is_first x old) (completes x old) (came_in l x old) x
+      (known_in old.blocks b))
 
 -- nothing is kept
 pub record IsEmpty (k : LinkState) : Type 0 where

@@ -4,11 +4,14 @@ use Rattle.std.specs.Prelude.{slice_index_or, Option, Some, None, Result, Ok, Er
 use Rattle.tl_beat.specs.declared.beat.Beat.{Beat}
 use Rattle.tl_beat.specs.declared.beat.Link.{Link}
 use Rattle.tl_params.specs.declared.level.Level.{Level}
+use Rattle.tl_params.specs.declared.liberties.Liberties.{Liberties}
 use Rattle.tl_params.specs.declared.perm.Perm.{Perm}
 use Rattle.tl_params.specs.declared.perm.Perm.TheVariants as perm
 use Rattle.tl_params.specs.declared.profile.Profile.{Profile}
 use Rattle.tl_params.specs.declared.rule.Rule.{Rule}
 use Rattle.tl_params.specs.statement.Config.{IsCount}
+use Rattle.tl_params.specs.statement.Liberties.{liberties_of}
+use Rattle.tl_rules.specs.statement.Liberties.{broken_on_link_under, first_fault_under, held_under}
 use Rattle.tl_rules.specs.statement.Conformance.{Trace, on_link, broken_on_link, first_fault}
 use Rattle.tl_rules.specs.statement.History.{begins, held}
 use Rattle.tl_burst.specs.statement.Messages.{History}
@@ -27,15 +30,19 @@ use Rattle.tl_monitor.specs.declared.fault.TraceFault.TheVariants as trace
 abbrev pub levels_of : List MonitoredLink → List Level
 levels_of links = map (λ link. link.level) links
 
--- The monitor has these levels and this profile, and keeps of each link what was recorded there, the
--- newest first. It is closed where a beat was refused by a rule.
-pub record Knows {w : ℕ} (m : Monitor w) (levels : List Level) (p : Profile) (t : Trace w) (closed : Bool) : Type 0
+-- The monitor has these levels and liberties, and keeps of each link what was recorded there, the newest
+-- first. It is closed where a beat was refused by a rule.
+pub record KnowsUnder {w : ℕ} (m : Monitor w) (levels : List Level) (l : Liberties) (t : Trace w) (closed : Bool) : Type 0
   where
     pub levels_are : levels_of m.links.items ≡ levels
-    pub profile_is : m.profile ≡ p
+    pub liberties_are : m.liberties ≡ l
     pub closed_is : m.closed ≡ closed
     pub links_are : (n : ℕ) (d : MonitoredLink) → n < length levels
-        → Keeps (slice_index_or m.links.items n d).state (on_link n t)
+        → Keeps l (slice_index_or m.links.items n d).state (on_link n t)
+
+-- the same of a monitor of a profile
+abbrev pub Knows : {w : ℕ} → Monitor w → List Level → Profile → Trace w → Bool → Type 0
+Knows m levels p t closed = KnowsUnder m levels (liberties_of p) t closed
 
 -- the request with this source that is pending and complete on a link; none on a link without a level
 abbrev pub request_on : {w : ℕ} → List Level → Link → ℕ → Trace w → Option Request
@@ -44,6 +51,10 @@ request_on levels link source t = if nat_lt link.0 (length levels) then open_req
 -- what is held of a block on a link; nothing on a link without a level
 abbrev pub held_on : {w : ℕ} → List Level → Link → ℕ → Trace w → Perm
 held_on levels link block t = if nat_lt link.0 (length levels) then held block (on_link link.0 t) else perm.None
+
+abbrev pub held_on_under : {w : ℕ} → Liberties → List Level → Link → ℕ → Trace w → Perm
+held_on_under l levels link block t =
+    if nat_lt link.0 (length levels) then held_under l block (on_link link.0 t) else perm.None
 
 -- the beat begins a message on its link; none on a link without a level
 abbrev pub begins_on : {w : ℕ} → List Level → Link → Beat w → Trace w → Bool
@@ -59,11 +70,14 @@ pub record AreEmpty (levels : List Level) (links : List MonitoredLink) : Type 0 
   pub all_empty : (n : ℕ) (d : MonitoredLink) → n < length levels → IsEmpty (slice_index_or links n d).state
 
 -- what a new monitor is, or why there is none
+abbrev pub IsNewUnder : {w : ℕ} → List Level → Liberties → Result (Monitor w) MonitorFault → Type 0
+IsNewUnder levels l (Ok m) = IsCount (length levels) × KnowsUnder m levels l [] false
+IsNewUnder levels l (Err monitor.Levels) = ¬ IsCount (length levels)
+IsNewUnder levels l (Err monitor.Memory) = IsCount (length levels)
+IsNewUnder levels l (Err _) = ⊥
+
 abbrev pub IsNew : {w : ℕ} → List Level → Profile → Result (Monitor w) MonitorFault → Type 0
-IsNew levels p (Ok m) = IsCount (length levels) × Knows m levels p [] false
-IsNew levels p (Err monitor.Levels) = ¬ IsCount (length levels)
-IsNew levels p (Err monitor.Memory) = IsCount (length levels)
-IsNew levels p (Err _) = ⊥
+IsNew levels p result = IsNewUnder levels (liberties_of p) result
 
 -- the fault of a beat, want of memory aside: the first rule that it breaks after the earlier beats
 -- of its link, where none was refused before
@@ -76,6 +90,10 @@ broken (Some rule) = Some (monitor.Broken rule)
 abbrev pub fault_of : {w : ℕ} → List Level → Profile → Trace w → Bool → Link × Beat w → Option MonitorFault
 fault_of levels p t true x = Some monitor.Closed
 fault_of levels p t false x = broken (broken_on_link levels p x t)
+
+abbrev pub fault_under : {w : ℕ} → List Level → Liberties → Trace w → Bool → Link × Beat w → Option MonitorFault
+fault_under levels l t true x = Some monitor.Closed
+fault_under levels l t false x = broken (broken_on_link_under l levels x t)
 
 -- the answer to a beat that has this fault, or none
 abbrev pub Answers : Option MonitorFault → Result ⊤ MonitorFault → Type 0
@@ -94,13 +112,18 @@ closed_after (Ok u) = false
 closed_after (Err monitor.Memory) = false
 closed_after (Err e) = true
 
--- the answer to a trace: its first fault, want of memory aside
+-- the answer to a trace that has this first fault, or none, want of memory aside
+abbrev pub AnswersFirst : List Level → Option (ℕ × Rule) → Result ⊤ TraceFault → Type 0
+AnswersFirst levels fault (Ok u) = IsCount (length levels) × (fault ≡ None)
+AnswersFirst levels fault (Err (trace.At i rule)) = IsCount (length levels) × (fault ≡ Some (i, rule))
+AnswersFirst levels fault (Err trace.Levels) = ¬ IsCount (length levels)
+AnswersFirst levels fault (Err trace.Memory) = IsCount (length levels)
+
+abbrev pub AnswersTraceUnder : {w : ℕ} → List Level → Liberties → Trace w → Result ⊤ TraceFault → Type 0
+AnswersTraceUnder levels l beats result = AnswersFirst levels (first_fault_under l levels beats) result
+
 abbrev pub AnswersTrace : {w : ℕ} → List Level → Profile → Trace w → Result ⊤ TraceFault → Type 0
-AnswersTrace levels p beats (Ok u) = IsCount (length levels) × (first_fault levels p beats ≡ None)
-AnswersTrace levels p beats (Err (trace.At i rule)) = IsCount (length levels)
-    × (first_fault levels p beats ≡ Some (i, rule))
-AnswersTrace levels p beats (Err trace.Levels) = ¬ IsCount (length levels)
-AnswersTrace levels p beats (Err trace.Memory) = IsCount (length levels)
+AnswersTrace levels p beats result = AnswersFirst levels (first_fault levels p beats) result
 
 -- what the refusal of beat i is to a trace
 abbrev pub trace_fault_of : ℕ → MonitorFault → TraceFault

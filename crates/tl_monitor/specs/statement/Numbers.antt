@@ -7,15 +7,34 @@ use Rattle.tl_burst.specs.statement.Messages.{History}
 use Rattle.tl_params.specs.declared.key.Key.TheVariants.{RequestSource, ReleaseSource, AcquireOf, ReleaseOf, GrantSink}
 use Rattle.tl_params.specs.declared.key.Key.TheVariants.{GrantAckOf, ProbeOf}
 use Rattle.tl_params.specs.declared.level.Level.{Level}
+use Rattle.tl_params.specs.declared.liberties.Liberties.{Liberties}
 use Rattle.tl_rules.specs.statement.Conformance.{Trace, on_link}
 use Rattle.tl_rules.specs.statement.History.{pending, held}
+use Rattle.tl_rules.specs.statement.Liberties.{held_under}
 use Rattle.tl_monitor.specs.code.Count.{count_below}
 use Rattle.tl_monitor.specs.code.Blocks.{is_held}
 use Rattle.tl_monitor.specs.declared.fault.MonitorFault.{MonitorFault}
 use Rattle.tl_monitor.specs.declared.fault.MonitorFault.TheVariants as monitor
 
--- how many keys of each kind are pending, and how many blocks aren't held as None. Sources and sinks
--- are bytes, and numbers of blocks have 32 bits.
+-- How many keys of each kind are pending, and how many blocks aren't held as None, under liberties. Sources
+-- and sinks are bytes, and numbers of blocks have 32 bits.
+abbrev pub numbers_under : {w : ℕ} → Liberties → History w → List ℕ
+numbers_under l t =
+    count_below 256 (λ s. pending (RequestSource s) t)
+    ∷ count_below 256 (λ s. pending (ReleaseSource s) t)
+    ∷ count_below 256 (λ s. pending (GrantSink s) t)
+    ∷ count_below (2 ^ 32) (λ k. pending (AcquireOf k) t)
+    ∷ count_below (2 ^ 32) (λ k. pending (ReleaseOf k) t)
+    ∷ count_below (2 ^ 32) (λ k. pending (ProbeOf k) t)
+    ∷ count_below (2 ^ 32) (λ k. pending (GrantAckOf k) t)
+    ∷ count_below (2 ^ 32) (λ k. is_held (held_under l k t))
+    ∷ []
+
+-- how many of all of them there are on a link; none on one without a level
+abbrev pub entry_count_under : {w : ℕ} → Liberties → List Level → Link → Trace w → ℕ
+entry_count_under l levels link t = if nat_lt link.0 (length levels) then sum (numbers_under l (on_link link.0 t)) else 0
+
+-- without liberties
 abbrev pub numbers : {w : ℕ} → History w → List ℕ
 numbers t =
     count_below 256 (λ s. pending (RequestSource s) t)
@@ -38,6 +57,10 @@ AnyMore (n ∷ before) (m ∷ after) = (n < m) ⊎ AnyMore before after
 AnyMore _ _ = ⊥
 
 -- where a beat is refused for want of memory, one of these numbers was to become more
+abbrev pub IsMoreUnder : {w : ℕ} → Liberties → History w → Beat w → Result ⊤ MonitorFault → Type 0
+IsMoreUnder l t x (Err monitor.Memory) = AnyMore (numbers_under l t) (numbers_under l (x ∷ t))
+IsMoreUnder l t x _ = ⊤
+
 abbrev pub IsMoreWhereRefused : {w : ℕ} → History w → Beat w → Result ⊤ MonitorFault → Type 0
 IsMoreWhereRefused t x (Err monitor.Memory) = AnyMore (numbers t) (numbers (x ∷ t))
 IsMoreWhereRefused t x _ = ⊤

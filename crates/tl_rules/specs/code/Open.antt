@@ -47,10 +47,14 @@ has_open_grant s t = pending (GrantSink s) t && not (comes_in_grant s (unfinishe
 
 -- ---- under liberties: with `early` an open message needn't be complete
 
-abbrev pub open_request_under : {w : ℕ} → Liberties → ℕ → History w → Option Request
-open_request_under l s t =
-    if pending (RequestSource s) t && not (not l.early && comes_in_request s (unfinished channel.A t)) then
+-- the request with this source that is pending and complete or, if `early`, may be unfinished
+abbrev pub open_request_if : {w : ℕ} → Bool → ℕ → History w → Option Request
+open_request_if early s t =
+    if pending (RequestSource s) t && not (not early && comes_in_request s (unfinished channel.A t)) then
     request_fields (request_of s t) else None
+
+abbrev pub open_request_under : {w : ℕ} → Liberties → ℕ → History w → Option Request
+open_request_under l s t = open_request_if l.early s t
 
 abbrev pub open_release_under : {w : ℕ} → Liberties → ℕ → History w → Option ℕ
 open_release_under l s t =

@@ -3,21 +3,24 @@ use Rattle.std.specs.Prelude.{ℕ, Bool, true, false, not, ◌==◌, ◌&&◌, �
 use Rattle.std.specs.Prelude.{unwrap_or}
 use Rattle.tl_beat.specs.declared.beat.Beat.{Beat}
 use Rattle.tl_beat.specs.declared.beat.Beat.TheVariants as beat
+use Rattle.tl_beat.specs.declared.beat.BeatB.{BeatB}
 use Rattle.tl_beat.specs.declared.beat.BeatC.{BeatC}
+use Rattle.tl_beat.specs.declared.beat.BeatD.{BeatD}
 use Rattle.tl_beat.specs.declared.channel.Channel.TheVariants as channel
 use Rattle.tl_burst.specs.statement.Messages.{History, unfinished}
-use Rattle.tl_params.specs.declared.key.Key.TheVariants.{RequestSource, ReleaseSource, AcquireOf, ReleaseOf, GrantAckOf}
+use Rattle.tl_params.specs.declared.key.Key.TheVariants.{RequestSource, ReleaseSource, AcquireOf, ReleaseOf, GrantAckOf, ProbeOf}
 use Rattle.tl_params.specs.declared.liberties.Liberties.{Liberties}
 use Rattle.tl_params.specs.declared.perm.Perm.{Perm}
 use Rattle.tl_params.specs.declared.perm.Perm.TheVariants as perm
 use Rattle.tl_rules.specs.declared.past.Request.{Request}
 use Rattle.tl_rules.specs.declared.table.Release.{Release}
 use Rattle.tl_rules.specs.declared.table.Block.{Block}
+use Rattle.tl_rules.specs.declared.table.PendingProbe.{PendingProbe}
 use Rattle.tl_rules.specs.statement.History.{block_at, is_acquire, is_probe, is_probe_ack, is_release, is_grant}
 use Rattle.tl_rules.specs.statement.History.{is_release_ack, asks_for, releases, is_sink}
-use Rattle.tl_rules.specs.statement.History.{request_of, release_of, grant_sink, pending, reported, capped}
+use Rattle.tl_rules.specs.statement.History.{request_of, release_of, probe_of, grant_sink, pending, reported, capped}
 use Rattle.tl_rules.specs.statement.Liberties.{given_by_grant, grows_from_none, held_under, left_by_release}
-use Rattle.tl_rules.specs.code.Open.{request_fields, open_probe, probe_source}
+use Rattle.tl_rules.specs.code.Open.{request_fields}
 
 abbrev pub release_fields : {w : ℕ} → Option (BeatC w) → Option Release
 release_fields None = None
@@ -35,13 +38,20 @@ kept_release s t = if pending (ReleaseSource s) t then release_fields (release_o
 abbrev pub kept_grant : {w : ℕ} → ℕ → History w → Option ℕ
 kept_grant k t = if pending (GrantAckOf k) t then grant_sink k t else None
 
+abbrev pub probe_kept : {w : ℕ} → Option (BeatB w) → Option PendingProbe
+probe_kept None = None
+probe_kept (Some x) = Some (record { probe = record { opcode = x.opcode; param = x.param }; source = x.source })
+
+-- the Probe of the block, where it is pending
+abbrev pub kept_probe : {w : ℕ} → ℕ → History w → Option PendingProbe
+kept_probe k t = if pending (ProbeOf k) t then probe_kept (probe_of k t) else None
+
 abbrev pub kept_block : {w : ℕ} → Liberties → ℕ → History w → Block
 kept_block l k t = record {
   held = held_under l k t;
   acquire = pending (AcquireOf k) t;
   release = pending (ReleaseOf k) t;
-  probe = open_probe k t;
-  probe_source = probe_source k t;
+  probe = kept_probe k t;
   grant = kept_grant k t;
 }
 
@@ -52,7 +62,6 @@ empty_block = record {
   acquire = false;
   release = false;
   probe = None;
-  probe_source = None;
   grant = None;
 }
 
@@ -75,10 +84,21 @@ sink_next first last (beat.E x) s b = if last && (x.sink == s) then false else b
 sink_next first last _ s b = b
 
 -- what the message gives that this one answers before its end
-abbrev pub came : {w : ℕ} → Beat w → History w → Option Perm
-came (beat.D x) t = left_by_release x.source (unfinished channel.C t)
-came (beat.E x) t = given_by_grant x.sink (unfinished channel.D t)
-came _ t = None
+abbrev pub came_early : {w : ℕ} → Beat w → History w → Option Perm
+came_early (beat.D x) t = left_by_release x.source (unfinished channel.C t)
+came_early (beat.E x) t = given_by_grant x.sink (unfinished channel.D t)
+came_early _ t = None
+
+abbrev pub came : {w : ℕ} → Liberties → Beat w → History w → Option Perm
+came l x t = if l.early then came_early x t else None
+
+-- what is held of a block after a response
+abbrev pub held_with : {w : ℕ} → Liberties → Bool → Bool → Option Perm → BeatD w → Block → Perm
+held_with l first last came x b =
+    if l.denied && x.denied then b.held else
+    if l.early && (is_grant x.opcode && (not first && not (is_some b.grant))) then b.held else
+    if l.early && is_release_ack x.opcode then (if last then unwrap_or came b.held else b.held) else
+    if last && is_grant x.opcode then capped x.param else b.held
 
 -- the block that a beat bears on, where this came before the end of the message that it answers
 abbrev pub block_next : {w : ℕ} → Liberties → Bool → Bool → Option Perm → Beat w → Block → Block
@@ -88,8 +108,7 @@ block_next l first last came (beat.A x) b = record b {
   acquire = if first && is_acquire x.opcode then true else b.acquire;
 }
 block_next l first last came (beat.B x) b = record b {
-  probe = if first && is_probe x.opcode then Some (record { opcode = x.opcode; param = x.param }) else b.probe;
-  probe_source = if first && is_probe x.opcode then Some x.source else b.probe_source;
+  probe = if first && is_probe x.opcode then probe_kept (Some x) else b.probe;
 }
 block_next l first last came (beat.C x) b = record b {
   held =
@@ -97,14 +116,9 @@ block_next l first last came (beat.C x) b = record b {
       if last && (is_probe_ack x.opcode || is_release x.opcode) then reported x.param else b.held;
   release = if first && is_release x.opcode then true else b.release;
   probe = if last && is_probe_ack x.opcode then None else b.probe;
-  probe_source = if last && is_probe_ack x.opcode then None else b.probe_source;
 }
 block_next l first last came (beat.D x) b = record b {
-  held =
-      if l.denied && x.denied then b.held else
-      if l.early && (is_grant x.opcode && (not first && not (is_some b.grant))) then b.held else
-      if l.early && is_release_ack x.opcode then (if last then unwrap_or came b.held else b.held) else
-      if last && is_grant x.opcode then capped x.param else b.held;
+  held = held_with l first last came x b;
   acquire = if last && is_grant x.opcode then false else b.acquire;
   release = if last && is_release_ack x.opcode then false else b.release;
   grant = if first && is_grant x.opcode then Some x.sink else b.grant;

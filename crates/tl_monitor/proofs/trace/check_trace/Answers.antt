@@ -1,30 +1,7 @@
-use Rattle.std.proofs.Common.{◌∙◌, arith, false}
-use Rattle.tl_monitor.proofs.Knowing.{fault-answered, fault-goes_on, fault-none, known-goes_on}
+use Rattle.std.proofs.Common.{[]}
+use Rattle.tl_rules.proofs.Profiles.{fault-of}
 use Rattle.tl_monitor.proofs.trace.check_trace.Goals as goal
 
-pub loop-i-preserved : goal.loop-i-preserved
-loop-i-preserved g c = record {
-  counted = c.loop-i.invariant.counted;
-  known = known-goes_on c.push.new.self c.args.levels.now c.args.profile c.args.trace.now c.loop-i.i
-      c.index-trace-i.result c.loop-i-test.true c.index-trace-i.is
-      (c.in-Ok-push.ensures.knows c.args.levels.now c.args.profile _ false c.loop-i.invariant.known);
-  same = c.loop-i.invariant.same
-      ∙ fault-goes_on c.args.levels.now c.args.profile c.args.trace.now c.loop-i.i c.index-trace-i.result
-      c.loop-i-test.true c.index-trace-i.is
-      (c.in-Ok-push.ensures.answer c.args.levels.now c.args.profile _ false c.loop-i.invariant.known);
-}
-
 pub returns : goal.returns
-returns g c = (
-  c.loop-i.invariant.counted,
-  c.loop-i.invariant.same ∙ fault-none c.args.levels.now c.args.profile
-      c.args.trace.now _ c.loop-i.i (omega arith),
-)
-
-pub returns-in-Err-push : goal.returns-in-Err-push
-returns-in-Err-push g c =
-    rw c.fault_at.ensures
-    (fault-answered c.args.levels.now c.args.profile c.args.trace.now c.loop-i.i c.index-trace-i.result
-    c.in-Err-push.fault c.loop-i.invariant.counted c.loop-i-test.true c.index-trace-i.is
-    c.loop-i.invariant.same (c.in-Err-push.ensures.answer c.args.levels.now c.args.profile _ false
-    c.loop-i.invariant.known))
+returns g c = rw (c.of.ensures, fault-of c.args.profile c.args.levels.now [] c.args.trace.now) at
+    c.check_trace_under.ensures

@@ -195,6 +195,38 @@ impl LinkState {
         true
     }
 
+    /// The rule of bursts or of the order of messages that a beat breaks which breaks none by itself, or none.
+    fn broken_in_order<const W: usize>(&self, profile: Profile, beat: &Beat<W>) -> Option<Rule>
+        ensures { (t : History W) → Keeps self.now t →
+            result ≡ Conformance.broken_in_order profile beat.now t }
+    {
+        if self.bursts.begins(beat) {
+            broken_order(profile, beat, self)
+        } else if self.bursts.continues(beat) {
+            None
+        } else {
+            Some(Rule::S1)
+        }
+    }
+
+    /// The first rule that a beat breaks on a link of this level, or none.
+    #[tactic(auto, unfolding(tl_rules::specs::statement::Conformance::broken_after))]
+    pub fn broken<const W: usize>(
+        &self,
+        level: Level,
+        profile: Profile,
+        beat: &Beat<W>,
+    ) -> Option<Rule>
+        requires { IsWidth W }
+        ensures { (t : History W) → Keeps self.now t →
+            result ≡ Conformance.broken_after level profile beat.now t }
+    {
+        match check_beat(level, beat.channel(), beat) {
+            Err(rule) => Some(rule),
+            Ok(()) => self.broken_in_order(profile, beat),
+        }
+    }
+
     /// The first rule that a beat breaks on a link of this level, or none, and then takes it. Without memory
     /// nothing changes.
     #[tactic(auto, unfolding(tl_rules::specs::statement::Conformance::broken_after))]

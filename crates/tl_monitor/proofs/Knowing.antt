@@ -44,15 +44,15 @@ count-is m levels lib t closed k = sym (length-map m.links.items (λ link. link.
 -- what is kept of one link was put anew
 knows-at : {w : ℕ} (m m' : Monitor w) (levels : List Level) (lib : Liberties) (t s : Trace w) (closed : Bool) (i : ℕ)
     (old new : MonitoredLink)
-    → KnowsUnder m levels lib t closed → m'.liberties ≡ m.liberties → m'.closed ≡ false
+    → KnowsUnder m levels lib t closed → m'.liberties ≡ m.liberties → m'.closed ≡ m.closed
     → m'.links.items ≡ slice_set m.links.items i new → i < length m.links.items
     → old ≡ slice_index_or m.links.items i old → new.level ≡ old.level
-    → Keeps lib new.state (on_link i s) → ((n : ℕ) → n ≢ i → on_link n s ≡ on_link n t) → KnowsUnder m' levels lib s false
-knows-at m m' levels lib t s closed i old new k liberties_same open_still links lt was level own other = record {
+    → Keeps lib new.state (on_link i s) → ((n : ℕ) → n ≢ i → on_link n s ≡ on_link n t) → KnowsUnder m' levels lib s closed
+knows-at m m' levels lib t s closed i old new k liberties_same closed_same links lt was level own other = record {
   levels_are = ap levels_of links ∙ map-set_same (λ link. link.level) m.links.items i new old
       (level ∙ ap (λ link. link.level) was) ∙ k.levels_are;
   liberties_are = liberties_same ∙ k.liberties_are;
-  closed_is = open_still;
+  closed_is = closed_same ∙ k.closed_is;
   links_are = λ n d below. elim (cases_eq n i) [
     | inl here ↦ rw (links, here, get_or-set_same m.links.items i new d lt) own
     | inr apart ↦ rw (links, get_or-set_other m.links.items i n new d apart, other n apart)
@@ -63,14 +63,25 @@ knows-at m m' levels lib t s closed i old new k liberties_same open_still links 
 -- a link has one more beat
 pub knows-more : {w : ℕ} (m m' : Monitor w) (levels : List Level) (lib : Liberties) (t : Trace w) (closed : Bool) (i : ℕ)
     (link : Link) (x : Beat w) (old new : MonitoredLink)
-    → KnowsUnder m levels lib t closed → m'.liberties ≡ m.liberties → m'.closed ≡ false
+    → KnowsUnder m levels lib t closed → m'.liberties ≡ m.liberties → m'.closed ≡ m.closed
     → m'.links.items ≡ slice_set m.links.items i new → i ≡ link.0 → i < length m.links.items
     → old ≡ slice_index_or m.links.items i old → new.level ≡ old.level
-    → Keeps m.liberties new.state (x ∷ on_link i t) → KnowsUnder m' levels lib ((link, x) ∷ t) false
-knows-more m m' levels lib t closed i link x old new k liberties_same open_still links i_is lt was level own =
-    knows-at m m' levels lib t ((link, x) ∷ t) closed i old new k liberties_same open_still links lt was level
+    → Keeps m.liberties new.state (x ∷ on_link i t) → KnowsUnder m' levels lib ((link, x) ∷ t) closed
+knows-more m m' levels lib t closed i link x old new k liberties_same closed_same links i_is lt was level own =
+    knows-at m m' levels lib t ((link, x) ∷ t) closed i old new k liberties_same closed_same links lt was level
     (rw (on_link-own i link x t (sym i_is)) (rw k.liberties_are at own))
     (λ n apart. on_link-other n link x t (λ e. apart (sym e ∙ sym i_is)))
+
+-- whether the monitor is closed was put anew
+pub closed-anew : {w : ℕ} (m m' : Monitor w) (levels : List Level) (lib : Liberties) (t : Trace w) (closed after : Bool)
+    → KnowsUnder m levels lib t closed → m'.links.items ≡ m.links.items → m'.liberties ≡ m.liberties → m'.closed ≡ after
+    → KnowsUnder m' levels lib t after
+closed-anew m m' levels lib t closed after k links liberties_same closed_is = record {
+  levels_are = ap levels_of links ∙ k.levels_are;
+  liberties_are = liberties_same ∙ k.liberties_are;
+  closed_is = closed_is;
+  links_are = λ n d below. rw links (k.links_are n d below);
+}
 
 -- what is kept of the link of a beat
 pub link_state-of : {w : ℕ} (m : Monitor w) (levels : List Level) (lib : Liberties) (t : Trace w) (closed : Bool) (i : ℕ)

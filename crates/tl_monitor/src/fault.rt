@@ -1,5 +1,8 @@
 //! Why a monitor refuses a beat, and a trace.
 
+ghost use Rattle.std.specs.Prelude.{◌≡◌};
+ghost use Rattle.tl_monitor.specs.statement.Knows.{closed_after};
+
 use tl_rules::rule::Rule;
 
 /// Why a monitor can't be made or refuses a beat.
@@ -24,4 +27,16 @@ pub enum TraceFault {
     Levels,
     /// There is no memory.
     Memory,
+}
+
+/// Whether a monitor is closed after an answer of `push`.
+#[inline(always)]
+pub(crate) fn is_closed_after(answer: &Result<(), MonitorFault>) -> bool
+    ensures { result ≡ closed_after answer.now }
+{
+    match answer {
+        Ok(()) => false,
+        Err(MonitorFault::Memory) => false,
+        Err(_) => true,
+    }
 }

@@ -220,6 +220,42 @@ impl LinkState {
         true
     }
 
+    /// The rule of bursts or of the order of messages that a beat breaks which breaks none by itself, or none.
+    fn broken_in_order<const W: usize>(&self, liberties: Liberties, beat: &Beat<W>) -> Option<Rule>
+        ensures { (t : History W) → Keeps liberties self.now t →
+            result ≡ broken_in_order_under liberties beat.now t }
+    {
+        if self.bursts.begins(beat) {
+            let past = KeptUnder {
+                liberties,
+                state: self,
+            };
+            broken_order_under(liberties, beat, &past)
+        } else if self.bursts.continues(beat) {
+            None
+        } else {
+            Some(Rule::S1)
+        }
+    }
+
+    /// The first rule that a beat breaks on a link of this level, or none.
+    #[tactic(auto, unfolding(tl_rules::specs::statement::Liberties::broken_after_under))]
+    pub fn broken<const W: usize>(
+        &self,
+        liberties: Liberties,
+        level: Level,
+        beat: &Beat<W>,
+    ) -> Option<Rule>
+        requires { IsWidth W }
+        ensures { (t : History W) → Keeps liberties self.now t →
+            result ≡ broken_after_under liberties level beat.now t }
+    {
+        match check_beat_under(liberties, level, beat.channel(), beat) {
+            Err(rule) => Some(rule),
+            Ok(()) => self.broken_in_order(liberties, beat),
+        }
+    }
+
     /// The first rule that a beat breaks on a link of this level, or none, and then takes it. Without memory
     /// nothing changes.
     #[tactic(auto, unfolding(tl_rules::specs::statement::Liberties::broken_after_under))]

@@ -8,8 +8,9 @@ ghost use Rattle.tl_params.specs.declared.liberties.Liberties.{Liberties};
 ghost use Rattle.tl_params.specs.declared.profile.Profile.{Profile};
 ghost use Rattle.tl_monitor.specs.code.Lawful.{AreLawful};
 ghost use Rattle.tl_rules.specs.statement.Conformance.{Trace, broken_on_link, on_link};
+ghost use Rattle.tl_rules.specs.statement.Liberties.{broken_on_link_under};
 
-use crate::fault::MonitorFault;
+use crate::fault::{MonitorFault, is_closed_after};
 use crate::link_state::LinkState;
 use std::alloc::{AllocError, Global};
 use tl_beat::beat::{Beat, Link};
@@ -89,6 +90,96 @@ impl<const W: usize> Monitor<W> {
         })
     }
 
+    /// The first rule that a beat breaks on its link, or none. It isn't taken.
+    pub fn broken(&self, link: Link, beat: &Beat<W>) -> Option<Rule>
+        requires { IsWidth W }
+        ensures profile { (levels : List Level) (p : Profile) (t : Trace W) (closed : Bool) →
+            Knows self.now levels p t closed →
+            result ≡ broken_on_link levels p (link, beat.now) t }
+        ensures under { (levels : List Level) (l : Liberties) (t : Trace W) (closed : Bool) →
+            KnowsUnder self.now levels l t closed →
+            result ≡ broken_on_link_under l levels (link, beat.now) t }
+    {
+        self.broken_under(link, beat)
+    }
+
+    /// `broken`, by what it says under liberties.
+    #[inline(always)]
+    fn broken_under(&self, link: Link, beat: &Beat<W>) -> Option<Rule>
+        requires { IsWidth W }
+        ensures { (levels : List Level) (l : Liberties) (t : Trace W) (closed : Bool) →
+            KnowsUnder self.now levels l t closed →
+            result ≡ broken_on_link_under l levels (link, beat.now) t }
+    {
+        let n = usize::from(link.0);
+        if n >= self.links.len() {
+            return Some(Rule::L1);
+        }
+        let monitored = &self.links[n];
+        monitored
+            .state
+            .broken(self.liberties, monitored.level, beat)
+    }
+
+    /// Judges a beat of a link, and takes it where it breaks no rule. Where it breaks one, the monitor knows what it
+    /// knew before, and goes on. `Closed` and `Memory` are answered as by `push`.
+    #[inline(always)]
+    pub fn try_push(&mut self, link: Link, beat: &Beat<W>) -> Result<(), MonitorFault>
+        requires { IsWidth W }
+        ensures answer { (levels : List Level) (p : Profile) (t : Trace W) (closed : Bool) →
+            Knows self.old levels p t closed →
+            Answers (fault_of levels p t closed (link, beat.now)) result }
+        ensures knows { (levels : List Level) (p : Profile) (t : Trace W) (closed : Bool) →
+            Knows self.old levels p t closed →
+            Knows self.new levels p (recorded_after result (link, beat.now) t) closed }
+        ensures memory { (levels : List Level) (p : Profile) (t : Trace W) (closed : Bool) →
+            Knows self.old levels p t closed →
+            IsMoreWhereRefused (on_link link.0 t) beat.now result }
+        ensures answer_under { (levels : List Level) (l : Liberties) (t : Trace W) (closed : Bool) →
+            KnowsUnder self.old levels l t closed →
+            Answers (fault_under levels l t closed (link, beat.now)) result }
+        ensures knows_under { (levels : List Level) (l : Liberties) (t : Trace W) (closed : Bool) →
+            KnowsUnder self.old levels l t closed →
+            KnowsUnder self.new levels l (recorded_after result (link, beat.now) t) closed }
+        ensures memory_under { (levels : List Level) (l : Liberties) (t : Trace W) (closed : Bool) →
+            KnowsUnder self.old levels l t closed →
+            IsMoreUnder l (on_link link.0 t) beat.now result }
+    {
+        self.judge(link, beat)
+    }
+
+    /// `try_push`, by what it says under liberties.
+    #[inline(always)]
+    fn judge(&mut self, link: Link, beat: &Beat<W>) -> Result<(), MonitorFault>
+        requires { IsWidth W }
+        ensures answer { (levels : List Level) (l : Liberties) (t : Trace W) (closed : Bool) →
+            KnowsUnder self.old levels l t closed →
+            Answers (fault_under levels l t closed (link, beat.now)) result }
+        ensures knows { (levels : List Level) (l : Liberties) (t : Trace W) (closed : Bool) →
+            KnowsUnder self.old levels l t closed →
+            KnowsUnder self.new levels l (recorded_after result (link, beat.now) t) closed }
+        ensures memory { (levels : List Level) (l : Liberties) (t : Trace W) (closed : Bool) →
+            KnowsUnder self.old levels l t closed →
+            IsMoreUnder l (on_link link.0 t) beat.now result }
+    {
+        if self.closed {
+            return Err(MonitorFault::Closed);
+        }
+        let n = usize::from(link.0);
+        if n >= self.links.len() {
+            return Err(MonitorFault::Broken(Rule::L1));
+        }
+        let monitored = &mut self.links[n];
+        match monitored
+            .state
+            .push(self.liberties, monitored.level, beat)
+        {
+            Ok(None) => Ok(()),
+            Ok(Some(rule)) => Err(MonitorFault::Broken(rule)),
+            Err(_) => Err(MonitorFault::Memory),
+        }
+    }
+
     /// Judges a beat of a link, and takes it where it breaks no rule. After a broken rule every call is
     /// answered `Closed`. `Memory` is answered only where more keys of one kind are pending than
     /// before, or more blocks held; then the monitor knows what it knew before.
@@ -113,40 +204,9 @@ impl<const W: usize> Monitor<W> {
             KnowsUnder self.old levels l t closed →
             IsMoreUnder l (on_link link.0 t) beat.now result }
     {
-        self.judge(link, beat)
-    }
-
-    /// `push`, by what it says under liberties.
-    #[inline(always)]
-    fn judge(&mut self, link: Link, beat: &Beat<W>) -> Result<(), MonitorFault>
-        requires { IsWidth W }
-        ensures answer { (levels : List Level) (l : Liberties) (t : Trace W) (closed : Bool) →
-            KnowsUnder self.old levels l t closed →
-            Answers (fault_under levels l t closed (link, beat.now)) result }
-        ensures knows { (levels : List Level) (l : Liberties) (t : Trace W) (closed : Bool) →
-            KnowsUnder self.old levels l t closed →
-            KnowsUnder self.new levels l (recorded_after result (link, beat.now) t) (closed_after result) }
-        ensures memory { (levels : List Level) (l : Liberties) (t : Trace W) (closed : Bool) →
-            KnowsUnder self.old levels l t closed →
-            IsMoreUnder l (on_link link.0 t) beat.now result }
-    {
-        if self.closed {
-            return Err(MonitorFault::Closed);
-        }
-        let n = usize::from(link.0);
-        if n >= self.links.len() {
-            self.closed = true;
-            return Err(MonitorFault::Broken(Rule::L1));
-        }
-        let monitored = &mut self.links[n];
-        match monitored.state.push(self.liberties, monitored.level, beat) {
-            Ok(None) => Ok(()),
-            Ok(Some(rule)) => {
-                self.closed = true;
-                Err(MonitorFault::Broken(rule))
-            }
-            Err(_) => Err(MonitorFault::Memory),
-        }
+        let answer = self.try_push(link, beat);
+        self.closed = is_closed_after(&answer);
+        answer
     }
 
     /// The request with this source that is pending and complete on a link; none on a link without a level.

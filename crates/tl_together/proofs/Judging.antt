@@ -15,6 +15,7 @@ use Rattle.tl_together.specs.declared.windows.Window.{Window}
 use Rattle.tl_monitor.specs.statement.Knows as of_link
 use Rattle.tl_monitor.specs.declared.fault.MonitorFault.{MonitorFault}
 use Rattle.tl_monitor.specs.declared.fault.MonitorFault.TheVariants as monitor
+use Rattle.tl_together.specs.declared.breach.Breach.{Breach}
 use Rattle.tl_together.specs.declared.breach.Breach.TheVariants.{OfLink}
 use Rattle.tl_together.specs.declared.breach.MemoryRule.{MemoryRule}
 use Rattle.tl_together.specs.declared.fault.JudgeFault.{JudgeFault}
@@ -23,7 +24,7 @@ use Rattle.tl_together.specs.declared.judge.Judge.{Judge}
 use Rattle.tl_memory.specs.statement.Memory.{KnowsMemory}
 use Rattle.tl_together.specs.statement.Coherence.{broken_memory, first_broken}
 use Rattle.tl_together.specs.statement.Knows.{Knows, KnowsTrace, Answers, fault_of, broken, closed_after}
-use Rattle.tl_together.specs.code.Windows.{NotesRequest, NotesWindow, KnowsAsked, KnowsWindows, closes}
+use Rattle.tl_together.specs.code.Windows.{NotesRequest, NotesWindow, KnowsAsked, KnowsWindows}
 use Rattle.tl_together.specs.code.Windows.{fault_of_monitor, last_free}
 
 pub open_still : {w : ℕ} (j : Judge w) (levels : List Level) (p : Profile) (t : Trace w) (closed : Bool)
@@ -60,7 +61,7 @@ unnoted j j' levels p t closed k e links moment m asked windows memory = record 
   open_knows = λ o. remembered j j' levels p t (k.open_knows o) links moment m asked windows memory;
 }
 
--- a beat was noted, and refused for want of memory
+-- a beat was noted, and refused
 pub still : {w : ℕ} (j j' : Judge w) (levels : List Level) (p : Profile) (t : Trace w) (closed : Bool) (link : Link)
     (x : Beat w) (next : ℕ) (held : Option ℕ) → Knows j levels p t closed
     → j.closed ≡ false → j'.closed ≡ false → j'.links ≡ j.links → j'.moment ≡ j.moment
@@ -97,14 +98,14 @@ pub taken : {w : ℕ} (j j' : Judge w) (levels : List Level) (p : Profile) (t : 
     → NotesWindow j.monitor j.links j.moment held j.windows j'.windows
     → of_link.LeavesOthers held x (on_link link.0 t)
     → KnowsMemory j'.memory (length levels) ((link, x) ∷ t)
-    → Knows j' levels p ((link, x) ∷ t) false
+    → Knows j' levels p ((link, x) ∷ t) closed
 taken j j' levels p t closed link x next held k e e' links next_is moment fine m asked windows others memory =
     let o = open_still j levels p t closed k e in
     let known = asked.1 levels p t o.monitor_is o.tables_are o.asked_are in
     let seen = windows levels p t o.monitor_is o.links_are o.moment_is o.windows_are in
     let more = next_moment next j.moment t next_is o.moment_is in
     record {
-      closed_is = e';
+      closed_is = e' ∙ sym e ∙ k.closed_is;
       open_knows = λ _. record {
         links_are = links ∙ o.links_are;
         moment_is = moment ∙ more;
@@ -164,25 +165,42 @@ refused j levels p t closed link x fault f k e a f_is =
     (subst (λ c. Answers (fault_of levels p t c (link, x)) (Err (fault_of_monitor fault))) (sym (sym k.closed_is ∙ e))
     (of_link_rule (broken_on_link levels p (link, x) t) (broken_memory (length levels) link.0 x t) fault a))
 
+-- what breaks this rule of memory breaks it, where it breaks no rule of its link
+breach_is : (o : Option Rule) (m : Option MemoryRule) (rule : MemoryRule) (breach : Breach)
+    → Some breach ≡ first_broken o (Some rule) → (o ≡ None → m ≡ Some rule) → first_broken o m ≡ Some breach
+breach_is None m rule breach is here = rw (here refl) (sym is)
+breach_is (Some r) m rule breach is here = sym is
+
+pub broken_so : {w : ℕ} (j : Judge w) (levels : List Level) (p : Profile) (t : Trace w) (closed : Bool) (link : Link)
+    (x : Beat w) (rule : MemoryRule) (breach : Breach) → Knows j levels p t closed → j.closed ≡ false
+    → Some breach ≡ first_broken (broken_on_link levels p (link, x) t) (Some rule)
+    → (broken_on_link levels p (link, x) t ≡ None → broken_memory (length levels) link.0 x t ≡ Some rule)
+    → fault_of levels p t closed (link, x) ≡ Some (judge.Broken breach)
+broken_so j levels p t closed link x rule breach k e is here =
+    rw (
+      sym k.closed_is ∙ e,
+      breach_is (broken_on_link levels p (link, x) t) (broken_memory (length levels) link.0 x t) rule breach is here,
+    ) refl
+
+-- ---- whether the judge is closed
+
+-- a judge that takes a beat isn't closed
+pub unclosed : {w : ℕ} (j : Judge w) (levels : List Level) (p : Profile) (t s : Trace w) (closed : Bool)
+    (x : Link × Beat w) → fault_of levels p t closed x ≡ None → Knows j levels p s closed → Knows j levels p s false
+unclosed j levels p t s true x e k = absurd cc
+unclosed j levels p t s false x e k = k
+
+-- it is closed after a refusal, but for want of memory
 pub refused_knows : {w : ℕ} (j j' : Judge w) (levels : List Level) (p : Profile) (t : Trace w) (closed : Bool)
-    (link : Link) (x : Beat w) (next : ℕ) (held : Option ℕ) (fault : MonitorFault) (f : JudgeFault)
-    → Knows j levels p t closed → j.closed ≡ false → f ≡ fault_of_monitor fault → j'.closed ≡ closes fault
-    → j'.links ≡ j.links → j'.moment ≡ j.moment
-    → of_link.Knows j'.monitor levels p (of_link.recorded_after (Err fault) (link, x) t)
-    (of_link.closed_after (Err fault))
-    → NotesRequest j.monitor j.asked.items j'.asked.items link x next
-    → NotesWindow j.monitor j.links j.moment held j.windows j'.windows
-    → ((n : ℕ) (t : Trace w) → KnowsMemory j.memory n t → KnowsMemory j'.memory n t)
-    → Knows j' levels p t (closed_after closed (Err f))
-refused_knows j j' levels p t closed link x next held monitor.Memory f k e f_is e' links moment m asked windows memory =
-    rw f_is (still j j' levels p t closed link x next held k e e' links moment m asked windows memory)
-refused_knows j j' levels p t closed link x next held monitor.Levels f k e f_is e' links moment m asked windows memory =
-    rw f_is (shut j' levels p t e')
-refused_knows j j' levels p t closed link x next held monitor.Closed f k e f_is e' links moment m asked windows memory =
-    rw f_is (shut j' levels p t e')
-refused_knows j j' levels p t closed link x next held (monitor.Broken r) f k e f_is e' links moment m asked windows
-    memory =
-    rw f_is (shut j' levels p t e')
+    (fault : JudgeFault) → Knows j levels p t closed → j'.closed ≡ closed_after j.closed (Err fault)
+    → j'.links ≡ j.links → j'.moment ≡ j.moment → j'.monitor ≡ j.monitor → j'.asked.items ≡ j.asked.items
+    → j'.windows ≡ j.windows → ((n : ℕ) (t : Trace w) → KnowsMemory j.memory n t → KnowsMemory j'.memory n t)
+    → Knows j' levels p t (closed_after closed (Err fault))
+refused_knows j j' levels p t closed judge.Memory k e links moment m asked windows memory =
+    unnoted j j' levels p t closed k e links moment m asked windows memory
+refused_knows j j' levels p t closed judge.Levels k e links moment m asked windows memory = shut j' levels p t e
+refused_knows j j' levels p t closed judge.Closed k e links moment m asked windows memory = shut j' levels p t e
+refused_knows j j' levels p t closed (judge.Broken b) k e links moment m asked windows memory = shut j' levels p t e
 
 none_yet : (w : ℕ) (entries : List (ℕ × Window)) (n : ℕ) → entries ≡ [] → KnowsWindows {w = w} entries n []
 unfolding last_free

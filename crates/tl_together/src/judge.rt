@@ -1,6 +1,6 @@
 //! A judge of the links of a manager: what it answers to each beat.
 
-ghost use Rattle.std.specs.Prelude.{Bool, true, false, None, Some, List, IfOk};
+ghost use Rattle.std.specs.Prelude.{Bool, true, false, None, Some, List, IfOk, Err};
 ghost use Rattle.std.specs.Prelude.{length, ◌≡◌, ◌<◌, is_some};
 ghost use Rattle.tl_beat.specs.declared.beat.Beat.{Beat};
 ghost use Rattle.tl_beat.specs.declared.beat.Beat.TheVariants as beat;
@@ -14,7 +14,8 @@ ghost use Rattle.tl_memory.specs.code.Changing.{IsChange};
 ghost use Rattle.tl_memory.specs.code.Taking.{request_answered};
 ghost use Rattle.tl_monitor.specs.statement.Knows as of_link;
 ghost use Rattle.tl_together.specs.statement.Coherence;
-ghost use Rattle.tl_together.specs.code.Windows.{asked_in, last_in, closes, fault_of_monitor};
+ghost use Rattle.tl_together.specs.statement.Knows.{closed_after};
+ghost use Rattle.tl_together.specs.code.Windows.{asked_in, last_in, fault_of_monitor};
 
 use crate::breach::{Breach, MemoryRule};
 use crate::fault::JudgeFault;
@@ -142,16 +143,19 @@ fn of_monitor(fault: MonitorFault) -> JudgeFault
     }
 }
 
-/// Whether a monitor is closed after this refusal.
-fn closes(fault: MonitorFault) -> bool
-    ensures { result ≡ closes fault }
+/// Whether a judge is closed after this refusal by `push`, which was or wasn't before it.
+fn is_closed_after(closed: bool, fault: JudgeFault) -> bool
+    ensures { result ≡ closed_after closed (Err fault) }
 {
-    !matches!(fault, MonitorFault::Memory)
+    match fault {
+        JudgeFault::Memory => closed,
+        _ => true,
+    }
 }
 
 impl<const W: usize> Judge<W> {
     ghost use Rattle.tl_together.specs.statement.Knows.{KnowsTrace, Knows, IsNew};
-    ghost use Rattle.tl_together.specs.statement.Knows.{Answers, fault_of, recorded_after, closed_after};
+    ghost use Rattle.tl_together.specs.statement.Knows.{Answers, fault_of, recorded_after};
 
     /// A judge of links of these levels, which has seen no beat. There are to be 1 to 16 levels.
     pub fn new(alloc: Global, levels: &[Level], profile: Profile) -> Result<Self, JudgeFault>
@@ -294,17 +298,30 @@ impl<const W: usize> Judge<W> {
         }
     }
 
-    /// Judges a beat of a link, and takes it where it breaks no rule. After a broken rule every call is
-    /// answered `Closed`. At `Memory` the judge knows what it knew before.
+    /// What a beat breaks that breaks this rule of memory, where it breaks none of its link: those come first.
+    fn breach(&self, rule: MemoryRule, link: Link, beat: &Beat<W>) -> Breach
+        requires { IsWidth W }
+        ensures { (levels : List Level) (p : Profile) (t : Trace W) →
+            KnowsTrace self.now levels p t →
+            Some result ≡ Coherence.first_broken (broken_on_link levels p (link, beat.now) t) (Some rule) }
+    {
+        match self.monitor.broken(link, beat) {
+            Some(of_link) => Breach::OfLink(of_link),
+            None => Breach::OfMemory(rule),
+        }
+    }
+
+    /// Judges a beat of a link, and takes it where it breaks no rule. Where it breaks one, or at `Memory`, the judge
+    /// knows what it knew before, and goes on. `Closed` is answered as by `push`.
     #[inline(never)]
-    pub fn push(&mut self, link: Link, beat: &Beat<W>) -> Result<(), JudgeFault>
+    pub fn try_push(&mut self, link: Link, beat: &Beat<W>) -> Result<(), JudgeFault>
         requires { IsWidth W }
         ensures answer { (levels : List Level) (p : Profile) (t : Trace W) (closed : Bool) →
             Knows self.old levels p t closed →
             Answers (fault_of levels p t closed (link, beat.now)) result }
         ensures knows { (levels : List Level) (p : Profile) (t : Trace W) (closed : Bool) →
             Knows self.old levels p t closed →
-            Knows self.new levels p (recorded_after result (link, beat.now) t) (closed_after closed result) }
+            Knows self.new levels p (recorded_after result (link, beat.now) t) closed }
     {
         if self.closed {
             return Err(JudgeFault::Closed);
@@ -316,7 +333,9 @@ impl<const W: usize> Judge<W> {
         let Ok(change) = self.memory.change(link, beat, asked, next) else {
             return Err(JudgeFault::Memory);
         };
-        let broken = self.broken_memory(&change, link, beat);
+        if let Some(rule) = self.broken_memory(&change, link, beat) {
+            return Err(JudgeFault::Broken(self.breach(rule, link, beat)));
+        }
         let noted = note_window(
             &mut self.windows,
             &self.monitor,
@@ -328,20 +347,33 @@ impl<const W: usize> Judge<W> {
             return Err(JudgeFault::Memory);
         };
         note_request(&mut self.asked, &self.monitor, link, beat, next);
-        match self.monitor.push(link, beat) {
+        match self.monitor.try_push(link, beat) {
             Ok(()) => {}
-            Err(fault) => {
-                self.closed = closes(fault);
-                return Err(of_monitor(fault));
-            }
+            Err(fault) => return Err(of_monitor(fault)),
         }
         let free = freed(&self.monitor, self.links, change.held);
         self.memory.take(change, link, beat, free, next);
         self.moment = next;
-        if let Some(rule) = broken {
-            self.closed = true;
-            return Err(JudgeFault::Broken(Breach::OfMemory(rule)));
-        }
         Ok(())
+    }
+
+    /// Judges a beat of a link, and takes it where it breaks no rule. After a broken rule every call is
+    /// answered `Closed`. At `Memory` the judge knows what it knew before.
+    pub fn push(&mut self, link: Link, beat: &Beat<W>) -> Result<(), JudgeFault>
+        requires { IsWidth W }
+        ensures answer { (levels : List Level) (p : Profile) (t : Trace W) (closed : Bool) →
+            Knows self.old levels p t closed →
+            Answers (fault_of levels p t closed (link, beat.now)) result }
+        ensures knows { (levels : List Level) (p : Profile) (t : Trace W) (closed : Bool) →
+            Knows self.old levels p t closed →
+            Knows self.new levels p (recorded_after result (link, beat.now) t) (closed_after closed result) }
+    {
+        match self.try_push(link, beat) {
+            Ok(()) => Ok(()),
+            Err(fault) => {
+                self.closed = is_closed_after(self.closed, fault);
+                Err(fault)
+            }
+        }
     }
 }

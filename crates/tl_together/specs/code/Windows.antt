@@ -98,8 +98,3 @@ NotesWindow {w} m links moment held old new =
     → KnowsWindows new (length levels) t
     × ((link : Link) (x : Beat w) → LeavesOthers held x (on_link link.0 t)
     → KnowsWindows new (length levels) ((link, x) ∷ t))
-
--- a monitor is closed after this refusal
-abbrev pub closes : MonitorFault → Bool
-closes monitor.Memory = false
-closes _ = true

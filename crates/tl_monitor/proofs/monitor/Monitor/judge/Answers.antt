@@ -19,7 +19,7 @@ returns-in-Ok-None-clause-knows g c = λ levels lib t closed k.
     let legal : None ≡ broken_after_under c.args.self.now.liberties old.level c.args.beat.now (on_link c.from-n.result t) =
     rw c.in-Ok-None.field-0-is at (c.in-Ok-None.ensures.rule (on_link c.from-n.result t) lawful keeps) in
     knows-more c.args.self.now _ levels lib t closed c.from-n.result c.args.link c.args.beat.now old _ k
-    refl c.if-self.false refl c.from-n.ensures lt c.index_mut-monitored.ensures.value refl
+    refl refl refl c.from-n.ensures lt c.index_mut-monitored.ensures.value refl
     (keeps-more c.args.self.now.liberties old.level old.state c.push.new.self c.args.beat.now (on_link c.from-n.result t)
     c.requires keeps (sym legal) (rw c.in-Ok-None.field-0-is at c.in-Ok-None.ensures.takes))
 

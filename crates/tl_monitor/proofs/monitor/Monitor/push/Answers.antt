@@ -1,18 +1,14 @@
 use Rattle.std.proofs.Common.{refl}
 use Rattle.tl_params.specs.statement.Liberties.{liberties_of}
-use Rattle.tl_rules.specs.statement.Conformance.{on_link}
-use Rattle.tl_monitor.proofs.AtProfile.{answers-of, more-of}
+use Rattle.tl_monitor.proofs.Knowing.{closed-anew}
 use Rattle.tl_monitor.proofs.monitor.Monitor.push.Goals as goal
 
-pub returns-clause-answer : goal.returns-clause-answer
-returns-clause-answer g c = λ levels p t closed k.
-    answers-of levels p t closed (c.args.link, c.args.beat.now) c.judge.result
-    (c.judge.ensures.answer levels (liberties_of p) t closed k)
-
 pub returns-clause-knows : goal.returns-clause-knows
-returns-clause-knows g c = λ levels p t closed k. c.judge.ensures.knows levels (liberties_of p) t closed k
+returns-clause-knows g c = λ levels p t closed k.
+    closed-anew c.try_push-answer.new.self _ levels (liberties_of p) _ closed _
+    (c.try_push-answer.ensures.knows levels p t closed k) refl refl c.is_closed_after-self.ensures
 
-pub returns-clause-memory : goal.returns-clause-memory
-returns-clause-memory g c = λ levels p t closed k.
-    more-of p (on_link c.args.link.0 t) c.args.beat.now c.judge.result
-    (c.judge.ensures.memory levels (liberties_of p) t closed k)
+pub returns-clause-knows_under : goal.returns-clause-knows_under
+returns-clause-knows_under g c = λ levels lib t closed k.
+    closed-anew c.try_push-answer.new.self _ levels lib _ closed _
+    (c.try_push-answer.ensures.knows_under levels lib t closed k) refl refl c.is_closed_after-self.ensures

@@ -11,7 +11,7 @@ use Rattle.tl_burst.specs.statement.Messages.{unfinished}
 use Rattle.tl_burst.specs.statement.Part.{is_empty}
 use Rattle.tl_burst.proofs.ControlFields.{control_a, control_c, control_d}
 use Rattle.tl_monitor.proofs.Continued.{own-channel}
-use Rattle.tl_monitor.proofs.Judged.{continues}
+use Rattle.tl_monitor.proofs.AtProfile.{continues}
 use Rattle.tl_params.specs.declared.key.Key.{Key}
 use Rattle.tl_params.specs.declared.key.Key.TheVariants.{RequestSource, ReleaseSource, AcquireOf, ReleaseOf, GrantSink}
 use Rattle.tl_params.specs.declared.key.Key.TheVariants.{GrantAckOf, ProbeOf}

@@ -1,8 +1,8 @@
 -- A monitor that knows one more beat.
 use Rattle.std.proofs.Common.{◌≡◌, ℕ, Bool, false, List, [], ◌∷◌, ◌++◌, length, ◌<◌, ◌≤◌, ◌≢◌, refl, sym, ap}
 use Rattle.std.proofs.Common.{◌∙◌, arith, inl, inr, ◌+◌, take, drop, reverse, length-append}
-use Rattle.std.specs.Prelude.{slice_index_or, slice_get, slice_set, option_map, Option, Some, None, Err}
-use Rattle.std.proofs.lemmas.Bool.{cases_eq, eq-eqb, ne_eqb}
+use Rattle.std.specs.Prelude.{slice_index_or, slice_get, slice_set, option_map, Option, Some, None, Err, nat_lt, true}
+use Rattle.std.proofs.lemmas.Bool.{cases_eq, eq-eqb, le-ltb, lt-ltb, ne_eqb}
 use Rattle.std.proofs.lemmas.List.{get_or-set_same, get_or-set_other, drop_more, take_more, drop_all, reverse-append}
 use Rattle.std.proofs.lemmas.List.{length-map, length-reverse, length-take-le, map-append}
 use Rattle.std.proofs.lemmas.Option.{slice_get-map, slice_get_read}
@@ -12,6 +12,8 @@ use Rattle.tl_beat.specs.declared.beat.Beat.{Beat}
 use Rattle.tl_beat.specs.declared.beat.Link.{Link}
 use Rattle.tl_params.specs.declared.level.Level.{Level}
 use Rattle.tl_params.specs.declared.liberties.Liberties.{Liberties}
+use Rattle.tl_params.specs.declared.profile.Profile.{Profile}
+use Rattle.tl_params.specs.statement.Liberties.{liberties_of}
 use Rattle.tl_params.specs.declared.rule.Rule.{Rule}
 use Rattle.tl_rules.specs.statement.Conformance.{Trace, on_link}
 use Rattle.tl_rules.specs.statement.Liberties.{broken_after_under, broken_on_link_under, fault_from_under}
@@ -21,7 +23,7 @@ use Rattle.tl_monitor.proofs.Keepings.{keeps-none}
 use Rattle.tl_monitor.specs.declared.monitor.Monitor.{Monitor}
 use Rattle.tl_monitor.specs.declared.monitor.MonitoredLink.{MonitoredLink}
 use Rattle.tl_params.specs.statement.Config.{IsCount}
-use Rattle.tl_monitor.specs.statement.Knows.{KnowsUnder, AreEmpty, levels_of, Answers}
+use Rattle.tl_monitor.specs.statement.Knows.{Knows, KnowsUnder, AreEmpty, levels_of, Answers}
 use Rattle.tl_monitor.specs.statement.Knows.{AnswersTraceUnder, fault_under, broken, trace_fault_of}
 use Rattle.tl_monitor.specs.declared.fault.MonitorFault.{MonitorFault}
 use Rattle.tl_monitor.specs.declared.fault.MonitorFault.TheVariants as monitor
@@ -35,6 +37,17 @@ on_link-other : {w : ℕ} (n : ℕ) (link : Link) (x : Beat w) (t : Trace w) →
     → on_link n ((link, x) ∷ t) ≡ on_link n t
 unfolding on_link
 on_link-other n link x t apart = rw (ne_eqb link.0 n apart) refl
+
+-- a monitor of a profile has the liberties of the profile
+pub to-liberties : {w : ℕ} (m : Monitor w) (levels : List Level) (p : Profile) (t : Trace w) (closed : Bool)
+    → Knows m levels p t closed → KnowsUnder m levels (liberties_of p) t closed
+unfolding Knows
+to-liberties m levels p t closed k = k
+
+pub to-profile : {w : ℕ} (m : Monitor w) (levels : List Level) (p : Profile) (t : Trace w) (closed : Bool)
+    → KnowsUnder m levels (liberties_of p) t closed → Knows m levels p t closed
+unfolding Knows
+to-profile m levels p t closed k = k
 
 -- a monitor has a level for each link
 pub count-is : {w : ℕ} (m : Monitor w) (levels : List Level) (lib : Liberties) (t : Trace w) (closed : Bool)
@@ -212,3 +225,26 @@ fault-answered levels lib beats i x (monitor.Broken rule) counted lt is same ans
 fault-answered levels lib beats i x monitor.Levels counted lt is same answer = counted
 fault-answered levels lib beats i x monitor.Memory counted lt is same answer = counted
 fault-answered levels lib beats i x monitor.Closed counted lt is same answer = counted
+
+-- ---- links with a level, and without
+
+pub without-level : {w : ℕ} (m : Monitor w) (levels : List Level) (p : Profile) (t : Trace w) (closed : Bool) (link : Link)
+    (i count : ℕ) → Knows m levels p t closed → i ≡ link.0 → count ≡ length m.links.items → count ≤ i
+    → nat_lt link.0 (length levels) ≡ false
+without-level m levels p t closed link i count k own counted none =
+    let e = count-is m levels (liberties_of p) t closed (to-liberties m levels p t closed k) in
+    le-ltb link.0 (length levels) (omega (arith, e, own, counted, none))
+
+pub with-level : {w : ℕ} (m : Monitor w) (levels : List Level) (p : Profile) (t : Trace w) (closed : Bool) (link : Link)
+    (i : ℕ) → Knows m levels p t closed → i ≡ link.0 → i < length m.links.items
+    → nat_lt link.0 (length levels) ≡ true
+with-level m levels p t closed link i k own lt =
+    let e = count-is m levels (liberties_of p) t closed (to-liberties m levels p t closed k) in
+    lt-ltb link.0 (length levels) (omega (arith, e, own, lt))
+
+-- what is kept of a link, by the number of the link
+pub state-on : {w : ℕ} (m : Monitor w) (levels : List Level) (p : Profile) (t : Trace w) (closed : Bool) (link : Link)
+    (i : ℕ) (monitored : MonitoredLink) → Knows m levels p t closed → i ≡ link.0 → i < length m.links.items
+    → monitored ≡ slice_index_or m.links.items i monitored → Keeps (liberties_of p) monitored.state (on_link link.0 t)
+state-on m levels p t closed link i monitored k own lt is =
+    rw (← own) (link_state-of m levels (liberties_of p) t closed i monitored (to-liberties m levels p t closed k) lt is)

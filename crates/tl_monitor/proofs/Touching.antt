@@ -27,7 +27,7 @@ use Rattle.tl_monitor.specs.declared.monitor.Monitor.{Monitor}
 use Rattle.tl_monitor.specs.declared.monitor.MonitoredLink.{MonitoredLink}
 use Rattle.tl_monitor.specs.statement.Knows.{Knows, LeavesOthers}
 use Rattle.tl_monitor.proofs.Keeping.{same_touched}
-use Rattle.tl_monitor.proofs.Knowing.{count-is, link_state-of}
+use Rattle.tl_monitor.proofs.Knowing.{count-is, link_state-of, to-liberties}
 
 either_less : (f g : Bool) (b : ℕ) (o : Option ℕ) → is_block b o ≡ false
     → is_block b (if f || g then o else None) ≡ false
@@ -90,8 +90,8 @@ pub left_on_link : {w : ℕ} (m : Monitor w) (levels : List Level) (p : Profile)
     → broken_on_link levels p (link, x) t ≡ None → LeavesOthers block x (on_link link.0 t)
 left_on_link m levels p t closed i link x monitored block k i_is lt is touched_is fine =
     let keeps : Keeps (liberties_of p) monitored.state (on_link link.0 t) =
-    rw (← i_is) (link_state-of m levels (liberties_of p) t closed i monitored k lt is) in
-    let below : link.0 < length levels = rw (i_is, count-is m levels (liberties_of p) t closed k) at lt in
+    rw (← i_is) (link_state-of m levels (liberties_of p) t closed i monitored (to-liberties m levels p t closed k) lt is) in
+    let below : link.0 < length levels = rw (i_is, count-is m levels (liberties_of p) t closed (to-liberties m levels p t closed k)) at lt in
     let level = some_within levels link.0 below in
     let legal : broken_after level.0 p x (on_link link.0 t) ≡ None =
     sym (ap (λ o. broken_at_level o p x (on_link link.0 t)) level.1) ∙ fine in

@@ -93,19 +93,16 @@ impl<const W: usize> Monitor<W> {
     /// The first rule that a beat breaks on its link, or none. It isn't taken.
     pub fn broken(&self, link: Link, beat: &Beat<W>) -> Option<Rule>
         requires { IsWidth W }
-        ensures profile { (levels : List Level) (p : Profile) (t : Trace W) (closed : Bool) →
+        ensures { (levels : List Level) (p : Profile) (t : Trace W) (closed : Bool) →
             Knows self.now levels p t closed →
             result ≡ broken_on_link levels p (link, beat.now) t }
-        ensures under { (levels : List Level) (l : Liberties) (t : Trace W) (closed : Bool) →
-            KnowsUnder self.now levels l t closed →
-            result ≡ broken_on_link_under l levels (link, beat.now) t }
     {
         self.broken_under(link, beat)
     }
 
-    /// `broken`, by what it says under liberties.
+    /// The same on links with liberties.
     #[inline(always)]
-    fn broken_under(&self, link: Link, beat: &Beat<W>) -> Option<Rule>
+    pub fn broken_under(&self, link: Link, beat: &Beat<W>) -> Option<Rule>
         requires { IsWidth W }
         ensures { (levels : List Level) (l : Liberties) (t : Trace W) (closed : Bool) →
             KnowsUnder self.now levels l t closed →
@@ -211,8 +208,8 @@ impl<const W: usize> Monitor<W> {
 
     /// The request with this source that is pending and complete on a link; none on a link without a level.
     pub fn request(&self, link: Link, source: u8) -> Option<Request>
-        ensures { (levels : List Level) (l : Liberties) (t : Trace W) (closed : Bool) →
-            KnowsUnder self.now levels l t closed →
+        ensures { (levels : List Level) (p : Profile) (t : Trace W) (closed : Bool) →
+            Knows self.now levels p t closed →
             result ≡ request_on levels link source t }
     {
         let n = usize::from(link.0);
@@ -224,19 +221,16 @@ impl<const W: usize> Monitor<W> {
 
     /// What is held of a block on a link; nothing on a link without a level.
     pub fn held(&self, link: Link, block: u32) -> Perm
-        ensures profile { (levels : List Level) (p : Profile) (t : Trace W) (closed : Bool) →
+        ensures { (levels : List Level) (p : Profile) (t : Trace W) (closed : Bool) →
             Knows self.now levels p t closed →
             result ≡ held_on levels link block t }
-        ensures under { (levels : List Level) (l : Liberties) (t : Trace W) (closed : Bool) →
-            KnowsUnder self.now levels l t closed →
-            result ≡ held_on_under l levels link block t }
     {
-        self.kept_perm(link, block)
+        self.held_under(link, block)
     }
 
-    /// `held`, by what it says under liberties.
+    /// The same on links with liberties.
     #[inline(always)]
-    fn kept_perm(&self, link: Link, block: u32) -> Perm
+    pub fn held_under(&self, link: Link, block: u32) -> Perm
         ensures { (levels : List Level) (l : Liberties) (t : Trace W) (closed : Bool) →
             KnowsUnder self.now levels l t closed →
             result ≡ held_on_under l levels link block t }
@@ -251,8 +245,8 @@ impl<const W: usize> Monitor<W> {
     /// The permission that the unfinished Grant of a block gives on a link, where one has begun that isn't denied;
     /// nothing on a link without a level.
     pub fn coming(&self, link: Link, block: u32) -> Option<Perm>
-        ensures { (levels : List Level) (l : Liberties) (t : Trace W) (closed : Bool) →
-            KnowsUnder self.now levels l t closed →
+        ensures { (levels : List Level) (p : Profile) (t : Trace W) (closed : Bool) →
+            Knows self.now levels p t closed →
             result ≡ coming_on levels link block t }
     {
         let n = usize::from(link.0);
@@ -277,8 +271,8 @@ impl<const W: usize> Monitor<W> {
 
     /// Whether a beat begins a message on its link; on a link without a level none does.
     pub fn begins(&self, link: Link, beat: &Beat<W>) -> bool
-        ensures { (levels : List Level) (l : Liberties) (t : Trace W) (closed : Bool) →
-            KnowsUnder self.now levels l t closed →
+        ensures { (levels : List Level) (p : Profile) (t : Trace W) (closed : Bool) →
+            Knows self.now levels p t closed →
             result ≡ begins_on levels link beat.now t }
     {
         let n = usize::from(link.0);

@@ -22,7 +22,7 @@ use Rattle.tl_rules.specs.statement.Conformance.{Trace, on_link, broken_after, b
 use Rattle.tl_rules.specs.statement.Conformance.{comes_in_request}
 use Rattle.tl_rules.specs.statement.History.{begins, ends, held, pending, request_of, is_release_ack}
 use Rattle.tl_rules.proofs.Tables.{request-next}
-use Rattle.tl_monitor.proofs.Judged.{continues}
+use Rattle.tl_monitor.proofs.AtProfile.{continues}
 use Rattle.tl_memory.specs.code.Changing.{IsChange}
 use Rattle.tl_memory.specs.code.Elsewhere.{LeavesHeld}
 use Rattle.tl_memory.specs.code.Passing.{changes_held}

@@ -41,7 +41,7 @@ pub record KnowsUnder {w : ℕ} (m : Monitor w) (levels : List Level) (l : Liber
         → Keeps l (slice_index_or m.links.items n d).state (on_link n t)
 
 -- the same of a monitor of a profile
-abbrev pub Knows : {w : ℕ} → Monitor w → List Level → Profile → Trace w → Bool → Type 0
+unfoldable pub Knows : {w : ℕ} → Monitor w → List Level → Profile → Trace w → Bool → Type 0
 Knows m levels p t closed = KnowsUnder m levels (liberties_of p) t closed
 
 -- the request with this source that is pending and complete on a link; none on a link without a level
@@ -77,7 +77,10 @@ IsNewUnder levels l (Err monitor.Memory) = IsCount (length levels)
 IsNewUnder levels l (Err _) = ⊥
 
 abbrev pub IsNew : {w : ℕ} → List Level → Profile → Result (Monitor w) MonitorFault → Type 0
-IsNew levels p result = IsNewUnder levels (liberties_of p) result
+IsNew levels p (Ok m) = IsCount (length levels) × Knows m levels p [] false
+IsNew levels p (Err monitor.Levels) = ¬ IsCount (length levels)
+IsNew levels p (Err monitor.Memory) = IsCount (length levels)
+IsNew levels p (Err _) = ⊥
 
 -- the fault of a beat, want of memory aside: the first rule that it breaks after the earlier beats
 -- of its link, where none was refused before

@@ -32,6 +32,20 @@ enum tl_rule {
 
 enum tl_level { TL_UL = 0, TL_UH = 1, TL_C = 2 };
 
+/* What a link may do beyond profile 1: a set of these is their sum (docs/PROTOCOL.md, "Liberties"). */
+enum tl_liberty {
+  TL_NO_LIBERTIES = 0,
+  TL_IDS = 1,         /* any source on channel B; a ProbeAck has the source of its Probe */
+  TL_SINKS = 2,       /* any sink on channel D without a Grant */
+  TL_WRITER = 4,      /* an AcquireBlock NtoB may be granted toT, as under profile 2 */
+  TL_EARLY = 8,       /* a response may begin once its request has begun, a GrantAck once its Grant has */
+  TL_DROPS = 16,      /* a client may give up a block without a message */
+  TL_REPORTS = 32,    /* a Release may have any of the six reports */
+  TL_DENIED = 64,     /* a Grant may be denied */
+  TL_STANDARD = 127,  /* all of these */
+  TL_UNCORRUPT = 128  /* a denied AccessAckData needn't be corrupt, which the standard wants */
+};
+
 enum tl_channel { TL_CHANNEL_A = 0, TL_CHANNEL_B = 1, TL_CHANNEL_C = 2, TL_CHANNEL_D = 3, TL_CHANNEL_E = 4 };
 
 enum tl_opcode {
@@ -76,6 +90,10 @@ typedef struct tl_monitor {
    profile 1 or 2, behind a handle that holds nothing. */
 tl_answer tl_monitor_new(tl_monitor *monitor, const uint8_t *levels, size_t links, uint8_t width,
                          uint8_t profile);
+
+/* The same of links that have these liberties (the sum of enum tl_liberty). */
+tl_answer tl_monitor_new_under(tl_monitor *monitor, const uint8_t *levels, size_t links, uint8_t width,
+                               uint8_t liberties);
 
 /* Judges a beat of a link, 0 to 15, after the earlier beats of that link. */
 tl_answer tl_monitor_push(tl_monitor *monitor, uint8_t link, const tl_beat *beat);

@@ -35,6 +35,19 @@ class Level(enum.IntEnum):
     C = 2
 
 
+class Liberty(enum.IntFlag):
+    """What a link may do beyond profile 1 (docs/PROTOCOL.md, "Liberties"); a set of them is their union."""
+    IDS = 1
+    SINKS = 2
+    WRITER = 4
+    EARLY = 8
+    DROPS = 16
+    REPORTS = 32
+    DENIED = 64
+    UNCORRUPT = 128
+    STANDARD = 127
+
+
 class Channel(enum.IntEnum):
     """The channel of a beat."""
 
@@ -238,6 +251,8 @@ def _load():
             call.restype, call.argtypes = _Answer, [handle, *arguments]
         free = getattr(library, f"tl_{name}_free")
         free.restype, free.argtypes = None, [handle]
+    library.tl_monitor_new_under.restype = _Answer
+    library.tl_monitor_new_under.argtypes = library.tl_monitor_new.argtypes
     library.tl_monitor_entries.restype = _Answer
     library.tl_monitor_entries.argtypes = [ctypes.POINTER(_Monitor), ctypes.c_uint8, ctypes.POINTER(ctypes.c_uint64)]
     client, flag = ctypes.POINTER(_Client), ctypes.POINTER(ctypes.c_uint8)
@@ -358,12 +373,12 @@ class _Agent:
 class _Judging(_Agent):
     """What judges beats of 1 to 16 links of these levels, by the library's calls of a name."""
 
-    def __init__(self, name, handle, levels, width, profile):
+    def __init__(self, name, handle, new, levels, width, kind, number):
         super().__init__(handle, getattr(_library, f"tl_{name}_free"), width)
         self._push, self._push_line = (getattr(_library, f"tl_{name}_{it}") for it in ("push", "push_line"))
-        codes, new = bytes(_field(level, "a level", 256) for level in levels), getattr(_library, f"tl_{name}_new")
-        _taken(new(self._handle, codes, len(codes), _field(width, "width", 256), _field(profile, "profile", 256)),
-               "levels, width or profile")
+        codes = bytes(_field(level, "a level", 256) for level in levels)
+        _taken(new(self._handle, codes, len(codes), _field(width, "width", 256), _field(number, kind, 256)),
+               f"levels, width or {kind}")
 
     def push(self, link, beat):
         """Judges a beat of a link."""
@@ -381,15 +396,19 @@ class Judge(_Judging):
     beats of all links. Those of one clock edge come by channel, the A of each link, then B, C, D and E."""
 
     def __init__(self, levels, width=8, profile=1):
-        super().__init__("judge", _Judge(), levels, width, profile)
+        super().__init__("judge", _Judge(), _library.tl_judge_new, levels, width, "profile", profile)
 
 
 class Monitor(_Judging):
-    """A monitor of 1 to 16 links of these levels, of beats of `width` bytes, under profile 1 or 2: each beat after the
-    earlier beats of its own link."""
+    """A monitor of 1 to 16 links of these levels, of beats of `width` bytes, under profile 1 or 2 or, where they are
+    given, under these liberties: each beat after the earlier beats of its own link."""
 
-    def __init__(self, levels, width=8, profile=1):
-        super().__init__("monitor", _Monitor(), levels, width, profile)
+    def __init__(self, levels, width=8, profile=1, liberties=None):
+        if liberties is None:
+            super().__init__("monitor", _Monitor(), _library.tl_monitor_new, levels, width, "profile", profile)
+        else:
+            super().__init__("monitor", _Monitor(), _library.tl_monitor_new_under, levels, width, "liberties",
+                             int(liberties))
 
     def entries(self, link):
         """How many keys are pending on a link, and how many blocks are held there, together."""

@@ -4,6 +4,7 @@
 #include "tl_dpi.hpp"
 
 #include <cstdio>
+#include <utility>
 
 namespace {
 
@@ -14,21 +15,26 @@ struct Checker {
 
 template <typename Judging> struct CheckerBy : Checker {
   Judging judging;
-  CheckerBy(const std::vector<std::uint8_t> &levels, int width, int profile)
-      : judging(levels, static_cast<std::uint8_t>(width), static_cast<std::uint8_t>(profile)) {}
+  explicit CheckerBy(Judging &&made) : judging(std::move(made)) {}
   tl_answer push(std::uint8_t link, const tl_beat &beat) override { return judging.push(link, beat); }
 };
 
 }  // namespace
 
-// `levels` has two bits for each link, the lowest for link 0.
-extern "C" void *tl_checker_open(int links, int levels, int width, int profile, int together) {
+// `levels` has two bits for each link, the lowest for link 0; `liberties` is a sum of enum tl_liberty, which a judge
+// of all links doesn't take.
+extern "C" void *tl_checker_open(int links, int levels, int width, int profile, int liberties, int together) {
   std::vector<std::uint8_t> codes;
   for (int i = 0; i < links; i++)
     codes.push_back(static_cast<std::uint8_t>((static_cast<unsigned>(levels) >> (2 * i)) & 3));
   try {
-    if (together) return static_cast<Checker *>(new CheckerBy<hefrudyl::Judge>(codes, width, profile));
-    return static_cast<Checker *>(new CheckerBy<hefrudyl::Monitor>(codes, width, profile));
+    const auto bytes = static_cast<std::uint8_t>(width), of_profile = static_cast<std::uint8_t>(profile);
+    if (together)
+      return static_cast<Checker *>(new CheckerBy<hefrudyl::Judge>(hefrudyl::Judge(codes, bytes, of_profile)));
+    if (liberties == 0)
+      return static_cast<Checker *>(new CheckerBy<hefrudyl::Monitor>(hefrudyl::Monitor(codes, bytes, of_profile)));
+    const auto set = static_cast<std::uint8_t>(liberties | (profile == 2 ? TL_WRITER : TL_NO_LIBERTIES));
+    return static_cast<Checker *>(new CheckerBy<hefrudyl::Monitor>(hefrudyl::Monitor::under(codes, set, bytes)));
   } catch (const std::exception &error) {
     std::fprintf(stderr, "tl_checker: %s\n", error.what());
     return nullptr;

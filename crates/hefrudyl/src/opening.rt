@@ -2,7 +2,7 @@
 
 ghost use Rattle.std.specs.Prelude.{◌≡◌, ◌≤◌, map, length, IfOk};
 ghost use Rattle.tl_beat.specs.statement.Width.{IsWidth};
-ghost use Rattle.hefrudyl.specs.statement.Opened.{may_open, Makes};
+ghost use Rattle.hefrudyl.specs.statement.Opened.{may_open, may_open_under, Makes, MakesUnder};
 ghost use Rattle.tl_pictures.specs.statement.Codes.{level_at};
 ghost use Rattle.hefrudyl.specs.statement.ClientOpened.{may_open_client, MakesClient};
 ghost use Rattle.hefrudyl.specs.statement.ManagerOpened.{may_open_manager, MakesManager};
@@ -11,7 +11,7 @@ ghost use Rattle.hefrudyl.specs.statement.TogetherOpened.{MakesJudge};
 use std::alloc::{AllocError, Global};
 use tl_monitor::monitor::Monitor;
 use tl_pictures::answer::Answer;
-use tl_pictures::codes::{are_levels, is_profile, is_width, level_of, profile_of};
+use tl_pictures::codes::{are_levels, is_profile, is_width, level_of, liberties_of, profile_of};
 use tl_pictures::config::{LinkConfig, config_of, links_fit};
 use tl_ports::client::ClientPort;
 use tl_ports::manager::ManagerPort;
@@ -24,11 +24,7 @@ use tl_together::judge::Judge;
 pub fn may_open(codes: &[u8], width: u8, profile: u8) -> bool
     ensures { result ≡ may_open codes.now width profile }
 {
-    1 <= codes.len()
-        && codes.len() <= MOST_CLIENTS
-        && are_levels(codes)
-        && is_width(width)
-        && is_profile(profile)
+    may_open_under(codes, width) && is_profile(profile)
 }
 
 fn levels_of(alloc: Global, codes: &[u8]) -> Result<Vec<Level>, AllocError>
@@ -50,6 +46,31 @@ pub fn make<const W: usize>(alloc: Global, codes: &[u8], profile: u8) -> Result<
         return Err(Answer::NO_MEMORY);
     };
     match Monitor::new(alloc, levels.as_slice(), profile_of(profile)) {
+        Ok(monitor) => Ok(monitor),
+        Err(fault) => Err(Answer::of(Err(fault))),
+    }
+}
+
+/// 1 to 16 levels, 0 to 2 each, and a width of 4, 8 or 16.
+pub fn may_open_under(codes: &[u8], width: u8) -> bool
+    ensures { result ≡ may_open_under codes.now width }
+{
+    1 <= codes.len() && codes.len() <= MOST_CLIENTS && are_levels(codes) && is_width(width)
+}
+
+/// A monitor of links with liberties that has seen no beat.
+pub fn make_under<const W: usize>(
+    alloc: Global,
+    codes: &[u8],
+    liberties: u8,
+) -> Result<Monitor<W>, Answer>
+    requires width { IsWidth W }
+    ensures { MakesUnder codes.now liberties result }
+{
+    let Ok(levels) = levels_of(alloc, codes) else {
+        return Err(Answer::NO_MEMORY);
+    };
+    match Monitor::with_liberties(alloc, levels.as_slice(), liberties_of(liberties)) {
         Ok(monitor) => Ok(monitor),
         Err(fault) => Err(Answer::of(Err(fault))),
     }

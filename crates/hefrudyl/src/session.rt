@@ -1,6 +1,6 @@
 //! What a handle holds.
 
-ghost use Rattle.hefrudyl.specs.statement.Opened.{OpensTo, ok_of, answer_in};
+ghost use Rattle.hefrudyl.specs.statement.Opened.{OpensTo, OpensUnder, ok_of, answer_in};
 ghost use Rattle.hefrudyl.specs.statement.Sessions.{PushSession, LineSession, EntriesSession};
 ghost use Rattle.hefrudyl.specs.statement.Sessions.{JudgeOpens, JudgesSession, JudgesLineSession};
 ghost use Rattle.hefrudyl.specs.statement.Sessions.{ClientOpens, AsksSession, OffersSession, StallsSession};
@@ -13,7 +13,8 @@ use crate::judge::AnyJudge;
 use crate::manager::AnyManager;
 use crate::monitor::AnyMonitor;
 use crate::opening::{
-    make, make_client, make_judge, make_manager, may_open, may_open_client, may_open_manager,
+    make, make_client, make_judge, make_manager, make_under, may_open, may_open_client,
+    may_open_manager, may_open_under,
 };
 use crate::{client, judge, manager, monitor};
 use std::alloc::Global;
@@ -57,6 +58,27 @@ impl Session {
             4 => AnyMonitor::Four(make(alloc, codes, profile)?),
             8 => AnyMonitor::Eight(make(alloc, codes, profile)?),
             16 => AnyMonitor::Sixteen(make(alloc, codes, profile)?),
+            _ => return Err(Answer::BAD),
+        };
+        Ok(Session::Monitor(monitor))
+    }
+
+    /// A new monitor of the width, of links with liberties.
+    pub fn open_under(
+        alloc: Global,
+        codes: &[u8],
+        width: u8,
+        liberties: u8,
+    ) -> Result<Session, Answer>
+        ensures told { OpensUnder codes.now width liberties (ok_of result) (answer_in result) }
+    {
+        if !may_open_under(codes, width) {
+            return Err(Answer::BAD);
+        }
+        let monitor = match width {
+            4 => AnyMonitor::Four(make_under(alloc, codes, liberties)?),
+            8 => AnyMonitor::Eight(make_under(alloc, codes, liberties)?),
+            16 => AnyMonitor::Sixteen(make_under(alloc, codes, liberties)?),
             _ => return Err(Answer::BAD),
         };
         Ok(Session::Monitor(monitor))

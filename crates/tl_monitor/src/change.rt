@@ -7,7 +7,8 @@ ghost use Rattle.tl_rules.specs.code.Tables.{block_next, held_with, probe_kept};
 
 use tl_beat::beat::{Beat, BeatA, BeatB, BeatC, BeatD, BeatE};
 use tl_rules::kind::{
-    capped, grows_from_none, is_acquire, is_grant, is_probe, is_probe_ack, is_release, is_release_ack, reported,
+    capped, grows_from_none, is_acquire, is_grant, is_probe, is_probe_ack, is_release,
+    is_release_ack, reported,
 };
 use tl_rules::liberties::Liberties;
 use tl_rules::past::Probe;

@@ -167,10 +167,7 @@ impl<const W: usize> Monitor<W> {
             return Err(MonitorFault::Broken(Rule::L1));
         }
         let monitored = &mut self.links[n];
-        match monitored
-            .state
-            .push(self.liberties, monitored.level, beat)
-        {
+        match monitored.state.push(self.liberties, monitored.level, beat) {
             Ok(None) => Ok(()),
             Ok(Some(rule)) => Err(MonitorFault::Broken(rule)),
             Err(_) => Err(MonitorFault::Memory),

@@ -1,13 +1,15 @@
 //! The numbers by which C names levels, profiles, widths, channels and links.
 
 ghost use Rattle.std.specs.Prelude.{◌≡◌};
-ghost use Rattle.tl_pictures.specs.statement.Codes.{level_at, are_levels, profile_at, is_profile};
+ghost use Rattle.tl_pictures.specs.statement.Codes.{level_at, are_levels, liberties_at, profile_at, is_profile};
 ghost use Rattle.tl_pictures.specs.statement.Codes.{is_width, channel_at, link_at};
 
 use tl_beat::beat::Link;
 use tl_beat::channel::Channel;
+use tl_burst::burst::bit_of;
 use tl_rules::config::MOST_CLIENTS;
 use tl_rules::level::Level;
+use tl_rules::liberties::Liberties;
 use tl_rules::profile::Profile;
 
 /// The level of a code: 0 for UL, 1 for UH, 2 for C.
@@ -43,6 +45,23 @@ pub fn is_profile(code: u8) -> bool
     ensures { result ≡ is_profile code }
 {
     code == 1 || code == 2
+}
+
+/// The liberties of a code: bit 0 for `ids` to bit 7 for `uncorrupt`, in the order in which a header names them.
+pub fn liberties_of(code: u8) -> Liberties
+    ensures { result ≡ liberties_at code }
+{
+    let bits = u16::from(code);
+    Liberties {
+        ids: bit_of(bits, 0),
+        sinks: bit_of(bits, 1),
+        writer: bit_of(bits, 2),
+        early: bit_of(bits, 3),
+        drops: bit_of(bits, 4),
+        reports: bit_of(bits, 5),
+        denied: bit_of(bits, 6),
+        uncorrupt: bit_of(bits, 7),
+    }
 }
 
 /// Whether a beat may have so many bytes.

@@ -8,7 +8,7 @@ use Rattle.tl_pictures.specs.declared.outcome.Reception.{Reception}
 use Rattle.tl_pictures.specs.declared.picture.Picture.{Picture}
 use Rattle.hefrudyl.specs.declared.session.Session.{Session}
 use Rattle.tl_pictures.specs.statement.Answer.{bad, IsBad}
-use Rattle.hefrudyl.specs.statement.Opened.{OpensTo}
+use Rattle.hefrudyl.specs.statement.Opened.{OpensTo, OpensUnder}
 use Rattle.hefrudyl.specs.statement.Sessions
 
 -- one that holds something is left as it is, and one that holds nothing opens so
@@ -18,6 +18,10 @@ OpensHandle P None new answer = P new answer
 
 abbrev pub MonitorOpenTold : Option Session → Option Session → List ℕ → ℕ → ℕ → Answer → Type 0
 MonitorOpenTold old new levels width profile answer = OpensHandle (OpensTo levels width profile) old new answer
+
+abbrev pub MonitorOpenUnderTold : Option Session → Option Session → List ℕ → ℕ → ℕ → Answer → Type 0
+MonitorOpenUnderTold old new levels width liberties answer =
+    OpensHandle (OpensUnder levels width liberties) old new answer
 
 abbrev pub JudgeOpenTold : Option Session → Option Session → List ℕ → ℕ → ℕ → Answer → Type 0
 JudgeOpenTold old new levels width profile answer =

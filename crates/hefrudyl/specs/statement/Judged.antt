@@ -5,11 +5,12 @@ use Rattle.tl_beat.specs.declared.beat.Link.{Link}
 use Rattle.tl_beat.specs.declared.fault.LineFault.{LineFault}
 use Rattle.tl_beat.specs.statement.Line.{Spells, line_fault}
 use Rattle.tl_params.specs.declared.level.Level.{Level}
+use Rattle.tl_params.specs.declared.liberties.Liberties.{Liberties}
 use Rattle.tl_params.specs.declared.profile.Profile.{Profile}
 use Rattle.tl_rules.specs.statement.Conformance.{Trace}
 use Rattle.tl_monitor.specs.declared.fault.MonitorFault.{MonitorFault}
 use Rattle.tl_monitor.specs.declared.monitor.Monitor.{Monitor}
-use Rattle.tl_monitor.specs.statement.Knows.{Knows, Answers, fault_of, recorded_after, closed_after}
+use Rattle.tl_monitor.specs.statement.Knows.{Knows, KnowsUnder, Answers, fault_of, fault_under, recorded_after, closed_after}
 use Rattle.tl_monitor.specs.statement.Numbers.{entry_count}
 use Rattle.tl_pictures.specs.declared.answer.Answer.{Answer}
 use Rattle.tl_pictures.specs.declared.picture.Picture.{Picture}
@@ -26,6 +27,11 @@ pub record Judged {w : ℕ} (old new : Monitor w) (x : Link × Beat w) (answer :
       → Answers (fault_of levels p t closed x) judged
   pub knows : (levels : List Level) (p : Profile) (t : Trace w) (closed : Bool) → Knows old levels p t closed
       → Knows new levels p (recorded_after judged x t) (closed_after judged)
+  pub lawful_under : (levels : List Level) (l : Liberties) (t : Trace w) (closed : Bool)
+      → KnowsUnder old levels l t closed → Answers (fault_under levels l t closed x) judged
+  pub knows_under : (levels : List Level) (l : Liberties) (t : Trace w) (closed : Bool)
+      → KnowsUnder old levels l t closed
+      → KnowsUnder new levels l (recorded_after judged x t) (closed_after judged)
 
 abbrev pub ToldOfBeat : {w : ℕ} → Monitor w → Monitor w → Option Link → Option (Beat w) → Answer → Type 0
 ToldOfBeat old new (Some link) (Some beat) answer = Judged old new (link, beat) answer

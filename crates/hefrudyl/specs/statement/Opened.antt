@@ -2,13 +2,13 @@
 use Rattle.std.specs.Prelude.{ℕ, Bool, true, false, ◌&&◌, ◌≡◌, ◌⊎◌, List, [], map, length, nat_le, Option, Some}
 use Rattle.std.specs.Prelude.{None, Result, Ok, Err}
 use Rattle.tl_monitor.specs.declared.monitor.Monitor.{Monitor}
-use Rattle.tl_monitor.specs.statement.Knows.{Knows}
+use Rattle.tl_monitor.specs.statement.Knows.{Knows, KnowsUnder}
 use Rattle.tl_pictures.specs.declared.answer.Answer.{Answer}
 use Rattle.hefrudyl.specs.declared.monitor.AnyMonitor.TheVariants as any
 use Rattle.hefrudyl.specs.declared.session.Session.{Session}
 use Rattle.hefrudyl.specs.declared.session.Session.TheVariants as session
 use Rattle.tl_pictures.specs.statement.Answer.{ok, bad, no_memory}
-use Rattle.tl_pictures.specs.statement.Codes.{level_at, profile_at, are_levels, is_width, is_profile}
+use Rattle.tl_pictures.specs.statement.Codes.{level_at, liberties_at, profile_at, are_levels, is_width, is_profile}
 
 -- 1 to 16 levels, a width and a profile
 abbrev pub may_open : List ℕ → ℕ → ℕ → Bool
@@ -36,6 +36,31 @@ abbrev pub OpensTo : List ℕ → ℕ → ℕ → Option Session → Answer → 
 OpensTo codes width profile (Some s) answer = (answer ≡ ok) × (may_open codes width profile ≡ true)
     × IsOpened codes width profile s
 OpensTo codes width profile None answer = (answer ≡ no_memory) ⊎ (answer ≡ bad)
+
+-- ---- under liberties
+
+-- 1 to 16 levels and a width
+abbrev pub may_open_under : List ℕ → ℕ → Bool
+may_open_under codes width = nat_le 1 (length codes) && nat_le (length codes) 16 && are_levels codes && is_width width
+
+-- a new monitor has the levels and the liberties, and has seen no beat
+abbrev pub IsFreshUnder : {w : ℕ} → List ℕ → ℕ → Monitor w → Type 0
+IsFreshUnder codes liberties m = KnowsUnder m (map level_at codes) (liberties_at liberties) [] false
+
+abbrev pub MakesUnder : {w : ℕ} → List ℕ → ℕ → Result (Monitor w) Answer → Type 0
+MakesUnder codes liberties (Ok m) = IsFreshUnder codes liberties m
+MakesUnder codes liberties (Err answer) = (answer ≡ no_memory) ⊎ (answer ≡ bad)
+
+abbrev pub IsOpenedUnder : List ℕ → ℕ → ℕ → Session → Type 0
+IsOpenedUnder codes width liberties (session.Monitor (any.Four m)) = (width ≡ 4) × IsFreshUnder codes liberties m
+IsOpenedUnder codes width liberties (session.Monitor (any.Eight m)) = (width ≡ 8) × IsFreshUnder codes liberties m
+IsOpenedUnder codes width liberties (session.Monitor (any.Sixteen m)) = (width ≡ 16) × IsFreshUnder codes liberties m
+IsOpenedUnder codes width liberties _ = ⊥
+
+abbrev pub OpensUnder : List ℕ → ℕ → ℕ → Option Session → Answer → Type 0
+OpensUnder codes width liberties (Some s) answer = (answer ≡ ok) × (may_open_under codes width ≡ true)
+    × IsOpenedUnder codes width liberties s
+OpensUnder codes width liberties None answer = (answer ≡ no_memory) ⊎ (answer ≡ bad)
 
 -- what comes of making one
 abbrev pub ok_of : Result Session Answer → Option Session

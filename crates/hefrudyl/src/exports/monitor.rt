@@ -1,7 +1,7 @@
 //! What C may do with a monitor.
 
 ghost use Rattle.std.specs.Prelude.{◌≡◌, None};
-ghost use Rattle.hefrudyl.specs.statement.Handled.{MonitorOpenTold, PushTold, LineTold, EntriesTold};
+ghost use Rattle.hefrudyl.specs.statement.Handled.{MonitorOpenTold, MonitorOpenUnderTold, PushTold, LineTold, EntriesTold};
 
 use crate::handle::Handle;
 use crate::session::Session;
@@ -23,6 +23,25 @@ pub extern "C" fn tl_monitor_new(
     ensures { MonitorOpenTold monitor.old.place.value monitor.new.place.value levels.now width profile result }
 {
     opened!(alloc, monitor, Session::open(alloc, levels, width, profile))
+}
+
+/// Makes a monitor of links of these levels that have these liberties, bit 0 for `ids` to bit 7 for
+/// `uncorrupt`, behind a handle that holds nothing.
+#[unsafe(no_mangle)]
+pub extern "C" fn tl_monitor_new_under(
+    alloc: Global,
+    monitor: &mut Handle,
+    levels: &[u8],
+    width: u8,
+    liberties: u8,
+) -> Answer
+    ensures { MonitorOpenUnderTold monitor.old.place.value monitor.new.place.value levels.now width liberties result }
+{
+    opened!(
+        alloc,
+        monitor,
+        Session::open_under(alloc, levels, width, liberties)
+    )
 }
 
 /// Judges a beat of a link.

@@ -4,8 +4,10 @@ use Rattle.std.specs.Prelude.{if◌then◌else◌}
 use Rattle.tl_beat.specs.declared.beat.Link.{Link}
 use Rattle.tl_beat.specs.declared.channel.Channel.{Channel}
 use Rattle.tl_beat.specs.declared.channel.Channel.TheVariants as channel
+use Rattle.tl_burst.specs.statement.Burst.{bit}
 use Rattle.tl_params.specs.declared.level.Level.{Level}
 use Rattle.tl_params.specs.declared.level.Level.TheVariants as level
+use Rattle.tl_params.specs.declared.liberties.Liberties.{Liberties}
 use Rattle.tl_params.specs.declared.profile.Profile.{Profile}
 use Rattle.tl_params.specs.declared.profile.Profile.TheVariants as profile
 
@@ -24,6 +26,19 @@ profile_at code = if code == 1 then profile.One else profile.Two
 
 abbrev pub is_profile : ℕ → Bool
 is_profile code = code == 1 || code == 2
+
+-- the liberties of a code: bit 0 for `ids` to bit 7 for `uncorrupt`
+abbrev pub liberties_at : ℕ → Liberties
+liberties_at code = record {
+  ids = bit code 0;
+  sinks = bit code 1;
+  writer = bit code 2;
+  early = bit code 3;
+  drops = bit code 4;
+  reports = bit code 5;
+  denied = bit code 6;
+  uncorrupt = bit code 7;
+}
 
 -- how many bytes a beat may have
 abbrev pub is_width : ℕ → Bool

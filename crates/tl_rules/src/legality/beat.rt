@@ -71,11 +71,7 @@ fn check_a<const W: usize>(level: Level, beat: &BeatA<W>) -> Result<(), Rule>
 }
 
 #[tactic(auto, unfolding(crate::specs::statement::Liberties::illegal_under))]
-fn check_b<const W: usize>(
-    liberties: Liberties,
-    level: Level,
-    beat: &BeatB<W>,
-) -> Result<(), Rule>
+fn check_b<const W: usize>(liberties: Liberties, level: Level, beat: &BeatB<W>) -> Result<(), Rule>
     requires { IsWidth W }
     ensures value { result ≡ ok_unless (illegal_under liberties level Channel.B (Beat.B beat.now)) }
     ensures takeable { OnOk result (IsTakeable (Beat.B beat.now)) }
@@ -98,11 +94,7 @@ fn check_b<const W: usize>(
 }
 
 #[tactic(auto, unfolding(crate::specs::statement::Liberties::illegal_under))]
-fn check_c<const W: usize>(
-    liberties: Liberties,
-    level: Level,
-    beat: &BeatC<W>,
-) -> Result<(), Rule>
+fn check_c<const W: usize>(liberties: Liberties, level: Level, beat: &BeatC<W>) -> Result<(), Rule>
     requires { IsWidth W }
     ensures value { result ≡ ok_unless (illegal_under liberties level Channel.C (Beat.C beat.now)) }
     ensures takeable { OnOk result (IsTakeable (Beat.C beat.now)) }
@@ -119,11 +111,7 @@ fn check_c<const W: usize>(
 }
 
 #[tactic(auto, unfolding(crate::specs::statement::Liberties::illegal_under))]
-fn check_d<const W: usize>(
-    liberties: Liberties,
-    level: Level,
-    beat: &BeatD<W>,
-) -> Result<(), Rule>
+fn check_d<const W: usize>(liberties: Liberties, level: Level, beat: &BeatD<W>) -> Result<(), Rule>
     requires { IsWidth W }
     ensures value { result ≡ ok_unless (illegal_under liberties level Channel.D (Beat.D beat.now)) }
     ensures takeable { OnOk result (IsTakeable (Beat.D beat.now)) }

@@ -41,6 +41,98 @@ WRONG_BETWEEN = [
      "    window_n = is_free(held_after_c, reads_n);\n    m4_broken = access_n"),
 ]
 
+STEPS = "tl_memory_steps.sv"
+
+# The same of the bytes of memory.
+WRONG_MEMORY = [
+    ("data that are given back say nothing", STEPS, "(c.opcode == C_ProbeAckData || c.opcode == C_ReleaseData)", "1'b0"),
+    ("a GrantData says nothing", STEPS, "grant && d.last && (d.opcode == D_GrantData || unread)", "1'b0"),
+    ("a Put writes all lanes", STEPS, "has_byte && mask[lane]", "has_byte"),
+    ("what is pending can't be granted", STEPS, "was.may || |(was.pending & was.writes & was.could & was.window)", "was.may"),
+    ("what is pending can't be read", STEPS, "it.read || it.may || |(it.pending & it.writes & it.could & ~reader)", "it.read || it.may"),
+    ("a read looks at the last moment alone", STEPS, "wire read = it.read || it.may", "wire read = it.may"),
+    ("a write leaves what was before", STEPS, "wire stays = !(was.free && once) || |(slot & was.since);", "wire stays = 1'b1;"),
+    ("a write leaves nothing of what was said since its window began", STEPS, "|| |(slot & was.since);", "|| 1'b0;"),
+    ("a read of the block brings bytes that it didn't ask for", STEPS, "assign reads = reaches;", "assign reads = here;"),
+]
+
+# Traces in which a byte tells the modules apart: name and text.
+DIRECTED_MEMORY = [
+    ("a Get brings what a Put writes that is pending", """tltrace 2 8 UL UL UL
+00 A 0 0 0 00 00000000 01 0000000000000005 0
+00 D 0 0 0 00 00 0 - 0
+00 A 0 0 0 00 00000000 01 0000000000000007 0
+01 A 4 0 0 00 00000000 01 - 0
+01 D 1 0 0 00 00 0 0000000000000007 0
+"""),
+    ("two Puts are pending at once, and a Get brings what the first to be answered wrote", """tltrace 2 8 UL UL UL
+00 A 0 0 0 00 00000000 01 0000000000000005 0
+01 A 0 0 0 00 00000000 01 0000000000000007 0
+00 D 0 0 0 00 00 0 - 0
+01 D 0 0 0 00 00 0 - 0
+02 A 4 0 0 00 00000000 01 - 0
+02 D 1 0 0 00 00 0 0000000000000005 0
+"""),
+    ("two Puts are pending at once, and a Get brings what was before both", """tltrace 2 8 UL UL UL
+00 A 0 0 0 00 00000000 01 0000000000000003 0
+00 D 0 0 0 00 00 0 - 0
+00 A 0 0 0 00 00000000 01 0000000000000005 0
+01 A 0 0 0 00 00000000 01 0000000000000007 0
+00 D 0 0 0 00 00 0 - 0
+01 D 0 0 0 00 00 0 - 0
+02 A 4 0 0 00 00000000 01 - 0
+02 D 1 0 0 00 00 0 0000000000000003 0
+"""),
+    ("a Get has another byte beside the one that it asks for", """tltrace 2 8 UL UL UL
+00 A 0 0 1 00 00000000 03 0000000000000305 0
+00 D 0 0 1 00 00 0 - 0
+01 A 4 0 0 00 00000001 02 - 0
+01 D 1 0 0 00 00 0 0000000000000309 0
+"""),
+    ("data are given back, and what was before is granted", """tltrace 2 16 C C UL
+00 A 6 1 6 00 00000000 ffff - 0
+00 D 5 0 6 00 00 0 00000000000000000000000000000005 0
+00 D 5 0 6 00 00 0 00000000000000000000000000000000 0
+00 D 5 0 6 00 00 0 00000000000000000000000000000000 0
+00 D 5 0 6 00 00 0 00000000000000000000000000000000 0
+00 E 00
+00 C 7 1 6 00 00000000 00000000000000000000000000000007 0
+00 C 7 1 6 00 00000000 00000000000000000000000000000000 0
+00 C 7 1 6 00 00000000 00000000000000000000000000000000 0
+00 C 7 1 6 00 00000000 00000000000000000000000000000000 0
+00 D 6 0 6 00 00 0 - 0
+01 A 6 0 6 00 00000000 ffff - 0
+01 D 5 1 6 00 01 0 00000000000000000000000000000005 0
+"""),
+    ("a clean block is given up, and another byte is granted", """tltrace 2 16 C C UL
+00 A 6 1 6 00 00000000 ffff - 0
+00 D 5 0 6 00 00 0 00000000000000000000000000000005 0
+00 D 5 0 6 00 00 0 00000000000000000000000000000000 0
+00 D 5 0 6 00 00 0 00000000000000000000000000000000 0
+00 D 5 0 6 00 00 0 00000000000000000000000000000000 0
+00 E 00
+00 C 6 1 6 00 00000000 - 0
+00 D 6 0 6 00 00 0 - 0
+01 A 6 0 6 00 00000000 ffff - 0
+01 D 5 1 6 00 01 0 00000000000000000000000000000007 0
+"""),
+    ("a Put that is pending is granted", """tltrace 2 16 C C UL
+02 A 0 0 0 00 00000000 0001 00000000000000000000000000000005 0
+02 D 0 0 0 00 00 0 - 0
+02 A 0 0 0 00 00000000 0001 00000000000000000000000000000007 0
+00 A 6 0 6 00 00000000 ffff - 0
+00 D 5 1 6 00 00 0 00000000000000000000000000000007 0
+"""),
+    ("a Get brings what was before a Put that was answered meanwhile", """tltrace 2 16 C C UL
+02 A 0 0 0 00 00000000 0001 00000000000000000000000000000005 0
+02 D 0 0 0 00 00 0 - 0
+00 A 4 0 0 01 00000000 0001 - 0
+02 A 0 0 0 00 00000000 0001 00000000000000000000000000000007 0
+02 D 0 0 0 00 00 0 - 0
+00 D 1 0 0 01 00 0 00000000000000000000000000000005 0
+"""),
+]
+
 # Traces for what links drawn at random rarely come to.
 DIRECTED = [
     """tltrace 2 8 C

@@ -89,6 +89,14 @@ DIRECTED_MEMORY = [
 01 A 4 0 0 00 00000001 02 - 0
 01 D 1 0 0 00 00 0 0000000000000309 0
 """),
+    ("a Put has other data in a lane that it doesn't write", """tltrace 2 8 UL UL UL
+00 A 0 0 1 00 00000000 03 0000000000000305 0
+00 D 0 0 1 00 00 0 - 0
+00 A 1 0 1 00 00000000 01 0000000000000907 0
+00 D 0 0 1 00 00 0 - 0
+01 A 4 0 0 00 00000001 02 - 0
+01 D 1 0 0 00 00 0 0000000000000307 0
+"""),
     ("data are given back, and what was before is granted", """tltrace 2 16 C C UL
 00 A 6 1 6 00 00000000 ffff - 0
 00 D 5 0 6 00 00 0 00000000000000000000000000000005 0

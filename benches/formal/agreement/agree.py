@@ -69,6 +69,14 @@ def case_of(tool, name, text):
     return Case(name, width, levels, frozenset(["writer"] if profile == 2 else []), beats, (line, rule))
 
 
+def recorded(path, liberties):
+    """The case of a trace that is clean under liberties."""
+    lines = Path(path).read_text().splitlines()
+    width, _, levels = read_header(lines[0])
+    beats = [(number, *read_beat(line)) for number, line in enumerate(lines[1:], 2)]
+    return Case(Path(path).name, width, levels, frozenset(liberties), beats, (len(lines) + 1, None))
+
+
 # ---- the traces
 
 

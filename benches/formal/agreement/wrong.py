@@ -23,6 +23,13 @@ WRONG = [
      "if (d_here && d.last) {granted_n, pending_n} = 2'b10;"),
     ("S1 forgets the sink", "S1", (), BURST, "it.source, it.sink, it.address", "it.source, 8'd0, it.address"),
     ("the mask of a PutPartialData is that of a PutFullData", "L5", (), LEGALITY, "CHANNEL == CHANNEL_A && opcode == A_PutPartialData ?", "1'b0 ?"),
+    ("a ProbePerm may be answered with data", "H10", (), BLOCK, "(answer == C_ProbeAckData && probe_opcode == B_ProbePerm)", "1'b0"),
+    ("an AcquirePerm may be answered with data", "H2", (), SOURCE, "D_GrantData: may_answer = request == A_AcquireBlock;",
+     "D_GrantData: may_answer = acquires(request);"),
+    ("a Release may be answered before it is complete", "H2", (), SOURCE, "H2(giving_n, given_n, 1'b1)", "H2(giving_n, 1'b1, 1'b1)"),
+    ("an address is aligned to a beat alone", "L4", (), LEGALITY, "(33'd1 << size) - 33'd1", "(33'd1 << (size > BEAT_SIZE ? BEAT_SIZE : size)) - 33'd1"),
+    ("a Probe is answered when its answer begins", "H9", (), BLOCK, "if (answers && c.last) {probe_n, held_n}",
+     "if (answers && c.first) probe_n = 1'b0;\n    if (answers && c.last) {probe_n, held_n}"),
     ("a ProbeAck may have another source than its Probe", "H10", ("ids",), BLOCK, "answer_source != probe_source", "1'b0"),
     ("a Grant that was acknowledged is held from its last beat on", "H12", ("early",), BLOCK,
      "e.sink == grant_sink_n) begin\n      if (granting_n)", "e.sink == grant_sink_n) begin\n      if (1'b0)"),
@@ -175,5 +182,24 @@ DIRECTED = [
 00 C 6 1 6 01 00000040 - 0
 00 D 6 0 6 01 00 0 - 0
 00 A 6 0 6 00 00000000 ff - 0
+""",
+    """tltrace 2 8 C
+00 A 7 1 6 00 00000000 ff - 0
+00 D 4 0 6 00 00 0 - 0
+00 E 00
+00 B 7 2 6 00 00000000 ff - 0
+00 C 5 1 6 00 00000000 0000000000000000 0
+""",
+    """tltrace 2 8 C
+00 A 7 1 6 00 00000000 ff - 0
+00 D 5 0 6 00 00 0 0000000000000000 0
+""",
+    """tltrace 2 8 C
+00 A 7 1 6 00 00000000 ff - 0
+00 D 4 0 6 00 00 0 - 0
+00 E 00
+00 B 6 2 6 00 00000000 ff - 0
+00 C 5 1 6 00 00000000 0000000000000000 0
+00 B 6 2 6 00 00000000 ff - 0
 """,
 ]

@@ -1,7 +1,8 @@
 #!/usr/bin/env python3
 """verdicts.py COMMAND..: runs a command, as `rt ci` or `rt run`, passes on what it writes, and notes in packaging/out/verdicts.json
 each crate that it proved: by which toolchain, how many functions, of which sources, and what was built of them. A crate whose
-sources changed meanwhile isn't noted. The exit status is the command's."""
+sources changed meanwhile isn't noted; a file that wasn't built anew keeps its note, where the sources are those of before. The
+exit status is the command's."""
 import hashlib
 import json
 import pathlib
@@ -75,7 +76,9 @@ def main():
     notes = json.loads(NOTES.read_text()) if NOTES.exists() else {}
     for crate, functions, logic in verdicts(lines):
         if crate in before and sources(crate) == before[crate]:
-            notes[crate] = {"kit": kit, "logic": logic, "functions": functions, "sources": before[crate]}
+            noted = notes.get(crate, {})
+            built = {"built": noted["built"]} if "built" in noted and noted["sources"] == before[crate] else {}
+            notes[crate] = {"kit": kit, "logic": logic, "functions": functions, "sources": before[crate], **built}
     for crate, name in BUILT.items():
         file = ROOT / name
         if crate in notes and notes[crate]["sources"] == before[crate] and file.exists() and file.stat().st_mtime_ns > stamps[crate]:

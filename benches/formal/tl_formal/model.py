@@ -9,6 +9,16 @@ PROPERTIES = ["tl_bursts", "tl_legality", "tl_source_rules", "tl_sink_rules", "t
 MOST_SOURCES = 3  # bits: so many are all tracked, of sinks too
 
 
+def constant(bits, name):
+    """Any value that doesn't change. Tools that don't know Yosys's attribute get an assumption."""
+    yield f"  (* anyconst *) logic [{bits - 1}:0] {name};"
+    yield "`ifndef YOSYS"
+    yield "`ifdef FORMAL"
+    yield f"  steady_{name}: assume property (@(posedge clk) $stable({name}));"
+    yield "`endif"
+    yield "`endif"
+
+
 class Top:
     """A module around the design: its environment is inputs of the module, its link goes to tl_link_properties."""
 
@@ -89,13 +99,13 @@ class Top:
                 keys = ", ".join(f"{width}'d{it}" for it in reversed(range(1 << width)))
                 yield f"  wire [{(1 << width) * width - 1}:0] {kind}_keys = {{{keys}}};"
             else:
-                yield f"  (* anyconst *) logic [{width - 1}:0] {kind}_keys;"
+                yield from constant(width, f"{kind}_keys")
         yield f"  wire [{self.blocks * bits - 1}:0] block_keys;"
         for block in range(self.blocks):
             if self.blocks >= 1 << self.block_bits:
                 yield f"  assign block_keys[{block * bits} +: {bits}] = {bits}'d{block};"
                 continue
-            yield f"  (* anyconst *) logic [{self.block_bits - 1}:0] block_{block};"
+            yield from constant(self.block_bits, f"block_{block}")
             yield f"  assign block_keys[{block * bits} +: {bits}] = {bits}'(block_{block});"
 
     def instance(self):
@@ -174,9 +184,9 @@ class Top:
     def between_links(self):
         """M1 and M4, and M2 and M3 with `memory`, of one block, one access, one byte and one value."""
         design, sizes = self.design, self.design.sizes
-        yield "  (* anyconst *) logic [7:0] access_source;"
-        yield f"  (* anyconst *) logic [{self.block_bits - 1}:0] memory_block;"
-        yield f"  (* anyconst *) logic [{max(1, (design.links - 1).bit_length()) - 1}:0] access_link;"
+        yield from constant(8, "access_source")
+        yield from constant(self.block_bits, "memory_block")
+        yield from constant(max(1, (design.links - 1).bit_length()), "access_link")
         if self.closed:
             yield f"  wire [{sizes['address_bits'] - 1}:0] memory_block_at = {{memory_block, 6'd0}};"
             yield "`ifdef FORMAL"
@@ -187,8 +197,8 @@ class Top:
         if design.links > 1:
             yield f"  tl_manager_properties #({common}) between (.clk, .rst_n, .block(26'(memory_block)), {beats}, .m1_broken(), .m4_broken());"
         if self.memory:
-            yield "  (* anyconst *) logic [7:0] memory_value;"
-            yield "  (* anyconst *) logic [5:0] memory_byte;" if self.byte is None else f"  wire [5:0] memory_byte = 6'd{self.byte};"
+            yield from constant(8, "memory_value")
+            yield from constant(6, "memory_byte") if self.byte is None else [f"  wire [5:0] memory_byte = 6'd{self.byte};"]
             yield (f"  tl_memory_properties #({common}, .W({sizes['width']}), .SOURCES({self.counts['source']})) of_memory (.clk, .rst_n, "
                    f".at({{26'(memory_block), memory_byte}}), .value(memory_value), {beats}, .a_data, .c_data, .d_data, .m2_broken(), .m3_broken());")
 

@@ -48,9 +48,16 @@ def bounded_search_finds_the_store_that_the_second_bug_loses():
 @test
 def bounded_search_finds_the_bugs_of_the_manager_between_its_links():
     for bug, rule in HOME_BUGS.items():
-        memory = ["--memory", "--byte", "5"] if rule == "M2" else []
-        told = formal("tl_home_wide.toml", "--set", f"bug={bug}", "--search", "600", "--block-bits", "1", *memory, status=1)
-        want(fault(told) == (rule, rule), f"bug {bug}: {told}")
+        if rule in ("M1", "M4"):
+            told = formal("tl_home_wide.toml", "--set", f"bug={bug}", "--search", "400", "--block-bits", "1", status=1)
+            want(fault(told) == (rule, rule), f"bug {bug}: {told}")
+
+
+@test
+def bounded_search_finds_a_byte_that_the_third_bug_of_the_manager_drops():
+    # of one link: data are given back, and a Get brings what was before
+    told = formal("tl_home_one.toml", "--set", "bug=3", "--search", "400", "--block-bits", "1", "--memory", "--byte", "5", status=1)
+    want(fault(told) == ("M3", "M3"), told)
 
 
 @test

@@ -45,9 +45,10 @@ def bounded(folder, rules, seconds, edges):
 
 
 def for_all_time(folder, rules, seconds):
-    """Whether all is proved; a counterexample, if there is one; and the seconds."""
-    told, took = abc(folder, seconds, f"pdr -T {seconds}; print_status; write_cex -a model.cex")
-    return "Property proved" in told, failed(told, rules), took
+    """Whether all is proved, and else the edge up to which there is no counterexample; a counterexample, if there is one; and
+    the seconds."""
+    told, took = abc(folder, seconds, f"pdr -v -T {seconds}; print_status; write_cex -a model.cex")
+    return "Property proved" in told, max(0, last_frame(told) - 1), failed(told, rules), took
 
 
 def folded(folder):

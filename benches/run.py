@@ -8,6 +8,7 @@ benches/out. It fails where a tool is missing, and skips nothing.
 """
 
 import argparse
+import collections
 import os
 import shutil
 import sys
@@ -19,6 +20,11 @@ sys.path.insert(0, os.path.join(os.path.dirname(os.path.abspath(__file__)), "tes
 from harness import LIBRARY, TESTS, TLTOOL, Failed
 for subject in ("names", "pages", "recorder", "library", "python_library", "checker", "agents", "formal"):
     __import__(subject)  # adds its tests
+
+
+def processor_time():
+    """The processor time of this process, and of all that it started and waited for."""
+    return sum(os.times()[:4])
 
 
 def main():
@@ -33,20 +39,24 @@ def main():
         if not os.path.exists(built):
             sys.exit(f"benches/run.py: {built} is missing: run `make benches`")
     passed = failed = 0
+    spent = collections.Counter()  # processor time by subject
     for function in TESTS:
         name = function.__name__.replace("_", " ")
         if chosen.only not in function.__name__ or ("long" in function.__name__) != chosen.long:
             continue
-        start = time.time()
+        start, before = time.time(), processor_time()
         try:
             function()
             passed += 1
-            print(f"ok      {name} ({time.time() - start:.1f} s)", flush=True)
+            took = processor_time() - before
+            print(f"ok      {name} ({time.time() - start:.1f} s, {took:.1f} s of processor time)", flush=True)
         except Exception as error:
             failed += 1
             print(f"FAILED  {name}: {error}", flush=True)
             if not isinstance(error, Failed):
                 traceback.print_exc()
+        spent[function.__module__] += processor_time() - before
+    print("processor time by subject:", ", ".join(f"{subject} {seconds:.0f} s" for subject, seconds in spent.items()))
     print(f"{passed} passed, {failed} failed")
     sys.exit(1 if failed else 0)
 

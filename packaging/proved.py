@@ -24,6 +24,11 @@ the headers, C++, SystemVerilog and Python, the compiler and the C library.
 The sum beside a crate is the SHA-256 of its sources, which tools/verdicts.py computes.
 
 """
+KEPT = """\
+Of a crate that is kept the toolchain said that an earlier run on the same machine had proved the same
+files over the same libraries; it doesn't say the number of its functions again.
+
+"""
 FILES = """
 The files, each with its SHA-256: grep -E '^[0-9a-f]{64}  ' PROVED | sha256sum -c
 
@@ -62,10 +67,13 @@ def main():
     version, commit = said("packaging/version"), said("git", "describe", "--always", "--dirty", "--abbrev=40", "--exclude=*")
     first = notes["tltool"]
     print(HEAD.format(version=version, commit=commit, kit=first["kit"], logic=first["logic"]), end="")
+    kept = [crate for crate in wanted if notes[crate]["functions"] is None]
+    print(KEPT if kept else "", end="")
     print(f"{'crate':15} {'functions':>9}  sources")
     for crate in sorted(wanted):
-        print(f"{crate:15} {notes[crate]['functions']:9}  {notes[crate]['sources']}")
-    print(f"{len(wanted)} crates  {sum(notes[crate]['functions'] for crate in wanted)} functions")
+        print(f"{crate:15} {notes[crate]['functions'] or 'kept':>9}  {notes[crate]['sources']}")
+    known = sum(notes[crate]["functions"] or 0 for crate in wanted)
+    print(f"{len(wanted)} crates  {known} functions" + (f", and those of {len(kept)} kept crates" if kept else ""))
     for folder in map(pathlib.Path, sys.argv[1:]):
         list_files(folder)
 

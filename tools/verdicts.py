@@ -1,7 +1,8 @@
 #!/usr/bin/env python3
 """verdicts.py COMMAND..: runs a command, as `rt ci` or `rt run`, passes on what it writes, and notes in packaging/out/verdicts.json
 each crate that it proved: by which toolchain, how many functions, of which sources, and what was built of them. A crate whose
-sources changed meanwhile isn't noted. The exit status is the command's."""
+sources changed meanwhile isn't noted; a file that wasn't built anew keeps its note, where the sources are those of before. The
+exit status is the command's."""
 import hashlib
 import json
 import pathlib
@@ -46,9 +47,13 @@ def sources(crate):
 
 
 def verdicts(lines):
-    """The functions of each crate that lines of `rt` say is proved, with the sum of its logic."""
+    """Each crate that lines of `rt` say is proved, with its number of functions and the sum of its logic. Of a crate that is kept,
+    since `rt ci` proved the same files in an earlier run on this machine, it says neither."""
     crate = None
     for line in lines:
+        kept = re.match(r"rt: (\w+) is kept: an earlier run on this machine proved the same files", line)
+        if kept:
+            yield kept[1], None, None
         named = re.match(r"(?:fn|struct|enum|trait|impl) (\w+)::", line)
         if named or line.startswith("== "):
             crate = named[1] if named else line.split()[-1]
@@ -70,12 +75,14 @@ def run(command):
 def main():
     before = {crate: sources(crate) for crate in crates()}
     stamps = {crate: (ROOT / file).stat().st_mtime_ns if (ROOT / file).exists() else 0 for crate, file in BUILT.items()}
-    kit = subprocess.run(["rt", "version"], capture_output=True, text=True, check=True).stdout.split()[0]
+    kit, _, kits_logic = subprocess.run(["rt", "version"], capture_output=True, text=True, check=True).stdout.split()[:3]
     lines, status = run(sys.argv[1:])
     notes = json.loads(NOTES.read_text()) if NOTES.exists() else {}
     for crate, functions, logic in verdicts(lines):
         if crate in before and sources(crate) == before[crate]:
-            notes[crate] = {"kit": kit, "logic": logic, "functions": functions, "sources": before[crate]}
+            same = notes.get(crate) if notes.get(crate, {}).get("sources") == before[crate] else {}
+            notes[crate] = {**same, "kit": kit, "logic": logic or kits_logic, "functions": functions or same.get("functions"),
+                            "sources": before[crate]}
     for crate, name in BUILT.items():
         file = ROOT / name
         if crate in notes and notes[crate]["sources"] == before[crate] and file.exists() and file.stat().st_mtime_ns > stamps[crate]:

@@ -9,17 +9,29 @@ import sys
 from pathlib import Path
 
 HERE = Path(__file__).resolve().parent
-FORMAL = str(HERE / "tl-formal")
+
+
+def formal(map_file, *words):
+    return [str(HERE / "tl-formal"), str(HERE / map_file), *words]
+
+
+PROOF = ["--search", "0", "--prove", "3600", "--block-bits"]
+FOUR_LINES, SIXTEEN = ["--set", "INDEX_BITS=2"], ["--set", "BLOCKS=16"]
 
 # Name, words, exit status.
 RUNS = [
     ("agreement", ["python3", str(HERE / "agreement/agree.py"), "--long"], 0),
-    ("cache, 2 lines, 4 blocks, 8 bytes a beat", [FORMAL, str(HERE / "tl_cache.toml"), "--search", "0", "--prove", "3600", "--block-bits", "2",
-                                                  "--set", "INDEX_BITS=1"], 0),
-    ("cache, 4 lines, 16 blocks, 16 bytes a beat", [FORMAL, str(HERE / "tl_cache_small.toml"), "--search", "0", "--prove", "3600",
-                                                    "--block-bits", "4", "--set", "INDEX_BITS=2"], 0),
-    ("manager, 2 links, 2 blocks, 16 bytes a beat", [FORMAL, str(HERE / "tl_home_wide.toml"), "--search", "0", "--prove", "3600",
-                                                     "--block-bits", "1"], 0),
+    ("cache, rule by rule", formal("tl_cache_small.toml", *PROOF, "2", "--each"), 0),
+    ("cache, 2 lines, 4 blocks, 8 bytes a beat", formal("tl_cache.toml", *PROOF, "2", "--set", "INDEX_BITS=1"), 0),
+    ("cache, 4 lines, 16 blocks, 16 bytes a beat", formal("tl_cache_small.toml", *PROOF, "4", *FOUR_LINES), 0),
+    ("cache, 4 lines, 16 blocks, 8 bytes a beat", formal("tl_cache.toml", *PROOF, "4"), 0),
+    ("cache, stores kept", formal("tl_cache_small.toml", "--search", "900", "--block-bits", "2", "--set", "CHECK_STORES=1"), 0),
+    ("manager, 1 link, 16 blocks, 16 bytes a beat", formal("tl_home_one.toml", *PROOF, "4", *SIXTEEN), 0),
+    ("manager, 2 links, 2 blocks, 16 bytes a beat", formal("tl_home_wide.toml", *PROOF, "1", "--blocks", "2"), 0),
+    ("manager, 2 links, 16 blocks, searched", formal("tl_home_wide.toml", "--search", "900", "--block-bits", "4", *SIXTEEN), 0),
+    ("manager, 2 links, bytes of memory, searched", formal("tl_home_wide.toml", "--search", "900", "--block-bits", "1", "--memory"), 0),
+    ("manager, 2 links, bytes of memory, the third bug", formal("tl_home_wide.toml", "--search", "900", "--block-bits", "1", "--memory",
+                                                                 "--set", "bug=3"), 1),
 ]
 
 

@@ -3,8 +3,9 @@ and the example proved."""
 
 import os
 import re
+import sys
 
-from harness import HERE, HOME_BUGS, TLTOOL, test, want, run
+from harness import HERE, HOME_BUGS, TLTOOL, icarus, path, test, want, run
 
 FORMAL = os.path.join(HERE, "formal")
 PATIENCE = 1800  # seconds of wall time, on a machine that does much else
@@ -28,7 +29,7 @@ def fault(told):
 @test
 def the_rules_for_formal_tools_agree_with_the_monitor():
     told = run(["python3", os.path.join(FORMAL, "agreement/agree.py"), "--tool", TLTOOL], timeout=PATIENCE)
-    want("25 of 25 wrong modules told apart" in told, told)
+    want("39 of 39 wrong modules told apart" in told, told)
 
 
 @test
@@ -39,11 +40,50 @@ def bounded_search_finds_the_bugs_of_the_cache():
 
 
 @test
+def bounded_search_finds_the_store_that_the_second_bug_loses():
+    told = formal("tl_cache_small.toml", "--set", "bug=2", "--set", "CHECK_STORES=1", "--search", "300", "--block-bits", "2", status=1)
+    want(re.search(r"^STORE fails at edge \d+ ", told, re.M) and re.search(r"STORE.trace: clean \d+$", told, re.M), told)
+
+
+@test
 def bounded_search_finds_the_bugs_of_the_manager_between_its_links():
     for bug, rule in HOME_BUGS.items():
         if rule in ("M1", "M4"):
             told = formal("tl_home_wide.toml", "--set", f"bug={bug}", "--search", "400", "--block-bits", "1", status=1)
             want(fault(told) == (rule, rule), f"bug {bug}: {told}")
+
+
+@test
+def bounded_search_finds_a_byte_that_the_third_bug_of_the_manager_drops():
+    # of one link: data are given back, and a Get brings what was before
+    told = formal("tl_home_one.toml", "--set", "bug=3", "--search", "400", "--block-bits", "1", "--memory", "--byte", "5", status=1)
+    want(fault(told) == ("M3", "M3"), told)
+
+
+@test
+def a_cache_as_rockets_is_proved_under_three_liberties():
+    told = formal("other/early_cache.toml", "--search", "0", "--prove", "600", "--block-bits", "2")
+    want(len(re.findall(r"^\w+ +proved ", told, re.M)) == 16, told)
+
+
+# The liberties that the cache needs, and the rule that its trace breaks first without each.
+NEEDED = {"early": "H8", "drops": "H12", "ids": "L2"}
+
+
+@test
+def the_trace_of_a_cache_as_rockets_is_clean_under_three_liberties():
+    sys.path.insert(0, os.path.join(FORMAL, "agreement"))
+    import agree
+    built = icarus("early_bench", "early_bench", ["sv/tl_pkg.sv", "sv/tl_manager_recorder.sv", "example/tl_home.sv",
+                                                  "formal/other/early_cache.sv", "formal/other/early_bench.sv"])
+    trace = path("early.trace")
+    run(["vvp", "-n", built, f"+trace={trace}", "+cycles=8000"])
+    for free in (set(NEEDED), *(set(NEEDED) - {it} for it in NEEDED)):
+        case = agree.recorded(trace, free)
+        missing = set(NEEDED) - free
+        rule = NEEDED[missing.pop()] if missing else None
+        found = agree.first_faults(agree.grouped([case]), agree.MODULES, 1).get(0, (0, None))
+        want(found[1] == rule and agree.referred(case)[1] == rule, f"{free}: the module {found}, reference.py {agree.referred(case)}")
 
 
 @test

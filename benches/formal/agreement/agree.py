@@ -1,7 +1,7 @@
 #!/usr/bin/env python3
 """agree.py [--long] [--tool TLTOOL]: replays traces into tl_link_properties, in Icarus, and compares the first fault, its
 line and its rule, with what is said of them: by `tltool monitor` under both profiles, and under liberties by
-reference.py, which is compared with the command too. M1 and M4 are compared with `tltool coherent`. Then the wrong modules
+reference.py, which is compared with the command too. M1 to M4 are compared with `tltool coherent`. Then the wrong modules
 of wrong.py have to be told apart.
 
 Traces: the examples, random worlds (`tltool random`) and these spoiled, and links drawn at random that end in a fault. Half of
@@ -22,9 +22,10 @@ ROOT = HERE.parent.parent.parent
 sys.path += [str(HERE), str(ROOT / "bench")]
 from reference import LIBERTIES, ORDER, RULES, History
 import between
+import memory
 from spoil import spoil
 from traces import LEVELS, drawn, line_of, read_beat, read_header
-from wrong import DIRECTED, WRONG, WRONG_BETWEEN
+from wrong import DIRECTED, WRONG, WRONG_BETWEEN, WRONG_MEMORY
 
 KEYS = 4  # of each kind, tracked at a time
 MODULES = sorted((HERE.parent).glob("tl_*.sv"))
@@ -66,6 +67,14 @@ def case_of(tool, name, text):
         line, rule = line - 1, None
     beats = [(number, *read_beat(lines[number - 1])) for number in range(2, line + 1)]
     return Case(name, width, levels, frozenset(["writer"] if profile == 2 else []), beats, (line, rule))
+
+
+def recorded(path, liberties):
+    """The case of a trace that is clean under liberties."""
+    lines = Path(path).read_text().splitlines()
+    width, _, levels = read_header(lines[0])
+    beats = [(number, *read_beat(line)) for number, line in enumerate(lines[1:], 2)]
+    return Case(Path(path).name, width, levels, frozenset(liberties), beats, (len(lines) + 1, None))
 
 
 # ---- the traces
@@ -219,19 +228,21 @@ def told_apart(tool, jobs):
     return count
 
 
-def between_links(tool, count):
-    """Where M1 and M4 differ from what `tltool coherent` says, and how many wrong modules are told apart."""
-    said, text = between.prepared(tool, count)
-    print(f"between links: {len(said)} traces: {between.by_rule(said)}", flush=True)
+def together(tool, name, subject, count, wrong, wrong_count):
+    """Where the rules between links differ from what `tltool coherent` says, and how many wrong modules are told apart."""
+    said, text = subject.prepared(tool, count)
+    print(f"{name}: {len(said)} traces: {between.by_rule(said)}", flush=True)
     apart = 0
     with tempfile.TemporaryDirectory() as temp:
-        faults = between.differing(said, text, MODULES, HERE.parent, Path(temp))
-        for name, file, old, new in WRONG_BETWEEN:
+        faults = subject.differing(said, text, MODULES, HERE.parent, Path(temp))
+        if wrong_count != count:
+            said, text = subject.prepared(tool, wrong_count)
+        for what, file, old, new in wrong:
             (Path(temp) / "wrong").mkdir(exist_ok=True)
             modules = planted(Path(temp) / "wrong", file, old, new)
-            differ = len(between.differing(said, text, modules, HERE.parent, Path(temp)))
+            differ = len(subject.differing(said, text, modules, HERE.parent, Path(temp)))
             apart += differ > 0
-            print(f"wrong module: {name}: {differ} of {len(said)} traces differ", flush=True)
+            print(f"wrong module: {what}: {differ} of {len(said)} traces differ", flush=True)
     return faults, apart
 
 
@@ -243,7 +254,7 @@ def main():
     words.add_argument("--worlds", type=int)
     words.add_argument("--links", type=int)
     asked = words.parse_args()
-    count_worlds, count_links = (4000, 12500) if asked.long else (40, 600)
+    count_worlds, count_links = (4000, 12500) if asked.long else (30, 500)
     count_worlds = count_worlds if asked.worlds is None else asked.worlds
     count_links = count_links if asked.links is None else asked.links
     cases = [it for it in [*examples(asked.tool), *worlds(asked.tool, count_worlds), *links(asked.tool, count_links)] if it]
@@ -255,13 +266,16 @@ def main():
     print(f"the module differs in {len(faults)}", flush=True)
     by_rule = collections.Counter(it.said[1] or "clean" for it in cases)
     print("first faults:", " ".join(f"{rule} {by_rule[rule]}" for rule in [*ORDER, "clean"]), flush=True)
-    few = [rule for rule in ORDER if by_rule[rule] < (50 if asked.long else 5)]
-    if few:
-        faults.append(f"too few first faults of {', '.join(few)}")
-    more, apart = between_links(asked.tool, 1000 if asked.long else 40)
-    faults += more
-    apart += told_apart(asked.tool, asked.jobs)
-    count_wrong = len(WRONG) + len(WRONG_BETWEEN)
+    rare = [rule for rule in ORDER if by_rule[rule] < (50 if asked.long else 5)]
+    if rare:
+        faults.append(f"too few first faults of {', '.join(rare)}")
+    apart = told_apart(asked.tool, asked.jobs)
+    # The directed traces alone tell the wrong modules apart that are about bytes.
+    for name, subject, count, wrong, few in (("between links", between, 40, WRONG_BETWEEN, 40),
+                                             ("bytes of memory", memory, 20, WRONG_MEMORY, 0)):
+        more, told = together(asked.tool, name, subject, 1000 if asked.long else count, wrong, few)
+        faults, apart = faults + more, apart + told
+    count_wrong = len(WRONG) + len(WRONG_BETWEEN) + len(WRONG_MEMORY)
     if apart < count_wrong:
         faults.append(f"{count_wrong - apart} wrong modules aren't told apart")
     print(*faults[:20], sep="\n", end="\n" if faults else "")

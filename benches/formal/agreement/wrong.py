@@ -23,6 +23,13 @@ WRONG = [
      "if (d_here && d.last) {granted_n, pending_n} = 2'b10;"),
     ("S1 forgets the sink", "S1", (), BURST, "it.source, it.sink, it.address", "it.source, 8'd0, it.address"),
     ("the mask of a PutPartialData is that of a PutFullData", "L5", (), LEGALITY, "CHANNEL == CHANNEL_A && opcode == A_PutPartialData ?", "1'b0 ?"),
+    ("a ProbePerm may be answered with data", "H10", (), BLOCK, "(answer == C_ProbeAckData && probe_opcode == B_ProbePerm)", "1'b0"),
+    ("an AcquirePerm may be answered with data", "H2", (), SOURCE, "D_GrantData: may_answer = request == A_AcquireBlock;",
+     "D_GrantData: may_answer = acquires(request);"),
+    ("a Release may be answered before it is complete", "H2", (), SOURCE, "H2(giving_n, given_n, 1'b1)", "H2(giving_n, 1'b1, 1'b1)"),
+    ("an address is aligned to a beat alone", "L4", (), LEGALITY, "(33'd1 << size) - 33'd1", "(33'd1 << (size > BEAT_SIZE ? BEAT_SIZE : size)) - 33'd1"),
+    ("a Probe is answered when its answer begins", "H9", (), BLOCK, "if (answers && c.last) {probe_n, held_n}",
+     "if (answers && c.first) probe_n = 1'b0;\n    if (answers && c.last) {probe_n, held_n}"),
     ("a ProbeAck may have another source than its Probe", "H10", ("ids",), BLOCK, "answer_source != probe_source", "1'b0"),
     ("a Grant that was acknowledged is held from its last beat on", "H12", ("early",), BLOCK,
      "e.sink == grant_sink_n) begin\n      if (granting_n)", "e.sink == grant_sink_n) begin\n      if (1'b0)"),
@@ -39,6 +46,106 @@ WRONG_BETWEEN = [
     ("an access is excluded by writers alone", BETWEEN, "reads ? held == TRUNK : held != NONE", "held == TRUNK"),
     ("M4 looks at the moment of the answer alone", BETWEEN, "    m4_broken = access_n",
      "    window_n = is_free(held_after_c, reads_n);\n    m4_broken = access_n"),
+]
+
+STEPS = "tl_memory_steps.sv"
+
+# The same of the bytes of memory.
+WRONG_MEMORY = [
+    ("data that are given back say nothing", STEPS, "(c.opcode == C_ProbeAckData || c.opcode == C_ReleaseData)", "1'b0"),
+    ("a GrantData says nothing", STEPS, "grant && d.last && (d.opcode == D_GrantData || unread)", "1'b0"),
+    ("a Put writes all lanes", STEPS, "has_byte && mask[lane]", "has_byte"),
+    ("what is pending can't be granted", STEPS, "was.may || |(was.pending & was.writes & was.could & was.window)", "was.may"),
+    ("what is pending can't be read", STEPS, "it.read || it.may || |(it.pending & it.writes & it.could & ~reader)", "it.read || it.may"),
+    ("a read looks at the last moment alone", STEPS, "wire read = it.read || it.may", "wire read = it.may"),
+    ("a write leaves what was before", STEPS, "wire stays = !(was.free && once) || |(slot & was.since);", "wire stays = 1'b1;"),
+    ("a write leaves nothing of what was said since its window began", STEPS, "|| |(slot & was.since);", "|| 1'b0;"),
+    ("a read of the block brings bytes that it didn't ask for", STEPS, "assign reads = reaches;", "assign reads = here;"),
+]
+
+# Traces in which a byte tells the modules apart: name and text.
+DIRECTED_MEMORY = [
+    ("a Get brings what a Put writes that is pending", """tltrace 2 8 UL UL UL
+00 A 0 0 0 00 00000000 01 0000000000000005 0
+00 D 0 0 0 00 00 0 - 0
+00 A 0 0 0 00 00000000 01 0000000000000007 0
+01 A 4 0 0 00 00000000 01 - 0
+01 D 1 0 0 00 00 0 0000000000000007 0
+"""),
+    ("two Puts are pending at once, and a Get brings what the first to be answered wrote", """tltrace 2 8 UL UL UL
+00 A 0 0 0 00 00000000 01 0000000000000005 0
+01 A 0 0 0 00 00000000 01 0000000000000007 0
+00 D 0 0 0 00 00 0 - 0
+01 D 0 0 0 00 00 0 - 0
+02 A 4 0 0 00 00000000 01 - 0
+02 D 1 0 0 00 00 0 0000000000000005 0
+"""),
+    ("two Puts are pending at once, and a Get brings what was before both", """tltrace 2 8 UL UL UL
+00 A 0 0 0 00 00000000 01 0000000000000003 0
+00 D 0 0 0 00 00 0 - 0
+00 A 0 0 0 00 00000000 01 0000000000000005 0
+01 A 0 0 0 00 00000000 01 0000000000000007 0
+00 D 0 0 0 00 00 0 - 0
+01 D 0 0 0 00 00 0 - 0
+02 A 4 0 0 00 00000000 01 - 0
+02 D 1 0 0 00 00 0 0000000000000003 0
+"""),
+    ("a Get has another byte beside the one that it asks for", """tltrace 2 8 UL UL UL
+00 A 0 0 1 00 00000000 03 0000000000000305 0
+00 D 0 0 1 00 00 0 - 0
+01 A 4 0 0 00 00000001 02 - 0
+01 D 1 0 0 00 00 0 0000000000000309 0
+"""),
+    ("a Put has other data in a lane that it doesn't write", """tltrace 2 8 UL UL UL
+00 A 0 0 1 00 00000000 03 0000000000000305 0
+00 D 0 0 1 00 00 0 - 0
+00 A 1 0 1 00 00000000 01 0000000000000907 0
+00 D 0 0 1 00 00 0 - 0
+01 A 4 0 0 00 00000001 02 - 0
+01 D 1 0 0 00 00 0 0000000000000307 0
+"""),
+    ("data are given back, and what was before is granted", """tltrace 2 16 C C UL
+00 A 6 1 6 00 00000000 ffff - 0
+00 D 5 0 6 00 00 0 00000000000000000000000000000005 0
+00 D 5 0 6 00 00 0 00000000000000000000000000000000 0
+00 D 5 0 6 00 00 0 00000000000000000000000000000000 0
+00 D 5 0 6 00 00 0 00000000000000000000000000000000 0
+00 E 00
+00 C 7 1 6 00 00000000 00000000000000000000000000000007 0
+00 C 7 1 6 00 00000000 00000000000000000000000000000000 0
+00 C 7 1 6 00 00000000 00000000000000000000000000000000 0
+00 C 7 1 6 00 00000000 00000000000000000000000000000000 0
+00 D 6 0 6 00 00 0 - 0
+01 A 6 0 6 00 00000000 ffff - 0
+01 D 5 1 6 00 01 0 00000000000000000000000000000005 0
+"""),
+    ("a clean block is given up, and another byte is granted", """tltrace 2 16 C C UL
+00 A 6 1 6 00 00000000 ffff - 0
+00 D 5 0 6 00 00 0 00000000000000000000000000000005 0
+00 D 5 0 6 00 00 0 00000000000000000000000000000000 0
+00 D 5 0 6 00 00 0 00000000000000000000000000000000 0
+00 D 5 0 6 00 00 0 00000000000000000000000000000000 0
+00 E 00
+00 C 6 1 6 00 00000000 - 0
+00 D 6 0 6 00 00 0 - 0
+01 A 6 0 6 00 00000000 ffff - 0
+01 D 5 1 6 00 01 0 00000000000000000000000000000007 0
+"""),
+    ("a Put that is pending is granted", """tltrace 2 16 C C UL
+02 A 0 0 0 00 00000000 0001 00000000000000000000000000000005 0
+02 D 0 0 0 00 00 0 - 0
+02 A 0 0 0 00 00000000 0001 00000000000000000000000000000007 0
+00 A 6 0 6 00 00000000 ffff - 0
+00 D 5 1 6 00 00 0 00000000000000000000000000000007 0
+"""),
+    ("a Get brings what was before a Put that was answered meanwhile", """tltrace 2 16 C C UL
+02 A 0 0 0 00 00000000 0001 00000000000000000000000000000005 0
+02 D 0 0 0 00 00 0 - 0
+00 A 4 0 0 01 00000000 0001 - 0
+02 A 0 0 0 00 00000000 0001 00000000000000000000000000000007 0
+02 D 0 0 0 00 00 0 - 0
+00 D 1 0 0 01 00 0 00000000000000000000000000000005 0
+"""),
 ]
 
 # Traces for what links drawn at random rarely come to.
@@ -75,5 +182,24 @@ DIRECTED = [
 00 C 6 1 6 01 00000040 - 0
 00 D 6 0 6 01 00 0 - 0
 00 A 6 0 6 00 00000000 ff - 0
+""",
+    """tltrace 2 8 C
+00 A 7 1 6 00 00000000 ff - 0
+00 D 4 0 6 00 00 0 - 0
+00 E 00
+00 B 7 2 6 00 00000000 ff - 0
+00 C 5 1 6 00 00000000 0000000000000000 0
+""",
+    """tltrace 2 8 C
+00 A 7 1 6 00 00000000 ff - 0
+00 D 5 0 6 00 00 0 0000000000000000 0
+""",
+    """tltrace 2 8 C
+00 A 7 1 6 00 00000000 ff - 0
+00 D 4 0 6 00 00 0 - 0
+00 E 00
+00 B 6 2 6 00 00000000 ff - 0
+00 C 5 1 6 00 00000000 0000000000000000 0
+00 B 6 2 6 00 00000000 ff - 0
 """,
 ]

@@ -17,7 +17,7 @@ FIELDS = {
           ("sink", "sink_bits"), ("denied", 1), ("corrupt", 1)],
     "e": [("valid", 1), ("ready", 1), ("sink", "sink_bits")],
 }
-DATA = {"a": "a_data", "b": "b_data", "c": "c_data", "d": "d_data"}
+DATA = "abcd"  # the channels that carry data
 LEVELS = ["UL", "UH", "C"]
 LIBERTIES = ["ids", "sinks", "writer", "early", "drops", "reports", "denied", "uncorrupt"]
 # What the client sends of each channel; the manager sends the rest.
@@ -95,11 +95,26 @@ class Design:
             found[way][name] = int(high) - int(low) + 1
         return found["input"], found["output"]
 
+    def named(self, channel, field):
+        """How the map calls a field of a link."""
+        bits = "" if field in ("valid", "ready") else "bits_"
+        return self.fields.get(f"{channel}_{field}", self.pattern.format(channel=channel, field=field, bits=bits))
+
+    def data_port(self, channel):
+        """The design's port of the data of a channel, or None."""
+        port = self.named(channel, "data")
+        if port not in self.inputs and port not in self.outputs:
+            return None
+        bits = self.inputs.get(port) or self.outputs[port]
+        if bits != 8 * self.sizes["width"] * self.links:
+            raise Unreadable(f"{port} has {bits} bits, where the map says {self.links} links of {self.sizes['width']} bytes a beat")
+        return port
+
     def port(self, channel, field):
         """The design's port of a field of a link, or the constant that stands for it, or None where it is free: the other
         side sends it, and the design doesn't look at it."""
         name = f"{channel}_{field}"
-        port = self.fields.get(name, self.pattern.format(channel=channel, field=field, bits="" if field in ("valid", "ready") else "bits_"))
+        port = self.named(channel, field)
         if isinstance(port, int) or port in self.inputs or port in self.outputs:
             return port
         if name in self.fields:

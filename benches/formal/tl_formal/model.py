@@ -5,20 +5,35 @@ import re
 from .design import DATA, FIELDS, Unreadable, yosys
 
 PROPERTIES = ["tl_bursts", "tl_legality", "tl_source_rules", "tl_sink_rules", "tl_block_rules", "tl_link_covers", "tl_link_properties",
-              "tl_manager_properties"]
+              "tl_manager_properties", "tl_memory_steps", "tl_memory_properties"]
+MOST_SOURCES = 3  # bits: so many are all tracked, of sinks too
+
+
+def constant(bits, name):
+    """Any value that doesn't change. Tools that don't know Yosys's attribute get an assumption."""
+    yield f"  (* anyconst *) logic [{bits - 1}:0] {name};"
+    yield "`ifndef YOSYS"
+    yield "`ifdef FORMAL"
+    yield f"  steady_{name}: assume property (@(posedge clk) $stable({name}));"
+    yield "`endif"
+    yield "`endif"
 
 
 class Top:
     """A module around the design: its environment is inputs of the module, its link goes to tl_link_properties."""
 
-    def __init__(self, design, blocks, block_bits, closed):
+    def __init__(self, design, blocks, block_bits, closed, memory=False, byte=None):
         self.design, self.blocks, self.block_bits, self.closed = design, min(blocks, 1 << block_bits), block_bits, closed
+        self.memory, self.byte = memory, byte
+        if memory and design.sizes["source_bits"] > MOST_SOURCES:
+            raise Unreadable(f"M2 and M3 need all sources: source_bits is {design.sizes['source_bits']}, and {MOST_SOURCES} at most for --memory")
         self.inputs, self.lines = {}, []
 
     def text(self):
         """The module as SystemVerilog."""
         design, sizes = self.design, self.design.sizes
         self.wires()
+        self.data()
         body = [*self.lines, *self.keys(), self.instance(), *self.assumptions(), *self.properties(), *self.recorder()]
         ports = ",\n".join(f"  input logic [{bits - 1}:0] {name}" for name, bits in self.inputs.items())
         return "\n".join([f"// Made by tl-formal: {design.top} with its environment free.", "module tl_formal_top (",
@@ -51,6 +66,17 @@ class Top:
                 if port in design.inputs:
                     self.driven(name, bits // design.links, real // design.links)
 
+    def data(self):
+        """A wire for the data of each channel: of the design, of its environment, or zeros."""
+        design = self.design
+        bits = 8 * design.sizes["width"] * design.links
+        for channel in DATA:
+            port = design.data_port(channel)
+            if port in design.inputs:
+                self.inputs[f"{channel}_data_in"] = bits
+            value = f" = {channel}_data_in" if port in design.inputs else "" if port else f" = {bits}'d0"
+            self.lines.append(f"  wire [{bits - 1}:0] {channel}_data{value};")
+
     def driven(self, name, mine, its):
         """An input of the design, from an input of this module; bits that the map doesn't count are 0."""
         links = self.design.links
@@ -68,18 +94,18 @@ class Top:
         self.counts = {}
         for kind in ("source", "sink"):
             width = sizes[f"{kind}_bits"]
-            self.counts[kind] = 1 << width if width <= 3 else 1
-            if width <= 3:
+            self.counts[kind] = 1 << width if width <= MOST_SOURCES else 1
+            if width <= MOST_SOURCES:
                 keys = ", ".join(f"{width}'d{it}" for it in reversed(range(1 << width)))
                 yield f"  wire [{(1 << width) * width - 1}:0] {kind}_keys = {{{keys}}};"
             else:
-                yield f"  (* anyconst *) logic [{width - 1}:0] {kind}_keys;"
+                yield from constant(width, f"{kind}_keys")
         yield f"  wire [{self.blocks * bits - 1}:0] block_keys;"
         for block in range(self.blocks):
             if self.blocks >= 1 << self.block_bits:
                 yield f"  assign block_keys[{block * bits} +: {bits}] = {bits}'d{block};"
                 continue
-            yield f"  (* anyconst *) logic [{self.block_bits - 1}:0] block_{block};"
+            yield from constant(self.block_bits, f"block_{block}")
             yield f"  assign block_keys[{block * bits} +: {bits}] = {bits}'(block_{block});"
 
     def instance(self):
@@ -89,23 +115,27 @@ class Top:
         for name, bits in design.inputs.items():
             if name in (design.clock, design.reset):
                 continue
-            field = next((f"{c}_{f}" for c, fields in FIELDS.items() for f, _ in fields if design.port(c, f) == name), None)
-            if field:
-                joined.append(f".{name}({field}_port)")
+            field, data = self.field_of(name), self.data_of(name)
+            if field or data:
+                joined.append(f".{name}({f'{field}_port' if field else data})")
             elif name in design.fixed:
                 joined.append(f".{name}({bits}'d{design.fixed[name]})")
             else:
                 self.inputs[f"{name}_in"] = bits
                 value = f"{name}_in & {bits}'h{(1 << min(bits, self.block_bits + 6)) - 1:x}" if name in design.addresses else f"{name}_in"
                 joined.append(f".{name}({value})")
-        for name, bits in design.outputs.items():
-            field = next((f"{c}_{f}" for c, fields in FIELDS.items() for f, _ in fields if design.port(c, f) == name), None)
-            data = name if name in DATA.values() else None
-            if data:
-                self.lines.append(f"  wire [{bits - 1}:0] {data}_port;")
-            joined.append(f".{name}({f'{field}_port' if field else f'{data}_port' if data else ''})")
+        for name in design.outputs:
+            field, data = self.field_of(name), self.data_of(name)
+            joined.append(f".{name}({f'{field}_port' if field else data or ''})")
         parameters = ", ".join(f".{name}({value})" for name, value in design.parameters.items())
         return f"  {design.top} #({parameters}) dut ({', '.join(joined)});"
+
+    def field_of(self, name):
+        """The field of a link that a port of the design is."""
+        return next((f"{c}_{f}" for c, fields in FIELDS.items() for f, _ in fields if self.design.port(c, f) == name), None)
+
+    def data_of(self, name):
+        return next((f"{channel}_data" for channel in DATA if self.design.data_port(channel) == name), None)
 
     def is_tracked(self, address, high):
         bits = self.design.sizes["address_bits"] - 6
@@ -148,26 +178,35 @@ class Top:
                    f".ADDRESS_BITS({sizes['address_bits']}), .SOURCES({self.counts['source']}), .SINKS({self.counts['sink']}), .BLOCKS({self.blocks}), "
                    f".STEADY({int(design.steady)})) link_{link} (.clk, .rst_n, .source_keys, .sink_keys, .block_keys, "
                    f"{outs}, {beats}, {', '.join(joined)});")
-        if design.side == "manager" and design.links > 1:
-            yield "  (* anyconst *) logic [7:0] access_source;"
-            yield f"  (* anyconst *) logic [{self.block_bits - 1}:0] memory_block;"
-            if self.closed:
-                yield f"  wire [{sizes['address_bits'] - 1}:0] memory_block_at = {{memory_block, 6'd0}};"
-                yield "`ifdef FORMAL"
-                yield f"  always @* assume ({self.is_tracked('memory_block_at', sizes['address_bits'] - 1)});"
-                yield "`endif"
-            yield f"  (* anyconst *) logic [{max(1, (design.links - 1).bit_length()) - 1}:0] access_link;"
-            yield (f"  tl_manager_properties #(.N({design.links}), .LIBERTIES({design.liberties}), .ASSERTED(1), .OWN({int(design.own)})) between (.clk, .rst_n, "
-                   f".block(26'(memory_block)), .access_source, .access_link(4'(access_link)), "
-                   ".on_a, .on_b, .on_c, .on_d, .on_e, .m1_broken(), .m4_broken());")
+        if design.side == "manager" and (design.links > 1 or self.memory):
+            yield from self.between_links()
+
+    def between_links(self):
+        """M1 and M4, and M2 and M3 with `memory`, of one block, one access, one byte and one value."""
+        design, sizes = self.design, self.design.sizes
+        yield from constant(8, "access_source")
+        yield from constant(self.block_bits, "memory_block")
+        yield from constant(max(1, (design.links - 1).bit_length()), "access_link")
+        if self.closed:
+            yield f"  wire [{sizes['address_bits'] - 1}:0] memory_block_at = {{memory_block, 6'd0}};"
+            yield "`ifdef FORMAL"
+            yield f"  always @* assume ({self.is_tracked('memory_block_at', sizes['address_bits'] - 1)});"
+            yield "`endif"
+        common = f".N({design.links}), .LIBERTIES({design.liberties}), .ASSERTED(1), .OWN({int(design.own)})"
+        beats = ".access_source, .access_link(4'(access_link)), .on_a, .on_b, .on_c, .on_d, .on_e"
+        if design.links > 1:
+            yield f"  tl_manager_properties #({common}) between (.clk, .rst_n, .block(26'(memory_block)), {beats}, .m1_broken(), .m4_broken());"
+        if self.memory:
+            yield from constant(8, "memory_value")
+            yield from constant(6, "memory_byte") if self.byte is None else [f"  wire [5:0] memory_byte = 6'd{self.byte};"]
+            yield (f"  tl_memory_properties #({common}, .W({sizes['width']}), .SOURCES({self.counts['source']})) of_memory (.clk, .rst_n, "
+                   f".at({{26'(memory_block), memory_byte}}), .value(memory_value), {beats}, .a_data, .c_data, .d_data, .m2_broken(), .m3_broken());")
 
     def recorder(self):
         """In a simulator the recorder writes the trace of a counterexample."""
         design, sizes = self.design, self.design.sizes
         joined = [f".{channel}_{field}({channel}_{field})" for channel, fields in FIELDS.items() for field, _ in fields]
-        for channel, data in DATA.items():
-            real = design.outputs.get(data)
-            joined.append(f".{data}({data}_port)" if real else f".{data}({{{8 * sizes['width'] * design.links}{{1'b0}}}})")
+        joined += [f".{channel}_data({channel}_data)" for channel in DATA]
         levels = " ".join([["UL", "UH", "C"][design.level]] * design.links)
         profile = "3 %0d 2" if design.liberties == 4 else "2 %0d"
         yield "`ifdef REPLAY"
@@ -200,4 +239,10 @@ def circuit(top, folder, modules, reached):
         write_aiger -I -B -zinit -map {folder}/model.aim {folder}/model.aig""")
     names = (folder / "model.asserts").read_text().split()
     # Yosys goes through the cells that it has read from the last to the first.
-    return [re.sub(r".*[./\\]", "", name) for name in reversed(names)]
+    return [label(name) for name in reversed(names)]
+
+
+def label(name):
+    """The label of an assertion; file and line of one that has none."""
+    place = re.search(r"\$assert\$(?:.*/)?([^/]+:\d+)\$", name)
+    return place[1] if place else re.sub(r".*[./\\]", "", name)

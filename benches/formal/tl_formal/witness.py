@@ -6,10 +6,10 @@ import subprocess
 from .design import Unreadable
 
 
-def frames_of(folder):
-    """The values of the top's inputs, edge by edge, by name."""
+def frames_of(folder, cex):
+    """The values of the top's inputs in a counterexample, edge by edge, by name."""
     inputs = int((folder / "model.aig").open("rb").readline().split()[2])
-    rows = [row[:inputs] for row in (folder / "model.cex").read_text().split("\n")[1:] if len(row) >= inputs]
+    rows = [row[:inputs] for row in (folder / cex).read_text().split("\n")[1:] if len(row) >= inputs]
     places = collections.defaultdict(dict)
     for line in (folder / "model.aim").read_text().splitlines():
         kind, index, bit, name = line.split()
@@ -31,9 +31,9 @@ def bench(top, frames):
     return "\n".join([*lines, "    $finish(0);", "  end", "endmodule", ""])
 
 
-def written(top, folder, name, recorder, modules, tool):
-    """Writes trace, waves, explanation and chart, and gives what the monitor says of the trace."""
-    (folder / "witness.sv").write_text(bench(top, frames_of(folder)))
+def written(top, folder, cex, name, recorder, modules, tool):
+    """Writes trace, waves, explanation and chart of a counterexample, and gives what the monitor says of the trace."""
+    (folder / "witness.sv").write_text(bench(top, frames_of(folder, cex)))
     program, trace, waves = folder / "witness.vvp", folder / f"{name}.trace", folder / f"{name}.vcd"
     sources = [folder / "witness.sv", folder / "tl_formal_top.sv", *top.design.files, *recorder, *sorted(modules.glob("tl_*.sv"))]
     built = subprocess.run(["iverilog", "-g2012", "-DREPLAY", f"-I{modules}", "-s", "tl_formal_witness", "-o", program,
@@ -41,8 +41,9 @@ def written(top, folder, name, recorder, modules, tool):
     if built.returncode:
         raise Unreadable(f"Icarus can't build the counterexample's simulation: {built.stdout[-600:]}")
     subprocess.run(["vvp", "-n", program, f"+trace={trace}", f"+waves={waves}"], stdout=subprocess.DEVNULL, check=True)
-    command = "coherent" if top.design.links > 1 else "monitor"
+    together = top.design.links > 1 or top.memory
+    command = "coherent" if together else "monitor"
     said = lambda *words: subprocess.run([tool, *words], stdout=subprocess.PIPE, text=True).stdout
-    (folder / f"{name}.txt").write_text(said("explain", *(["--coherent"] if top.design.links > 1 else []), str(trace)))
+    (folder / f"{name}.txt").write_text(said("explain", *(["--coherent"] if together else []), str(trace)))
     (folder / f"{name}.svg").write_text(said("chart", str(trace)))
     return said(command, str(trace)).strip()

@@ -1,47 +1,34 @@
 -- What a judge's tables answer of the rules of memory.
-use Rattle.std.proofs.Common.{◌≡◌, ℕ, Bool, true, false, ◌&&◌, ◌||◌, ◌<◌, List, length, refl, sym, ap, ◌∙◌}
-use Rattle.std.proofs.Common.{◌+◌}
+use Rattle.tl_together.proofs.Imports.{Beat, Link, Level, Perm, open_request, Trace, on_link, held, is_free, has_window}
+use Rattle.tl_together.proofs.Imports.{is_grantable, M1, M4, Window, last_free, KnowsWindows}
+use Rattle.std.proofs.Common.{◌≡◌, ℕ, Bool, true, false, ◌&&◌, ◌||◌, ◌<◌, List, length, refl, sym, ap, ◌∙◌, ◌+◌}
 use Rattle.std.specs.Prelude.{if◌then◌else◌, Option, Some, None, is_some, nat_le, ◌==◌}
-use Rattle.std.proofs.Math.Numerals.{add-one}
-use Rattle.std.proofs.lemmas.Bool.{lt-ltb}
-use Rattle.tl_beat.specs.declared.beat.Beat.{Beat}
+use Rattle.std.{proofs.Math.Numerals.add-one, proofs.lemmas.Bool.lt-ltb}
 use Rattle.tl_beat.specs.declared.beat.Beat.TheVariants.{A, B, C, D, E}
 use Rattle.tl_beat.specs.declared.beat.BeatD.{BeatD}
-use Rattle.tl_beat.specs.declared.beat.Link.{Link}
-use Rattle.tl_params.specs.declared.level.Level.{Level}
-use Rattle.tl_params.specs.declared.perm.Perm.{Perm}
-use Rattle.tl_params.specs.declared.perm.Perm.TheVariants as perm
-use Rattle.tl_rules.specs.code.Open.{open_request}
-use Rattle.tl_rules.specs.declared.past.Request.{Request}
-use Rattle.tl_rules.specs.statement.Conformance.{Trace, on_link}
-use Rattle.tl_rules.specs.statement.History.{begins, is_grant, held, capped}
+use Rattle.tl_rules.{specs.declared.past.Request.Request, specs.statement.Windows.leaves, specs.statement.Windows.needs}
+use Rattle.tl_rules.specs.statement.History.{begins, is_grant, capped}
 use Rattle.tl_monitor.specs.statement.Granting.{granted, granted_on}
 use Rattle.tl_monitor.specs.statement.Knows.{held_on, begins_on, request_on}
-use Rattle.tl_rules.specs.statement.Windows.{is_free, leaves, needs, has_window}
-use Rattle.tl_together.specs.statement.Coherence.{is_grantable, is_performed}
-use Rattle.tl_together.specs.statement.Coherence.{broken_grant, broken_access, broken_response, broken_memory}
-use Rattle.tl_together.specs.statement.Coherence.{broken_beginning, broken_bytes, memory_rule_or}
+use Rattle.tl_together.specs.statement.Coherence.{is_performed, broken_grant, broken_access, broken_response}
+use Rattle.tl_together.specs.statement.Coherence.{broken_memory, broken_beginning, broken_bytes, memory_rule_or}
 use Rattle.tl_memory.specs.code.Taking.{request_answered}
 use Rattle.tl_together.specs.declared.breach.MemoryRule.{MemoryRule}
-use Rattle.tl_together.specs.declared.breach.MemoryRule.TheVariants.{M1, M4}
-use Rattle.tl_together.specs.declared.windows.Window.{Window}
-use Rattle.tl_together.specs.code.Windows.{asked_at, last_free, last_in, window_in, KnowsWindows}
+use Rattle.tl_together.specs.code.Windows.{asked_at, last_in, window_in}
 use Rattle.tl_together.proofs.Windowed.{free_window, window-is}
 
 -- one link more
-pub free_more : {w : ℕ} (levels : List Level) (n : ℕ) (link : Link) (given h : Perm) (block : ℕ)
-    (t : Trace w) (free left now : Bool)
-    → link.0 ≡ n → n < length levels → h ≡ held_on levels link block t → free ≡ is_free n None given block t
-    → left ≡ leaves given h
-    → now ≡ (free && left) → now ≡ is_free (n + 1) None given block t
+pub free_more : {w : ℕ} (levels : List Level) (n : ℕ) (link : Link) (given h : Perm) (block : ℕ) (t : Trace w)
+    (free left now : Bool) → link.0 ≡ n → n < length levels → h ≡ held_on levels link block t
+    → free ≡ is_free n None given block t → left ≡ leaves given h → now ≡ (free && left)
+    → now ≡ is_free (n + 1) None given block t
 unfolding is_free
 free_more levels n link given h block t free left now link_is lt held_is free_is left_is now_is =
     let here : h ≡ held block (on_link n t) = held_is ∙ rw (lt-ltb link.0 (length levels) (rw link_is lt))
     (ap (λ m. held block (on_link m t)) link_is) in
     now_is ∙ rw (add-one, free_is, left_is, here) refl
 
-pub free_none : {w : ℕ} (given : Perm) (block : ℕ) (t : Trace w)
-    → true ≡ is_free 0 None given block t
+pub free_none : {w : ℕ} (given : Perm) (block : ℕ) (t : Trace w) → true ≡ is_free 0 None given block t
 unfolding is_free
 free_none given block t = refl
 
@@ -52,10 +39,9 @@ unfolding is_grantable
 grantable_none link given block t = refl
 
 pub grantable_more : {w : ℕ} (levels : List Level) (n link : ℕ) (other : Link) (given h : Perm) (block : ℕ)
-    (t : Trace w) (free left now : Bool)
-    → other.0 ≡ n → n < length levels → h ≡ granted_on levels other block t → free ≡ is_grantable n link given block t
-    → left ≡ ((link == n) || leaves given h)
-    → now ≡ (free && left) → now ≡ is_grantable (n + 1) link given block t
+    (t : Trace w) (free left now : Bool) → other.0 ≡ n → n < length levels → h ≡ granted_on levels other block t
+    → free ≡ is_grantable n link given block t → left ≡ ((link == n) || leaves given h) → now ≡ (free && left)
+    → now ≡ is_grantable (n + 1) link given block t
 unfolding is_grantable
 grantable_more levels n link other given h block t free left now other_is lt granted_is free_is left_is now_is =
     let here : h ≡ granted block (on_link n t) = granted_is ∙ rw (lt-ltb other.0 (length levels) (rw other_is lt))
@@ -64,8 +50,8 @@ grantable_more levels n link other given h block t free left now other_is lt gra
 
 -- of all links, where these are they
 pub free_all : {w : ℕ} (n links block : ℕ) (t : Trace w) (reading writing : Bool) → n ≡ links
-    → (reading ≡ is_free n None perm.Branch block t) × (writing ≡ is_free n None perm.Trunk block t)
-    → (reading ≡ is_free links None perm.Branch block t) × (writing ≡ is_free links None perm.Trunk block t)
+    → (reading ≡ is_free n None Perm.Branch block t) × (writing ≡ is_free n None Perm.Trunk block t)
+    → (reading ≡ is_free links None Perm.Branch block t) × (writing ≡ is_free links None Perm.Trunk block t)
 free_all n links block t reading writing e known = rw (sym e) known
 
 pub window_free : {w : ℕ} (links n link source : ℕ) (given : Perm) (block : ℕ) (t : Trace w) (r : Bool) → links ≡ n
@@ -76,11 +62,10 @@ window_free links n link source given block t r links_is asked r_is free =
     ∙ free))
 
 pub window_asked : {w : ℕ} (links n link source : ℕ) (given : Perm) (block : ℕ) (t : Trace w) (r : Bool) (a last : ℕ)
-    (entries : List (ℕ × Window)) (noted : Option ℕ) → links ≡ n
-    → is_some (open_request source (on_link link t)) ≡ true
+    (entries : List (ℕ × Window)) (noted : Option ℕ) → links ≡ n → is_some (open_request source (on_link link t)) ≡ true
     → r ≡ is_free links None given block t → r ≡ false → Some a ≡ noted → noted ≡ Some (asked_at link source t)
-    → last ≡ last_in given (window_in entries block)
-    → KnowsWindows entries n t → nat_le a last ≡ has_window n link source given block t
+    → last ≡ last_in given (window_in entries block) → KnowsWindows entries n t
+    → nat_le a last ≡ has_window n link source given block t
 window_asked links n link source given block t r a last entries noted links_is asked r_is closed found known last_is
     windows =
     let same : a ≡ asked_at link source t = of_some (found ∙ known) in
@@ -94,8 +79,7 @@ window_asked links n link source given block t r a last entries noted links_is a
 
 -- the response to no request
 pub no_response : {w : ℕ} (levels : List Level) (n : ℕ) (link : Link) (x : BeatD w) (t : Trace w)
-    → link.0 < length levels → None ≡ request_on levels link x.source t
-    → None ≡ broken_response n link.0 x t
+    → link.0 < length levels → None ≡ request_on levels link x.source t → None ≡ broken_response n link.0 x t
 no_response levels n link x t lt none =
     let here : open_request x.source (on_link link.0 t) ≡ None = sym (rw (lt-ltb link.0 (length levels) lt) refl) ∙ sym
     none in
@@ -110,20 +94,17 @@ no_response levels n link x t lt none =
     go false false = refl
 
 pub asked_is : {w : ℕ} (levels : List Level) (link : Link) (s : ℕ) (t : Trace w) (r : Request) → link.0 < length levels
-    → Some r ≡ request_on levels link s t
-    → open_request s (on_link link.0 t) ≡ Some r
+    → Some r ≡ request_on levels link s t → open_request s (on_link link.0 t) ≡ Some r
 asked_is levels link s t r lt some = sym (rw (lt-ltb link.0 (length levels) lt) refl) ∙ sym some
 
 pub grant_is : {w : ℕ} (links n link : ℕ) (x : BeatD w) (given : Perm) (asked : Request) (t : Trace w) (r : Bool)
-    → links ≡ n → given ≡ capped x.param
-    → r ≡ is_grantable links link given asked.block t → (b : Bool) → r ≡ b
+    → links ≡ n → given ≡ capped x.param → r ≡ is_grantable links link given asked.block t → (b : Bool) → r ≡ b
     → (if b then None else Some M1) ≡ broken_grant n link x (Some asked) t
 grant_is links n link x given asked t r links_is given_is r_is b e =
     ap (λ c. if c then None else Some M1) (sym e ∙ r_is ∙ rw (links_is, given_is) refl)
 
 pub access_is : {w : ℕ} (n link : ℕ) (x : BeatD w) (given : Perm) (asked : Request) (t : Trace w) (r : Bool)
-    → given ≡ needs asked.opcode
-    → r ≡ has_window n link x.source given asked.block t → (b : Bool) → r ≡ b
+    → given ≡ needs asked.opcode → r ≡ has_window n link x.source given asked.block t → (b : Bool) → r ≡ b
     → (if b then None else Some M4) ≡ broken_access n link x (Some asked) t
 access_is n link x given asked t r given_is r_is b e =
     ap (λ c. if c then None else Some M4) (sym e ∙ r_is ∙ rw given_is refl)
@@ -134,14 +115,12 @@ pub a_grant : {w : ℕ} (n link : ℕ) (x : BeatD w) (t : Trace w) (r : Request)
 a_grant n link x t r g o asked g_is yes' o_is = o_is ∙ rw (sym g_is ∙ yes', asked) refl
 
 pub an_access : {w : ℕ} (n link : ℕ) (x : BeatD w) (t : Trace w) (r : Request) (g a : Bool) (o : Option MemoryRule)
-    → open_request x.source (on_link link t) ≡ Some r
-    → g ≡ is_grant x.opcode → g ≡ false → a ≡ is_performed x → a ≡ true → o ≡ broken_access n link x (Some r) t
-    → o ≡ broken_response n link x t
+    → open_request x.source (on_link link t) ≡ Some r → g ≡ is_grant x.opcode → g ≡ false → a ≡ is_performed x
+    → a ≡ true → o ≡ broken_access n link x (Some r) t → o ≡ broken_response n link x t
 an_access n link x t r g a o asked g_is no' a_is yes' o_is = o_is ∙ rw (sym g_is ∙ no', sym a_is ∙ yes', asked) refl
 
 pub another : {w : ℕ} (n link : ℕ) (x : BeatD w) (t : Trace w) (g a : Bool) → g ≡ is_grant x.opcode → g ≡ false
-    → a ≡ is_performed x → a ≡ false
-    → None ≡ broken_response n link x t
+    → a ≡ is_performed x → a ≡ false → None ≡ broken_response n link x t
 another n link x t g a g_is no' a_is none = rw (sym g_is ∙ no', sym a_is ∙ none) refl
 
 pub begun : {w : ℕ} (levels : List Level) (link : Link) (x : BeatD w) (t : Trace w) (b : Bool) (o : Option MemoryRule)
@@ -188,8 +167,5 @@ answered_is levels link beat x t r lt is r_is =
 
 pub no_d : {w : ℕ} (n link : ℕ) (beat : Beat w) (t : Trace w) → ((x : BeatD w) → beat ≡ D x → ⊥)
     → None ≡ broken_memory n link beat t
-no_d n link (A x) t ne = refl
-no_d n link (B x) t ne = refl
-no_d n link (C x) t ne = refl
 no_d n link (D x) t ne = absurd (ne x refl)
-no_d n link (E x) t ne = refl
+no_d n link v t ne = refl

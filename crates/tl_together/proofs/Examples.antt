@@ -1,33 +1,24 @@
 -- The shortest traces that break a rule of memory, and beside each the right one.
+use Rattle.tl_together.proofs.Imports.{Beat, Link, unfinished, Level, Trace, on_link, broken_after, request_of, pending}
+use Rattle.tl_together.proofs.Imports.{held, M1, M4, is_free, has_window, breach_from, is_grantable, Profile}
 use Rattle.std.proofs.Common.{◌≡◌, ℕ, refl, true, false, List, [], ◌∷◌}
 use Rattle.std.specs.Prelude.{Some, None}
-use Rattle.tl_beat.specs.declared.beat.Beat.{Beat}
-use Rattle.tl_beat.specs.declared.beat.Beat.TheVariants as beat
-use Rattle.tl_beat.specs.declared.beat.Link.{Link}
-use Rattle.tl_beat.specs.declared.opcode.OpA.TheVariants as a
-use Rattle.tl_beat.specs.declared.opcode.OpB.TheVariants as b
-use Rattle.tl_beat.specs.declared.opcode.OpC.TheVariants as c
-use Rattle.tl_beat.specs.declared.opcode.OpD.TheVariants as d
-use Rattle.tl_burst.specs.statement.Messages.{unfinished}
-use Rattle.tl_params.specs.declared.level.Level.{Level}
-use Rattle.tl_params.specs.declared.level.Level.TheVariants as level
-use Rattle.tl_params.specs.declared.profile.Profile.TheVariants as profile
+use Rattle.tl_beat.{specs.declared.opcode.OpA.OpA, specs.declared.opcode.OpB.OpB, specs.declared.opcode.OpC.OpC}
+use Rattle.tl_beat.{specs.declared.opcode.OpD.OpD}
 use Rattle.tl_params.specs.declared.rule.Rule.TheVariants.{H2}
-use Rattle.tl_rules.specs.statement.Conformance.{Trace, on_link, broken_order, broken_after}
-use Rattle.tl_rules.specs.statement.History.{request_of, release_of, probe_of, grant_sink, pending, held}
+use Rattle.tl_rules.specs.statement.Conformance.{broken_order}
+use Rattle.tl_rules.specs.statement.History.{release_of, probe_of, grant_sink}
 use Rattle.tl_rules.specs.statement.Legality.{illegal, first_illegal, each_below}
 use Rattle.tl_together.specs.declared.breach.Breach.TheVariants.{OfLink, OfMemory}
-use Rattle.tl_together.specs.declared.breach.MemoryRule.TheVariants.{M1, M4}
-use Rattle.tl_rules.specs.statement.Windows.{is_free, has_window}
 use Rattle.tl_bytes.specs.statement.Bytes.{before_last, carried_byte, each_from, may_be, may_read, pending_accesses}
-use Rattle.tl_together.specs.statement.Coherence.{breach_from, first_breach, is_grantable}
+use Rattle.tl_together.specs.statement.Coherence.{first_breach}
 
 -- beats of 8 bytes of block 0, on these links
 abbrev acquire_perm : ℕ → ℕ → Link × Beat 8
 acquire_perm link param = (
   record { 0 = link },
-  beat.A (record {
-    opcode = a.AcquirePerm;
+  Beat.A (record {
+    opcode = OpA.AcquirePerm;
     param = param;
     size = 6;
     source = 0;
@@ -42,8 +33,8 @@ acquire_perm link param = (
 abbrev grant : ℕ → ℕ → ℕ → Link × Beat 8
 grant link cap sink = (
   record { 0 = link },
-  beat.D (record {
-    opcode = d.Grant;
+  Beat.D (record {
+    opcode = OpD.Grant;
     param = cap;
     size = 6;
     source = 0;
@@ -56,13 +47,13 @@ grant link cap sink = (
 )
 
 abbrev grant_ack : ℕ → ℕ → Link × Beat 8
-grant_ack link sink = (record { 0 = link }, beat.E (record { sink = sink }))
+grant_ack link sink = (record { 0 = link }, Beat.E (record { sink = sink }))
 
 abbrev probe_perm : ℕ → ℕ → Link × Beat 8
 probe_perm link cap = (
   record { 0 = link },
-  beat.B (record {
-    opcode = b.ProbePerm;
+  Beat.B (record {
+    opcode = OpB.ProbePerm;
     param = cap;
     size = 6;
     source = 0;
@@ -77,8 +68,8 @@ probe_perm link cap = (
 abbrev probe_ack : ℕ → ℕ → Link × Beat 8
 probe_ack link report = (
   record { 0 = link },
-  beat.C (record {
-    opcode = c.ProbeAck;
+  Beat.C (record {
+    opcode = OpC.ProbeAck;
     param = report;
     size = 6;
     source = 0;
@@ -92,8 +83,8 @@ probe_ack link report = (
 abbrev get : ℕ → Link × Beat 8
 get link = (
   record { 0 = link },
-  beat.A (record {
-    opcode = a.Get;
+  Beat.A (record {
+    opcode = OpA.Get;
     param = 0;
     size = 3;
     source = 1;
@@ -111,8 +102,8 @@ eight = 0 ∷ 0 ∷ 0 ∷ 0 ∷ 0 ∷ 0 ∷ 0 ∷ 0 ∷ []
 abbrev answer : ℕ → Link × Beat 8
 answer link = (
   record { 0 = link },
-  beat.D (record {
-    opcode = d.AccessAckData;
+  Beat.D (record {
+    opcode = OpD.AccessAckData;
     param = 0;
     size = 3;
     source = 1;
@@ -128,8 +119,8 @@ answer link = (
 abbrev denial : ℕ → Link × Beat 8
 denial link = (
   record { 0 = link },
-  beat.D (record {
-    opcode = d.AccessAckData;
+  Beat.D (record {
+    opcode = OpD.AccessAckData;
     param = 0;
     size = 3;
     source = 1;
@@ -142,54 +133,50 @@ denial link = (
 )
 
 abbrev two_caches : List Level
-two_caches = level.C ∷ level.C ∷ []
+two_caches = Level.C ∷ Level.C ∷ []
 
 -- one link asks for Trunk and has it
 abbrev one_writes : Trace 8 → Trace 8
 one_writes rest = acquire_perm 0 1 ∷ grant 0 0 0 ∷ grant_ack 0 0 ∷ rest
 
 -- Trunk for both
-two_writers : first_breach two_caches profile.One (one_writes (acquire_perm 1 1 ∷ grant 1 0 1 ∷ [])) ≡ Some
+two_writers : first_breach two_caches Profile.One (one_writes (acquire_perm 1 1 ∷ grant 1 0 1 ∷ [])) ≡ Some
     (4, OfMemory M1)
-unfolding breach_from is_free is_grantable has_window on_link unfinished request_of release_of probe_of grant_sink pending
-    held
-    illegal first_illegal each_below broken_order broken_after pending_accesses each_from may_read before_last may_be
-    carried_byte
+unfolding breach_from is_free is_grantable has_window on_link unfinished request_of release_of probe_of grant_sink
+    pending held illegal first_illegal each_below broken_order broken_after pending_accesses each_from may_read
+    before_last may_be carried_byte
 two_writers = refl
 
 -- a copy beside Trunk
-a_reader_beside_a_writer : first_breach two_caches profile.One (one_writes (acquire_perm 1 0 ∷ grant 1 1 1 ∷ [])) ≡ Some
+a_reader_beside_a_writer : first_breach two_caches Profile.One (one_writes (acquire_perm 1 0 ∷ grant 1 1 1 ∷ [])) ≡ Some
     (4, OfMemory M1)
-unfolding breach_from is_free is_grantable has_window on_link unfinished request_of release_of probe_of grant_sink pending
-    held
-    illegal first_illegal each_below broken_order broken_after pending_accesses each_from may_read before_last may_be
-    carried_byte
+unfolding breach_from is_free is_grantable has_window on_link unfinished request_of release_of probe_of grant_sink
+    pending held illegal first_illegal each_below broken_order broken_after pending_accesses each_from may_read
+    before_last may_be carried_byte
 a_reader_beside_a_writer = refl
 
 -- the first has given all up
-one_after_the_other : first_breach two_caches profile.One
+one_after_the_other : first_breach two_caches Profile.One
     (one_writes (acquire_perm 1 1 ∷ probe_perm 0 2 ∷ probe_ack 0 1 ∷ grant 1 0 1 ∷ [])) ≡ None
-unfolding breach_from is_free is_grantable has_window on_link unfinished request_of release_of probe_of grant_sink pending
-    held
-    illegal first_illegal each_below broken_order broken_after pending_accesses each_from may_read before_last may_be
-    carried_byte
+unfolding breach_from is_free is_grantable has_window on_link unfinished request_of release_of probe_of grant_sink
+    pending held illegal first_illegal each_below broken_order broken_after pending_accesses each_from may_read
+    before_last may_be carried_byte
 one_after_the_other = refl
 
 -- the first has kept a copy, and the second has one
-two_readers : first_breach two_caches profile.One
+two_readers : first_breach two_caches Profile.One
     (one_writes (acquire_perm 1 0 ∷ probe_perm 0 1 ∷ probe_ack 0 0 ∷ grant 1 1 1 ∷ [])) ≡ None
-unfolding breach_from is_free is_grantable has_window on_link unfinished request_of release_of probe_of grant_sink pending
-    held
-    illegal first_illegal each_below broken_order broken_after pending_accesses each_from may_read before_last may_be
-    carried_byte
+unfolding breach_from is_free is_grantable has_window on_link unfinished request_of release_of probe_of grant_sink
+    pending held illegal first_illegal each_below broken_order broken_after pending_accesses each_from may_read
+    before_last may_be carried_byte
 two_readers = refl
 
 -- one block for both: each asks for it with its bytes, and the first beats of both answers
 abbrev acquire_block : ℕ → ℕ → Link × Beat 8
 acquire_block link param = (
   record { 0 = link },
-  beat.A (record {
-    opcode = a.AcquireBlock;
+  Beat.A (record {
+    opcode = OpA.AcquireBlock;
     param = param;
     size = 6;
     source = 0;
@@ -204,8 +191,8 @@ acquire_block link param = (
 abbrev grant_data : ℕ → ℕ → ℕ → Link × Beat 8
 grant_data link cap sink = (
   record { 0 = link },
-  beat.D (record {
-    opcode = d.GrantData;
+  Beat.D (record {
+    opcode = OpD.GrantData;
     param = cap;
     size = 6;
     source = 0;
@@ -217,58 +204,57 @@ grant_data link cap sink = (
   }),
 )
 
-granted_to_both : first_breach two_caches profile.One
+granted_to_both : first_breach two_caches Profile.One
     (acquire_block 0 1 ∷ acquire_block 1 1 ∷ grant_data 0 0 0 ∷ grant_data 1 0 1 ∷ []) ≡ Some (3, OfMemory M1)
-unfolding breach_from is_free is_grantable has_window on_link unfinished request_of release_of probe_of grant_sink pending
-    held illegal first_illegal each_below broken_order broken_after pending_accesses each_from may_read before_last may_be
+unfolding breach_from is_free is_grantable has_window on_link unfinished request_of release_of probe_of grant_sink
+    pending
+    held illegal first_illegal each_below broken_order broken_after pending_accesses each_from may_read before_last
+    may_be
     carried_byte
 granted_to_both = refl
 
 -- to read, both may
-granted_to_readers : first_breach two_caches profile.One
+granted_to_readers : first_breach two_caches Profile.One
     (acquire_block 0 0 ∷ acquire_block 1 0 ∷ grant_data 0 1 0 ∷ grant_data 1 1 1 ∷ []) ≡ None
-unfolding breach_from is_free is_grantable has_window on_link unfinished request_of release_of probe_of grant_sink pending
-    held illegal first_illegal each_below broken_order broken_after pending_accesses each_from may_read before_last may_be
+unfolding breach_from is_free is_grantable has_window on_link unfinished request_of release_of probe_of grant_sink
+    pending
+    held illegal first_illegal each_below broken_order broken_after pending_accesses each_from may_read before_last
+    may_be
     carried_byte
 granted_to_readers = refl
 
 -- a Get that is answered while another link may write
-a_get_beside_a_writer : first_breach two_caches profile.One (one_writes (get 1 ∷ answer 1 ∷ [])) ≡ Some (4, OfMemory M4)
-unfolding breach_from is_free is_grantable has_window on_link unfinished request_of release_of probe_of grant_sink pending
-    held
-    illegal first_illegal each_below broken_order broken_after pending_accesses each_from may_read before_last may_be
-    carried_byte
+a_get_beside_a_writer : first_breach two_caches Profile.One (one_writes (get 1 ∷ answer 1 ∷ [])) ≡ Some (4, OfMemory M4)
+unfolding breach_from is_free is_grantable has_window on_link unfinished request_of release_of probe_of grant_sink
+    pending held illegal first_illegal each_below broken_order broken_after pending_accesses each_from may_read
+    before_last may_be carried_byte
 a_get_beside_a_writer = refl
 
 -- an access that is denied isn't performed, and needs no moment
-a_denied_get_beside_a_writer : first_breach two_caches profile.One (one_writes (get 1 ∷ denial 1 ∷ [])) ≡ None
-unfolding breach_from is_free is_grantable has_window on_link unfinished request_of release_of probe_of grant_sink pending
-    held
-    illegal first_illegal each_below broken_order broken_after pending_accesses each_from may_read before_last may_be
-    carried_byte
+a_denied_get_beside_a_writer : first_breach two_caches Profile.One (one_writes (get 1 ∷ denial 1 ∷ [])) ≡ None
+unfolding breach_from is_free is_grantable has_window on_link unfinished request_of release_of probe_of grant_sink
+    pending held illegal first_illegal each_below broken_order broken_after pending_accesses each_from may_read
+    before_last may_be carried_byte
 a_denied_get_beside_a_writer = refl
 
 -- the other has become a reader first
-a_get_after_a_probe : first_breach two_caches profile.One
+a_get_after_a_probe : first_breach two_caches Profile.One
     (one_writes (get 1 ∷ probe_perm 0 1 ∷ probe_ack 0 0 ∷ answer 1 ∷ [])) ≡ None
-unfolding breach_from is_free is_grantable has_window on_link unfinished request_of release_of probe_of grant_sink pending
-    held
-    illegal first_illegal each_below broken_order broken_after pending_accesses each_from may_read before_last may_be
-    carried_byte
+unfolding breach_from is_free is_grantable has_window on_link unfinished request_of release_of probe_of grant_sink
+    pending held illegal first_illegal each_below broken_order broken_after pending_accesses each_from may_read
+    before_last may_be carried_byte
 a_get_after_a_probe = refl
 
 -- the Get was performed before the other became a writer, and its answer comes later
-a_late_answer : first_breach two_caches profile.One (get 1 ∷ one_writes (answer 1 ∷ [])) ≡ None
-unfolding breach_from is_free is_grantable has_window on_link unfinished request_of release_of probe_of grant_sink pending
-    held
-    illegal first_illegal each_below broken_order broken_after pending_accesses each_from may_read before_last may_be
-    carried_byte
+a_late_answer : first_breach two_caches Profile.One (get 1 ∷ one_writes (answer 1 ∷ [])) ≡ None
+unfolding breach_from is_free is_grantable has_window on_link unfinished request_of release_of probe_of grant_sink
+    pending held illegal first_illegal each_below broken_order broken_after pending_accesses each_from may_read
+    before_last may_be carried_byte
 a_late_answer = refl
 
 -- a broken rule of the link comes first
-a_rule_of_the_link : first_breach two_caches profile.One (one_writes (grant 1 0 1 ∷ [])) ≡ Some (3, OfLink H2)
-unfolding breach_from is_free is_grantable has_window on_link unfinished request_of release_of probe_of grant_sink pending
-    held
-    illegal first_illegal each_below broken_order broken_after pending_accesses each_from may_read before_last may_be
-    carried_byte
+a_rule_of_the_link : first_breach two_caches Profile.One (one_writes (grant 1 0 1 ∷ [])) ≡ Some (3, OfLink H2)
+unfolding breach_from is_free is_grantable has_window on_link unfinished request_of release_of probe_of grant_sink
+    pending held illegal first_illegal each_below broken_order broken_after pending_accesses each_from may_read
+    before_last may_be carried_byte
 a_rule_of_the_link = refl

@@ -1,30 +1,19 @@
 -- A judge that knows one more beat.
-use Rattle.std.proofs.Common.{◌≡◌, subst, ℕ, suc, Bool, true, false, ◌+◌, List, [], ◌∷◌, length}
-use Rattle.std.proofs.Common.{refl, sym, ap, ◌∙◌}
+use Rattle.tl_together.proofs.Imports.{Beat, Link, Level, Profile, Trace, on_link, pending, Window, KnowsWindows}
+use Rattle.tl_together.proofs.Imports.{last_free, Perm}
+use Rattle.std.proofs.Common.{◌≡◌, subst, ℕ, suc, Bool, true, false, ◌+◌, List, [], ◌∷◌, length, refl, sym, ap, ◌∙◌}
 use Rattle.std.specs.Prelude.{Option, Some, None, Err}
 use Rattle.std.proofs.Math.Numerals.{add-one}
-use Rattle.tl_beat.specs.declared.beat.Beat.{Beat}
-use Rattle.tl_beat.specs.declared.beat.Link.{Link}
-use Rattle.tl_params.specs.declared.level.Level.{Level}
-use Rattle.tl_params.specs.declared.profile.Profile.{Profile}
 use Rattle.tl_params.specs.declared.rule.Rule.{Rule}
-use Rattle.tl_params.specs.declared.perm.Perm.TheVariants as perm
-use Rattle.tl_rules.specs.statement.Conformance.{Trace, on_link, broken_on_link}
-use Rattle.tl_rules.specs.statement.History.{pending}
-use Rattle.tl_together.specs.declared.windows.Window.{Window}
+use Rattle.tl_rules.specs.statement.Conformance.{broken_on_link}
 use Rattle.tl_monitor.specs.statement.Knows as of_link
 use Rattle.tl_monitor.specs.declared.fault.MonitorFault.{MonitorFault}
-use Rattle.tl_monitor.specs.declared.fault.MonitorFault.TheVariants as monitor
-use Rattle.tl_together.specs.declared.breach.Breach.TheVariants.{OfLink}
-use Rattle.tl_together.specs.declared.breach.MemoryRule.{MemoryRule}
-use Rattle.tl_together.specs.declared.fault.JudgeFault.{JudgeFault}
-use Rattle.tl_together.specs.declared.fault.JudgeFault.TheVariants as judge
-use Rattle.tl_together.specs.declared.judge.Judge.{Judge}
+use Rattle.tl_together.{specs.declared.breach.Breach.TheVariants.OfLink, specs.declared.breach.MemoryRule.MemoryRule}
+use Rattle.tl_together.{specs.declared.fault.JudgeFault.JudgeFault, specs.declared.judge.Judge.Judge}
 use Rattle.tl_memory.specs.statement.Memory.{KnowsMemory}
 use Rattle.tl_together.specs.statement.Coherence.{broken_memory, first_broken}
 use Rattle.tl_together.specs.statement.Knows.{Knows, KnowsTrace, Answers, fault_of, broken, closed_after}
-use Rattle.tl_together.specs.code.Windows.{NotesRequest, NotesWindow, KnowsAsked, KnowsWindows, closes}
-use Rattle.tl_together.specs.code.Windows.{fault_of_monitor, last_free}
+use Rattle.tl_together.specs.code.Windows.{NotesRequest, NotesWindow, KnowsAsked, closes, fault_of_monitor}
 
 pub open_still : {w : ℕ} (j : Judge w) (levels : List Level) (p : Profile) (t : Trace w) (closed : Bool)
     → Knows j levels p t closed → j.closed ≡ false → KnowsTrace j levels p t
@@ -62,13 +51,11 @@ unnoted j j' levels p t closed k e links moment m asked windows memory = record 
 
 -- a beat was noted, and refused for want of memory
 pub still : {w : ℕ} (j j' : Judge w) (levels : List Level) (p : Profile) (t : Trace w) (closed : Bool) (link : Link)
-    (x : Beat w) (next : ℕ) (held : Option ℕ) → Knows j levels p t closed
-    → j.closed ≡ false → j'.closed ≡ false → j'.links ≡ j.links → j'.moment ≡ j.moment
-    → of_link.Knows j'.monitor levels p t false
+    (x : Beat w) (next : ℕ) (held : Option ℕ) → Knows j levels p t closed → j.closed ≡ false → j'.closed ≡ false
+    → j'.links ≡ j.links → j'.moment ≡ j.moment → of_link.Knows j'.monitor levels p t false
     → NotesRequest j.monitor j.asked.items j'.asked.items link x next
     → NotesWindow j.monitor j.links j.moment held j.windows j'.windows
-    → ((n : ℕ) (t : Trace w) → KnowsMemory j.memory n t → KnowsMemory j'.memory n t)
-    → Knows j' levels p t closed
+    → ((n : ℕ) (t : Trace w) → KnowsMemory j.memory n t → KnowsMemory j'.memory n t) → Knows j' levels p t closed
 still j j' levels p t closed link x next held k e e' links moment m asked windows memory =
     let o = open_still j levels p t closed k e in
     let known = asked.1 levels p t o.monitor_is o.tables_are o.asked_are in
@@ -89,14 +76,11 @@ still j j' levels p t closed link x next held k e e' links moment m asked window
 
 -- a beat was taken
 pub taken : {w : ℕ} (j j' : Judge w) (levels : List Level) (p : Profile) (t : Trace w) (closed : Bool) (link : Link)
-    (x : Beat w) (next : ℕ) (held : Option ℕ) → Knows j levels p t closed
-    → j.closed ≡ false → j'.closed ≡ false → j'.links ≡ j.links → next ≡ j.moment + 1 → j'.moment ≡ next
-    → broken_on_link levels p (link, x) t ≡ None
-    → of_link.Knows j'.monitor levels p ((link, x) ∷ t) false
-    → NotesRequest j.monitor j.asked.items j'.asked.items link x next
-    → NotesWindow j.monitor j.links j.moment held j.windows j'.windows
-    → of_link.LeavesOthers held x (on_link link.0 t)
-    → KnowsMemory j'.memory (length levels) ((link, x) ∷ t)
+    (x : Beat w) (next : ℕ) (held : Option ℕ) → Knows j levels p t closed → j.closed ≡ false → j'.closed ≡ false
+    → j'.links ≡ j.links → next ≡ j.moment + 1 → j'.moment ≡ next → broken_on_link levels p (link, x) t ≡ None
+    → of_link.Knows j'.monitor levels p ((link, x) ∷ t) false → NotesRequest j.monitor j.asked.items j'.asked.items link
+    x next → NotesWindow j.monitor j.links j.moment held j.windows j'.windows
+    → of_link.LeavesOthers held x (on_link link.0 t) → KnowsMemory j'.memory (length levels) ((link, x) ∷ t)
     → Knows j' levels p ((link, x) ∷ t) false
 taken j j' levels p t closed link x next held k e e' links next_is moment fine m asked windows others memory =
     let o = open_still j levels p t closed k e in
@@ -143,21 +127,20 @@ judged_fault j levels p t closed link x o k e fine here = rw (sym k.closed_is �
 of_link_rule : (o : Option Rule) (m : Option MemoryRule) (fault : MonitorFault)
     → of_link.Answers (of_link.broken o) (Err fault)
     → Answers (broken (first_broken o m)) (Err (fault_of_monitor fault))
-of_link_rule o m monitor.Memory a = tt
-of_link_rule None m monitor.Levels a = absurd cc
-of_link_rule (Some r) m monitor.Levels a = absurd cc
-of_link_rule None m monitor.Closed a = absurd cc
-of_link_rule (Some r) m monitor.Closed a = absurd cc
-of_link_rule None m (monitor.Broken r) a = absurd cc
-of_link_rule (Some s) m (monitor.Broken r) a = ap (λ v. Some (judge.Broken (OfLink v))) (own a)
+of_link_rule o m MonitorFault.Memory a = tt
+of_link_rule None m MonitorFault.Levels a = absurd cc
+of_link_rule (Some r) m MonitorFault.Levels a = absurd cc
+of_link_rule None m MonitorFault.Closed a = absurd cc
+of_link_rule (Some r) m MonitorFault.Closed a = absurd cc
+of_link_rule None m (MonitorFault.Broken r) a = absurd cc
+of_link_rule (Some s) m (MonitorFault.Broken r) a = ap (λ v. Some (JudgeFault.Broken (OfLink v))) (own a)
   where
-    own : Some (monitor.Broken s) ≡ Some (monitor.Broken r) → s ≡ r
+    own : Some (MonitorFault.Broken s) ≡ Some (MonitorFault.Broken r) → s ≡ r
     own e = cc
 
 pub refused : {w : ℕ} (j : Judge w) (levels : List Level) (p : Profile) (t : Trace w) (closed : Bool) (link : Link)
-    (x : Beat w) (fault : MonitorFault) (f : JudgeFault) → Knows j levels p t closed
-    → j.closed ≡ false → of_link.Answers (of_link.fault_of levels p t false (link, x)) (Err fault)
-    → f ≡ fault_of_monitor fault
+    (x : Beat w) (fault : MonitorFault) (f : JudgeFault) → Knows j levels p t closed → j.closed ≡ false
+    → of_link.Answers (of_link.fault_of levels p t false (link, x)) (Err fault) → f ≡ fault_of_monitor fault
     → Answers (fault_of levels p t closed (link, x)) (Err f)
 refused j levels p t closed link x fault f k e a f_is =
     subst (λ g. Answers (fault_of levels p t closed (link, x)) (Err g)) (sym f_is)
@@ -169,35 +152,28 @@ pub refused_knows : {w : ℕ} (j j' : Judge w) (levels : List Level) (p : Profil
     → Knows j levels p t closed → j.closed ≡ false → f ≡ fault_of_monitor fault → j'.closed ≡ closes fault
     → j'.links ≡ j.links → j'.moment ≡ j.moment
     → of_link.Knows j'.monitor levels p (of_link.recorded_after (Err fault) (link, x) t)
-    (of_link.closed_after (Err fault))
-    → NotesRequest j.monitor j.asked.items j'.asked.items link x next
+    (of_link.closed_after (Err fault)) → NotesRequest j.monitor j.asked.items j'.asked.items link x next
     → NotesWindow j.monitor j.links j.moment held j.windows j'.windows
     → ((n : ℕ) (t : Trace w) → KnowsMemory j.memory n t → KnowsMemory j'.memory n t)
     → Knows j' levels p t (closed_after closed (Err f))
-refused_knows j j' levels p t closed link x next held monitor.Memory f k e f_is e' links moment m asked windows memory =
-    rw f_is (still j j' levels p t closed link x next held k e e' links moment m asked windows memory)
-refused_knows j j' levels p t closed link x next held monitor.Levels f k e f_is e' links moment m asked windows memory =
-    rw f_is (shut j' levels p t e')
-refused_knows j j' levels p t closed link x next held monitor.Closed f k e f_is e' links moment m asked windows memory =
-    rw f_is (shut j' levels p t e')
-refused_knows j j' levels p t closed link x next held (monitor.Broken r) f k e f_is e' links moment m asked windows
+refused_knows j j' levels p t closed link x next held MonitorFault.Memory f k e f_is e' links moment m asked windows
     memory =
+    rw f_is (still j j' levels p t closed link x next held k e e' links moment m asked windows memory)
+refused_knows j j' levels p t closed link x next held v f k e f_is e' links moment m asked windows memory =
     rw f_is (shut j' levels p t e')
 
 none_yet : (w : ℕ) (entries : List (ℕ × Window)) (n : ℕ) → entries ≡ [] → KnowsWindows {w = w} entries n []
 unfolding last_free
-none_yet w entries n e perm.None b closed = rw e refl
-none_yet w entries n e perm.Branch b closed = rw e refl
-none_yet w entries n e perm.Trunk b closed = rw e refl
+none_yet w entries n e Perm.None b closed = rw e refl
+none_yet w entries n e v b closed = rw e refl
 
 none_asked : (w : ℕ) (tables : List (List (Option ℕ))) (n : ℕ) → KnowsAsked {w = w} tables n []
 unfolding pending on_link
 none_asked w tables n link source lt some = absurd cc
 
 pub new_knows : {w : ℕ} (j : Judge w) (levels : List Level) (p : Profile) → j.closed ≡ false → j.links ≡ length levels
-    → j.moment ≡ 0 → of_link.Knows j.monitor levels p [] false
-    → length j.asked.items ≡ length levels → j.windows ≡ [] → KnowsMemory {w = w} j.memory (length levels) []
-    → Knows j levels p [] false
+    → j.moment ≡ 0 → of_link.Knows j.monitor levels p [] false → length j.asked.items ≡ length levels → j.windows ≡ []
+    → KnowsMemory {w = w} j.memory (length levels) [] → Knows j levels p [] false
 new_knows {w} j levels p e links moment m tables entries memory = record {
   closed_is = e;
   open_knows = λ _. record {

@@ -5,3 +5,4 @@ pub mod Noted
 pub mod Stale
 pub mod Tracing
 pub mod Windowed
+pub mod Imports

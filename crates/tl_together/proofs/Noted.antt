@@ -1,42 +1,26 @@
 -- What is noted of a beat is what there is to know of the longer trace.
-use Rattle.std.proofs.Common.{◌≡◌, ℕ, suc, Bool, true, false, ◌&&◌, ◌<◌, ◌≢◌, List, [], ◌∷◌, length}
-use Rattle.std.proofs.Common.{refl, sym, ap, ◌∙◌, inl, inr}
+use Rattle.tl_together.proofs.Imports.{Beat, Link, unfinished, Level, Perm, Profile, open_request, Trace, on_link}
+use Rattle.tl_together.proofs.Imports.{broken_after, held, pending, request_of, is_free, Window, KnowsWindows}
+use Rattle.std.proofs.Common.{◌≡◌, ℕ, suc, Bool, true, false, ◌&&◌, ◌<◌, ◌≢◌, List, [], ◌∷◌, length, refl, sym, ap, ◌∙◌}
+use Rattle.std.proofs.Common.{inl, inr}
 use Rattle.std.specs.Prelude.{if◌then◌else◌, not, ◌==◌, Option, Some, None, is_some, nat_lt, slice_get, IsTrue}
 use Rattle.std.proofs.lemmas.Bool.{cases_Bool, cases_eq, cases_lt, lt-ltb, eq-eqb, ne_eqb, eqb-true}
-use Rattle.tl_beat.specs.declared.beat.Beat.{Beat}
 use Rattle.tl_beat.specs.declared.beat.Beat.TheVariants.{A, B, C, D, E}
-use Rattle.tl_beat.specs.declared.beat.BeatA.{BeatA}
-use Rattle.tl_beat.specs.declared.beat.Link.{Link}
-use Rattle.tl_beat.specs.declared.channel.Channel.TheVariants as channel
-use Rattle.tl_burst.specs.statement.Messages.{History, unfinished, breaks_burst, same_control}
+use Rattle.tl_beat.{specs.declared.beat.BeatA.BeatA, specs.declared.channel.Channel.Channel}
+use Rattle.tl_burst.specs.statement.Messages.{History, breaks_burst, same_control}
 use Rattle.tl_burst.proofs.ControlFields.{control_a}
 use Rattle.tl_params.specs.declared.key.Key.TheVariants.{RequestSource}
-use Rattle.tl_params.specs.declared.level.Level.{Level}
-use Rattle.tl_params.specs.declared.perm.Perm.{Perm}
-use Rattle.tl_params.specs.declared.perm.Perm.TheVariants as perm
-use Rattle.tl_params.specs.declared.profile.Profile.{Profile}
-use Rattle.tl_rules.specs.code.Open.{open_request, request_fields}
-use Rattle.tl_rules.specs.code.Tables.{kept_request}
-use Rattle.tl_rules.specs.declared.past.Request.{Request}
-use Rattle.tl_rules.specs.statement.Conformance.{Trace, on_link, broken_after, broken_on_link, broken_at_level}
-use Rattle.tl_rules.specs.statement.Conformance.{comes_in_request}
-use Rattle.tl_rules.specs.statement.History.{begins, ends, held, pending, request_of, is_release_ack}
-use Rattle.tl_rules.proofs.Tables.{request-next}
-use Rattle.tl_monitor.proofs.Judged.{continues}
-use Rattle.tl_memory.specs.code.Changing.{IsChange}
-use Rattle.tl_memory.specs.code.Elsewhere.{LeavesHeld}
-use Rattle.tl_memory.specs.code.Passing.{changes_held}
-use Rattle.tl_memory.specs.declared.memory.Change.{Change}
-use Rattle.tl_memory.specs.declared.memory.Memory.{Memory}
-use Rattle.tl_memory.proofs.PassedBy.{held-left}
-use Rattle.tl_monitor.specs.code.LinkState.{is_block}
+use Rattle.tl_rules.{specs.code.Open.request_fields, specs.code.Tables.kept_request}
+use Rattle.tl_rules.{specs.declared.past.Request.Request, proofs.Tables.request-next}
+use Rattle.tl_rules.specs.statement.Conformance.{broken_on_link, broken_at_level, comes_in_request}
+use Rattle.tl_rules.specs.statement.History.{begins, ends, is_release_ack}
+use Rattle.tl_monitor.{proofs.Judged.continues, specs.code.LinkState.is_block, specs.declared.monitor.Monitor.Monitor}
+use Rattle.tl_monitor.{proofs.Touching.no_level}
+use Rattle.tl_memory.{specs.code.Changing.IsChange, specs.code.Elsewhere.LeavesHeld, specs.code.Passing.changes_held}
+use Rattle.tl_memory.{specs.declared.memory.Change.Change, specs.declared.memory.Memory.Memory}
+use Rattle.tl_memory.{proofs.PassedBy.held-left}
 use Rattle.tl_monitor.specs.statement.Knows.{Knows, LeavesOthers, request_on}
-use Rattle.tl_monitor.specs.declared.monitor.Monitor.{Monitor}
-use Rattle.tl_monitor.proofs.Touching.{no_level}
-use Rattle.tl_rules.specs.statement.Windows.{is_free}
-use Rattle.tl_together.specs.declared.windows.Window.{Window}
-use Rattle.tl_together.specs.code.Windows.{asked_in, last_in, window_in, KnowsAsked, KnowsWindows}
-use Rattle.tl_together.specs.code.Windows.{NotesRequest, NotesWindow}
+use Rattle.tl_together.specs.code.Windows.{asked_in, last_in, window_in, KnowsAsked, NotesRequest, NotesWindow}
 use Rattle.tl_together.proofs.Windowed.{own_link, other_link, as_free, none_free, free_last, last_still, asked_now}
 use Rattle.tl_together.proofs.Windowed.{asked_still}
 
@@ -53,13 +37,12 @@ chosen false true o = refl
 chosen false false o = refl
 
 open_kept : {w : ℕ} (s : ℕ) (t : History w)
-    → open_request s t ≡ (if comes_in_request s (unfinished channel.A t) then None else kept_request s t)
-open_kept s t = chosen (pending (RequestSource s) t) (comes_in_request s (unfinished channel.A t))
+    → open_request s t ≡ (if comes_in_request s (unfinished Channel.A t) then None else kept_request s t)
+open_kept s t = chosen (pending (RequestSource s) t) (comes_in_request s (unfinished Channel.A t))
     (request_fields (request_of s t))
 
 unmoved : {w : ℕ} (s : ℕ) (x : Beat w) (t : History w) → kept_request s (x ∷ t) ≡ kept_request s t
-    → unfinished channel.A (x ∷ t) ≡ unfinished channel.A t
-    → open_request s (x ∷ t) ≡ open_request s t
+    → unfinished Channel.A (x ∷ t) ≡ unfinished Channel.A t → open_request s (x ∷ t) ≡ open_request s t
 unmoved s x t kept same = open_kept s (x ∷ t) ∙ rw (kept, same) (sym (open_kept s t))
 
 moved_not : {w : ℕ} {X : Type 0} (s : ℕ) (x : Beat w) (t : History w) → open_request s (x ∷ t) ≡ open_request s t
@@ -68,9 +51,8 @@ moved_not s x t same before now = true_false (sym now ∙ ap is_some same ∙ be
 
 closed_less : (c last : Bool) (o : Option Request) → is_some (if c then None else o) ≡ false
     → is_some (if c then None else (if last then None else o)) ≡ false
-closed_less true last o e = refl
-closed_less false true o e = refl
 closed_less false false o e = e
+closed_less v u o e = refl
 
 is_true : (b : Bool) → b ≡ true → IsTrue b
 is_true true e = refl
@@ -82,14 +64,10 @@ not_not false e = absurd cc
 
 comes_same : {w : ℕ} (s : ℕ) (y : BeatA w) (beats : List (Beat w)) → comes_in_request s beats ≡ true
     → breaks_burst (A y) beats ≡ false → y.source ≡ s
-comes_same s y [] e f = absurd cc
 comes_same s y (A z ∷ beats) e f =
     (control_a y z (is_true (same_control (A y) (A z)) (not_not (same_control (A y) (A z)) f))).3 ∙ eqb-true z.source s
     e
-comes_same s y (B z ∷ beats) e f = absurd cc
-comes_same s y (C z ∷ beats) e f = absurd cc
-comes_same s y (D z ∷ beats) e f = absurd cc
-comes_same s y (E z ∷ beats) e f = absurd cc
+comes_same s y v e f = absurd cc
 
 no_first : (first : Bool) (o k : Option Request) → (if first && false then o else k) ≡ k
 no_first true o k = refl
@@ -114,16 +92,15 @@ opened_by l p s (A y) t legal before now = (
   elim (cases_eq y.source s) [
     | inl its ↦ its
     | inr other ↦
-        let kept : kept_request s (A y ∷ t) ≡ kept_request s t =
-        request-next s (A y) t ∙ rw (ne_eqb y.source s other) (no_first (begins (A y) t) (request_fields (Some y))
-        (kept_request s t)) in
+        let kept : kept_request s (A y ∷ t) ≡ kept_request s t = request-next s (A y) t ∙ rw (ne_eqb y.source s other)
+        (no_first (begins (A y) t) (request_fields (Some y)) (kept_request s t)) in
         let some : is_some (kept_request s t) ≡ true =
-        ap is_some (sym kept) ∙ some_inside (comes_in_request s (unfinished channel.A (A y ∷ t)))
+        ap is_some (sym kept) ∙ some_inside (comes_in_request s (unfinished Channel.A (A y ∷ t)))
         (kept_request s (A y ∷ t)) (ap is_some (sym (open_kept s (A y ∷ t))) ∙ now) in
-        let comes : comes_in_request s (unfinished channel.A t) ≡ true =
-        some_then (comes_in_request s (unfinished channel.A t)) (kept_request s t)
+        let comes : comes_in_request s (unfinished Channel.A t) ≡ true =
+        some_then (comes_in_request s (unfinished Channel.A t)) (kept_request s t)
         (ap is_some (sym (open_kept s t)) ∙ before) some in
-        comes_same s y (unfinished channel.A t) comes (continues l p (A y) t legal)
+        comes_same s y (unfinished Channel.A t) comes (continues l p (A y) t legal)
   ],
 )
 opened_by l p s (B y) t legal before now = moved_not s (B y) t (unmoved s (B y) t (request-next s (B y) t) refl) before
@@ -135,7 +112,7 @@ opened_by l p s (E y) t legal before now = moved_not s (E y) t (unmoved s (E y) 
 opened_by l p s (D y) t legal before now =
     let gone : is_some (open_request s (D y ∷ t)) ≡ false =
     ap is_some (open_kept s (D y ∷ t)) ∙ rw (request-next s (D y) t)
-    (closed_less (comes_in_request s (unfinished channel.A t))
+    (closed_less (comes_in_request s (unfinished Channel.A t))
     (ends (D y) t && (not (is_release_ack y.opcode) && (y.source == s))) (kept_request s t)
     (ap is_some (sym (open_kept s t)) ∙ before)) in
     true_false (sym now ∙ gone)
@@ -147,11 +124,9 @@ level_at None p x t e = absurd cc
 
 -- the table of requests with one more beat
 pub asked_more : {w : ℕ} (n : ℕ) (levels : List Level) (p : Profile) (tables : List (List (Option ℕ))) (link : Link)
-    (x : Beat w) (t : Trace w) → KnowsAsked tables n t
-    → broken_on_link levels p (link, x) t ≡ None
+    (x : Beat w) (t : Trace w) → KnowsAsked tables n t → broken_on_link levels p (link, x) t ≡ None
     → ((y : BeatA w) → x ≡ A y → is_some (open_request y.source (on_link link.0 t)) ≡ false
-    → asked_in tables link.0 y.source ≡ Some (suc (length t)))
-    → KnowsAsked tables n ((link, x) ∷ t)
+    → asked_in tables link.0 y.source ≡ Some (suc (length t))) → KnowsAsked tables n ((link, x) ∷ t)
 asked_more n levels p tables link x t still fine noted l s lt now = elim (cases_eq link.0 l) [
   | inr other ↦
       let before : is_some (open_request s (on_link l t)) ≡ true =
@@ -186,18 +161,15 @@ same_after block link x t b leaves' apart l = elim (cases_eq link.0 l) [
 
 -- the table of windows with one more beat
 pub windows_more : {w : ℕ} (n : ℕ) (block : Option ℕ) (entries : List (ℕ × Window)) (link : Link) (x : Beat w)
-    (t : Trace w) → KnowsWindows entries n t
-    → LeavesOthers block x (on_link link.0 t)
-    → ((given : Perm) (b : ℕ) → is_block b block ≡ true → is_free n None given b t ≡ true → given ≢ perm.None
-    → last_in given (window_in entries b) ≡ length t)
-    → KnowsWindows entries n ((link, x) ∷ t)
+    (t : Trace w) → KnowsWindows entries n t → LeavesOthers block x (on_link link.0 t)
+    → ((given : Perm) (b : ℕ) → is_block b block ≡ true → is_free n None given b t ≡ true → given ≢ Perm.None
+    → last_in given (window_in entries b) ≡ length t) → KnowsWindows entries n ((link, x) ∷ t)
 windows_more n block entries link x t still leaves' noted given b gone = elim (cases_Bool (is_free n None given b t)) [
   | inr closed ↦ still given b closed ∙ sym (last_still n given b (link, x) t gone)
   | inl free ↦ elim (cases_Bool (is_block b block)) [
-    | inl here ↦
-        noted given b here free (λ none. true_false
-        (sym (none_free n b ((link, x) ∷ t)) ∙ ap (λ g. is_free n None g b ((link, x) ∷ t)) (sym none) ∙ gone))
-        ∙ sym (free_last n given b t free) ∙ sym (last_still n given b (link, x) t gone)
+    | inl here ↦ noted given b here free
+        (λ none. true_false (sym (none_free n b ((link, x) ∷ t)) ∙ ap (λ g. is_free n None g b ((link, x) ∷ t))
+        (sym none) ∙ gone)) ∙ sym (free_last n given b t free) ∙ sym (last_still n given b (link, x) t gone)
     | inr apart ↦ true_false
         (sym free ∙ sym (as_free n given b ((link, x) ∷ t) t (same_after block link x t b leaves' apart)) ∙ gone)
   ]
@@ -226,8 +198,7 @@ drop_all false a b = refl
 
 drop_last : {X : Type 0} (p q : Bool) (a b : X) → (if p && (q && false) then a else b) ≡ b
 drop_last true true a b = refl
-drop_last true false a b = refl
-drop_last false q a b = refl
+drop_last v u a b = refl
 
 pub in_levels : {w : ℕ} (levels : List Level) (p : Profile) (link : Link) (x : Beat w) (t : Trace w)
     → broken_on_link levels p (link, x) t ≡ None → link.0 < length levels
@@ -242,14 +213,12 @@ on_levels levels link s t lt = rw (lt-ltb link.0 (length levels) lt) refl
 
 pub notes_kept : {w : ℕ} (m : Monitor w) (old : List (List (Option ℕ))) (link : Link) (x : Beat w) (next : ℕ)
     → ((y : BeatA w) (levels : List Level) (p : Profile) (t : Trace w) → x ≡ A y → Knows m levels p t false
-    → is_some (request_on levels link y.source t) ≡ true)
-    → NotesRequest m old old link x next
+    → is_some (request_on levels link y.source t) ≡ true) → NotesRequest m old old link x next
 notes_kept m old link x next asked = (
   refl,
   λ levels p t k long still. (
     still,
-    λ next_is fine.
-        asked_more (length levels) levels p old link x t still fine
+    λ next_is fine. asked_more (length levels) levels p old link x t still fine
         (λ y is none. true_false
         (sym (asked y levels p t is k) ∙ ap is_some
         (on_levels levels link y.source t (in_levels levels p link x t fine)) ∙ none)),
@@ -257,13 +226,10 @@ notes_kept m old link x next asked = (
 )
 
 pub notes_set : {w : ℕ} (m : Monitor w) (old new : List (List (Option ℕ))) (link : Link) (y : BeatA w) (x : Beat w)
-    (i next : ℕ)
-    → x ≡ A y → i ≡ link.0 → length new ≡ length old
+    (i next : ℕ) → x ≡ A y → i ≡ link.0 → length new ≡ length old
     → ((n s : ℕ) → asked_in new n s ≡ (if nat_lt i (length old) && ((n == i) && (s == y.source)) then Some next else
-    asked_in old n s))
-    → ((levels : List Level) (p : Profile) (t : Trace w) → Knows m levels p t false
-    → is_some (request_on levels link y.source t) ≡ false)
-    → NotesRequest m old new link x next
+    asked_in old n s)) → ((levels : List Level) (p : Profile) (t : Trace w) → Knows m levels p t false
+    → is_some (request_on levels link y.source t) ≡ false) → NotesRequest m old new link x next
 notes_set {w} m old new link y x i next x_is i_is long_too noted none = (
   long_too,
   λ levels p t k long still.
@@ -301,8 +267,7 @@ notes_set {w} m old new link y x i next x_is i_is long_too noted none = (
         ∙ still n s lt now
 
 pub its_source : {w : ℕ} (x : Beat w) (y z : BeatA w) (levels : List Level) (link : Link) (t : Trace w) → x ≡ A y
-    → x ≡ A z → is_some (request_on levels link y.source t) ≡ true
-    → is_some (request_on levels link z.source t) ≡ true
+    → x ≡ A z → is_some (request_on levels link y.source t) ≡ true → is_some (request_on levels link z.source t) ≡ true
 its_source {w} x y z levels link t e f some = ap (λ (v : BeatA w). is_some (request_on levels link v.source t))
     (of_a (sym f ∙ e)) ∙ some
   where
@@ -312,9 +277,8 @@ its_source {w} x y z levels link t e f some = ap (λ (v : BeatA w). is_some (req
 -- the window of a block, set anew
 pub notes_window : {w : ℕ} (m : Monitor w) (links moment b r v : ℕ) (old new : List (ℕ × Window)) (rf wf : Bool)
     → ((levels : List Level) (p : Profile) (t : Trace w) → Knows m levels p t false → links ≡ length levels
-    → rf ≡ is_free links None perm.Branch b t)
-    → ((levels : List Level) (p : Profile) (t : Trace w) → Knows m levels p t false → links ≡ length levels
-    → wf ≡ is_free links None perm.Trunk b t)
+    → rf ≡ is_free links None Perm.Branch b t) → ((levels : List Level) (p : Profile) (t : Trace w)
+    → Knows m levels p t false → links ≡ length levels → wf ≡ is_free links None Perm.Trunk b t)
     → r ≡ (if rf then moment else (window_in old b).reading) → v ≡ (if wf then moment else (window_in old b).writing)
     → ((k : ℕ) → window_in new k ≡ (if k == b then record { reading = r; writing = v } else window_in old k))
     → NotesWindow m links moment (Some b) old new
@@ -351,35 +315,35 @@ notes_window {w} m links moment b r v old new rf wf reads writes r_is v_is set l
     if_false : (f : Bool) (a d : ℕ) → f ≡ false → (if f then a else d) ≡ d
     if_false f a d e = rw e refl
 
-    own : (given : Perm) (c : ℕ) → c ≡ b → is_free (length levels) None given c t ≡ true → given ≢ perm.None
+    own : (given : Perm) (c : ℕ) → c ≡ b → is_free (length levels) None given c t ≡ true → given ≢ Perm.None
         → last_in given (window_in new c) ≡ length t
-    own perm.None c e free some = absurd (some refl)
-    own perm.Branch c e free some =
-        let f : rf ≡ true = free_is perm.Branch rf (reads levels p t k links_is) ∙ ap
-        (λ d. is_free (length levels) None perm.Branch d t) (sym e) ∙ free in
+    own Perm.None c e free some = absurd (some refl)
+    own Perm.Branch c e free some =
+        let f : rf ≡ true = free_is Perm.Branch rf (reads levels p t k links_is) ∙ ap
+        (λ d. is_free (length levels) None Perm.Branch d t) (sym e) ∙ free in
         at_reading c e ∙ r_is ∙ if_true rf moment (window_in old b).reading f ∙ moment_is
-    own perm.Trunk c e free some =
-        let f : wf ≡ true = free_is perm.Trunk wf (writes levels p t k links_is) ∙ ap
-        (λ d. is_free (length levels) None perm.Trunk d t) (sym e) ∙ free in
+    own Perm.Trunk c e free some =
+        let f : wf ≡ true = free_is Perm.Trunk wf (writes levels p t k links_is) ∙ ap
+        (λ d. is_free (length levels) None Perm.Trunk d t) (sym e) ∙ free in
         at_writing c e ∙ v_is ∙ if_true wf moment (window_in old b).writing f ∙ moment_is
 
     also : KnowsWindows new (length levels) t
-    also perm.None c closed = true_false (sym (none_free (length levels) c t) ∙ closed)
-    also perm.Branch c closed = elim (cases_eq c b) [
+    also Perm.None c closed = true_false (sym (none_free (length levels) c t) ∙ closed)
+    also Perm.Branch c closed = elim (cases_eq c b) [
       | inl e ↦
-          let f : rf ≡ false = free_is perm.Branch rf (reads levels p t k links_is) ∙ ap
-          (λ d. is_free (length levels) None perm.Branch d t) (sym e) ∙ closed in
+          let f : rf ≡ false = free_is Perm.Branch rf (reads levels p t k links_is) ∙ ap
+          (λ d. is_free (length levels) None Perm.Branch d t) (sym e) ∙ closed in
           at_reading c e ∙ r_is ∙ if_false rf moment (window_in old b).reading f ∙ before_reading c e ∙ still
-          perm.Branch c closed
-      | inr ne ↦ ap (last_in perm.Branch) (elsewhere c ne) ∙ still perm.Branch c closed
+          Perm.Branch c closed
+      | inr ne ↦ ap (last_in Perm.Branch) (elsewhere c ne) ∙ still Perm.Branch c closed
     ]
-    also perm.Trunk c closed = elim (cases_eq c b) [
+    also Perm.Trunk c closed = elim (cases_eq c b) [
       | inl e ↦
-          let f : wf ≡ false = free_is perm.Trunk wf (writes levels p t k links_is) ∙ ap
-          (λ d. is_free (length levels) None perm.Trunk d t) (sym e) ∙ closed in
-          at_writing c e ∙ v_is ∙ if_false wf moment (window_in old b).writing f ∙ before_writing c e ∙ still perm.Trunk
+          let f : wf ≡ false = free_is Perm.Trunk wf (writes levels p t k links_is) ∙ ap
+          (λ d. is_free (length levels) None Perm.Trunk d t) (sym e) ∙ closed in
+          at_writing c e ∙ v_is ∙ if_false wf moment (window_in old b).writing f ∙ before_writing c e ∙ still Perm.Trunk
           c closed
-      | inr ne ↦ ap (last_in perm.Trunk) (elsewhere c ne) ∙ still perm.Trunk c closed
+      | inr ne ↦ ap (last_in Perm.Trunk) (elsewhere c ne) ∙ still Perm.Trunk c closed
     ]
 
 pub notes_no_window : {w : ℕ} (m : Monitor w) (links moment : ℕ) (old : List (ℕ × Window))

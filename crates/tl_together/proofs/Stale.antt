@@ -1,25 +1,20 @@
 -- Traces whose bytes are stale, and beside each the right one.
+use Rattle.tl_together.proofs.Imports.{unfinished, Level, Trace, on_link, broken_after, request_of, pending, held}
+use Rattle.tl_together.proofs.Imports.{is_free, has_window, M1, M4, breach_from, is_grantable, Profile}
 use Rattle.std.proofs.Common.{◌≡◌, ℕ, refl, List, [], ◌∷◌, ◌++◌}
 use Rattle.std.specs.Prelude.{Some, None, replicate}
-use Rattle.tl_burst.specs.statement.Messages.{unfinished}
-use Rattle.tl_params.specs.declared.level.Level.{Level}
-use Rattle.tl_params.specs.declared.level.Level.TheVariants as level
-use Rattle.tl_params.specs.declared.profile.Profile.TheVariants as profile
-use Rattle.tl_rules.specs.statement.Admission.{bytes_carried}
-use Rattle.tl_rules.specs.statement.Conformance.{Trace, on_link, broken_order, broken_after}
-use Rattle.tl_rules.specs.statement.Effect.{effect}
-use Rattle.tl_rules.specs.statement.History.{request_of, release_of, probe_of, grant_sink, pending, held}
+use Rattle.tl_rules.{specs.statement.Admission.bytes_carried, specs.statement.Conformance.broken_order}
+use Rattle.tl_rules.{specs.statement.Effect.effect}
+use Rattle.tl_rules.specs.statement.History.{release_of, probe_of, grant_sink}
 use Rattle.tl_rules.specs.statement.Legality.{illegal, first_illegal, each_below}
-use Rattle.tl_rules.specs.statement.Windows.{is_free, has_window}
 use Rattle.tl_bytes.specs.statement.Bytes.{before_last, carried_byte, carried_mask, each_from, last_told, last_window}
 use Rattle.tl_bytes.specs.statement.Bytes.{may_be, may_read, pending_accesses, window_began, windows_since}
 use Rattle.tl_bytes.proofs.WorkedBeats.{acquire, done, eight, found, get, grant_ack, grant_beat, put}
-use Rattle.tl_together.specs.declared.breach.Breach.TheVariants.{OfMemory}
-use Rattle.tl_together.specs.declared.breach.MemoryRule.TheVariants.{M1, M2, M3, M4}
-use Rattle.tl_together.specs.statement.Coherence.{breach_from, first_breach, is_grantable}
+use Rattle.tl_together.{specs.declared.breach.Breach.TheVariants.OfMemory, specs.statement.Coherence.first_breach}
+use Rattle.tl_together.specs.declared.breach.MemoryRule.TheVariants.{M2, M3}
 
 abbrev two_caches : List Level
-two_caches = level.C ∷ level.C ∷ []
+two_caches = Level.C ∷ Level.C ∷ []
 
 -- eight bytes of block 0 are 5, and then 7
 abbrev twice_written : Trace 8 → Trace 8
@@ -35,54 +30,58 @@ abbrev read : ℕ → Trace 8
 read v = get 1 0 3 255 ∷ found 1 0 3 (eight v) ∷ []
 
 -- a Grant of what was there before
-a_stale_grant : first_breach two_caches profile.One (twice_written (granted 5)) ≡ Some (5, OfMemory M2)
-unfolding breach_from is_free is_grantable has_window on_link unfinished request_of release_of probe_of grant_sink pending
+a_stale_grant : first_breach two_caches Profile.One (twice_written (granted 5)) ≡ Some (5, OfMemory M2)
+unfolding breach_from is_free is_grantable has_window on_link unfinished request_of release_of probe_of grant_sink
+    pending
     held
     illegal first_illegal each_below broken_order broken_after may_be may_read pending_accesses carried_byte
     bytes_carried carried_mask windows_since window_began last_window last_told each_from before_last effect
 a_stale_grant = refl
 
 -- of what was written last
-a_true_grant : first_breach two_caches profile.One (twice_written (granted 7)) ≡ None
-unfolding breach_from is_free is_grantable has_window on_link unfinished request_of release_of probe_of grant_sink pending
+a_true_grant : first_breach two_caches Profile.One (twice_written (granted 7)) ≡ None
+unfolding breach_from is_free is_grantable has_window on_link unfinished request_of release_of probe_of grant_sink
+    pending
     held
     illegal first_illegal each_below broken_order broken_after may_be may_read pending_accesses carried_byte
     bytes_carried carried_mask windows_since window_began last_window last_told each_from before_last effect
 a_true_grant = refl
 
 -- a Get of what was there before
-a_stale_get : first_breach two_caches profile.One (twice_written (read 5)) ≡ Some (5, OfMemory M3)
-unfolding breach_from is_free is_grantable has_window on_link unfinished request_of release_of probe_of grant_sink pending
+a_stale_get : first_breach two_caches Profile.One (twice_written (read 5)) ≡ Some (5, OfMemory M3)
+unfolding breach_from is_free is_grantable has_window on_link unfinished request_of release_of probe_of grant_sink
+    pending
     held
     illegal first_illegal each_below broken_order broken_after may_be may_read pending_accesses carried_byte
     bytes_carried carried_mask windows_since window_began last_window last_told each_from before_last effect
 a_stale_get = refl
 
 -- of what was written last
-a_true_get : first_breach two_caches profile.One (twice_written (read 7)) ≡ None
-unfolding breach_from is_free is_grantable has_window on_link unfinished request_of release_of probe_of grant_sink pending
+a_true_get : first_breach two_caches Profile.One (twice_written (read 7)) ≡ None
+unfolding breach_from is_free is_grantable has_window on_link unfinished request_of release_of probe_of grant_sink
+    pending
     held
     illegal first_illegal each_below broken_order broken_after may_be may_read pending_accesses carried_byte
     bytes_carried carried_mask windows_since window_began last_window last_told each_from before_last effect
 a_true_get = refl
 
 -- a rule of the Grant itself comes before one of its bytes
-a_stale_grant_beside_a_writer : first_breach two_caches profile.One
-    (twice_written
-    (acquire 0 1 0 255 ∷ replicate 8 (grant_beat 0 0 0 0 (eight 7)) ++ grant_ack 0 0 ∷ granted 5))
-    ≡ Some (15, OfMemory M1)
-unfolding breach_from is_free is_grantable has_window on_link unfinished request_of release_of probe_of grant_sink pending
+a_stale_grant_beside_a_writer : first_breach two_caches Profile.One
+    (twice_written (acquire 0 1 0 255 ∷ replicate 8 (grant_beat 0 0 0 0 (eight 7)) ++ grant_ack 0 0 ∷ granted 5)) ≡ Some
+    (15, OfMemory M1)
+unfolding breach_from is_free is_grantable has_window on_link unfinished request_of release_of probe_of grant_sink
+    pending
     held
     illegal first_illegal each_below broken_order broken_after may_be may_read pending_accesses carried_byte
     bytes_carried carried_mask windows_since window_began last_window last_told each_from before_last effect
 a_stale_grant_beside_a_writer = refl
 
 -- so does one of its answer, beside a writer
-a_stale_get_beside_a_writer : first_breach two_caches profile.One
-    (twice_written
-    (acquire 0 1 0 255 ∷ replicate 8 (grant_beat 0 0 0 0 (eight 7)) ++ grant_ack 0 0 ∷ read 5))
-    ≡ Some (15, OfMemory M4)
-unfolding breach_from is_free is_grantable has_window on_link unfinished request_of release_of probe_of grant_sink pending
+a_stale_get_beside_a_writer : first_breach two_caches Profile.One
+    (twice_written (acquire 0 1 0 255 ∷ replicate 8 (grant_beat 0 0 0 0 (eight 7)) ++ grant_ack 0 0 ∷ read 5)) ≡ Some
+    (15, OfMemory M4)
+unfolding breach_from is_free is_grantable has_window on_link unfinished request_of release_of probe_of grant_sink
+    pending
     held
     illegal first_illegal each_below broken_order broken_after may_be may_read pending_accesses carried_byte
     bytes_carried carried_mask windows_since window_began last_window last_told each_from before_last effect
@@ -95,16 +94,18 @@ granted_later v =
     ∷ grant_beat 1 1 0 0 (eight v) ∷ []
 
 -- what was there before, in a beat behind the first
-a_stale_second_beat : first_breach two_caches profile.One (granted_later 4) ≡ Some (5, OfMemory M2)
-unfolding breach_from is_free is_grantable has_window on_link unfinished request_of release_of probe_of grant_sink pending
+a_stale_second_beat : first_breach two_caches Profile.One (granted_later 4) ≡ Some (5, OfMemory M2)
+unfolding breach_from is_free is_grantable has_window on_link unfinished request_of release_of probe_of grant_sink
+    pending
     held
     illegal first_illegal each_below broken_order broken_after may_be may_read pending_accesses carried_byte
     bytes_carried carried_mask windows_since window_began last_window last_told each_from before_last effect
 a_stale_second_beat = refl
 
 -- what was written
-a_true_second_beat : first_breach two_caches profile.One (granted_later 5) ≡ None
-unfolding breach_from is_free is_grantable has_window on_link unfinished request_of release_of probe_of grant_sink pending
+a_true_second_beat : first_breach two_caches Profile.One (granted_later 5) ≡ None
+unfolding breach_from is_free is_grantable has_window on_link unfinished request_of release_of probe_of grant_sink
+    pending
     held
     illegal first_illegal each_below broken_order broken_after may_be may_read pending_accesses carried_byte
     bytes_carried carried_mask windows_since window_began last_window last_told each_from before_last effect

@@ -1,19 +1,12 @@
 -- The first breach of a trace of which a beginning was judged.
+use Rattle.tl_together.proofs.Imports.{Beat, Link, Level, Profile, Trace, breach_from}
 use Rattle.std.proofs.Common.{◌≡◌, ℕ, List, [], ◌∷◌, ◌++◌, length, ◌<◌, ◌≤◌, ◌+◌, false, refl, ap, sym, ◌∙◌, arith}
 use Rattle.std.proofs.Common.{take, drop, reverse}
 use Rattle.std.specs.Prelude.{slice_index_or, Option, Some, None, Err}
 use Rattle.std.proofs.lemmas.List.{drop_more, take_more, drop_all, reverse-append, length-reverse, length-take-le}
-use Rattle.tl_beat.specs.declared.beat.Beat.{Beat}
-use Rattle.tl_beat.specs.declared.beat.Link.{Link}
-use Rattle.tl_params.specs.declared.level.Level.{Level}
-use Rattle.tl_params.specs.declared.profile.Profile.{Profile}
 use Rattle.tl_params.specs.statement.Config.{IsCount}
-use Rattle.tl_rules.specs.statement.Conformance.{Trace}
-use Rattle.tl_together.specs.declared.breach.Breach.{Breach}
-use Rattle.tl_together.specs.declared.judge.Judge.{Judge}
-use Rattle.tl_together.specs.declared.fault.JudgeFault.{JudgeFault}
-use Rattle.tl_together.specs.declared.fault.JudgeFault.TheVariants as judge
-use Rattle.tl_together.specs.statement.Coherence.{broken_together, breach_from}
+use Rattle.tl_together.{specs.declared.breach.Breach.Breach, specs.declared.judge.Judge.Judge}
+use Rattle.tl_together.{specs.declared.fault.JudgeFault.JudgeFault, specs.statement.Coherence.broken_together}
 use Rattle.tl_together.specs.statement.Knows.{Knows, Answers, AnswersTrace, fault_of, broken, trace_fault_of}
 
 -- the first fault of a trace of which a beginning was judged
@@ -21,7 +14,7 @@ unbroken : (o : Option Breach) → broken o ≡ None → o ≡ None
 unbroken None e = refl
 unbroken (Some r) e = absurd cc
 
-broken_by : (o : Option Breach) (r : Breach) → broken o ≡ Some (judge.Broken r) → o ≡ Some r
+broken_by : (o : Option Breach) (r : Breach) → broken o ≡ Some (JudgeFault.Broken r) → o ≡ Some r
 broken_by None r e = absurd cc
 broken_by (Some s) r e = cc
 
@@ -40,8 +33,7 @@ pub known-goes_on : {w : ℕ} (m : Judge w) (levels : List Level) (p : Profile) 
 known-goes_on m levels p trace i x lt is k = rw ((judged i trace x lt is).1) k
 
 pub fault-goes_on : {w : ℕ} (levels : List Level) (p : Profile) (trace : Trace w) (i : ℕ) (x : Link × Beat w)
-    → i < length trace → x ≡ slice_index_or trace i x
-    → fault_of levels p (reverse (take i trace)) false x ≡ None
+    → i < length trace → x ≡ slice_index_or trace i x → fault_of levels p (reverse (take i trace)) false x ≡ None
     → breach_from levels p (reverse (take i trace)) (drop i trace) ≡ breach_from levels p (reverse (take (i + 1) trace))
     (drop (i + 1) trace)
 unfolding breach_from
@@ -52,9 +44,8 @@ fault-goes_on levels p trace i x lt is none =
     rw (e.0, e.1, fine) refl
 
 fault-found : {w : ℕ} (levels : List Level) (p : Profile) (trace : Trace w) (i : ℕ) (x : Link × Beat w) (r : Breach)
-    → i < length trace → x ≡ slice_index_or trace i x
-    → fault_of levels p (reverse (take i trace)) false x ≡ Some (judge.Broken r)
-    → breach_from levels p (reverse (take i trace)) (drop i trace) ≡ Some (i, r)
+    → i < length trace → x ≡ slice_index_or trace i x → fault_of levels p (reverse (take i trace)) false x ≡ Some
+    (JudgeFault.Broken r) → breach_from levels p (reverse (take i trace)) (drop i trace) ≡ Some (i, r)
 unfolding breach_from
 fault-found levels p trace i x r lt is found =
     let e = judged i trace x lt is in
@@ -70,13 +61,10 @@ unfolding breach_from
 fault-none levels p trace before i le = rw (drop_all i trace le) refl
 
 pub fault-answered : {w : ℕ} (levels : List Level) (p : Profile) (beats : Trace w) (i : ℕ) (x : Link × Beat w)
-    (e : JudgeFault) → IsCount (length levels) → i < length beats
-    → x ≡ slice_index_or beats i x
+    (e : JudgeFault) → IsCount (length levels) → i < length beats → x ≡ slice_index_or beats i x
     → breach_from levels p [] beats ≡ breach_from levels p (reverse (take i beats)) (drop i beats)
     → Answers (fault_of levels p (reverse (take i beats)) false x) (Err e)
     → AnswersTrace levels p beats (Err (trace_fault_of i e))
-fault-answered levels p beats i x (judge.Broken breach) counted lt is same answer =
+fault-answered levels p beats i x (JudgeFault.Broken breach) counted lt is same answer =
     (counted, same ∙ fault-found levels p beats i x breach lt is answer)
-fault-answered levels p beats i x judge.Levels counted lt is same answer = counted
-fault-answered levels p beats i x judge.Memory counted lt is same answer = counted
-fault-answered levels p beats i x judge.Closed counted lt is same answer = counted
+fault-answered levels p beats i x v counted lt is same answer = counted

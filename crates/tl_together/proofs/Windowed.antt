@@ -1,17 +1,11 @@
 -- When blocks were last free, and requests complete: what the tables say of a trace, and with one more beat.
-use Rattle.std.proofs.Common.{◌≡◌, ℕ, zero, suc, Bool, true, false, ◌&&◌, ◌||◌, ◌<◌, ◌≤◌, ◌≢◌, [], ◌∷◌, length}
-use Rattle.std.proofs.Common.{refl, sym, ◌∙◌, arith}
+use Rattle.tl_together.proofs.Imports.{Beat, Link, Perm, open_request, Trace, on_link, held, pending, is_free}
+use Rattle.tl_together.proofs.Imports.{has_window, last_free}
+use Rattle.std.proofs.Common.{◌≡◌, ℕ, zero, suc, Bool, true, false, ◌&&◌, ◌||◌, ◌<◌, ◌≤◌, ◌≢◌, [], ◌∷◌, length, refl}
+use Rattle.std.proofs.Common.{sym, ◌∙◌, arith}
 use Rattle.std.specs.Prelude.{if◌then◌else◌, not, Option, Some, None, is_some, is_none, nat_le}
 use Rattle.std.proofs.lemmas.Bool.{eq-eqb, ne_eqb}
-use Rattle.tl_beat.specs.declared.beat.Beat.{Beat}
-use Rattle.tl_beat.specs.declared.beat.Link.{Link}
-use Rattle.tl_params.specs.declared.perm.Perm.{Perm}
-use Rattle.tl_params.specs.declared.perm.Perm.TheVariants as perm
-use Rattle.tl_rules.specs.code.Open.{open_request}
-use Rattle.tl_rules.specs.statement.Conformance.{Trace, on_link}
-use Rattle.tl_rules.specs.statement.History.{held, pending}
-use Rattle.tl_rules.specs.statement.Windows.{is_free, has_window}
-use Rattle.tl_together.specs.code.Windows.{asked_at, last_free}
+use Rattle.tl_together.specs.code.Windows.{asked_at}
 
 -- ---- windows
 
@@ -79,11 +73,10 @@ window-is n link source given block (x ∷ t) =
     go : (now free before : Bool) (asked last count : ℕ) → asked ≤ count → last ≤ count
         → (now && (free || (before && nat_le asked last)))
         ≡ (now && nat_le (if now && not before then suc count else asked) (if free then suc count else last))
-    go false free before asked last count le1 le2 = refl
     go true true true asked last count le1 le2 = sym (le_true asked (suc count) (omega (arith, le1)))
     go true true false asked last count le1 le2 = sym (le_true (suc count) (suc count) (omega arith))
-    go true false true asked last count le1 le2 = refl
     go true false false asked last count le1 le2 = sym (le_false (suc count) last (omega (arith, le2)))
+    go v u y asked last count le1 le2 = refl
 
 pub free_window : {w : ℕ} (n link source : ℕ) (given : Perm) (block : ℕ) (t : Trace w)
     → is_some (open_request source (on_link link t)) ≡ true
@@ -113,27 +106,24 @@ as_free zero given block s t same = refl
 as_free (suc n) given block s t same = rw (as_free n given block s t same, same n) refl
 
 -- what is none always leaves
-pub none_free : {w : ℕ} (n block : ℕ) (t : Trace w) → is_free n None perm.None block t ≡ true
+pub none_free : {w : ℕ} (n block : ℕ) (t : Trace w) → is_free n None Perm.None block t ≡ true
 unfolding is_free
 none_free zero block t = refl
 none_free (suc n) block t = rw (none_free n block t) refl
 
 pub last_still : {w : ℕ} (n : ℕ) (given : Perm) (block : ℕ) (y : Link × Beat w) (t : Trace w)
-    → is_free n None given block (y ∷ t) ≡ false
-    → last_free n given block (y ∷ t) ≡ last_free n given block t
+    → is_free n None given block (y ∷ t) ≡ false → last_free n given block (y ∷ t) ≡ last_free n given block t
 unfolding last_free
 last_still n given block y t e = rw e refl
 
 pub asked_now : {w : ℕ} (link source : ℕ) (y : Link × Beat w) (t : Trace w)
     → is_some (open_request source (on_link link (y ∷ t))) ≡ true
-    → is_some (open_request source (on_link link t)) ≡ false
-    → asked_at link source (y ∷ t) ≡ suc (length t)
+    → is_some (open_request source (on_link link t)) ≡ false → asked_at link source (y ∷ t) ≡ suc (length t)
 unfolding asked_at
 asked_now link source y t now before = rw (now, none_is (open_request source (on_link link t)), before) refl
 
 pub asked_still : {w : ℕ} (link source : ℕ) (y : Link × Beat w) (t : Trace w)
-    → is_some (open_request source (on_link link t)) ≡ true
-    → asked_at link source (y ∷ t) ≡ asked_at link source t
+    → is_some (open_request source (on_link link t)) ≡ true → asked_at link source (y ∷ t) ≡ asked_at link source t
 unfolding asked_at
 asked_still link source y t before =
     rw (none_is (open_request source (on_link link t)), before)

@@ -1,25 +1,23 @@
 use Rattle.std.proofs.Common.{◌≡◌, refl, arith}
-use Rattle.tl_params.specs.declared.perm.Perm.TheVariants as perm
+use Rattle.tl_params.specs.declared.perm.Perm.{Perm}
 use Rattle.tl_together.proofs.Answered.{free_all, free_more, free_none}
 use Rattle.tl_together.proofs.free.freedom_of.Goals as goal
 
 pub loop-n-init : goal.loop-n-init
 loop-n-init g c = λ levels p t k e. (
-  free_none perm.Branch c.args.block t,
-  free_none perm.Trunk c.args.block t,
+  free_none Perm.Branch c.args.block t,
+  free_none Perm.Trunk c.args.block t,
 )
 
 pub loop-n-preserved : goal.loop-n-preserved
 loop-n-preserved g c = λ levels p t k e.
     let before = c.loop-n.invariant levels p t k e in
     let held = c.held-held.ensures levels p t _ k in (
-      free_more levels c.loop-n.n _ perm.Branch c.held-held.result c.args.block t c.loop-n.free.reading
-          c.leaves.result c.both.result refl (omega (arith, e, c.loop-n-test.true)) held before.0 c.leaves.ensures
-          c.both.ensures,
-      free_more levels c.loop-n.n _ perm.Trunk c.held-held.result c.args.block t c.loop-n.free.writing
+      free_more levels c.loop-n.n _ Perm.Branch c.held-held.result c.args.block t c.loop-n.free.reading c.leaves.result
+          c.both.result refl (omega (arith, e, c.loop-n-test.true)) held before.0 c.leaves.ensures c.both.ensures,
+      free_more levels c.loop-n.n _ Perm.Trunk c.held-held.result c.args.block t c.loop-n.free.writing
           c.leaves-in-loop-n.result c.both-in-loop-n.result refl (omega (arith, e, c.loop-n-test.true)) held before.1
-          c.leaves-in-loop-n.ensures
-          c.both-in-loop-n.ensures,
+          c.leaves-in-loop-n.ensures c.both-in-loop-n.ensures,
     )
 
 pub returns : goal.returns

@@ -6,8 +6,6 @@ pub loop-n-init : goal.loop-n-init
 loop-n-init g c = λ levels p t k e. free_none c.args.given c.args.block t
 
 pub loop-n-preserved : goal.loop-n-preserved
-loop-n-preserved g c = λ levels p t k e.
-    free_more levels c.loop-n.n _ c.args.given c.held-held.result c.args.block t c.loop-n.free
-    c.leaves.result c.both-free.result
-    refl (omega (arith, e, c.loop-n-test.true)) (c.held-held.ensures levels p t _ k) (c.loop-n.invariant levels p t k e)
-    c.leaves.ensures c.both-free.ensures
+loop-n-preserved g c = λ levels p t k e. free_more levels c.loop-n.n _ c.args.given c.held-held.result c.args.block t
+    c.loop-n.free c.leaves.result c.both-free.result refl (omega (arith, e, c.loop-n-test.true))
+    (c.held-held.ensures levels p t _ k) (c.loop-n.invariant levels p t k e) c.leaves.ensures c.both-free.ensures

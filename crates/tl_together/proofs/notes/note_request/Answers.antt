@@ -1,5 +1,4 @@
-use Rattle.std.proofs.Common.{sym, ap, ◌∙◌}
-use Rattle.std.specs.Prelude.{is_some, not}
+use Rattle.std.{proofs.Common.sym, proofs.Common.ap, proofs.Common.◌∙◌, specs.Prelude.is_some, specs.Prelude.not}
 use Rattle.tl_together.proofs.Noted.{notes_kept, notes_set, its_source}
 use Rattle.tl_together.proofs.notes.note_request.Goals as goal
 

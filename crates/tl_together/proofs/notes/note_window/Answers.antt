@@ -1,6 +1,5 @@
-use Rattle.std.proofs.Common.{refl, sym, subst}
-use Rattle.std.specs.Prelude.{if◌then◌else◌}
-use Rattle.std.proofs.lemmas.Result.{on_ok_weaker}
+use Rattle.std.{proofs.Common.refl, proofs.Common.sym, proofs.Common.subst, specs.Prelude.if◌then◌else◌}
+use Rattle.std.{proofs.lemmas.Result.on_ok_weaker}
 use Rattle.tl_together.specs.code.Windows.{NotesWindow, window_in}
 use Rattle.tl_together.proofs.Noted.{notes_window, notes_no_window}
 use Rattle.tl_together.proofs.notes.note_window.Goals as goal

@@ -8,23 +8,20 @@ loop-i-preserved g c = record {
   known = known-goes_on c.push.new.self c.args.levels.now c.args.profile c.args.trace.now c.loop-i.i
       c.index-trace-i.result c.loop-i-test.true c.index-trace-i.is
       (c.in-Ok-push.ensures.knows c.args.levels.now c.args.profile _ false c.loop-i.invariant.known);
-  same = c.loop-i.invariant.same
-      ∙ fault-goes_on c.args.levels.now c.args.profile c.args.trace.now c.loop-i.i c.index-trace-i.result
-      c.loop-i-test.true c.index-trace-i.is
+  same = c.loop-i.invariant.same ∙ fault-goes_on c.args.levels.now c.args.profile c.args.trace.now c.loop-i.i
+      c.index-trace-i.result c.loop-i-test.true c.index-trace-i.is
       (c.in-Ok-push.ensures.answer c.args.levels.now c.args.profile _ false c.loop-i.invariant.known);
 }
 
 pub returns : goal.returns
 returns g c = (
   c.loop-i.invariant.counted,
-  c.loop-i.invariant.same ∙ fault-none c.args.levels.now c.args.profile
-      c.args.trace.now _ c.loop-i.i (omega arith),
+  c.loop-i.invariant.same ∙ fault-none c.args.levels.now c.args.profile c.args.trace.now _ c.loop-i.i (omega arith),
 )
 
 pub returns-in-Err-push : goal.returns-in-Err-push
 returns-in-Err-push g c =
     rw c.fault_at.ensures
     (fault-answered c.args.levels.now c.args.profile c.args.trace.now c.loop-i.i c.index-trace-i.result
-    c.in-Err-push.fault c.loop-i.invariant.counted c.loop-i-test.true c.index-trace-i.is
-    c.loop-i.invariant.same (c.in-Err-push.ensures.answer c.args.levels.now c.args.profile _ false
-    c.loop-i.invariant.known))
+    c.in-Err-push.fault c.loop-i.invariant.counted c.loop-i-test.true c.index-trace-i.is c.loop-i.invariant.same
+    (c.in-Err-push.ensures.answer c.args.levels.now c.args.profile _ false c.loop-i.invariant.known))

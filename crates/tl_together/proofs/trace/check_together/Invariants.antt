@@ -1,7 +1,6 @@
 use Rattle.std.proofs.Common.{◌≡◌, [], length, take, drop, reverse, false}
 use Rattle.tl_params.specs.statement.Config.{IsCount}
-use Rattle.tl_together.specs.statement.Coherence.{breach_from}
-use Rattle.tl_together.specs.statement.Knows.{Knows}
+use Rattle.tl_together.{specs.statement.Coherence.breach_from, specs.statement.Knows.Knows}
 use Rattle.tl_together.proofs.trace.check_together.Given as goal
 
 abbrev pub invariant-loop-i : goal.invariant-loop-i

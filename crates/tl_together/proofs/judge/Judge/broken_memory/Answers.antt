@@ -1,5 +1,4 @@
-use Rattle.std.proofs.Common.{◌≡◌, length, subst}
-use Rattle.std.specs.Prelude.{None}
+use Rattle.std.{proofs.Common.◌≡◌, proofs.Common.length, proofs.Common.subst, specs.Prelude.None}
 use Rattle.tl_memory.specs.code.Changing.{IsChange}
 use Rattle.tl_rules.specs.statement.Conformance.{broken_on_link}
 use Rattle.tl_together.proofs.Answered.{broken_beginning_is, broken_bytes_are, no_d}

@@ -4,9 +4,8 @@ use Rattle.tl_together.proofs.Answered.{no_response, asked_is, a_grant, an_acces
 use Rattle.tl_together.proofs.judge.Judge.broken_response.Goals as goal
 
 pub returns-in_err-asked : goal.returns-in_err-asked
-returns-in_err-asked g c = λ levels p t k lt.
-    c.from_residual.ensures ∙ no_response levels (length levels) c.args.link c.args.x.now t lt
-    (sym c.in_err-asked.was ∙ c.request.ensures levels p t _ k.monitor_is)
+returns-in_err-asked g c = λ levels p t k lt. c.from_residual.ensures ∙ no_response levels (length levels) c.args.link
+    c.args.x.now t lt (sym c.in_err-asked.was ∙ c.request.ensures levels p t _ k.monitor_is)
 
 pub returns-then-is_grant : goal.returns-then-is_grant
 returns-then-is_grant g c = λ levels p t k lt.
@@ -17,10 +16,9 @@ returns-then-is_grant g c = λ levels p t k lt.
     (c.broken_grant.ensures levels p t k)
 
 pub returns-then-not-is_performed : goal.returns-then-not-is_performed
-returns-then-not-is_performed g c = λ levels p t k lt.
-    another (length levels) c.args.link.0 c.args.x.now t c.is_grant.result c.is_performed.result c.is_grant.ensures
-    c.if-is_grant.false
-    c.is_performed.ensures c.if-not-is_performed.true
+returns-then-not-is_performed g c = λ levels p t k lt. another (length levels) c.args.link.0 c.args.x.now t
+    c.is_grant.result c.is_performed.result c.is_grant.ensures c.if-is_grant.false c.is_performed.ensures
+    c.if-not-is_performed.true
 
 pub returns : goal.returns
 returns g c = λ levels p t k lt.

@@ -1,6 +1,5 @@
 use Rattle.std.proofs.Common.{◌≡◌, ◌+◌, refl, rules}
-use Rattle.tl_together.proofs.Judging.{next_moment, unnoted}
-use Rattle.tl_together.proofs.Noted.{in_levels}
+use Rattle.tl_together.{proofs.Judging.next_moment, proofs.Judging.unnoted, proofs.Noted.in_levels}
 use Rattle.tl_together.proofs.judge.Judge.change.Goals as goal
 
 pub returns-in-Ok-clause-knows : goal.returns-in-Ok-clause-knows

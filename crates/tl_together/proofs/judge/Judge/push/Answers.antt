@@ -1,10 +1,9 @@
 use Rattle.std.proofs.Common.{◌≡◌, refl, ap, ◌∙◌, ◌+◌, length, rules}
 use Rattle.std.specs.Prelude.{None}
-use Rattle.tl_together.specs.statement.Coherence.{first_broken}
-use Rattle.tl_together.specs.statement.Knows.{broken}
+use Rattle.tl_together.{specs.statement.Coherence.first_broken, specs.statement.Knows.broken, proofs.Noted.held_others}
+use Rattle.tl_together.{proofs.Noted.in_levels}
 use Rattle.tl_together.proofs.Judging.{fine_on_link, judged_fault, next_moment, open_still, refused, refused_knows}
 use Rattle.tl_together.proofs.Judging.{remembered, taken, unnoted}
-use Rattle.tl_together.proofs.Noted.{held_others, in_levels}
 use Rattle.tl_together.proofs.judge.Judge.push.Goals as goal
 
 pub returns-in_default-change-clause-knows : goal.returns-in_default-change-clause-knows

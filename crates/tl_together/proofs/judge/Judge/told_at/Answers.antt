@@ -1,5 +1,4 @@
-use Rattle.std.proofs.Common.{length, refl}
-use Rattle.std.proofs.lemmas.Option.{IfSome_then}
+use Rattle.std.{proofs.Common.length, proofs.Common.refl, proofs.lemmas.Option.IfSome_then}
 use Rattle.tl_together.proofs.judge.Judge.told_at.Goals as goal
 
 pub returns-clause-told : goal.returns-clause-told

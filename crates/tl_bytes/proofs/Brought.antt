@@ -1,18 +1,15 @@
 -- The bytes that one more beat brings.
-use Rattle.std.proofs.Common.{◌≡◌, ℕ, Bool, true, false, ◌&&◌, ◌+◌, ◌-◌, ◌*◌, ◌/◌, ◌%◌, ◌<◌, ◌≤◌, List}
-use Rattle.std.proofs.Common.{◌∷◌, [], length, refl, sym, ap, ◌∙◌, arith, inl, inr}
+use Rattle.std.proofs.Common.{◌≡◌, ℕ, Bool, true, false, ◌&&◌, ◌+◌, ◌-◌, ◌*◌, ◌/◌, ◌%◌, ◌<◌, ◌≤◌, List, ◌∷◌, [], length}
+use Rattle.std.proofs.Common.{refl, sym, ap, ◌∙◌, arith, inl, inr}
 use Rattle.std.specs.Prelude.{if◌then◌else◌, ◌==◌, Option, None, nat_lt, slice_get, slice_index_or}
 use Rattle.std.proofs.Math.Nat.{div-lt_iff_lt-mul, le-div_iff_mul-le, mod-lt}
 use Rattle.std.proofs.lemmas.Bool.{cases_eq, cases_lt, eq-eqb, lt-ltb, le-ltb, ne_eqb}
-use Rattle.std.proofs.lemmas.Nat.{div-add-mod'}
-use Rattle.std.proofs.lemmas.Option.{slice_get_past}
-use Rattle.tl_beat.specs.declared.beat.Beat.{Beat}
-use Rattle.tl_beat.specs.statement.Width.{IsWidth}
+use Rattle.std.{proofs.lemmas.Nat.div-add-mod', proofs.lemmas.Option.slice_get_past}
+use Rattle.tl_beat.{specs.declared.beat.Beat.Beat, specs.statement.Width.IsWidth}
 use Rattle.tl_rules.specs.statement.Admission.{is_spoiled, lanes_of}
-use Rattle.tl_bytes.specs.code.Carried.{with_lanes}
-use Rattle.tl_bytes.specs.declared.carried.CarriedBytes.{CarriedBytes}
-use Rattle.tl_bytes.specs.statement.Bytes.{carried_byte}
-use Rattle.tl_bytes.specs.statement.Known.{HasBytes, KnowsCarried}
+use Rattle.tl_bytes.{specs.code.Carried.with_lanes, specs.declared.carried.CarriedBytes.CarriedBytes}
+use Rattle.tl_bytes.{specs.statement.Bytes.carried_byte, specs.statement.Known.HasBytes}
+use Rattle.tl_bytes.{specs.statement.Known.KnowsCarried}
 
 -- ---- the places of a beat's lanes
 
@@ -73,16 +70,14 @@ pub none-brought : {w : ℕ} (carried : CarriedBytes) (x : Beat w) (burst : List
 unfolding carried_byte
 none-brought {w} carried x burst k none p lt = elim (cases_eq (p / w) (length burst)) [
   | inr ne ↦ rw (ne_eqb (p / w) (length burst) ne) (k.bytes_are p lt)
-  | inl here ↦
-      k.bytes_are p lt ∙ to-come burst p (omega (arith, here))
-      ∙ sym (rw (eq-eqb (p / w) (length burst) here) (nothing (is_spoiled x) (lanes_of x) (p % w) none))
+  | inl here ↦ k.bytes_are p lt ∙ to-come burst p (omega (arith, here)) ∙ sym
+      (rw (eq-eqb (p / w) (length burst) here) (nothing (is_spoiled x) (lanes_of x) (p % w) none))
 ]
   where
     nothing : (b : Bool) (lanes : List ℕ) (i : ℕ) → (if b then [] else lanes) ≡ []
         → (if b then None else slice_get lanes i) ≡ None
-    nothing true lanes i e = refl
-    nothing false [] i e = refl
     nothing false (v ∷ lanes) i e = absurd cc
+    nothing v u i e = refl
 
 -- with one that isn't corrupt its lanes are put at their places
 pub lanes-brought : {w : ℕ} (old : CarriedBytes) (new : List (Option ℕ)) (x : Beat w) (burst : List (Beat w))
@@ -93,8 +88,7 @@ unfolding carried_byte
 lanes-brought {w} old new x burst lanes k sound same put p lt =
     put p lt ∙ rw (k.beats_are, same, sound) (elim (cases_eq (p / w) (length burst)) [
       | inr ne ↦ rw (ne_eqb (p / w) (length burst) ne) (k.bytes_are p lt)
-      | inl here ↦
-          rw (eq-eqb (p / w) (length burst) here)
+      | inl here ↦ rw (eq-eqb (p / w) (length burst) here)
           (past (lanes_of x) (p % w) _ (k.bytes_are p lt ∙ to-come burst p (omega (arith, here))))
     ])
   where

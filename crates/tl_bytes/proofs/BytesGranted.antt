@@ -1,15 +1,11 @@
 -- Worked traces of blocks that go from link to link: what a Grant may tell of their bytes, and a read bring.
+use Rattle.tl_bytes.proofs.Imports.{unfinished, Trace, on_link, is_free, may_be, may_read, pending_accesses}
+use Rattle.tl_bytes.proofs.Imports.{carried_byte, windows_since, window_began, last_window, last_told}
 use Rattle.std.proofs.Common.{◌≡◌, ℕ, refl, List, [], ◌∷◌, ◌++◌}
 use Rattle.std.specs.Prelude.{Some, None}
-use Rattle.tl_burst.specs.statement.Messages.{unfinished}
-use Rattle.tl_rules.specs.statement.Admission.{bytes_carried}
-use Rattle.tl_rules.specs.statement.Conformance.{Trace, on_link}
-use Rattle.tl_rules.specs.statement.Effect.{effect}
+use Rattle.tl_rules.{specs.statement.Admission.bytes_carried, specs.statement.Effect.effect}
 use Rattle.tl_rules.specs.statement.History.{grant_sink, held, pending, probe_of, release_of, request_of}
-use Rattle.tl_rules.specs.statement.Windows.{is_free}
-use Rattle.tl_bytes.specs.statement.Bytes.{may_be, may_read, pending_accesses, carried_byte}
-use Rattle.tl_bytes.specs.statement.Bytes.{carried_mask, windows_since, window_began, last_window, last_told}
-use Rattle.tl_bytes.specs.statement.Bytes.{each_from, before_last}
+use Rattle.tl_bytes.specs.statement.Bytes.{carried_mask, each_from, before_last}
 use Rattle.tl_bytes.proofs.WorkedBeats.{put, done, get, found, acquire, acquire_unread, grant_beat, grant_unread}
 use Rattle.tl_bytes.proofs.WorkedBeats.{grant_ack, release_beat, four, spoilt, wide, given_back, untrue_from, untrue}
 
@@ -101,8 +97,7 @@ a_put_before_a_grant = refl
 
 -- corrupt data that are given back tell nothing
 corrupt_data_given_back : untrue (acquire 0 1 0 65535 ∷ four (grant_beat 0 0 0 0 (wide 5)) ++ four
-    (spoilt (release_beat 0 1 (wide 9)))
-    ++ granted 3) ≡ None
+    (spoilt (release_beat 0 1 (wide 9))) ++ granted 3) ≡ None
 unfolding untrue_from may_be may_read pending_accesses carried_byte bytes_carried carried_mask windows_since
     window_began last_window last_told each_from before_last effect unfinished on_link request_of release_of probe_of
     grant_sink pending held is_free

@@ -1,15 +1,12 @@
 -- Worked traces of reads: what they may bring, and beside it what they may not.
+use Rattle.tl_bytes.proofs.Imports.{unfinished, Trace, on_link, is_free, may_be, may_read, pending_accesses}
+use Rattle.tl_bytes.proofs.Imports.{carried_byte, windows_since, window_began, last_window, last_told}
 use Rattle.std.proofs.Common.{◌≡◌, ℕ, refl, List, [], ◌∷◌}
 use Rattle.std.specs.Prelude.{replicate, Some, None}
-use Rattle.tl_burst.specs.statement.Messages.{unfinished}
 use Rattle.tl_rules.specs.statement.Admission.{bytes_carried}
-use Rattle.tl_rules.specs.statement.Conformance.{Trace, on_link}
 use Rattle.tl_rules.specs.statement.Effect.{effect, number_from}
 use Rattle.tl_rules.specs.statement.History.{grant_sink, held, pending, probe_of, release_of, request_of}
-use Rattle.tl_rules.specs.statement.Windows.{is_free}
-use Rattle.tl_bytes.specs.statement.Bytes.{may_be, may_read, pending_accesses, carried_byte}
-use Rattle.tl_bytes.specs.statement.Bytes.{carried_mask, windows_since, window_began, last_window, last_told}
-use Rattle.tl_bytes.specs.statement.Bytes.{each_from, before_last}
+use Rattle.tl_bytes.specs.statement.Bytes.{carried_mask, each_from, before_last}
 use Rattle.tl_bytes.proofs.WorkedBeats.{eight, put, part, done, get, add, found, untrue_from, untrue}
 
 -- ---- what a Get may bring
@@ -38,8 +35,7 @@ stale_bytes = refl
 
 -- a Put of some bytes writes those
 a_put_of_one_byte : untrue {w = 8} (put 0 0 3 (eight 5) 255 ∷ done 0 0 3 ∷ part 0 0 3 (eight 7) 1 ∷ done 0 0 3 ∷ get 1 0
-    3 255
-    ∷ found 1 0 3 (7 ∷ replicate 7 5) ∷ []) ≡ None
+    3 255 ∷ found 1 0 3 (7 ∷ replicate 7 5) ∷ []) ≡ None
 unfolding untrue_from may_be may_read pending_accesses carried_byte bytes_carried carried_mask windows_since
     window_began last_window last_told each_from before_last effect unfinished on_link request_of release_of probe_of
     grant_sink pending held is_free
@@ -47,8 +43,7 @@ a_put_of_one_byte = refl
 
 -- and no others
 bytes_beside_a_put : untrue {w = 8} (put 0 0 3 (eight 5) 255 ∷ done 0 0 3 ∷ part 0 0 3 (eight 7) 1 ∷ done 0 0 3 ∷ get 1
-    0 3 255
-    ∷ found 1 0 3 (eight 7) ∷ []) ≡ Some 5
+    0 3 255 ∷ found 1 0 3 (eight 7) ∷ []) ≡ Some 5
 unfolding untrue_from may_be may_read pending_accesses carried_byte bytes_carried carried_mask windows_since
     window_began last_window last_told each_from before_last effect unfinished on_link request_of release_of probe_of
     grant_sink pending held is_free
@@ -80,8 +75,7 @@ read_from_nowhere = refl
 
 -- of two Puts that overlap either may have come last
 either_came_last : untrue {w = 8} (put 0 0 3 (eight 5) 255 ∷ put 1 0 3 (eight 7) 255 ∷ done 1 0 3 ∷ done 0 0 3 ∷ get 1 0
-    3 255
-    ∷ found 1 0 3 (eight 7) ∷ []) ≡ None
+    3 255 ∷ found 1 0 3 (eight 7) ∷ []) ≡ None
 unfolding untrue_from may_be may_read pending_accesses carried_byte bytes_carried carried_mask windows_since
     window_began last_window last_told each_from before_last effect unfinished on_link request_of release_of probe_of
     grant_sink pending held is_free
@@ -89,8 +83,7 @@ either_came_last = refl
 
 -- of two Puts, one after the other, the second came last
 second_came_last : untrue {w = 8} (put 0 0 3 (eight 5) 255 ∷ done 0 0 3 ∷ put 1 0 3 (eight 7) 255 ∷ done 1 0 3 ∷ get 1 0
-    3 255
-    ∷ found 1 0 3 (eight 5) ∷ []) ≡ Some 5
+    3 255 ∷ found 1 0 3 (eight 5) ∷ []) ≡ Some 5
 unfolding untrue_from may_be may_read pending_accesses carried_byte bytes_carried carried_mask windows_since
     window_began last_window last_told each_from before_last effect unfinished on_link request_of release_of probe_of
     grant_sink pending held is_free
@@ -157,9 +150,8 @@ a_get_after_an_answer = refl
 
 -- what is written after an answer has begun isn't in it
 a_write_after_an_answer_began : untrue {w = 4} (put 0 0 3 fives 15 ∷ put 0 0 3 fives 15 ∷ done 0 0 3 ∷ get 1 0 3
-    15 ∷ found 1 0 3 fives
-    ∷ put 0 0 3 (replicate 4 7) 15 ∷ put 0 0 3 (replicate 4 7) 15 ∷ done 0 0 3 ∷ found 1 0 3 (replicate 4 7) ∷ [])
-    ≡ Some 8
+    15 ∷ found 1 0 3 fives ∷ put 0 0 3 (replicate 4 7) 15 ∷ put 0 0 3 (replicate 4 7) 15 ∷ done 0 0 3 ∷ found 1 0 3
+    (replicate 4 7) ∷ []) ≡ Some 8
 unfolding untrue_from may_be may_read pending_accesses carried_byte bytes_carried carried_mask windows_since
     window_began last_window last_told each_from before_last effect unfinished on_link request_of release_of probe_of
     grant_sink pending held is_free

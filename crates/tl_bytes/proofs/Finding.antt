@@ -96,8 +96,7 @@ find-left_out test other (x ∷ xs) f = elim (cases_Bool (test x)) [
   ]
 ]
 
-pub find-left : {X : Type 0} (test other : X → Bool) (xs : List X)
-    → ((x : X) → other x ≡ true → test x ≡ false)
+pub find-left : {X : Type 0} (test other : X → Bool) (xs : List X) → ((x : X) → other x ≡ true → test x ≡ false)
     → find other (filter (λ x. not (test x)) xs) ≡ find other xs
 find-left test other [] f = refl
 find-left test other (x ∷ xs) f = elim (cases_Bool (other x)) [

@@ -10,3 +10,4 @@ pub mod Since
 pub mod Told
 pub mod ToldLines
 pub mod WorkedBeats
+pub mod Imports

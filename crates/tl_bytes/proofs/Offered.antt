@@ -1,19 +1,15 @@
 -- What a read may bring, with values that are offered to it one by one.
-use Rattle.std.proofs.Common.{◌≡◌, ℕ, Bool, true, false, ◌&&◌, ◌||◌, ◌+◌, ◌<◌, ◌≤◌, List, [], ◌∷◌, ◌++◌}
-use Rattle.std.proofs.Common.{refl, sym, ap, ap₂, ◌∙◌, arith, inl, inr, drop, get_or, length}
+use Rattle.tl_bytes.proofs.Imports.{Telling, Told, Write, told_as, tellings_at}
+use Rattle.std.proofs.Common.{◌≡◌, ℕ, Bool, true, false, ◌&&◌, ◌||◌, ◌+◌, ◌<◌, ◌≤◌, List, [], ◌∷◌, ◌++◌, refl, sym, ap}
+use Rattle.std.proofs.Common.{ap₂, ◌∙◌, arith, inl, inr, drop, get_or, length}
 use Rattle.std.specs.Prelude.{if◌then◌else◌, Option, Some, None, is_some, find, nat_lt, slice_index_or, ◌==◌}
 use Rattle.std.proofs.lemmas.Bool.{and_parts, cases_Bool, cases_eq, cases_lt, eq-eqb, eqb-true, le-ltb, lt-ltb, ne_eqb}
 use Rattle.std.proofs.lemmas.Bool.{or_cases, or_left, or_right}
 use Rattle.std.proofs.lemmas.List.{at_drop_more, at_drop_all}
-use Rattle.tl_bytes.specs.code.Possible.{has, is_covered}
+use Rattle.tl_bytes.{specs.code.Possible.has, specs.code.Possible.is_covered}
+use Rattle.tl_bytes.{specs.declared.read_bytes.ReadBytes.ReadBytes, specs.declared.telling.Possible.Possible}
+use Rattle.tl_bytes.{specs.statement.Bytes.could_be, specs.statement.Known.is_listed, specs.statement.Known.may_bring}
 use Rattle.tl_bytes.specs.code.Tellings.{covers_value, is_written, leaves, left_as, value_at}
-use Rattle.tl_bytes.specs.declared.read_bytes.ReadBytes.{ReadBytes}
-use Rattle.tl_bytes.specs.declared.telling.Possible.{Possible}
-use Rattle.tl_bytes.specs.declared.telling.Telling.{Telling}
-use Rattle.tl_bytes.specs.declared.telling.Told.{Told}
-use Rattle.tl_bytes.specs.declared.write.Write.{Write}
-use Rattle.tl_bytes.specs.statement.Bytes.{could_be, told_as}
-use Rattle.tl_bytes.specs.statement.Known.{is_listed, may_bring, tellings_at}
 
 -- ---- truths
 
@@ -62,11 +58,9 @@ covered-listed place v value (x ∷ more) e could = elim (cases_Bool ((x.place =
   | inl here ↦
       let parts = and_parts (x.place == place) (covers_value x.value value) here in
       rw (parts.0, covers-could v x.value value parts.1 could) refl
-  | inr other ↦
-      either-some ((x.place == place) && could_be v x.value) x
-      (find (λ y. (y.place == place) && could_be v y.value) more)
-      ∙ or_right ((x.place == place) && could_be v x.value) (is_listed place v more)
-      (covered-listed place v value more (rw other at e) could)
+  | inr other ↦ either-some ((x.place == place) && could_be v x.value) x
+      (find (λ y. (y.place == place) && could_be v y.value) more) ∙ or_right ((x.place == place) && could_be v x.value)
+      (is_listed place v more) (covered-listed place v value more (rw other at e) could)
 ]
 
 -- what it has may be brought
@@ -78,9 +72,8 @@ has-brought read place v value e could =
       | inl first ↦
           or_left (could_be v (slice_index_or read.first.items place None)) (is_listed place v read.more.items)
           (covers-could v (slice_index_or read.first.items place None) value first could)
-      | inr other ↦
-          or_right (could_be v (slice_index_or read.first.items place None)) (is_listed place v read.more.items)
-          (covered-listed place v value read.more.items other could)
+      | inr other ↦ or_right (could_be v (slice_index_or read.first.items place None))
+          (is_listed place v read.more.items) (covered-listed place v value read.more.items other could)
     ]
 
 -- so one that it has is left out
@@ -119,12 +112,15 @@ module _ (start : Bool) (could : ℕ → Bool) where
   pub one-offered : (k at : ℕ) (now new : Bool) → now ≡ with_first k at → new ≡ (now || ((k == at) && could k))
       → new ≡ with_first (k + 1) at
   one-offered k at now new so_far more = elim (cases_eq k at) [
-    | inl same ↦
-        more ∙ rw (so_far, same, le-ltb at at (omega arith), eq-eqb at at refl, lt-ltb at (at + 1) (omega arith))
-        (ap (λ b. b || could at) (sym (or_false start)))
-    | inr ne ↦
-        more ∙ rw (so_far, ne_eqb k at ne) (sym (or_false (with_first k at))
-        ∙ same-first k at (λ e. ne (sym e)))
+    | inl same ↦ more ∙ rw (
+      so_far,
+      same,
+      le-ltb at at (omega arith),
+      eq-eqb at at refl,
+      lt-ltb at (at + 1)
+          (omega arith),
+    ) (ap (λ b. b || could at) (sym (or_false start)))
+    | inr ne ↦ more ∙ rw (so_far, ne_eqb k at ne) (sym (or_false (with_first k at)) ∙ same-first k at (λ e. ne (sym e)))
   ]
 
   pub one-kept : (k at : ℕ) (now : Bool) → now ≡ with_first k at → could k ≡ false → now ≡ with_first (k + 1) at

@@ -1,19 +1,14 @@
 -- The accesses that are pending with one more beat.
-use Rattle.std.proofs.Common.{◌≡◌, ℕ, suc, Bool, true, false, not, ◌&&◌, ◌<◌, ◌≤◌, List, [], ◌∷◌, ◌⊎◌, inl, inr}
-use Rattle.std.proofs.Common.{length, refl, sym, ap, ◌∙◌, arith}
+use Rattle.tl_bytes.proofs.Imports.{Beat, Link, unfinished, Trace, on_link, Access, pending_accesses}
+use Rattle.std.proofs.Common.{◌≡◌, ℕ, suc, Bool, true, false, not, ◌&&◌, ◌<◌, ◌≤◌, List, [], ◌∷◌, ◌⊎◌, inl, inr, length}
+use Rattle.std.proofs.Common.{refl, sym, ap, ◌∙◌, arith}
 use Rattle.std.specs.Prelude.{if◌then◌else◌, find, filter, Some, None, ◌==◌}
 use Rattle.std.proofs.lemmas.Bool.{cases_eq, eqb-true, and_parts}
-use Rattle.tl_beat.specs.declared.beat.Beat.{Beat}
-use Rattle.tl_beat.specs.declared.beat.Beat.TheVariants as beat
-use Rattle.tl_beat.specs.declared.beat.BeatA.{BeatA}
-use Rattle.tl_beat.specs.declared.beat.BeatD.{BeatD}
-use Rattle.tl_beat.specs.declared.beat.Link.{Link}
-use Rattle.tl_beat.specs.declared.channel.Channel.TheVariants as channel
-use Rattle.tl_burst.specs.statement.Messages.{History, unfinished}
-use Rattle.tl_rules.specs.statement.Conformance.{Trace, on_link}
+use Rattle.tl_beat.{specs.declared.beat.BeatA.BeatA, specs.declared.beat.BeatD.BeatD}
+use Rattle.tl_beat.{specs.declared.channel.Channel.Channel}
+use Rattle.tl_burst.specs.statement.Messages.{History}
 use Rattle.tl_rules.specs.statement.History.{ends}
-use Rattle.tl_bytes.specs.statement.Bytes.{Access, asked_by, ends_request, is_access, is_of, pending_accesses}
-use Rattle.tl_bytes.specs.statement.Bytes.{pending_with}
+use Rattle.tl_bytes.specs.statement.Bytes.{asked_by, ends_request, is_access, is_of, pending_with}
 use Rattle.tl_bytes.proofs.Finding.{find-left, find-left_out, same-some}
 
 -- the access with this source of the link is pending
@@ -23,17 +18,16 @@ IsPending c s p t = find (is_of c s) (pending_accesses t) ≡ Some p
 -- the beat completes its request
 pub record IsAskedNow {w : ℕ} (c s : ℕ) (p : Access w) (y : Link × Beat w) (t : Trace w) : Type 0 where
   pub first : BeatA w
-  pub beat_is : y.1 ≡ beat.A first
-  pub completes : is_access first.opcode && ends (beat.A first) (on_link y.0.0 t) ≡ true
+  pub beat_is : y.1 ≡ Beat.A first
+  pub completes : is_access first.opcode && ends (Beat.A first) (on_link y.0.0 t) ≡ true
   pub link_is : c ≡ y.0.0
   pub source_is : s ≡ first.source
-  pub access_is :
-      p ≡ asked_by y.0.0 first (beat.A first ∷ unfinished channel.A (on_link y.0.0 t)) (suc (length t))
+  pub access_is : p ≡ asked_by y.0.0 first (Beat.A first ∷ unfinished Channel.A (on_link y.0.0 t)) (suc (length t))
 
 -- the beat completes its answer
 pub record IsAnsweredNow {w : ℕ} (c s : ℕ) (y : Link × Beat w) (t : Trace w) : Type 0 where
   pub last : BeatD w
-  pub beat_is : y.1 ≡ beat.D last
+  pub beat_is : y.1 ≡ Beat.D last
   pub completes : ends_request last (on_link y.0.0 t) ≡ true
   pub link_is : c ≡ y.0.0
   pub source_is : s ≡ last.source
@@ -68,15 +62,15 @@ pending-before {w} c s p y t is = go y.1 refl is
     Result : Type 0
     Result = IsPending c s p t ⊎ IsAskedNow c s p y t
 
-    asks : (z : BeatA w) → y.1 ≡ beat.A z → (b : Bool) → is_access z.opcode && ends (beat.A z) past ≡ b
-        → find (is_of c s) (if b then asked_by y.0.0 z (beat.A z ∷ unfinished channel.A past) (suc (length t)) ∷ before
+    asks : (z : BeatA w) → y.1 ≡ Beat.A z → (b : Bool) → is_access z.opcode && ends (Beat.A z) past ≡ b
+        → find (is_of c s) (if b then asked_by y.0.0 z (Beat.A z ∷ unfinished Channel.A past) (suc (length t)) ∷ before
         else before) ≡ Some p → Result
     asks z e false f is = inl is
     asks z e true f is =
-        new (asked_by y.0.0 z (beat.A z ∷ unfinished channel.A past) (suc (length t))) refl refl
-        (is_of c s (asked_by y.0.0 z (beat.A z ∷ unfinished channel.A past) (suc (length t)))) refl is
+        new (asked_by y.0.0 z (Beat.A z ∷ unfinished Channel.A past) (suc (length t))) refl refl
+        (is_of c s (asked_by y.0.0 z (Beat.A z ∷ unfinished Channel.A past) (suc (length t)))) refl is
       where
-        new : (q : Access w) → asked_by y.0.0 z (beat.A z ∷ unfinished channel.A past) (suc (length t)) ≡ q
+        new : (q : Access w) → asked_by y.0.0 z (Beat.A z ∷ unfinished Channel.A past) (suc (length t)) ≡ q
             → (y.0.0 == c) && (z.source == s) ≡ is_of c s q → (b : Bool) → is_of c s q ≡ b
             → (if b then Some q else find (is_of c s) before) ≡ Some p → Result
         new q g same false other is = inl is
@@ -107,17 +101,14 @@ pending-before {w} c s p y t is = go y.1 refl is
     ]
 
     go : (b : Beat w) → y.1 ≡ b → find (is_of c s) (pending_with y.0.0 b past (suc (length t)) before) ≡ Some p → Result
-    go (beat.A z) e is = asks z e (is_access z.opcode && ends (beat.A z) past) refl is
-    go (beat.D z) e is = answers z (ends_request z past) refl is
-    go (beat.B z) e is = inl is
-    go (beat.C z) e is = inl is
-    go (beat.E z) e is = inl is
+    go (Beat.A z) e is = asks z e (is_access z.opcode && ends (Beat.A z) past) refl is
+    go (Beat.D z) e is = answers z (ends_request z past) refl is
+    go v e is = inl is
 
 -- one that is pending stays so, where its answer isn't complete now, and no other with its source is asked for
 pub pending-after : {w : ℕ} (c s : ℕ) (p : Access w) (y : Link × Beat w) (t : Trace w) → IsPending c s p t
-    → ((z : BeatA w) → y.1 ≡ beat.A z → is_access z.opcode && ends (beat.A z) (on_link y.0.0 t) ≡ true → c ≡ y.0.0
-    → s ≡ z.source → ⊥)
-    → IsPending c s p (y ∷ t) ⊎ IsAnsweredNow c s y t
+    → ((z : BeatA w) → y.1 ≡ Beat.A z → is_access z.opcode && ends (Beat.A z) (on_link y.0.0 t) ≡ true → c ≡ y.0.0
+    → s ≡ z.source → ⊥) → IsPending c s p (y ∷ t) ⊎ IsAnsweredNow c s y t
 unfolding pending_accesses
 pending-after {w} c s p y t is never = go y.1 refl
   where
@@ -130,21 +121,21 @@ pending-after {w} c s p y t is never = go y.1 refl
     Result : Beat w → Type 0
     Result b = (find (is_of c s) (pending_with y.0.0 b past (suc (length t)) before) ≡ Some p) ⊎ IsAnsweredNow c s y t
 
-    asks : (z : BeatA w) → y.1 ≡ beat.A z → (b : Bool) → is_access z.opcode && ends (beat.A z) past ≡ b
-        → find (is_of c s) (if b then asked_by y.0.0 z (beat.A z ∷ unfinished channel.A past) (suc (length t)) ∷ before
+    asks : (z : BeatA w) → y.1 ≡ Beat.A z → (b : Bool) → is_access z.opcode && ends (Beat.A z) past ≡ b
+        → find (is_of c s) (if b then asked_by y.0.0 z (Beat.A z ∷ unfinished Channel.A past) (suc (length t)) ∷ before
         else before) ≡ Some p
     asks z e false f = is
     asks z e true f = new ((y.0.0 == c) && (z.source == s)) refl
       where
         new : (b : Bool) → (y.0.0 == c) && (z.source == s) ≡ b
-            → (if b then Some (asked_by y.0.0 z (beat.A z ∷ unfinished channel.A past) (suc (length t)))
+            → (if b then Some (asked_by y.0.0 z (Beat.A z ∷ unfinished Channel.A past) (suc (length t)))
             else find (is_of c s) before) ≡ Some p
         new false other = is
         new true both_are =
             let both = and_parts (y.0.0 == c) (z.source == s) both_are in
             absurd (never z e f (sym (eqb-true y.0.0 c both.0)) (sym (eqb-true z.source s both.1)))
 
-    answers : (z : BeatD w) → y.1 ≡ beat.D z → (b : Bool) → ends_request z past ≡ b
+    answers : (z : BeatD w) → y.1 ≡ Beat.D z → (b : Bool) → ends_request z past ≡ b
         → (find (is_of c s) (if b then filter (λ access. not (is_of y.0.0 z.source access)) before else before)
         ≡ Some p) ⊎ IsAnsweredNow c s y t
     answers z e false f = inl is
@@ -159,11 +150,9 @@ pending-after {w} c s p y t is never = go y.1 refl
     ]
 
     go : (b : Beat w) → y.1 ≡ b → Result b
-    go (beat.A z) e = inl (asks z e (is_access z.opcode && ends (beat.A z) past) refl)
-    go (beat.D z) e = answers z e (ends_request z past) refl
-    go (beat.B z) e = inl is
-    go (beat.C z) e = inl is
-    go (beat.E z) e = inl is
+    go (Beat.A z) e = inl (asks z e (is_access z.opcode && ends (Beat.A z) past) refl)
+    go (Beat.D z) e = answers z e (ends_request z past) refl
+    go v e = inl is
 
 -- when the request of a pending access was complete
 pub record IsAsked {w : ℕ} (p : Access w) (t : Trace w) : Type 0 where

@@ -1,15 +1,11 @@
 -- What a read may bring, with one more beat.
-use Rattle.std.proofs.Common.{◌≡◌, ℕ, suc, Bool, true, false, ◌||◌, ◌+◌, ◌*◌, ◌/◌, ◌<◌, ◌≤◌, List, [], ◌∷◌}
-use Rattle.std.proofs.Common.{length, refl, sym, ap, ◌∙◌, arith}
+use Rattle.tl_bytes.proofs.Imports.{Beat, Link, Trace, BlockBytes, Write, Access, may_be, may_read, told_as}
+use Rattle.tl_bytes.proofs.Imports.{tellings_of, KnowsBlock}
+use Rattle.std.proofs.Common.{◌≡◌, ℕ, suc, Bool, true, false, ◌||◌, ◌+◌, ◌*◌, ◌/◌, ◌<◌, ◌≤◌, List, [], ◌∷◌, length}
+use Rattle.std.proofs.Common.{refl, sym, ap, ◌∙◌, arith}
 use Rattle.std.proofs.lemmas.Bool.{le-leb, lt-leb}
-use Rattle.tl_beat.specs.declared.beat.Beat.{Beat}
-use Rattle.tl_beat.specs.declared.beat.Link.{Link}
-use Rattle.tl_rules.specs.statement.Conformance.{Trace}
-use Rattle.tl_bytes.specs.code.Tellings.{left_as}
-use Rattle.tl_bytes.specs.declared.block_bytes.BlockBytes.{BlockBytes}
-use Rattle.tl_bytes.specs.declared.write.Write.{Write}
-use Rattle.tl_bytes.specs.statement.Bytes.{Access, may_be, may_grant, may_read, told_as, written_as}
-use Rattle.tl_bytes.specs.statement.Known.{tellings_of, KnowsBlock, MayWrite, others, windowed}
+use Rattle.tl_bytes.{specs.code.Tellings.left_as, specs.statement.Bytes.may_grant, specs.statement.Bytes.written_as}
+use Rattle.tl_bytes.specs.statement.Known.{MayWrite, others, windowed}
 
 -- before its request was complete it may bring nothing
 nothing-yet : {w : ℕ} (n : ℕ) (access : Access w) (t : Trace w) (address v : ℕ) → length t < access.asked
@@ -36,8 +32,7 @@ read-more n number access x t block writes p v now before all known le k written
 
 -- the same where its request is complete with this beat
 pub read-first : {w : ℕ} (n number : ℕ) (access : Access w) (x : Link × Beat w) (t : Trace w) (block : BlockBytes)
-    (writes : List Write) (p v : ℕ) (now : Bool)
-    → now ≡ (told_as v (tellings_of block p) || left_as p v writes)
+    (writes : List Write) (p v : ℕ) (now : Bool) → now ≡ (told_as v (tellings_of block p) || left_as p v writes)
     → access.asked ≡ suc (length t) → KnowsBlock block n number (x ∷ t) → MayWrite writes number (others access (x ∷ t))
     → p < 64 → now ≡ may_read n access (x ∷ t) (64 * number + p) v
 read-first n number access x t block writes p v now all asked k written lt =

@@ -1,36 +1,21 @@
 -- What is kept of tellings is what each byte may be.
-use Rattle.std.proofs.Common.{◌≡◌, ℕ, zero, suc, Bool, true, false, not, ◌&&◌}
-use Rattle.std.proofs.Common.{◌+◌, ◌*◌, ◌/◌, ◌%◌, ◌<◌, ◌≤◌, List, [], ◌∷◌, ◌++◌}
-use Rattle.std.proofs.Common.{length, refl, sym, ap, ap₂, ◌∙◌, arith, inl, inr}
-use Rattle.std.specs.Prelude.{if◌then◌else◌, Option, Some, None, nat_lt}
-use Rattle.std.specs.Prelude.{nat_le, filter, find, ◌==◌}
-use Rattle.std.proofs.Common.{append_assoc, drop, get_or}
-use Rattle.std.proofs.Math.ListN.{drop_of_length-le}
-use Rattle.std.proofs.lemmas.List.{at_drop_more}
-use Rattle.std.proofs.Math.Dec.{leb-zero}
-use Rattle.std.proofs.Math.Numerals.{add-one}
+use Rattle.tl_bytes.proofs.Imports.{Beat, Link, unfinished, Trace, on_link, is_free, Write, BlockBytes, Telling, Told}
+use Rattle.tl_bytes.proofs.Imports.{Access, may_be, pending_accesses, told_as, windows_since, window_began, last_window}
+use Rattle.tl_bytes.proofs.Imports.{last_told, tellings_at, tellings_of, KnowsBlock}
+use Rattle.std.proofs.Common.{◌≡◌, ℕ, zero, suc, Bool, true, false, not, ◌&&◌, ◌+◌, ◌*◌, ◌/◌, ◌%◌, ◌<◌, ◌≤◌, List, []}
+use Rattle.std.proofs.Common.{◌∷◌, ◌++◌, length, refl, sym, ap, ap₂, ◌∙◌, arith, inl, inr, append_assoc, drop, get_or}
+use Rattle.std.specs.Prelude.{if◌then◌else◌, Option, Some, None, nat_lt, nat_le, filter, find, ◌==◌}
+use Rattle.std.{proofs.Math.ListN.drop_of_length-le, proofs.lemmas.List.at_drop_more, proofs.Math.Dec.leb-zero}
+use Rattle.std.{proofs.Math.Numerals.add-one}
 use Rattle.std.proofs.lemmas.Bool.{cases_Bool, cases_eq, eq-eqb, ne_eqb}
-use Rattle.tl_beat.specs.declared.beat.Beat.{Beat}
-use Rattle.tl_beat.specs.declared.beat.Beat.TheVariants as beat
-use Rattle.tl_beat.specs.declared.beat.BeatD.{BeatD}
-use Rattle.tl_beat.specs.declared.beat.Link.{Link}
-use Rattle.tl_beat.specs.declared.channel.Channel.TheVariants as channel
-use Rattle.tl_burst.specs.statement.Messages.{unfinished}
-use Rattle.tl_params.specs.declared.perm.Perm.TheVariants as perm
-use Rattle.tl_rules.specs.statement.Conformance.{Trace, on_link}
-use Rattle.tl_rules.specs.statement.Windows.{is_free}
+use Rattle.tl_beat.{specs.declared.beat.BeatD.BeatD, specs.declared.channel.Channel.Channel}
+use Rattle.tl_params.specs.declared.perm.Perm.{Perm}
 use Rattle.tl_bytes.specs.code.Tellings.{displaced, is_displaced, is_written, outlived, stays, telling_at, value_at}
 use Rattle.tl_bytes.specs.code.Tellings.{written_at}
-use Rattle.tl_bytes.specs.declared.write.Write.{Write}
-use Rattle.tl_bytes.specs.declared.block_bytes.BlockBytes.{BlockBytes}
 use Rattle.tl_bytes.specs.declared.standing.Standing.{Standing}
-use Rattle.tl_bytes.specs.declared.standing.Standing.TheVariants as standing
-use Rattle.tl_bytes.specs.declared.telling.Telling.{Telling}
-use Rattle.tl_bytes.specs.declared.telling.Told.{Told}
-use Rattle.tl_bytes.specs.statement.Bytes.{Access, access_writes, after_write, could_be, ends_request, is_of, may_be}
-use Rattle.tl_bytes.specs.statement.Bytes.{pending_accesses, same_value, tells, told_as, told_too, value_written}
-use Rattle.tl_bytes.specs.statement.Bytes.{windows_since, window_began, last_window, last_told}
-use Rattle.tl_bytes.specs.statement.Known.{tellings_at, tellings_of, KnowsBlock, AreCarried, IsWrite, standing_of}
+use Rattle.tl_bytes.specs.statement.Bytes.{access_writes, after_write, could_be, ends_request, is_of, same_value, tells}
+use Rattle.tl_bytes.specs.statement.Bytes.{told_too, value_written}
+use Rattle.tl_bytes.specs.statement.Known.{AreCarried, IsWrite, standing_of}
 
 -- ---- the list of tellings, place by place
 
@@ -113,9 +98,8 @@ module _ (write : Write) (since : ℕ) where
     displaced-later zero p le = refl
     displaced-later (suc k) p le = elim (cases_Bool (is_displaced write since (last_at k))) [
       | inr stays ↦ rw stays (displaced-later k p (omega arith))
-      | inl goes ↦
-          rw goes (tellings-append p (displaced k latest write since) (last_at k ∷ [])
-          ∙ rw (displaced-later k p (omega arith)) (alone-off k p (λ same. omega arith)))
+      | inl goes ↦ rw goes (tellings-append p (displaced k latest write since) (last_at k ∷ []) ∙ rw
+          (displaced-later k p (omega arith)) (alone-off k p (λ same. omega arith)))
     ]
 
     displaced-one : (k p : ℕ) → p < k → is_displaced write since (last_at p) ≡ true
@@ -123,14 +107,12 @@ module _ (write : Write) (since : ℕ) where
     unfolding displaced tellings_at
     displaced-one zero p lt on = absurd (omega arith)
     displaced-one (suc k) p lt on = elim (cases_eq k p) [
-      | inl same ↦
-          rw (same, on) (tellings-append p (displaced p latest write since) (last_at p ∷ [])
-          ∙ rw (displaced-later p p (omega arith)) (alone-at p))
+      | inl same ↦ rw (same, on) (tellings-append p (displaced p latest write since) (last_at p ∷ []) ∙ rw
+          (displaced-later p p (omega arith)) (alone-at p))
       | inr ne ↦ elim (cases_Bool (is_displaced write since (last_at k))) [
         | inr stays ↦ rw stays (displaced-one k p (omega arith) on)
-        | inl goes ↦
-            rw goes (tellings-append p (displaced k latest write since) (last_at k ∷ [])
-            ∙ rw (displaced-one k p (omega arith) on, alone-off k p ne) refl)
+        | inl goes ↦ rw goes (tellings-append p (displaced k latest write since) (last_at k ∷ []) ∙ rw
+            (displaced-one k p (omega arith) on, alone-off k p ne) refl)
       ]
     ]
 
@@ -154,10 +136,8 @@ module _ (write : Write) (since : ℕ) where
     outlived-on earlier p lt on =
         tellings-append p (displaced 64 latest write since) (filter (stays write since) earlier)
         ∙ elim (cases_Bool (stays_at p (telling_at latest p))) [
-          | inl stay ↦
-              rw (displaced-one 64 p lt (rw on stay), stays-some p earlier on, stay) refl
-          | inr goes ↦
-              rw (displaced-none 64 p (rw on goes), stays-some p earlier on, goes) refl
+          | inl stay ↦ rw (displaced-one 64 p lt (rw on stay), stays-some p earlier on, stay) refl
+          | inr goes ↦ rw (displaced-none 64 p (rw on goes), stays-some p earlier on, goes) refl
         ]
 
     outlived-off : (earlier : List Told) (p : ℕ) → is_written write p ≡ false
@@ -175,13 +155,10 @@ place-of : (block p : ℕ) → p < 64 → (64 * block + p) % 64 ≡ p
 place-of block p lt = omega arith
 
 -- a block that was told of
-pub told-is : {w : ℕ} (values : List (Option ℕ)) (moment n block : ℕ) (b : BlockBytes) (x : Link × Beat w)
-    (t : Trace w)
-    → ((p : ℕ) → p < 64
-    → telling_at b.latest.items p ≡ record { value = get_or values p None; moment = moment })
-    → b.earlier.items ≡ [] → b.last ≡ Some moment
-    → tells block x.1 (on_link x.0.0 t) ≡ true → moment ≡ length t → AreCarried values x t
-    → KnowsBlock b n block (x ∷ t)
+pub told-is : {w : ℕ} (values : List (Option ℕ)) (moment n block : ℕ) (b : BlockBytes) (x : Link × Beat w) (t : Trace w)
+    → ((p : ℕ) → p < 64 → telling_at b.latest.items p ≡ record { value = get_or values p None; moment = moment })
+    → b.earlier.items ≡ [] → b.last ≡ Some moment → tells block x.1 (on_link x.0.0 t) ≡ true → moment ≡ length t
+    → AreCarried values x t → KnowsBlock b n block (x ∷ t)
 unfolding may_be last_told tellings_at
 told-is values moment n block b x t last none when told now carried = record {
   bytes_are = λ p lt. ap₂ (λ e l. e ∷ tellings_at p l) (last p lt) none
@@ -208,34 +185,33 @@ copy-known a b n block t latest earlier last k = record {
 
 -- what a byte may be when an access was answered that writes it, by how that stands
 abbrev by_standing : Standing → Telling → List Telling → List Telling
-by_standing standing.Told now before = before
-by_standing (standing.Within began) now before = told_too now (filter (λ e. nat_le began e.moment) before)
-by_standing standing.Anywhere now before = told_too now before
+by_standing Standing.Told now before = before
+by_standing (Standing.Within began) now before = told_too now (filter (λ e. nat_le began e.moment) before)
+by_standing Standing.Anywhere now before = told_too now before
 
 by-standing : {w : ℕ} (n block : ℕ) (access : Access w) (now : Telling) (t : Trace w) (before : List Telling)
     → after_write n block access now t before ≡ by_standing (standing_of n block access t) now before
 by-standing n block access now t before =
-    by (is_free n None perm.Trunk block t) (windows_since n block access.asked t == 1)
+    by (is_free n None Perm.Trunk block t) (windows_since n block access.asked t == 1)
     (nat_lt (last_window n block t) (last_told block t)) (window_began n block access.asked t)
   where
     by : (free one told : Bool) (began : ℕ)
         → (if free then if one then told_too now (filter (λ e. nat_le began e.moment) before) else told_too now before
         else if told then before else told_too now before)
-        ≡ by_standing (if free then if one then standing.Within began else standing.Anywhere else
-        if told then standing.Told else standing.Anywhere) now before
+        ≡ by_standing (if free then if one then Standing.Within began else Standing.Anywhere else
+        if told then Standing.Told else Standing.Anywhere) now before
     by true true told began = refl
     by true false told began = refl
     by false one true began = refl
     by false one false began = refl
 
 may_be-written : {w : ℕ} (n block p : ℕ) (link : Link) (y : BeatD w) (access : Access w) (t : Trace w) → p < 64
-    → tells block (beat.D y) (on_link link.0 t) ≡ false → ends_request y (on_link link.0 t) ≡ true
+    → tells block (Beat.D y) (on_link link.0 t) ≡ false → ends_request y (on_link link.0 t) ≡ true
     → find (is_of link.0 y.source) (pending_accesses t) ≡ Some access
-    → may_be n (64 * block + p) ((link, beat.D y) ∷ t)
-    ≡ (if access_writes (64 * block + p) access
-    then by_standing (standing_of n block access t)
+    → may_be n (64 * block + p) ((link, Beat.D y) ∷ t) ≡ (if access_writes (64 * block + p) access then by_standing
+    (standing_of n block access t)
     (record {
-      value = value_written access (beat.D y ∷ unfinished channel.D (on_link link.0 t)) (64 * block + p);
+      value = value_written access (Beat.D y ∷ unfinished Channel.D (on_link link.0 t)) (64 * block + p);
       moment = length t;
     }) (may_be n (64 * block + p) t)
     else may_be n (64 * block + p) t)
@@ -244,7 +220,7 @@ may_be-written n block p link y access t lt quiet ended found =
     rw (block-of block p lt, quiet, ended, found, block-of block p lt)
     (ap (λ l. if access_writes (64 * block + p) access then l else may_be n (64 * block + p) t)
     (by-standing n block access (record {
-      value = value_written access (beat.D y ∷ unfinished channel.D (on_link link.0 t)) (64 * block + p);
+      value = value_written access (Beat.D y ∷ unfinished Channel.D (on_link link.0 t)) (64 * block + p);
       moment = length t;
     }) t (may_be n (64 * block + p) t)))
 
@@ -262,24 +238,21 @@ once since value (e ∷ before) = elim (cases_Bool (nat_le since e.moment)) [
 ]
 
 -- the bytes that an access wrote, by how it stands
-pub written-is : {w : ℕ} (write : Write) (moment n block : ℕ) (s : Standing)
-    (old new : BlockBytes) (link : Link) (y : BeatD w) (access : Access w) (t : Trace w)
-    → new.last ≡ old.last
-    → ((p : ℕ) → p < 64 → tellings_of new p
-    ≡ (if is_written write p
-    then by_standing s (record { value = value_at write p; moment = moment }) (tellings_of old p)
-    else tellings_of old p))
-    → KnowsBlock old n block t → tells block (beat.D y) (on_link link.0 t) ≡ false
-    → ends_request y (on_link link.0 t) ≡ true → find (is_of link.0 y.source) (pending_accesses t) ≡ Some access
-    → s ≡ standing_of n block access t → moment ≡ length t
-    → IsWrite write block access (beat.D y ∷ unfinished channel.D (on_link link.0 t))
-    → KnowsBlock new n block ((link, beat.D y) ∷ t)
+pub written-is : {w : ℕ} (write : Write) (moment n block : ℕ) (s : Standing) (old new : BlockBytes) (link : Link)
+    (y : BeatD w) (access : Access w) (t : Trace w) → new.last ≡ old.last
+    → ((p : ℕ) → p < 64 → tellings_of new
+    p ≡ (if is_written write p then by_standing s (record { value = value_at write p; moment = moment })
+    (tellings_of old p) else tellings_of old p)) → KnowsBlock old n block t
+    → tells block (Beat.D y) (on_link link.0 t) ≡ false → ends_request y (on_link link.0 t) ≡ true
+    → find (is_of link.0 y.source) (pending_accesses t) ≡ Some access → s ≡ standing_of n block access t
+    → moment ≡ length t → IsWrite write block access (Beat.D y ∷ unfinished Channel.D (on_link link.0 t))
+    → KnowsBlock new n block ((link, Beat.D y) ∷ t)
 unfolding last_told
 written-is write moment n block s old new link y access t last items k quiet ended found stands now written =
     record {
       bytes_are = λ p lt. items p lt
           ∙ rw (stands, now, k.bytes_are p lt) (where_written (is_written write p) (value_at write p)
-          (value_written access (beat.D y ∷ unfinished channel.D (on_link link.0 t)) (64 * block + p))
+          (value_written access (Beat.D y ∷ unfinished Channel.D (on_link link.0 t)) (64 * block + p))
           (standing_of n block access t) (length t) (may_be n (64 * block + p) t) (written p lt).1
           ∙ rw ((written p lt).0) (sym (may_be-written n block p link y access t lt quiet ended found)));
       last_is = rw (last, quiet) k.last_is;
@@ -295,19 +268,15 @@ written-is write moment n block s old new link y access t last items k quiet end
 pub written-within : (write : Write) (moment since p : ℕ) (old new : BlockBytes) → p < 64
     → telling_at new.latest.items p ≡ written_at old.latest.items write moment p
     → new.earlier.items ≡ outlived old.latest.items old.earlier.items write since
-    → tellings_of new p
-    ≡ (if is_written write p
-    then by_standing (standing.Within since) (record { value = value_at write p; moment = moment }) (tellings_of old p)
-    else tellings_of old p)
+    → tellings_of new p ≡ (if is_written write p then by_standing (Standing.Within since)
+    (record { value = value_at write p; moment = moment }) (tellings_of old p) else tellings_of old p)
 written-within write moment since p old new lt latest earlier =
     ap₂ (λ e l. e ∷ tellings_at p l) latest earlier ∙ elim (cases_Bool (is_written write p)) [
-      | inr off ↦
-          rw off (ap (λ l. telling_at old.latest.items p ∷ l)
+      | inr off ↦ rw off (ap (λ l. telling_at old.latest.items p ∷ l)
           (outlived-off write since old.latest.items old.earlier.items p off))
-      | inl on ↦
-          rw on (ap (λ l. record { value = value_at write p; moment = moment } ∷ l)
-          (outlived-on write since old.latest.items old.earlier.items p lt on
-          ∙ once since (value_at write p) (telling_at old.latest.items p ∷ tellings_at p old.earlier.items)))
+      | inl on ↦ rw on (ap (λ l. record { value = value_at write p; moment = moment } ∷ l)
+          (outlived-on write since old.latest.items old.earlier.items p lt on ∙ once since (value_at write p)
+          (telling_at old.latest.items p ∷ tellings_at p old.earlier.items)))
     ]
 
 all-later : (before : List Telling) → filter (λ e. nat_le 0 e.moment) before ≡ before
@@ -318,15 +287,12 @@ all-later (e ∷ before) = rw (leb-zero e.moment) (ap (λ l. e ∷ l) (all-later
 pub written-anywhere : (write : Write) (moment p : ℕ) (old new : BlockBytes) → p < 64
     → telling_at new.latest.items p ≡ written_at old.latest.items write moment p
     → new.earlier.items ≡ outlived old.latest.items old.earlier.items write 0
-    → tellings_of new p
-    ≡ (if is_written write p
-    then by_standing standing.Anywhere (record { value = value_at write p; moment = moment }) (tellings_of old p)
-    else tellings_of old p)
+    → tellings_of new p ≡ (if is_written write p then by_standing Standing.Anywhere
+    (record { value = value_at write p; moment = moment }) (tellings_of old p) else tellings_of old p)
 written-anywhere write moment p old new lt latest earlier =
     written-within write moment 0 p old new lt latest earlier
-    ∙ ap (λ (l : List Telling). if is_written write p
-    then told_too (record { value = value_at write p; moment = moment }) l
-    else tellings_of old p) (all-later (tellings_of old p))
+    ∙ ap (λ (l : List Telling). if is_written write p then told_too
+    (record { value = value_at write p; moment = moment }) l else tellings_of old p) (all-later (tellings_of old p))
 
 pub kept-told : {X : Type 0} (b : Bool) (x : X) → x ≡ (if b then x else x)
 kept-told true x = refl
@@ -336,8 +302,7 @@ kept-told false x = refl
 
 -- told here so
 pub seen-here : (p v : ℕ) (items : List Told) (i : ℕ) (d : Told) → i < length items → (get_or items i d).place ≡ p
-    → could_be v (get_or items i d).telling.value ≡ true
-    → told_as v (tellings_at p (drop i items)) ≡ true
+    → could_be v (get_or items i d).telling.value ≡ true → told_as v (tellings_at p (drop i items)) ≡ true
 unfolding tellings_at
 seen-here p v items i d lt same could =
     at_drop_more (λ l. told_as v (tellings_at p l)) items i d lt ∙ rw (eq-eqb _ p same, could) refl

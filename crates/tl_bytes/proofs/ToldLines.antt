@@ -1,18 +1,11 @@
 -- Which beat told a value, searched one by one.
-use Rattle.std.proofs.Common.{◌≡◌, ◌≤◌, ◌<◌, ℕ, Bool, true, false, List, ◌∷◌, ◌+◌, ◌*◌, ◌==◌, length}
-use Rattle.std.proofs.Common.{Some, None, refl, ◌∙◌, ap, drop, get_or}
-use Rattle.std.specs.Prelude.{if◌then◌else◌, Option}
-use Rattle.std.proofs.Math.ListN.{drop_of_length-le}
-use Rattle.std.proofs.lemmas.Bool.{eq-eqb, ne_eqb}
-use Rattle.std.proofs.lemmas.List.{at_drop_more}
-use Rattle.tl_rules.specs.statement.Conformance.{Trace}
-use Rattle.tl_bytes.specs.code.Tellings.{telling_at}
-use Rattle.tl_bytes.specs.declared.block_bytes.BlockBytes.{BlockBytes}
-use Rattle.tl_bytes.specs.declared.telling.Telling.{Telling}
-use Rattle.tl_bytes.specs.declared.telling.Told.{Told}
-use Rattle.tl_bytes.specs.statement.Bytes.{may_be, same_value}
-use Rattle.tl_bytes.specs.statement.Known.{KnowsBlock, tellings_at, tellings_of}
-use Rattle.tl_bytes.specs.statement.Lines.{told_moment}
+use Rattle.tl_bytes.proofs.Imports.{Trace, BlockBytes, Telling, Told, may_be, KnowsBlock, tellings_at, tellings_of}
+use Rattle.std.proofs.Common.{◌≡◌, ◌≤◌, ◌<◌, ℕ, Bool, true, false, List, ◌∷◌, ◌+◌, ◌*◌, ◌==◌, length, Some, None, refl}
+use Rattle.std.proofs.Common.{◌∙◌, ap, drop, get_or}
+use Rattle.std.{specs.Prelude.if◌then◌else◌, specs.Prelude.Option, proofs.Math.ListN.drop_of_length-le}
+use Rattle.std.{proofs.lemmas.Bool.eq-eqb, proofs.lemmas.Bool.ne_eqb, proofs.lemmas.List.at_drop_more}
+use Rattle.tl_bytes.{specs.code.Tellings.telling_at, specs.statement.Bytes.same_value}
+use Rattle.tl_bytes.{specs.statement.Lines.told_moment}
 
 -- this one told it
 pub line-here : (p v : ℕ) (items : List Told) (i : ℕ) (d : Told) → i < length items → (get_or items i d).place ≡ p

@@ -1,14 +1,8 @@
 -- Beats of worked traces, and the first of a trace whose bytes aren't true.
+use Rattle.tl_bytes.{proofs.Imports.Beat, proofs.Imports.Link, proofs.Imports.Trace, specs.statement.Bytes.is_true}
 use Rattle.std.proofs.Common.{ℕ, Bool, refl, true, false, List, [], ◌∷◌, ◌++◌}
 use Rattle.std.specs.Prelude.{if◌then◌else◌, length, replicate, Option, Some, None}
-use Rattle.tl_beat.specs.declared.beat.Beat.{Beat}
-use Rattle.tl_beat.specs.declared.beat.Beat.TheVariants as beat
-use Rattle.tl_beat.specs.declared.beat.Link.{Link}
-use Rattle.tl_beat.specs.declared.opcode.OpA.TheVariants as a
-use Rattle.tl_beat.specs.declared.opcode.OpC.TheVariants as c
-use Rattle.tl_beat.specs.declared.opcode.OpD.TheVariants as d
-use Rattle.tl_rules.specs.statement.Conformance.{Trace}
-use Rattle.tl_bytes.specs.statement.Bytes.{is_true}
+use Rattle.tl_beat.{specs.declared.opcode.OpA.OpA, specs.declared.opcode.OpC.OpC, specs.declared.opcode.OpD.OpD}
 
 -- ---- beats of block 0
 
@@ -19,8 +13,8 @@ eight v = replicate 8 v
 abbrev pub put : {w : ℕ} → ℕ → ℕ → ℕ → List ℕ → ℕ → Link × Beat w
 put link source size bytes mask = (
   record { 0 = link },
-  beat.A (record {
-    opcode = a.PutFullData;
+  Beat.A (record {
+    opcode = OpA.PutFullData;
     param = 0;
     size = size;
     source = source;
@@ -35,8 +29,8 @@ put link source size bytes mask = (
 abbrev pub done : {w : ℕ} → ℕ → ℕ → ℕ → Link × Beat w
 done link source size = (
   record { 0 = link },
-  beat.D (record {
-    opcode = d.AccessAck;
+  Beat.D (record {
+    opcode = OpD.AccessAck;
     param = 0;
     size = size;
     source = source;
@@ -51,8 +45,8 @@ done link source size = (
 abbrev pub get : {w : ℕ} → ℕ → ℕ → ℕ → ℕ → Link × Beat w
 get link source size mask = (
   record { 0 = link },
-  beat.A (record {
-    opcode = a.Get;
+  Beat.A (record {
+    opcode = OpA.Get;
     param = 0;
     size = size;
     source = source;
@@ -67,8 +61,8 @@ get link source size mask = (
 abbrev pub add : {w : ℕ} → ℕ → ℕ → ℕ → List ℕ → ℕ → Link × Beat w
 add link source size bytes mask = (
   record { 0 = link },
-  beat.A (record {
-    opcode = a.ArithmeticData;
+  Beat.A (record {
+    opcode = OpA.ArithmeticData;
     param = 4;
     size = size;
     source = source;
@@ -83,8 +77,8 @@ add link source size bytes mask = (
 abbrev pub found : {w : ℕ} → ℕ → ℕ → ℕ → List ℕ → Link × Beat w
 found link source size bytes = (
   record { 0 = link },
-  beat.D (record {
-    opcode = d.AccessAckData;
+  Beat.D (record {
+    opcode = OpD.AccessAckData;
     param = 0;
     size = size;
     source = source;
@@ -99,8 +93,8 @@ found link source size bytes = (
 abbrev pub acquire : {w : ℕ} → ℕ → ℕ → ℕ → ℕ → Link × Beat w
 acquire link grow source mask = (
   record { 0 = link },
-  beat.A (record {
-    opcode = a.AcquireBlock;
+  Beat.A (record {
+    opcode = OpA.AcquireBlock;
     param = grow;
     size = 6;
     source = source;
@@ -115,8 +109,8 @@ acquire link grow source mask = (
 abbrev pub grant_beat : {w : ℕ} → ℕ → ℕ → ℕ → ℕ → List ℕ → Link × Beat w
 grant_beat link cap source sink bytes = (
   record { 0 = link },
-  beat.D (record {
-    opcode = d.GrantData;
+  Beat.D (record {
+    opcode = OpD.GrantData;
     param = cap;
     size = 6;
     source = source;
@@ -131,8 +125,8 @@ grant_beat link cap source sink bytes = (
 abbrev pub acquire_unread : {w : ℕ} → ℕ → ℕ → ℕ → Link × Beat w
 acquire_unread link source mask = (
   record { 0 = link },
-  beat.A (record {
-    opcode = a.AcquirePerm;
+  Beat.A (record {
+    opcode = OpA.AcquirePerm;
     param = 1;
     size = 6;
     source = source;
@@ -147,8 +141,8 @@ acquire_unread link source mask = (
 abbrev pub grant_unread : {w : ℕ} → ℕ → ℕ → ℕ → Link × Beat w
 grant_unread link source sink = (
   record { 0 = link },
-  beat.D (record {
-    opcode = d.Grant;
+  Beat.D (record {
+    opcode = OpD.Grant;
     param = 0;
     size = 6;
     source = source;
@@ -161,13 +155,13 @@ grant_unread link source sink = (
 )
 
 abbrev pub grant_ack : {w : ℕ} → ℕ → ℕ → Link × Beat w
-grant_ack link sink = (record { 0 = link }, beat.E (record { sink = sink }))
+grant_ack link sink = (record { 0 = link }, Beat.E (record { sink = sink }))
 
 abbrev pub release_beat : {w : ℕ} → ℕ → ℕ → List ℕ → Link × Beat w
 release_beat link source bytes = (
   record { 0 = link },
-  beat.C (record {
-    opcode = c.ReleaseData;
+  Beat.C (record {
+    opcode = OpC.ReleaseData;
     param = 1;
     size = 6;
     source = source;
@@ -181,8 +175,8 @@ release_beat link source bytes = (
 abbrev pub part : {w : ℕ} → ℕ → ℕ → ℕ → List ℕ → ℕ → Link × Beat w
 part link source size bytes mask = (
   record { 0 = link },
-  beat.A (record {
-    opcode = a.PutPartialData;
+  Beat.A (record {
+    opcode = OpA.PutPartialData;
     param = 0;
     size = size;
     source = source;
@@ -196,8 +190,8 @@ part link source size bytes mask = (
 
 -- the beat with corrupt data
 abbrev pub spoilt : {w : ℕ} → Link × Beat w → Link × Beat w
-spoilt (link, beat.C x) = (link, beat.C (record x { corrupt = true }))
-spoilt (link, beat.D x) = (link, beat.D (record x { corrupt = true }))
+spoilt (link, Beat.C x) = (link, Beat.C (record x { corrupt = true }))
+spoilt (link, Beat.D x) = (link, Beat.D (record x { corrupt = true }))
 spoilt x = x
 
 -- this beat four times: a whole block at 16 bytes a beat
@@ -215,7 +209,7 @@ given_back rest =
 -- ---- the first response whose bytes aren't true
 
 abbrev pub is_fine : {w : ℕ} → ℕ → Link × Beat w → Trace w → Bool
-is_fine n (link, beat.D y) t = is_true y.opcode n link.0 y t
+is_fine n (link, Beat.D y) t = is_true y.opcode n link.0 y t
 is_fine n (link, _) t = true
 
 -- the place of the first beat whose bytes aren't true after those before it

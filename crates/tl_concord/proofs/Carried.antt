@@ -1,24 +1,18 @@
 -- The bytes that the first beats of a message carry are those of its payload.
-use Rattle.std.proofs.Common.{◌≡◌, ℕ, zero, suc, Bool, true, false, ◌+◌, ◌-◌}
-use Rattle.std.proofs.Common.{◌*◌, ◌/◌, ◌%◌, List, [], ◌∷◌, refl, sym, ap}
-use Rattle.std.proofs.Common.{◌∙◌}
+use Rattle.tl_concord.proofs.Imports.{Message, beat_of, begun, carried_byte, could_be}
+use Rattle.std.proofs.Common.{◌≡◌, ℕ, zero, suc, Bool, true, false, ◌+◌, ◌-◌, ◌*◌, ◌/◌, ◌%◌, List, [], ◌∷◌, refl, sym}
+use Rattle.std.proofs.Common.{ap, ◌∙◌}
 use Rattle.std.specs.Prelude.{if◌then◌else◌, ◌==◌, drop, take, Option, Some, None, slice_get, slice_index, unwrap_or}
-use Rattle.std.proofs.lemmas.Bool.{eqb-true, eq-eqb}
-use Rattle.std.proofs.lemmas.List.{get_or-drop}
-use Rattle.std.proofs.lemmas.Option.{unwrap_or-slice_get}
-use Rattle.std.proofs.Math.Nat.{div-add-mod}
-use Rattle.tl_burst.specs.declared.message.Message.{Message}
-use Rattle.tl_burst.specs.statement.Burst.{beat_of, begun, lanes_at}
-use Rattle.tl_burst.proofs.Begun.{length-begun}
+use Rattle.std.{proofs.lemmas.Bool.eqb-true, proofs.lemmas.Bool.eq-eqb, proofs.lemmas.List.get_or-drop}
+use Rattle.std.{proofs.lemmas.Option.unwrap_or-slice_get, proofs.Math.Nat.div-add-mod}
+use Rattle.tl_burst.{specs.statement.Burst.lanes_at, proofs.Begun.length-begun}
 use Rattle.tl_rules.specs.statement.Admission.{is_spoiled, lanes_of}
-use Rattle.tl_bytes.specs.statement.Bytes.{carried_byte, could_be}
 
 -- what is among the first is the same in all
 among-first : (n : ℕ) (xs : List ℕ) (i v : ℕ) → slice_get (take n xs) i ≡ Some v → slice_get xs i ≡ Some v
-among-first zero xs i v e = absurd cc
-among-first (suc n) [] i v e = absurd cc
 among-first (suc n) (x ∷ xs) zero v e = e
 among-first (suc n) (x ∷ xs) (suc i) v e = among-first n xs i v e
+among-first u y i v e = absurd cc
 
 lane-is : (xs : List ℕ) (n a i v : ℕ) → slice_get (take n (drop a xs)) i ≡ Some v → slice_index xs (a + i) ≡ v
 lane-is xs n a i v e = sym (get_or-drop a xs i 0) ∙ sym (unwrap_or-slice_get (drop a xs) i 0)
@@ -45,14 +39,12 @@ carried-begun {w} m b payload lanes (suc n) place =
             → could_be (slice_index payload place) o ≡ true
         lane None f = refl
         lane (Some v) f = eq-eqb v (slice_index payload place)
-            (sym (lane-is payload (w * n + w - w * n) (w * n) (place % w) v f)
-            ∙ ap (slice_index payload) whole)
+            (sym (lane-is payload (w * n + w - w * n) (w * n) (place % w) v f) ∙ ap (slice_index payload) whole)
 
-    go : (here : Bool) → (place / w == n) ≡ here
-        → could_be (slice_index payload place) (carried_byte (begun m n) place) ≡ true
-        → could_be (slice_index payload place)
-        (if here then (if is_spoiled (beat_of m n) then None else slice_get (lanes_of (beat_of m n)) (place % w))
-        else carried_byte (begun m n) place) ≡ true
+    go : (here : Bool) → (place / w == n) ≡ here → could_be (slice_index payload place) (carried_byte (begun m n) place)
+        ≡ true → could_be (slice_index payload place)
+        (if here then (if is_spoiled (beat_of m n) then None else slice_get (lanes_of (beat_of m n)) (place % w)) else
+        carried_byte (begun m n) place) ≡ true
     go false e before = before
     go true e before = rw (lanes n) (spoiled (is_spoiled (beat_of m n)))
       where

@@ -1,27 +1,14 @@
 -- The request that a Grant answers is the Acquire that the client has open.
+use Rattle.tl_concord.proofs.Imports.{Beat, unfinished, Config, asks_for, request_of, Block, SourceState, AbstractState}
+use Rattle.tl_concord.proofs.Imports.{MonitorRelations, flow, IsGiven, Log, system_after, flowed, IsGrantDue, own_view}
 use Rattle.std.proofs.Common.{◌≡◌, ℕ, true, not, List, refl, sym, ◌∙◌, ap}
-use Rattle.std.specs.Prelude.{◌==◌}
-use Rattle.std.proofs.lemmas.Bool.{eqb-true}
-use Rattle.tl_beat.specs.declared.beat.Beat.{Beat}
-use Rattle.tl_beat.specs.declared.channel.Channel.TheVariants as channel
-use Rattle.tl_burst.specs.statement.Messages.{unfinished}
-use Rattle.tl_params.specs.declared.config.Config.{Config}
-use Rattle.tl_rules.specs.statement.History.{asks_for, request_of}
+use Rattle.std.{specs.Prelude.◌==◌, proofs.lemmas.Bool.eqb-true}
+use Rattle.tl_beat.specs.declared.channel.Channel.{Channel}
 use Rattle.tl_client.proofs.endpoint.HeldAfter.{same_block}
-use Rattle.tl_coherence.specs.protocol.Phase.{View}
-use Rattle.tl_coherence.specs.protocol.Protocol.{Block, SourceState}
-use Rattle.tl_coherence.specs.protocol.Tokens.{is_unserved}
-use Rattle.tl_coherence.specs.refinement.AbstractStep.{AbstractState}
-use Rattle.tl_coherence.specs.refinement.MonitorRelation.{is_requested}
-use Rattle.tl_coherence.specs.refinement.SimulationRelation.{MonitorRelations, asked_by}
-use Rattle.tl_coherence.specs.statement.Delivery.{receiver}
-use Rattle.tl_coherence.specs.statement.Flow.{flow}
-use Rattle.tl_coherence.specs.statement.Headline.{IsGiven}
-use Rattle.tl_coherence.specs.statement.Log.{Log, system_after}
-use Rattle.tl_coherence.proofs.client.ClientEnd.{asks-acquire}
-use Rattle.tl_coherence.proofs.deliveries.Matching.{shadow}
-use Rattle.tl_coherence.proofs.flow.Flows.{flowed}
-use Rattle.tl_coherence.proofs.protocol.HeadOfD.{IsGrantDue, own_view}
+use Rattle.tl_coherence.specs.{protocol.Phase.View, protocol.Tokens.is_unserved}
+use Rattle.tl_coherence.specs.{refinement.MonitorRelation.is_requested, refinement.SimulationRelation.asked_by}
+use Rattle.tl_coherence.specs.{statement.Delivery.receiver}
+use Rattle.tl_coherence.proofs.{client.ClientEnd.asks-acquire, deliveries.Matching.shadow}
 
 module _ {w : ℕ} (config : Config) (log : Log w) (given : IsGiven config log) (c n : ℕ)
     (due : IsGrantDue c n (shadow config log).state) (source : ℕ)
@@ -40,7 +27,7 @@ module _ {w : ℕ} (config : Config) (log : Log w) (given : IsGiven config log) 
       ∙ ap (asked_by h.mail h.state c) from
     where
       rest_now : List (Beat w)
-      rest_now = unfinished channel.A (receiver channel.A c (system_after config log))
+      rest_now = unfinished Channel.A (receiver Channel.A c (system_after config log))
 
       requested : is_requested c source rest_now (h.state.uses c source) h.state ≡ true
       requested = ap (λ (u : SourceState). is_requested c source rest_now u h.state)
@@ -52,7 +39,5 @@ module _ {w : ℕ} (config : Config) (log : Log w) (given : IsGiven config log) 
   grant-block block asks = eqb-true n block (sym of_block ∙ asks)
     where
       of_block : asks_for block (request_of source (flow c log)) ≡ (n == block)
-      of_block = ap (asks_for block)
-          (grant-asked ∙ asks-acquire c (b.source c) n (b.source c) due.whole due.g h.mail h.state due.used due.wants
-          refl)
-          ∙ ap (λ (j : ℕ). j == block) (same_block n)
+      of_block = ap (asks_for block) (grant-asked ∙ asks-acquire c (b.source c) n (b.source c) due.whole due.g h.mail
+          h.state due.used due.wants refl) ∙ ap (λ (j : ℕ). j == block) (same_block n)

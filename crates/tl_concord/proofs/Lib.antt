@@ -9,3 +9,4 @@ pub mod Responses
 pub mod Told
 pub mod WholeStores
 pub mod WritesBeside
+pub mod Imports

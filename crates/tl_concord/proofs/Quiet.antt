@@ -1,39 +1,25 @@
 -- No response of a world begins that breaks M1 or M4.
-use Rattle.std.proofs.Common.{◌≡◌, ℕ, zero, suc, Bool, true, false, not, ◌&&◌, ◌||◌, List, [], ◌∷◌, length, refl, sym, ◌∙◌}
-use Rattle.std.proofs.Common.{ap, inl, inr}
+use Rattle.tl_concord.proofs.Imports.{Beat, BeatA, BeatD, OpD, History, unfinished, Perm, on_link, asks_for, block_at}
+use Rattle.tl_concord.proofs.Imports.{grants, held, request_of, is_free, leaves, is_access_answer, trace_of, Log}
+use Rattle.tl_concord.proofs.Imports.{and_left, and_right}
+use Rattle.std.proofs.Common.{◌≡◌, ℕ, zero, suc, Bool, true, false, not, ◌&&◌, ◌||◌, List, [], ◌∷◌, length, refl, sym}
+use Rattle.std.proofs.Common.{◌∙◌, ap, inl, inr}
 use Rattle.std.specs.Prelude.{if◌then◌else◌, Option, Some, None, unwrap_or, ◌==◌}
 use Rattle.std.proofs.lemmas.Bool.{and_from, cases_eq, eq-eqb}
-use Rattle.tl_beat.specs.declared.beat.Beat.{Beat}
-use Rattle.tl_beat.specs.declared.beat.Beat.TheVariants as beat
-use Rattle.tl_beat.specs.declared.beat.BeatA.{BeatA}
-use Rattle.tl_beat.specs.declared.beat.BeatD.{BeatD}
-use Rattle.tl_beat.specs.declared.channel.Channel.TheVariants as channel
-use Rattle.tl_beat.specs.declared.opcode.OpA.{OpA}
-use Rattle.tl_beat.specs.declared.opcode.OpD.{OpD}
-use Rattle.tl_beat.specs.declared.opcode.OpD.TheVariants as d
-use Rattle.tl_burst.specs.statement.Messages.{History, unfinished}
+use Rattle.tl_beat.{specs.declared.channel.Channel.Channel, specs.declared.opcode.OpA.OpA}
 use Rattle.tl_params.specs.declared.key.Key.TheVariants.{RequestSource}
-use Rattle.tl_params.specs.declared.perm.Perm.{Perm}
-use Rattle.tl_rules.specs.code.Open.{open_request, request_fields}
-use Rattle.tl_rules.specs.declared.past.Request.{Request}
-use Rattle.tl_rules.specs.statement.Conformance.{Trace, on_link, comes_in_request}
-use Rattle.tl_rules.specs.statement.History.{asks_for, begins, block_at, capped, grants, held, is_grant, pending}
-use Rattle.tl_rules.specs.statement.History.{request_of}
-use Rattle.tl_rules.specs.statement.Windows.{has_window, is_free, leaves, needs}
+use Rattle.tl_rules.{specs.code.Open.open_request, specs.code.Open.request_fields, specs.declared.past.Request.Request}
+use Rattle.tl_rules.{specs.statement.Windows.has_window, specs.statement.Windows.needs}
+use Rattle.tl_rules.specs.statement.Conformance.{Trace, comes_in_request}
+use Rattle.tl_rules.specs.statement.History.{begins, capped, is_grant, pending}
 use Rattle.tl_monitor.specs.statement.Granting.{coming, given_by, granted}
-use Rattle.tl_manager.specs.statement.Service.{is_access_answer}
 use Rattle.tl_coherence.specs.declared.event.Event.TheVariants.{Ask, Deliver}
-use Rattle.tl_coherence.specs.declared.event.Outcome.TheVariants as outcome
-use Rattle.tl_coherence.specs.statement.AnsweredInTime.{IsAnsweredInTime}
-use Rattle.tl_coherence.specs.statement.Flow.{EachTaken, trace_of}
-use Rattle.tl_coherence.specs.statement.Log.{Log}
-use Rattle.tl_coherence.specs.statement.OneWriter.{IsGivenAlone}
-use Rattle.tl_coherence.proofs.flow.GivenAlone.{apart}
-use Rattle.tl_coherence.proofs.flow.Windowed.{in_time}
-use Rattle.tl_coherence.proofs.queues.Phases.{and_left, and_right}
+use Rattle.tl_coherence.specs.{declared.event.Outcome.Outcome, statement.AnsweredInTime.IsAnsweredInTime}
+use Rattle.tl_coherence.specs.{statement.Flow.EachTaken, statement.OneWriter.IsGivenAlone}
+use Rattle.tl_coherence.proofs.{flow.GivenAlone.apart, flow.Windowed.in_time}
 use Rattle.tl_together.specs.declared.breach.MemoryRule.TheVariants.{M1, M4}
-use Rattle.tl_together.specs.statement.Coherence.{broken_access, broken_grant, broken_response}
-use Rattle.tl_together.specs.statement.Coherence.{is_access_ack, is_grantable, is_performed}
+use Rattle.tl_together.specs.statement.Coherence.{broken_access, broken_grant, broken_response, is_access_ack}
+use Rattle.tl_together.specs.statement.Coherence.{is_grantable, is_performed}
 use Rattle.tl_concord.proofs.Responses.{responses}
 use Rattle.tl_concord.specs.statement.Beginnings.{Beginnings, BeginsUnbroken}
 use Rattle.tl_concord.specs.statement.Responses.{IsResponse, IsRightBeat}
@@ -53,16 +39,12 @@ opened true None r e = absurd cc
 opened false o r e = absurd cc
 
 answers-too : (o : OpD) → is_access_ack o ≡ true → is_access_answer o ≡ true
-answers-too d.AccessAck e = refl
-answers-too d.AccessAckData e = refl
-answers-too d.HintAck e = absurd cc
-answers-too d.Grant e = absurd cc
-answers-too d.GrantData e = absurd cc
-answers-too d.ReleaseAck e = absurd cc
+answers-too OpD.AccessAck e = refl
+answers-too OpD.AccessAckData e = refl
+answers-too v e = absurd cc
 
 -- where nobody holds what conflicts, and nobody else is being granted the block, it may be granted
-grantable : {w : ℕ} (n link : ℕ) (given : Perm) (block : ℕ) (t : Trace w)
-    → is_free n (Some link) given block t ≡ true
+grantable : {w : ℕ} (n link : ℕ) (given : Perm) (block : ℕ) (t : Trace w) → is_free n (Some link) given block t ≡ true
     → ((other : ℕ) → (other ≡ link → ⊥) → coming block (on_link other t) ≡ None)
     → is_grantable n link given block t ≡ true
 unfolding is_free is_grantable
@@ -78,29 +60,25 @@ grantable {w} (suc n) link given block t free none =
 
 -- what is being granted of a block that no unfinished Grant is of
 nothing-coming : {w : ℕ} (block : ℕ) (past : History w) (beats : List (Beat w))
-    → ((x : BeatD w) (older : List (Beat w)) → beats ≡ beat.D x ∷ older → grants block x past ≡ false)
+    → ((x : BeatD w) (older : List (Beat w)) → beats ≡ Beat.D x ∷ older → grants block x past ≡ false)
     → given_by block beats past ≡ None
-nothing-coming block past [] off = refl
-nothing-coming block past (beat.D x ∷ older) off = rw (off x older refl) refl
-nothing-coming block past (beat.A x ∷ older) off = refl
-nothing-coming block past (beat.B x ∷ older) off = refl
-nothing-coming block past (beat.C x ∷ older) off = refl
-nothing-coming block past (beat.E x ∷ older) off = refl
+nothing-coming block past (Beat.D x ∷ older) off = rw (off x older refl) refl
+nothing-coming block past v off = refl
 
-module _ {w : ℕ} (n link : ℕ) (y : BeatD w) (t : Trace w) (begun : begins (beat.D y) (on_link link t) ≡ true) where
+module _ {w : ℕ} (n link : ℕ) (y : BeatD w) (t : Trace w) (begun : begins (Beat.D y) (on_link link t) ≡ true) where
   abbrev past : History w
   past = on_link link t
 
   abbrev is_open : Bool
-  is_open = pending (RequestSource y.source) past && not (comes_in_request y.source (unfinished channel.A past))
+  is_open = pending (RequestSource y.source) past && not (comes_in_request y.source (unfinished Channel.A past))
 
-  grant-quiet : IsGivenAlone link (beat.D y) t → IsResponse link y t → is_grant y.opcode ≡ true
+  grant-quiet : IsGivenAlone link (Beat.D y) t → IsResponse link y t → is_grant y.opcode ≡ true
       → (o : Option Request) → open_request y.source past ≡ o → broken_grant n link y o t ≡ None
   grant-quiet alone response grant None e = refl
   grant-quiet alone response grant (Some r) e =
       ap (λ (b : Bool). if b then None else Some M1)
       (grantable n link (capped y.param) r.block t (alone n r.block begun of_block)
-      (λ other apart. nothing-coming r.block (on_link other t) (unfinished channel.D (on_link other t))
+      (λ other apart. nothing-coming r.block (on_link other t) (unfinished Channel.D (on_link other t))
       (λ x older e. not_true (grants r.block x (on_link other t))
       (λ of_other. apart (response.alone r.block of_block other x older e of_other)))))
     where
@@ -120,7 +98,7 @@ module _ {w : ℕ} (n link : ℕ) (y : BeatD w) (t : Trace w) (begun : begins (b
       → has_window n link y.source (needs o) block t ≡ true
   same-window o i block k e f windowed = rw (e, f) windowed
 
-  access-quiet : IsAnsweredInTime link (beat.D y) t → is_access_ack y.opcode ≡ true
+  access-quiet : IsAnsweredInTime link (Beat.D y) t → is_access_ack y.opcode ≡ true
       → (o : Option Request) → open_request y.source past ≡ o → broken_access n link y o t ≡ None
   access-quiet timely ack None e = refl
   access-quiet timely ack (Some r) e = ap (λ (b : Bool). if b then None else Some M4) windowed
@@ -133,7 +111,7 @@ module _ {w : ℕ} (n link : ℕ) (y : BeatD w) (t : Trace w) (begun : begins (b
       windowed = same-window r.opcode request.0.opcode r.block (block_at request.0.address) request.2 request.3
           (timely n request.0 begun (answers-too y.opcode ack) request.1)
 
-  response-quiet : IsGivenAlone link (beat.D y) t → IsAnsweredInTime link (beat.D y) t → IsResponse link y t
+  response-quiet : IsGivenAlone link (Beat.D y) t → IsAnsweredInTime link (Beat.D y) t → IsResponse link y t
       → broken_response n link y t ≡ None
   response-quiet alone timely response = go (is_grant y.opcode) refl (is_performed y) refl
     where
@@ -149,15 +127,15 @@ module _ {w : ℕ} (n link : ℕ) (y : BeatD w) (t : Trace w) (begun : begins (b
 
 begins-quiet : {w : ℕ} (n link : ℕ) (x : Beat w) (t : Trace w) → IsGivenAlone link x t → IsAnsweredInTime link x t
     → IsRightBeat link x t → BeginsUnbroken n link x t
-begins-quiet n link (beat.D y) t alone timely right = go (begins (beat.D y) (on_link link t)) refl
+begins-quiet n link (Beat.D y) t alone timely right = go (begins (Beat.D y) (on_link link t)) refl
   where
-    go : (b : Bool) → begins (beat.D y) (on_link link t) ≡ b → (if b then broken_response n link y t else None) ≡ None
+    go : (b : Bool) → begins (Beat.D y) (on_link link t) ≡ b → (if b then broken_response n link y t else None) ≡ None
     go true begun = response-quiet n link y t begun alone timely right
     go false e = refl
-begins-quiet n link (beat.A y) t alone timely right = tt
-begins-quiet n link (beat.B y) t alone timely right = tt
-begins-quiet n link (beat.C y) t alone timely right = tt
-begins-quiet n link (beat.E y) t alone timely right = tt
+begins-quiet n link (Beat.A y) t alone timely right = tt
+begins-quiet n link (Beat.B y) t alone timely right = tt
+begins-quiet n link (Beat.C y) t alone timely right = tt
+begins-quiet n link (Beat.E y) t alone timely right = tt
 
 log-quiet : {w : ℕ} (n : ℕ) (log : Log w) → EachTaken (λ earlier link x. IsGivenAlone link x (trace_of earlier)) log
     → EachTaken (λ earlier link x. IsAnsweredInTime link x (trace_of earlier)) log
@@ -166,18 +144,21 @@ log-quiet : {w : ℕ} (n : ℕ) (log : Log w) → EachTaken (λ earlier link x. 
 unfolding EachTaken
 log-quiet n [] alone timely right = tt
 log-quiet n ((Ask c op, o) ∷ log) alone timely right = (tt, log-quiet n log alone.1 timely.1 right.1)
-log-quiet n ((Deliver link ch, outcome.Moved x) ∷ log) alone timely right = (
+log-quiet n ((Deliver link ch, Outcome.Moved x) ∷ log) alone timely right = (
   begins-quiet n link.0 x (trace_of log) alone.0 timely.0 right.0,
   log-quiet n log alone.1 timely.1 right.1,
 )
-log-quiet n ((Deliver link ch, outcome.Done x source f) ∷ log) alone timely right = (
+log-quiet n ((Deliver link ch, Outcome.Done x source f) ∷ log) alone timely right = (
   begins-quiet n link.0 x (trace_of log) alone.0 timely.0 right.0,
   log-quiet n log alone.1 timely.1 right.1,
 )
-log-quiet n ((Deliver link ch, outcome.Replied r) ∷ log) alone timely right = (tt, log-quiet n log alone.1 timely.1 right.1)
-log-quiet n ((Deliver link ch, outcome.Empty) ∷ log) alone timely right = (tt, log-quiet n log alone.1 timely.1 right.1)
-log-quiet n ((Deliver link ch, outcome.Stalled) ∷ log) alone timely right = (tt, log-quiet n log alone.1 timely.1 right.1)
-log-quiet n ((Deliver link ch, outcome.NoSuchClient) ∷ log) alone timely right = (tt, log-quiet n log alone.1 timely.1 right.1)
+log-quiet n ((Deliver link ch, Outcome.Replied r) ∷ log) alone timely right =
+    (tt, log-quiet n log alone.1 timely.1 right.1)
+log-quiet n ((Deliver link ch, Outcome.Empty) ∷ log) alone timely right = (tt, log-quiet n log alone.1 timely.1 right.1)
+log-quiet n ((Deliver link ch, Outcome.Stalled) ∷ log) alone timely right =
+    (tt, log-quiet n log alone.1 timely.1 right.1)
+log-quiet n ((Deliver link ch, Outcome.NoSuchClient) ∷ log) alone timely right =
+    (tt, log-quiet n log alone.1 timely.1 right.1)
 
 pub begins_unbroken : {w : ℕ} → Beginnings w
 begins_unbroken config log given =

@@ -1,29 +1,16 @@
 -- Each beat that is delivered tells of the one memory.
-use Rattle.std.proofs.Common.{◌≡◌, ℕ, zero, suc, Bool, true, false, not, ◌%◌, ◌<◌, List, ◌∷◌}
-use Rattle.std.proofs.Common.{Some, None, refl, sym, ◌∙◌, ap, subst, arith}
+use Rattle.tl_concord.proofs.Imports.{Beat, History, channel_of, unfinished, Config, Perm, on_link, same_perm, Memory}
+use Rattle.tl_concord.proofs.Imports.{block_at, ends, held, says_held, is_free, leaves, carried_byte, could_be, tells}
+use Rattle.tl_concord.proofs.Imports.{flow, trace_of, IsGiven, Log, system_after, one_memory_after, each-taken}
+use Rattle.tl_concord.proofs.Imports.{trace-flows}
+use Rattle.std.proofs.Common.{◌≡◌, ℕ, zero, suc, Bool, true, false, not, ◌%◌, ◌<◌, List, ◌∷◌, Some, None, refl, sym}
+use Rattle.std.proofs.Common.{◌∙◌, ap, subst, arith}
 use Rattle.std.specs.Prelude.{if◌then◌else◌, ◌==◌, Option, unwrap_or}
 use Rattle.std.proofs.lemmas.Bool.{and_from, and_parts, eqb-true}
 use Rattle.std.proofs.Math.Nat.{div-add-mod}
-use Rattle.tl_beat.specs.declared.beat.Beat.{Beat}
-use Rattle.tl_beat.specs.declared.beat.Beat.TheVariants as beat
-use Rattle.tl_burst.specs.statement.Messages.{History, channel_of, unfinished}
-use Rattle.tl_params.specs.declared.config.Config.{Config}
-use Rattle.tl_params.specs.declared.perm.Perm.{Perm}
-use Rattle.tl_params.specs.declared.perm.Perm.TheVariants as perm
-use Rattle.tl_rules.specs.statement.Conformance.{Trace, on_link, same_perm}
-use Rattle.tl_rules.specs.statement.Effect.{Memory}
-use Rattle.tl_rules.specs.statement.History.{block_at, ends, held, says_held}
-use Rattle.tl_rules.specs.statement.Windows.{is_free, leaves}
-use Rattle.tl_bytes.specs.statement.Bytes.{carried_byte, could_be, tells}
-use Rattle.tl_coherence.specs.statement.Flow.{flow, trace_of}
-use Rattle.tl_coherence.specs.statement.Headline.{IsGiven}
-use Rattle.tl_coherence.specs.statement.Log.{Log, system_after}
-use Rattle.tl_coherence.specs.statement.OneMemory.{one_memory_after}
-use Rattle.tl_coherence.proofs.flow.FlowTaken.{each-taken}
-use Rattle.tl_coherence.proofs.flow.FlowTraces.{trace-flows}
-use Rattle.tl_concord.proofs.GrantTold.{grant-told}
-use Rattle.tl_concord.proofs.ReportTold.{IsToldBy, report-told}
-use Rattle.tl_concord.specs.statement.Told.{IsToldOf, TellsOfMemory}
+use Rattle.tl_rules.specs.statement.Conformance.{Trace}
+use Rattle.tl_concord.{proofs.GrantTold.grant-told, proofs.ReportTold.IsToldBy, proofs.ReportTold.report-told}
+use Rattle.tl_concord.{specs.statement.Told.IsToldOf, specs.statement.Told.TellsOfMemory}
 
 -- ---- a block that is free stays free
 
@@ -47,10 +34,9 @@ module _ {w : ℕ} (memory : Memory) (link block : ℕ) (x : Beat w) (t : Trace 
   abbrev after : Trace w
   after = (record { 0 = link }, x) ∷ t
 
-  none_is : (p : Perm) → same_perm p perm.None ≡ true → p ≡ perm.None
-  none_is perm.None e = refl
-  none_is perm.Branch e = absurd cc
-  none_is perm.Trunk e = absurd cc
+  none_is : (p : Perm) → same_perm p Perm.None ≡ true → p ≡ Perm.None
+  none_is Perm.None e = refl
+  none_is v e = absurd cc
 
   -- what the link holds afterwards
   held_after : (P : Perm → Type 0) → P (held block past)
@@ -61,47 +47,45 @@ module _ {w : ℕ} (memory : Memory) (link block : ℕ) (x : Beat w) (t : Trace 
       go : (b : Bool) → ends x past ≡ b → (o : Option Perm) → says_held block x past ≡ o
           → P (if b then unwrap_or o (held block past) else held block past)
       go true e (Some p) f = said p e f
-      go true e None f = same
-      go false e o f = same
+      go v e u f = same
 
   -- nothing held stays nothing
-  still_none : (other : ℕ) → leaves perm.Trunk (held block (on_link other t)) ≡ true
-      → leaves perm.Trunk (held block (on_link other after)) ≡ true
+  still_none : (other : ℕ) → leaves Perm.Trunk (held block (on_link other t)) ≡ true
+      → leaves Perm.Trunk (held block (on_link other after)) ≡ true
   unfolding on_link held
   still_none other e = go (link == other) refl
     where
-      own : held block past ≡ perm.None → same_perm (if ends x past
-          then unwrap_or (says_held block x past) (held block past) else held block past) perm.None ≡ true
-      own none = held_after (λ p. same_perm p perm.None ≡ true) (ap (λ (p : Perm). same_perm p perm.None) none)
-          (λ p last said. ap (λ (q : Perm). same_perm q perm.None) ((is.untold p last said untold).0 none))
+      own : held block past ≡ Perm.None → same_perm (if ends x past
+          then unwrap_or (says_held block x past) (held block past) else held block past) Perm.None ≡ true
+      own none = held_after (λ p. same_perm p Perm.None ≡ true) (ap (λ (p : Perm). same_perm p Perm.None) none)
+          (λ p last said. ap (λ (q : Perm). same_perm q Perm.None) ((is.untold p last said untold).0 none))
 
       go : (b : Bool) → (link == other) ≡ b
-          → same_perm (held block (if b then x ∷ on_link other t else on_link other t)) perm.None ≡ true
+          → same_perm (held block (if b then x ∷ on_link other t else on_link other t)) Perm.None ≡ true
       go false f = e
       go true f = let same : link ≡ other = eqb-true link other f in
-          subst (λ (k : ℕ). same_perm (held block (x ∷ on_link k t)) perm.None ≡ true) same
+          subst (λ (k : ℕ). same_perm (held block (x ∷ on_link k t)) Perm.None ≡ true) same
           (own (none_is (held block past)
-          (subst (λ (k : ℕ). same_perm (held block (on_link k t)) perm.None ≡ true) (sym same) e)))
+          (subst (λ (k : ℕ). same_perm (held block (on_link k t)) Perm.None ≡ true) (sym same) e)))
 
   -- and what isn't Trunk wasn't
-  wasnt_trunk : (other : ℕ) → leaves perm.Branch (held block (on_link other after)) ≡ true
-      → leaves perm.Branch (held block (on_link other t)) ≡ true
+  wasnt_trunk : (other : ℕ) → leaves Perm.Branch (held block (on_link other after)) ≡ true
+      → leaves Perm.Branch (held block (on_link other t)) ≡ true
   unfolding on_link held
   wasnt_trunk other = go (link == other) refl
     where
-      own : (not (same_perm (if ends x past
-          then unwrap_or (says_held block x past) (held block past) else held block past) perm.Trunk) ≡ true)
-          → not (same_perm (held block past) perm.Trunk) ≡ true
-      own = held_after (λ p. not (same_perm p perm.Trunk) ≡ true → not (same_perm (held block past) perm.Trunk) ≡ true)
+      own : (not (same_perm (if ends x past then unwrap_or (says_held block x past) (held block past) else held block
+          past) Perm.Trunk) ≡ true) → not (same_perm (held block past) Perm.Trunk) ≡ true
+      own = held_after (λ p. not (same_perm p Perm.Trunk) ≡ true → not (same_perm (held block past) Perm.Trunk) ≡ true)
           (λ e. e) (λ p last said e. ap not (is.untold p last said untold).1)
 
       go : (b : Bool) → (link == other) ≡ b
-          → not (same_perm (held block (if b then x ∷ on_link other t else on_link other t)) perm.Trunk) ≡ true
-          → not (same_perm (held block (on_link other t)) perm.Trunk) ≡ true
+          → not (same_perm (held block (if b then x ∷ on_link other t else on_link other t)) Perm.Trunk) ≡ true
+          → not (same_perm (held block (on_link other t)) Perm.Trunk) ≡ true
       go false f e = e
       go true f e = let same : link ≡ other = eqb-true link other f in
-          subst (λ (k : ℕ). not (same_perm (held block (on_link k t)) perm.Trunk) ≡ true) same
-          (own (subst (λ (k : ℕ). not (same_perm (held block (x ∷ on_link k t)) perm.Trunk) ≡ true) (sym same) e))
+          subst (λ (k : ℕ). not (same_perm (held block (on_link k t)) Perm.Trunk) ≡ true) same
+          (own (subst (λ (k : ℕ). not (same_perm (held block (x ∷ on_link k t)) Perm.Trunk) ≡ true) (sym same) e))
 
 -- ---- each beat that is next
 
@@ -113,13 +97,12 @@ told-of : {w : ℕ} (memory : Memory) (link : ℕ) (x : Beat w) (t : Trace w)
 told-of {w} memory link x t is = record {
   told = λ address e. subst
       (λ (i : ℕ). could_be (memory i) (carried_byte (x ∷ unfinished (channel_of x) (on_link link t)) (address % 64))
-      ≡ true)
-      (div-add-mod address 64) ((is (block_at address)).told e (address % 64) (in-block address));
+      ≡ true) (div-add-mod address 64) ((is (block_at address)).told e (address % 64) (in-block address));
   got_told = λ n block free closed. always (tells block x (on_link link t)) (λ untold.
-      let no : false ≡ true = sym closed ∙ free-kept n perm.Trunk block t ((record { 0 = link }, x) ∷ t)
+      let no : false ≡ true = sym closed ∙ free-kept n Perm.Trunk block t ((record { 0 = link }, x) ∷ t)
       (still_none memory link block x t (is block) untold) free in cc);
   given_up_told = λ n block held free. always (tells block x (on_link link t)) (λ untold.
-      let no : false ≡ true = sym held ∙ free-kept n perm.Branch block ((record { 0 = link }, x) ∷ t) t
+      let no : false ≡ true = sym held ∙ free-kept n Perm.Branch block ((record { 0 = link }, x) ∷ t) t
       (wasnt_trunk memory link block x t (is block) untold) free in cc);
 }
   where
@@ -136,11 +119,9 @@ told-moved {w} config log given c x queue beats = told-of (one_memory_after conf
   where
     by : (x : Beat w) → (system_after config log).channels c (channel_of x) ≡ x ∷ queue → (block : ℕ)
         → IsToldBy (one_memory_after config log).memory block x (flow c log)
-    by (beat.C y) beats block = report-told config log given c y queue beats block
-    by (beat.D y) beats block = grant-told config log given c y queue beats block
-    by (beat.A y) beats block = record { told = λ e. absurd cc; untold = λ p last said e. absurd cc }
-    by (beat.B y) beats block = record { told = λ e. absurd cc; untold = λ p last said e. absurd cc }
-    by (beat.E y) beats block = record { told = λ e. absurd cc; untold = λ p last said e. absurd cc }
+    by (Beat.C y) beats block = report-told config log given c y queue beats block
+    by (Beat.D y) beats block = grant-told config log given c y queue beats block
+    by v beats block = record { told = λ e. absurd cc; untold = λ p last said e. absurd cc }
 
 pub tells_of_memory : {w : ℕ} → TellsOfMemory w
 tells_of_memory config log given =

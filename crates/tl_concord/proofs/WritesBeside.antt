@@ -1,32 +1,17 @@
 -- An access that writes is performed while no Grant of its block is on its way.
+use Rattle.tl_concord.proofs.Imports.{History, unfinished, Perm, same_perm, block_at, grants, leaves, sourced, Acquires}
+use Rattle.tl_concord.proofs.Imports.{SourceState, AbstractState, IsOpened, SimulationRelation, system_after}
+use Rattle.tl_concord.proofs.Imports.{trace-flows, matched-given, Message}
 use Rattle.std.proofs.Common.{◌≡◌, ℕ, true, false, List, ◌∷◌, inl, inr, Some, None, refl, sym, ◌∙◌, ap, subst}
 use Rattle.std.specs.Prelude.{Option}
-use Rattle.tl_beat.specs.declared.channel.Channel.TheVariants as channel
-use Rattle.tl_burst.specs.declared.message.Message.TheVariants as message
+use Rattle.tl_beat.specs.declared.channel.Channel.{Channel}
 use Rattle.tl_burst.specs.declared.message.MessageA.{MessageA}
-use Rattle.tl_burst.specs.statement.Messages.{History, unfinished}
-use Rattle.tl_params.specs.declared.perm.Perm.{Perm}
-use Rattle.tl_params.specs.declared.perm.Perm.TheVariants as perm
-use Rattle.tl_rules.specs.statement.Conformance.{same_perm}
-use Rattle.tl_rules.specs.statement.Effect.{AccessResult}
-use Rattle.tl_rules.specs.statement.History.{block_at, grants}
-use Rattle.tl_rules.specs.statement.Windows.{leaves, needs}
+use Rattle.tl_rules.{specs.statement.Effect.AccessResult, specs.statement.Windows.needs}
 use Rattle.tl_client.specs.declared.operation.Op.{Op}
-use Rattle.tl_client.specs.declared.operation.Op.TheVariants as op
-use Rattle.tl_client.specs.statement.Send.{sourced}
-use Rattle.tl_coherence.specs.protocol.Protocol.{Acquires, Asked, InService, Replied, SourceFree, SourceState, State}
-use Rattle.tl_coherence.specs.refinement.AbstractStep.{AbstractState}
-use Rattle.tl_coherence.specs.refinement.MemoryRelation.{IsOpened}
-use Rattle.tl_coherence.specs.refinement.PacketMessages.{AccessMessages}
-use Rattle.tl_coherence.specs.refinement.SimulationRelation.{SimulationRelation}
-use Rattle.tl_coherence.specs.statement.Log.{system_after}
-use Rattle.tl_coherence.specs.statement.Machine.{Open}
-use Rattle.tl_coherence.proofs.bound.Settling.{given-before}
-use Rattle.tl_coherence.proofs.deliveries.Matching.{shadow}
-use Rattle.tl_coherence.proofs.flow.FlowTraces.{trace-flows}
-use Rattle.tl_coherence.proofs.flow.Renewed.{IsSettledFor}
-use Rattle.tl_coherence.proofs.flow.Windowed.{renewed-followed, same_request}
-use Rattle.tl_coherence.proofs.links.FromInvariant.{matched-given}
+use Rattle.tl_coherence.specs.protocol.Protocol.{Asked, InService, Replied, SourceFree, State}
+use Rattle.tl_coherence.specs.{refinement.PacketMessages.AccessMessages, statement.Machine.Open}
+use Rattle.tl_coherence.proofs.{bound.Settling.given-before, deliveries.Matching.shadow, flow.Renewed.IsSettledFor}
+use Rattle.tl_coherence.proofs.{flow.Windowed.renewed-followed, flow.Windowed.same_request}
 use Rattle.tl_concord.proofs.Responses.{begun-due, due-recorded}
 use Rattle.tl_concord.specs.statement.WritesBeside.{WritesBesideNoGrant}
 
@@ -44,28 +29,26 @@ pub same_open : {w : ℕ} (i j : Op w) (r s : Option AccessResult)
     → (i ≡ j) × (r ≡ s)
 same_open i j r s e = (ap (asked_in i) e, ap answer_in e)
 
-pub same_access : {w : ℕ} (m n : MessageA w) → op.Access (message.A m) ≡ op.Access (message.A n) → m ≡ n
+pub same_access : {w : ℕ} (m n : MessageA w) → Op.Access (Message.A m) ≡ Op.Access (Message.A n) → m ≡ n
 same_access m n e = cc
 
 -- one that is open with an answer is replied, with its request
 pub replied_with : {w : ℕ} (c source : ℕ) (mail : AccessMessages w) (s : State (List ℕ)) (u : SourceState)
     (m : MessageA w) (r : AccessResult)
-    → IsOpened c source mail s u (Some (record { asked = op.Access (message.A m); answer = Some r }))
-    → (u ≡ Replied) × (mail.request c source ≡ message.A (sourced source m))
+    → IsOpened c source mail s u (Some (record { asked = Op.Access (Message.A m); answer = Some r }))
+    → (u ≡ Replied) × (mail.request c source ≡ Message.A (sourced source m))
 replied_with c source mail s SourceFree m r is = absurd cc
-replied_with c source mail s Asked m r is =
-    absurd (let no : Some r ≡ None = (same_open _ _ _ _ is.2).1 in cc)
-replied_with c source mail s (InService n) m r is =
-    absurd (let no : Some r ≡ None = (same_open _ _ _ _ is.2).1 in cc)
 replied_with c source mail s Replied m r is =
     let same : m ≡ is.1.0 = same_access m is.1.0 (same_open _ _ _ _ is.1.2).0 in
-    (refl, is.1.1 ∙ ap (λ i. message.A (sourced source i)) (sym same))
+    (refl, is.1.1 ∙ ap (λ i. Message.A (sourced source i)) (sym same))
 replied_with c source mail s (Acquires n) m r is =
     absurd (let no : Some r ≡ None = (same_open _ _ _ _ is).1 in cc)
+replied_with c source mail s v m r is =
+    absurd (let no : Some r ≡ None = (same_open _ _ _ _ is.2).1 in cc)
 
 -- and one that is open without isn't
 not_replied : {w : ℕ} (c source : ℕ) (mail : AccessMessages w) (s : State (List ℕ)) (m : MessageA w)
-    → IsOpened c source mail s Replied (Some (record { asked = op.Access (message.A m); answer = None })) → ⊥
+    → IsOpened c source mail s Replied (Some (record { asked = Op.Access (Message.A m); answer = None })) → ⊥
 not_replied c source mail s m is = let no : None ≡ Some is.0 = (same_open _ _ _ _ is.1.2).1 in cc
 
 pub writes_beside : {w : ℕ} → WritesBesideNoGrant w
@@ -74,7 +57,7 @@ writes_beside {w} config log x given c source m r writes before after link y old
     elim (renewed-followed config log x.0 h given.width is c source now.0) [
       | inl old ↦ not_replied c source h.mail h.state m
           (subst (λ (u : SourceState). IsOpened c source h.mail h.state u
-          (Some (record { asked = op.Access (message.A m); answer = None }))) old.0
+          (Some (record { asked = Op.Access (Message.A m); answer = None }))) old.0
           (subst (IsOpened c source h.mail h.state (h.state.uses c source)) before (is.beside.requests c source)))
       | inr new ↦ settled new.0 (same_request new.0 (sourced source m) (sym new.1 ∙ now.1)) new.2
     ]
@@ -94,7 +77,7 @@ writes_beside {w} config log x given c source m r writes before after link y old
     is' = matched-given config (x ∷ log) given
 
     now : ((shadow config (x ∷ log)).state.uses c source ≡ Replied)
-        × ((shadow config (x ∷ log)).mail.request c source ≡ message.A (sourced source m))
+        × ((shadow config (x ∷ log)).mail.request c source ≡ Message.A (sourced source m))
     now = replied_with c source (shadow config (x ∷ log)).mail (shadow config (x ∷ log)).state
         ((shadow config (x ∷ log)).state.uses c source) m r
         (subst (IsOpened c source (shadow config (x ∷ log)).mail (shadow config (x ∷ log)).state
@@ -103,11 +86,11 @@ writes_beside {w} config log x given c source m r writes before after link y old
     settled : (i : MessageA w) → i ≡ sourced source m → IsSettledFor i (shadow config (x ∷ log)).state → ⊥
     settled i same each = let no : false ≡ true = sym (due-recorded (shadow config (x ∷ log)) link (block_at m.address)
         (begun-due config (x ∷ log) given link (block_at m.address) y older
-        (ap (unfinished channel.D) (sym (trace-flows link (x ∷ log))) ∙ begun_so)
+        (ap (unfinished Channel.D) (sym (trace-flows link (x ∷ log))) ∙ begun_so)
         (subst (λ (past : History w). grants (block_at m.address) y past ≡ true) (trace-flows link (x ∷ log)) granted)))
         ∙ none in cc
       where
-        none : same_perm (((shadow config (x ∷ log)).state.block (block_at m.address)).pair link).recorded perm.None
+        none : same_perm (((shadow config (x ∷ log)).state.block (block_at m.address)).pair link).recorded Perm.None
             ≡ true
         none = ap (λ (p : Perm). leaves p (((shadow config (x ∷ log)).state.block (block_at m.address)).pair
             link).recorded) (sym writes)

@@ -1,14 +1,9 @@
 -- Which beats are kept, and that a burst is kept whole or not at all.
+use Rattle.tl_keys.proofs.Imports.{Beat, A, B, C, D, E, Channel, History, channel_of, unfinished, completes, is_empty}
+use Rattle.tl_keys.proofs.Imports.{begins, ends, Name, is_kept, names, restricted}
 use Rattle.std.proofs.Common.{◌≡◌, ◌⊎◌, ℕ, Bool, true, false, not, List, [], ◌∷◌, refl, ap, inl, inr, subst}
 use Rattle.std.specs.Prelude.{if◌then◌else◌}
-use Rattle.tl_beat.specs.declared.beat.Beat.{Beat}
-use Rattle.tl_beat.specs.declared.beat.Beat.TheVariants.{A, B, C, D, E}
-use Rattle.tl_beat.specs.declared.channel.Channel.{Channel}
-use Rattle.tl_beat.specs.declared.channel.Channel.TheVariants as channel
-use Rattle.tl_burst.specs.statement.Messages.{History, channel_of, grown, on, unfinished}
-use Rattle.tl_burst.specs.statement.Part.{completes, is_empty}
-use Rattle.tl_rules.specs.statement.History.{begins, ends}
-use Rattle.tl_keys.specs.statement.Restricted.{Name, is_kept, names, restricted}
+use Rattle.tl_burst.specs.statement.Messages.{grown, on}
 
 -- ---- a burst and what is kept of it
 
@@ -41,31 +36,12 @@ none-kept (y ∷ u) [] named (inl same) e = refl
 none-kept (y ∷ u) (z ∷ v) named (inl same) e = absurd cc
 
 pub own-channel : {w : ℕ} (ch : Channel) (x : Beat w) → on ch x ≡ true → channel_of x ≡ ch
-own-channel channel.A (A x) e = refl
-own-channel channel.B (B x) e = refl
-own-channel channel.C (C x) e = refl
-own-channel channel.D (D x) e = refl
-own-channel channel.E (E x) e = refl
-own-channel channel.A (B x) e = absurd cc
-own-channel channel.A (C x) e = absurd cc
-own-channel channel.A (D x) e = absurd cc
-own-channel channel.A (E x) e = absurd cc
-own-channel channel.B (A x) e = absurd cc
-own-channel channel.B (C x) e = absurd cc
-own-channel channel.B (D x) e = absurd cc
-own-channel channel.B (E x) e = absurd cc
-own-channel channel.C (A x) e = absurd cc
-own-channel channel.C (B x) e = absurd cc
-own-channel channel.C (D x) e = absurd cc
-own-channel channel.C (E x) e = absurd cc
-own-channel channel.D (A x) e = absurd cc
-own-channel channel.D (B x) e = absurd cc
-own-channel channel.D (C x) e = absurd cc
-own-channel channel.D (E x) e = absurd cc
-own-channel channel.E (A x) e = absurd cc
-own-channel channel.E (B x) e = absurd cc
-own-channel channel.E (C x) e = absurd cc
-own-channel channel.E (D x) e = absurd cc
+own-channel Channel.A (A x) e = refl
+own-channel Channel.B (B x) e = refl
+own-channel Channel.C (C x) e = refl
+own-channel Channel.D (D x) e = refl
+own-channel Channel.E (E x) e = refl
+own-channel v u e = absurd cc
 
 -- ---- histories
 
@@ -95,12 +71,12 @@ module _ {w : ℕ} (n : Name) where
       kept = is_kept n x t r
 
       go : (unfinished ch r ≡ unfinished ch t) ⊎ (unfinished ch r ≡ []) → (b : Bool) → on ch x ≡ b
-          → (unfinished ch (if kept then x ∷ r else r) ≡ (if on ch x then grown x (unfinished ch t) else unfinished ch t))
+          → (unfinished ch (if kept then x ∷ r else r) ≡
+          (if on ch x then grown x (unfinished ch t) else unfinished ch t))
           ⊎ (unfinished ch (if kept then x ∷ r else r) ≡ [])
       go before false e = rw (kept-step ch x r kept, e) before
       go before true e =
-          rw (kept-step ch x r kept, e) (burst-step x (unfinished ch t) (unfinished ch r) (names n x t) kept
-          before
+          rw (kept-step ch x r kept, e) (burst-step x (unfinished ch t) (unfinished ch r) (names n x t) kept before
           (subst (λ (c : Channel). kept ≡ (if is_empty (unfinished c t) then names n x t else not
           (is_empty (unfinished c r)))) (own-channel ch x e) refl))
 

@@ -1,29 +1,18 @@
 -- What a lawful history says of one source, sink or block is what the messages say that name it.
+use Rattle.tl_keys.proofs.Imports.{Beat, A, B, C, D, E, BeatD, History, Profile, asks_for, begins, block_at, ends}
+use Rattle.tl_keys.proofs.Imports.{pending, release_of, request_of, Name, is_kept, names, restricted, OfBlock, OfSink}
+use Rattle.tl_keys.proofs.Imports.{OfSource}
 use Rattle.std.proofs.Common.{◌≡◌, ℕ, Bool, true, false, not, ◌&&◌, ◌||◌, [], ◌∷◌, refl, sym, ap, ◌∙◌}
 use Rattle.std.specs.Prelude.{if◌then◌else◌, Option, Some, None, ◌==◌, unwrap_or}
-use Rattle.tl_beat.specs.declared.beat.Beat.{Beat}
-use Rattle.tl_beat.specs.declared.beat.Beat.TheVariants.{A, B, C, D, E}
-use Rattle.tl_beat.specs.declared.beat.BeatA.{BeatA}
-use Rattle.tl_beat.specs.declared.beat.BeatC.{BeatC}
-use Rattle.tl_beat.specs.declared.beat.BeatD.{BeatD}
-use Rattle.tl_beat.specs.declared.opcode.OpD.{OpD}
-use Rattle.tl_beat.specs.declared.opcode.OpD.TheVariants as d
-use Rattle.tl_burst.specs.statement.Messages.{History}
-use Rattle.tl_params.specs.declared.key.Key.{Key}
+use Rattle.tl_beat.{specs.declared.beat.BeatA.BeatA, specs.declared.beat.BeatC.BeatC, specs.declared.opcode.OpD.OpD}
+use Rattle.tl_params.{specs.declared.key.Key.Key, specs.declared.perm.Perm.Perm}
 use Rattle.tl_params.specs.declared.key.Key.TheVariants.{RequestSource, ReleaseSource, AcquireOf, ReleaseOf, GrantSink}
 use Rattle.tl_params.specs.declared.key.Key.TheVariants.{GrantAckOf, ProbeOf}
-use Rattle.tl_params.specs.declared.perm.Perm.{Perm}
-use Rattle.tl_params.specs.declared.profile.Profile.{Profile}
-use Rattle.tl_rules.specs.statement.History.{asks_for, begins, block_at, capped, closes, ends, grant_sink, grants, held}
-use Rattle.tl_rules.specs.statement.History.{is_acquire, is_grant, is_probe, is_probe_ack, is_release, is_release_ack}
-use Rattle.tl_rules.specs.statement.History.{is_sink, opens, pending, probe_of, release_of, releases}
-use Rattle.tl_rules.specs.statement.History.{request_of, says_held}
-use Rattle.tl_keys.specs.statement.Restricted.{Name, is_kept, names, restricted}
-use Rattle.tl_keys.specs.statement.Restricted.Name.{OfBlock, OfSink, OfSource}
+use Rattle.tl_rules.specs.statement.History.{capped, closes, grant_sink, grants, held, is_acquire, is_grant, is_probe}
+use Rattle.tl_rules.specs.statement.History.{is_probe_ack, is_release, is_release_ack, is_sink, opens, probe_of}
+use Rattle.tl_rules.specs.statement.History.{releases, says_held}
 use Rattle.tl_rules.proofs.Tables.{neither}
-use Rattle.tl_keys.proofs.Kept.{same-begins, same-ends}
-use Rattle.tl_keys.proofs.Lawful.{AreInOrder}
-use Rattle.tl_keys.proofs.Named.{kept-is}
+use Rattle.tl_keys.{proofs.Kept.same-begins, proofs.Kept.same-ends, proofs.Lawful.AreInOrder, proofs.Named.kept-is}
 
 and-none : (a b : Bool) → b ≡ false → (a && b) ≡ false
 and-none true b e = e
@@ -36,12 +25,9 @@ granted-off : {w : ℕ} (b : ℕ) (x : BeatD w) (t : History w) → names (OfBlo
 granted-off b x t e = go x.opcode refl
   where
     go : (o : OpD) → x.opcode ≡ o → grants b x t ≡ false
-    go d.Grant f = rw f (rw f at e)
-    go d.GrantData f = rw f (rw f at e)
-    go d.ReleaseAck f = rw f refl
-    go d.AccessAck f = rw f refl
-    go d.AccessAckData f = rw f refl
-    go d.HintAck f = rw f refl
+    go OpD.Grant f = rw f (rw f at e)
+    go OpD.GrantData f = rw f (rw f at e)
+    go v f = rw f refl
 
 released-off : {w : ℕ} (b : ℕ) (x : BeatD w) (t : History w) → names (OfBlock b) (D x) t ≡ false
     → closes (ReleaseOf b) (D x) t ≡ false
@@ -194,12 +180,9 @@ module _ {w : ℕ} (p : Profile) where
           (request-of-block b x.source t lawful (rw f at e))
 
       go : (o : OpD) → x.opcode ≡ o → grants b x (restricted (OfBlock b) t) ≡ grants b x t
-      go d.Grant f = asked (ap is_release_ack f)
-      go d.GrantData f = asked (ap is_release_ack f)
-      go d.ReleaseAck f = rw f refl
-      go d.AccessAck f = rw f refl
-      go d.AccessAckData f = rw f refl
-      go d.HintAck f = rw f refl
+      go OpD.Grant f = asked (ap is_release_ack f)
+      go OpD.GrantData f = asked (ap is_release_ack f)
+      go v f = rw f refl
 
   released-on : (b : ℕ) (x : BeatD w) (t : History w) → AreInOrder p t → names (OfBlock b) (D x) t ≡ true
       → closes (ReleaseOf b) (D x) (restricted (OfBlock b) t) ≡ closes (ReleaseOf b) (D x) t
@@ -212,8 +195,7 @@ module _ {w : ℕ} (p : Profile) where
           (release-of-block b x.source t lawful (rw f at e))
       go false f = rw f refl
 
-  pub sink-alike : (b : ℕ) (t : History w) → AreInOrder p t
-      → grant_sink b (restricted (OfBlock b) t) ≡ grant_sink b t
+  pub sink-alike : (b : ℕ) (t : History w) → AreInOrder p t → grant_sink b (restricted (OfBlock b) t) ≡ grant_sink b t
   unfolding restricted grant_sink AreInOrder
   sink-alike b [] lawful = refl
   sink-alike b (D x ∷ t) lawful =
@@ -236,8 +218,7 @@ module _ {w : ℕ} (p : Profile) where
   sink-alike b (E x ∷ t) lawful = passed (grant_sink b) (is_kept (OfBlock b) (E x) t (restricted (OfBlock b) t))
       (E x) (restricted (OfBlock b) t) (grant_sink b t) refl (sink-alike b t lawful.1)
 
-  pub probe-alike : (b : ℕ) (t : History w) → AreInOrder p t
-      → probe_of b (restricted (OfBlock b) t) ≡ probe_of b t
+  pub probe-alike : (b : ℕ) (t : History w) → AreInOrder p t → probe_of b (restricted (OfBlock b) t) ≡ probe_of b t
   unfolding restricted probe_of AreInOrder
   probe-alike b [] lawful = refl
   probe-alike b (B x ∷ t) lawful =
@@ -263,11 +244,10 @@ module _ {w : ℕ} (p : Profile) where
 
   -- A key is pending alike, if a message that doesn't name the source, sink or block neither opens nor closes it, and
   -- one that does opens and closes it after the kept beats as after all.
-  alike : (n : Name) (k : Key)
-      → ((x : Beat w) (t : History w) → names n x t ≡ false → (opens k x t ≡ false) × (closes k x t ≡ false))
-      → ((x : Beat w) (t : History w) → AreInOrder p t → names n x t ≡ true
-      → (opens k x (restricted n t) ≡ opens k x t) × (closes k x (restricted n t) ≡ closes k x t))
-      → (t : History w) → AreInOrder p t → pending k (restricted n t) ≡ pending k t
+  alike : (n : Name) (k : Key) → ((x : Beat w) (t : History w) → names n x t ≡ false → (opens k x t ≡ false)
+      × (closes k x t ≡ false)) → ((x : Beat w) (t : History w) → AreInOrder p t → names n x t ≡ true
+      → (opens k x (restricted n t) ≡ opens k x t) × (closes k x (restricted n t) ≡ closes k x t)) → (t : History w)
+      → AreInOrder p t → pending k (restricted n t) ≡ pending k t
   unfolding restricted pending AreInOrder
   alike n k off on [] lawful = refl
   alike n k off on (x ∷ t) lawful =
@@ -292,19 +272,14 @@ module _ {w : ℕ} (p : Profile) where
       off : (x : Beat w) (t : History w) → names (OfSource s) x t ≡ false
           → (opens (RequestSource s) x t ≡ false) × (closes (RequestSource s) x t ≡ false)
       off (A x) t e = (e, refl)
-      off (B x) t e = (refl, refl)
-      off (C x) t e = (refl, refl)
       off (D x) t e = (refl, and-none (not (is_release_ack x.opcode)) (x.source == s) e)
-      off (E x) t e = (refl, refl)
+      off v t e = (refl, refl)
 
       on : (x : Beat w) (t : History w) → AreInOrder p t → names (OfSource s) x t ≡ true
           → (opens (RequestSource s) x (restricted (OfSource s) t) ≡ opens (RequestSource s) x t)
           × (closes (RequestSource s) x (restricted (OfSource s) t) ≡ closes (RequestSource s) x t)
       on (A x) t lawful e = (refl, refl)
-      on (B x) t lawful e = (refl, refl)
-      on (C x) t lawful e = (refl, refl)
-      on (D x) t lawful e = (refl, refl)
-      on (E x) t lawful e = (refl, refl)
+      on v t lawful e = (refl, refl)
 
   pub release-pending : (s : ℕ) (t : History w) → AreInOrder p t
       → pending (ReleaseSource s) (restricted (OfSource s) t) ≡ pending (ReleaseSource s) t
@@ -312,20 +287,15 @@ module _ {w : ℕ} (p : Profile) where
     where
       off : (x : Beat w) (t : History w) → names (OfSource s) x t ≡ false
           → (opens (ReleaseSource s) x t ≡ false) × (closes (ReleaseSource s) x t ≡ false)
-      off (A x) t e = (refl, refl)
-      off (B x) t e = (refl, refl)
       off (C x) t e = (and-none (is_release x.opcode) (x.source == s) e, refl)
       off (D x) t e = (refl, and-none (is_release_ack x.opcode) (x.source == s) e)
-      off (E x) t e = (refl, refl)
+      off v t e = (refl, refl)
 
       on : (x : Beat w) (t : History w) → AreInOrder p t → names (OfSource s) x t ≡ true
           → (opens (ReleaseSource s) x (restricted (OfSource s) t) ≡ opens (ReleaseSource s) x t)
           × (closes (ReleaseSource s) x (restricted (OfSource s) t) ≡ closes (ReleaseSource s) x t)
       on (A x) t lawful e = (refl, refl)
-      on (B x) t lawful e = (refl, refl)
-      on (C x) t lawful e = (refl, refl)
-      on (D x) t lawful e = (refl, refl)
-      on (E x) t lawful e = (refl, refl)
+      on v t lawful e = (refl, refl)
 
   pub sink-pending : (k : ℕ) (t : History w) → AreInOrder p t
       → pending (GrantSink k) (restricted (OfSink k) t) ≡ pending (GrantSink k) t
@@ -333,20 +303,15 @@ module _ {w : ℕ} (p : Profile) where
     where
       off : (x : Beat w) (t : History w) → names (OfSink k) x t ≡ false
           → (opens (GrantSink k) x t ≡ false) × (closes (GrantSink k) x t ≡ false)
-      off (A x) t e = (refl, refl)
-      off (B x) t e = (refl, refl)
-      off (C x) t e = (refl, refl)
       off (D x) t e = (and-none (is_grant x.opcode) (x.sink == k) e, refl)
       off (E x) t e = (refl, e)
+      off v t e = (refl, refl)
 
       on : (x : Beat w) (t : History w) → AreInOrder p t → names (OfSink k) x t ≡ true
           → (opens (GrantSink k) x (restricted (OfSink k) t) ≡ opens (GrantSink k) x t)
           × (closes (GrantSink k) x (restricted (OfSink k) t) ≡ closes (GrantSink k) x t)
       on (A x) t lawful e = (refl, refl)
-      on (B x) t lawful e = (refl, refl)
-      on (C x) t lawful e = (refl, refl)
-      on (D x) t lawful e = (refl, refl)
-      on (E x) t lawful e = (refl, refl)
+      on v t lawful e = (refl, refl)
 
   pub acquire-pending : (b : ℕ) (t : History w) → AreInOrder p t
       → pending (AcquireOf b) (restricted (OfBlock b) t) ≡ pending (AcquireOf b) t
@@ -355,19 +320,14 @@ module _ {w : ℕ} (p : Profile) where
       off : (x : Beat w) (t : History w) → names (OfBlock b) x t ≡ false
           → (opens (AcquireOf b) x t ≡ false) × (closes (AcquireOf b) x t ≡ false)
       off (A x) t e = (and-none (is_acquire x.opcode) (block_at x.address == b) e, refl)
-      off (B x) t e = (refl, refl)
-      off (C x) t e = (refl, refl)
       off (D x) t e = (refl, granted-off b x t e)
-      off (E x) t e = (refl, refl)
+      off v t e = (refl, refl)
 
       on : (x : Beat w) (t : History w) → AreInOrder p t → names (OfBlock b) x t ≡ true
           → (opens (AcquireOf b) x (restricted (OfBlock b) t) ≡ opens (AcquireOf b) x t)
           × (closes (AcquireOf b) x (restricted (OfBlock b) t) ≡ closes (AcquireOf b) x t)
-      on (A x) t lawful e = (refl, refl)
-      on (B x) t lawful e = (refl, refl)
-      on (C x) t lawful e = (refl, refl)
       on (D x) t lawful e = (refl, granted-on b x t lawful e)
-      on (E x) t lawful e = (refl, refl)
+      on v t lawful e = (refl, refl)
 
   pub release-of-pending : (b : ℕ) (t : History w) → AreInOrder p t
       → pending (ReleaseOf b) (restricted (OfBlock b) t) ≡ pending (ReleaseOf b) t
@@ -375,20 +335,15 @@ module _ {w : ℕ} (p : Profile) where
     where
       off : (x : Beat w) (t : History w) → names (OfBlock b) x t ≡ false
           → (opens (ReleaseOf b) x t ≡ false) × (closes (ReleaseOf b) x t ≡ false)
-      off (A x) t e = (refl, refl)
-      off (B x) t e = (refl, refl)
       off (C x) t e = (and-none (is_release x.opcode) (block_at x.address == b) e, refl)
       off (D x) t e = (refl, released-off b x t e)
-      off (E x) t e = (refl, refl)
+      off v t e = (refl, refl)
 
       on : (x : Beat w) (t : History w) → AreInOrder p t → names (OfBlock b) x t ≡ true
           → (opens (ReleaseOf b) x (restricted (OfBlock b) t) ≡ opens (ReleaseOf b) x t)
           × (closes (ReleaseOf b) x (restricted (OfBlock b) t) ≡ closes (ReleaseOf b) x t)
-      on (A x) t lawful e = (refl, refl)
-      on (B x) t lawful e = (refl, refl)
-      on (C x) t lawful e = (refl, refl)
       on (D x) t lawful e = (refl, released-on b x t lawful e)
-      on (E x) t lawful e = (refl, refl)
+      on v t lawful e = (refl, refl)
 
   pub grant-ack-pending : (b : ℕ) (t : History w) → AreInOrder p t
       → pending (GrantAckOf b) (restricted (OfBlock b) t) ≡ pending (GrantAckOf b) t
@@ -396,20 +351,16 @@ module _ {w : ℕ} (p : Profile) where
     where
       off : (x : Beat w) (t : History w) → names (OfBlock b) x t ≡ false
           → (opens (GrantAckOf b) x t ≡ false) × (closes (GrantAckOf b) x t ≡ false)
-      off (A x) t e = (refl, refl)
-      off (B x) t e = (refl, refl)
-      off (C x) t e = (refl, refl)
       off (D x) t e = (granted-off b x t e, refl)
       off (E x) t e = (refl, e)
+      off v t e = (refl, refl)
 
       on : (x : Beat w) (t : History w) → AreInOrder p t → names (OfBlock b) x t ≡ true
           → (opens (GrantAckOf b) x (restricted (OfBlock b) t) ≡ opens (GrantAckOf b) x t)
           × (closes (GrantAckOf b) x (restricted (OfBlock b) t) ≡ closes (GrantAckOf b) x t)
-      on (A x) t lawful e = (refl, refl)
-      on (B x) t lawful e = (refl, refl)
-      on (C x) t lawful e = (refl, refl)
       on (D x) t lawful e = (granted-on b x t lawful e, refl)
       on (E x) t lawful e = (refl, ap (is_sink x.sink) (sink-alike b t lawful))
+      on v t lawful e = (refl, refl)
 
   pub probe-pending : (b : ℕ) (t : History w) → AreInOrder p t
       → pending (ProbeOf b) (restricted (OfBlock b) t) ≡ pending (ProbeOf b) t
@@ -417,20 +368,15 @@ module _ {w : ℕ} (p : Profile) where
     where
       off : (x : Beat w) (t : History w) → names (OfBlock b) x t ≡ false
           → (opens (ProbeOf b) x t ≡ false) × (closes (ProbeOf b) x t ≡ false)
-      off (A x) t e = (refl, refl)
       off (B x) t e = (and-none (is_probe x.opcode) (block_at x.address == b) e, refl)
       off (C x) t e = (refl, and-none (is_probe_ack x.opcode) (block_at x.address == b) e)
-      off (D x) t e = (refl, refl)
-      off (E x) t e = (refl, refl)
+      off v t e = (refl, refl)
 
       on : (x : Beat w) (t : History w) → AreInOrder p t → names (OfBlock b) x t ≡ true
           → (opens (ProbeOf b) x (restricted (OfBlock b) t) ≡ opens (ProbeOf b) x t)
           × (closes (ProbeOf b) x (restricted (OfBlock b) t) ≡ closes (ProbeOf b) x t)
       on (A x) t lawful e = (refl, refl)
-      on (B x) t lawful e = (refl, refl)
-      on (C x) t lawful e = (refl, refl)
-      on (D x) t lawful e = (refl, refl)
-      on (E x) t lawful e = (refl, refl)
+      on v t lawful e = (refl, refl)
 
   -- ---- what is held
 
@@ -441,19 +387,13 @@ module _ {w : ℕ} (p : Profile) where
       go (held-alike b t lawful.1) (names (OfBlock b) x t) refl (kept-is p (OfBlock b) x t lawful)
     where
       off : (y : Beat w) → names (OfBlock b) y t ≡ false → says_held b y t ≡ None
-      off (A y) e = refl
-      off (B y) e = refl
       off (C y) e = rw (and-none (is_probe_ack y.opcode || is_release y.opcode) (block_at y.address == b) e) refl
       off (D y) e = rw (granted-off b y t e) refl
-      off (E y) e = refl
+      off v e = refl
 
-      on : (y : Beat w) → names (OfBlock b) y t ≡ true
-          → says_held b y (restricted (OfBlock b) t) ≡ says_held b y t
-      on (A y) e = refl
-      on (B y) e = refl
-      on (C y) e = refl
+      on : (y : Beat w) → names (OfBlock b) y t ≡ true → says_held b y (restricted (OfBlock b) t) ≡ says_held b y t
       on (D y) e = ap (λ (g : Bool). if g then Some (capped y.param) else None) (granted-on b y t lawful.1 e)
-      on (E y) e = refl
+      on v e = refl
 
       unmoved : (last : Bool) (before : Perm) → (if last then before else before) ≡ before
       unmoved true before = refl
@@ -462,6 +402,5 @@ module _ {w : ℕ} (p : Profile) where
       go : held b (restricted (OfBlock b) t) ≡ held b t → (named : Bool) → names (OfBlock b) x t ≡ named
           → is_kept (OfBlock b) x t (restricted (OfBlock b) t) ≡ names (OfBlock b) x t
           → held b (with (OfBlock b) x t) ≡ (if ends x t then unwrap_or (says_held b x t) (held b t) else held b t)
-      go before true f kept = rw (kept ∙ f)
-          (rw (same-ends (OfBlock b) x t (kept ∙ f), on x f, before) refl)
+      go before true f kept = rw (kept ∙ f) (rw (same-ends (OfBlock b) x t (kept ∙ f), on x f, before) refl)
       go before false f kept = rw (kept ∙ f, off x f) (before ∙ sym (unmoved (ends x t) (held b t)))

@@ -1,35 +1,21 @@
 -- What a lawful history says of its unfinished bursts: a response answers a request that is pending, and a burst names
 -- what its first beat named.
-use Rattle.std.proofs.Common.{◌≡◌, ℕ, Bool, true, false, not, ◌&&◌, List, [], ◌∷◌, refl, sym, ap, ◌∙◌}
-use Rattle.std.proofs.Common.{ap₂, subst}
+use Rattle.tl_keys.proofs.Imports.{Beat, A, B, C, D, E, BeatD, History, channel_of, unfinished, completes, is_empty}
+use Rattle.tl_keys.proofs.Imports.{Profile, asks_for, begins, block_at, ends, pending, release_of, request_of, Name}
+use Rattle.tl_keys.proofs.Imports.{names, OfBlock, OfSink, OfSource, Channel}
+use Rattle.std.proofs.Common.{◌≡◌, ℕ, Bool, true, false, not, ◌&&◌, List, [], ◌∷◌, refl, sym, ap, ◌∙◌, ap₂, subst}
 use Rattle.std.specs.Prelude.{if◌then◌else◌, Option, Some, None, is_none, ◌==◌, ⊤}
 use Rattle.std.proofs.lemmas.Bool.{eqb-true}
-use Rattle.tl_beat.specs.declared.beat.Beat.{Beat}
-use Rattle.tl_beat.specs.declared.beat.Beat.TheVariants.{A, B, C, D, E}
-use Rattle.tl_beat.specs.declared.beat.BeatD.{BeatD}
-use Rattle.tl_beat.specs.declared.channel.Channel.TheVariants as channel
-use Rattle.tl_beat.specs.declared.opcode.OpD.{OpD}
-use Rattle.tl_beat.specs.declared.opcode.OpD.TheVariants as d
-use Rattle.tl_beat.specs.statement.First.{first_if}
+use Rattle.tl_beat.{specs.declared.opcode.OpD.OpD, specs.statement.First.first_if, proofs.OpcodeCodes.d_with-code}
 use Rattle.tl_beat.specs.statement.Opcode.{a_code, b_code, c_code, d_code, d_with}
-use Rattle.tl_beat.proofs.OpcodeCodes.{d_with-code}
-use Rattle.tl_burst.specs.statement.Messages.{History, channel_of, same_control}
-use Rattle.tl_burst.specs.statement.Messages.{unfinished}
-use Rattle.tl_burst.specs.statement.Part.{completes, is_empty}
-use Rattle.tl_params.specs.declared.key.Key.TheVariants.{RequestSource}
-use Rattle.tl_params.specs.declared.level.Level.{Level}
-use Rattle.tl_params.specs.declared.profile.Profile.{Profile}
-use Rattle.tl_params.specs.declared.rule.Rule.{Rule}
+use Rattle.tl_burst.specs.statement.Messages.{same_control}
+use Rattle.tl_params.{specs.declared.key.Key.TheVariants.RequestSource, specs.declared.level.Level.Level}
+use Rattle.tl_params.{specs.declared.rule.Rule.Rule}
 use Rattle.tl_params.specs.declared.rule.Rule.TheVariants.{H1, H2, S1}
 use Rattle.tl_rules.specs.statement.Conformance.{broken_after, broken_given, broken_in_order, broken_order, has_request}
 use Rattle.tl_rules.specs.statement.Conformance.{is_legal}
-use Rattle.tl_rules.specs.statement.History.{asks_for, begins, block_at, ends, grant_sink, is_release_ack, is_sink}
-use Rattle.tl_rules.specs.statement.History.{pending, release_of, releases}
-use Rattle.tl_rules.specs.statement.History.{request_of}
-use Rattle.tl_rules.specs.statement.Legality.{illegal}
-use Rattle.tl_rules.proofs.Tables.{neither}
-use Rattle.tl_keys.specs.statement.Restricted.{Name, names}
-use Rattle.tl_keys.specs.statement.Restricted.Name.{OfBlock, OfSink, OfSource}
+use Rattle.tl_rules.specs.statement.History.{grant_sink, is_release_ack, is_sink, releases}
+use Rattle.tl_rules.{specs.statement.Legality.illegal, proofs.Tables.neither}
 
 -- ---- lawful histories, beat by beat
 
@@ -98,11 +84,7 @@ same-response x y e = parts (d_code x.opcode == d_code y.opcode) (x.param == y.p
       eqb-true x.source y.source is_s,
       eqb-true x.sink y.sink is_k,
     )
-    parts false p z s k rest f is_o is_s is_k = absurd cc
-    parts true false z s k rest f is_o is_s is_k = absurd cc
-    parts true true false s k rest f is_o is_s is_k = absurd cc
-    parts true true true false k rest f is_o is_s is_k = absurd cc
-    parts true true true true false rest f is_o is_s is_k = absurd cc
+    parts v u y z i rest f is_o is_s is_k = absurd cc
 
 -- the request that it answers is pending, and it is no ReleaseAck
 abbrev pub Answering : {w : ℕ} → BeatD w → History w → Type 0
@@ -113,12 +95,8 @@ long : {w : ℕ} (x : BeatD w) → completes (D x) [] ≡ false → is_release_a
 long x e = go x.opcode refl
   where
     go : (o : OpD) → x.opcode ≡ o → is_release_ack o ≡ false
-    go d.ReleaseAck f = absurd (let no : true ≡ false = rw f at e in cc)
-    go d.AccessAck f = refl
-    go d.AccessAckData f = refl
-    go d.HintAck f = refl
-    go d.Grant f = refl
-    go d.GrantData f = refl
+    go OpD.ReleaseAck f = absurd (let no : true ≡ false = rw f at e in cc)
+    go v f = refl
 
 -- ---- what stays pending
 
@@ -140,7 +118,7 @@ unended false closing before e = e
 
 -- a response that has begun and isn't complete, where this one is of its channel
 pub answering : {w : ℕ} (p : Profile) (t : History w) → AreInOrder p t → (y : BeatD w) (older : List (Beat w))
-    → unfinished channel.D t ≡ D y ∷ older → Answering y t
+    → unfinished Channel.D t ≡ D y ∷ older → Answering y t
 unfolding unfinished AreInOrder pending broken_order
 answering p [] lawful y older e = absurd cc
 answering p (A x ∷ t) lawful y older e =
@@ -164,7 +142,7 @@ answering p (E x ∷ t) lawful y older e =
       neither (begins (E x) t) (ends (E x) t) (pending (RequestSource y.source) t) ∙ before.1,
     )
 answering {w} p (D x ∷ t) lawful y older e =
-    go (unfinished channel.D t) refl (completes (D x) (unfinished channel.D t)) refl
+    go (unfinished Channel.D t) refl (completes (D x) (unfinished Channel.D t)) refl
     (λ z rest burst. answering p t lawful.1 z rest burst)
   where
     same : (z : BeatD w) (rest : List (Beat w)) → D z ∷ rest ≡ D y ∷ older → z ≡ y
@@ -181,7 +159,7 @@ answering {w} p (D x ∷ t) lawful y older e =
     found true rest f = refl
     found false rest f = absurd cc
 
-    next : Answering x t → (last : Bool) → last ≡ false → completes (D x) (unfinished channel.D t) ≡ last → x ≡ y
+    next : Answering x t → (last : Bool) → last ≡ false → completes (D x) (unfinished Channel.D t) ≡ last → x ≡ y
         → Answering y (D x ∷ t)
     next is last no_end ends_is at_y = subst (λ (z : BeatD w). Answering z (D x ∷ t)) at_y (
       is.0,
@@ -189,24 +167,24 @@ answering {w} p (D x ∷ t) lawful y older e =
           (pending (RequestSource x.source) t) is.1),
     )
 
-    go : (burst : List (Beat w)) → unfinished channel.D t ≡ burst → (last : Bool)
-        → completes (D x) (unfinished channel.D t) ≡ last
-        → ((z : BeatD w) (rest : List (Beat w)) → unfinished channel.D t ≡ D z ∷ rest → Answering z t)
+    go : (burst : List (Beat w)) → unfinished Channel.D t ≡ burst → (last : Bool)
+        → completes (D x) (unfinished Channel.D t) ≡ last
+        → ((z : BeatD w) (rest : List (Beat w)) → unfinished Channel.D t ≡ D z ∷ rest → Answering z t)
         → Answering y (D x ∷ t)
     go burst burst_is true ends_is before = absurd (let no : [] ≡ D y ∷ older = rw ends_is at e in cc)
     go [] burst_is false ends_is before =
         let short : completes (D x) [] ≡ false = rw burst_is at ends_is in
         let no_ack : is_release_ack x.opcode ≡ false = long x short in
         let first : begins (D x) t ≡ true = ap is_empty burst_is in
-        let is_here : D x ∷ unfinished channel.D t ≡ D y ∷ older = rw ends_is at e in
+        let is_here : D x ∷ unfinished Channel.D t ≡ D y ∷ older = rw ends_is at e in
         next (no_ack, asked (found (has_request x t) _ (begun-lawfully p (D x) t lawful.0 first)) no_ack) false refl
-        ends_is (same x (unfinished channel.D t) is_here)
+        ends_is (same x (unfinished Channel.D t) is_here)
     go (D z ∷ rest) burst_is false ends_is before =
         let fields = same-response x z (goes-on p (D x) (D z) rest t lawful.0 burst_is) in
         let is = before z rest burst_is in
-        let is_here : D x ∷ unfinished channel.D t ≡ D y ∷ older = rw ends_is at e in
+        let is_here : D x ∷ unfinished Channel.D t ≡ D y ∷ older = rw ends_is at e in
         next (ap is_release_ack fields.0 ∙ is.0, ap (λ s. pending (RequestSource s) t) fields.1 ∙ is.1) false refl
-        ends_is (same x (unfinished channel.D t) is_here)
+        ends_is (same x (unfinished Channel.D t) is_here)
     go (A z ∷ rest) burst_is false ends_is before =
         absurd (let no : same_control (D x) (A z) ≡ true = goes-on p (D x) (A z) rest t lawful.0 burst_is in cc)
     go (B z ∷ rest) burst_is false ends_is before =
@@ -219,7 +197,7 @@ answering {w} p (D x ∷ t) lawful y older e =
 -- ---- what a burst names
 
 -- no GrantAck is unfinished
-pub none-on-e : {w : ℕ} (t : History w) → unfinished channel.E t ≡ []
+pub none-on-e : {w : ℕ} (t : History w) → unfinished Channel.E t ≡ []
 unfolding unfinished
 none-on-e [] = refl
 none-on-e (A x ∷ t) = none-on-e t
@@ -248,27 +226,18 @@ same-names n (A x) (A y) t e = go (a_code x.opcode == a_code y.opcode) (x.param 
     go : (o p z s a : Bool) → (o && (p && (z && (s && a)))) ≡ true → (x.source == y.source) ≡ s
         → (x.address == y.address) ≡ a → names n (A x) t ≡ names n (A y) t
     go true true true true true f g h = named n (eqb-true x.source y.source g) (eqb-true x.address y.address h)
-    go false p z s a f g h = absurd cc
-    go true false z s a f g h = absurd cc
-    go true true false s a f g h = absurd cc
-    go true true true false a f g h = absurd cc
-    go true true true true false f g h = absurd cc
+    go v u y z i f g h = absurd cc
 same-names n (B x) (B y) t e = go (b_code x.opcode == b_code y.opcode) (x.param == y.param) (x.size == y.size)
     (x.source == y.source) (x.address == y.address) e refl
   where
     named : (n : Name) → x.address ≡ y.address → names n (B x) t ≡ names n (B y) t
-    named (OfSource s) g = refl
-    named (OfSink k) g = refl
     named (OfBlock b) g = ap (λ k. block_at k == b) g
+    named v g = refl
 
     go : (o p z s a : Bool) → (o && (p && (z && (s && a)))) ≡ true → (x.address == y.address) ≡ a
         → names n (B x) t ≡ names n (B y) t
     go true true true true true f h = named n (eqb-true x.address y.address h)
-    go false p z s a f h = absurd cc
-    go true false z s a f h = absurd cc
-    go true true false s a f h = absurd cc
-    go true true true false a f h = absurd cc
-    go true true true true false f h = absurd cc
+    go v u y z i f h = absurd cc
 same-names n (C x) (C y) t e = go (c_code x.opcode == c_code y.opcode) (x.param == y.param) (x.size == y.size)
     (x.source == y.source) (x.address == y.address) e refl refl
   where
@@ -280,11 +249,7 @@ same-names n (C x) (C y) t e = go (c_code x.opcode == c_code y.opcode) (x.param 
     go : (o p z s a : Bool) → (o && (p && (z && (s && a)))) ≡ true → (x.source == y.source) ≡ s
         → (x.address == y.address) ≡ a → names n (C x) t ≡ names n (C y) t
     go true true true true true f g h = named n (eqb-true x.source y.source g) (eqb-true x.address y.address h)
-    go false p z s a f g h = absurd cc
-    go true false z s a f g h = absurd cc
-    go true true false s a f g h = absurd cc
-    go true true true false a f g h = absurd cc
-    go true true true true false f g h = absurd cc
+    go v u y z i f g h = absurd cc
 same-names n (E x) (E y) t e = of_ack n (eqb-true x.sink y.sink e)
   where
     of_ack : (n : Name) → x.sink ≡ y.sink → names n (E x) t ≡ names n (E y) t
@@ -345,20 +310,17 @@ names-kept p n x (A y) older t lawful before e = by_fields n
   where
     by_fields : (n : Name) → names n (A y) (x ∷ t) ≡ names n (A y) t
     by_fields (OfSource s) = refl
-    by_fields (OfSink k) = refl
-    by_fields (OfBlock b) = refl
+    by_fields v = refl
 names-kept p n x (B y) older t lawful before e = by_fields n
   where
     by_fields : (n : Name) → names n (B y) (x ∷ t) ≡ names n (B y) t
     by_fields (OfSource s) = refl
-    by_fields (OfSink k) = refl
-    by_fields (OfBlock b) = refl
+    by_fields v = refl
 names-kept p n x (C y) older t lawful before e = by_fields n
   where
     by_fields : (n : Name) → names n (C y) (x ∷ t) ≡ names n (C y) t
     by_fields (OfSource s) = refl
-    by_fields (OfSink k) = refl
-    by_fields (OfBlock b) = refl
+    by_fields v = refl
 names-kept p n x (E y) older t lawful before e = absurd (let no : [] ≡ E y ∷ older = sym (none-on-e t) ∙ e in cc)
 names-kept {w} p n x (D y) older t lawful before e = of_name n
   where
@@ -366,6 +328,5 @@ names-kept {w} p n x (D y) older t lawful before e = of_name n
     is = answering p t before y older e
 
     of_name : (n : Name) → names n (D y) (x ∷ t) ≡ names n (D y) t
-    of_name (OfSource s) = refl
-    of_name (OfSink k) = refl
     of_name (OfBlock b) = rw is.0 (ap (asks_for b) (same-request p x y t lawful is))
+    of_name v = refl

@@ -3,3 +3,4 @@ pub mod Keys
 pub mod Lawful
 pub mod Local
 pub mod Named
+pub mod Imports

@@ -1,44 +1,28 @@
 -- Each rule of order, after all messages and after those that name the one source, sink or block.
-use Rattle.std.proofs.Common.{◌≡◌, ◌⊎◌, ℕ, Bool, true, false, not, ◌&&◌, ◌||◌, List, [], ◌∷◌, refl, sym, ap, ◌∙◌}
-use Rattle.std.proofs.Common.{inl, inr}
+use Rattle.tl_keys.proofs.Imports.{Beat, A, B, C, D, E, BeatD, Channel, History, unfinished, is_empty, Profile}
+use Rattle.tl_keys.proofs.Imports.{asks_for, begins, block_at, pending, request_of, Name, is_kept, names, restricted}
+use Rattle.tl_keys.proofs.Imports.{OfBlock, OfSink, OfSource}
+use Rattle.std.proofs.Common.{◌≡◌, ◌⊎◌, ℕ, Bool, true, false, not, ◌&&◌, ◌||◌, List, [], ◌∷◌, refl, sym, ap, ◌∙◌, inl}
+use Rattle.std.proofs.Common.{inr}
 use Rattle.std.specs.Prelude.{if◌then◌else◌, Option, Some, None, ◌==◌}
 use Rattle.std.proofs.lemmas.Bool.{eq-eqb}
-use Rattle.tl_beat.specs.declared.beat.Beat.{Beat}
-use Rattle.tl_beat.specs.declared.beat.Beat.TheVariants.{A, B, C, D, E}
-use Rattle.tl_beat.specs.declared.beat.BeatA.{BeatA}
-use Rattle.tl_beat.specs.declared.beat.BeatD.{BeatD}
-use Rattle.tl_beat.specs.declared.channel.Channel.{Channel}
-use Rattle.tl_beat.specs.declared.channel.Channel.TheVariants as channel
-use Rattle.tl_beat.specs.declared.opcode.OpC.{OpC}
-use Rattle.tl_beat.specs.declared.opcode.OpC.TheVariants as c
-use Rattle.tl_beat.specs.statement.First.{first_if}
-use Rattle.tl_burst.specs.statement.Messages.{History, unfinished}
-use Rattle.tl_burst.specs.statement.Part.{is_empty}
+use Rattle.tl_beat.{specs.declared.beat.BeatA.BeatA, specs.declared.opcode.OpC.OpC, specs.statement.First.first_if}
 use Rattle.tl_params.specs.declared.key.Key.TheVariants.{AcquireOf, ProbeOf, ReleaseOf, ReleaseSource}
-use Rattle.tl_params.specs.declared.profile.Profile.{Profile}
 use Rattle.tl_params.specs.declared.rule.Rule.TheVariants.{H1, H10, H11, H12, H13}
 use Rattle.tl_params.specs.statement.Param.{prune_of}
-use Rattle.tl_rules.specs.statement.Conformance.{broken_order, comes_in_grant, comes_in_release}
-use Rattle.tl_rules.specs.statement.Conformance.{comes_in_request, has_request}
-use Rattle.tl_rules.specs.statement.Conformance.{misgrants, misreports, prunes_from}
-use Rattle.tl_rules.specs.statement.Conformance.{answers_wrong_probe, size_asked}
-use Rattle.tl_rules.specs.statement.History.{asks_for, begins, block_at, held, is_grant, is_probe_ack}
-use Rattle.tl_rules.specs.statement.History.{is_release, pending, probe_of, request_of}
-use Rattle.tl_keys.specs.statement.OneKey.{AreAlike, OneKey}
-use Rattle.tl_keys.specs.statement.Restricted.{Name, is_kept, names, restricted}
-use Rattle.tl_keys.specs.statement.Restricted.Name.{OfBlock, OfSink, OfSource}
+use Rattle.tl_rules.specs.statement.Conformance.{broken_order, comes_in_grant, comes_in_release, comes_in_request}
+use Rattle.tl_rules.specs.statement.Conformance.{has_request, misgrants, misreports, prunes_from, answers_wrong_probe}
+use Rattle.tl_rules.specs.statement.Conformance.{size_asked}
+use Rattle.tl_rules.specs.statement.History.{held, is_grant, is_probe_ack, is_release, probe_of}
+use Rattle.tl_keys.{specs.statement.OneKey.AreAlike, specs.statement.OneKey.OneKey, proofs.Kept.same-begins}
+use Rattle.tl_keys.{proofs.Kept.whole-or-none, proofs.Lawful.AreInOrder, proofs.Lawful.in-order, proofs.Named.are-named}
 use Rattle.tl_keys.specs.statement.Rules.{block_of, first_of, tests}
-use Rattle.tl_keys.proofs.Kept.{same-begins, whole-or-none}
 use Rattle.tl_keys.proofs.Keys.{acquire-pending, grant-ack-pending, held-alike, passed, probe-alike, probe-pending}
-use Rattle.tl_keys.proofs.Keys.{release-alike}
-use Rattle.tl_keys.proofs.Keys.{release-of-pending, release-pending, request-alike, request-of-block, request-pending}
-use Rattle.tl_keys.proofs.Keys.{sink-pending}
-use Rattle.tl_keys.proofs.Lawful.{AreInOrder, in-order}
-use Rattle.tl_keys.proofs.Named.{are-named}
+use Rattle.tl_keys.proofs.Keys.{release-alike, release-of-pending, release-pending, request-alike, request-of-block}
+use Rattle.tl_keys.proofs.Keys.{request-pending, sink-pending}
 
 -- where no request with a source began, none of the kept ones did
-none-asked : {w : ℕ} (n : Name) (s : ℕ) (t : History w) → request_of s t ≡ None
-    → request_of s (restricted n t) ≡ None
+none-asked : {w : ℕ} (n : Name) (s : ℕ) (t : History w) → request_of s t ≡ None → request_of s (restricted n t) ≡ None
 unfolding restricted request_of
 none-asked n s [] e = refl
 none-asked {w} n s (A x ∷ t) e =
@@ -84,21 +68,18 @@ module _ {w : ℕ} (p : Profile) (t : History w) (lawful : AreInOrder p t) where
               cc)
 
   -- a request with this source, a Release with it, a Grant with this sink
-  request-coming : (s : ℕ) → comes_in_request s (unfinished channel.A t)
-      ≡ comes_in_request s (unfinished channel.A (restricted (OfSource s) t))
-  request-coming s = coming-alike (OfSource s) channel.A (comes_in_request s) refl named
+  request-coming : (s : ℕ) → comes_in_request s (unfinished Channel.A t)
+      ≡ comes_in_request s (unfinished Channel.A (restricted (OfSource s) t))
+  request-coming s = coming-alike (OfSource s) Channel.A (comes_in_request s) refl named
     where
       named : (y : Beat w) (older : List (Beat w)) → comes_in_request s (y ∷ older) ≡ true
           → names (OfSource s) y t ≡ true
       named (A y) older e = e
-      named (B y) older e = absurd cc
-      named (C y) older e = absurd cc
-      named (D y) older e = absurd cc
-      named (E y) older e = absurd cc
+      named v older e = absurd cc
 
-  release-coming : (s : ℕ) → comes_in_release s (unfinished channel.C t)
-      ≡ comes_in_release s (unfinished channel.C (restricted (OfSource s) t))
-  release-coming s = coming-alike (OfSource s) channel.C (comes_in_release s) refl named
+  release-coming : (s : ℕ) → comes_in_release s (unfinished Channel.C t)
+      ≡ comes_in_release s (unfinished Channel.C (restricted (OfSource s) t))
+  release-coming s = coming-alike (OfSource s) Channel.C (comes_in_release s) refl named
     where
       named : (y : Beat w) (older : List (Beat w)) → comes_in_release s (y ∷ older) ≡ true
           → names (OfSource s) y t ≡ true
@@ -112,12 +93,11 @@ module _ {w : ℕ} (p : Profile) (t : History w) (lawful : AreInOrder p t) where
       named (D y) older e = absurd cc
       named (E y) older e = absurd cc
 
-  grant-coming : (k : ℕ) → comes_in_grant k (unfinished channel.D t)
-      ≡ comes_in_grant k (unfinished channel.D (restricted (OfSink k) t))
-  grant-coming k = coming-alike (OfSink k) channel.D (comes_in_grant k) refl named
+  grant-coming : (k : ℕ) → comes_in_grant k (unfinished Channel.D t)
+      ≡ comes_in_grant k (unfinished Channel.D (restricted (OfSink k) t))
+  grant-coming k = coming-alike (OfSink k) Channel.D (comes_in_grant k) refl named
     where
-      named : (y : Beat w) (older : List (Beat w)) → comes_in_grant k (y ∷ older) ≡ true
-          → names (OfSink k) y t ≡ true
+      named : (y : Beat w) (older : List (Beat w)) → comes_in_grant k (y ∷ older) ≡ true → names (OfSink k) y t ≡ true
       named (D y) older e = right (is_grant y.opcode) (y.sink == k) e
         where
           right : (a b : Bool) → (a && b) ≡ true → b ≡ true
@@ -144,8 +124,7 @@ module _ {w : ℕ} (p : Profile) (t : History w) (lawful : AreInOrder p t) where
   size-alike x = rw (sym (request-alike p x.source t lawful), sym (release-alike p x.source t lawful)) refl
 
   -- a Grant, by the block of its request
-  grant-alike : (x : BeatD w)
-      → (is_grant x.opcode && misgrants p x (request_of x.source t) t)
+  grant-alike : (x : BeatD w) → (is_grant x.opcode && misgrants p x (request_of x.source t) t)
       ≡ (is_grant x.opcode && misgrants p x
       (request_of x.source (restricted (OfBlock (block_of (request_of x.source t))) t))
       (restricted (OfBlock (block_of (request_of x.source t))) t))
@@ -169,13 +148,8 @@ module _ {w : ℕ} (p : Profile) (t : History w) (lawful : AreInOrder p t) where
 
 -- a Release isn't the answer to a Probe
 one-kind : (o : OpC) → (is_release o && is_probe_ack o) ≡ false
-one-kind c.Release = refl
-one-kind c.ReleaseData = refl
-one-kind c.ProbeAck = refl
-one-kind c.ProbeAckData = refl
-one-kind c.AccessAck = refl
-one-kind c.AccessAckData = refl
-one-kind c.HintAck = refl
+one-kind OpC.Release = refl
+one-kind v = refl
 
 chosen : (a b r1 r13 h10 h11 h12 : Bool) → (a && b) ≡ false
     → (if a then first_if r1 H1 (first_if r13 H13 None) else
@@ -189,19 +163,15 @@ chosen false false r1 r13 h10 h11 h12 e = refl
 
 ordered : {w : ℕ} (p : Profile) (x : Beat w) (t : History w) → broken_order p x t ≡ first_of (tests p x t) t
 unfolding broken_order
-ordered p (A x) t = refl
-ordered p (B x) t = refl
 ordered p (C x) t = chosen (is_release x.opcode) (is_probe_ack x.opcode) (pending (ReleaseSource x.source) t)
     (pending (AcquireOf (block_at x.address)) t || (pending (ReleaseOf (block_at x.address)) t || not
     (prunes_from (prune_of x.param) (held (block_at x.address) t))))
     (not (pending (ProbeOf (block_at x.address)) t) || answers_wrong_probe x (probe_of (block_at x.address) t))
     (pending (ReleaseOf (block_at x.address)) t)
     (misreports x (probe_of (block_at x.address) t) (held (block_at x.address) t)) (one-kind x.opcode)
-ordered p (D x) t = refl
-ordered p (E x) t = refl
+ordered p v t = refl
 
-each-alike : {w : ℕ} (p : Profile) (x : Beat w) (t : History w) → AreInOrder p t
-    → AreAlike (tests p x t) t
+each-alike : {w : ℕ} (p : Profile) (x : Beat w) (t : History w) → AreInOrder p t → AreAlike (tests p x t) t
 each-alike p (A x) t lawful =
     let b = block_at x.address in (
       sym (request-pending p x.source t lawful),

@@ -1,17 +1,11 @@
 -- After a lawful history a beat is kept exactly if it names the source, sink or block.
+use Rattle.tl_keys.proofs.Imports.{Beat, A, B, C, D, E, Channel, History, channel_of, unfinished, completes, is_empty}
+use Rattle.tl_keys.proofs.Imports.{Profile, release_of, request_of, Name, is_kept, names, restricted, OfBlock, OfSink}
+use Rattle.tl_keys.proofs.Imports.{OfSource}
 use Rattle.std.proofs.Common.{◌≡◌, ℕ, Bool, true, false, not, List, [], ◌∷◌, length, refl, sym, ap, ◌∙◌, subst}
 use Rattle.std.specs.Prelude.{if◌then◌else◌, None, ◌==◌, ◌+◌}
-use Rattle.tl_beat.specs.declared.beat.Beat.{Beat}
-use Rattle.tl_beat.specs.declared.beat.Beat.TheVariants.{A, B, C, D, E}
-use Rattle.tl_beat.specs.declared.channel.Channel.{Channel}
-use Rattle.tl_beat.specs.declared.channel.Channel.TheVariants as channel
-use Rattle.tl_burst.specs.statement.Messages.{History, burst_length, channel_of, grown, on, unfinished}
-use Rattle.tl_burst.specs.statement.Part.{completes, is_empty}
-use Rattle.tl_params.specs.declared.profile.Profile.{Profile}
+use Rattle.tl_burst.specs.statement.Messages.{burst_length, grown, on}
 use Rattle.tl_rules.specs.statement.Conformance.{broken_in_order}
-use Rattle.tl_rules.specs.statement.History.{release_of, request_of}
-use Rattle.tl_keys.specs.statement.Restricted.{Name, is_kept, names, restricted}
-use Rattle.tl_keys.specs.statement.Restricted.Name.{OfBlock, OfSink, OfSource}
 use Rattle.tl_keys.proofs.Kept.{dropped, kept-step, own-channel, same-burst}
 use Rattle.tl_keys.proofs.Lawful.{AreInOrder, goes-on, names-kept, none-on-e, same-names}
 
@@ -35,7 +29,7 @@ unfinished-on {w} ch (x ∷ t) y older e = go (unfinished-on ch t y older) (on c
         ap channel_of (sym (first_is x y (unfinished ch t) older here)) ∙ own-channel ch x f
 
 -- a beat that its channel's burst isn't complete with names the same with itself
-own-names : {w : ℕ} (n : Name) (x : Beat w) (t : History w) → (channel_of x ≡ channel.E → ⊥)
+own-names : {w : ℕ} (n : Name) (x : Beat w) (t : History w) → (channel_of x ≡ Channel.E → ⊥)
     → names n x (x ∷ t) ≡ names n x t
 unfolding request_of release_of
 own-names (OfSource s) (A x) t apart = refl
@@ -88,12 +82,11 @@ are-named {w} p n (x ∷ t) lawful ch y older e =
         → (k ≡ true → unfinished ch r ≡ unfinished ch t) → (k ≡ false → unfinished ch r ≡ [])
         → k ≡ not (is_empty (if k then grown x (unfinished ch r) else unfinished ch r))
     grown-is true last f g whole none =
-        let more : (length (unfinished ch r) + 1 == burst_length x) ≡ false =
-        ap (completes x) (whole refl) ∙ f ∙ g in
+        let more : (length (unfinished ch r) + 1 == burst_length x) ≡ false = ap (completes x) (whole refl) ∙ f ∙ g in
         rw more refl
     grown-is false last f g whole none = rw (none refl) refl
 
-    no-ack : channel_of x ≡ ch → ch ≡ channel.E → ⊥
+    no-ack : channel_of x ≡ ch → ch ≡ Channel.E → ⊥
     no-ack f g = let no : [] ≡ y ∷ older = sym (none-on-e (x ∷ t)) ∙ ap (λ c. unfinished c (x ∷ t)) (sym g) ∙ e in cc
 
     go : AreNamed n t → (b : Bool) → on ch x ≡ b → (last : Bool) → completes x (unfinished ch t) ≡ last
@@ -110,10 +103,9 @@ are-named {w} p n (x ∷ t) lawful ch y older e =
         let is = kept-if p n x t named lawful.0 in
         subst (λ (z : Beat w). names n z (x ∷ t) ≡ not (is_empty (unfinished ch (if kept then x ∷ r else r))))
         (both x y (unfinished ch t) older here)
-        (own-names n x t (λ ack. no-ack of_ch (sym of_ch ∙ ack)) ∙ is
-        ∙ rw (kept-step ch x r kept, f) (grown-is kept false g refl
-        (λ k. subst (λ (c : Channel). unfinished c r ≡ unfinished c t) of_ch (same-burst n x t k))
-        (λ k. subst (λ (c : Channel). unfinished c r ≡ []) of_ch (dropped n x t k))))
+        (own-names n x t (λ ack. no-ack of_ch (sym of_ch ∙ ack)) ∙ is ∙ rw (kept-step ch x r kept, f)
+        (grown-is kept false g refl (λ k. subst (λ (c : Channel). unfinished c r ≡ unfinished c t) of_ch
+        (same-burst n x t k)) (λ k. subst (λ (c : Channel). unfinished c r ≡ []) of_ch (dropped n x t k))))
 
 -- so a beat is kept
 pub kept-is : {w : ℕ} (p : Profile) (n : Name) (x : Beat w) (t : History w) → AreInOrder p (x ∷ t)

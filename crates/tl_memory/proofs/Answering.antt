@@ -1,52 +1,39 @@
 -- What responses answer on a link where no beat broke a rule, and what its complete requests ask for.
-use Rattle.std.proofs.Common.{◌≡◌, ℕ, Bool, true, false, not, ◌&&◌, List, [], ◌∷◌, length, Some, None}
-use Rattle.std.proofs.Common.{refl, sym, ap, ◌∙◌, ◌⊎◌, inl, inr, subst}
+use Rattle.tl_memory.proofs.Imports.{Beat, BeatA, BeatD, History, breaks_burst, burst_length, same_control, unfinished}
+use Rattle.tl_memory.proofs.Imports.{is_empty, control_a, Level, Profile, open_request, request_fields, Request}
+use Rattle.tl_memory.proofs.Imports.{broken_after, is_legal, block_at, ends, is_release_ack}
+use Rattle.std.proofs.Common.{◌≡◌, ℕ, Bool, true, false, not, ◌&&◌, List, [], ◌∷◌, length, Some, None, refl, sym, ap}
+use Rattle.std.proofs.Common.{◌∙◌, ◌⊎◌, inl, inr, subst}
 use Rattle.std.specs.Prelude.{if◌then◌else◌, ◌==◌, ◌+◌}
 use Rattle.std.proofs.lemmas.Bool.{cases_Bool, eq-eqb, ne_eqb, not-false}
-use Rattle.tl_beat.specs.declared.beat.Beat.{Beat}
-use Rattle.tl_beat.specs.declared.beat.Beat.TheVariants as beat
-use Rattle.tl_beat.specs.declared.beat.BeatA.{BeatA}
-use Rattle.tl_beat.specs.declared.beat.BeatD.{BeatD}
-use Rattle.tl_beat.specs.declared.channel.Channel.TheVariants as channel
-use Rattle.tl_burst.specs.statement.Messages.{History, breaks_burst, burst_length, same_control, unfinished}
-use Rattle.tl_burst.specs.statement.Part.{is_empty}
-use Rattle.tl_burst.proofs.ControlFields.{control_a}
-use Rattle.tl_params.specs.declared.level.Level.{Level}
-use Rattle.tl_params.specs.declared.profile.Profile.{Profile}
-use Rattle.tl_rules.specs.code.Open.{open_request, request_fields}
-use Rattle.tl_rules.specs.code.Tables.{kept_request}
-use Rattle.tl_rules.specs.declared.past.Request.{Request}
-use Rattle.tl_rules.specs.statement.Conformance.{broken_after, comes_in_request, is_legal}
-use Rattle.tl_rules.specs.statement.History.{block_at, ends, is_release_ack}
-use Rattle.tl_rules.proofs.Tables.{request-next}
+use Rattle.tl_beat.specs.declared.channel.Channel.{Channel}
+use Rattle.tl_rules.{specs.code.Tables.kept_request, specs.statement.Conformance.comes_in_request}
+use Rattle.tl_rules.{proofs.Tables.request-next}
 use Rattle.tl_memory.proofs.Lawful.{goes_on, legal-parts}
-use Rattle.tl_memory.proofs.Open.{IsAnswering, ack-whole, as_before, begun-answering, completes_answer}
-use Rattle.tl_memory.proofs.Open.{open-still, open-whole}
+use Rattle.tl_memory.proofs.Open.{IsAnswering, ack-whole, as_before, begun-answering, completes_answer, open-still}
+use Rattle.tl_memory.proofs.Open.{open-whole}
 
 -- ---- responses
 
 pub same_head : {X : Type 0} (x y : X) (xs ys : List X) → x ∷ xs ≡ y ∷ ys → x ≡ y
 same_head x y xs ys e = cc
 
-pub same_d : {w : ℕ} (y z : BeatD w) → beat.D z ≡ beat.D y → z ≡ y
+pub same_d : {w : ℕ} (y z : BeatD w) → Beat.D z ≡ Beat.D y → z ≡ y
 same_d y z e = cc
 
 -- the beats of a burst of channel D are of channel D
 pub goes_on_d : {w : ℕ} (y : BeatD w) (z : Beat w) (burst : List (Beat w))
-    → breaks_burst (beat.D y) (z ∷ burst) ≡ false → (v : BeatD w) × (z ≡ beat.D v)
-goes_on_d y (beat.D z) burst e = (z, refl)
-goes_on_d y (beat.A z) burst e = absurd cc
-goes_on_d y (beat.B z) burst e = absurd cc
-goes_on_d y (beat.C z) burst e = absurd cc
-goes_on_d y (beat.E z) burst e = absurd cc
+    → breaks_burst (Beat.D y) (z ∷ burst) ≡ false → (v : BeatD w) × (z ≡ Beat.D v)
+goes_on_d y (Beat.D z) burst e = (z, refl)
+goes_on_d y v burst e = absurd cc
 
 -- a beat of a response that isn't a ReleaseAck answers an open request
-answering-from : {w : ℕ} (l : Level) (p : Profile) (y : BeatD w) (t : History w) → broken_after l p (beat.D y) t ≡ None
-    → ((z : BeatD w) (older : List (Beat w)) → unfinished channel.D t ≡ beat.D z ∷ older → IsAnswering z t)
-    → (is_release_ack y.opcode ≡ false) ⊎ (is_empty (unfinished channel.D t) ≡ false) → IsAnswering y t
-answering-from {w} l p y t fine before either = go (unfinished channel.D t) refl (goes_on l p (beat.D y) t fine) either
+answering-from : {w : ℕ} (l : Level) (p : Profile) (y : BeatD w) (t : History w) → broken_after l p (Beat.D y) t ≡ None
+    → ((z : BeatD w) (older : List (Beat w)) → unfinished Channel.D t ≡ Beat.D z ∷ older → IsAnswering z t)
+    → (is_release_ack y.opcode ≡ false) ⊎ (is_empty (unfinished Channel.D t) ≡ false) → IsAnswering y t
+answering-from {w} l p y t fine before either = go (unfinished Channel.D t) refl (goes_on l p (Beat.D y) t fine) either
   where
-    go : (burst : List (Beat w)) → unfinished channel.D t ≡ burst → breaks_burst (beat.D y) burst ≡ false
+    go : (burst : List (Beat w)) → unfinished Channel.D t ≡ burst → breaks_burst (Beat.D y) burst ≡ false
         → (is_release_ack y.opcode ≡ false) ⊎ (is_empty burst ≡ false) → IsAnswering y t
     go [] is e (inl other) = begun-answering l p y t fine (ap is_empty is) other
     go [] is e (inr some) = absurd cc
@@ -54,25 +41,24 @@ answering-from {w} l p y t fine before either = go (unfinished channel.D t) refl
         let of_d = goes_on_d y z burst e in
         as_before y of_d.0 burst t (rw of_d.1 at e) (before of_d.0 burst (rw of_d.1 at is))
 
-pub unended : {w : ℕ} (y : BeatD w) (t : History w) → ends (beat.D y) t ≡ false
-    → completes_answer y.source (beat.D y) t ≡ false
+pub unended : {w : ℕ} (y : BeatD w) (t : History w) → ends (Beat.D y) t ≡ false
+    → completes_answer y.source (Beat.D y) t ≡ false
 unended y t e = rw e refl
 
 -- a ReleaseAck is complete with its first beat
-later : {w : ℕ} (z : BeatD w) (t : History w) → ends (beat.D z) t ≡ false → (ack : Bool) → is_release_ack z.opcode ≡ ack
-    → (burst : List (Beat w)) → unfinished channel.D t ≡ burst
-    → (is_release_ack z.opcode ≡ false) ⊎ (is_empty (unfinished channel.D t) ≡ false)
+later : {w : ℕ} (z : BeatD w) (t : History w) → ends (Beat.D z) t ≡ false → (ack : Bool) → is_release_ack z.opcode ≡ ack
+    → (burst : List (Beat w)) → unfinished Channel.D t ≡ burst
+    → (is_release_ack z.opcode ≡ false) ⊎ (is_empty (unfinished Channel.D t) ≡ false)
 later z t last false e burst f = inl e
 later z t last true e (v ∷ burst) f = inr (ap is_empty f)
 later z t last true e [] f =
-    let whole : (length (unfinished channel.D t) + 1 == burst_length (beat.D z)) ≡ true =
-    rw (f, ack-whole z e) refl in
+    let whole : (length (unfinished Channel.D t) + 1 == burst_length (Beat.D z)) ≡ true = rw (f, ack-whole z e) refl in
     absurd (let no : true ≡ false = sym whole ∙ last in cc)
 
 -- so does one that isn't complete, with one more beat
 answering-more : {w : ℕ} (l : Level) (p : Profile) (x : Beat w) (t : History w) → broken_after l p x t ≡ None
-    → ((z : BeatD w) (older : List (Beat w)) → unfinished channel.D t ≡ beat.D z ∷ older → IsAnswering z t)
-    → (y : BeatD w) (older : List (Beat w)) → unfinished channel.D (x ∷ t) ≡ beat.D y ∷ older → IsAnswering y (x ∷ t)
+    → ((z : BeatD w) (older : List (Beat w)) → unfinished Channel.D t ≡ Beat.D z ∷ older → IsAnswering z t)
+    → (y : BeatD w) (older : List (Beat w)) → unfinished Channel.D (x ∷ t) ≡ Beat.D y ∷ older → IsAnswering y (x ∷ t)
 unfolding unfinished
 answering-more {w} l p x t fine before y older is = go x fine is
   where
@@ -85,28 +71,28 @@ answering-more {w} l p x t fine before y older is = go x fine is
       sized = k.sized;
     }
 
-    goes : (z : BeatD w) → broken_after l p (beat.D z) t ≡ None → ends (beat.D z) t ≡ false
-        → IsAnswering z (beat.D z ∷ t)
-    goes z fine last = still (beat.D z) z fine (unended z t last) (answering-from l p z t fine before
-        (later z t last (is_release_ack z.opcode) refl (unfinished channel.D t) refl))
+    goes : (z : BeatD w) → broken_after l p (Beat.D z) t ≡ None → ends (Beat.D z) t ≡ false
+        → IsAnswering z (Beat.D z ∷ t)
+    goes z fine last = still (Beat.D z) z fine (unended z t last) (answering-from l p z t fine before
+        (later z t last (is_release_ack z.opcode) refl (unfinished Channel.D t) refl))
 
-    more : (z : BeatD w) → broken_after l p (beat.D z) t ≡ None → (last : Bool) → ends (beat.D z) t ≡ last
-        → (if last then [] else beat.D z ∷ unfinished channel.D t) ≡ beat.D y ∷ older → IsAnswering y (beat.D z ∷ t)
+    more : (z : BeatD w) → broken_after l p (Beat.D z) t ≡ None → (last : Bool) → ends (Beat.D z) t ≡ last
+        → (if last then [] else Beat.D z ∷ unfinished Channel.D t) ≡ Beat.D y ∷ older → IsAnswering y (Beat.D z ∷ t)
     more z fine true last is = absurd cc
     more z fine false last is =
-        let same : z ≡ y = same_d y z (same_head (beat.D z) (beat.D y) (unfinished channel.D t) older is) in
-        subst (λ v. IsAnswering v (beat.D z ∷ t)) same (goes z fine last)
+        let same : z ≡ y = same_d y z (same_head (Beat.D z) (Beat.D y) (unfinished Channel.D t) older is) in
+        subst (λ v. IsAnswering v (Beat.D z ∷ t)) same (goes z fine last)
 
-    go : (x : Beat w) → broken_after l p x t ≡ None → unfinished channel.D (x ∷ t) ≡ beat.D y ∷ older
+    go : (x : Beat w) → broken_after l p x t ≡ None → unfinished Channel.D (x ∷ t) ≡ Beat.D y ∷ older
         → IsAnswering y (x ∷ t)
-    go (beat.D z) fine is = more z fine (ends (beat.D z) t) refl is
-    go (beat.A z) fine is = still (beat.A z) y fine refl (before y older is)
-    go (beat.B z) fine is = still (beat.B z) y fine refl (before y older is)
-    go (beat.C z) fine is = still (beat.C z) y fine refl (before y older is)
-    go (beat.E z) fine is = still (beat.E z) y fine refl (before y older is)
+    go (Beat.D z) fine is = more z fine (ends (Beat.D z) t) refl is
+    go (Beat.A z) fine is = still (Beat.A z) y fine refl (before y older is)
+    go (Beat.B z) fine is = still (Beat.B z) y fine refl (before y older is)
+    go (Beat.C z) fine is = still (Beat.C z) y fine refl (before y older is)
+    go (Beat.E z) fine is = still (Beat.E z) y fine refl (before y older is)
 
 pub answering : {w : ℕ} (l : Level) (p : Profile) (t : History w) (y : BeatD w) (older : List (Beat w))
-    → is_legal l p t ≡ true → unfinished channel.D t ≡ beat.D y ∷ older → IsAnswering y t
+    → is_legal l p t ≡ true → unfinished Channel.D t ≡ Beat.D y ∷ older → IsAnswering y t
 unfolding unfinished
 answering l p [] y older legal is = absurd cc
 answering l p (x ∷ t) y older legal is =
@@ -115,81 +101,75 @@ answering l p (x ∷ t) y older legal is =
 
 -- each beat of a response that isn't a ReleaseAck does
 pub is-answering : {w : ℕ} (l : Level) (p : Profile) (y : BeatD w) (t : History w) → is_legal l p t ≡ true
-    → broken_after l p (beat.D y) t ≡ None → is_release_ack y.opcode ≡ false → IsAnswering y t
+    → broken_after l p (Beat.D y) t ≡ None → is_release_ack y.opcode ≡ false → IsAnswering y t
 is-answering l p y t legal fine other =
     answering-from l p y t fine (λ z older e. answering l p t z older legal e) (inl other)
 
 -- and each that isn't the last
 pub answering-unended : {w : ℕ} (l : Level) (p : Profile) (y : BeatD w) (t : History w) → is_legal l p t ≡ true
-    → broken_after l p (beat.D y) t ≡ None → ends (beat.D y) t ≡ false → IsAnswering y t
+    → broken_after l p (Beat.D y) t ≡ None → ends (Beat.D y) t ≡ false → IsAnswering y t
 answering-unended l p y t legal fine last =
     answering-from l p y t fine (λ z older e. answering l p t z older legal e)
-    (later y t last (is_release_ack y.opcode) refl (unfinished channel.D t) refl)
+    (later y t last (is_release_ack y.opcode) refl (unfinished Channel.D t) refl)
 
 -- ---- requests
 
 -- no answer to the request that a burst of channel A brings is complete with a beat
 unanswered : {w : ℕ} (l : Level) (p : Profile) (y : BeatD w) (t : History w) (x : BeatA w) (older : List (Beat w))
-    → is_legal l p t ≡ true → broken_after l p (beat.D y) t ≡ None → unfinished channel.A t ≡ beat.A x ∷ older
+    → is_legal l p t ≡ true → broken_after l p (Beat.D y) t ≡ None → unfinished Channel.A t ≡ Beat.A x ∷ older
     → (not (is_release_ack y.opcode) && (y.source == x.source)) ≡ false
 unanswered l p y t x older legal fine is = elim (cases_Bool (is_release_ack y.opcode)) [
   | inl ack ↦ rw ack refl
   | inr other ↦
       let k = is-answering l p y t legal fine other in
-      let apart : (x.source == y.source) ≡ false =
-      ap (comes_in_request y.source) (sym is) ∙ k.is_open.complete in
+      let apart : (x.source == y.source) ≡ false = ap (comes_in_request y.source) (sym is) ∙ k.is_open.complete in
       rw other (turned x.source y.source apart)
 ]
   where
     turned : (m n : ℕ) → (m == n) ≡ false → (n == m) ≡ false
     turned m n e = ne_eqb n m (λ same. absurd (let no : true ≡ false = sym (eq-eqb m n (sym same)) ∙ e in cc))
 
-same_a : {w : ℕ} (y z : BeatA w) → beat.A z ≡ beat.A y → z ≡ y
+same_a : {w : ℕ} (y z : BeatA w) → Beat.A z ≡ Beat.A y → z ≡ y
 same_a y z e = cc
 
-same_fields : {w : ℕ} (x y : BeatA w) → same_control (beat.A x) (beat.A y) ≡ true
+same_fields : {w : ℕ} (x y : BeatA w) → same_control (Beat.A x) (Beat.A y) ≡ true
     → request_fields (Some y) ≡ request_fields (Some x)
 same_fields x y e = let same = control_a x y e in rw (same.0, same.1, same.2, same.4) refl
 
 -- with a beat of channel A its request is kept
-with_request : {w : ℕ} (l : Level) (p : Profile) (x : BeatA w) (t : History w) → broken_after l p (beat.A x) t ≡ None
-    → ((y : BeatA w) (older : List (Beat w)) → unfinished channel.A t ≡ beat.A y ∷ older
+with_request : {w : ℕ} (l : Level) (p : Profile) (x : BeatA w) (t : History w) → broken_after l p (Beat.A x) t ≡ None
+    → ((y : BeatA w) (older : List (Beat w)) → unfinished Channel.A t ≡ Beat.A y ∷ older
     → kept_request y.source t ≡ request_fields (Some y))
-    → kept_request x.source (beat.A x ∷ t) ≡ request_fields (Some x)
+    → kept_request x.source (Beat.A x ∷ t) ≡ request_fields (Some x)
 with_request {w} l p x t fine before =
-    request-next x.source (beat.A x) t
-    ∙ go (unfinished channel.A t) refl (goes_on l p (beat.A x) t fine)
+    request-next x.source (Beat.A x) t
+    ∙ go (unfinished Channel.A t) refl (goes_on l p (Beat.A x) t fine)
   where
-    go : (burst : List (Beat w)) → unfinished channel.A t ≡ burst → breaks_burst (beat.A x) burst ≡ false
+    go : (burst : List (Beat w)) → unfinished Channel.A t ≡ burst → breaks_burst (Beat.A x) burst ≡ false
         → (if is_empty burst && (x.source == x.source) then request_fields (Some x) else kept_request x.source t)
         ≡ request_fields (Some x)
     go [] is e = rw (eq-eqb x.source x.source refl) refl
-    go (beat.A y ∷ older) is e =
-        let goes = not-false (same_control (beat.A x) (beat.A y)) e in
+    go (Beat.A y ∷ older) is e =
+        let goes = not-false (same_control (Beat.A x) (Beat.A y)) e in
         let same = control_a x y goes in
         rw same.3 (before y older is) ∙ same_fields x y goes
-    go (beat.B y ∷ older) is e = absurd cc
-    go (beat.C y ∷ older) is e = absurd cc
-    go (beat.D y ∷ older) is e = absurd cc
-    go (beat.E y ∷ older) is e = absurd cc
+    go v is e = absurd cc
 
 -- a request that isn't complete is kept, with one more beat
 coming-more : {w : ℕ} (l : Level) (p : Profile) (x : Beat w) (t : History w) → is_legal l p t ≡ true
-    → broken_after l p x t ≡ None
-    → ((z : BeatA w) (older : List (Beat w)) → unfinished channel.A t ≡ beat.A z ∷ older
-    → kept_request z.source t ≡ request_fields (Some z))
-    → (y : BeatA w) (older : List (Beat w)) → unfinished channel.A (x ∷ t) ≡ beat.A y ∷ older
-    → kept_request y.source (x ∷ t) ≡ request_fields (Some y)
+    → broken_after l p x t ≡ None → ((z : BeatA w) (older : List (Beat w)) → unfinished Channel.A t ≡ Beat.A z ∷ older
+    → kept_request z.source t ≡ request_fields (Some z)) → (y : BeatA w) (older : List (Beat w))
+    → unfinished Channel.A (x ∷ t) ≡ Beat.A y ∷ older → kept_request y.source (x ∷ t) ≡ request_fields (Some y)
 unfolding unfinished
 coming-more {w} l p x t legal fine before y older is = go x fine is
   where
-    more : (z : BeatA w) → broken_after l p (beat.A z) t ≡ None → (last : Bool)
-        → (if last then [] else beat.A z ∷ unfinished channel.A t) ≡ beat.A y ∷ older
-        → kept_request y.source (beat.A z ∷ t) ≡ request_fields (Some y)
+    more : (z : BeatA w) → broken_after l p (Beat.A z) t ≡ None → (last : Bool)
+        → (if last then [] else Beat.A z ∷ unfinished Channel.A t) ≡ Beat.A y ∷ older
+        → kept_request y.source (Beat.A z ∷ t) ≡ request_fields (Some y)
     more z fine true is = absurd cc
     more z fine false is =
-        let same : z ≡ y = same_a y z (same_head (beat.A z) (beat.A y) (unfinished channel.A t) older is) in
-        subst (λ v. kept_request v.source (beat.A z ∷ t) ≡ request_fields (Some v)) same (with_request l p z t fine
+        let same : z ≡ y = same_a y z (same_head (Beat.A z) (Beat.A y) (unfinished Channel.A t) older is) in
+        subst (λ v. kept_request v.source (Beat.A z ∷ t) ≡ request_fields (Some v)) same (with_request l p z t fine
         before)
 
     kept : (own last : Bool) → own ≡ false
@@ -197,19 +177,19 @@ coming-more {w} l p x t legal fine before y older is = go x fine is
     kept own true e = rw e refl
     kept own false e = refl
 
-    go : (x : Beat w) → broken_after l p x t ≡ None → unfinished channel.A (x ∷ t) ≡ beat.A y ∷ older
+    go : (x : Beat w) → broken_after l p x t ≡ None → unfinished Channel.A (x ∷ t) ≡ Beat.A y ∷ older
         → kept_request y.source (x ∷ t) ≡ request_fields (Some y)
-    go (beat.A z) fine is = more z fine (ends (beat.A z) t) is
-    go (beat.D z) fine is =
-        request-next y.source (beat.D z) t
-        ∙ kept _ (ends (beat.D z) t) (unanswered l p z t y older legal fine is)
+    go (Beat.A z) fine is = more z fine (ends (Beat.A z) t) is
+    go (Beat.D z) fine is =
+        request-next y.source (Beat.D z) t
+        ∙ kept _ (ends (Beat.D z) t) (unanswered l p z t y older legal fine is)
         ∙ before y older is
-    go (beat.B z) fine is = request-next y.source (beat.B z) t ∙ before y older is
-    go (beat.C z) fine is = request-next y.source (beat.C z) t ∙ before y older is
-    go (beat.E z) fine is = request-next y.source (beat.E z) t ∙ before y older is
+    go (Beat.B z) fine is = request-next y.source (Beat.B z) t ∙ before y older is
+    go (Beat.C z) fine is = request-next y.source (Beat.C z) t ∙ before y older is
+    go (Beat.E z) fine is = request-next y.source (Beat.E z) t ∙ before y older is
 
 pub coming : {w : ℕ} (l : Level) (p : Profile) (t : History w) (y : BeatA w) (older : List (Beat w))
-    → is_legal l p t ≡ true → unfinished channel.A t ≡ beat.A y ∷ older
+    → is_legal l p t ≡ true → unfinished Channel.A t ≡ Beat.A y ∷ older
     → kept_request y.source t ≡ request_fields (Some y)
 unfolding unfinished
 coming l p [] y older legal is = absurd cc
@@ -223,10 +203,10 @@ fields_of x = record { opcode = x.opcode; param = x.param; size = x.size; block 
 
 -- one that is complete with a beat is open
 pub open-now : {w : ℕ} (l : Level) (p : Profile) (x : BeatA w) (t : History w) → is_legal l p t ≡ true
-    → broken_after l p (beat.A x) t ≡ None → ends (beat.A x) t ≡ true
-    → open_request x.source (beat.A x ∷ t) ≡ Some (fields_of x)
+    → broken_after l p (Beat.A x) t ≡ None → ends (Beat.A x) t ≡ true
+    → open_request x.source (Beat.A x ∷ t) ≡ Some (fields_of x)
 unfolding unfinished
-open-now l p x t legal fine last = open-whole x.source (fields_of x) (beat.A x ∷ t) (record {
+open-now l p x t legal fine last = open-whole x.source (fields_of x) (Beat.A x ∷ t) (record {
   kept = with_request l p x t fine (λ y older e. coming l p t y older legal e);
   complete = rw last refl;
 })

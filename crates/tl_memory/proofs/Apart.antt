@@ -1,25 +1,13 @@
 -- No two accesses that are pending have the same source on a link, where no beat broke a rule: so all with the
 -- source of a response are the request that it answers.
-use Rattle.std.proofs.Common.{◌≡◌, ℕ, suc, Bool, true, false, not, ◌&&◌, List, [], ◌∷◌, length, Some, None}
-use Rattle.std.proofs.Common.{refl, sym, ap, ◌∙◌, inl, inr}
+use Rattle.tl_memory.proofs.Imports.{Beat, BeatA, Link, IsWidth, Level, Profile, open_request, Request, Trace}
+use Rattle.tl_memory.proofs.Imports.{broken_after, on_link, Access, is_access, is_of, pending_accesses, AreLegal}
+use Rattle.std.proofs.Common.{◌≡◌, ℕ, suc, Bool, true, false, not, ◌&&◌, List, [], ◌∷◌, length, Some, None, refl, sym}
+use Rattle.std.proofs.Common.{ap, ◌∙◌, inl, inr}
 use Rattle.std.specs.Prelude.{if◌then◌else◌, ◌==◌, filter, find, ⊤}
 use Rattle.std.proofs.lemmas.Bool.{and_parts, cases_Bool, eq-eqb, eqb-true}
-use Rattle.tl_beat.specs.declared.beat.Beat.{Beat}
-use Rattle.tl_beat.specs.declared.beat.Beat.TheVariants as beat
-use Rattle.tl_beat.specs.declared.beat.BeatA.{BeatA}
-use Rattle.tl_beat.specs.declared.beat.Link.{Link}
-use Rattle.tl_beat.specs.statement.Width.{IsWidth}
-use Rattle.tl_params.specs.declared.level.Level.{Level}
-use Rattle.tl_params.specs.declared.profile.Profile.{Profile}
-use Rattle.tl_rules.specs.code.Open.{open_request}
-use Rattle.tl_rules.specs.declared.past.Request.{Request}
-use Rattle.tl_rules.specs.statement.Conformance.{Trace, broken_after, on_link}
-use Rattle.tl_bytes.specs.statement.Bytes.{Access, is_access, is_of, pending_accesses, pending_with}
-use Rattle.tl_bytes.proofs.Finding.{find-left}
-use Rattle.tl_bytes.proofs.Pending.{IsPending}
-use Rattle.tl_memory.specs.code.Taking.{AreAsked}
-use Rattle.tl_memory.specs.statement.Links.{AreLegal}
-use Rattle.tl_memory.proofs.Open.{fresh}
+use Rattle.tl_bytes.{specs.statement.Bytes.pending_with, proofs.Finding.find-left, proofs.Pending.IsPending}
+use Rattle.tl_memory.{specs.code.Taking.AreAsked, proofs.Open.fresh}
 use Rattle.tl_memory.proofs.OpenAccesses.{is-fine, pending-open, same_asked}
 
 -- each of these is the first of all with its source on its link
@@ -38,8 +26,7 @@ own access = rw (eq-eqb access.link access.link refl, eq-eqb access.request.sour
 
 more-first : {w : ℕ} (new : Access w) (all accesses : List (Access w))
     → ((access : Access w) → find (is_of access.link access.request.source) all ≡ Some access
-    → is_of access.link access.request.source new ≡ false)
-    → AreFirst all accesses → AreFirst (new ∷ all) accesses
+    → is_of access.link access.request.source new ≡ false) → AreFirst all accesses → AreFirst (new ∷ all) accesses
 more-first new all [] apart first = tt
 more-first new all (access ∷ accesses) apart first =
     (rw (apart access first.0) first.0, more-first new all accesses apart first.1)
@@ -47,7 +34,7 @@ more-first new all (access ∷ accesses) apart first =
 -- a request isn't complete with the source of one that is pending
 new-apart : {w : ℕ} (levels : List Level) (p : Profile) (x : Link × Beat w) (t : Trace w) (z : BeatA w)
     (new access : Access w)
-    → IsWidth w → AreLegal levels p (x ∷ t) → x.1 ≡ beat.A z → new.link ≡ x.0.0 → new.request.source ≡ z.source
+    → IsWidth w → AreLegal levels p (x ∷ t) → x.1 ≡ Beat.A z → new.link ≡ x.0.0 → new.request.source ≡ z.source
     → IsPending access.link access.request.source access t → is_of access.link access.request.source new ≡ false
 new-apart levels p x t z new access width legal is link source pending =
     elim (cases_Bool (is_of access.link access.request.source new)) [
@@ -56,7 +43,7 @@ new-apart levels p x t z new access width legal is link source pending =
           let both = and_parts (new.link == access.link) (new.request.source == access.request.source) same in
           let here : x.0.0 ≡ access.link = sym link ∙ eqb-true new.link access.link both.0 in
           let f = is-fine levels p x t legal.0 in
-          let fine : broken_after f.level p (beat.A z) (on_link access.link t) ≡ None =
+          let fine : broken_after f.level p (Beat.A z) (on_link access.link t) ≡ None =
           ap (λ b. broken_after f.level p b (on_link access.link t)) (sym is)
           ∙ ap (λ n. broken_after f.level p x.1 (on_link n t)) (sym here) ∙ f.fine in
           let k = pending-open levels p access.link access.request.source access t width legal.1 pending in
@@ -99,7 +86,7 @@ module _ {w : ℕ} (levels : List Level) (p : Profile) (width : IsWidth w) where
   are-first [] legal = tt
   are-first (x ∷ t) legal = go x.1 refl (are-first t legal.1)
     where
-      asks : (z : BeatA w) → x.1 ≡ beat.A z → (c : Bool) (new : Access w) → new.link ≡ x.0.0
+      asks : (z : BeatA w) → x.1 ≡ Beat.A z → (c : Bool) (new : Access w) → new.link ≡ x.0.0
           → new.request.source ≡ z.source → AreFirst (pending_accesses t) (pending_accesses t)
           → AreFirst (if c then new ∷ pending_accesses t else pending_accesses t)
           (if c then new ∷ pending_accesses t else pending_accesses t)
@@ -120,11 +107,9 @@ module _ {w : ℕ} (levels : List Level) (p : Profile) (width : IsWidth w) where
       go : (b : Beat w) → x.1 ≡ b → AreFirst (pending_accesses t) (pending_accesses t)
           → AreFirst (pending_with x.0.0 b (on_link x.0.0 t) (suc (length t)) (pending_accesses t))
           (pending_with x.0.0 b (on_link x.0.0 t) (suc (length t)) (pending_accesses t))
-      go (beat.A z) is first = asks z is _ _ refl refl first
-      go (beat.D z) is first = answers _ x.0.0 z.source first
-      go (beat.B z) is first = first
-      go (beat.C z) is first = first
-      go (beat.E z) is first = first
+      go (Beat.A z) is first = asks z is _ _ refl refl first
+      go (Beat.D z) is first = answers _ x.0.0 z.source first
+      go v is first = first
 
   -- all with a source are its open request
   asked-of : (c s : ℕ) (asked : Request) (t : Trace w) (all accesses : List (Access w)) → AreLegal levels p t

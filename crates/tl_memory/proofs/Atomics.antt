@@ -1,52 +1,31 @@
 -- What an atomic leaves in its block.
-use Rattle.std.proofs.Common.{◌≡◌, ℕ, Bool, true, false, not, ◌&&◌, ◌+◌, ◌-◌, ◌*◌, ◌/◌}
-use Rattle.std.proofs.Common.{◌%◌, ◌^◌, ◌<◌, ◌≤◌, List, length}
-use Rattle.std.proofs.Common.{refl, sym, ap, ◌∙◌, ◌⊎◌, [], ◌∷◌, arith, inl, inr, pow_pos}
+use Rattle.tl_memory.proofs.Imports.{Beat, OpA, a_carries_data, IsWidth, MessageA, bit, data_beats, reaches, first_if}
+use Rattle.tl_memory.proofs.Imports.{L1, L2, L3, a_has_param, a_has_size, a_of_level, base_of, base_in_memory, Access}
+use Rattle.tl_memory.proofs.Imports.{access_writes, writes, is_put, Level}
+use Rattle.std.proofs.Common.{◌≡◌, ℕ, Bool, true, false, not, ◌&&◌, ◌+◌, ◌-◌, ◌*◌, ◌/◌, ◌%◌, ◌^◌, ◌<◌, ◌≤◌, List}
+use Rattle.std.proofs.Common.{length, refl, sym, ap, ◌∙◌, ◌⊎◌, [], ◌∷◌, arith, inl, inr, pow_pos}
 use Rattle.std.specs.Prelude.{if◌then◌else◌, nat_le, nat_lt, None, Option, slice_index, unwrap_or, ◌==◌}
 use Rattle.std.proofs.lemmas.Bool.{cases_eq, eqb-true, ne_eqb}
-use Rattle.std.proofs.lemmas.Nat.{div-add-mod'}
-use Rattle.tl_beat.specs.declared.beat.Beat.{Beat}
-use Rattle.tl_beat.specs.declared.opcode.OpA.{OpA}
-use Rattle.tl_beat.specs.declared.opcode.OpA.TheVariants as a
-use Rattle.tl_beat.specs.statement.Opcode.{a_carries_data}
-use Rattle.tl_beat.specs.statement.Width.{IsWidth}
-use Rattle.tl_burst.specs.declared.message.Message.TheVariants as message
-use Rattle.tl_burst.specs.declared.message.MessageA.{MessageA}
-use Rattle.tl_burst.specs.statement.Burst.{beats_of, bit, data_beats, mask_at, reaches}
-use Rattle.tl_beat.specs.declared.channel.Channel.TheVariants as channel
-use Rattle.tl_beat.specs.statement.First.{first_if}
-use Rattle.tl_params.specs.declared.rule.Rule.TheVariants.{L1, L2, L3}
-use Rattle.tl_rules.specs.code.Control.{a_control, a_own}
-use Rattle.tl_rules.specs.statement.Legality.{a_has_mask, a_has_param, a_has_size, a_of_level, each_below}
-use Rattle.tl_rules.specs.statement.Legality.{illegal_message}
-use Rattle.tl_rules.specs.statement.Legality.{is_full_mask, is_one_of}
-use Rattle.tl_rules.proofs.Checks.{a_beats, both}
-use Rattle.tl_rules.proofs.Legal.{legal_from_beats}
-use Rattle.std.proofs.Math.Nat.{div-eq_of_lt}
-use Rattle.std.specs.Bool.{beq}
-use Rattle.tl_rules.specs.code.Place.{base_of, moved_up}
-use Rattle.tl_rules.specs.statement.Effect.{IsBlock, Memory, after, effect, number_from, operand_of}
-use Rattle.tl_rules.specs.statement.Effect.{arithmetic_result, by_param, byte_of, logical_result}
+use Rattle.std.{proofs.lemmas.Nat.div-add-mod', proofs.Math.Nat.div-eq_of_lt, specs.Bool.beq}
+use Rattle.tl_burst.specs.declared.message.Message.{Message}
+use Rattle.tl_burst.specs.statement.Burst.{beats_of, mask_at}
+use Rattle.tl_beat.specs.declared.channel.Channel.{Channel}
+use Rattle.tl_rules.{specs.code.Control.a_control, specs.code.Control.a_own, proofs.Checks.a_beats, proofs.Checks.both}
+use Rattle.tl_rules.{proofs.Legal.legal_from_beats, specs.code.Place.moved_up, proofs.Blocks.moved_byte}
+use Rattle.tl_rules.{proofs.Bursts.control_aligned, proofs.Places.number_same, proofs.Rooms.room_in_block}
+use Rattle.tl_rules.specs.statement.Legality.{a_has_mask, each_below, illegal_message, is_full_mask, is_one_of}
+use Rattle.tl_rules.specs.statement.Effect.{IsBlock, Memory, after, effect, number_from, operand_of, arithmetic_result}
+use Rattle.tl_rules.specs.statement.Effect.{by_param, byte_of, logical_result}
 use Rattle.tl_params.specs.statement.Param.{arithmetic_of, logical_of}
-use Rattle.tl_rules.proofs.Blocks.{moved_byte}
-use Rattle.tl_rules.proofs.Bursts.{control_aligned}
-use Rattle.tl_rules.proofs.Places.{number_same}
-use Rattle.tl_rules.proofs.Rooms.{base_in_memory, room_in_block}
-use Rattle.tl_params.specs.declared.level.Level.TheVariants as level
-use Rattle.tl_bytes.specs.statement.Bytes.{Access, access_writes, carried_byte, found_memory, writes}
-use Rattle.tl_memory.specs.statement.Known.{IsPerformable, is_atomic, is_put}
+use Rattle.tl_bytes.specs.statement.Bytes.{carried_byte, found_memory}
+use Rattle.tl_memory.specs.statement.Known.{IsPerformable, is_atomic}
 
 -- an access that writes and is no Put is an atomic
 pub atomic-writes : {w : ℕ} (op : OpA) (m : MessageA w) (x : ℕ) → is_put op ≡ false → writes op m x ≡ true
     → (is_atomic op ≡ true) × (reaches m.address m.size x ≡ true) × (a_carries_data op ≡ true)
-atomic-writes a.PutFullData m x e written = absurd cc
-atomic-writes a.PutPartialData m x e written = absurd cc
-atomic-writes a.ArithmeticData m x e written = (refl, written, refl)
-atomic-writes a.LogicalData m x e written = (refl, written, refl)
-atomic-writes a.Get m x e written = absurd cc
-atomic-writes a.Intent m x e written = absurd cc
-atomic-writes a.AcquireBlock m x e written = absurd cc
-atomic-writes a.AcquirePerm m x e written = absurd cc
+atomic-writes OpA.ArithmeticData m x e written = (refl, written, refl)
+atomic-writes OpA.LogicalData m x e written = (refl, written, refl)
+atomic-writes v m x e written = absurd cc
 
 -- what an operation on the numbers that these fields reach leaves
 abbrev left_by : (ℕ → ℕ → ℕ → ℕ → ℕ) → ℕ → ℕ → ℕ → ℕ → List ℕ → Memory → ℕ → ℕ
@@ -56,70 +35,65 @@ left_by result w param size address payload f x =
     (number_from (λ y. slice_index payload (y - w * (address / w))) address (2 ^ size))) (x - address)
     else f x
 
-same_left : (result : ℕ → ℕ → ℕ → ℕ → ℕ) (w p q s t b c x : ℕ) (one other : List ℕ) (f g : Memory)
-    → p ≡ q → s ≡ t → b ≡ c → number_from f c (2 ^ t) ≡ number_from g c (2 ^ t)
-    → number_from (λ y. slice_index one (y - w * (c / w))) c (2 ^ t)
-    ≡ number_from (λ y. slice_index other (y - w * (c / w))) c (2 ^ t)
-    → reaches c t x ≡ true → left_by result w p s b one f x ≡ left_by result w q t c other g x
+same_left : (result : ℕ → ℕ → ℕ → ℕ → ℕ) (w p q s t b c x : ℕ) (one other : List ℕ) (f g : Memory) → p ≡ q → s ≡ t
+    → b ≡ c → number_from f c (2 ^ t) ≡ number_from g c (2 ^ t) → number_from (λ y. slice_index one (y - w * (c / w))) c
+    (2 ^ t) ≡ number_from (λ y. slice_index other (y - w * (c / w))) c (2 ^ t) → reaches c t x ≡ true
+    → left_by result w p s b one f x ≡ left_by result w q t c other g x
 same_left result w p q s t b c x one other f g param size address old operand reach =
     rw (param, size, address, reach, old, operand) refl
 
 -- two atomics of the same fields leave the same of memories and operands that are the same where they reach
-same_after : {w : ℕ} (op : OpA) (m r : MessageA w) (f g : Memory) (x : ℕ) → is_atomic op ≡ true
-    → m.param ≡ r.param → m.size ≡ r.size → m.address ≡ r.address
-    → number_from f r.address (2 ^ r.size) ≡ number_from g r.address (2 ^ r.size)
-    → number_from (λ y. slice_index m.payload (y - w * (r.address / w))) r.address (2 ^ r.size)
-    ≡ number_from (operand_of r) r.address (2 ^ r.size)
-    → reaches r.address r.size x ≡ true → after op m f x ≡ after op r g x
-same_after {w} a.ArithmeticData m r f g x is param size address old operand reach =
+same_after : {w : ℕ} (op : OpA) (m r : MessageA w) (f g : Memory) (x : ℕ) → is_atomic op ≡ true → m.param ≡ r.param
+    → m.size ≡ r.size → m.address ≡ r.address → number_from f r.address (2 ^ r.size) ≡ number_from g r.address
+    (2 ^ r.size) → number_from (λ y. slice_index m.payload (y - w * (r.address / w))) r.address (2 ^ r.size)
+    ≡ number_from (operand_of r) r.address (2 ^ r.size) → reaches r.address r.size x ≡ true
+    → after op m f x ≡ after op r g x
+same_after {w} OpA.ArithmeticData m r f g x is param size address old operand reach =
     same_left (λ p s. by_param (λ o. arithmetic_result o (8 * 2 ^ s)) (arithmetic_of p)) w m.param r.param m.size r.size
     m.address r.address x m.payload r.payload f g param size address old operand reach
-same_after {w} a.LogicalData m r f g x is param size address old operand reach =
+same_after {w} OpA.LogicalData m r f g x is param size address old operand reach =
     same_left (λ p s. by_param logical_result (logical_of p)) w m.param r.param m.size r.size
     m.address r.address x m.payload r.payload f g param size address old operand reach
-same_after a.PutFullData m r f g x is param size address old operand reach = absurd cc
-same_after a.PutPartialData m r f g x is param size address old operand reach = absurd cc
-same_after a.Get m r f g x is param size address old operand reach = absurd cc
-same_after a.Intent m r f g x is param size address old operand reach = absurd cc
-same_after a.AcquireBlock m r f g x is param size address old operand reach = absurd cc
-same_after a.AcquirePerm m r f g x is param size address old operand reach = absurd cc
+same_after OpA.PutFullData m r f g x is param size address old operand reach = absurd cc
+same_after OpA.PutPartialData m r f g x is param size address old operand reach = absurd cc
+same_after OpA.Get m r f g x is param size address old operand reach = absurd cc
+same_after OpA.Intent m r f g x is param size address old operand reach = absurd cc
+same_after OpA.AcquireBlock m r f g x is param size address old operand reach = absurd cc
+same_after OpA.AcquirePerm m r f g x is param size address old operand reach = absurd cc
 
 unmasked : (result : ℕ → ℕ → ℕ → ℕ → ℕ) (w p q s t b c x : ℕ) (one other : List ℕ) (f : Memory)
     → p ≡ q → s ≡ t → b ≡ c → one ≡ other → left_by result w p s b one f x ≡ left_by result w q t c other f x
 unmasked result w p q s t b c x one other f param size address payload = rw (param, size, address, payload) refl
 
 -- and whatever their masks are
-pub same-fields : {w : ℕ} (op : OpA) (m r : MessageA w) (f : Memory) (x : ℕ) → is_atomic op ≡ true
-    → m.param ≡ r.param → m.size ≡ r.size → m.address ≡ r.address → m.payload ≡ r.payload
-    → after op m f x ≡ after op r f x
-same-fields {w} a.ArithmeticData m r f x is param size address payload =
+pub same-fields : {w : ℕ} (op : OpA) (m r : MessageA w) (f : Memory) (x : ℕ) → is_atomic op ≡ true → m.param ≡ r.param
+    → m.size ≡ r.size → m.address ≡ r.address → m.payload ≡ r.payload → after op m f x ≡ after op r f x
+same-fields {w} OpA.ArithmeticData m r f x is param size address payload =
     unmasked (λ p s. by_param (λ o. arithmetic_result o (8 * 2 ^ s)) (arithmetic_of p)) w m.param r.param m.size r.size
     m.address r.address x m.payload r.payload f param size address payload
-same-fields {w} a.LogicalData m r f x is param size address payload =
+same-fields {w} OpA.LogicalData m r f x is param size address payload =
     unmasked (λ p s. by_param logical_result (logical_of p)) w m.param r.param m.size r.size
     m.address r.address x m.payload r.payload f param size address payload
-same-fields a.PutFullData m r f x is param size address payload = absurd cc
-same-fields a.PutPartialData m r f x is param size address payload = absurd cc
-same-fields a.Get m r f x is param size address payload = absurd cc
-same-fields a.Intent m r f x is param size address payload = absurd cc
-same-fields a.AcquireBlock m r f x is param size address payload = absurd cc
-same-fields a.AcquirePerm m r f x is param size address payload = absurd cc
+same-fields OpA.PutFullData m r f x is param size address payload = absurd cc
+same-fields OpA.PutPartialData m r f x is param size address payload = absurd cc
+same-fields OpA.Get m r f x is param size address payload = absurd cc
+same-fields OpA.Intent m r f x is param size address payload = absurd cc
+same-fields OpA.AcquireBlock m r f x is param size address payload = absurd cc
+same-fields OpA.AcquirePerm m r f x is param size address payload = absurd cc
 
 -- what was performed on the bytes that an answer brought is what the access leaves of the memory that it found
 pub atomic-leaves : {w : ℕ} (access : Access w) (m : MessageA w) (found block new : List ℕ) (base p : ℕ)
-    (answer : List (Beat w)) → IsWidth w
-    → m.opcode ≡ access.request.opcode → m.param ≡ access.request.param → m.size ≡ access.request.size
-    → m.address ≡ access.request.address → is_put access.request.opcode ≡ false
+    (answer : List (Beat w)) → IsWidth w → m.opcode ≡ access.request.opcode → m.param ≡ access.request.param
+    → m.size ≡ access.request.size → m.address ≡ access.request.address → is_put access.request.opcode ≡ false
     → base ≡ base_of w access.request.address → block ≡ moved_up base found
     → ((q : ℕ) → q < 64 → slice_index found q ≡ unwrap_or (carried_byte answer q) 0)
     → ((q : ℕ) → q < length access.request.payload → slice_index m.payload q ≡ slice_index access.request.payload q)
     → IsPerformable w access.request.opcode access.request.param access.request.size access.request.address
     → access.request.address % w + 2 ^ access.request.size ≤ length access.request.payload
     → ((memory : Memory) → is_atomic m.opcode ≡ true → IsPerformable w m.opcode m.param m.size m.address
-    → IsBlock memory (m.address / 64) block → IsBlock (after m.opcode m memory) (m.address / 64) new)
-    → p < 64 → access_writes (64 * (access.request.address / 64) + p) access ≡ true
-    → slice_index new p
-    ≡ (effect (message.A access.request) (found_memory access.request answer)).0
+    → IsBlock memory (m.address / 64) block → IsBlock (after m.opcode m memory) (m.address / 64) new) → p < 64
+    → access_writes (64 * (access.request.address / 64) + p) access ≡ true
+    → slice_index new p ≡ (effect (Message.A access.request) (found_memory access.request answer)).0
     (64 * (access.request.address / 64) + p)
 unfolding effect
 atomic-leaves {w} access m found block new base p answer is opcode param size address put base_is block_is found_is
@@ -146,20 +120,18 @@ atomic-leaves {w} access m found block new base p answer is opcode param size ad
     room : access.request.address % 64 + 2 ^ access.request.size ≤ 64
     room = room_in_block access.request.size access.request.address access.request.small
         (eqb-true (access.request.address % 2 ^ access.request.size) 0
-        (control_aligned w level.UH access.request.opcode access.request.param access.request.size
+        (control_aligned w Level.UH access.request.opcode access.request.param access.request.size
         access.request.address lawful))
 
     start : w * (access.request.address / w) ≡ 64 * (access.request.address / 64) + base
-    start = base_in_memory w access.request.address is
-        ∙ ap (λ n. 64 * (access.request.address / 64) + n) (sym base_is)
+    start = base_in_memory w access.request.address is ∙ ap (λ n. 64 * (access.request.address / 64) + n) (sym base_is)
 
     below : base ≤ access.request.address % 64
     below = let whole = div-add-mod' access.request.address w in omega (
       arith,
       start,
       whole,
-      turned w
-          (access.request.address / w),
+      turned w (access.request.address / w),
     )
       where
         turned : (m n : ℕ) → m * n ≡ n * m
@@ -209,27 +181,17 @@ two_or_three size e = elim (cases_eq size 2) [
     none e = cc
 
 -- the sizes of atomics, which are the same at each level
-atomic_sized : (w : ℕ) (op : OpA) (size : ℕ) → is_atomic op ≡ true → a_has_size w level.UH op size ≡ true
+atomic_sized : (w : ℕ) (op : OpA) (size : ℕ) → is_atomic op ≡ true → a_has_size w Level.UH op size ≡ true
     → (size ≡ 2) ⊎ (size ≡ 3)
-atomic_sized w a.ArithmeticData size is e = two_or_three size e
-atomic_sized w a.LogicalData size is e = two_or_three size e
-atomic_sized w a.PutFullData size is e = absurd cc
-atomic_sized w a.PutPartialData size is e = absurd cc
-atomic_sized w a.Get size is e = absurd cc
-atomic_sized w a.Intent size is e = absurd cc
-atomic_sized w a.AcquireBlock size is e = absurd cc
-atomic_sized w a.AcquirePerm size is e = absurd cc
+atomic_sized w OpA.ArithmeticData size is e = two_or_three size e
+atomic_sized w OpA.LogicalData size is e = two_or_three size e
+atomic_sized w v size is e = absurd cc
 
 atomic_mask : (w : ℕ) (op : OpA) (size address mask : ℕ) → is_atomic op ≡ true
     → a_has_mask w op size address mask ≡ is_full_mask w size address mask
-atomic_mask w a.ArithmeticData size address mask is = refl
-atomic_mask w a.LogicalData size address mask is = refl
-atomic_mask w a.PutFullData size address mask is = absurd cc
-atomic_mask w a.PutPartialData size address mask is = absurd cc
-atomic_mask w a.Get size address mask is = absurd cc
-atomic_mask w a.Intent size address mask is = absurd cc
-atomic_mask w a.AcquireBlock size address mask is = absurd cc
-atomic_mask w a.AcquirePerm size address mask is = absurd cc
+atomic_mask w OpA.ArithmeticData size address mask is = refl
+atomic_mask w OpA.LogicalData size address mask is = refl
+atomic_mask w v size address mask is = absurd cc
 
 -- the mask of each beat is that of its lanes
 abbrev whole_mask : ℕ → ℕ → ℕ
@@ -319,14 +281,9 @@ full_mask w size address i (inr (inr w16)) (inr s) e lt = rw (w16, s)
     zero_at less = omega (arith, less)
 
 atomic_carries : (op : OpA) → is_atomic op ≡ true → a_carries_data op ≡ true
-atomic_carries a.ArithmeticData e = refl
-atomic_carries a.LogicalData e = refl
-atomic_carries a.PutFullData e = absurd cc
-atomic_carries a.PutPartialData e = absurd cc
-atomic_carries a.Get e = absurd cc
-atomic_carries a.Intent e = absurd cc
-atomic_carries a.AcquireBlock e = absurd cc
-atomic_carries a.AcquirePerm e = absurd cc
+atomic_carries OpA.ArithmeticData e = refl
+atomic_carries OpA.LogicalData e = refl
+atomic_carries v e = absurd cc
 
 own_legal : (w : ℕ) (op : OpA) (size address mask : ℕ) → is_atomic op ≡ true → is_full_mask w size address mask ≡ true
     → a_own w op size address mask false ≡ None
@@ -336,11 +293,10 @@ no_bit : (n i : ℕ) → n ≡ 0 → bit n i ≡ false
 no_bit n i e = rw (e, div-eq_of_lt (pow_pos i)) refl
 
 pub atomic-legal : {w : ℕ} (m : MessageA w) → IsWidth w → is_atomic m.opcode ≡ true
-    → IsPerformable w m.opcode m.param m.size m.address
-    → m.mask ≡ whole_mask m.size (m.address % w) → m.corrupt ≡ 0
-    → illegal_message level.UH channel.A (message.A m) ≡ None
-atomic-legal {w} m is atomic lawful mask corrupt = legal_from_beats level.UH channel.A (message.A m) (λ i lt.
-    a_beats level.UH m i ∙ both (a_control w level.UH m.opcode m.param m.size m.address) _ lawful
+    → IsPerformable w m.opcode m.param m.size m.address → m.mask ≡ whole_mask m.size (m.address % w) → m.corrupt ≡ 0
+    → illegal_message Level.UH Channel.A (Message.A m) ≡ None
+atomic-legal {w} m is atomic lawful mask corrupt = legal_from_beats Level.UH Channel.A (Message.A m) (λ i lt.
+    a_beats Level.UH m i ∙ both (a_control w Level.UH m.opcode m.param m.size m.address) _ lawful
     (ap (λ b. a_own w m.opcode m.size m.address (mask_at w m.mask i) b) (no_bit m.corrupt i corrupt)
     ∙ ap (λ n. a_own w m.opcode m.size m.address (mask_at w n i) false) mask
     ∙ own_legal w m.opcode m.size m.address (mask_at w (whole_mask m.size (m.address % w)) i) atomic
@@ -348,13 +304,13 @@ atomic-legal {w} m is atomic lawful mask corrupt = legal_from_beats level.UH cha
   where
     sized : (m.size ≡ 2) ⊎ (m.size ≡ 3)
     sized =
-        let one = rule_broken (not (a_of_level level.UH m.opcode)) L1 _ lawful in
+        let one = rule_broken (not (a_of_level Level.UH m.opcode)) L1 _ lawful in
         let two = rule_broken (not (a_has_param m.opcode m.param)) L2 _ one.1 in
-        let three = rule_broken (not (a_has_size w level.UH m.opcode m.size)) L3 _ two.1 in
-        atomic_sized w m.opcode m.size atomic (denied (a_has_size w level.UH m.opcode m.size) three.0)
+        let three = rule_broken (not (a_has_size w Level.UH m.opcode m.size)) L3 _ two.1 in
+        atomic_sized w m.opcode m.size atomic (denied (a_has_size w Level.UH m.opcode m.size) three.0)
 
     aligned : m.address % 2 ^ m.size ≡ 0
-    aligned = eqb-true (m.address % 2 ^ m.size) 0 (control_aligned w level.UH m.opcode m.param m.size m.address lawful)
+    aligned = eqb-true (m.address % 2 ^ m.size) 0 (control_aligned w Level.UH m.opcode m.param m.size m.address lawful)
 
-    beats : (i : ℕ) → i < beats_of (message.A m) → i < data_beats w m.size
+    beats : (i : ℕ) → i < beats_of (Message.A m) → i < data_beats w m.size
     beats i lt = rw (atomic_carries m.opcode atomic) at lt

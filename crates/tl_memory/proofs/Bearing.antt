@@ -1,29 +1,17 @@
 -- Beats that bear on another block leave what is kept of this one.
+use Rattle.tl_memory.proofs.Imports.{Beat, BeatA, BeatC, BeatD, Link, c_carries_data, unfinished, Trace, on_link}
+use Rattle.tl_memory.proofs.Imports.{block_at, ends, Access, asked_by, ends_request, is_access, is_of, pending_accesses}
+use Rattle.tl_memory.proofs.Imports.{tells, IsElsewhere, LeavesHeld, PassesBy, WritesNot, BlockState, AllWriteInside}
+use Rattle.tl_memory.proofs.Imports.{is_to, KnowsState}
 use Rattle.std.proofs.Common.{◌≡◌, ℕ, suc, Bool, true, false, not, ◌&&◌, ◌||◌, ◌+◌, ◌*◌, ◌/◌, ◌<◌, List, [], ◌∷◌}
 use Rattle.std.proofs.Common.{length, refl, sym, ap, ◌∙◌, inl, inr}
 use Rattle.std.specs.Prelude.{if◌then◌else◌, filter, find, ◌==◌}
 use Rattle.std.proofs.lemmas.Bool.{cases_Bool, eq-eqb}
-use Rattle.tl_beat.specs.declared.beat.Beat.{Beat}
-use Rattle.tl_beat.specs.declared.beat.Beat.TheVariants as beat
-use Rattle.tl_beat.specs.declared.beat.BeatA.{BeatA}
-use Rattle.tl_beat.specs.declared.beat.BeatB.{BeatB}
-use Rattle.tl_beat.specs.declared.beat.BeatC.{BeatC}
-use Rattle.tl_beat.specs.declared.beat.BeatD.{BeatD}
-use Rattle.tl_beat.specs.declared.beat.BeatE.{BeatE}
-use Rattle.tl_beat.specs.declared.beat.Link.{Link}
-use Rattle.tl_beat.specs.statement.Opcode.{c_carries_data}
-use Rattle.tl_beat.specs.declared.channel.Channel.TheVariants as channel
-use Rattle.tl_burst.specs.statement.Messages.{unfinished}
-use Rattle.tl_rules.specs.statement.Conformance.{Trace, on_link}
-use Rattle.tl_rules.specs.statement.History.{block_at, ends, grants, is_probe_ack, is_release}
-use Rattle.tl_bytes.specs.statement.Bytes.{Access, asked_by, ends_request, is_access, is_of}
-use Rattle.tl_bytes.specs.statement.Bytes.{pending_accesses, tells}
-use Rattle.tl_memory.specs.code.Elsewhere.{IsElsewhere, LeavesHeld, NoneIsTo, PassesBy, WritesNot}
-use Rattle.tl_memory.specs.declared.block.BlockState.{BlockState}
-use Rattle.tl_memory.specs.statement.Known.{AllWriteInside, is_to, KnowsState}
+use Rattle.tl_beat.{specs.declared.beat.BeatB.BeatB, specs.declared.beat.BeatE.BeatE}
+use Rattle.tl_beat.{specs.declared.channel.Channel.Channel}
+use Rattle.tl_rules.specs.statement.History.{grants, is_probe_ack, is_release}
+use Rattle.tl_memory.{specs.code.Elsewhere.NoneIsTo, proofs.Keeping.inside-kept, proofs.Writing.apart}
 use Rattle.tl_memory.proofs.Elsewhere.{elsewhere-kept, free-kept, freedom-kept, held-kept}
-use Rattle.tl_memory.proofs.Keeping.{inside-kept}
-use Rattle.tl_memory.proofs.Writing.{apart}
 
 -- what is kept of a block that a beat passes by
 pub stays : {w : ℕ} (s : BlockState w) (n block : ℕ) (x : Link × Beat w) (t : Trace w) → PassesBy block x t
@@ -34,9 +22,8 @@ stays s n block x t passes k = freedom-kept s n block x t (free-kept n block x t
 -- ---- requests
 
 -- a beat of channel A leaves as much of each block with its link
-pub request-leaves : {w : ℕ} (block : ℕ) (link : Link) (y : BeatA w) (t : Trace w)
-    → LeavesHeld block (link, beat.A y) t
-request-leaves block link y t = held-kept block (beat.A y) (on_link link.0 t) (λ over. refl)
+pub request-leaves : {w : ℕ} (block : ℕ) (link : Link) (y : BeatA w) (t : Trace w) → LeavesHeld block (link, Beat.A y) t
+request-leaves block link y t = held-kept block (Beat.A y) (on_link link.0 t) (λ over. refl)
 
 -- a request that is complete is among those that are pending
 asked-elsewhere : {w : ℕ} (c : Bool) (block : ℕ) (access : Access w) (before : List (Access w))
@@ -47,15 +34,15 @@ asked-elsewhere false block access before other = refl
 
 -- a beat of channel A that completes no access to the block
 pub request-passes : {w : ℕ} (block : ℕ) (link : Link) (y : BeatA w) (t : Trace w)
-    → AllWriteInside (pending_accesses ((link, beat.A y) ∷ t))
-    → (is_access y.opcode && ends (beat.A y) (on_link link.0 t) ≡ true → (block_at y.address == block) ≡ false)
-    → PassesBy block (link, beat.A y) t
+    → AllWriteInside (pending_accesses ((link, Beat.A y) ∷ t))
+    → (is_access y.opcode && ends (Beat.A y) (on_link link.0 t) ≡ true → (block_at y.address == block) ≡ false)
+    → PassesBy block (link, Beat.A y) t
 unfolding pending_accesses
 request-passes block link y t inside other = record {
   elsewhere = record {
     quiet = refl;
     keeps = λ place lt. tt;
-    pending_stay = asked-elsewhere (is_access y.opcode && ends (beat.A y) (on_link link.0 t)) block _
+    pending_stay = asked-elsewhere (is_access y.opcode && ends (Beat.A y) (on_link link.0 t)) block _
         (pending_accesses t) other;
     inside = inside;
   };
@@ -63,43 +50,42 @@ request-passes block link y t inside other = record {
 }
 
 -- one with which no access is complete
-pub unasked-passes : {w : ℕ} (block : ℕ) (link : Link) (y : BeatA w) (t : Trace w)
-    → AllWriteInside (pending_accesses t) → is_access y.opcode && ends (beat.A y) (on_link link.0 t) ≡ false
-    → PassesBy block (link, beat.A y) t
+pub unasked-passes : {w : ℕ} (block : ℕ) (link : Link) (y : BeatA w) (t : Trace w) → AllWriteInside (pending_accesses t)
+    → is_access y.opcode && ends (Beat.A y) (on_link link.0 t) ≡ false → PassesBy block (link, Beat.A y) t
 unfolding pending_accesses
 unasked-passes block link y t inside none =
     request-passes block link y t (rw none inside) (λ complete. absurd (let e : true ≡ false = sym complete ∙ none in
     cc))
 
 pub pending-asked : {w : ℕ} (link : Link) (y : BeatA w) (t : Trace w)
-    → is_access y.opcode && ends (beat.A y) (on_link link.0 t) ≡ true
-    → pending_accesses ((link, beat.A y) ∷ t)
-    ≡ asked_by link.0 y (beat.A y ∷ unfinished channel.A (on_link link.0 t)) (suc (length t)) ∷ pending_accesses t
+    → is_access y.opcode && ends (Beat.A y) (on_link link.0 t) ≡ true
+    → pending_accesses ((link, Beat.A y) ∷ t)
+    ≡ asked_by link.0 y (Beat.A y ∷ unfinished Channel.A (on_link link.0 t)) (suc (length t)) ∷ pending_accesses t
 unfolding pending_accesses
 pending-asked link y t complete = rw complete refl
 
 -- ---- beats that neither ask nor answer
 
 pub probe-passes : {w : ℕ} (block : ℕ) (link : Link) (y : BeatB w) (t : Trace w)
-    → AllWriteInside (pending_accesses t) → PassesBy block (link, beat.B y) t
+    → AllWriteInside (pending_accesses t) → PassesBy block (link, Beat.B y) t
 unfolding pending_accesses
 probe-passes block link y t inside = record {
   elsewhere = record { quiet = refl; keeps = λ place lt. tt; pending_stay = refl; inside = inside };
-  held_is = held-kept block (beat.B y) (on_link link.0 t) (λ over. refl);
+  held_is = held-kept block (Beat.B y) (on_link link.0 t) (λ over. refl);
 }
 
 pub ack-passes : {w : ℕ} (block : ℕ) (link : Link) (y : BeatE) (t : Trace w)
-    → AllWriteInside (pending_accesses t) → PassesBy block (link, beat.E y) t
+    → AllWriteInside (pending_accesses t) → PassesBy block (link, Beat.E y) t
 unfolding pending_accesses
 ack-passes block link y t inside = record {
   elsewhere = record { quiet = refl; keeps = λ place lt. tt; pending_stay = refl; inside = inside };
-  held_is = held-kept block (beat.E y) (on_link link.0 t) (λ over. refl);
+  held_is = held-kept block (Beat.E y) (on_link link.0 t) (λ over. refl);
 }
 
 -- a beat of channel C that tells nothing of the block
 pub report-elsewhere : {w : ℕ} (block : ℕ) (link : Link) (y : BeatC w) (t : Trace w)
-    → AllWriteInside (pending_accesses t) → tells block (beat.C y) (on_link link.0 t) ≡ false
-    → IsElsewhere block (link, beat.C y) t
+    → AllWriteInside (pending_accesses t) → tells block (Beat.C y) (on_link link.0 t) ≡ false
+    → IsElsewhere block (link, Beat.C y) t
 unfolding pending_accesses
 report-elsewhere block link y t inside quiet =
     record { quiet = quiet; keeps = λ place lt. tt; pending_stay = refl; inside = inside }
@@ -112,22 +98,22 @@ pub none_of_three : (a b c : Bool) → c ≡ false → a && (b && c) ≡ false
 none_of_three a b c e = none_of_both a (b && c) (none_of_both b c e)
 
 report-leaves : {w : ℕ} (block : ℕ) (link : Link) (y : BeatC w) (t : Trace w) → (block_at y.address == block) ≡ false
-    → LeavesHeld block (link, beat.C y) t
-report-leaves block link y t other = held-kept block (beat.C y) (on_link link.0 t)
+    → LeavesHeld block (link, Beat.C y) t
+report-leaves block link y t other = held-kept block (Beat.C y) (on_link link.0 t)
     (λ over. rw (none_of_both (is_probe_ack y.opcode || is_release y.opcode) (block_at y.address == block) other) refl)
 
 -- one that completes data of the block tells what that has
 pub report-tells : {w : ℕ} (block : ℕ) (link : Link) (y : BeatC w) (t : Trace w)
-    → ends (beat.C y) (on_link link.0 t) ≡ true → c_carries_data y.opcode ≡ true → block_at y.address ≡ block
-    → tells block (beat.C y) (on_link link.0 t) ≡ true
+    → ends (Beat.C y) (on_link link.0 t) ≡ true → c_carries_data y.opcode ≡ true → block_at y.address ≡ block
+    → tells block (Beat.C y) (on_link link.0 t) ≡ true
 report-tells block link y t over carries here = rw (over, carries, eq-eqb (y.address / 64) block here) refl
 
 -- one that completes none tells nothing
 pub report-begun : {w : ℕ} (block : ℕ) (link : Link) (y : BeatC w) (t : Trace w)
-    → c_carries_data y.opcode && ends (beat.C y) (on_link link.0 t) ≡ false
-    → tells block (beat.C y) (on_link link.0 t) ≡ false
+    → c_carries_data y.opcode && ends (Beat.C y) (on_link link.0 t) ≡ false
+    → tells block (Beat.C y) (on_link link.0 t) ≡ false
 report-begun block link y t none =
-    turned (c_carries_data y.opcode) (ends (beat.C y) (on_link link.0 t)) (block_at y.address == block) none
+    turned (c_carries_data y.opcode) (ends (Beat.C y) (on_link link.0 t)) (block_at y.address == block) none
   where
     turned : (a b c : Bool) → a && b ≡ false → b && (a && c) ≡ false
     turned true true c e = absurd cc
@@ -137,25 +123,23 @@ report-begun block link y t none =
 
 -- a beat of channel C leaves the accesses that are pending
 pub report-stays : {w : ℕ} (link : Link) (y : BeatC w) (t : Trace w)
-    → pending_accesses ((link, beat.C y) ∷ t) ≡ pending_accesses t
+    → pending_accesses ((link, Beat.C y) ∷ t) ≡ pending_accesses t
 unfolding pending_accesses
 report-stays link y t = refl
 
 -- a beat of channel C for another block
 pub report-passes : {w : ℕ} (block : ℕ) (link : Link) (y : BeatC w) (t : Trace w)
-    → AllWriteInside (pending_accesses t) → (block_at y.address == block) ≡ false → PassesBy block (link, beat.C y) t
+    → AllWriteInside (pending_accesses t) → (block_at y.address == block) ≡ false → PassesBy block (link, Beat.C y) t
 report-passes block link y t inside other = record {
-  elsewhere = report-elsewhere block link y t inside
-      (none_of_three (ends (beat.C y) (on_link link.0 t)) (c_carries_data y.opcode) (block_at y.address == block)
-      other);
+  elsewhere = report-elsewhere block link y t inside (none_of_three (ends (Beat.C y) (on_link link.0 t))
+      (c_carries_data y.opcode) (block_at y.address == block) other);
   held_is = report-leaves block link y t other;
 }
 
 -- ---- responses
 
-found-not : {w : ℕ} (link source block place : ℕ) (accesses : List (Access w)) → place < 64
-    → AllWriteInside accesses → NoneIsTo link source block accesses
-    → WritesNot (64 * block + place) (find (is_of link source) accesses)
+found-not : {w : ℕ} (link source block place : ℕ) (accesses : List (Access w)) → place < 64 → AllWriteInside accesses
+    → NoneIsTo link source block accesses → WritesNot (64 * block + place) (find (is_of link source) accesses)
 found-not link source block place [] lt inside none = tt
 found-not link source block place (access ∷ accesses) lt inside none = elim (cases_Bool (is_of link source access)) [
   | inl own ↦ rw own (apart block place access lt inside.0 (none.0 own))
@@ -190,9 +174,9 @@ response-stays false link source block accesses none = refl
 
 -- a beat of channel D that tells nothing of the block, and answers no access to it
 pub response-elsewhere : {w : ℕ} (block : ℕ) (link : Link) (y : BeatD w) (t : Trace w)
-    → AllWriteInside (pending_accesses t) → tells block (beat.D y) (on_link link.0 t) ≡ false
+    → AllWriteInside (pending_accesses t) → tells block (Beat.D y) (on_link link.0 t) ≡ false
     → (ends_request y (on_link link.0 t) ≡ true → NoneIsTo link.0 y.source block (pending_accesses t))
-    → IsElsewhere block (link, beat.D y) t
+    → IsElsewhere block (link, Beat.D y) t
 unfolding pending_accesses
 response-elsewhere block link y t inside quiet none = record {
   quiet = quiet;
@@ -203,17 +187,17 @@ response-elsewhere block link y t inside quiet none = record {
 }
 
 pub response-leaves : {w : ℕ} (block : ℕ) (link : Link) (y : BeatD w) (t : Trace w)
-    → grants block y (on_link link.0 t) ≡ false → LeavesHeld block (link, beat.D y) t
-response-leaves block link y t other = held-kept block (beat.D y) (on_link link.0 t) (λ over. rw other refl)
+    → grants block y (on_link link.0 t) ≡ false → LeavesHeld block (link, Beat.D y) t
+response-leaves block link y t other = held-kept block (Beat.D y) (on_link link.0 t) (λ over. rw other refl)
 
 -- a beat of channel D that answers no request of the block
 pub response-passes : {w : ℕ} (block : ℕ) (link : Link) (y : BeatD w) (t : Trace w)
     → AllWriteInside (pending_accesses t) → grants block y (on_link link.0 t) ≡ false
     → (ends_request y (on_link link.0 t) ≡ true → NoneIsTo link.0 y.source block (pending_accesses t))
-    → PassesBy block (link, beat.D y) t
+    → PassesBy block (link, Beat.D y) t
 response-passes block link y t inside other none = record {
   elsewhere = response-elsewhere block link y t inside
-      (quiet (ends (beat.D y) (on_link link.0 t)) (grants block y (on_link link.0 t)) _ other) none;
+      (quiet (ends (Beat.D y) (on_link link.0 t)) (grants block y (on_link link.0 t)) _ other) none;
   held_is = response-leaves block link y t other;
 }
   where

@@ -1,26 +1,14 @@
 -- What a response that breaks no rule tells of blocks, by the request that it answers.
-use Rattle.std.proofs.Common.{◌≡◌, ◌⊎◌, ℕ, Bool, true, false, not, ◌&&◌, ◌/◌}
-use Rattle.std.proofs.Common.{◌∷◌, List, [], refl, sym, ap, ◌∙◌, inl, inr}
+use Rattle.tl_memory.proofs.Imports.{BeatA, BeatD, Link, OpA, OpD, History, open_request, request_fields, Request}
+use Rattle.tl_memory.proofs.Imports.{Trace, answers, on_link, block_at, ends, is_grant, is_release_ack, request_of}
+use Rattle.tl_memory.proofs.Imports.{Access, ends_request, is_access, is_of, pending_accesses, tells, IsElsewhere}
+use Rattle.tl_memory.proofs.Imports.{PassesBy, IsResponse, AllWriteInside, AnyIsTo, Beat}
+use Rattle.std.proofs.Common.{◌≡◌, ◌⊎◌, ℕ, Bool, true, false, not, ◌&&◌, ◌/◌, ◌∷◌, List, [], refl, sym, ap, ◌∙◌, inl}
+use Rattle.std.proofs.Common.{inr}
 use Rattle.std.specs.Prelude.{find, None, Option, Some, ◌==◌}
 use Rattle.std.proofs.lemmas.Bool.{cases_Bool, eq-eqb}
-use Rattle.tl_beat.specs.declared.beat.Beat.TheVariants as beat
-use Rattle.tl_beat.specs.declared.beat.BeatA.{BeatA}
-use Rattle.tl_beat.specs.declared.beat.BeatD.{BeatD}
-use Rattle.tl_beat.specs.declared.beat.Link.{Link}
-use Rattle.tl_beat.specs.declared.opcode.OpA.{OpA}
-use Rattle.tl_beat.specs.declared.opcode.OpD.{OpD}
-use Rattle.tl_beat.specs.declared.opcode.OpD.TheVariants as d
-use Rattle.tl_burst.specs.statement.Messages.{History}
-use Rattle.tl_rules.specs.code.Open.{open_request, request_fields}
-use Rattle.tl_rules.specs.declared.past.Request.{Request}
-use Rattle.tl_rules.specs.statement.Conformance.{Trace, answers, on_link}
-use Rattle.tl_rules.specs.statement.History.{asks_for, block_at, ends, grants, is_grant, is_release_ack, request_of}
-use Rattle.tl_rules.proofs.Open.{request-fields}
-use Rattle.tl_bytes.specs.statement.Bytes.{Access, ends_request, is_access, is_of}
-use Rattle.tl_bytes.specs.statement.Bytes.{pending_accesses, tells}
-use Rattle.tl_memory.specs.code.Elsewhere.{IsElsewhere, NoneIsTo, PassesBy}
-use Rattle.tl_memory.specs.code.Taking.{AreAsked, IsResponse, tells_block}
-use Rattle.tl_memory.specs.statement.Known.{AllWriteInside, AnyIsTo}
+use Rattle.tl_rules.{specs.statement.History.asks_for, specs.statement.History.grants, proofs.Open.request-fields}
+use Rattle.tl_memory.{specs.code.Elsewhere.NoneIsTo, specs.code.Taking.AreAsked, specs.code.Taking.tells_block}
 use Rattle.tl_memory.proofs.Responses.{grants_no_access, none-answered, response-tells}
 use Rattle.tl_memory.proofs.Bearing.{none_of_both, none_of_three, response-elsewhere, response-passes}
 
@@ -80,8 +68,7 @@ none-of link source block asked (access ∷ accesses) are bare = (
 )
 
 none-found : {w : ℕ} (link source : ℕ) (asked : Request) (accesses : List (Access w))
-    → AreAsked link source asked accesses → is_access asked.opcode ≡ false
-    → find (is_of link source) accesses ≡ None
+    → AreAsked link source asked accesses → is_access asked.opcode ≡ false → find (is_of link source) accesses ≡ None
 none-found link source asked [] are bare = refl
 none-found link source asked (access ∷ accesses) are bare =
     rw (none-asked link source asked access bare are.0) (none-found link source asked accesses are.1 bare)
@@ -99,21 +86,14 @@ answered-there link source block asked (access ∷ accesses) are here = elim (ca
 
 -- what answers a request ends no Release
 pub answer-ends : (opcode : OpD) (asked : OpA) → answers opcode asked ≡ true → is_release_ack opcode ≡ false
-answer-ends d.AccessAck asked e = refl
-answer-ends d.AccessAckData asked e = refl
-answer-ends d.HintAck asked e = refl
-answer-ends d.Grant asked e = refl
-answer-ends d.GrantData asked e = refl
-answer-ends d.ReleaseAck asked e = absurd cc
+answer-ends OpD.ReleaseAck asked e = absurd cc
+answer-ends v asked e = refl
 
 -- what tells of a block is a Grant
 tells-grant : (opcode : OpD) (asked : OpA) → tells_block opcode asked ≡ true → is_grant opcode ≡ true
-tells-grant d.Grant asked e = refl
-tells-grant d.GrantData asked e = refl
-tells-grant d.AccessAck asked e = absurd cc
-tells-grant d.AccessAckData asked e = absurd cc
-tells-grant d.HintAck asked e = absurd cc
-tells-grant d.ReleaseAck asked e = absurd cc
+tells-grant OpD.Grant asked e = refl
+tells-grant OpD.GrantData asked e = refl
+tells-grant v asked e = absurd cc
 
 -- and answers no access
 tells-bare : (opcode : OpD) (asked : OpA) → answers opcode asked ≡ true → tells_block opcode asked ≡ true
@@ -128,7 +108,7 @@ tells-bare opcode asked e told = elim (cases_Bool (is_access asked)) [
 -- a response to a request of another block
 pub other-passes : {w : ℕ} (block : ℕ) (link : Link) (y : BeatD w) (asked : Request) (t : Trace w)
     → AllWriteInside (pending_accesses t) → IsResponse link.0 y asked t → (asked.block == block) ≡ false
-    → PassesBy block (link, beat.D y) t
+    → PassesBy block (link, Beat.D y) t
 other-passes block link y asked t inside is other =
     response-passes block link y t inside
     (grants-asked block y (on_link link.0 t) asked is.asked_is
@@ -136,13 +116,11 @@ other-passes block link y asked t inside is other =
     (λ over. none-there link.0 y.source block asked (pending_accesses t) is.are_asked other)
 
 tells-off : {w : ℕ} (block : ℕ) (y : BeatD w) (past : History w) (asked : Request)
-    → open_request y.source past ≡ Some asked
-    → (ends (beat.D y) past ≡ false) ⊎ (tells_block y.opcode asked.opcode ≡ false)
-    → tells block (beat.D y) past ≡ false
+    → open_request y.source past ≡ Some asked → (ends (Beat.D y) past ≡ false)
+    ⊎ (tells_block y.opcode asked.opcode ≡ false) → tells block (Beat.D y) past ≡ false
 tells-off block y past asked e off = response-tells block y asked past e ∙ elim off [
   | inl goes_on ↦ rw goes_on refl
-  | inr silent ↦ none_of_three (ends (beat.D y) past) (asked.block == block)
-      (tells_block y.opcode asked.opcode) silent
+  | inr silent ↦ none_of_three (ends (Beat.D y) past) (asked.block == block) (tells_block y.opcode asked.opcode) silent
 ]
 
 not_both : (a b : Bool) → b ≡ false → not a && b ≡ true → ⊥
@@ -152,17 +130,16 @@ not_both false b e f = true_false (sym f ∙ e)
 -- a response with more to come
 pub begun-elsewhere : {w : ℕ} (block : ℕ) (link : Link) (y : BeatD w) (asked : Request) (t : Trace w)
     → AllWriteInside (pending_accesses t) → IsResponse link.0 y asked t
-    → ends (beat.D y) (on_link link.0 t) ≡ false → IsElsewhere block (link, beat.D y) t
+    → ends (Beat.D y) (on_link link.0 t) ≡ false → IsElsewhere block (link, Beat.D y) t
 begun-elsewhere block link y asked t inside is goes_on =
     response-elsewhere block link y t inside
     (tells-off block y (on_link link.0 t) asked is.asked_is (inl goes_on))
-    (λ over. absurd (not_both (is_release_ack y.opcode) (ends (beat.D y) (on_link link.0 t)) goes_on over))
+    (λ over. absurd (not_both (is_release_ack y.opcode) (ends (Beat.D y) (on_link link.0 t)) goes_on over))
 
 -- a response that tells nothing, to what is no access
 pub told-elsewhere : {w : ℕ} (block : ℕ) (link : Link) (y : BeatD w) (asked : Request) (t : Trace w)
-    → AllWriteInside (pending_accesses t) → IsResponse link.0 y asked t
-    → tells_block y.opcode asked.opcode ≡ false → is_access asked.opcode ≡ false
-    → IsElsewhere block (link, beat.D y) t
+    → AllWriteInside (pending_accesses t) → IsResponse link.0 y asked t → tells_block y.opcode asked.opcode ≡ false
+    → is_access asked.opcode ≡ false → IsElsewhere block (link, Beat.D y) t
 told-elsewhere block link y asked t inside is silent bare =
     response-elsewhere block link y t inside
     (tells-off block y (on_link link.0 t) asked is.asked_is (inr silent))
@@ -172,19 +149,18 @@ told-elsewhere block link y asked t inside is silent bare =
 
 -- a Grant that tells what the block has
 pub grant-tells : {w : ℕ} (block : ℕ) (y : BeatD w) (past : History w) (asked : Request)
-    → open_request y.source past ≡ Some asked → asked.block ≡ block → ends (beat.D y) past ≡ true
-    → tells_block y.opcode asked.opcode ≡ true → tells block (beat.D y) past ≡ true
+    → open_request y.source past ≡ Some asked → asked.block ≡ block → ends (Beat.D y) past ≡ true
+    → tells_block y.opcode asked.opcode ≡ true → tells block (Beat.D y) past ≡ true
 grant-tells block y past asked e here over told = response-tells block y asked past e
     ∙ rw (over, eq-eqb asked.block block here, told) refl
 
 -- with it the same accesses are pending
 pub grant-stays : {w : ℕ} (link : Link) (y : BeatD w) (asked : Request) (t : Trace w) → IsResponse link.0 y asked t
-    → tells_block y.opcode asked.opcode ≡ true → pending_accesses ((link, beat.D y) ∷ t) ≡ pending_accesses t
+    → tells_block y.opcode asked.opcode ≡ true → pending_accesses ((link, Beat.D y) ∷ t) ≡ pending_accesses t
 grant-stays link y asked t is told =
     none-answered link y t (none-found link.0 y.source asked (pending_accesses t) is.are_asked
     (tells-bare y.opcode asked.opcode is.answers_it told))
 
-pub answer-over : {w : ℕ} (link : Link) (y : BeatD w) (asked : Request) (t : Trace w)
-    → IsResponse link.0 y asked t → ends (beat.D y) (on_link link.0 t) ≡ true
-    → ends_request y (on_link link.0 t) ≡ true
+pub answer-over : {w : ℕ} (link : Link) (y : BeatD w) (asked : Request) (t : Trace w) → IsResponse link.0 y asked t
+    → ends (Beat.D y) (on_link link.0 t) ≡ true → ends_request y (on_link link.0 t) ≡ true
 answer-over link y asked t is over = rw (answer-ends y.opcode asked.opcode is.answers_it, over) refl

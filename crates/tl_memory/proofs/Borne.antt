@@ -1,22 +1,11 @@
 -- A beat that breaks no rule bears on one block at most.
+use Rattle.tl_memory.proofs.Imports.{Beat, BeatA, BeatD, Link, OpD, Request, Trace, on_link, block_at, ends, is_grant}
+use Rattle.tl_memory.proofs.Imports.{is_release_ack, Access, is_access, pending_accesses, block_asked, block_borne}
+use Rattle.tl_memory.proofs.Imports.{PassesBy, IsLegalBeat, IsResponse, AllWriteInside, WritesInside}
 use Rattle.std.proofs.Common.{◌≡◌, ℕ, Bool, true, false, not, ◌&&◌, ◌∷◌, List, refl, sym, ap, ◌∙◌, inl, inr}
 use Rattle.std.specs.Prelude.{if◌then◌else◌, Option, Some, None, ◌==◌}
 use Rattle.std.proofs.lemmas.Bool.{cases_Bool, eqb-true}
-use Rattle.tl_beat.specs.declared.beat.Beat.{Beat}
-use Rattle.tl_beat.specs.declared.beat.Beat.TheVariants as beat
-use Rattle.tl_beat.specs.declared.beat.BeatA.{BeatA}
-use Rattle.tl_beat.specs.declared.beat.BeatD.{BeatD}
-use Rattle.tl_beat.specs.declared.beat.Link.{Link}
-use Rattle.tl_beat.specs.declared.opcode.OpD.{OpD}
-use Rattle.tl_beat.specs.declared.opcode.OpD.TheVariants as d
-use Rattle.tl_rules.specs.declared.past.Request.{Request}
-use Rattle.tl_rules.specs.statement.Conformance.{Trace, on_link}
-use Rattle.tl_rules.specs.statement.History.{block_at, ends, is_grant, is_release_ack}
-use Rattle.tl_bytes.specs.statement.Bytes.{Access, is_access, pending_accesses}
-use Rattle.tl_memory.specs.code.Elsewhere.{block_asked, block_borne, PassesBy}
-use Rattle.tl_memory.specs.code.Taking.{IsLegalBeat, IsRequested, IsResponse}
-use Rattle.tl_memory.specs.statement.Known.{AllWriteInside, WritesInside}
-use Rattle.tl_memory.proofs.BlockAnswers.{other-passes}
+use Rattle.tl_memory.{specs.code.Taking.IsRequested, proofs.BlockAnswers.other-passes}
 use Rattle.tl_memory.proofs.Bearing.{ack-passes, probe-passes, report-passes, request-passes, response-passes}
 
 -- ---- the accesses that are pending write in their blocks
@@ -27,27 +16,23 @@ one-inside true access before inside all = (inside refl, all)
 one-inside false access before inside all = all
 
 pub request-inside : {w : ℕ} (link : Link) (y : BeatA w) (t : Trace w) → IsRequested link.0 y t
-    → AllWriteInside (pending_accesses t) → AllWriteInside (pending_accesses ((link, beat.A y) ∷ t))
+    → AllWriteInside (pending_accesses t) → AllWriteInside (pending_accesses ((link, Beat.A y) ∷ t))
 unfolding pending_accesses
 request-inside link y t is all =
-    one-inside (is_access y.opcode && ends (beat.A y) (on_link link.0 t)) _ (pending_accesses t) is.inside all
+    one-inside (is_access y.opcode && ends (Beat.A y) (on_link link.0 t)) _ (pending_accesses t) is.inside all
 
 -- ---- the block that a beat bears on
 
 -- the answer to a Release bears on none
 grants-none : (opcode : OpD) → is_release_ack opcode ≡ true → is_grant opcode ≡ false
-grants-none d.ReleaseAck e = refl
-grants-none d.AccessAck e = absurd cc
-grants-none d.AccessAckData e = absurd cc
-grants-none d.HintAck e = absurd cc
-grants-none d.Grant e = absurd cc
-grants-none d.GrantData e = absurd cc
+grants-none OpD.ReleaseAck e = refl
+grants-none v e = absurd cc
 
 release-passes : {w : ℕ} (block : ℕ) (link : Link) (y : BeatD w) (t : Trace w)
-    → AllWriteInside (pending_accesses t) → is_release_ack y.opcode ≡ true → PassesBy block (link, beat.D y) t
+    → AllWriteInside (pending_accesses t) → is_release_ack y.opcode ≡ true → PassesBy block (link, Beat.D y) t
 release-passes block link y t inside release =
     response-passes block link y t inside (rw (grants-none y.opcode release) refl)
-    (λ over. absurd (let never : not (is_release_ack y.opcode) && ends (beat.D y) (on_link link.0 t) ≡ false =
+    (λ over. absurd (let never : not (is_release_ack y.opcode) && ends (Beat.D y) (on_link link.0 t) ≡ false =
     rw release refl in let e : true ≡ false = sym over ∙ never in cc))
 
 other-than : (k block : ℕ) → (Some k ≡ Some block → ⊥) → (k == block) ≡ false
@@ -59,7 +44,7 @@ other-than k block other = elim (cases_Bool (k == block)) [
 answer-passes : {w : ℕ} (release : Bool) (block : ℕ) (link : Link) (y : BeatD w) (asked : Option Request) (t : Trace w)
     → AllWriteInside (pending_accesses t) → is_release_ack y.opcode ≡ release
     → (release ≡ false → (one : Request) × (asked ≡ Some one) × IsResponse link.0 y one t)
-    → ((if release then None else block_asked asked) ≡ Some block → ⊥) → PassesBy block (link, beat.D y) t
+    → ((if release then None else block_asked asked) ≡ Some block → ⊥) → PassesBy block (link, Beat.D y) t
 answer-passes true block link y asked t inside release is other = release-passes block link y t inside release
 answer-passes false block link y asked t inside release is other =
     let one = is refl in
@@ -69,13 +54,13 @@ answer-passes false block link y asked t inside release is other =
 -- each other block is left as it is
 pub passes : {w : ℕ} (block : ℕ) (link : Link) (y : Beat w) (t : Trace w) → AllWriteInside (pending_accesses t)
     → IsLegalBeat link.0 y t → (block_borne y (on_link link.0 t) ≡ Some block → ⊥) → PassesBy block (link, y) t
-passes block link (beat.A y) t inside is other =
+passes block link (Beat.A y) t inside is other =
     request-passes block link y t (request-inside link y t is inside)
     (λ complete. other-than (block_at y.address) block other)
-passes block link (beat.B y) t inside is other = probe-passes block link y t inside
-passes block link (beat.C y) t inside is other =
+passes block link (Beat.B y) t inside is other = probe-passes block link y t inside
+passes block link (Beat.C y) t inside is other =
     report-passes block link y t inside (other-than (block_at y.address) block other)
-passes block link (beat.D y) t inside is other =
+passes block link (Beat.D y) t inside is other =
     answer-passes (is_release_ack y.opcode) block link y _ t inside refl
     (λ answers. let one = is answers in (one.0, one.1.asked_is, one.1)) other
-passes block link (beat.E y) t inside is other = ack-passes block link y t inside
+passes block link (Beat.E y) t inside is other = ack-passes block link y t inside

@@ -1,72 +1,48 @@
 -- What is known of an access whose request is complete, where no beat of its link broke a rule.
-use Rattle.std.proofs.Common.{◌≡◌, ℕ, zero, suc, Bool, true, false, not, ◌+◌, ◌*◌, ◌/◌, ◌%◌, ◌^◌, ◌<◌, ◌≤◌}
-use Rattle.std.proofs.Common.{List, ◌∷◌, length, Option, None, refl, ap, ◌∙◌, arith, inl, inr}
+use Rattle.tl_memory.proofs.Imports.{Beat, BeatA, OpA, first_if, a_carries_data, IsWidth, MessageA, bit, data_beats}
+use Rattle.tl_memory.proofs.Imports.{reaches, History, burst_length, unfinished, Level, Profile, L1, L2, L3, base_of}
+use Rattle.tl_memory.proofs.Imports.{AreTyped, broken_after, is_legal, block_at, ends, a_has_param, a_has_size}
+use Rattle.tl_memory.proofs.Imports.{a_of_level, base_in_memory, asked_by, is_access, writes, AreWide, WritesInside}
+use Rattle.tl_memory.proofs.Imports.{is_put}
+use Rattle.std.proofs.Common.{◌≡◌, ℕ, zero, suc, Bool, true, false, not, ◌+◌, ◌*◌, ◌/◌, ◌%◌, ◌^◌, ◌<◌, ◌≤◌, List, ◌∷◌}
+use Rattle.std.proofs.Common.{length, Option, None, refl, ap, ◌∙◌, arith, inl, inr}
 use Rattle.std.specs.Prelude.{min, if◌then◌else◌, nat_le, nat_lt}
 use Rattle.std.proofs.lemmas.Bool.{eqb-true, le-leb, ltb-true, and_parts, leb-true}
-use Rattle.tl_beat.specs.declared.beat.Beat.{Beat}
-use Rattle.tl_beat.specs.declared.beat.Beat.TheVariants as beat
-use Rattle.tl_beat.specs.declared.beat.BeatA.{BeatA}
-use Rattle.tl_beat.specs.declared.channel.Channel.TheVariants as channel
-use Rattle.tl_beat.specs.declared.opcode.OpA.{OpA}
-use Rattle.tl_beat.specs.declared.opcode.OpA.TheVariants as a
-use Rattle.tl_beat.specs.statement.First.{first_if}
-use Rattle.tl_beat.specs.statement.Opcode.{a_carries_data}
-use Rattle.tl_beat.specs.statement.Width.{IsWidth}
-use Rattle.tl_burst.specs.declared.message.MessageA.{MessageA}
-use Rattle.tl_burst.specs.statement.Burst.{bit, data_beats, place_of, reaches}
-use Rattle.tl_burst.specs.statement.Messages.{History, burst_length, unfinished}
-use Rattle.tl_params.specs.declared.level.Level.{Level}
-use Rattle.tl_params.specs.declared.level.Level.TheVariants as level
-use Rattle.tl_params.specs.declared.profile.Profile.{Profile}
-use Rattle.tl_params.specs.declared.rule.Rule.{Rule}
-use Rattle.tl_params.specs.declared.rule.Rule.TheVariants.{L1, L2, L3, L4}
-use Rattle.tl_rules.specs.code.Place.{base_of}
-use Rattle.tl_rules.specs.laws.Typed.{AreTyped}
-use Rattle.tl_rules.specs.statement.Admission.{bytes_carried}
-use Rattle.tl_rules.specs.statement.Conformance.{broken_after, is_legal}
-use Rattle.tl_rules.specs.statement.History.{block_at, ends}
-use Rattle.tl_rules.specs.statement.Legality.{a_has_param, a_has_size, a_of_level, is_aligned}
-use Rattle.tl_rules.proofs.Rooms.{base_in_memory, room_in_block}
-use Rattle.tl_bytes.specs.statement.Bytes.{asked_by, is_access, writes}
-use Rattle.tl_memory.specs.statement.Known.{AreWide, IsLawful, IsPerformable, WritesInside, is_put}
-use Rattle.tl_memory.proofs.Atomics.{atomic-writes}
+use Rattle.tl_beat.specs.declared.channel.Channel.{Channel}
+use Rattle.tl_burst.specs.statement.Burst.{place_of}
+use Rattle.tl_params.{specs.declared.rule.Rule.Rule, specs.declared.rule.Rule.TheVariants.L4}
+use Rattle.tl_rules.{specs.statement.Admission.bytes_carried, specs.statement.Legality.is_aligned}
+use Rattle.tl_rules.{proofs.Rooms.room_in_block}
+use Rattle.tl_memory.{specs.statement.Known.IsLawful, specs.statement.Known.IsPerformable, proofs.Atomics.atomic-writes}
+use Rattle.tl_memory.{proofs.Payloads.wide-length, proofs.Unfinished.are-begun, proofs.Unfinished.are-wide}
 use Rattle.tl_memory.proofs.Lawful.{IsRequest, by_itself, goes_on, is-request}
-use Rattle.tl_memory.proofs.Payloads.{wide-length}
 use Rattle.tl_memory.proofs.Puts.{has_byte, placed, put-carries, put_is}
-use Rattle.tl_memory.proofs.Unfinished.{are-begun, are-wide}
 
 -- ---- it breaks no rule at TL-UH
 
 passed : (b : Bool) (r : Rule) (rest : Option Rule) → b ≡ true → rest ≡ None → first_if (not b) r rest ≡ None
 passed b r rest e f = rw (e, f) refl
 
-access_of_uh : (opcode : OpA) → is_access opcode ≡ true → a_of_level level.UH opcode ≡ true
-access_of_uh a.PutFullData e = refl
-access_of_uh a.PutPartialData e = refl
-access_of_uh a.ArithmeticData e = refl
-access_of_uh a.LogicalData e = refl
-access_of_uh a.Get e = refl
-access_of_uh a.Intent e = absurd cc
-access_of_uh a.AcquireBlock e = absurd cc
-access_of_uh a.AcquirePerm e = absurd cc
+access_of_uh : (opcode : OpA) → is_access opcode ≡ true → a_of_level Level.UH opcode ≡ true
+access_of_uh OpA.Intent e = absurd cc
+access_of_uh OpA.AcquireBlock e = absurd cc
+access_of_uh OpA.AcquirePerm e = absurd cc
+access_of_uh v e = refl
 
 size_of_uh : (w : ℕ) (l : Level) (opcode : OpA) (size : ℕ) → a_has_size w l opcode size ≡ true → size ≤ 6
-    → a_has_size w level.UH opcode size ≡ true
-size_of_uh w l a.PutFullData size e le = le-leb size 6 le
-size_of_uh w l a.PutPartialData size e le = le-leb size 6 le
-size_of_uh w l a.ArithmeticData size e le = e
-size_of_uh w l a.LogicalData size e le = e
-size_of_uh w l a.Get size e le = le-leb size 6 le
-size_of_uh w l a.Intent size e le = le-leb size 6 le
-size_of_uh w l a.AcquireBlock size e le = e
-size_of_uh w l a.AcquirePerm size e le = e
+    → a_has_size w Level.UH opcode size ≡ true
+size_of_uh w l OpA.PutFullData size e le = le-leb size 6 le
+size_of_uh w l OpA.PutPartialData size e le = le-leb size 6 le
+size_of_uh w l OpA.Get size e le = le-leb size 6 le
+size_of_uh w l OpA.Intent size e le = le-leb size 6 le
+size_of_uh w l v size e le = e
 
 performable : (w : ℕ) (l : Level) (opcode : OpA) (param size address mask : ℕ) → is_access opcode ≡ true
     → IsRequest w l opcode param size address mask → IsPerformable w opcode param size address
 performable w l opcode param size address mask access r =
-    passed (a_of_level level.UH opcode) L1 _ (access_of_uh opcode access)
+    passed (a_of_level Level.UH opcode) L1 _ (access_of_uh opcode access)
     (passed (a_has_param opcode param) L2 _ r.has_param
-    (passed (a_has_size w level.UH opcode size) L3 _ (size_of_uh w l opcode size r.has_size r.small)
+    (passed (a_has_size w Level.UH opcode size) L3 _ (size_of_uh w l opcode size r.has_size r.small)
     (passed (is_aligned address size) L4 None r.aligned refl)))
 
 -- ---- where its bytes lie
@@ -166,25 +142,25 @@ reached_inside address size x le aligned reached =
 -- ---- a request that is complete
 
 module _ {w : ℕ} (l : Level) (p : Profile) (link : ℕ) (x : BeatA w) (t : History w) (moment : ℕ) (is : IsWidth w)
-    (typed : AreTyped (beat.A x ∷ unfinished channel.A t)) (legal : is_legal l p t ≡ true)
-    (fine : broken_after l p (beat.A x) t ≡ None) (last : ends (beat.A x) t ≡ true) where
+    (typed : AreTyped (Beat.A x ∷ unfinished Channel.A t)) (legal : is_legal l p t ≡ true)
+    (fine : broken_after l p (Beat.A x) t ≡ None) (last : ends (Beat.A x) t ≡ true) where
   abbrev burst : List (Beat w)
-  burst = beat.A x ∷ unfinished channel.A t
+  burst = Beat.A x ∷ unfinished Channel.A t
 
   request : IsRequest w l x.opcode x.param x.size x.address x.mask
-  request = is-request l x is (by_itself l p (beat.A x) t fine)
+  request = is-request l x is (by_itself l p (Beat.A x) t fine)
 
   pub wide-burst : a_carries_data x.opcode ≡ true → AreWide burst
-  wide-burst carries = are-wide l x (unfinished channel.A t) typed (goes_on l p (beat.A x) t fine)
-      (are-begun l p channel.A t is legal) carries
+  wide-burst carries = are-wide l x (unfinished Channel.A t) typed (goes_on l p (Beat.A x) t fine)
+      (are-begun l p Channel.A t is legal) carries
 
   long : a_carries_data x.opcode ≡ true → length (bytes_carried burst) ≡ w * data_beats w x.size
   long carries =
       wide-length burst (wide-burst carries) ∙ ap (λ n. w * n) (count ∙ whole (a_carries_data x.opcode) carries)
     where
-      count : suc (length (unfinished channel.A t)) ≡ burst_length (beat.A x)
+      count : suc (length (unfinished Channel.A t)) ≡ burst_length (Beat.A x)
       count =
-          let e = eqb-true (length (unfinished channel.A t) + 1) (burst_length (beat.A x)) last in omega (arith, e)
+          let e = eqb-true (length (unfinished Channel.A t) + 1) (burst_length (Beat.A x)) last in omega (arith, e)
 
       whole : (b : Bool) → b ≡ true → (if b then data_beats w x.size else 1) ≡ data_beats w x.size
       whole b e = rw e refl

@@ -1,51 +1,35 @@
 -- What is kept of a block, with a beat that bears on another.
-use Rattle.std.proofs.Common.{◌≡◌, ℕ, zero, suc, Bool, true, false, not}
-use Rattle.std.proofs.Common.{◌||◌, ◌+◌, ◌*◌, ◌/◌, ◌<◌, ◌≤◌, List, [], ◌∷◌}
+use Rattle.tl_memory.proofs.Imports.{Beat, Link, History, unfinished, Trace, on_link, ends, is_free, Access}
+use Rattle.tl_memory.proofs.Imports.{ends_request, is_of, may_be, may_read, pending_accesses, tells, written_as}
+use Rattle.tl_memory.proofs.Imports.{KnowsBlock, others, IsElsewhere, LeavesHeld, WritesNot, BlockState, PendingAccess}
+use Rattle.tl_memory.proofs.Imports.{AllWriteInside, AreKnown, is_to, KnowsAccess, KnowsState}
+use Rattle.std.proofs.Common.{◌≡◌, ℕ, zero, suc, Bool, true, false, not, ◌||◌, ◌+◌, ◌*◌, ◌/◌, ◌<◌, ◌≤◌, List, [], ◌∷◌}
 use Rattle.std.proofs.Common.{length, refl, sym, ap, ◌∙◌, arith, inl, inr}
 use Rattle.std.specs.Prelude.{filter, find, None, Option, Some}
 use Rattle.std.proofs.lemmas.Bool.{cases_Bool, cases_eq, eq-eqb, le-leb, ne_eqb}
-use Rattle.tl_beat.specs.declared.beat.Beat.{Beat}
-use Rattle.tl_beat.specs.declared.beat.Beat.TheVariants as beat
-use Rattle.tl_beat.specs.declared.beat.Link.{Link}
-use Rattle.tl_beat.specs.declared.channel.Channel.TheVariants as channel
-use Rattle.tl_burst.specs.statement.Messages.{History, unfinished}
-use Rattle.tl_params.specs.declared.perm.Perm.TheVariants as perm
-use Rattle.tl_rules.specs.statement.Conformance.{Trace, on_link}
-use Rattle.tl_rules.specs.statement.History.{ends, held, says_held}
-use Rattle.tl_rules.specs.statement.Windows.{is_free}
-use Rattle.tl_bytes.specs.declared.block_bytes.BlockBytes.{BlockBytes}
-use Rattle.tl_bytes.specs.declared.telling.Telling.{Telling}
-use Rattle.tl_bytes.specs.statement.Bytes.{Access, after_answer}
-use Rattle.tl_bytes.specs.statement.Bytes.{after_beat, ends_request, is_of, last_told}
-use Rattle.tl_bytes.specs.statement.Bytes.{last_window, may_be, may_read, pending_accesses, tells, told_as, written_as}
-use Rattle.tl_bytes.specs.statement.Known.{KnowsBlock, others}
-use Rattle.tl_bytes.proofs.Since.{same_after}
-use Rattle.tl_memory.specs.code.Elsewhere.{IsElsewhere, KeepsByte, LeavesHeld, WritesNot}
-use Rattle.tl_memory.specs.declared.block.BlockState.{BlockState}
-use Rattle.tl_memory.specs.declared.pending.PendingAccess.{PendingAccess}
-use Rattle.tl_memory.specs.statement.Known.{AllWriteInside, AreKnown, is_to, KnowsAccess, KnowsState}
-use Rattle.tl_memory.proofs.Writing.{written-here}
+use Rattle.tl_beat.specs.declared.channel.Channel.{Channel}
+use Rattle.tl_params.specs.declared.perm.Perm.{Perm}
+use Rattle.tl_rules.specs.statement.History.{held, says_held}
+use Rattle.tl_bytes.{specs.declared.block_bytes.BlockBytes.BlockBytes, specs.declared.telling.Telling.Telling}
+use Rattle.tl_bytes.{proofs.Since.same_after}
+use Rattle.tl_bytes.specs.statement.Bytes.{after_answer, after_beat, last_told, last_window, told_as}
+use Rattle.tl_memory.{specs.code.Elsewhere.KeepsByte, proofs.Writing.written-here}
 
 -- ---- what a byte may be
 
 answer-keeps : {w : ℕ} (n address : ℕ) (o : Option (Access w)) (answer : List (Beat w)) (t : Trace w)
-    (before : List Telling)
-    → WritesNot address o → after_answer n address o answer t before ≡ before
+    (before : List Telling) → WritesNot address o → after_answer n address o answer t before ≡ before
 answer-keeps n address None answer t before none = refl
 answer-keeps n address (Some access) answer t before none = rw none refl
 
 beat-keeps : {w : ℕ} (n address link : ℕ) (y : Beat w) (t : Trace w) (before : List Telling)
     → KeepsByte address link y t → after_beat n address link y t before ≡ before
-beat-keeps n address link (beat.A y) t before keeps = refl
-beat-keeps n address link (beat.B y) t before keeps = refl
-beat-keeps n address link (beat.C y) t before keeps = refl
-beat-keeps n address link (beat.D y) t before keeps = elim (cases_Bool (ends_request y (on_link link t))) [
-  | inl ends ↦
-      rw ends (answer-keeps n address (find (is_of link y.source) (pending_accesses t))
-      (beat.D y ∷ unfinished channel.D (on_link link t)) t before (keeps ends))
+beat-keeps n address link (Beat.D y) t before keeps = elim (cases_Bool (ends_request y (on_link link t))) [
+  | inl ends ↦ rw ends (answer-keeps n address (find (is_of link y.source) (pending_accesses t))
+      (Beat.D y ∷ unfinished Channel.D (on_link link t)) t before (keeps ends))
   | inr goes_on ↦ rw goes_on refl
 ]
-beat-keeps n address link (beat.E y) t before keeps = refl
+beat-keeps n address link v t before keeps = refl
 
 in_block : (block p : ℕ) → p < 64 → (64 * block + p) / 64 ≡ block
 in_block block p lt = omega arith
@@ -75,8 +59,7 @@ again false false r = refl
 
 -- an access that had all that it may bring now
 same-read : {w : ℕ} (n : ℕ) (access : Access w) (x : Link × Beat w) (t : Trace w) (address v : ℕ)
-    → access.asked ≤ length t → 0 < length t
-    → may_be n address (x ∷ t) ≡ may_be n address t
+    → access.asked ≤ length t → 0 < length t → may_be n address (x ∷ t) ≡ may_be n address t
     → written_as address v (others access (x ∷ t)) ≡ written_as address v (others access t)
     → may_read n access (x ∷ t) address v ≡ may_read n access t address v
 unfolding may_read
@@ -114,15 +97,13 @@ access-kept n block pending access x t some elsewhere inside k = record {
   write_is = k.write_is;
   before = k.before;
   windows_are = k.windows_are;
-  read_is = λ p v lt. k.read_is p v lt
-      ∙ sym (same-read n access x t (64 * block + p) v k.before some
+  read_is = λ p v lt. k.read_is p v lt ∙ sym (same-read n access x t (64 * block + p) v k.before some
       (byte-kept n block p x t lt elsewhere.quiet (elsewhere.keeps p lt))
       (others-same block p v access x t lt inside elsewhere.inside elsewhere.pending_stay));
 }
 
 each-kept : {w : ℕ} (n block : ℕ) (pending : List (PendingAccess w)) (accesses : List (Access w)) (x : Link × Beat w)
-    (t : Trace w)
-    → 0 < length t → IsElsewhere block x t → AllWriteInside (pending_accesses t)
+    (t : Trace w) → 0 < length t → IsElsewhere block x t → AllWriteInside (pending_accesses t)
     → AreKnown pending n block accesses t t → AreKnown pending n block accesses t (x ∷ t)
 each-kept n block [] [] x t some elsewhere inside are = tt
 each-kept n block [] (access ∷ accesses) x t some elsewhere inside are = absurd are
@@ -160,12 +141,9 @@ elsewhere-kept s n block x t elsewhere k = record {
 -- ---- what is seen of it where it is as free as it was
 
 pub windows-kept : {w : ℕ} (n block : ℕ) (pending : List (PendingAccess w)) (accesses : List (Access w))
-    (x : Link × Beat w) (t : Trace w)
-    → is_free n None perm.Trunk block (x ∷ t) ≡ is_free n None perm.Trunk block t
+    (x : Link × Beat w) (t : Trace w) → is_free n None Perm.Trunk block (x ∷ t) ≡ is_free n None Perm.Trunk block t
     → AreKnown pending n block accesses t (x ∷ t) → AreKnown pending n block accesses (x ∷ t) (x ∷ t)
 windows-kept n block [] [] x t same are = tt
-windows-kept n block [] (access ∷ accesses) x t same are = absurd are
-windows-kept n block (one ∷ pending) [] x t same are = absurd are
 windows-kept n block (one ∷ pending) (access ∷ accesses) x t same are = (
   record {
     asked_is = are.0.asked_is;
@@ -177,16 +155,17 @@ windows-kept n block (one ∷ pending) (access ∷ accesses) x t same are = (
   },
   windows-kept n block pending accesses x t same are.1,
 )
+windows-kept n block v u x t same are = absurd are
 
 pub last-kept : {w : ℕ} (n block : ℕ) (x : Link × Beat w) (t : Trace w)
-    → is_free n None perm.Trunk block (x ∷ t) ≡ is_free n None perm.Trunk block t
-    → is_free n None perm.Trunk block t ≡ false → last_window n block (x ∷ t) ≡ last_window n block t
+    → is_free n None Perm.Trunk block (x ∷ t) ≡ is_free n None Perm.Trunk block t
+    → is_free n None Perm.Trunk block t ≡ false → last_window n block (x ∷ t) ≡ last_window n block t
 unfolding last_window
 last-kept n block x t same off = rw (same, off) refl
 
 -- where the block is as free as it was, that is seen
 pub freedom-kept : {w : ℕ} (s : BlockState w) (n block : ℕ) (x : Link × Beat w) (t : Trace w)
-    → is_free n None perm.Trunk block (x ∷ t) ≡ is_free n None perm.Trunk block t
+    → is_free n None Perm.Trunk block (x ∷ t) ≡ is_free n None Perm.Trunk block t
     → KnowsState s n block t (x ∷ t) → KnowsState s n block (x ∷ t) (x ∷ t)
 freedom-kept s n block x t same k = record {
   bytes_are = k.bytes_are;
@@ -220,14 +199,14 @@ link-kept block m x t same = elim (cases_eq x.0.0 m) [
 
 -- a beat that leaves as much of a block with its link leaves it as free as it was
 pub free-kept : {w : ℕ} (n block : ℕ) (x : Link × Beat w) (t : Trace w) → LeavesHeld block x t
-    → is_free n None perm.Trunk block (x ∷ t) ≡ is_free n None perm.Trunk block t
+    → is_free n None Perm.Trunk block (x ∷ t) ≡ is_free n None Perm.Trunk block t
 unfolding is_free
 free-kept zero block x t same = refl
 free-kept (suc n) block x t same =
     rw (free-kept n block x t same, link-kept block n x t same) refl
 
 -- where nothing was carried it is free
-pub free-first : (w n block : ℕ) → true ≡ is_free {w = w} n None perm.Trunk block []
+pub free-first : (w n block : ℕ) → true ≡ is_free {w = w} n None Perm.Trunk block []
 unfolding is_free on_link held
 free-first w zero block = refl
 free-first w (suc n) block = rw (← free-first w n block) refl

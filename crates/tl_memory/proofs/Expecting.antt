@@ -1,30 +1,16 @@
 -- What the response that has begun on a link may bring, beat by beat.
-use Rattle.std.proofs.Common.{◌≡◌, ℕ, suc, Bool, true, false, ◌&&◌, List, [], ◌∷◌, length}
-use Rattle.std.proofs.Common.{Option, None, refl, sym, ap, ◌∙◌, inl, inr, subst, arith}
+use Rattle.tl_memory.proofs.Imports.{Beat, BeatD, Link, OpD, History, breaks_burst, on, same_control, unfinished}
+use Rattle.tl_memory.proofs.Imports.{is_empty, control_d, Level, Profile, open_request, Request, Trace, broken_on_link}
+use Rattle.tl_memory.proofs.Imports.{on_link, begins, ends, Expected, ExpectsGrant, ExpectsRead, ExpectsResponse}
+use Rattle.tl_memory.proofs.Imports.{AreLegal}
+use Rattle.std.proofs.Common.{◌≡◌, ℕ, suc, Bool, true, false, ◌&&◌, List, [], ◌∷◌, length, Option, None, refl, sym, ap}
+use Rattle.std.proofs.Common.{◌∙◌, inl, inr, subst, arith}
 use Rattle.std.specs.Prelude.{◌==◌}
 use Rattle.std.proofs.lemmas.Bool.{cases_eq, eq-eqb, ne_eqb, not-false}
-use Rattle.tl_beat.specs.declared.beat.Beat.{Beat}
-use Rattle.tl_beat.specs.declared.beat.Beat.TheVariants as beat
-use Rattle.tl_beat.specs.declared.beat.BeatD.{BeatD}
-use Rattle.tl_beat.specs.declared.beat.Link.{Link}
-use Rattle.tl_beat.specs.declared.channel.Channel.TheVariants as channel
-use Rattle.tl_beat.specs.declared.opcode.OpD.{OpD}
-use Rattle.tl_beat.specs.declared.opcode.OpD.TheVariants as d
-use Rattle.tl_burst.specs.statement.Messages.{History, breaks_burst, on, same_control, unfinished}
-use Rattle.tl_burst.specs.statement.Part.{is_empty}
-use Rattle.tl_burst.proofs.ControlFields.{control_d}
-use Rattle.tl_params.specs.declared.level.Level.{Level}
-use Rattle.tl_params.specs.declared.profile.Profile.{Profile}
-use Rattle.tl_rules.specs.code.Open.{open_request}
-use Rattle.tl_rules.specs.declared.past.Request.{Request}
-use Rattle.tl_rules.specs.statement.Conformance.{Trace, broken_on_link, on_link}
-use Rattle.tl_rules.specs.statement.History.{begins, ends}
+use Rattle.tl_beat.specs.declared.channel.Channel.{Channel}
 use Rattle.tl_bytes.specs.statement.Bytes.{before_last}
-use Rattle.tl_memory.specs.declared.expected.Expected.{Expected}
-use Rattle.tl_memory.specs.statement.Expecting.{ExpectsGrant, ExpectsRead, ExpectsResponse, KnowsExpected}
-use Rattle.tl_memory.specs.statement.Links.{AreLegal}
+use Rattle.tl_memory.{specs.statement.Expecting.KnowsExpected, proofs.Lawful.goes_on}
 use Rattle.tl_memory.proofs.Answering.{answering, answering-unended, goes_on_d, same_d, same_head, unended}
-use Rattle.tl_memory.proofs.Lawful.{goes_on}
 use Rattle.tl_memory.proofs.Open.{IsAnswering, IsOpen, completes_answer, open-whole}
 use Rattle.tl_memory.proofs.OpenAccesses.{IsFine, found-still, is-fine, legal-link, legal-on, open-after, other-link}
 use Rattle.tl_memory.proofs.OpenAccesses.{own-link}
@@ -33,30 +19,26 @@ use Rattle.tl_memory.proofs.OpenAccesses.{own-link}
 
 -- what a response may bring stays so while its request is open
 expects-still : {w : ℕ} (levels : List Level) (p : Profile) (c : ℕ) (expected : Option Expected) (n : ℕ) (opcode : OpD)
-    (s : ℕ) (asked : Request) (x : Link × Beat w) (t begun : Trace w)
-    → broken_on_link levels p x t ≡ None → IsOpen s asked (on_link c t)
-    → (x.0.0 ≡ c → completes_answer s x.1 (on_link c t) ≡ false)
+    (s : ℕ) (asked : Request) (x : Link × Beat w) (t begun : Trace w) → broken_on_link levels p x t ≡ None
+    → IsOpen s asked (on_link c t) → (x.0.0 ≡ c → completes_answer s x.1 (on_link c t) ≡ false)
     → ExpectsResponse expected n c opcode s t begun → ExpectsResponse expected n c opcode s (x ∷ t) begun
-expects-still levels p c expected n d.GrantData s asked x t begun fine o unended k =
+expects-still levels p c expected n OpD.GrantData s asked x t begun fine o unended k =
     let same : open_request s (on_link c (x ∷ t)) ≡ open_request s (on_link c t) =
     open-whole s asked (on_link c (x ∷ t)) (open-after levels p c s asked x t fine o unended)
     ∙ sym (open-whole s asked (on_link c t) o) in
     subst (λ q. ExpectsGrant expected n q begun) (sym same) k
-expects-still levels p c expected n d.AccessAckData s asked x t begun fine o unended k =
+expects-still levels p c expected n OpD.AccessAckData s asked x t begun fine o unended k =
     subst (λ q. ExpectsRead expected n q begun) (sym (found-still levels p c s asked x t fine o unended)) k
-expects-still levels p c expected n d.AccessAck s asked x t begun fine o unended k = tt
-expects-still levels p c expected n d.HintAck s asked x t begun fine o unended k = tt
-expects-still levels p c expected n d.Grant s asked x t begun fine o unended k = tt
-expects-still levels p c expected n d.ReleaseAck s asked x t begun fine o unended k = tt
+expects-still levels p c expected n v s asked x t begun fine o unended k = tt
 
 -- the beats of other channels and links leave the trace before a response
-before-off : {w : ℕ} (c k : ℕ) (x : Link × Beat w) (t : Trace w) → (x.0.0 == c) && on channel.D x.1 ≡ false
+before-off : {w : ℕ} (c k : ℕ) (x : Link × Beat w) (t : Trace w) → (x.0.0 == c) && on Channel.D x.1 ≡ false
     → before_last c (suc k) (x ∷ t) ≡ before_last c (suc k) t
 unfolding before_last
 before-off c k x t off = rw off refl
 
 -- its own beats are counted
-before-on : {w : ℕ} (c k : ℕ) (x : Link × Beat w) (t : Trace w) → (x.0.0 == c) && on channel.D x.1 ≡ true
+before-on : {w : ℕ} (c k : ℕ) (x : Link × Beat w) (t : Trace w) → (x.0.0 == c) && on Channel.D x.1 ≡ true
     → before_last c (suc k) (x ∷ t) ≡ before_last c k t
 unfolding before_last
 before-on c k x t own = rw own refl
@@ -65,44 +47,40 @@ pub before-none : {w : ℕ} (c : ℕ) (t : Trace w) → before_last c 0 t ≡ t
 unfolding before_last
 before-none c t = refl
 
-off_channel : {w : ℕ} (ch : Beat w) (h : History w) → on channel.D ch ≡ false
-    → unfinished channel.D (ch ∷ h) ≡ unfinished channel.D h
+off_channel : {w : ℕ} (ch : Beat w) (h : History w) → on Channel.D ch ≡ false
+    → unfinished Channel.D (ch ∷ h) ≡ unfinished Channel.D h
 unfolding unfinished
 off_channel x h off = rw off refl
 
 -- a beat of channel D isn't off it
-not_answer : {w : ℕ} (s : ℕ) (x : Beat w) (t : History w) → on channel.D x ≡ false → completes_answer s x t ≡ false
-not_answer s (beat.A y) t off = refl
-not_answer s (beat.B y) t off = refl
-not_answer s (beat.C y) t off = refl
-not_answer s (beat.D y) t off = absurd cc
-not_answer s (beat.E y) t off = refl
+not_answer : {w : ℕ} (s : ℕ) (x : Beat w) (t : History w) → on Channel.D x ≡ false → completes_answer s x t ≡ false
+not_answer s (Beat.D y) t off = absurd cc
+not_answer s v t off = refl
 
 module _ {w : ℕ} (levels : List Level) (p : Profile) (c n : ℕ) (x : Link × Beat w) (t : Trace w)
     (legal : AreLegal levels p t) (fine : broken_on_link levels p x t ≡ None) where
-  answering-at : (y : BeatD w) (older : List (Beat w)) → unfinished channel.D (on_link c t) ≡ beat.D y ∷ older
+  answering-at : (y : BeatD w) (older : List (Beat w)) → unfinished Channel.D (on_link c t) ≡ Beat.D y ∷ older
       → IsAnswering y (on_link c t)
   answering-at y older is = let l = legal-link levels p c t legal in answering l.0 p (on_link c t) y older l.1 is
 
   -- with a beat of another link, or another channel
   pub expected-off : (expected : Option Expected) → KnowsExpected expected n c t
-      → (x.0.0 ≡ c → on channel.D x.1 ≡ false) → KnowsExpected expected n c (x ∷ t)
+      → (x.0.0 ≡ c → on Channel.D x.1 ≡ false) → KnowsExpected expected n c (x ∷ t)
   expected-off expected k off y older is =
-      let before : unfinished channel.D (on_link c t) ≡ beat.D y ∷ older = sym same ∙ is in
+      let before : unfinished Channel.D (on_link c t) ≡ Beat.D y ∷ older = sym same ∙ is in
       let answer = answering-at y older before in
       subst (λ u. ExpectsResponse expected n c y.opcode y.source (x ∷ t) u)
       (sym (before-off c (length older) x t apart))
-      (expects-still levels p c expected n y.opcode y.source answer.asked x t
-      (before_last c (suc (length older)) t) fine answer.is_open
-      (λ own. not_answer y.source x.1 (on_link c t) (off own)) (k y older before))
+      (expects-still levels p c expected n y.opcode y.source answer.asked x t (before_last c (suc (length older)) t)
+      fine answer.is_open (λ own. not_answer y.source x.1 (on_link c t) (off own)) (k y older before))
     where
-      same : unfinished channel.D (on_link c (x ∷ t)) ≡ unfinished channel.D (on_link c t)
+      same : unfinished Channel.D (on_link c (x ∷ t)) ≡ unfinished Channel.D (on_link c t)
       same = elim (cases_eq x.0.0 c) [
-        | inl own ↦ ap (unfinished channel.D) (own-link c x t own) ∙ off_channel x.1 (on_link c t) (off own)
-        | inr other ↦ ap (unfinished channel.D) (other-link c x t other)
+        | inl own ↦ ap (unfinished Channel.D) (own-link c x t own) ∙ off_channel x.1 (on_link c t) (off own)
+        | inr other ↦ ap (unfinished Channel.D) (other-link c x t other)
       ]
 
-      apart : (x.0.0 == c) && on channel.D x.1 ≡ false
+      apart : (x.0.0 == c) && on Channel.D x.1 ≡ false
       apart = elim (cases_eq x.0.0 c) [
         | inl own ↦ rw (eq-eqb x.0.0 c own, off own) refl
         | inr other ↦ rw (ne_eqb x.0.0 c other) refl
@@ -114,19 +92,19 @@ same_tail : {X : Type 0} (x y : X) (xs ys : List X) → x ∷ xs ≡ y ∷ ys �
 same_tail x y xs ys e = cc
 
 module _ {w : ℕ} (levels : List Level) (p : Profile) (link : Link) (n : ℕ) (z : BeatD w) (t : Trace w)
-    (legal : AreLegal levels p t) (fine : broken_on_link levels p (link, beat.D z) t ≡ None) where
+    (legal : AreLegal levels p t) (fine : broken_on_link levels p (link, Beat.D z) t ≡ None) where
   abbrev c : ℕ
   c = link.0
 
   abbrev burst : List (Beat w)
-  burst = unfinished channel.D (on_link c t)
+  burst = unfinished Channel.D (on_link c t)
 
   own_beat : (c == c) && true ≡ true
   own_beat = rw (eq-eqb c c refl) refl
 
   -- what the response may bring that begins with it
   pub expects-begun : (begun : Option Expected)
-      → (begins (beat.D z) (on_link c t) ≡ true → ExpectsResponse begun n c z.opcode z.source t t)
+      → (begins (Beat.D z) (on_link c t) ≡ true → ExpectsResponse begun n c z.opcode z.source t t)
       → length burst ≡ 0 → ExpectsResponse begun n c z.opcode z.source t (before_last c (length burst) t)
   expects-begun begun first none = go burst none first
     where
@@ -139,54 +117,51 @@ module _ {w : ℕ} (levels : List Level) (p : Profile) (link : Link) (n : ℕ) (
   -- and that has begun
   pub expects-later : (expected : Option Expected) → KnowsExpected expected n c t → (length burst ≡ 0 → ⊥)
       → ExpectsResponse expected n c z.opcode z.source t (before_last c (length burst) t)
-  expects-later expected k some = go burst refl (goes_on f.level p (beat.D z) (on_link c t) f.fine) some
+  expects-later expected k some = go burst refl (goes_on f.level p (Beat.D z) (on_link c t) f.fine) some
     where
-      f : IsFine levels p (link, beat.D z) t
-      f = is-fine levels p (link, beat.D z) t fine
+      f : IsFine levels p (link, Beat.D z) t
+      f = is-fine levels p (link, Beat.D z) t fine
 
-      go : (beats : List (Beat w)) → burst ≡ beats → breaks_burst (beat.D z) beats ≡ false
-          → (length beats ≡ 0 → ⊥)
+      go : (beats : List (Beat w)) → burst ≡ beats → breaks_burst (Beat.D z) beats ≡ false → (length beats ≡ 0 → ⊥)
           → ExpectsResponse expected n c z.opcode z.source t (before_last c (length beats) t)
       go [] is e some = absurd (some refl)
       go (v ∷ older) is e some =
           let of_d = goes_on_d z v older e in
           let y = of_d.0 in
-          let cont : breaks_burst (beat.D z) (beat.D y ∷ older) ≡ false =
-          ap (λ b. breaks_burst (beat.D z) (b ∷ older)) (sym of_d.1) ∙ e in
-          let same = control_d z y (not-false (same_control (beat.D z) (beat.D y)) cont) in
+          let cont : breaks_burst (Beat.D z) (Beat.D y ∷ older) ≡ false =
+          ap (λ b. breaks_burst (Beat.D z) (b ∷ older)) (sym of_d.1) ∙ e in
+          let same = control_d z y (not-false (same_control (Beat.D z) (Beat.D y)) cont) in
           let before = before_last c (suc (length older)) t in
           subst (λ o. ExpectsResponse expected n c o z.source t before) (sym same.0)
           (subst (λ s. ExpectsResponse expected n c y.opcode s t before) (sym same.3)
           (k y older (is ∙ ap (λ b. b ∷ older) of_d.1)))
 
   -- it is what the response may bring while it isn't complete
-  pub expected-on : (expected : Option Expected)
-      → ExpectsResponse expected n c z.opcode z.source t (before_last c (length burst) t)
-      → KnowsExpected expected n c ((link, beat.D z) ∷ t)
+  pub expected-on : (expected : Option Expected) → ExpectsResponse expected n c z.opcode z.source t
+      (before_last c (length burst) t) → KnowsExpected expected n c ((link, Beat.D z) ∷ t)
   unfolding unfinished
-  expected-on expected k y older is = go (ends (beat.D z) (on_link c t)) refl
-      (sym (ap (unfinished channel.D) (own-link c (link, beat.D z) t refl)) ∙ is)
+  expected-on expected k y older is = go (ends (Beat.D z) (on_link c t)) refl
+      (sym (ap (unfinished Channel.D) (own-link c (link, Beat.D z) t refl)) ∙ is)
     where
-      still : ends (beat.D z) (on_link c t) ≡ false
-          → ExpectsResponse expected n c z.opcode z.source ((link, beat.D z) ∷ t) (before_last c (length burst) t)
+      still : ends (Beat.D z) (on_link c t) ≡ false
+          → ExpectsResponse expected n c z.opcode z.source ((link, Beat.D z) ∷ t) (before_last c (length burst) t)
       still last =
-          expects-still levels p c expected n z.opcode z.source answer.asked (link, beat.D z) t
+          expects-still levels p c expected n z.opcode z.source answer.asked (link, Beat.D z) t
           (before_last c (length burst) t) fine answer.is_open (λ own. unended z (on_link c t) last) k
         where
           answer : IsAnswering z (on_link c t)
           answer =
-              let f = is-fine levels p (link, beat.D z) t fine in
+              let f = is-fine levels p (link, Beat.D z) t fine in
               answering-unended f.level p z (on_link c t) (legal-on levels p c f.level t f.has_level legal) f.fine last
 
-      go : (last : Bool) → ends (beat.D z) (on_link c t) ≡ last
-          → unfinished channel.D (beat.D z ∷ on_link c t) ≡ beat.D y ∷ older
-          → ExpectsResponse expected n c y.opcode y.source ((link, beat.D z) ∷ t)
-          (before_last c (suc (length older)) ((link, beat.D z) ∷ t))
-      go true last e = absurd (let no : [] ≡ beat.D y ∷ older = rw last at e in cc)
+      go : (last : Bool) → ends (Beat.D z) (on_link c t) ≡ last → unfinished Channel.D (Beat.D z ∷ on_link c t) ≡ Beat.D
+          y ∷ older → ExpectsResponse expected n c y.opcode y.source ((link, Beat.D z) ∷ t)
+          (before_last c (suc (length older)) ((link, Beat.D z) ∷ t))
+      go true last e = absurd (let no : [] ≡ Beat.D y ∷ older = rw last at e in cc)
       go false last e =
-          let grown : beat.D z ∷ burst ≡ beat.D y ∷ older = rw last at e in
-          let same = same_d y z (same_head (beat.D z) (beat.D y) burst older grown) in
-          let rest : burst ≡ older = same_tail (beat.D z) (beat.D y) burst older grown in
-          subst (λ (v : BeatD w). ExpectsResponse expected n c v.opcode v.source ((link, beat.D z) ∷ t)
-          (before_last c (suc (length older)) ((link, beat.D z) ∷ t))) same
-          (rw (← rest, before-on c (length burst) (link, beat.D z) t own_beat) (still last))
+          let grown : Beat.D z ∷ burst ≡ Beat.D y ∷ older = rw last at e in
+          let same = same_d y z (same_head (Beat.D z) (Beat.D y) burst older grown) in
+          let rest : burst ≡ older = same_tail (Beat.D z) (Beat.D y) burst older grown in
+          subst (λ (v : BeatD w). ExpectsResponse expected n c v.opcode v.source ((link, Beat.D z) ∷ t)
+          (before_last c (suc (length older)) ((link, Beat.D z) ∷ t))) same
+          (rw (← rest, before-on c (length burst) (link, Beat.D z) t own_beat) (still last))

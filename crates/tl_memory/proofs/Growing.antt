@@ -1,22 +1,16 @@
 -- What accesses may bring that are pending, with one more beat.
+use Rattle.tl_memory.proofs.Imports.{Beat, Link, Trace, Access, access_writes, is_of, may_be, may_read}
+use Rattle.tl_memory.proofs.Imports.{pending_accesses, written_as, KnowsBlock, may_bring, others, AreRenewed, keeps}
+use Rattle.tl_memory.proofs.Imports.{nothing, staying, PendingAccess, Writer, AreKnown, IsAsked, is_to, KnowsAccesses}
 use Rattle.std.proofs.Common.{◌≡◌, ℕ, suc, Bool, true, false, not, ◌&&◌, ◌||◌, ◌+◌, ◌*◌, ◌<◌, ◌≤◌, List, [], ◌∷◌}
 use Rattle.std.proofs.Common.{length, refl, sym, ap, ap₂, ◌∙◌, arith, inl, inr}
 use Rattle.std.specs.Prelude.{filter, find, is_some, Option}
 use Rattle.std.proofs.lemmas.Bool.{cases_Bool, le-leb, or_left, or_right}
-use Rattle.tl_beat.specs.declared.beat.Beat.{Beat}
-use Rattle.tl_beat.specs.declared.beat.Link.{Link}
-use Rattle.tl_rules.specs.statement.Conformance.{Trace}
-use Rattle.tl_bytes.specs.declared.block_bytes.BlockBytes.{BlockBytes}
-use Rattle.tl_bytes.specs.statement.Bytes.{Access, access_writes, could_be, is_of, may_be, may_read, pending_accesses}
-use Rattle.tl_bytes.specs.statement.Bytes.{pending_value, told_as, written_as}
-use Rattle.tl_bytes.specs.statement.Known.{KnowsBlock, may_bring, others}
-use Rattle.tl_bytes.proofs.Offered.{either-some}
-use Rattle.tl_memory.specs.code.Writers.{AreRenewed, keeps, names, nothing, staying, told_by, written_by}
-use Rattle.tl_memory.specs.declared.pending.PendingAccess.{PendingAccess}
-use Rattle.tl_memory.specs.declared.writer.Writer.{Writer}
-use Rattle.tl_memory.specs.statement.Known.{AreKnown, IsAsked, IsPendingWrite, is_to, KnowsAccesses}
+use Rattle.tl_bytes.{specs.declared.block_bytes.BlockBytes.BlockBytes, proofs.Offered.either-some}
+use Rattle.tl_bytes.specs.statement.Bytes.{could_be, pending_value, told_as}
+use Rattle.tl_memory.specs.code.Writers.{names, told_by, written_by}
+use Rattle.tl_memory.{specs.statement.Known.IsPendingWrite, proofs.Writing.leaves-is, proofs.Writing.named}
 use Rattle.tl_memory.proofs.Keeping.{copied-each, filters-swap, Grows, renewed-all, renewed-each}
-use Rattle.tl_memory.proofs.Writing.{leaves-is, named}
 
 -- what others may write it may bring
 written-brought : {w : ℕ} (n : ℕ) (access : Access w) (t : Trace w) (a v : ℕ) → access.asked ≤ length t
@@ -56,8 +50,7 @@ found-less p q (x ∷ xs) e = elim (cases_Bool (p x)) [
 ]
 
 -- where no access is new that may write it, an access may bring what the bytes may be with the beat
-pub told-grows : {w : ℕ} (n block : ℕ) (gone : Option (Link × ℕ)) (bytes : BlockBytes) (x : Link × Beat w)
-    (t : Trace w)
+pub told-grows : {w : ℕ} (n block : ℕ) (gone : Option (Link × ℕ)) (bytes : BlockBytes) (x : Link × Beat w) (t : Trace w)
     → KnowsBlock bytes n block (x ∷ t) → pending_accesses (x ∷ t) ≡ filter (keeps gone) (pending_accesses t)
     → Grows n block (told_by bytes) x t
 unfolding may_read
@@ -79,17 +72,15 @@ told-grows {w} n block gone bytes x t known stay old access k le p v lt =
 -- where that is what was told before, nothing more
 quiet-grows : {w : ℕ} (n block : ℕ) (gone : Option (Link × ℕ)) (bytes : BlockBytes) (x y : Link × Beat w) (t : Trace w)
     → KnowsBlock bytes n block (y ∷ t) → KnowsBlock bytes n block (x ∷ y ∷ t)
-    → pending_accesses (x ∷ y ∷ t) ≡ filter (keeps gone) (pending_accesses (y ∷ t))
-    → Grows n block nothing x (y ∷ t)
+    → pending_accesses (x ∷ y ∷ t) ≡ filter (keeps gone) (pending_accesses (y ∷ t)) → Grows n block nothing x (y ∷ t)
 quiet-grows n block gone bytes x y t before now stay old access k le p v lt =
     told-grows n block gone bytes x (y ∷ t) now stay old access k le p v lt
     ∙ less (may_read n access (y ∷ t) (64 * block + p) v) (told_by bytes old p v)
     (λ e. told-brought n access y t (64 * block + p) v le (ap (told_as v) (sym (before.bytes_are p lt)) ∙ e))
   where
     less : (had more : Bool) → (more ≡ true → had ≡ true) → (had || more) ≡ (had || false)
-    less true more was = refl
-    less false false was = refl
     less false true was = absurd (let no : false ≡ true = was refl in cc)
+    less v u was = refl
 
 renewed-none : {w : ℕ} (pending : List (PendingAccess w)) → AreRenewed nothing pending pending
 renewed-none [] = tt
@@ -109,9 +100,8 @@ none-known n block (z ∷ pending) s t u are = absurd are
 
 -- so those that stay may bring what they did
 pub quiet-all : {w : ℕ} (n block : ℕ) (gone : Option (Link × ℕ)) (bytes : BlockBytes) (x : Link × Beat w) (t : Trace w)
-    (old more : List (PendingAccess w))
-    → KnowsBlock bytes n block t → KnowsBlock bytes n block (x ∷ t) → KnowsAccesses old n block t t
-    → pending_accesses (x ∷ t) ≡ filter (keeps gone) (pending_accesses t)
+    (old more : List (PendingAccess w)) → KnowsBlock bytes n block t → KnowsBlock bytes n block (x ∷ t)
+    → KnowsAccesses old n block t t → pending_accesses (x ∷ t) ≡ filter (keeps gone) (pending_accesses t)
     → AreRenewed nothing (staying gone old) more → KnowsAccesses more n block t (x ∷ t)
 unfolding pending_accesses
 quiet-all n block gone bytes x [] old more before now k stay copied = record {
@@ -151,22 +141,19 @@ others-more a v access new accesses = elim (cases_Bool (is_of access.link access
 -- what the new one writes is what is kept of that
 written-is : {w : ℕ} (block p v : ℕ) (writer : Writer w) (new access : Access w) (old : PendingAccess w) → p < 64
     → IsAsked writer.asked new → IsPendingWrite writer.write block new → IsAsked old.writer.asked access
-    → (not (is_of access.link access.request.source new)
-    && (access_writes (64 * block + p) new && could_be v (pending_value new.request.opcode new (64 * block + p))))
-    ≡ written_by writer old p v
+    → (not (is_of access.link access.request.source new) && (access_writes (64 * block + p) new && could_be v
+    (pending_value new.request.opcode new (64 * block + p)))) ≡ written_by writer old p v
 written-is block p v writer new access old lt asked write k =
     ap₂ (λ b c. not b && c)
-    (sym (ap (λ l. names l old.writer.asked.request.source writer.asked) k.link_is
-    ∙ ap (λ s. names access.link s writer.asked) k.source_is
-    ∙ named access.link access.request.source writer new asked))
+    (sym (ap (λ l. names l old.writer.asked.request.source writer.asked) k.link_is ∙ ap
+    (λ s. names access.link s writer.asked) k.source_is ∙ named access.link access.request.source writer new asked))
     (sym (leaves-is block p v writer new lt (write p lt)))
 
 -- with the request of an access each may bring what that writes
 written-grows : {w : ℕ} (n block : ℕ) (bytes : BlockBytes) (writer : Writer w) (new : Access w) (x y : Link × Beat w)
-    (t : Trace w)
-    → KnowsBlock bytes n block (y ∷ t) → KnowsBlock bytes n block (x ∷ y ∷ t)
-    → pending_accesses (x ∷ y ∷ t) ≡ new ∷ pending_accesses (y ∷ t)
-    → IsAsked writer.asked new → IsPendingWrite writer.write block new → Grows n block (written_by writer) x (y ∷ t)
+    (t : Trace w) → KnowsBlock bytes n block (y ∷ t) → KnowsBlock bytes n block (x ∷ y ∷ t)
+    → pending_accesses (x ∷ y ∷ t) ≡ new ∷ pending_accesses (y ∷ t) → IsAsked writer.asked new
+    → IsPendingWrite writer.write block new → Grows n block (written_by writer) x (y ∷ t)
 unfolding may_read
 written-grows {w} n block bytes writer new x y t before now more asked write old access k le p v lt =
     let a = 64 * block + p in
@@ -181,13 +168,12 @@ written-grows {w} n block bytes writer new x y t before now more asked write old
     ∙ gained (told_as v (may_be n a (y ∷ t))) (written_as a v (others access (y ∷ t))) (written_by writer old p v)
     (may_read n access (y ∷ t) a v) (told-brought n access y t a v le) (written-brought n access (y ∷ t) a v le))
 
-pub written-each : {w : ℕ} (n block : ℕ) (bytes : BlockBytes) (writer : Writer w) (new : Access w)
-    (x : Link × Beat w) (t : Trace w) (old more : List (PendingAccess w))
-    → KnowsBlock bytes n block t → KnowsBlock bytes n block (x ∷ t)
-    → pending_accesses (x ∷ t) ≡ new ∷ pending_accesses t
-    → IsAsked writer.asked new → IsPendingWrite writer.write block new
-    → AreKnown old n block (filter (is_to block) (pending_accesses t)) t t → AreRenewed (written_by writer) old more
-    → AreKnown more n block (filter (is_to block) (pending_accesses t)) t (x ∷ t)
+pub written-each : {w : ℕ} (n block : ℕ) (bytes : BlockBytes) (writer : Writer w) (new : Access w) (x : Link × Beat w)
+    (t : Trace w) (old more : List (PendingAccess w)) → KnowsBlock bytes n block t → KnowsBlock bytes n block (x ∷ t)
+    → pending_accesses (x ∷ t) ≡ new ∷ pending_accesses t → IsAsked writer.asked new
+    → IsPendingWrite writer.write block new → AreKnown old n block (filter (is_to block) (pending_accesses t)) t t
+    → AreRenewed (written_by writer) old more → AreKnown more n block (filter (is_to block) (pending_accesses t)) t
+    (x ∷ t)
 unfolding pending_accesses
 written-each n block bytes writer new x [] [] [] before now next asked write are renewed = tt
 written-each n block bytes writer new x [] [] (z ∷ more) before now next asked write are renewed = absurd renewed

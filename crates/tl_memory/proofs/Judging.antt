@@ -1,67 +1,49 @@
 -- Whether the bytes of a response are true, by what it may bring.
-use Rattle.std.proofs.Common.{◌≡◌, ℕ, Bool, true, false, ◌||◌, ◌+◌, ◌*◌, ◌<◌, ◌≤◌, List}
-use Rattle.std.proofs.Common.{length, Option, Some, None, refl, sym, ap, ◌∙◌, arith}
+use Rattle.tl_memory.proofs.Imports.{BeatD, Link, OpD, IsWidth, data_beats, burst_length, unfinished, Level, Profile}
+use Rattle.tl_memory.proofs.Imports.{open_request, base_of, Request, Trace, broken_on_link, on_link, is_release_ack}
+use Rattle.tl_memory.proofs.Imports.{Access, is_of, pending_accesses, Expected, Expects, ExpectsGrant, ExpectsRead}
+use Rattle.tl_memory.proofs.Imports.{ExpectsResponse, AreLegal, Beat}
+use Rattle.std.proofs.Common.{◌≡◌, ℕ, Bool, true, false, ◌||◌, ◌+◌, ◌*◌, ◌<◌, ◌≤◌, List, length, Option, Some, None}
+use Rattle.std.proofs.Common.{refl, sym, ap, ◌∙◌, arith}
 use Rattle.std.specs.Prelude.{find}
-use Rattle.tl_beat.specs.declared.beat.Beat.TheVariants as beat
-use Rattle.tl_beat.specs.declared.beat.BeatD.{BeatD}
-use Rattle.tl_beat.specs.declared.beat.Link.{Link}
-use Rattle.tl_beat.specs.declared.channel.Channel.TheVariants as channel
-use Rattle.tl_beat.specs.declared.opcode.OpD.{OpD}
-use Rattle.tl_beat.specs.declared.opcode.OpD.TheVariants as d
-use Rattle.tl_beat.specs.statement.Width.{IsWidth}
-use Rattle.tl_burst.specs.statement.Burst.{data_beats}
-use Rattle.tl_burst.specs.statement.Messages.{burst_length, unfinished}
+use Rattle.tl_beat.specs.declared.channel.Channel.{Channel}
 use Rattle.tl_burst.proofs.Bits.{earlier_place}
-use Rattle.tl_params.specs.declared.level.Level.{Level}
-use Rattle.tl_params.specs.declared.profile.Profile.{Profile}
-use Rattle.tl_rules.specs.code.Open.{open_request}
-use Rattle.tl_rules.specs.code.Place.{base_of}
-use Rattle.tl_rules.specs.declared.past.Request.{Request}
-use Rattle.tl_rules.specs.statement.Conformance.{Trace, broken_on_link, on_link}
-use Rattle.tl_rules.specs.statement.History.{is_release_ack}
-use Rattle.tl_bytes.specs.statement.Bytes.{Access, before_last, grants_truly, is_of, is_true, pending_accesses}
-use Rattle.tl_bytes.specs.statement.Bytes.{reads_truly}
-use Rattle.tl_memory.specs.declared.expected.Expected.{Expected}
-use Rattle.tl_memory.specs.statement.Known.{Expects}
-use Rattle.tl_memory.specs.code.Allowed.{IsAllowed, is_judged}
-use Rattle.tl_memory.specs.statement.Expecting.{ExpectsGrant, ExpectsRead, ExpectsResponse}
-use Rattle.tl_memory.specs.statement.Links.{AreLegal}
-use Rattle.tl_memory.proofs.Answering.{is-answering}
-use Rattle.tl_memory.proofs.Complete.{carried_inside}
-use Rattle.tl_memory.proofs.Open.{IsAnswering, open-whole}
+use Rattle.tl_bytes.specs.statement.Bytes.{before_last, grants_truly, is_true, reads_truly}
+use Rattle.tl_memory.{specs.code.Allowed.IsAllowed, specs.code.Allowed.is_judged, proofs.Answering.is-answering}
+use Rattle.tl_memory.{proofs.Complete.carried_inside, proofs.Open.IsAnswering, proofs.Open.open-whole}
+use Rattle.tl_memory.{proofs.Unfinished.fewer-before, proofs.Unfinished.room}
 use Rattle.tl_memory.proofs.OpenAccesses.{IsFine, is-fine, legal-on, pending-open, same_asked}
-use Rattle.tl_memory.proofs.Unfinished.{fewer-before, room}
 
 unspoiled : (spoiled b : Bool) → spoiled ≡ false → b ≡ (spoiled || b)
 unspoiled true b e = absurd cc
 unspoiled false b e = refl
 
 module _ {w : ℕ} (levels : List Level) (p : Profile) (n : ℕ) (link : Link) (x : BeatD w) (t : Trace w) (is : IsWidth w)
-    (legal : AreLegal levels p t) (fine : broken_on_link levels p (link, beat.D x) t ≡ None) where
+    (legal : AreLegal levels p t) (fine : broken_on_link levels p (link, Beat.D x) t ≡ None) where
   abbrev k : ℕ
-  k = length (unfinished channel.D (on_link link.0 t))
+  k = length (unfinished Channel.D (on_link link.0 t))
 
   abbrev begun : Trace w
   begun = before_last link.0 k t
 
-  f : IsFine levels p (link, beat.D x) t
-  f = is-fine levels p (link, beat.D x) t fine
+  f : IsFine levels p (link, Beat.D x) t
+  f = is-fine levels p (link, Beat.D x) t fine
 
   in_block : w * k + w ≤ 64
   in_block =
-      room f.level p (beat.D x) (on_link link.0 t) is (legal-on levels p link.0 f.level t f.has_level legal) f.fine
+      room f.level p (Beat.D x) (on_link link.0 t) is (legal-on levels p link.0 f.level t f.has_level legal) f.fine
 
-  fewer : k < burst_length (beat.D x)
-  fewer = fewer-before f.level p (beat.D x) (on_link link.0 t) is
+  fewer : k < burst_length (Beat.D x)
+  fewer = fewer-before f.level p (Beat.D x) (on_link link.0 t) is
       (legal-on levels p link.0 f.level t f.has_level legal) f.fine
 
   answering : is_release_ack x.opcode ≡ false → IsAnswering x (on_link link.0 t)
   answering other = is-answering f.level p x (on_link link.0 t)
       (legal-on levels p link.0 f.level t f.has_level legal) f.fine other
 
-  true-grant : (expected : Option Expected) (b : Bool) → IsAllowed expected k x b → x.opcode ≡ d.GrantData
+  true-grant : (expected : Option Expected) (b : Bool) → IsAllowed expected k x b → x.opcode ≡ OpD.GrantData
       → ExpectsGrant expected n (open_request x.source (on_link link.0 t)) begun → x.corrupt ≡ false
-      → b ≡ is_true d.GrantData n link.0 x t
+      → b ≡ is_true OpD.GrantData n link.0 x t
   true-grant expected b allowed op e sound =
       let answer = answering (ap is_release_ack op) in
       let opened = open-whole x.source answer.asked (on_link link.0 t) answer.is_open in
@@ -69,7 +51,7 @@ module _ {w : ℕ} (levels : List Level) (p : Profile) (n : ℕ) (link : Link) (
       ∙ unspoiled x.corrupt (grants_truly n answer.asked.block k x begun) sound)
 
   -- all of the lanes are in the block of the access
-  read_inside : (access : Access w) → x.opcode ≡ d.AccessAckData
+  read_inside : (access : Access w) → x.opcode ≡ OpD.AccessAckData
       → find (is_of link.0 x.source) (pending_accesses t) ≡ Some access
       → base_of w access.request.address + w * k + w ≤ 64
   read_inside access op pending =
@@ -77,18 +59,16 @@ module _ {w : ℕ} (levels : List Level) (p : Profile) (n : ℕ) (link : Link) (
       let opened = open-whole x.source answer.asked (on_link link.0 t) answer.is_open in
       let q = pending-open levels p link.0 x.source access t is legal pending in
       let same = same_asked x.source answer.asked q.asked (on_link link.0 t) opened q.is_open in
-      let size : x.size ≡ access.request.size =
-      answer.sized ∙ ap (λ (r : Request). r.size) (sym same) ∙ q.size_is in
+      let size : x.size ≡ access.request.size = answer.sized ∙ ap (λ (r : Request). r.size) (sym same) ∙ q.size_is in
       let inside = carried_inside w access.request.size access.request.address is q.small q.aligned in
-      let whole : burst_length (beat.D x) ≡ data_beats w access.request.size =
-      rw op (ap (data_beats w) size) in
-      let here = earlier_place w (burst_length (beat.D x)) k fewer in
-      let bytes : w * burst_length (beat.D x) ≡ w * data_beats w access.request.size = ap (λ m. w * m) whole in
+      let whole : burst_length (Beat.D x) ≡ data_beats w access.request.size = rw op (ap (data_beats w) size) in
+      let here = earlier_place w (burst_length (Beat.D x)) k fewer in
+      let bytes : w * burst_length (Beat.D x) ≡ w * data_beats w access.request.size = ap (λ m. w * m) whole in
       omega (arith, inside, here, bytes)
 
-  true-read : (expected : Option Expected) (b : Bool) → IsAllowed expected k x b → x.opcode ≡ d.AccessAckData
+  true-read : (expected : Option Expected) (b : Bool) → IsAllowed expected k x b → x.opcode ≡ OpD.AccessAckData
       → ExpectsRead expected n (find (is_of link.0 x.source) (pending_accesses t)) begun → x.corrupt ≡ false
-      → b ≡ is_true d.AccessAckData n link.0 x t
+      → b ≡ is_true OpD.AccessAckData n link.0 x t
   true-read expected b allowed op e sound =
       go (find (is_of link.0 x.source) (pending_accesses t)) refl e
       ∙ unspoiled x.corrupt (reads_truly n (find (is_of link.0 x.source) (pending_accesses t)) k x begun) sound
@@ -106,9 +86,6 @@ module _ {w : ℕ} (levels : List Level) (p : Profile) (n : ℕ) (link : Link) (
   pub judged-true : (expected : Option Expected) (opcode : OpD) (b : Bool) → opcode ≡ x.opcode
       → ExpectsResponse expected n link.0 opcode x.source t begun → IsAllowed expected k x b → x.corrupt ≡ false
       → is_judged opcode ≡ true → b ≡ is_true opcode n link.0 x t
-  judged-true expected d.GrantData b op e allowed sound judged = true-grant expected b allowed (sym op) e sound
-  judged-true expected d.AccessAckData b op e allowed sound judged = true-read expected b allowed (sym op) e sound
-  judged-true expected d.AccessAck b op e allowed sound judged = absurd cc
-  judged-true expected d.HintAck b op e allowed sound judged = absurd cc
-  judged-true expected d.Grant b op e allowed sound judged = absurd cc
-  judged-true expected d.ReleaseAck b op e allowed sound judged = absurd cc
+  judged-true expected OpD.GrantData b op e allowed sound judged = true-grant expected b allowed (sym op) e sound
+  judged-true expected OpD.AccessAckData b op e allowed sound judged = true-read expected b allowed (sym op) e sound
+  judged-true expected v b op e allowed sound judged = absurd cc

@@ -1,27 +1,14 @@
 -- What is kept of a block, with one more beat.
-use Rattle.std.proofs.Common.{◌≡◌, ℕ, zero, suc, Bool, true, false, not, ◌||◌, ◌+◌, ◌*◌, ◌<◌, ◌≤◌}
-use Rattle.std.proofs.Common.{List, [], ◌∷◌, ◌++◌, length, refl, sym, ap, ◌∙◌, arith, inl, inr}
-use Rattle.std.specs.Prelude.{if◌then◌else◌, filter, find, None, Option, Some}
-use Rattle.std.specs.List.{AllZip}
-use Rattle.std.specs.Prelude.{⊤}
-use Rattle.std.proofs.Common.{drop, get_or, set, take}
-use Rattle.std.proofs.lemmas.Bool.{cases_Bool}
-use Rattle.std.proofs.lemmas.List.{at_drop_more}
-use Rattle.std.proofs.lemmas.Slice.Zip.{all_zipped_more}
-use Rattle.std.proofs.Math.ListN.{drop_of_length-le}
-use Rattle.tl_beat.specs.declared.beat.Beat.{Beat}
-use Rattle.tl_beat.specs.declared.beat.Link.{Link}
-use Rattle.tl_params.specs.declared.perm.Perm.TheVariants as perm
-use Rattle.tl_rules.specs.statement.Conformance.{Trace}
-use Rattle.tl_rules.specs.statement.Windows.{is_free}
-use Rattle.tl_bytes.specs.statement.Bytes.{Access, is_of, may_read, pending_accesses}
-use Rattle.tl_bytes.specs.statement.Known.{may_bring}
-use Rattle.tl_memory.specs.code.Writers.{AreRenewed, AreWatched, IsRenewed, is_named, keeps, nothing, picked, stays}
-use Rattle.tl_memory.specs.code.Writers.{staying}
-use Rattle.tl_memory.specs.declared.pending.PendingAccess.{PendingAccess}
-use Rattle.tl_memory.specs.statement.Known.{AllWriteInside, AreKnown, IsAsked, is_to}
-use Rattle.tl_memory.specs.statement.Known.{AnyIsTo, KnowsAccess, KnowsAccesses}
-use Rattle.tl_memory.specs.statement.Known.{WritesInside}
+use Rattle.tl_memory.proofs.Imports.{Beat, Link, Trace, is_free, Access, is_of, may_read, pending_accesses, may_bring}
+use Rattle.tl_memory.proofs.Imports.{AreRenewed, keeps, nothing, staying, PendingAccess, AllWriteInside, AreKnown}
+use Rattle.tl_memory.proofs.Imports.{IsAsked, is_to, AnyIsTo, KnowsAccess, KnowsAccesses, WritesInside}
+use Rattle.std.proofs.Common.{◌≡◌, ℕ, zero, suc, Bool, true, false, not, ◌||◌, ◌+◌, ◌*◌, ◌<◌, ◌≤◌, List, [], ◌∷◌, ◌++◌}
+use Rattle.std.proofs.Common.{length, refl, sym, ap, ◌∙◌, arith, inl, inr, drop, get_or, set, take}
+use Rattle.std.specs.Prelude.{if◌then◌else◌, filter, find, None, Option, Some, ⊤}
+use Rattle.std.{specs.List.AllZip, proofs.lemmas.Bool.cases_Bool, proofs.lemmas.List.at_drop_more}
+use Rattle.std.{proofs.lemmas.Slice.Zip.all_zipped_more, proofs.Math.ListN.drop_of_length-le}
+use Rattle.tl_params.specs.declared.perm.Perm.{Perm}
+use Rattle.tl_memory.specs.code.Writers.{AreWatched, IsRenewed, is_named, picked, stays}
 use Rattle.tl_memory.proofs.Writing.{named, one_kept, one_left}
 
 -- ---- lists
@@ -102,11 +89,10 @@ module _ {X : Type 0} (R : X → X → Type 0) where
       → R item new → IsDone R (suc i) xs (set ys i new)
   unfolding IsDone
   done-one i [] [] item new done lt is r = absurd (omega (arith, lt))
-  done-one i [] (y ∷ ys) item new done lt is r = absurd done
-  done-one i (x ∷ xs) [] item new done lt is r = absurd done
   done-one zero (x ∷ xs) (y ∷ ys) item new done lt is r = (rw (← (is ∙ done.0)) r, done.1)
   done-one (suc i) (x ∷ xs) (y ∷ ys) item new done lt is r =
       (done.0, done-one i xs ys item new done.1 (omega (arith, lt)) is r)
+  done-one i v u item new done lt is r = absurd done
 
   pub done-more : (i : ℕ) (xs ys : List X) (item new : X) → IsDone R i xs ys → i < length xs
       → item ≡ get_or ys i item → R item new → IsDone R (i + 1) xs (set ys i new)
@@ -117,10 +103,9 @@ module _ {X : Type 0} (R : X → X → Type 0) where
   pub done-all : (i : ℕ) (xs ys : List X) → IsDone R i xs ys → length xs ≤ i → AllZip R xs ys
   unfolding IsDone
   done-all i [] [] done le = tt
-  done-all i [] (y ∷ ys) done le = absurd done
-  done-all i (x ∷ xs) [] done le = absurd done
   done-all zero (x ∷ xs) (y ∷ ys) done le = absurd (omega (arith, le))
   done-all (suc i) (x ∷ xs) (y ∷ ys) done le = (done.0, done-all i xs ys done.1 (omega (arith, le)))
+  done-all i v u done le = absurd done
 
 -- ---- the accesses that stay
 
@@ -149,10 +134,9 @@ copied-none gone xs = tt
 
 -- one is copied
 pub copied-more : {w : ℕ} (gone : Option (Link × ℕ)) (i : ℕ) (xs more : List (PendingAccess w))
-    (x new : PendingAccess w)
-    → AreRenewed nothing (staying gone (take i xs)) more → x ≡ get_or xs i x → i < length xs
-    → stays gone x ≡ true → IsRenewed nothing x new
-    → AreRenewed nothing (staying gone (take (i + 1) xs)) (more ++ new ∷ [])
+    (x new : PendingAccess w) → AreRenewed nothing (staying gone (take i xs)) more → x ≡ get_or xs i x → i < length xs
+    → stays gone x ≡ true → IsRenewed nothing x new → AreRenewed nothing (staying gone (take (i + 1) xs))
+    (more ++ new ∷ [])
 copied-more gone i xs more x new are is lt on one =
     rw (← one_kept (stays gone) (λ x. x) i xs x x is lt on)
     (all_zipped_more (IsRenewed nothing) (staying gone (take i xs)) more x new are one)
@@ -166,9 +150,8 @@ copied-left gone i xs more x are is lt off =
 
 -- an access that may bring nothing more
 pub nothing-more : {w : ℕ} (n block : ℕ) (seen t : Trace w) (more : PendingAccess w → ℕ → ℕ → Bool)
-    (old new : PendingAccess w) (access : Access w)
-    → IsRenewed more old new → ((p v : ℕ) → more old p v ≡ false) → KnowsAccess old n block access seen t
-    → KnowsAccess new n block access seen t
+    (old new : PendingAccess w) (access : Access w) → IsRenewed more old new → ((p v : ℕ) → more old p v ≡ false)
+    → KnowsAccess old n block access seen t → KnowsAccess new n block access seen t
 nothing-more n block seen t more old new access r none k = record {
   asked_is = rw r.writer_is k.asked_is;
   lawful = k.lawful;
@@ -185,16 +168,14 @@ nothing-more n block seen t more old new access r none k = record {
 
 module _ {w : ℕ} (n block : ℕ) (seen t : Trace w) where
   copied-step : (b c : Bool) (z : PendingAccess w) (rest new : List (PendingAccess w)) (y : Access w)
-      (accesses : List (Access w))
-      → b ≡ c → AreRenewed nothing (if b then z ∷ rest else rest) new → KnowsAccess z n block y seen t
-      → ((more : List (PendingAccess w)) → AreRenewed nothing rest more → AreKnown more n block accesses seen t)
-      → AreKnown new n block (if c then y ∷ accesses else accesses) seen t
+      (accesses : List (Access w)) → b ≡ c → AreRenewed nothing (if b then z ∷ rest else rest) new
+      → KnowsAccess z n block y seen t → ((more : List (PendingAccess w)) → AreRenewed nothing rest more
+      → AreKnown more n block accesses seen t) → AreKnown new n block (if c then y ∷ accesses else accesses) seen t
   copied-step true true z rest [] y accesses e copied k more = absurd copied
   copied-step true true z rest (first ∷ new) y accesses e copied k more =
       (nothing-more n block seen t nothing z first y copied.0 (λ p v. refl) k, more new copied.1)
   copied-step false false z rest new y accesses e copied k more = more new copied
-  copied-step true false z rest new y accesses e copied k more = absurd cc
-  copied-step false true z rest new y accesses e copied k more = absurd cc
+  copied-step v u z rest new y accesses e copied k more = absurd cc
 
   -- the copies of those that stay
   pub copied-each : (gone : Option (Link × ℕ)) (old new : List (PendingAccess w)) (accesses : List (Access w))
@@ -203,19 +184,17 @@ module _ {w : ℕ} (n block : ℕ) (seen t : Trace w) where
   unfolding picked
   copied-each gone [] [] [] are copied = tt
   copied-each gone [] (z ∷ new) [] are copied = absurd copied
-  copied-each gone [] new (y ∷ accesses) are copied = absurd are
-  copied-each gone (z ∷ old) new [] are copied = absurd are
   copied-each gone (z ∷ old) new (y ∷ accesses) are copied =
       copied-step (stays gone z) (keeps gone y) z (staying gone old) new y (filter (keeps gone) accesses)
       (stays-as gone z y are.0.asked_is) copied are.0
       (λ more each. copied-each gone old more accesses are.1 each)
+  copied-each gone v new u are copied = absurd are
 
 -- so each access that is pending may bring this with one more beat
 abbrev pub Grows : {w : ℕ} → ℕ → ℕ → (PendingAccess w → ℕ → ℕ → Bool) → Link × Beat w → Trace w → Type 0
 Grows {w} n block more x t = (old : PendingAccess w) (access : Access w) → IsAsked old.writer.asked access
     → access.asked ≤ length t → (p v : ℕ) → p < 64
-    → may_read n access (x ∷ t) (64 * block + p) v
-    ≡ (may_read n access t (64 * block + p) v || more old p v)
+    → may_read n access (x ∷ t) (64 * block + p) v ≡ (may_read n access t (64 * block + p) v || more old p v)
 
 module _ {w : ℕ} (n block : ℕ) (more : PendingAccess w → ℕ → ℕ → Bool) (x : Link × Beat w) (t : Trace w)
     (grows : Grows n block more x t) where
@@ -236,17 +215,15 @@ module _ {w : ℕ} (n block : ℕ) (more : PendingAccess w → ℕ → ℕ → B
   renewed-each [] [] [] are renewed = tt
   renewed-each [] (z ∷ new) accesses are renewed = absurd renewed
   renewed-each (z ∷ old) [] accesses are renewed = absurd renewed
-  renewed-each [] [] (y ∷ accesses) are renewed = absurd are
-  renewed-each (z ∷ old) (v ∷ new) [] are renewed = absurd are
   renewed-each (z ∷ old) (v ∷ new) (y ∷ accesses) are renewed =
       (renewed-one z v y renewed.0 are.0, renewed-each old new accesses are.1 renewed.1)
+  renewed-each v u z are renewed = absurd are
 
 -- where some are gone, or none, and the others may bring more, this is kept of them
 pub renewed-all : {w : ℕ} (n block : ℕ) (gone : Option (Link × ℕ)) (more : PendingAccess w → ℕ → ℕ → Bool)
-    (x : Link × Beat w) (t : Trace w) (old copies new : List (PendingAccess w))
-    → KnowsAccesses old n block t t → pending_accesses (x ∷ t) ≡ filter (keeps gone) (pending_accesses t)
-    → Grows n block more x t → AreRenewed nothing (staying gone old) copies → AreRenewed more copies new
-    → KnowsAccesses new n block t (x ∷ t)
+    (x : Link × Beat w) (t : Trace w) (old copies new : List (PendingAccess w)) → KnowsAccesses old n block t t
+    → pending_accesses (x ∷ t) ≡ filter (keeps gone) (pending_accesses t) → Grows n block more x t
+    → AreRenewed nothing (staying gone old) copies → AreRenewed more copies new → KnowsAccesses new n block t (x ∷ t)
 renewed-all n block gone more x t old copies new k stay grows copied renewed = record {
   accesses_are = rw (stay, filters-swap (is_to block) (keeps gone) (pending_accesses t))
       (renewed-each n block more x t grows copies new (filter (keeps gone) (filter (is_to block) (pending_accesses t)))
@@ -264,18 +241,16 @@ IsFound (Some pending) n block (Some access) seen t = KnowsAccess pending n bloc
 IsFound _ n block _ seen t = ⊥
 
 finds-known : {w : ℕ} (link source n block : ℕ) (seen t : Trace w) (pending : List (PendingAccess w))
-    (accesses : List (Access w))
-    → AreKnown pending n block accesses seen t
+    (accesses : List (Access w)) → AreKnown pending n block accesses seen t
     → IsFound (find (is_named link source) pending) n block (find (is_of link source) accesses) seen t
 finds-known link source n block seen t [] [] are = tt
-finds-known link source n block seen t [] (y ∷ accesses) are = absurd are
-finds-known link source n block seen t (x ∷ pending) [] are = absurd are
 finds-known link source n block seen t (x ∷ pending) (y ∷ accesses) are =
     let same = named link source x.writer y are.0.asked_is in
     elim (cases_Bool (is_of link source y)) [
       | inl own ↦ rw (same ∙ own, own) (are.0)
       | inr other ↦ rw (same ∙ other, other) (finds-known link source n block seen t pending accesses are.1)
     ]
+finds-known link source n block seen t v u are = absurd are
 
 -- so is the one among all that are pending, where it is to the block
 pub finds : {w : ℕ} (link source n block : ℕ) (seen t : Trace w) (pending : List (PendingAccess w))
@@ -307,15 +282,12 @@ asked-more n block first more access x t pending to inside all k are = record {
 -- ---- seen whether the block is free
 
 pub watched-each : {w : ℕ} (n block : ℕ) (free : Bool) (moment : ℕ) (x : Link × Beat w) (t : Trace w)
-    (old new : List (PendingAccess w)) (accesses : List (Access w))
-    → AreKnown old n block accesses t (x ∷ t) → AreWatched free moment old new
-    → free ≡ is_free n None perm.Trunk block (x ∷ t) → moment ≡ length (x ∷ t)
+    (old new : List (PendingAccess w)) (accesses : List (Access w)) → AreKnown old n block accesses t (x ∷ t)
+    → AreWatched free moment old new → free ≡ is_free n None Perm.Trunk block (x ∷ t) → moment ≡ length (x ∷ t)
     → AreKnown new n block accesses (x ∷ t) (x ∷ t)
 watched-each n block free moment x t [] [] [] are watched is now = tt
 watched-each n block free moment x t [] (z ∷ new) accesses are watched is now = absurd watched
 watched-each n block free moment x t (z ∷ old) [] accesses are watched is now = absurd watched
-watched-each n block free moment x t [] [] (y ∷ accesses) are watched is now = absurd are
-watched-each n block free moment x t (z ∷ old) (v ∷ new) [] are watched is now = absurd are
 watched-each n block free moment x t (z ∷ old) (v ∷ new) (y ∷ accesses) are watched is now = (
   record {
     asked_is = rw watched.0.writer_is are.0.asked_is;
@@ -327,3 +299,4 @@ watched-each n block free moment x t (z ∷ old) (v ∷ new) (y ∷ accesses) ar
   },
   watched-each n block free moment x t old new accesses are.1 watched.1 is now,
 )
+watched-each n block free moment x t v u z are watched is now = absurd are

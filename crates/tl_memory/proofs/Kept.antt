@@ -1,18 +1,11 @@
 -- What is kept of a link that there is, and of a block that was met.
-use Rattle.std.proofs.Common.{◌≡◌, ◌<◌, ◌+◌, ◌*◌, ℕ, List, length, Option, Some, None, slice_get, refl}
-use Rattle.std.proofs.Common.{sym, ap, subst, ◌∙◌, arith, inl, inr}
-use Rattle.std.specs.Prelude.{IfSome}
-use Rattle.std.proofs.lemmas.Option.{slice_get_cases}
-use Rattle.tl_rules.specs.statement.Conformance.{Trace}
-use Rattle.tl_bytes.specs.statement.Bytes.{may_be}
-use Rattle.tl_bytes.specs.statement.Known.{tellings_of}
-use Rattle.tl_bytes.specs.statement.Lines.{told_moment}
-use Rattle.tl_bytes.proofs.ToldLines.{told-known}
-use Rattle.tl_memory.specs.declared.block.BlockState.{BlockState}
-use Rattle.tl_memory.specs.declared.memory.Memory.{Memory}
+use Rattle.tl_memory.proofs.Imports.{Trace, may_be, BlockState, KnowsState}
+use Rattle.std.proofs.Common.{◌≡◌, ◌<◌, ◌+◌, ◌*◌, ℕ, List, length, Option, Some, None, slice_get, refl, sym, ap, subst}
+use Rattle.std.proofs.Common.{◌∙◌, arith, inl, inr}
+use Rattle.std.{specs.Prelude.IfSome, proofs.lemmas.Option.slice_get_cases}
+use Rattle.tl_bytes.{specs.statement.Known.tellings_of, specs.statement.Lines.told_moment, proofs.ToldLines.told-known}
+use Rattle.tl_memory.{specs.declared.memory.Memory.Memory, specs.statement.Memory.KnowsMemory}
 use Rattle.tl_memory.specs.statement.Blocks.{KnowsKept, place_in, state_at, state_in}
-use Rattle.tl_memory.specs.statement.Known.{KnowsState}
-use Rattle.tl_memory.specs.statement.Memory.{KnowsMemory}
 
 pub item-there : {X : Type 0} (xs : List X) (i n : ℕ) → length xs ≡ n → i < n → None ≡ slice_get xs i → ⊥
 item-there xs i n count lt none = elim (slice_get_cases xs i).1 [

@@ -1,24 +1,14 @@
 -- The lanes of a response's beat, and what the response may bring there.
-use Rattle.std.proofs.Common.{◌≡◌, ℕ, zero, suc, Bool, true, false, not, ◌||◌, ◌+◌, ◌*◌, ◌/◌, ◌%◌, ◌^◌, ◌<◌, ◌≤◌}
-use Rattle.std.proofs.Common.{List, [], ◌∷◌, length, None, Some, refl, sym, ap, ap₂, ◌∙◌, arith, get_or, drop}
-use Rattle.std.specs.Prelude.{◌&&◌, nat_le, nat_lt}
+use Rattle.tl_memory.proofs.Imports.{BeatD, IsWidth, reaches, base_of, Trace, block_at, base_in_memory, Access}
+use Rattle.tl_memory.proofs.Imports.{may_read, KnowsGrant, may_bring, Expected, Expects, is_to, Beat}
+use Rattle.std.proofs.Common.{◌≡◌, ℕ, zero, suc, Bool, true, false, not, ◌||◌, ◌+◌, ◌*◌, ◌/◌, ◌%◌, ◌^◌, ◌<◌, ◌≤◌, List}
+use Rattle.std.proofs.Common.{[], ◌∷◌, length, None, Some, refl, sym, ap, ap₂, ◌∙◌, arith, get_or, drop}
+use Rattle.std.{specs.Prelude.◌&&◌, specs.Prelude.nat_le, specs.Prelude.nat_lt, proofs.lemmas.List.at_drop_more}
+use Rattle.std.{proofs.Math.Nat.div-mul-le_self, proofs.Math.Nat.pow-le-pow_right}
 use Rattle.std.proofs.lemmas.Bool.{eqb-true, le-leb, lt-ltb, or_right}
-use Rattle.std.proofs.lemmas.List.{at_drop_more}
-use Rattle.std.proofs.Math.Nat.{div-mul-le_self, pow-le-pow_right}
-use Rattle.tl_beat.specs.declared.beat.Beat.TheVariants as beat
-use Rattle.tl_beat.specs.declared.beat.BeatD.{BeatD}
-use Rattle.tl_beat.specs.statement.Width.{IsWidth}
-use Rattle.tl_burst.specs.statement.Burst.{reaches}
-use Rattle.tl_rules.specs.code.Place.{base_of}
 use Rattle.tl_rules.specs.statement.Admission.{lanes_of}
-use Rattle.tl_rules.specs.statement.Conformance.{Trace}
-use Rattle.tl_rules.specs.statement.History.{block_at}
-use Rattle.tl_rules.proofs.Rooms.{base_in_memory}
-use Rattle.tl_bytes.specs.statement.Bytes.{Access, each_from, may_grant, may_read}
-use Rattle.tl_bytes.specs.statement.Known.{KnowsGrant, may_bring}
+use Rattle.tl_bytes.specs.statement.Bytes.{each_from, may_grant}
 use Rattle.tl_memory.specs.code.Expected.{allows}
-use Rattle.tl_memory.specs.declared.expected.Expected.{Expected}
-use Rattle.tl_memory.specs.statement.Known.{Expects, is_to}
 
 -- ---- one lane after another
 
@@ -48,8 +38,7 @@ pub one-passed : (test : ℕ → ℕ → Bool) (from i : ℕ) (lanes : List ℕ)
 one-passed test from i lanes lt e = one_more test from i lanes lt ∙ rw e refl
 
 pub one-failed : (test : ℕ → ℕ → Bool) (from i : ℕ) (lanes : List ℕ) → i < length lanes
-    → test (from + i) (get_or lanes i 0) ≡ false
-    → each_from test (from + i) (drop i lanes) ≡ false
+    → test (from + i) (get_or lanes i 0) ≡ false → each_from test (from + i) (drop i lanes) ≡ false
 one-failed test from i lanes lt e = one_more test from i lanes lt ∙ rw e refl
 
 -- all pass a test that each byte passes
@@ -74,14 +63,14 @@ at-lane e block first lane place v b same is =
 
 -- the bytes of a beat that has none, or these
 pub no-lanes : {w : ℕ} (test : ℕ → ℕ → Bool) (from : ℕ) (x : BeatD w) → x.lanes ≡ None
-    → true ≡ each_from test from (lanes_of (beat.D x))
+    → true ≡ each_from test from (lanes_of (Beat.D x))
 unfolding each_from
 no-lanes test from x none = rw none refl
 
 pub some-lanes : (w : ℕ) (test : ℕ → ℕ → Bool) (address k first : ℕ) (lanes : List ℕ) (x : BeatD w) (b : Bool)
     → IsWidth w → x.lanes ≡ Some lanes → first ≡ base_of w address + w * k
     → b ≡ each_from test (64 * block_at address + first) lanes
-    → b ≡ each_from test (w * (address / w) + w * k) (lanes_of (beat.D x))
+    → b ≡ each_from test (w * (address / w) + w * k) (lanes_of (Beat.D x))
 some-lanes w test address k first lanes x b is some at e =
     let start = base_in_memory w address is in
     let from : w * (address / w) + w * k ≡ 64 * (address / 64) + first = omega (arith, start, at) in
@@ -160,16 +149,14 @@ read-all {w} e n block k access t lanes is known to room few =
     ∙ each-same (allows e) test (w * (access.request.address / w) + w * k) lanes (λ j v lt.
     let base = base_of w access.request.address in
     let place : base + w * k + j < 64 = omega (arith, lt, few, room) in
-    let here : w * (access.request.address / w) + w * k + j ≡ 64 * block + (base + w * k + j) =
-    omega (arith, start) in
+    let here : w * (access.request.address / w) + w * k + j ≡ 64 * block + (base + w * k + j) = omega (arith, start) in
     rw here (byte (base + w * k + j) v place))
   where
     test : ℕ → ℕ → Bool
     test address v = not (reaches access.request.address access.request.size address) || may_read n access t address v
 
     start : w * (access.request.address / w) ≡ 64 * block + base_of w access.request.address
-    start = base_in_memory w access.request.address is
-        ∙ ap (λ b. 64 * b + base_of w access.request.address)
+    start = base_in_memory w access.request.address is ∙ ap (λ b. 64 * b + base_of w access.request.address)
         (eqb-true (block_at access.request.address) block to)
 
     byte : (p v : ℕ) → p < 64 → allows e (64 * block + p) v ≡ test (64 * block + p) v

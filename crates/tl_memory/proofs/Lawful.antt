@@ -1,31 +1,20 @@
 -- What is known of a beat that breaks no rule after those before it on its link.
-use Rattle.std.proofs.Common.{◌≡◌, ℕ, Bool, true, false, ◌||◌, ◌^◌, ◌<◌, ◌≤◌, List, [], ◌∷◌, Option, Some, None}
-use Rattle.std.proofs.Common.{refl, sym, ◌∙◌, arith}
+use Rattle.tl_memory.proofs.Imports.{Beat, BeatA, OpA, first_if, IsWidth, History, breaks_burst, channel_of, unfinished}
+use Rattle.tl_memory.proofs.Imports.{is_empty, is_small, Level, Profile, L1, L2, L3, broken_after, is_legal, begins}
+use Rattle.tl_memory.proofs.Imports.{a_has_param, a_has_size, a_of_level}
+use Rattle.std.proofs.Common.{◌≡◌, ℕ, Bool, true, false, ◌||◌, ◌^◌, ◌<◌, ◌≤◌, List, [], ◌∷◌, Option, Some, None, refl}
+use Rattle.std.proofs.Common.{sym, ◌∙◌, arith}
 use Rattle.std.specs.Prelude.{if◌then◌else◌, not, is_none, ◌==◌}
 use Rattle.std.proofs.lemmas.Bool.{and_parts, eqb-true, le-leb, not-false}
-use Rattle.tl_beat.specs.declared.beat.Beat.{Beat}
-use Rattle.tl_beat.specs.declared.beat.Beat.TheVariants as beat
-use Rattle.tl_beat.specs.declared.beat.BeatA.{BeatA}
-use Rattle.tl_beat.specs.declared.channel.Channel.TheVariants as channel
-use Rattle.tl_beat.specs.declared.opcode.OpA.{OpA}
-use Rattle.tl_beat.specs.declared.opcode.OpA.TheVariants as a
-use Rattle.tl_beat.specs.statement.First.{first_if}
-use Rattle.tl_beat.specs.statement.Width.{IsWidth}
-use Rattle.tl_burst.specs.statement.Messages.{History, breaks_burst, channel_of, unfinished}
-use Rattle.tl_burst.specs.statement.Part.{is_empty, is_small}
-use Rattle.tl_params.specs.declared.level.Level.{Level}
-use Rattle.tl_params.specs.declared.profile.Profile.{Profile}
+use Rattle.tl_beat.specs.declared.channel.Channel.{Channel}
 use Rattle.tl_params.specs.declared.rule.Rule.{Rule}
-use Rattle.tl_params.specs.declared.rule.Rule.TheVariants.{L1, L2, L3, L4, L5, L7, S1}
-use Rattle.tl_rules.specs.code.Control.{a_control, a_own}
-use Rattle.tl_rules.specs.statement.Conformance.{broken_after, broken_given, broken_in_order, broken_order, is_legal}
-use Rattle.tl_rules.specs.statement.History.{begins}
-use Rattle.tl_rules.specs.statement.Legality.{a_has_mask, a_has_param, a_has_size, a_of_level, breaks_l1, breaks_l2}
-use Rattle.tl_rules.specs.statement.Legality.{breaks_l3, breaks_l7, illegal, is_aligned, is_one_of}
-use Rattle.tl_rules.proofs.Bursts.{both_none, next_rule}
-use Rattle.tl_rules.proofs.Sizes.{access-small, response-small}
-use Rattle.tl_rules.proofs.Takeable.{full_mask-narrow, part_mask-narrow}
-use Rattle.tl_rules.proofs.Verdicts.{illegal_a}
+use Rattle.tl_params.specs.declared.rule.Rule.TheVariants.{L4, L5, L7, S1}
+use Rattle.tl_rules.{specs.code.Control.a_control, specs.code.Control.a_own, proofs.Bursts.both_none}
+use Rattle.tl_rules.{proofs.Bursts.next_rule, proofs.Sizes.access-small, proofs.Sizes.response-small}
+use Rattle.tl_rules.{proofs.Takeable.full_mask-narrow, proofs.Takeable.part_mask-narrow, proofs.Verdicts.illegal_a}
+use Rattle.tl_rules.specs.statement.Conformance.{broken_given, broken_in_order, broken_order}
+use Rattle.tl_rules.specs.statement.Legality.{a_has_mask, breaks_l1, breaks_l2, breaks_l3, breaks_l7, illegal}
+use Rattle.tl_rules.specs.statement.Legality.{is_aligned, is_one_of}
 
 -- ---- the beat and what came before it
 
@@ -86,14 +75,11 @@ atomic_small size e = go (size == 2) (size == 3) refl refl e
     go false false f g e = absurd cc
 
 request_small : (w size : ℕ) (l : Level) (opcode : OpA) → IsWidth w → a_has_size w l opcode size ≡ true → size ≤ 6
-request_small w size l a.PutFullData is e = access-small w size l is e
-request_small w size l a.PutPartialData is e = access-small w size l is e
-request_small w size l a.ArithmeticData is e = atomic_small size e
-request_small w size l a.LogicalData is e = atomic_small size e
-request_small w size l a.Get is e = access-small w size l is e
-request_small w size l a.Intent is e = access-small w size l is e
-request_small w size l a.AcquireBlock is e = let h = eqb-true size 6 e in omega (arith, h)
-request_small w size l a.AcquirePerm is e = let h = eqb-true size 6 e in omega (arith, h)
+request_small w size l OpA.ArithmeticData is e = atomic_small size e
+request_small w size l OpA.LogicalData is e = atomic_small size e
+request_small w size l OpA.AcquireBlock is e = let h = eqb-true size 6 e in omega (arith, h)
+request_small w size l OpA.AcquirePerm is e = let h = eqb-true size 6 e in omega (arith, h)
+request_small w size l v is e = access-small w size l is e
 
 -- what a request is that breaks no rule by itself
 pub record IsRequest (w : ℕ) (l : Level) (opcode : OpA) (param size address mask : ℕ) : Type 0 where
@@ -104,7 +90,7 @@ pub record IsRequest (w : ℕ) (l : Level) (opcode : OpA) (param size address ma
   pub has_mask : a_has_mask w opcode size address mask ≡ true
   pub small : size ≤ 6
 
-pub is-request : {w : ℕ} (l : Level) (x : BeatA w) → IsWidth w → illegal l channel.A (beat.A x) ≡ None
+pub is-request : {w : ℕ} (l : Level) (x : BeatA w) → IsWidth w → illegal l Channel.A (Beat.A x) ≡ None
     → IsRequest w l x.opcode x.param x.size x.address x.mask
 is-request {w} l x is e =
     let parts = both_none (a_control w l x.opcode x.param x.size x.address)
@@ -137,28 +123,16 @@ block_small size e = let h = eqb-true size 6 (not-false (size == 6) e) in omega 
 
 -- a message may have its size
 pub small : {w : ℕ} (l : Level) (x : Beat w) → IsWidth w → illegal l (channel_of x) x ≡ None → is_small x ≡ true
-small l (beat.A x) is e = le-leb x.size 6 (is-request l x is e).small
-small l (beat.B x) is e = le-leb x.size 6 (block_small x.size (of_size l (beat.B x) e))
-small l (beat.C x) is e = le-leb x.size 6 (block_small x.size (of_size l (beat.C x) e))
-small l (beat.D x) is e = le-leb x.size 6 (response-small l channel.D x is e)
-small l (beat.E x) is e = refl
+small l (Beat.A x) is e = le-leb x.size 6 (is-request l x is e).small
+small l (Beat.B x) is e = le-leb x.size 6 (block_small x.size (of_size l (Beat.B x) e))
+small l (Beat.C x) is e = le-leb x.size 6 (block_small x.size (of_size l (Beat.C x) e))
+small l (Beat.D x) is e = le-leb x.size 6 (response-small l Channel.D x is e)
+small l (Beat.E x) is e = refl
 
 -- its mask names no lane that there isn't
 pub narrow : (w : ℕ) (l : Level) (opcode : OpA) (param size address mask : ℕ) → IsWidth w → mask < 2 ^ 16
     → IsRequest w l opcode param size address mask → mask < 2 ^ w
-narrow w l a.PutFullData param size address mask is fits r =
-    full_mask-narrow w size address mask is r.small fits r.aligned r.has_mask
-narrow w l a.PutPartialData param size address mask is fits r =
+narrow w l OpA.PutPartialData param size address mask is fits r =
     part_mask-narrow w size address mask is r.small fits r.aligned r.has_mask
-narrow w l a.ArithmeticData param size address mask is fits r =
-    full_mask-narrow w size address mask is r.small fits r.aligned r.has_mask
-narrow w l a.LogicalData param size address mask is fits r =
-    full_mask-narrow w size address mask is r.small fits r.aligned r.has_mask
-narrow w l a.Get param size address mask is fits r =
-    full_mask-narrow w size address mask is r.small fits r.aligned r.has_mask
-narrow w l a.Intent param size address mask is fits r =
-    full_mask-narrow w size address mask is r.small fits r.aligned r.has_mask
-narrow w l a.AcquireBlock param size address mask is fits r =
-    full_mask-narrow w size address mask is r.small fits r.aligned r.has_mask
-narrow w l a.AcquirePerm param size address mask is fits r =
+narrow w l v param size address mask is fits r =
     full_mask-narrow w size address mask is r.small fits r.aligned r.has_mask

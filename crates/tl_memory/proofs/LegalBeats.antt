@@ -1,53 +1,37 @@
 -- What is known of a beat that breaks no rule of its link, where none before it did.
+use Rattle.tl_memory.proofs.Imports.{Beat, BeatA, BeatD, Link, IsWidth, channel_of, unfinished, Level, Profile, Request}
+use Rattle.tl_memory.proofs.Imports.{AreTyped, Trace, broken_on_link, on_link, ends, is_release_ack, is_access}
+use Rattle.tl_memory.proofs.Imports.{IsLegalBeat, IsResponse, AreLegal}
 use Rattle.std.proofs.Common.{◌≡◌, ◌<◌, ℕ, suc, false, List, ◌∷◌, length, refl, None, arith}
 use Rattle.std.proofs.lemmas.Bool.{and_parts}
-use Rattle.tl_beat.specs.declared.beat.Beat.{Beat}
-use Rattle.tl_beat.specs.declared.beat.Beat.TheVariants as beat
-use Rattle.tl_beat.specs.declared.beat.BeatA.{BeatA}
-use Rattle.tl_beat.specs.declared.beat.BeatD.{BeatD}
-use Rattle.tl_beat.specs.declared.beat.Link.{Link}
-use Rattle.tl_beat.specs.declared.channel.Channel.TheVariants as channel
-use Rattle.tl_beat.specs.statement.Width.{IsWidth}
-use Rattle.tl_burst.specs.statement.Messages.{channel_of, unfinished}
-use Rattle.tl_params.specs.declared.level.Level.{Level}
-use Rattle.tl_params.specs.declared.profile.Profile.{Profile}
-use Rattle.tl_rules.specs.declared.past.Request.{Request}
-use Rattle.tl_rules.specs.laws.Typed.{AreTyped}
-use Rattle.tl_rules.specs.statement.Conformance.{Trace, broken_on_link, on_link}
-use Rattle.tl_rules.specs.statement.History.{ends, is_release_ack}
-use Rattle.tl_bytes.specs.statement.Bytes.{is_access}
-use Rattle.tl_memory.specs.code.Taking.{IsLegalBeat, IsRequested, IsResponse}
-use Rattle.tl_memory.specs.statement.Links.{AreLegal}
-use Rattle.tl_memory.proofs.Answering.{is-answering}
-use Rattle.tl_memory.proofs.Apart.{are-asked}
+use Rattle.tl_beat.specs.declared.channel.Channel.{Channel}
+use Rattle.tl_memory.{specs.code.Taking.IsRequested, proofs.Answering.is-answering, proofs.Apart.are-asked}
+use Rattle.tl_memory.{proofs.Masks.few, proofs.Masks.positive, proofs.Open.open-whole, proofs.OpenAccesses.is-fine}
+use Rattle.tl_memory.{proofs.OpenAccesses.legal-on, proofs.Unfinished.has-room, proofs.Unfinished.room}
 use Rattle.tl_memory.proofs.Complete.{lawful-asked, wide-burst, writes-inside}
-use Rattle.tl_memory.proofs.Masks.{few, positive}
-use Rattle.tl_memory.proofs.Open.{open-whole}
-use Rattle.tl_memory.proofs.OpenAccesses.{is-fine, legal-on}
-use Rattle.tl_memory.proofs.Unfinished.{has-room, room}
 
 module _ {w : ℕ} (levels : List Level) (p : Profile) (link : Link) (t : Trace w) (is : IsWidth w)
     (legal : AreLegal levels p t) where
-  pub request-legal : (y : BeatA w) → AreTyped (beat.A y ∷ unfinished channel.A (on_link link.0 t))
-      → broken_on_link levels p (link, beat.A y) t ≡ None → IsRequested link.0 y t
+  pub request-legal : (y : BeatA w) → AreTyped (Beat.A y ∷ unfinished Channel.A (on_link link.0 t))
+      → broken_on_link levels p (link, Beat.A y) t ≡ None → IsRequested link.0 y t
   request-legal y typed fine =
-      let f = is-fine levels p (link, beat.A y) t fine in
+      let f = is-fine levels p (link, Beat.A y) t fine in
       let past = legal-on levels p link.0 f.level t f.has_level legal in
       record {
-        room = has-room f.level p (beat.A y) (on_link link.0 t) is typed.0 past f.fine;
+        room = has-room f.level p (Beat.A y) (on_link link.0 t) is typed.0 past f.fine;
         wide = λ over carries. wide-burst f.level p link.0 y (on_link link.0 t) 0 is typed past f.fine over carries;
         lawful = λ complete.
-            let both = and_parts (is_access y.opcode) (ends (beat.A y) (on_link link.0 t)) complete in
+            let both = and_parts (is_access y.opcode) (ends (Beat.A y) (on_link link.0 t)) complete in
             lawful-asked f.level p link.0 y (on_link link.0 t) (suc (length t)) is typed past f.fine both.1 both.0;
         inside = λ complete.
-            let both = and_parts (is_access y.opcode) (ends (beat.A y) (on_link link.0 t)) complete in
+            let both = and_parts (is_access y.opcode) (ends (Beat.A y) (on_link link.0 t)) complete in
             writes-inside f.level p link.0 y (on_link link.0 t) (suc (length t)) is typed past f.fine both.1;
       }
 
-  pub response-legal : (y : BeatD w) → broken_on_link levels p (link, beat.D y) t ≡ None
+  pub response-legal : (y : BeatD w) → broken_on_link levels p (link, Beat.D y) t ≡ None
       → is_release_ack y.opcode ≡ false → (asked : Request) × IsResponse link.0 y asked t
   response-legal y fine other =
-      let f = is-fine levels p (link, beat.D y) t fine in
+      let f = is-fine levels p (link, Beat.D y) t fine in
       let past = legal-on levels p link.0 f.level t f.has_level legal in
       let k = is-answering f.level p y (on_link link.0 t) past f.fine other in
       let opened = open-whole y.source k.asked (on_link link.0 t) k.is_open in (
@@ -56,7 +40,7 @@ module _ {w : ℕ} (levels : List Level) (p : Profile) (link : Link) (t : Trace 
           asked_is = opened;
           answers_it = k.admitted;
           are_asked = are-asked levels p is link.0 y.source k.asked t legal opened;
-          room = (room f.level p (beat.D y) (on_link link.0 t) is past f.fine, positive w);
+          room = (room f.level p (Beat.D y) (on_link link.0 t) is past f.fine, positive w);
         },
       )
 
@@ -70,14 +54,13 @@ module _ {w : ℕ} (levels : List Level) (p : Profile) (link : Link) (t : Trace 
       omega (arith, short)
 
   pub legal-beat : (y : Beat w)
-      → ((x : BeatA w) → y ≡ beat.A x → AreTyped (beat.A x ∷ unfinished channel.A (on_link link.0 t)))
+      → ((x : BeatA w) → y ≡ Beat.A x → AreTyped (Beat.A x ∷ unfinished Channel.A (on_link link.0 t)))
       → broken_on_link levels p (link, y) t ≡ None → IsLegalBeat link.0 y t
-  legal-beat (beat.A y) typed fine = request-legal y (typed y refl) fine
-  legal-beat (beat.B y) typed fine = tt
-  legal-beat (beat.C y) typed fine =
-      let f = is-fine levels p (link, beat.C y) t fine in (
-        room f.level p (beat.C y) (on_link link.0 t) is (legal-on levels p link.0 f.level t f.has_level legal) f.fine,
+  legal-beat (Beat.A y) typed fine = request-legal y (typed y refl) fine
+  legal-beat (Beat.C y) typed fine =
+      let f = is-fine levels p (link, Beat.C y) t fine in (
+        room f.level p (Beat.C y) (on_link link.0 t) is (legal-on levels p link.0 f.level t f.has_level legal) f.fine,
         positive w,
       )
-  legal-beat (beat.D y) typed fine = response-legal y fine
-  legal-beat (beat.E y) typed fine = tt
+  legal-beat (Beat.D y) typed fine = response-legal y fine
+  legal-beat v typed fine = tt

@@ -31,3 +31,4 @@ pub mod Tables
 pub mod Taken
 pub mod Unfinished
 pub mod Writing
+pub mod Imports

@@ -1,25 +1,13 @@
 -- What is kept of a link's messages, with one more beat.
-use Rattle.std.proofs.Common.{◌≡◌, ℕ, Bool, true, false, List, [], ◌∷◌, None, refl, sym, ◌∙◌}
-use Rattle.std.proofs.Common.{subst}
+use Rattle.tl_memory.proofs.Imports.{Beat, BeatA, BeatC, BeatD, IsWidth, History, grown, unfinished, is_small, Level}
+use Rattle.tl_memory.proofs.Imports.{Profile, AreTyped, IsTyped, broken_after, is_legal}
+use Rattle.std.proofs.Common.{◌≡◌, ℕ, Bool, true, false, List, [], ◌∷◌, None, refl, sym, ◌∙◌, subst}
 use Rattle.std.specs.Prelude.{if◌then◌else◌}
-use Rattle.tl_beat.specs.declared.beat.Beat.{Beat}
-use Rattle.tl_beat.specs.declared.beat.Beat.TheVariants as beat
-use Rattle.tl_beat.specs.declared.beat.BeatA.{BeatA}
-use Rattle.tl_beat.specs.declared.beat.BeatC.{BeatC}
-use Rattle.tl_beat.specs.declared.beat.BeatD.{BeatD}
-use Rattle.tl_beat.specs.declared.channel.Channel.TheVariants as channel
-use Rattle.tl_beat.specs.statement.Width.{IsWidth}
-use Rattle.tl_burst.specs.statement.Messages.{History, grown, unfinished}
-use Rattle.tl_burst.specs.statement.Part.{completes, is_small}
-use Rattle.tl_params.specs.declared.level.Level.{Level}
-use Rattle.tl_params.specs.declared.profile.Profile.{Profile}
-use Rattle.tl_rules.specs.laws.Typed.{AreTyped, IsTyped}
-use Rattle.tl_rules.specs.statement.Conformance.{broken_after, is_legal}
-use Rattle.tl_memory.specs.declared.link.LinkMessages.{LinkMessages}
-use Rattle.tl_memory.specs.declared.message.CarriedMessage.{CarriedMessage}
-use Rattle.tl_memory.specs.statement.Known.{HasRoom, KnowsMessage}
-use Rattle.tl_memory.specs.statement.Links.{KnowsMessages}
-use Rattle.tl_memory.proofs.Masks.{positive}
+use Rattle.tl_beat.specs.declared.channel.Channel.{Channel}
+use Rattle.tl_burst.specs.statement.Part.{completes}
+use Rattle.tl_memory.{specs.declared.link.LinkMessages.LinkMessages}
+use Rattle.tl_memory.{specs.declared.message.CarriedMessage.CarriedMessage, specs.statement.Known.HasRoom}
+use Rattle.tl_memory.{specs.statement.Known.KnowsMessage, specs.statement.Links.KnowsMessages, proofs.Masks.positive}
 use Rattle.tl_memory.proofs.Unfinished.{has-room, room, small-beat}
 
 -- no beat was carried
@@ -42,64 +30,63 @@ typed-grown x burst typed before = go (completes x burst)
 
 module _ {w : ℕ} (m : LinkMessages) (new : CarriedMessage) (l : Level) (p : Profile) (t : History w) (is : IsWidth w)
     (k : KnowsMessages m t) (legal : is_legal l p t ≡ true) where
-  pub messages-a : (x : Beat w) (y : BeatA w) → x ≡ beat.A y → IsTyped (beat.A y) → broken_after l p x t ≡ None
+  pub messages-a : (x : Beat w) (y : BeatA w) → x ≡ Beat.A y → IsTyped (Beat.A y) → broken_after l p x t ≡ None
       → IsAfter m.a new x → KnowsMessages (record { a = new; c = m.c; d = m.d }) (x ∷ t)
   unfolding unfinished
   messages-a x y e typed fine after =
       subst (λ v. KnowsMessages (record { a = new; c = m.c; d = m.d }) (v ∷ t)) (sym e)
       (go (subst (λ v. broken_after l p v t ≡ None) e fine) (subst (λ v. IsAfter m.a new v) e after))
     where
-      go : broken_after l p (beat.A y) t ≡ None → IsAfter m.a new (beat.A y)
-          → KnowsMessages (record { a = new; c = m.c; d = m.d }) (beat.A y ∷ t)
+      go : broken_after l p (Beat.A y) t ≡ None → IsAfter m.a new (Beat.A y)
+          → KnowsMessages (record { a = new; c = m.c; d = m.d }) (Beat.A y ∷ t)
       go fine after = record {
-        a_is = after (unfinished channel.A t) k.a_is (has-room l p (beat.A y) t is typed legal fine);
+        a_is = after (unfinished Channel.A t) k.a_is (has-room l p (Beat.A y) t is typed legal fine);
         c_is = k.c_is;
         d_is = k.d_is;
-        typed = typed-grown (beat.A y) (unfinished channel.A t) typed k.typed;
+        typed = typed-grown (Beat.A y) (unfinished Channel.A t) typed k.typed;
       }
 
-  pub messages-c : (x : Beat w) (y : BeatC w) → x ≡ beat.C y → broken_after l p x t ≡ None
+  pub messages-c : (x : Beat w) (y : BeatC w) → x ≡ Beat.C y → broken_after l p x t ≡ None
       → IsAfter m.c new x → KnowsMessages (record { a = m.a; c = new; d = m.d }) (x ∷ t)
   unfolding unfinished
   messages-c x y e fine after =
       subst (λ v. KnowsMessages (record { a = m.a; c = new; d = m.d }) (v ∷ t)) (sym e)
       (go (subst (λ v. broken_after l p v t ≡ None) e fine) (subst (λ v. IsAfter m.c new v) e after))
     where
-      go : broken_after l p (beat.C y) t ≡ None → IsAfter m.c new (beat.C y)
-          → KnowsMessages (record { a = m.a; c = new; d = m.d }) (beat.C y ∷ t)
+      go : broken_after l p (Beat.C y) t ≡ None → IsAfter m.c new (Beat.C y)
+          → KnowsMessages (record { a = m.a; c = new; d = m.d }) (Beat.C y ∷ t)
       go fine after = record {
         a_is = k.a_is;
-        c_is = after (unfinished channel.C t) k.c_is (room l p (beat.C y) t is legal fine, positive w);
+        c_is = after (unfinished Channel.C t) k.c_is (room l p (Beat.C y) t is legal fine, positive w);
         d_is = k.d_is;
         typed = k.typed;
       }
 
-  pub messages-d : (x : Beat w) (y : BeatD w) → x ≡ beat.D y → broken_after l p x t ≡ None
+  pub messages-d : (x : Beat w) (y : BeatD w) → x ≡ Beat.D y → broken_after l p x t ≡ None
       → IsAfter m.d new x → KnowsMessages (record { a = m.a; c = m.c; d = new }) (x ∷ t)
   unfolding unfinished
   messages-d x y e fine after =
       subst (λ v. KnowsMessages (record { a = m.a; c = m.c; d = new }) (v ∷ t)) (sym e)
       (go (subst (λ v. broken_after l p v t ≡ None) e fine) (subst (λ v. IsAfter m.d new v) e after))
     where
-      go : broken_after l p (beat.D y) t ≡ None → IsAfter m.d new (beat.D y)
-          → KnowsMessages (record { a = m.a; c = m.c; d = new }) (beat.D y ∷ t)
+      go : broken_after l p (Beat.D y) t ≡ None → IsAfter m.d new (Beat.D y)
+          → KnowsMessages (record { a = m.a; c = m.c; d = new }) (Beat.D y ∷ t)
       go fine after = record {
         a_is = k.a_is;
         c_is = k.c_is;
-        d_is = after (unfinished channel.D t) k.d_is (room l p (beat.D y) t is legal fine, positive w);
+        d_is = after (unfinished Channel.D t) k.d_is (room l p (Beat.D y) t is legal fine, positive w);
         typed = k.typed;
       }
 
 -- beats of the other channels bring nothing
 pub messages-other : {w : ℕ} (m : LinkMessages) (x : Beat w) (t : History w) → KnowsMessages m t
-    → ((y : BeatA w) → x ≡ beat.A y → ⊥) → ((y : BeatC w) → x ≡ beat.C y → ⊥) → ((y : BeatD w) → x ≡ beat.D y → ⊥)
+    → ((y : BeatA w) → x ≡ Beat.A y → ⊥) → ((y : BeatC w) → x ≡ Beat.C y → ⊥) → ((y : BeatD w) → x ≡ Beat.D y → ⊥)
     → KnowsMessages m (x ∷ t)
 unfolding unfinished
-messages-other m (beat.A y) t k a c d = absurd (a y refl)
-messages-other m (beat.B y) t k a c d = record { a_is = k.a_is; c_is = k.c_is; d_is = k.d_is; typed = k.typed }
-messages-other m (beat.C y) t k a c d = absurd (c y refl)
-messages-other m (beat.D y) t k a c d = absurd (d y refl)
-messages-other m (beat.E y) t k a c d = record { a_is = k.a_is; c_is = k.c_is; d_is = k.d_is; typed = k.typed }
+messages-other m (Beat.A y) t k a c d = absurd (a y refl)
+messages-other m (Beat.C y) t k a c d = absurd (c y refl)
+messages-other m (Beat.D y) t k a c d = absurd (d y refl)
+messages-other m v t k a c d = record { a_is = k.a_is; c_is = k.c_is; d_is = k.d_is; typed = k.typed }
 
 -- a beat that breaks no rule is of a size that a message may have
 pub large-breaks : {w : ℕ} {X : Type 0} (l : Level) (p : Profile) (x : Beat w) (t : History w) → IsWidth w

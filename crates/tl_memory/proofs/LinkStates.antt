@@ -1,28 +1,15 @@
 -- What is kept of a link, with one more beat of any link.
-use Rattle.std.proofs.Common.{◌≡◌, ℕ, Bool, true, false, ◌+◌, ◌*◌, ◌≤◌, List, [], ◌∷◌, length, Option, Some}
-use Rattle.std.proofs.Common.{None, refl, sym, subst}
+use Rattle.tl_memory.proofs.Imports.{Beat, BeatD, Link, on, unfinished, Level, Profile, base_of, Trace, broken_on_link}
+use Rattle.tl_memory.proofs.Imports.{on_link, begins, block_at, Access, KnowsGrant, Expected, LinkState}
+use Rattle.tl_memory.proofs.Imports.{ExpectsResponse, Expects, is_to, AreLegal, KnowsLink}
+use Rattle.std.proofs.Common.{◌≡◌, ℕ, Bool, true, false, ◌+◌, ◌*◌, ◌≤◌, List, [], ◌∷◌, length, Option, Some, None, refl}
+use Rattle.std.proofs.Common.{sym, subst}
 use Rattle.std.proofs.lemmas.Bool.{eq-eqb}
-use Rattle.tl_beat.specs.declared.beat.Beat.{Beat}
-use Rattle.tl_beat.specs.declared.beat.Beat.TheVariants as beat
-use Rattle.tl_beat.specs.declared.beat.BeatD.{BeatD}
-use Rattle.tl_beat.specs.declared.beat.Link.{Link}
-use Rattle.tl_beat.specs.declared.channel.Channel.TheVariants as channel
-use Rattle.tl_burst.specs.statement.Messages.{on, unfinished}
-use Rattle.tl_params.specs.declared.level.Level.{Level}
-use Rattle.tl_params.specs.declared.profile.Profile.{Profile}
-use Rattle.tl_rules.specs.code.Place.{base_of}
-use Rattle.tl_rules.specs.statement.Conformance.{Trace, broken_on_link, on_link}
-use Rattle.tl_rules.specs.statement.History.{begins, block_at}
-use Rattle.tl_bytes.specs.statement.Bytes.{Access, grants_truly, reads_truly}
-use Rattle.tl_bytes.specs.statement.Known.{KnowsGrant}
-use Rattle.tl_memory.specs.code.Allowed.{IsAllowed}
-use Rattle.tl_memory.specs.declared.expected.Expected.{Expected}
-use Rattle.tl_memory.specs.declared.link.LinkState.{LinkState}
-use Rattle.tl_memory.specs.statement.Expecting.{ExpectsResponse, KnowsExpected}
-use Rattle.tl_memory.specs.statement.Known.{Expects, is_to}
-use Rattle.tl_memory.specs.statement.Links.{AreLegal, KnowsLink, KnowsMessages}
+use Rattle.tl_beat.specs.declared.channel.Channel.{Channel}
+use Rattle.tl_bytes.specs.statement.Bytes.{grants_truly, reads_truly}
+use Rattle.tl_memory.{specs.code.Allowed.IsAllowed, specs.statement.Expecting.KnowsExpected}
+use Rattle.tl_memory.{specs.statement.Links.KnowsMessages, proofs.OpenAccesses.other-link, proofs.OpenAccesses.own-link}
 use Rattle.tl_memory.proofs.Expecting.{expected-off, expected-on, expects-begun, expects-later}
-use Rattle.tl_memory.proofs.OpenAccesses.{other-link, own-link}
 
 -- ---- whether a beat is allowed
 
@@ -37,12 +24,10 @@ allowed-none {w} o k x none = subst (λ q. IsAllowed q k x true) (sym none) anyt
     }
 
 pub allowed-some : {w : ℕ} (o : Option Expected) (e : Expected) (k : ℕ) (x : BeatD w) (b : Bool) → o ≡ Some e
-    → ((n block : ℕ) (t : Trace w) → e.address ≡ 64 * block → e.size ≡ 6 → KnowsGrant e.bytes n block t
-    → w * k + w ≤ 64 → b ≡ grants_truly n block k x t)
-    → ((n block : ℕ) (access : Access w) (t : Trace w) → Expects (Some e) n block (Some access) t
-    → is_to block access ≡ true → base_of w access.request.address + w * k + w ≤ 64
-    → b ≡ reads_truly n (Some access) k x t)
-    → IsAllowed o k x b
+    → ((n block : ℕ) (t : Trace w) → e.address ≡ 64 * block → e.size ≡ 6 → KnowsGrant e.bytes n block t → w * k + w ≤ 64
+    → b ≡ grants_truly n block k x t) → ((n block : ℕ) (access : Access w) (t : Trace w)
+    → Expects (Some e) n block (Some access) t → is_to block access ≡ true
+    → base_of w access.request.address + w * k + w ≤ 64 → b ≡ reads_truly n (Some access) k x t) → IsAllowed o k x b
 allowed-some {w} o e k x b is granted read = subst (λ q. IsAllowed q k x b) (sym is) some
   where
     some : IsAllowed {w = w} (Some e) k x b
@@ -83,40 +68,37 @@ module _ {w : ℕ} (levels : List Level) (p : Profile) (old new : LinkState) (n 
   }
 
   -- of another channel
-  pub link-other : ((y : BeatD w) → x ≡ beat.D y → ⊥) → new.expected ≡ old.expected
+  pub link-other : ((y : BeatD w) → x ≡ Beat.D y → ⊥) → new.expected ≡ old.expected
       → KnowsLink new n link.0 ((link, x) ∷ t)
   link-other other same = known (subst (λ e. KnowsExpected e n link.0 ((link, x) ∷ t)) (sym same)
       (expected-off levels p link.0 n (link, x) t legal fine old.expected k.expected_is (λ own. off x other)))
     where
-      off : (b : Beat w) → ((y : BeatD w) → b ≡ beat.D y → ⊥) → on channel.D b ≡ false
-      off (beat.A y) other = refl
-      off (beat.B y) other = refl
-      off (beat.C y) other = refl
-      off (beat.D y) other = absurd (other y refl)
-      off (beat.E y) other = refl
+      off : (b : Beat w) → ((y : BeatD w) → b ≡ Beat.D y → ⊥) → on Channel.D b ≡ false
+      off (Beat.D y) other = absurd (other y refl)
+      off v other = refl
 
   -- the first of a response
-  pub link-begins : (y : BeatD w) (begun : Option Expected) → x ≡ beat.D y → new.expected ≡ begun
-      → length (unfinished channel.D (on_link link.0 t)) ≡ 0
-      → (begins (beat.D y) (on_link link.0 t) ≡ true → ExpectsResponse begun n link.0 y.opcode y.source t t)
+  pub link-begins : (y : BeatD w) (begun : Option Expected) → x ≡ Beat.D y → new.expected ≡ begun
+      → length (unfinished Channel.D (on_link link.0 t)) ≡ 0
+      → (begins (Beat.D y) (on_link link.0 t) ≡ true → ExpectsResponse begun n link.0 y.opcode y.source t t)
       → KnowsLink new n link.0 ((link, x) ∷ t)
   link-begins y begun is same none first = known
       (subst (λ v. KnowsExpected new.expected n link.0 ((link, v) ∷ t)) (sym is)
-      (subst (λ e. KnowsExpected e n link.0 ((link, beat.D y) ∷ t)) (sym same)
+      (subst (λ e. KnowsExpected e n link.0 ((link, Beat.D y) ∷ t)) (sym same)
       (expected-on levels p link n y t legal fine_d begun
       (expects-begun levels p link n y t legal fine_d begun first none))))
     where
-      fine_d : broken_on_link levels p (link, beat.D y) t ≡ None
+      fine_d : broken_on_link levels p (link, Beat.D y) t ≡ None
       fine_d = subst (λ v. broken_on_link levels p (link, v) t ≡ None) is fine
 
   -- and a later one
-  pub link-goes_on : (y : BeatD w) → x ≡ beat.D y → new.expected ≡ old.expected
-      → (length (unfinished channel.D (on_link link.0 t)) ≡ 0 → ⊥) → KnowsLink new n link.0 ((link, x) ∷ t)
+  pub link-goes_on : (y : BeatD w) → x ≡ Beat.D y → new.expected ≡ old.expected
+      → (length (unfinished Channel.D (on_link link.0 t)) ≡ 0 → ⊥) → KnowsLink new n link.0 ((link, x) ∷ t)
   link-goes_on y is same some = known
       (subst (λ v. KnowsExpected new.expected n link.0 ((link, v) ∷ t)) (sym is)
-      (subst (λ e. KnowsExpected e n link.0 ((link, beat.D y) ∷ t)) (sym same)
+      (subst (λ e. KnowsExpected e n link.0 ((link, Beat.D y) ∷ t)) (sym same)
       (expected-on levels p link n y t legal fine_d old.expected
       (expects-later levels p link n y t legal fine_d old.expected k.expected_is some))))
     where
-      fine_d : broken_on_link levels p (link, beat.D y) t ≡ None
+      fine_d : broken_on_link levels p (link, Beat.D y) t ≡ None
       fine_d = subst (λ v. broken_on_link levels p (link, v) t ≡ None) is fine

@@ -1,18 +1,11 @@
 -- What is known of all links, with one more beat.
+use Rattle.tl_memory.proofs.Imports.{Beat, Link, Level, Profile, Trace, broken_on_link, LinkState, AreLegal, KnowsLink}
 use Rattle.std.proofs.Common.{◌≡◌, ℕ, suc, zero, pred, List, [], ◌∷◌, ◌++◌, ◌<◌, ◌⊎◌, length, inl, inr, refl, sym, ap}
 use Rattle.std.proofs.Common.{◌∙◌, Some, None, slice_get, slice_set, arith}
 use Rattle.std.proofs.lemmas.List.{length-set}
 use Rattle.std.proofs.lemmas.Option.{none-some, same_Some, slice_get_cases, slice_get_within}
-use Rattle.tl_beat.specs.declared.beat.Beat.{Beat}
-use Rattle.tl_beat.specs.declared.beat.Link.{Link}
-use Rattle.tl_params.specs.declared.level.Level.{Level}
-use Rattle.tl_params.specs.declared.profile.Profile.{Profile}
-use Rattle.tl_rules.specs.statement.Conformance.{Trace, broken_on_link}
-use Rattle.tl_memory.specs.declared.link.LinkState.{LinkState}
-use Rattle.tl_memory.specs.declared.links.Links.{Links}
-use Rattle.tl_memory.specs.statement.Links.{AreLegal, KnowsLink, KnowsLinks}
-use Rattle.tl_memory.proofs.LinkStates.{link-elsewhere}
-use Rattle.tl_memory.proofs.OpenAccesses.{is-fine}
+use Rattle.tl_memory.{specs.declared.links.Links.Links, specs.statement.Links.KnowsLinks}
+use Rattle.tl_memory.{proofs.LinkStates.link-elsewhere, proofs.OpenAccesses.is-fine}
 
 -- ---- elements of lists
 
@@ -21,12 +14,11 @@ found-set : {X : Type 0} (xs : List X) (i k : ℕ) (y x : X) → slice_get (slic
     → ((k ≡ i) × (x ≡ y)) ⊎ ((k ≡ i → ⊥) × (slice_get xs k ≡ Some x))
 found-set [] i k y x e = absurd cc
 found-set (z ∷ xs) zero zero y x e = inl (refl, sym (same_Some y x e))
-found-set (z ∷ xs) zero (suc k) y x e = inr ((λ n. absurd (omega (arith, n))), e)
-found-set (z ∷ xs) (suc i) zero y x e = inr ((λ n. absurd (omega (arith, n))), e)
 found-set (z ∷ xs) (suc i) (suc k) y x e = elim (found-set xs i k y x e) [
   | inl here ↦ inl (ap suc here.0, here.1)
   | inr apart ↦ inr ((λ n. apart.0 (ap pred n)), apart.1)
 ]
+found-set (z ∷ xs) v u y x e = inr ((λ n. absurd (omega (arith, n))), e)
 
 found-append : {X : Type 0} (xs : List X) (k : ℕ) (y x : X) → slice_get (xs ++ y ∷ []) k ≡ Some x
     → (slice_get xs k ≡ Some x) ⊎ (x ≡ y)

@@ -1,17 +1,12 @@
 -- The mask of a message, beat by beat.
-use Rattle.std.proofs.Common.{◌≡◌, ℕ, suc, true, false, ◌+◌, ◌*◌, ◌<◌, ◌≤◌, ◌^◌, ◌%◌, List, [], ◌∷◌, refl, ap}
-use Rattle.std.proofs.Common.{◌∙◌, arith, length, inl, inr, pow_pos, Bool, ◌||◌}
+use Rattle.tl_memory.{proofs.Imports.Beat, proofs.Imports.BeatA, proofs.Imports.IsWidth}
+use Rattle.tl_memory.{specs.declared.message.CarriedMessage.CarriedMessage, specs.statement.Known.KnowsMessage}
+use Rattle.std.proofs.Common.{◌≡◌, ℕ, suc, true, false, ◌+◌, ◌*◌, ◌<◌, ◌≤◌, ◌^◌, ◌%◌, List, [], ◌∷◌, refl, ap, ◌∙◌}
+use Rattle.std.proofs.Common.{arith, length, inl, inr, pow_pos, Bool, ◌||◌}
 use Rattle.std.specs.Prelude.{if◌then◌else◌, is_some, Option, Some}
-use Rattle.std.proofs.Math.Nat.{mod-eq_of_lt}
-use Rattle.std.proofs.lemmas.Nat.{shl_whole}
-use Rattle.tl_beat.specs.declared.beat.Beat.{Beat}
-use Rattle.tl_beat.specs.declared.beat.Beat.TheVariants as beat
-use Rattle.tl_beat.specs.declared.beat.BeatA.{BeatA}
-use Rattle.tl_beat.specs.statement.Width.{IsWidth}
+use Rattle.std.{proofs.Math.Nat.mod-eq_of_lt, proofs.lemmas.Nat.shl_whole}
 use Rattle.tl_burst.proofs.Bits.{mask_below, mask_fits}
 use Rattle.tl_bytes.specs.statement.Bytes.{carried_mask}
-use Rattle.tl_memory.specs.declared.message.CarriedMessage.{CarriedMessage}
-use Rattle.tl_memory.specs.statement.Known.{KnowsMessage}
 
 -- the mask of a beat, shifted to its place and added
 pub added : (w i m b r from : ℕ) → r ≡ b → from ≡ w * i → m < 2 ^ (w * i) → b < 2 ^ w → w * i + w ≤ 64
@@ -22,8 +17,7 @@ added w i m b r from e at low small le =
     ∙ ap (λ n. m + n) (ap (λ n. n * 2 ^ (w * i) % 2 ^ 64) e ∙ shl_whole b w (w * i) 64 small (omega arith)))
 
 -- it is still below what so many beats have
-pub added_below : (w i m b : ℕ) → m < 2 ^ (w * i) → b < 2 ^ w → w * i + w ≤ 64
-    → m + b * 2 ^ (w * i) < 2 ^ (w * suc i)
+pub added_below : (w i m b : ℕ) → m < 2 ^ (w * i) → b < 2 ^ w → w * i + w ≤ 64 → m + b * 2 ^ (w * i) < 2 ^ (w * suc i)
 added_below w i m b low small le =
     let whole = shl_whole b w (w * i) 64 small (omega arith) in
     let more : w * suc i ≡ w * (i + 1) = omega arith in
@@ -39,14 +33,11 @@ few w n (inr (inl e)) le = omega (arith, e, ap (λ k. k * n + k) e, le)
 few w n (inr (inr e)) le = omega (arith, e, ap (λ k. k * n + k) e, le)
 
 -- beats of other channels have no mask
-pub no_mask : {w : ℕ} (x : Beat w) (burst : List (Beat w)) → ((y : BeatA w) → x ≡ beat.A y → ⊥)
+pub no_mask : {w : ℕ} (x : Beat w) (burst : List (Beat w)) → ((y : BeatA w) → x ≡ Beat.A y → ⊥)
     → 0 ≡ carried_mask (x ∷ burst)
 unfolding carried_mask
-no_mask (beat.A y) burst other = absurd (other y refl)
-no_mask (beat.B y) burst other = refl
-no_mask (beat.C y) burst other = refl
-no_mask (beat.D y) burst other = refl
-no_mask (beat.E y) burst other = refl
+no_mask (Beat.A y) burst other = absurd (other y refl)
+no_mask v burst other = refl
 
 pub one_more : {X : Type 0} (one : Bool) (x : X) (o : Option X)
     → (one || is_some o) ≡ is_some (if one then Some x else o)

@@ -1,63 +1,38 @@
 -- What is known of the bytes of memory, with one more beat.
+use Rattle.tl_memory.proofs.Imports.{Beat, BeatA, BeatD, Link, IsWidth, History, on, Level, Profile, open_request}
+use Rattle.tl_memory.proofs.Imports.{request_fields, Request, IsTyped, Trace, broken_on_link, on_link, begins}
+use Rattle.tl_memory.proofs.Imports.{is_release_ack, request_of, is_free, pending_accesses, PassesBy, block_asked}
+use Rattle.tl_memory.proofs.Imports.{block_borne, IsLegalBeat, Expected, LinkState, ExpectsResponse, AllWriteInside}
+use Rattle.tl_memory.proofs.Imports.{AreLegal, KnowsLink, OpD}
 use Rattle.std.proofs.Common.{◌≡◌, ℕ, Bool, true, false, ◌&&◌, ◌∷◌, ◌^◌, ◌<◌, ◌/◌, List, [], Option, Some, None, length}
 use Rattle.std.proofs.Common.{refl, sym, ap, ◌∙◌, arith, inl, inr}
-use Rattle.std.specs.Prelude.{if◌then◌else◌, ◌==◌, option_map}
-use Rattle.std.proofs.lemmas.Bool.{eqb-false}
+use Rattle.std.{specs.Prelude.if◌then◌else◌, specs.Prelude.◌==◌, specs.Prelude.option_map, proofs.lemmas.Bool.eqb-false}
 use Rattle.std.proofs.lemmas.Option.{none-some, same_Some, slice_get_cases}
-use Rattle.tl_beat.specs.declared.beat.Beat.{Beat}
-use Rattle.tl_beat.specs.declared.beat.Beat.TheVariants as beat
-use Rattle.tl_beat.specs.declared.beat.BeatA.{BeatA}
-use Rattle.tl_beat.specs.declared.beat.BeatD.{BeatD}
-use Rattle.tl_beat.specs.declared.beat.Link.{Link}
-use Rattle.tl_beat.specs.declared.channel.Channel.TheVariants as channel
-use Rattle.tl_beat.specs.declared.opcode.OpD.TheVariants as d
-use Rattle.tl_beat.specs.statement.Width.{IsWidth}
-use Rattle.tl_burst.specs.statement.Messages.{History, on}
-use Rattle.tl_params.specs.declared.level.Level.{Level}
-use Rattle.tl_params.specs.declared.perm.Perm.TheVariants as perm
-use Rattle.tl_params.specs.declared.profile.Profile.{Profile}
-use Rattle.tl_rules.specs.code.Open.{open_request, request_fields}
-use Rattle.tl_rules.specs.declared.past.Request.{Request}
-use Rattle.tl_rules.specs.laws.Typed.{IsTyped}
-use Rattle.tl_rules.specs.statement.Conformance.{Trace, broken_on_link, on_link}
-use Rattle.tl_rules.specs.statement.History.{begins, is_release_ack, request_of}
-use Rattle.tl_rules.specs.statement.Windows.{is_free}
-use Rattle.tl_bytes.specs.statement.Bytes.{pending_accesses}
+use Rattle.tl_beat.specs.declared.channel.Channel.{Channel}
+use Rattle.tl_params.specs.declared.perm.Perm.{Perm}
 use Rattle.tl_memory.specs.code.Changing.{ExpectsBegun, IsBorne, IsChange}
-use Rattle.tl_memory.specs.code.Elsewhere.{PassesBy, block_asked, block_borne}
-use Rattle.tl_memory.specs.code.Passing.{changes_held}
-use Rattle.tl_memory.specs.code.Taking.{IsLegalBeat, IsSeen}
-use Rattle.tl_memory.specs.declared.expected.Expected.{Expected}
-use Rattle.tl_memory.specs.declared.link.LinkState.{LinkState}
-use Rattle.tl_memory.specs.declared.links.Links.{Links}
-use Rattle.tl_memory.specs.declared.memory.Change.{Change}
-use Rattle.tl_memory.specs.declared.memory.Memory.{Memory}
-use Rattle.tl_memory.specs.statement.Expecting.{ExpectsResponse}
-use Rattle.tl_memory.specs.statement.Known.{AllWriteInside}
-use Rattle.tl_memory.specs.statement.Links.{AreLegal, KnowsLink, KnowsLinks}
-use Rattle.tl_memory.specs.statement.Memory.{AreAddressed, IsAddressed}
-use Rattle.tl_memory.proofs.Beginning.{none-begun}
-use Rattle.tl_memory.proofs.Borne.{passes}
-use Rattle.tl_memory.proofs.LegalBeats.{legal-beat}
-use Rattle.tl_memory.proofs.LinkTables.{link-there}
-use Rattle.tl_memory.proofs.PassedBy.{held-left}
+use Rattle.tl_memory.{specs.code.Passing.changes_held, specs.code.Taking.IsSeen, specs.declared.links.Links.Links}
+use Rattle.tl_memory.{specs.declared.memory.Change.Change, specs.declared.memory.Memory.Memory}
+use Rattle.tl_memory.{specs.statement.Links.KnowsLinks, specs.statement.Memory.AreAddressed}
+use Rattle.tl_memory.{specs.statement.Memory.IsAddressed, proofs.Beginning.none-begun, proofs.Borne.passes}
+use Rattle.tl_memory.{proofs.LegalBeats.legal-beat, proofs.LinkTables.link-there, proofs.PassedBy.held-left}
 
 -- ---- the blocks of requests
 
 request_addressed : {w : ℕ} (s : ℕ) (x : Beat w) (past : History w) (y : BeatA w) → IsAddressed x
     → (request_of s past ≡ Some y → y.address < 2 ^ 32) → request_of s (x ∷ past) ≡ Some y → y.address < 2 ^ 32
 unfolding request_of
-request_addressed {w} s (beat.A x) past y small before e =
-    go (begins (beat.A x) past && (x.source == s)) (request_of s past) before e
+request_addressed {w} s (Beat.A x) past y small before e =
+    go (begins (Beat.A x) past && (x.source == s)) (request_of s past) before e
   where
     go : (own : Bool) (o : Option (BeatA w)) → (o ≡ Some y → y.address < 2 ^ 32)
         → (if own then Some x else o) ≡ Some y → y.address < 2 ^ 32
     go false o before e = before e
     go true o before e = let same : x ≡ y = cc in rw (← same) small
-request_addressed s (beat.B x) past y small before e = before e
-request_addressed s (beat.C x) past y small before e = before e
-request_addressed s (beat.D x) past y small before e = before e
-request_addressed s (beat.E x) past y small before e = before e
+request_addressed s (Beat.B x) past y small before e = before e
+request_addressed s (Beat.C x) past y small before e = before e
+request_addressed s (Beat.D x) past y small before e = before e
+request_addressed s (Beat.E x) past y small before e = before e
 
 requests_addressed : {w : ℕ} (s link : ℕ) (t : Trace w) (y : BeatA w) → AreAddressed t
     → request_of s (on_link link t) ≡ Some y → y.address < 2 ^ 32
@@ -82,21 +57,20 @@ block-small {w} s link asked t all e =
 
     go : (opened : Bool) (o : Option (BeatA w)) → ((y : BeatA w) → o ≡ Some y → y.address < 2 ^ 32)
         → (if opened then request_fields o else None) ≡ Some asked → asked.block < 2 ^ 26
-    go false o small e = absurd cc
-    go true None small e = absurd cc
     go true (Some y) small e =
         let same : y.address / 64 ≡ asked.block = cc in rw (← same) (number y.address (small y refl))
+    go v u small e = absurd cc
 
 -- ---- beats that break no rule
 
 module _ {w : ℕ} (levels : List Level) (p : Profile) (link : Link) (x : Beat w) (t : Trace w) (is : IsWidth w)
     (legal : AreLegal levels p t) (fine : broken_on_link levels p (link, x) t ≡ None) where
   pub beat-legal : (s : LinkState) (n : ℕ) → KnowsLink s n link.0 t
-      → ((y : BeatA w) → x ≡ beat.A y → IsTyped (beat.A y)) → IsLegalBeat link.0 x t
+      → ((y : BeatA w) → x ≡ Beat.A y → IsTyped (Beat.A y)) → IsLegalBeat link.0 x t
   beat-legal s n k typed = legal-beat levels p link t is legal x (λ y e. (typed y e, k.messages_are.typed)) fine
 
   pub links-legal : (l : Links) → KnowsLinks l (length levels) t
-      → ((y : BeatA w) → x ≡ beat.A y → IsTyped (beat.A y)) → IsLegalBeat link.0 x t
+      → ((y : BeatA w) → x ≡ Beat.A y → IsTyped (Beat.A y)) → IsLegalBeat link.0 x t
   links-legal l k typed = elim (slice_get_cases l.states.items link.0).1 [
     | inl found ↦ beat-legal found.0 (length levels) (k.states_are link.0 found.0 found.2) typed
     | inr past ↦ absurd (omega (arith, link-there levels p (link, x) t fine, past.0, k.count_is))
@@ -123,12 +97,12 @@ pub none-expected : {w : ℕ} (link : Link) (x : Beat w) (n : ℕ) (t : Trace w)
 none-expected {w} link x n t legal borne y is first =
     go (is_release_ack y.opcode) refl (rw is at legal) (rw is at borne)
   where
-    go : (release : Bool) → is_release_ack y.opcode ≡ release → IsLegalBeat link.0 (beat.D y) t
+    go : (release : Bool) → is_release_ack y.opcode ≡ release → IsLegalBeat link.0 (Beat.D y) t
         → (if release then None else block_asked (open_request y.source (on_link link.0 t))) ≡ None
         → ExpectsResponse None n link.0 y.opcode y.source t t
     go true e legal borne = none-begun y.opcode n link.0 y.source t
-        (λ grant. absurd (let no : is_release_ack d.GrantData ≡ true = ap is_release_ack (sym grant) ∙ e in cc))
-        (λ read. absurd (let no : is_release_ack d.AccessAckData ≡ true = ap is_release_ack (sym read) ∙ e in cc))
+        (λ grant. absurd (let no : is_release_ack OpD.GrantData ≡ true = ap is_release_ack (sym grant) ∙ e in cc))
+        (λ read. absurd (let no : is_release_ack OpD.AccessAckData ≡ true = ap is_release_ack (sym read) ∙ e in cc))
     go false e legal borne =
         let one = legal e in
         absurd (none-some one.0.block (sym borne ∙ ap block_asked one.1.asked_is))
@@ -136,11 +110,11 @@ none-expected {w} link x n t legal borne y is first =
 -- ---- what a beat changes
 
 pub begun-by : {w : ℕ} (expected : Option Expected) (n : ℕ) (link : Link) (x : Beat w) (z : BeatD w) (t : Trace w)
-    → x ≡ beat.D z → ExpectsResponse expected n link.0 z.opcode z.source t t → ExpectsBegun expected n (link, x) t
+    → x ≡ Beat.D z → ExpectsResponse expected n link.0 z.opcode z.source t t → ExpectsBegun expected n (link, x) t
 begun-by {w} expected n link x z t is known y e first =
     rw (← same z y (sym is ∙ e)) known
   where
-    same : (a b : BeatD w) → beat.D a ≡ beat.D b → a ≡ b
+    same : (a b : BeatD w) → Beat.D a ≡ Beat.D b → a ≡ b
     same a b e = cc
 
 either_none : (c : Bool) → ◌≡◌ {A = Option ℕ} None (if c then None else None)
@@ -161,17 +135,14 @@ nothing-changed change m n x t unborne unheld none passed unbegun = record {
 
 -- ---- how free a block is seen to be
 
-off-a : {w : ℕ} (x : Beat w) (past : History w) → changes_held x past ≡ true → on channel.A x ≡ false
-off-a (beat.A y) past e = absurd cc
-off-a (beat.B y) past e = refl
-off-a (beat.C y) past e = refl
-off-a (beat.D y) past e = refl
-off-a (beat.E y) past e = refl
+off-a : {w : ℕ} (x : Beat w) (past : History w) → changes_held x past ≡ true → on Channel.A x ≡ false
+off-a (Beat.A y) past e = absurd cc
+off-a v past e = refl
 
 -- told of the block of which its link may hold more or less, it is told of the one that the beat bears on
 pub held-seen : {w : ℕ} (change : Change w) (m : Memory w) (n : ℕ) (x : Link × Beat w) (t : Trace w)
     (free : Option Bool) (block : ℕ)
-    → IsChange change m n x t → free ≡ option_map (λ b. is_free n None perm.Trunk b (x ∷ t)) change.held
+    → IsChange change m n x t → free ≡ option_map (λ b. is_free n None Perm.Trunk b (x ∷ t)) change.held
     → change.block ≡ Some block → IsSeen free n block x t
 held-seen {w} change m n x t free block is told own = go (changes_held x.1 (on_link x.0.0 t)) refl
   where

@@ -1,49 +1,35 @@
 -- Which requests are open on a link where no beat broke a rule: those that responses answer.
-use Rattle.std.proofs.Common.{◌≡◌, ℕ, Bool, true, false, not, ◌&&◌, List, [], ◌∷◌, length, Option, Some, None}
-use Rattle.std.proofs.Common.{refl, sym, ap, ◌∙◌, inl, inr}
+use Rattle.tl_memory.proofs.Imports.{Beat, BeatA, BeatD, OpD, data_beats, History, breaks_burst, burst_length, grown}
+use Rattle.tl_memory.proofs.Imports.{same_control, unfinished, is_empty, control_a, control_d, Level, Profile}
+use Rattle.tl_memory.proofs.Imports.{open_request, request_fields, Request, answers, broken_after, begins, block_at}
+use Rattle.tl_memory.proofs.Imports.{ends, is_release_ack, request_of}
+use Rattle.std.proofs.Common.{◌≡◌, ℕ, Bool, true, false, not, ◌&&◌, List, [], ◌∷◌, length, Option, Some, None, refl}
+use Rattle.std.proofs.Common.{sym, ap, ◌∙◌, inl, inr}
 use Rattle.std.specs.Prelude.{if◌then◌else◌, is_some, ◌==◌, ◌+◌}
 use Rattle.std.proofs.lemmas.Bool.{and_parts, cases_eq, eqb-true, ne_eqb, not-false}
-use Rattle.tl_beat.specs.declared.beat.Beat.{Beat}
-use Rattle.tl_beat.specs.declared.beat.Beat.TheVariants as beat
-use Rattle.tl_beat.specs.declared.beat.BeatA.{BeatA}
-use Rattle.tl_beat.specs.declared.beat.BeatD.{BeatD}
-use Rattle.tl_beat.specs.declared.channel.Channel.TheVariants as channel
-use Rattle.tl_beat.specs.declared.opcode.OpD.{OpD}
-use Rattle.tl_beat.specs.declared.opcode.OpD.TheVariants as d
-use Rattle.tl_beat.specs.statement.Opcode.{d_carries_data}
-use Rattle.tl_burst.specs.statement.Burst.{data_beats}
-use Rattle.tl_burst.specs.statement.Messages.{History, breaks_burst, burst_length, grown, same_control, unfinished}
-use Rattle.tl_burst.specs.statement.Part.{is_empty}
-use Rattle.tl_burst.proofs.ControlFields.{control_a, control_d}
+use Rattle.tl_beat.{specs.declared.channel.Channel.Channel, specs.statement.Opcode.d_carries_data}
 use Rattle.tl_params.specs.declared.key.Key.TheVariants.{RequestSource}
-use Rattle.tl_params.specs.declared.level.Level.{Level}
-use Rattle.tl_params.specs.declared.profile.Profile.{Profile}
 use Rattle.tl_params.specs.declared.rule.Rule.TheVariants.{H1, H2, H3}
-use Rattle.tl_rules.specs.code.Open.{open_request, request_fields}
-use Rattle.tl_rules.specs.code.Tables.{kept_request}
-use Rattle.tl_rules.specs.declared.past.Request.{Request}
-use Rattle.tl_rules.specs.statement.Conformance.{admits, answers, broken_after, broken_order}
-use Rattle.tl_rules.specs.statement.Conformance.{comes_in_request, has_request, size_asked, size_of_request}
-use Rattle.tl_rules.specs.statement.History.{begins, block_at, ends, is_release_ack, pending, request_of}
-use Rattle.tl_rules.proofs.Bursts.{next_rule}
-use Rattle.tl_rules.proofs.Tables.{pending-request, request-next}
+use Rattle.tl_rules.{specs.code.Tables.kept_request, specs.statement.History.pending, proofs.Bursts.next_rule}
+use Rattle.tl_rules.{proofs.Tables.pending-request, proofs.Tables.request-next}
+use Rattle.tl_rules.specs.statement.Conformance.{admits, broken_order, comes_in_request, has_request, size_asked}
+use Rattle.tl_rules.specs.statement.Conformance.{size_of_request}
 use Rattle.tl_memory.proofs.Lawful.{begun_in_order, goes_on}
 
 -- the request with this source is pending and complete
 pub record IsOpen {w : ℕ} (s : ℕ) (asked : Request) (t : History w) : Type 0 where
   pub kept : kept_request s t ≡ Some asked
-  pub complete : comes_in_request s (unfinished channel.A t) ≡ false
+  pub complete : comes_in_request s (unfinished Channel.A t) ≡ false
 
 pub open-parts : {w : ℕ} (s : ℕ) (asked : Request) (t : History w) → open_request s t ≡ Some asked → IsOpen s asked t
-open-parts s asked t e = go (pending (RequestSource s) t) (comes_in_request s (unfinished channel.A t))
+open-parts s asked t e = go (pending (RequestSource s) t) (comes_in_request s (unfinished Channel.A t))
     (request_fields (request_of s t)) refl refl refl e
   where
     go : (before comes : Bool) (o : Option Request) → pending (RequestSource s) t ≡ before
-        → comes_in_request s (unfinished channel.A t) ≡ comes → request_fields (request_of s t) ≡ o
+        → comes_in_request s (unfinished Channel.A t) ≡ comes → request_fields (request_of s t) ≡ o
         → (if before && not comes then o else None) ≡ Some asked → IsOpen s asked t
     go true false o f g h e = record { kept = rw (f, h) e; complete = g }
-    go true true o f g h e = absurd cc
-    go false comes o f g h e = absurd cc
+    go v u o f g h e = absurd cc
 
 pub open-whole : {w : ℕ} (s : ℕ) (asked : Request) (t : History w) → IsOpen s asked t → open_request s t ≡ Some asked
 open-whole s asked t o = rw o.complete (go (pending (RequestSource s) t) (request_fields (request_of s t)) o.kept)
@@ -57,32 +43,28 @@ open-whole s asked t o = rw o.complete (go (pending (RequestSource s) t) (reques
 
 -- the beat completes an answer to the request with this source
 abbrev pub completes_answer : {w : ℕ} → ℕ → Beat w → History w → Bool
-completes_answer s (beat.D y) t = ends (beat.D y) t && (not (is_release_ack y.opcode) && (y.source == s))
+completes_answer s (Beat.D y) t = ends (Beat.D y) t && (not (is_release_ack y.opcode) && (y.source == s))
 completes_answer s _ t = false
 
 -- a beat of channel A that goes on as a burst that doesn't come with a source hasn't it
 other_source : {w : ℕ} (s : ℕ) (y : BeatA w) (z : Beat w) (burst : List (Beat w))
-    → breaks_burst (beat.A y) (z ∷ burst) ≡ false
-    → comes_in_request s (z ∷ burst) ≡ false → (y.source == s) ≡ false
-other_source s y (beat.A z) burst e apart =
-    let same = control_a y z (not-false (same_control (beat.A y) (beat.A z)) e) in rw same.3 apart
-other_source s y (beat.B z) burst e apart = absurd cc
-other_source s y (beat.C z) burst e apart = absurd cc
-other_source s y (beat.D z) burst e apart = absurd cc
-other_source s y (beat.E z) burst e apart = absurd cc
+    → breaks_burst (Beat.A y) (z ∷ burst) ≡ false → comes_in_request s (z ∷ burst) ≡ false → (y.source == s) ≡ false
+other_source s y (Beat.A z) burst e apart =
+    let same = control_a y z (not-false (same_control (Beat.A y) (Beat.A z)) e) in rw same.3 apart
+other_source s y v burst e apart = absurd cc
 
 -- where a request is open no beat of channel A has its source
 pub fresh : {w : ℕ} (l : Level) (p : Profile) (s : ℕ) (asked : Request) (y : BeatA w) (t : History w)
-    → broken_after l p (beat.A y) t ≡ None → IsOpen s asked t → (y.source == s) ≡ false
+    → broken_after l p (Beat.A y) t ≡ None → IsOpen s asked t → (y.source == s) ≡ false
 unfolding broken_order
 fresh {w} l p s asked y t fine o =
-    go (unfinished channel.A t) (goes_on l p (beat.A y) t fine) o.complete
-    (λ first. (next_rule (pending (RequestSource y.source) t) H1 _ (begun_in_order l p (beat.A y) t fine first)).0)
+    go (unfinished Channel.A t) (goes_on l p (Beat.A y) t fine) o.complete
+    (λ first. (next_rule (pending (RequestSource y.source) t) H1 _ (begun_in_order l p (Beat.A y) t fine first)).0)
   where
     no : true ≡ false → ⊥
     no e = cc
 
-    go : (burst : List (Beat w)) → breaks_burst (beat.A y) burst ≡ false → comes_in_request s burst ≡ false
+    go : (burst : List (Beat w)) → breaks_burst (Beat.A y) burst ≡ false → comes_in_request s burst ≡ false
         → (is_empty burst ≡ true → pending (RequestSource y.source) t ≡ false) → (y.source == s) ≡ false
     go (z ∷ burst) e apart free = other_source s y z burst e apart
     go [] e apart free = elim (cases_eq y.source s) [
@@ -96,10 +78,10 @@ unopened true own o k e = rw e refl
 unopened false own o k e = refl
 
 grown_other : {w : ℕ} (s : ℕ) (y : BeatA w) (burst : List (Beat w)) → (y.source == s) ≡ false
-    → comes_in_request s (grown (beat.A y) burst) ≡ false
-grown_other {w} s y burst e = go (length burst + 1 == burst_length (beat.A y))
+    → comes_in_request s (grown (Beat.A y) burst) ≡ false
+grown_other {w} s y burst e = go (length burst + 1 == burst_length (Beat.A y))
   where
-    go : (b : Bool) → comes_in_request s (if b then [] else beat.A y ∷ burst) ≡ false
+    go : (b : Bool) → comes_in_request s (if b then [] else Beat.A y ∷ burst) ≡ false
     go true = refl
     go false = e
 
@@ -107,23 +89,23 @@ grown_other {w} s y burst e = go (length burst + 1 == burst_length (beat.A y))
 pub open-still : {w : ℕ} (l : Level) (p : Profile) (s : ℕ) (asked : Request) (x : Beat w) (t : History w)
     → broken_after l p x t ≡ None → IsOpen s asked t → completes_answer s x t ≡ false → IsOpen s asked (x ∷ t)
 unfolding unfinished
-open-still l p s asked (beat.A y) t fine o unended =
+open-still l p s asked (Beat.A y) t fine o unended =
     let other = fresh l p s asked y t fine o in
     record {
-      kept = request-next s (beat.A y) t
-          ∙ unopened (begins (beat.A y) t) (y.source == s) (request_fields (Some y)) (kept_request s t) other ∙ o.kept;
-      complete = grown_other s y (unfinished channel.A t) other;
+      kept = request-next s (Beat.A y) t
+          ∙ unopened (begins (Beat.A y) t) (y.source == s) (request_fields (Some y)) (kept_request s t) other ∙ o.kept;
+      complete = grown_other s y (unfinished Channel.A t) other;
     }
-open-still l p s asked (beat.D y) t fine o unended = record {
-  kept = request-next s (beat.D y) t ∙ rw unended o.kept;
+open-still l p s asked (Beat.D y) t fine o unended = record {
+  kept = request-next s (Beat.D y) t ∙ rw unended o.kept;
   complete = o.complete;
 }
-open-still l p s asked (beat.B y) t fine o unended =
-    record { kept = request-next s (beat.B y) t ∙ o.kept; complete = o.complete }
-open-still l p s asked (beat.C y) t fine o unended =
-    record { kept = request-next s (beat.C y) t ∙ o.kept; complete = o.complete }
-open-still l p s asked (beat.E y) t fine o unended =
-    record { kept = request-next s (beat.E y) t ∙ o.kept; complete = o.complete }
+open-still l p s asked (Beat.B y) t fine o unended =
+    record { kept = request-next s (Beat.B y) t ∙ o.kept; complete = o.complete }
+open-still l p s asked (Beat.C y) t fine o unended =
+    record { kept = request-next s (Beat.C y) t ∙ o.kept; complete = o.complete }
+open-still l p s asked (Beat.E y) t fine o unended =
+    record { kept = request-next s (Beat.E y) t ∙ o.kept; complete = o.complete }
 
 -- ---- responses
 
@@ -135,7 +117,7 @@ pub record IsAnswering {w : ℕ} (y : BeatD w) (t : History w) : Type 0 where
   pub sized : y.size ≡ asked.size
 
 admitted_by : {w : ℕ} (y : BeatD w) (t : History w) (o : Option (BeatA w)) → request_of y.source t ≡ o
-    → pending (RequestSource y.source) t ≡ true → comes_in_request y.source (unfinished channel.A t) ≡ false
+    → pending (RequestSource y.source) t ≡ true → comes_in_request y.source (unfinished Channel.A t) ≡ false
     → admits y.opcode o ≡ true → (y.size == size_of_request o) ≡ true → IsAnswering y t
 admitted_by y t None is before complete e sized = absurd cc
 admitted_by y t (Some x) is before complete e sized = record {
@@ -150,18 +132,18 @@ not_so true e = absurd cc
 not_so false e = refl
 
 pub begun-answering : {w : ℕ} (l : Level) (p : Profile) (y : BeatD w) (t : History w)
-    → broken_after l p (beat.D y) t ≡ None → begins (beat.D y) t ≡ true → is_release_ack y.opcode ≡ false
+    → broken_after l p (Beat.D y) t ≡ None → begins (Beat.D y) t ≡ true → is_release_ack y.opcode ≡ false
     → IsAnswering y t
 unfolding broken_order
 begun-answering {w} l p y t fine first other =
-    let two = next_rule (not (has_request y t)) H2 _ (begun_in_order l p (beat.D y) t fine first) in
+    let two = next_rule (not (has_request y t)) H2 _ (begun_in_order l p (Beat.D y) t fine first) in
     let three = next_rule (not (y.size == size_asked y t)) H3 _ two.1 in
     let has = not-false (has_request y t) two.0 in
     let size : (y.size == size_of_request (request_of y.source t)) ≡ true =
     rw other at (not-false (y.size == size_asked y t) three.0) in
     let parts = of_request _ _ (is_release_ack y.opcode) other has in
     let before = and_parts (pending (RequestSource y.source) t) _ parts in
-    let rest = and_parts (not (comes_in_request y.source (unfinished channel.A t))) _ before.1 in
+    let rest = and_parts (not (comes_in_request y.source (unfinished Channel.A t))) _ before.1 in
     admitted_by y t (request_of y.source t) refl before.0 (not_so _ rest.0) rest.1 size
   where
     of_request : (one two ack : Bool) → ack ≡ false → (if ack then one else two) ≡ true → two ≡ true
@@ -170,19 +152,15 @@ begun-answering {w} l p y t fine first other =
 
 -- the beats of one burst answer one request
 pub as_before : {w : ℕ} (y z : BeatD w) (burst : List (Beat w)) (t : History w)
-    → breaks_burst (beat.D y) (beat.D z ∷ burst) ≡ false → IsAnswering z t → IsAnswering y t
+    → breaks_burst (Beat.D y) (Beat.D z ∷ burst) ≡ false → IsAnswering z t → IsAnswering y t
 as_before y z burst t e k =
-    let same = control_d y z (not-false (same_control (beat.D y) (beat.D z)) e) in
+    let same = control_d y z (not-false (same_control (Beat.D y) (Beat.D z)) e) in
     record { asked = k.asked; is_open = rw same.3 k.is_open; admitted = rw same.0 k.admitted; sized = same.2 ∙ k.sized }
 
 -- a ReleaseAck has one beat
-pub ack-whole : {w : ℕ} (y : BeatD w) → is_release_ack y.opcode ≡ true → burst_length (beat.D y) ≡ 1
+pub ack-whole : {w : ℕ} (y : BeatD w) → is_release_ack y.opcode ≡ true → burst_length (Beat.D y) ≡ 1
 ack-whole {w} y e = go y.opcode e
   where
     go : (opcode : OpD) → is_release_ack opcode ≡ true → (if d_carries_data opcode then data_beats w y.size else 1) ≡ 1
-    go d.ReleaseAck e = refl
-    go d.AccessAck e = absurd cc
-    go d.AccessAckData e = absurd cc
-    go d.HintAck e = absurd cc
-    go d.Grant e = absurd cc
-    go d.GrantData e = absurd cc
+    go OpD.ReleaseAck e = refl
+    go v e = absurd cc

@@ -1,27 +1,14 @@
 -- Accesses that are pending on links where no beat broke a rule: each is the open request with its source.
-use Rattle.std.proofs.Common.{◌≡◌, ℕ, suc, Bool, true, false, not, ◌%◌, ◌^◌, ◌≤◌, List, [], ◌∷◌}
-use Rattle.std.proofs.Common.{length, Option, Some, None, refl, sym, ap, ◌∙◌, inl, inr, arith}
+use Rattle.tl_memory.proofs.Imports.{Beat, BeatA, Link, IsWidth, History, Level, Profile, open_request, Request, Trace}
+use Rattle.tl_memory.proofs.Imports.{broken_after, broken_on_link, is_legal, on_link, block_at, ends, is_release_ack}
+use Rattle.tl_memory.proofs.Imports.{Access, ends_request, is_access, is_of, pending_accesses, AnyIsTo, AreLegal}
+use Rattle.std.proofs.Common.{◌≡◌, ℕ, suc, Bool, true, false, not, ◌%◌, ◌^◌, ◌≤◌, List, [], ◌∷◌, length, Option, Some}
+use Rattle.std.proofs.Common.{None, refl, sym, ap, ◌∙◌, inl, inr, arith}
 use Rattle.std.specs.Prelude.{◌==◌, find, min, slice_get}
 use Rattle.std.proofs.lemmas.Bool.{and_parts, cases_eq, eq-eqb, eqb-true, ne_eqb}
-use Rattle.tl_beat.specs.declared.beat.Beat.{Beat}
-use Rattle.tl_beat.specs.declared.beat.Beat.TheVariants as beat
-use Rattle.tl_beat.specs.declared.beat.BeatA.{BeatA}
-use Rattle.tl_beat.specs.declared.beat.Link.{Link}
-use Rattle.tl_beat.specs.statement.Width.{IsWidth}
-use Rattle.tl_burst.specs.statement.Messages.{History}
-use Rattle.tl_params.specs.declared.level.Level.{Level}
-use Rattle.tl_params.specs.declared.level.Level.TheVariants as level
-use Rattle.tl_params.specs.declared.profile.Profile.{Profile}
-use Rattle.tl_rules.specs.code.Open.{open_request}
-use Rattle.tl_rules.specs.declared.past.Request.{Request}
-use Rattle.tl_rules.specs.statement.Conformance.{Trace, broken_after, broken_at_level, broken_on_link, is_legal}
-use Rattle.tl_rules.specs.statement.Conformance.{on_link}
-use Rattle.tl_rules.specs.statement.History.{block_at, ends, is_release_ack}
-use Rattle.tl_bytes.specs.statement.Bytes.{Access, ends_request, is_access, is_of, pending_accesses, pending_with}
-use Rattle.tl_bytes.proofs.Finding.{find-left_out, same-some}
+use Rattle.tl_rules.specs.statement.Conformance.{broken_at_level}
+use Rattle.tl_bytes.{specs.statement.Bytes.pending_with, proofs.Finding.find-left_out, proofs.Finding.same-some}
 use Rattle.tl_bytes.proofs.Pending.{IsAnsweredNow, IsAskedNow, IsPending, pending-after, pending-before}
-use Rattle.tl_memory.specs.statement.Known.{AnyIsTo}
-use Rattle.tl_memory.specs.statement.Links.{AreLegal}
 use Rattle.tl_memory.proofs.Answering.{fields_of, open-now}
 use Rattle.tl_memory.proofs.Lawful.{by_itself, is-request}
 use Rattle.tl_memory.proofs.Open.{IsOpen, completes_answer, fresh, open-parts, open-still, open-whole}
@@ -59,8 +46,7 @@ legal-on levels p c l (x ∷ t) has legal = elim (cases_eq x.0.0 c) [
   | inr other ↦ rw (ne_eqb x.0.0 c other) (legal-on levels p c l t has legal.1)
   | inl own ↦
       let f = is-fine levels p x t legal.0 in
-      let level_is : f.level ≡ l =
-      same-some l f.level (sym has ∙ ap (slice_get levels) (sym own) ∙ f.has_level) in
+      let level_is : f.level ≡ l = same-some l f.level (sym has ∙ ap (slice_get levels) (sym own) ∙ f.has_level) in
       let fine : broken_after l p x.1 (on_link c t) ≡ None =
       ap (λ k. broken_after k p x.1 (on_link c t)) (sym level_is)
       ∙ ap (λ n. broken_after f.level p x.1 (on_link n t)) (sym own) ∙ f.fine in
@@ -82,12 +68,12 @@ legal-link {w} levels p c t legal = go (slice_get levels c) refl
           absurd (let no : None ≡ Some f.level = sym none ∙ ap (slice_get levels) (sym own) ∙ f.has_level in cc)
     ]
 
-    nothing : (h : History w) → h ≡ [] → is_legal level.UL p h ≡ true
+    nothing : (h : History w) → h ≡ [] → is_legal Level.UL p h ≡ true
     nothing h none = rw none refl
 
     go : (o : Option Level) → slice_get levels c ≡ o → (l : Level) × (is_legal l p (on_link c t) ≡ true)
     go (Some l) has = (l, legal-on levels p c l t has legal)
-    go None none = (level.UL, nothing (on_link c t) (no_beats t none legal))
+    go None none = (Level.UL, nothing (on_link c t) (no_beats t none legal))
 
 -- ---- the access is the open request
 
@@ -110,8 +96,8 @@ answered-gone {w} c s access x t own completes is = go x.1 completes is
     go : (b : Beat w) → completes_answer s b (on_link x.0.0 t) ≡ true
         → find (is_of c s) (pending_with x.0.0 b (on_link x.0.0 t) (suc (length t)) (pending_accesses t)) ≡ Some access
         → ⊥
-    go (beat.D y) e is =
-        let both = and_parts (ends (beat.D y) (on_link x.0.0 t)) _ e in
+    go (Beat.D y) e is =
+        let both = and_parts (ends (Beat.D y) (on_link x.0.0 t)) _ e in
         let rest = and_parts (not (is_release_ack y.opcode)) (y.source == s) both.1 in
         let ended : ends_request y (on_link x.0.0 t) ≡ true = rw (rest.0, both.0) refl in
         let source = eqb-true y.source s rest.1 in
@@ -120,15 +106,14 @@ answered-gone {w} c s access x t own completes is = go x.1 completes is
       where
         none : None ≡ Some access → ⊥
         none e = cc
-    go (beat.A y) e is = absurd cc
-    go (beat.B y) e is = absurd cc
-    go (beat.C y) e is = absurd cc
-    go (beat.E y) e is = absurd cc
+    go (Beat.A y) e is = absurd cc
+    go (Beat.B y) e is = absurd cc
+    go (Beat.C y) e is = absurd cc
+    go (Beat.E y) e is = absurd cc
 
 -- a request stays open until its answer is complete
 pub open-after : {w : ℕ} (levels : List Level) (p : Profile) (c s : ℕ) (asked : Request) (x : Link × Beat w)
-    (t : Trace w)
-    → broken_on_link levels p x t ≡ None → IsOpen s asked (on_link c t)
+    (t : Trace w) → broken_on_link levels p x t ≡ None → IsOpen s asked (on_link c t)
     → (x.0.0 ≡ c → completes_answer s x.1 (on_link c t) ≡ false) → IsOpen s asked (on_link c (x ∷ t))
 open-after levels p c s asked x t fine o unended = elim (cases_eq x.0.0 c) [
   | inr other ↦ rw (other-link c x t other) o
@@ -174,13 +159,13 @@ pending-open {w} levels p c s access (x ∷ t) is legal pending = elim (pending-
     new now =
         let z = now.first in
         let past = on_link x.0.0 t in
-        let both = and_parts (is_access z.opcode) (ends (beat.A z) past) now.completes in
-        let fine : broken_after f.level p (beat.A z) past ≡ None =
+        let both = and_parts (is_access z.opcode) (ends (Beat.A z) past) now.completes in
+        let fine : broken_after f.level p (Beat.A z) past ≡ None =
         ap (λ b. broken_after f.level p b past) (sym now.beat_is) ∙ f.fine in
         let opened = open-now f.level p z past (legal-on levels p x.0.0 f.level t f.has_level legal.1) fine both.1 in
-        let history : on_link c (x ∷ t) ≡ beat.A z ∷ past =
+        let history : on_link c (x ∷ t) ≡ Beat.A z ∷ past =
         ap (λ n. on_link n (x ∷ t)) now.link_is ∙ own-link x.0.0 x t refl ∙ ap (λ b. b ∷ past) now.beat_is in
-        let r = is-request f.level z is (by_itself f.level p (beat.A z) past fine) in
+        let r = is-request f.level z is (by_itself f.level p (Beat.A z) past fine) in
         let small = r.small in
         let same_size : min z.size 6 ≡ z.size = omega (arith, small) in
         let request_size : access.request.size ≡ z.size =
@@ -232,10 +217,9 @@ module _ {w : ℕ} (levels : List Level) (p : Profile) (c s : ℕ) (asked : Requ
 -- ---- the access that a request asks for stays until its answer is complete
 
 pub found-still : {w : ℕ} (levels : List Level) (p : Profile) (c s : ℕ) (asked : Request) (x : Link × Beat w)
-    (t : Trace w)
-    → broken_on_link levels p x t ≡ None → IsOpen s asked (on_link c t)
-    → (x.0.0 ≡ c → completes_answer s x.1 (on_link c t) ≡ false)
-    → find (is_of c s) (pending_accesses (x ∷ t)) ≡ find (is_of c s) (pending_accesses t)
+    (t : Trace w) → broken_on_link levels p x t ≡ None → IsOpen s asked (on_link c t)
+    → (x.0.0 ≡ c → completes_answer s x.1 (on_link c t) ≡ false) → find (is_of c s) (pending_accesses (x ∷ t)) ≡ find
+    (is_of c s) (pending_accesses t)
 found-still {w} levels p c s asked x t legal o unended =
     go (find (is_of c s) (pending_accesses (x ∷ t))) (find (is_of c s) (pending_accesses t)) refl refl
   where
@@ -243,9 +227,9 @@ found-still {w} levels p c s asked x t legal o unended =
     f = is-fine levels p x t legal
 
     -- no beat of channel A has its source
-    apart : (z : BeatA w) → x.1 ≡ beat.A z → c ≡ x.0.0 → s ≡ z.source → ⊥
+    apart : (z : BeatA w) → x.1 ≡ Beat.A z → c ≡ x.0.0 → s ≡ z.source → ⊥
     apart z is link source =
-        let fine : broken_after f.level p (beat.A z) (on_link x.0.0 t) ≡ None =
+        let fine : broken_after f.level p (Beat.A z) (on_link x.0.0 t) ≡ None =
         ap (λ b. broken_after f.level p b (on_link x.0.0 t)) (sym is) ∙ f.fine in
         let other = fresh f.level p s asked z (on_link x.0.0 t) fine (rw (← link) o) in
         let no : true ≡ false = sym (eq-eqb z.source s (sym source)) ∙ other in
@@ -269,8 +253,8 @@ found-still {w} levels p c s asked x t legal o unended =
         ended k =
             let y = k.last in
             let past = on_link x.0.0 t in
-            let both = and_parts (not (is_release_ack y.opcode)) (ends (beat.D y) past) k.completes in
-            let all : completes_answer s (beat.D y) past ≡ true =
+            let both = and_parts (not (is_release_ack y.opcode)) (ends (Beat.D y) past) k.completes in
+            let all : completes_answer s (Beat.D y) past ≡ true =
             rw (both.0, both.1, eq-eqb y.source s (sym k.source_is)) refl in
             let none : completes_answer s x.1 past ≡ false =
             ap (λ n. completes_answer s x.1 (on_link n t)) (sym k.link_is) ∙ unended (sym k.link_is) in

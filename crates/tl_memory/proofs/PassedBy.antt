@@ -1,33 +1,20 @@
 -- Beats that pass each block by, and those that change what their link holds.
+use Rattle.tl_memory.proofs.Imports.{Beat, BeatA, BeatC, BeatD, Link, History, is_empty, Trace, on_link, begins, ends}
+use Rattle.tl_memory.proofs.Imports.{is_grant, is_release_ack, is_access, pending_accesses, LeavesHeld, PassesBy}
+use Rattle.tl_memory.proofs.Imports.{AllWriteInside}
 use Rattle.std.proofs.Common.{◌≡◌, ℕ, Bool, true, false, not, ◌&&◌, ◌||◌, List, [], ◌∷◌, length, refl, sym, ◌∙◌, arith}
-use Rattle.std.specs.Prelude.{None, ◌==◌}
-use Rattle.std.proofs.lemmas.Bool.{ne_eqb}
-use Rattle.tl_beat.specs.declared.beat.Beat.{Beat}
-use Rattle.tl_beat.specs.declared.beat.Beat.TheVariants as beat
-use Rattle.tl_beat.specs.declared.beat.BeatA.{BeatA}
-use Rattle.tl_beat.specs.declared.beat.BeatC.{BeatC}
-use Rattle.tl_beat.specs.declared.beat.BeatD.{BeatD}
-use Rattle.tl_beat.specs.declared.beat.Link.{Link}
-use Rattle.tl_burst.specs.statement.Messages.{History}
-use Rattle.tl_burst.specs.statement.Part.{is_empty}
-use Rattle.tl_rules.specs.statement.Conformance.{Trace, on_link}
-use Rattle.tl_rules.specs.statement.History.{begins, ends, is_grant, is_release_ack}
-use Rattle.tl_bytes.specs.statement.Bytes.{is_access, pending_accesses}
-use Rattle.tl_memory.specs.code.Changing.{ExpectsBegun}
-use Rattle.tl_memory.specs.code.Elsewhere.{LeavesHeld, PassesBy}
-use Rattle.tl_memory.specs.code.Passing.{changes_held, passes_by}
-use Rattle.tl_memory.specs.statement.Known.{AllWriteInside}
+use Rattle.std.{specs.Prelude.None, specs.Prelude.◌==◌, proofs.lemmas.Bool.ne_eqb}
+use Rattle.tl_memory.{specs.code.Changing.ExpectsBegun, specs.code.Passing.changes_held, specs.code.Passing.passes_by}
+use Rattle.tl_memory.{proofs.Elsewhere.held-kept}
 use Rattle.tl_memory.proofs.Bearing.{ack-passes, none_of_both, probe-passes, report-elsewhere, request-leaves}
 use Rattle.tl_memory.proofs.Bearing.{response-elsewhere, response-leaves, unasked-passes}
-use Rattle.tl_memory.proofs.Elsewhere.{held-kept}
 
 true_false : {X : Type 0} → true ≡ false → X
 true_false e = absurd cc
 
 not_both : (a b : Bool) → (not a || not b) ≡ true → (a && b) ≡ false
 not_both true true e = absurd cc
-not_both true false e = refl
-not_both false b e = refl
+not_both v u e = refl
 
 is_false : (b : Bool) → not b ≡ true → b ≡ false
 is_false true e = absurd cc
@@ -40,59 +27,59 @@ neither false b e = (refl, is_false b e)
 -- ---- the blocks
 
 report-goes_on : {w : ℕ} (block : ℕ) (link : Link) (y : BeatC w) (t : Trace w) → AllWriteInside (pending_accesses t)
-    → ends (beat.C y) (on_link link.0 t) ≡ false → PassesBy block (link, beat.C y) t
+    → ends (Beat.C y) (on_link link.0 t) ≡ false → PassesBy block (link, Beat.C y) t
 report-goes_on block link y t inside goes_on = record {
   elsewhere = report-elsewhere block link y t inside (rw goes_on refl);
-  held_is = held-kept block (beat.C y) (on_link link.0 t) (λ over. true_false (sym over ∙ goes_on));
+  held_is = held-kept block (Beat.C y) (on_link link.0 t) (λ over. true_false (sym over ∙ goes_on));
 }
 
 response-goes_on : {w : ℕ} (block : ℕ) (link : Link) (y : BeatD w) (t : Trace w) → AllWriteInside (pending_accesses t)
-    → ends (beat.D y) (on_link link.0 t) ≡ false → PassesBy block (link, beat.D y) t
+    → ends (Beat.D y) (on_link link.0 t) ≡ false → PassesBy block (link, Beat.D y) t
 response-goes_on block link y t inside goes_on = record {
   elsewhere = response-elsewhere block link y t inside (rw goes_on refl)
       (λ over. true_false (sym over
-      ∙ none_of_both (not (is_release_ack y.opcode)) (ends (beat.D y) (on_link link.0 t)) goes_on));
-  held_is = held-kept block (beat.D y) (on_link link.0 t) (λ over. true_false (sym over ∙ goes_on));
+      ∙ none_of_both (not (is_release_ack y.opcode)) (ends (Beat.D y) (on_link link.0 t)) goes_on));
+  held_is = held-kept block (Beat.D y) (on_link link.0 t) (λ over. true_false (sym over ∙ goes_on));
 }
 
 -- such a beat leaves each block as it is
 pub passed-by : {w : ℕ} (block : ℕ) (link : Link) (x : Beat w) (t : Trace w) → AllWriteInside (pending_accesses t)
     → passes_by x (on_link link.0 t) ≡ true → PassesBy block (link, x) t
-passed-by block link (beat.A y) t inside passing =
-    unasked-passes block link y t inside (not_both (is_access y.opcode) (ends (beat.A y) (on_link link.0 t)) passing)
-passed-by block link (beat.B y) t inside passing = probe-passes block link y t inside
-passed-by block link (beat.C y) t inside passing =
-    report-goes_on block link y t inside (is_false (ends (beat.C y) (on_link link.0 t)) passing)
-passed-by block link (beat.D y) t inside passing =
+passed-by block link (Beat.A y) t inside passing =
+    unasked-passes block link y t inside (not_both (is_access y.opcode) (ends (Beat.A y) (on_link link.0 t)) passing)
+passed-by block link (Beat.B y) t inside passing = probe-passes block link y t inside
+passed-by block link (Beat.C y) t inside passing =
+    report-goes_on block link y t inside (is_false (ends (Beat.C y) (on_link link.0 t)) passing)
+passed-by block link (Beat.D y) t inside passing =
     response-goes_on block link y t inside
-    (neither (begins (beat.D y) (on_link link.0 t)) (ends (beat.D y) (on_link link.0 t)) passing).1
-passed-by block link (beat.E y) t inside passing = ack-passes block link y t inside
+    (neither (begins (Beat.D y) (on_link link.0 t)) (ends (Beat.D y) (on_link link.0 t)) passing).1
+passed-by block link (Beat.E y) t inside passing = ack-passes block link y t inside
 
 -- and no response begins with it
 pub none-begins : {w : ℕ} (n : ℕ) (link : Link) (x : Beat w) (t : Trace w)
     → passes_by x (on_link link.0 t) ≡ true → ExpectsBegun None n (link, x) t
 none-begins n link x t passing y is first =
-    let d : passes_by (beat.D y) (on_link link.0 t) ≡ true = rw is at passing in
-    true_false (sym first
-    ∙ (neither (begins (beat.D y) (on_link link.0 t)) (ends (beat.D y) (on_link link.0 t)) d).0)
+    let d : passes_by (Beat.D y) (on_link link.0 t) ≡ true = rw is at passing in
+    true_false (sym first ∙ (neither (begins (Beat.D y) (on_link link.0 t)) (ends (Beat.D y) (on_link link.0 t)) d).0)
 
 -- ---- what is held
 
 granted-leaves : {w : ℕ} (block : ℕ) (link : Link) (y : BeatD w) (t : Trace w) (grant : Bool)
-    → is_grant y.opcode ≡ grant → grant && ends (beat.D y) (on_link link.0 t) ≡ false → LeavesHeld block (link, beat.D y) t
+    → is_grant y.opcode ≡ grant → grant && ends (Beat.D y) (on_link link.0 t) ≡ false
+    → LeavesHeld block (link, Beat.D y) t
 granted-leaves block link y t true is goes_on =
-    held-kept block (beat.D y) (on_link link.0 t) (λ over. true_false (sym over ∙ goes_on))
+    held-kept block (Beat.D y) (on_link link.0 t) (λ over. true_false (sym over ∙ goes_on))
 granted-leaves block link y t false is e = response-leaves block link y t (rw is refl)
 
 -- the other beats leave it
 pub held-left : {w : ℕ} (block : ℕ) (link : Link) (x : Beat w) (t : Trace w)
     → changes_held x (on_link link.0 t) ≡ false → LeavesHeld block (link, x) t
-held-left block link (beat.A y) t e = request-leaves block link y t
-held-left block link (beat.B y) t e = held-kept block (beat.B y) (on_link link.0 t) (λ over. refl)
-held-left block link (beat.C y) t goes_on =
-    held-kept block (beat.C y) (on_link link.0 t) (λ over. true_false (sym over ∙ goes_on))
-held-left block link (beat.D y) t e = granted-leaves block link y t (is_grant y.opcode) refl e
-held-left block link (beat.E y) t e = held-kept block (beat.E y) (on_link link.0 t) (λ over. refl)
+held-left block link (Beat.A y) t e = request-leaves block link y t
+held-left block link (Beat.B y) t e = held-kept block (Beat.B y) (on_link link.0 t) (λ over. refl)
+held-left block link (Beat.C y) t goes_on =
+    held-kept block (Beat.C y) (on_link link.0 t) (λ over. true_false (sym over ∙ goes_on))
+held-left block link (Beat.D y) t e = granted-leaves block link y t (is_grant y.opcode) refl e
+held-left block link (Beat.E y) t e = held-kept block (Beat.E y) (on_link link.0 t) (λ over. refl)
 
 -- ---- which beats they are
 
@@ -102,19 +89,16 @@ none-before n [] e = rw e refl
 none-before n (x ∷ burst) e = ne_eqb n 0 (λ none. absurd (omega (arith, e, none)))
 
 -- beats of the other channels all do
-pub others-pass : {w : ℕ} (x : Beat w) (past : History w) → ((y : BeatA w) → x ≡ beat.A y → ⊥)
-    → ((y : BeatC w) → x ≡ beat.C y → ⊥) → ((y : BeatD w) → x ≡ beat.D y → ⊥) → true ≡ passes_by x past
-others-pass (beat.A y) past a c d = absurd (a y refl)
-others-pass (beat.B y) past a c d = refl
-others-pass (beat.C y) past a c d = absurd (c y refl)
-others-pass (beat.D y) past a c d = absurd (d y refl)
-others-pass (beat.E y) past a c d = refl
+pub others-pass : {w : ℕ} (x : Beat w) (past : History w) → ((y : BeatA w) → x ≡ Beat.A y → ⊥)
+    → ((y : BeatC w) → x ≡ Beat.C y → ⊥) → ((y : BeatD w) → x ≡ Beat.D y → ⊥) → true ≡ passes_by x past
+others-pass (Beat.A y) past a c d = absurd (a y refl)
+others-pass (Beat.C y) past a c d = absurd (c y refl)
+others-pass (Beat.D y) past a c d = absurd (d y refl)
+others-pass v past a c d = refl
 
 -- and leave what is held
-pub others-hold : {w : ℕ} (x : Beat w) (past : History w) → ((y : BeatC w) → x ≡ beat.C y → ⊥)
-    → ((y : BeatD w) → x ≡ beat.D y → ⊥) → false ≡ changes_held x past
-others-hold (beat.A y) past c d = refl
-others-hold (beat.B y) past c d = refl
-others-hold (beat.C y) past c d = absurd (c y refl)
-others-hold (beat.D y) past c d = absurd (d y refl)
-others-hold (beat.E y) past c d = refl
+pub others-hold : {w : ℕ} (x : Beat w) (past : History w) → ((y : BeatC w) → x ≡ Beat.C y → ⊥)
+    → ((y : BeatD w) → x ≡ Beat.D y → ⊥) → false ≡ changes_held x past
+others-hold (Beat.C y) past c d = absurd (c y refl)
+others-hold (Beat.D y) past c d = absurd (d y refl)
+others-hold v past c d = refl

@@ -1,18 +1,14 @@
 -- The bytes of a message, by their places and one after another.
-use Rattle.std.proofs.Common.{◌≡◌, ℕ, suc, Bool, true, false, ◌+◌, ◌*◌, ◌/◌, ◌%◌, ◌^◌, ◌<◌, ◌≤◌, List, [], ◌∷◌}
-use Rattle.std.proofs.Common.{length, refl, sym, ap, ◌∙◌, arith, inl, inr, length-append, get_or, set}
+use Rattle.tl_memory.proofs.Imports.{Beat, bit, AreWide}
+use Rattle.std.proofs.Common.{◌≡◌, ℕ, suc, Bool, true, false, ◌+◌, ◌*◌, ◌/◌, ◌%◌, ◌^◌, ◌<◌, ◌≤◌, List, [], ◌∷◌, length}
+use Rattle.std.proofs.Common.{refl, sym, ap, ◌∙◌, arith, inl, inr, length-append, get_or, set}
 use Rattle.std.specs.Prelude.{if◌then◌else◌, ◌==◌, find, is_some, Option, Some, slice_index, unwrap_or}
 use Rattle.std.proofs.Math.Nat.{div-eq_of_lt, mod-lt, pow-le-pow_right}
 use Rattle.std.proofs.lemmas.Bool.{cases_eq, cases_lt, eq-eqb, ne_eqb}
-use Rattle.std.proofs.lemmas.List.{get_or_append_left, get_or-append_right}
-use Rattle.std.proofs.lemmas.Nat.{div-add-mod'}
-use Rattle.std.proofs.lemmas.Option.{slice_get-get_or}
-use Rattle.tl_beat.specs.declared.beat.Beat.{Beat}
-use Rattle.tl_burst.specs.statement.Burst.{bit}
+use Rattle.std.{proofs.lemmas.List.get_or_append_left, proofs.lemmas.List.get_or-append_right}
+use Rattle.std.{proofs.lemmas.Nat.div-add-mod', proofs.lemmas.Option.slice_get-get_or}
 use Rattle.tl_rules.specs.statement.Admission.{bytes_carried, is_spoiled, lanes_of}
-use Rattle.tl_bytes.specs.statement.Bytes.{carried_byte}
-use Rattle.tl_bytes.proofs.Brought.{in_beat, quotient}
-use Rattle.tl_memory.specs.statement.Known.{AreWide}
+use Rattle.tl_bytes.{specs.statement.Bytes.carried_byte, proofs.Brought.in_beat, proofs.Brought.quotient}
 
 pub wide-length : {w : ℕ} (burst : List (Beat w)) → AreWide burst → length (bytes_carried burst) ≡ w * length burst
 unfolding bytes_carried

@@ -1,22 +1,15 @@
 -- What a Put leaves in its block.
+use Rattle.tl_memory.proofs.Imports.{OpA, a_carries_data, IsWidth, MessageA, bit, base_of, base_in_memory, Access}
+use Rattle.tl_memory.proofs.Imports.{access_writes, writes, is_put}
 use Rattle.std.proofs.Common.{◌≡◌, ℕ, Bool, true, false, ◌+◌, ◌-◌, ◌*◌, ◌/◌, ◌<◌, ◌≤◌, List, length, refl, sym, ap, ◌∙◌}
 use Rattle.std.proofs.Common.{arith, inl, inr}
 use Rattle.std.specs.Prelude.{if◌then◌else◌, is_some, None, Option, Some, nat_le, slice_get, slice_index, unwrap_or}
 use Rattle.std.proofs.lemmas.Bool.{cases_lt, lt-leb}
 use Rattle.std.proofs.lemmas.Option.{slice_get-get_or, slice_get_within}
-use Rattle.tl_beat.specs.declared.opcode.OpA.{OpA}
-use Rattle.tl_beat.specs.declared.opcode.OpA.TheVariants as a
-use Rattle.tl_beat.specs.statement.Opcode.{a_carries_data}
-use Rattle.tl_beat.specs.statement.Width.{IsWidth}
-use Rattle.tl_burst.specs.declared.message.Message.TheVariants as message
-use Rattle.tl_burst.specs.declared.message.MessageA.{MessageA}
-use Rattle.tl_burst.specs.statement.Burst.{bit, byte_at, byte_if, place_of}
-use Rattle.tl_rules.specs.code.Place.{base_of, moved_up}
+use Rattle.tl_burst.specs.declared.message.Message.{Message}
+use Rattle.tl_burst.specs.statement.Burst.{byte_at, byte_if, place_of}
+use Rattle.tl_rules.{specs.code.Place.moved_up, proofs.Blocks.moved_byte}
 use Rattle.tl_rules.specs.statement.Effect.{Memory, after, effect}
-use Rattle.tl_rules.proofs.Blocks.{moved_byte}
-use Rattle.tl_rules.proofs.Rooms.{base_in_memory}
-use Rattle.tl_bytes.specs.statement.Bytes.{Access, access_writes, writes}
-use Rattle.tl_memory.specs.statement.Known.{is_put}
 
 -- the byte that a message has at an address, where it has one
 pub record HasByte (payload : List ℕ) (o : Option ℕ) (found : Option ℕ) : Type 0 where
@@ -58,25 +51,18 @@ placed base x q e = elim (cases_lt x base) [
     same false e = absurd cc
 
 pub put_is : {w : ℕ} (op : OpA) (m : MessageA w) (memory : Memory) (x : ℕ) → is_put op ≡ true → writes op m x ≡ true
-    → (is_some (byte_at 0 (message.A m) x) ≡ true)
-    × (after op m memory x ≡ unwrap_or (byte_at 0 (message.A m) x) (memory x))
-put_is a.PutFullData m memory x e written = (written, refl)
-put_is a.PutPartialData m memory x e written = (written, refl)
-put_is a.ArithmeticData m memory x e written = absurd cc
-put_is a.LogicalData m memory x e written = absurd cc
-put_is a.Get m memory x e written = absurd cc
-put_is a.Intent m memory x e written = absurd cc
-put_is a.AcquireBlock m memory x e written = absurd cc
-put_is a.AcquirePerm m memory x e written = absurd cc
+    → (is_some (byte_at 0 (Message.A m) x) ≡ true)
+    × (after op m memory x ≡ unwrap_or (byte_at 0 (Message.A m) x) (memory x))
+put_is OpA.PutFullData m memory x e written = (written, refl)
+put_is OpA.PutPartialData m memory x e written = (written, refl)
+put_is v m memory x e written = absurd cc
 
 -- a Put's payload, moved to its place in the block, has what it writes there
 pub put-leaves : {w : ℕ} (access : Access w) (payload moved : List ℕ) (base p : ℕ) (memory : Memory) → IsWidth w
-    → is_put access.request.opcode ≡ true → base ≡ base_of w access.request.address
-    → moved ≡ moved_up base payload
+    → is_put access.request.opcode ≡ true → base ≡ base_of w access.request.address → moved ≡ moved_up base payload
     → ((q : ℕ) → q < length access.request.payload → slice_index payload q ≡ slice_index access.request.payload q)
     → p < 64 → access_writes (64 * (access.request.address / 64) + p) access ≡ true
-    → slice_index moved p
-    ≡ (effect (message.A access.request) memory).0 (64 * (access.request.address / 64) + p)
+    → slice_index moved p ≡ (effect (Message.A access.request) memory).0 (64 * (access.request.address / 64) + p)
 unfolding effect
 put-leaves {w} access payload moved base p memory is put base_is moved_is same lt written =
     let m = access.request in
@@ -92,11 +78,6 @@ put-leaves {w} access payload moved base p memory is put base_is moved_is same l
     ∙ same has.place has.inside ∙ sym (is_put_of.1 ∙ ap (λ o. unwrap_or o (memory x)) has.value)
 
 pub put-carries : (op : OpA) → is_put op ≡ true → a_carries_data op ≡ true
-put-carries a.PutFullData e = refl
-put-carries a.PutPartialData e = refl
-put-carries a.ArithmeticData e = absurd cc
-put-carries a.LogicalData e = absurd cc
-put-carries a.Get e = absurd cc
-put-carries a.Intent e = absurd cc
-put-carries a.AcquireBlock e = absurd cc
-put-carries a.AcquirePerm e = absurd cc
+put-carries OpA.PutFullData e = refl
+put-carries OpA.PutPartialData e = refl
+put-carries v e = absurd cc

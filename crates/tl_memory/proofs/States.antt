@@ -1,38 +1,24 @@
 -- What is known of the state of a block, from what is known of its parts.
-use Rattle.std.proofs.Common.{◌≡◌, ℕ, suc, Bool, true, false, not, ◌&&◌, ◌+◌, ◌-◌, ◌*◌, ◌/◌, ◌≤◌, List, [], ◌∷◌}
-use Rattle.std.proofs.Common.{length, refl, sym, subst, ◌∙◌, arith, inl, inr}
+use Rattle.tl_memory.proofs.Imports.{Beat, BeatA, BeatD, Link, a_carries_data, Trace, on_link, block_at, is_free}
+use Rattle.tl_memory.proofs.Imports.{Access, asked_by, ends_request, pending_accesses, KnowsBlock, may_bring, WritesNot}
+use Rattle.tl_memory.proofs.Imports.{AreRenewed, keeps, nothing, staying, BlockState, Expected, PendingAccess, Writer}
+use Rattle.tl_memory.proofs.Imports.{AnyIsTo, AreKnown, Expects, IsAsked, is_to, KnowsAccess, KnowsAccesses, KnowsState}
+use Rattle.tl_memory.proofs.Imports.{WritesInside}
+use Rattle.std.proofs.Common.{◌≡◌, ℕ, suc, Bool, true, false, not, ◌&&◌, ◌+◌, ◌-◌, ◌*◌, ◌/◌, ◌≤◌, List, [], ◌∷◌, length}
+use Rattle.std.proofs.Common.{refl, sym, subst, ◌∙◌, arith, inl, inr}
 use Rattle.std.specs.Prelude.{filter, if◌then◌else◌, None, Option, Some}
 use Rattle.std.proofs.lemmas.Bool.{cases_Bool, eq-eqb, eqb-true}
 use Rattle.std.proofs.Math.Nat.{mul-suc}
-use Rattle.tl_beat.specs.declared.beat.Beat.{Beat}
-use Rattle.tl_beat.specs.declared.beat.Beat.TheVariants as beat
-use Rattle.tl_beat.specs.declared.beat.BeatA.{BeatA}
-use Rattle.tl_beat.specs.declared.beat.BeatD.{BeatD}
-use Rattle.tl_beat.specs.declared.beat.Link.{Link}
-use Rattle.tl_beat.specs.statement.Opcode.{a_carries_data}
-use Rattle.tl_params.specs.declared.perm.Perm.TheVariants as perm
-use Rattle.tl_rules.specs.statement.Conformance.{Trace, on_link}
-use Rattle.tl_rules.specs.statement.History.{block_at}
-use Rattle.tl_rules.specs.statement.Windows.{is_free}
-use Rattle.tl_bytes.specs.declared.windows.WritingWindows.{WritingWindows}
-use Rattle.tl_bytes.specs.declared.write.Write.{Write}
-use Rattle.tl_bytes.specs.statement.Bytes.{Access, asked_by, ends_request, last_window}
-use Rattle.tl_bytes.specs.statement.Bytes.{pending_accesses, window_began}
-use Rattle.tl_bytes.specs.statement.Bytes.{windows_since}
-use Rattle.tl_bytes.specs.statement.Known.{count_of, IsWrite, KnowsBlock, KnowsRead, KnowsWindows, may_bring}
-use Rattle.tl_bytes.proofs.Since.{closed_after}
-use Rattle.tl_memory.specs.code.Elsewhere.{WritesNot}
-use Rattle.tl_memory.specs.code.Writers.{AreRenewed, AreWatched, keeps, nothing, staying, told_by, written_by}
-use Rattle.tl_memory.specs.declared.access.Asked.{Asked}
-use Rattle.tl_memory.specs.declared.block.BlockState.{BlockState}
-use Rattle.tl_memory.specs.declared.expected.Expected.{Expected}
-use Rattle.tl_memory.specs.declared.pending.PendingAccess.{PendingAccess}
-use Rattle.tl_memory.specs.declared.writer.Writer.{Writer}
-use Rattle.tl_memory.specs.statement.Known.{AnyIsTo, AreKnown, Expects, IsAsked, IsLawful, IsPendingWrite}
-use Rattle.tl_memory.specs.statement.Known.{is_to, KnowsAccess, KnowsAccesses, KnowsState, WritesInside}
+use Rattle.tl_params.specs.declared.perm.Perm.{Perm}
+use Rattle.tl_bytes.{specs.declared.windows.WritingWindows.WritingWindows, specs.declared.write.Write.Write}
+use Rattle.tl_bytes.{proofs.Since.closed_after}
+use Rattle.tl_bytes.specs.statement.Bytes.{last_window, window_began, windows_since}
+use Rattle.tl_bytes.specs.statement.Known.{count_of, IsWrite, KnowsRead, KnowsWindows}
+use Rattle.tl_memory.specs.code.Writers.{AreWatched, told_by, written_by}
+use Rattle.tl_memory.{specs.declared.access.Asked.Asked, specs.statement.Known.IsLawful}
+use Rattle.tl_memory.{specs.statement.Known.IsPendingWrite, proofs.Writing.no_data}
 use Rattle.tl_memory.proofs.Elsewhere.{free-first, last-kept, windows-kept}
 use Rattle.tl_memory.proofs.Growing.{quiet-all, told-grows, written-each}
-use Rattle.tl_memory.proofs.Writing.{no_data}
 use Rattle.tl_memory.proofs.Keeping.{asked-more, copied-each, IsFound, keeps-all, nothing-more, renewed-all}
 use Rattle.tl_memory.proofs.Keeping.{watched-each}
 
@@ -53,10 +39,8 @@ state-first {w} s n block bytes none free = record {
 -- ---- the access with a source on a link
 
 pub is-found : {w : ℕ} (p : PendingAccess w) (q : Option (PendingAccess w)) (n block : ℕ) (o : Option (Access w))
-    (seen t : Trace w)
-    → Some p ≡ q → IsFound q n block o seen t → AnyIsTo block o
-    → (access : Access w) × (o ≡ Some access) × KnowsAccess p n block access seen t
-    × (block ≡ access.request.address / 64)
+    (seen t : Trace w) → Some p ≡ q → IsFound q n block o seen t → AnyIsTo block o → (access : Access w)
+    × (o ≡ Some access) × KnowsAccess p n block access seen t × (block ≡ access.request.address / 64)
 is-found p None n block o seen t e found to = absurd cc
 is-found p (Some q) n block None seen t e found to = absurd found
 is-found p (Some q) n block (Some access) seen t e found to =
@@ -75,8 +59,7 @@ pub expects-none : {w : ℕ} (n block : ℕ) (o : Option (Access w)) (t : Trace 
 expects-none n block o t none = rw none tt
 
 pub expects-some : {w : ℕ} (expected : Expected) (p : PendingAccess w) (n block : ℕ) (access : Access w)
-    (o : Option (Access w)) (t : Trace w)
-    → o ≡ Some access → KnowsAccess p n block access t t
+    (o : Option (Access w)) (t : Trace w) → o ≡ Some access → KnowsAccess p n block access t t
     → expected.address ≡ p.writer.asked.request.address → expected.size ≡ p.writer.asked.request.size
     → ((place byte : ℕ) → may_bring expected.bytes place byte ≡ may_bring p.read place byte)
     → Expects (Some expected) n block o t
@@ -90,11 +73,9 @@ expects-some expected p n block access o t found k address size same = rw found 
 
 -- with these bytes, where some accesses are gone, or none
 pub told-state : {w : ℕ} (s old : BlockState w) (n block : ℕ) (gone : Option (Link × ℕ))
-    (copies : List (PendingAccess w)) (x : Link × Beat w) (t : Trace w)
-    → KnowsState old n block t t → KnowsBlock s.bytes n block (x ∷ t)
-    → pending_accesses (x ∷ t) ≡ filter (keeps gone) (pending_accesses t)
-    → AreRenewed nothing (staying gone old.accesses.items) copies
-    → AreRenewed (told_by s.bytes) copies s.accesses.items
+    (copies : List (PendingAccess w)) (x : Link × Beat w) (t : Trace w) → KnowsState old n block t t
+    → KnowsBlock s.bytes n block (x ∷ t) → pending_accesses (x ∷ t) ≡ filter (keeps gone) (pending_accesses t)
+    → AreRenewed nothing (staying gone old.accesses.items) copies → AreRenewed (told_by s.bytes) copies s.accesses.items
     → s.free ≡ old.free → s.last_free ≡ old.last_free → KnowsState s n block t (x ∷ t)
 told-state s old n block gone copies x t k bytes stay copied renewed free last = record {
   bytes_are = bytes;
@@ -106,11 +87,10 @@ told-state s old n block gone copies x t k bytes stay copied renewed free last =
 
 -- with the same bytes
 pub quiet-state : {w : ℕ} (s old : BlockState w) (n block : ℕ) (gone : Option (Link × ℕ)) (x : Link × Beat w)
-    (t : Trace w)
-    → KnowsState old n block t t → KnowsBlock old.bytes n block (x ∷ t)
+    (t : Trace w) → KnowsState old n block t t → KnowsBlock old.bytes n block (x ∷ t)
     → pending_accesses (x ∷ t) ≡ filter (keeps gone) (pending_accesses t)
-    → AreRenewed nothing (staying gone old.accesses.items) s.accesses.items → s.bytes ≡ old.bytes
-    → s.free ≡ old.free → s.last_free ≡ old.last_free → KnowsState s n block t (x ∷ t)
+    → AreRenewed nothing (staying gone old.accesses.items) s.accesses.items → s.bytes ≡ old.bytes → s.free ≡ old.free
+    → s.last_free ≡ old.last_free → KnowsState s n block t (x ∷ t)
 quiet-state s old n block gone x t k bytes stay copied same free last = record {
   bytes_are = rw same bytes;
   accesses_are = quiet-all n block gone old.bytes x t old.accesses.items s.accesses.items k.bytes_are bytes
@@ -131,7 +111,7 @@ pub reads-only : {w : ℕ} (address : ℕ) (o : Option (Access w)) (access : Acc
 reads-only address o access found none = rw found (no_data access.request.opcode access.request address none)
 
 pub pending-answered : {w : ℕ} (link : Link) (y : BeatD w) (t : Trace w) → ends_request y (on_link link.0 t) ≡ true
-    → pending_accesses ((link, beat.D y) ∷ t) ≡ filter (keeps (Some (link, y.source))) (pending_accesses t)
+    → pending_accesses ((link, Beat.D y) ∷ t) ≡ filter (keeps (Some (link, y.source))) (pending_accesses t)
 unfolding pending_accesses
 pending-answered link y t over = rw over refl
 
@@ -139,7 +119,7 @@ pending-answered link y t over = rw over refl
 
 -- the last moment at which it was free, where it is so no longer
 pub last-closed : {w : ℕ} (n block last : ℕ) (x : Link × Beat w) (t : Trace w)
-    → is_free n None perm.Trunk block t ≡ true → false ≡ is_free n None perm.Trunk block (x ∷ t) → last ≡ length t
+    → is_free n None Perm.Trunk block t ≡ true → false ≡ is_free n None Perm.Trunk block (x ∷ t) → last ≡ length t
     → last ≡ last_window n block (x ∷ t)
 last-closed n block last x t was closed now =
     (closed_after (record {
@@ -155,22 +135,19 @@ last-closed n block last x t was closed now =
     }) (omega arith) refl closed now).last_is refl
 
 pub last-watched : {w : ℕ} (old : BlockState w) (n block moment : ℕ) (free : Bool) (x : Link × Beat w) (t : Trace w)
-    → KnowsState old n block t (x ∷ t) → free ≡ is_free n None perm.Trunk block (x ∷ t) → moment ≡ length (x ∷ t)
-    → free ≡ false
-    → (if old.free && not free then moment - 1 else old.last_free) ≡ last_window n block (x ∷ t)
+    → KnowsState old n block t (x ∷ t) → free ≡ is_free n None Perm.Trunk block (x ∷ t) → moment ≡ length (x ∷ t)
+    → free ≡ false → (if old.free && not free then moment - 1 else old.last_free) ≡ last_window n block (x ∷ t)
 unfolding last_window
 last-watched old n block moment free x t k is now off = elim (cases_Bool old.free) [
-  | inl was ↦
-      rw (off, was) (last-closed n block (moment - 1) x t (sym k.free_is ∙ was) (sym off ∙ is)
+  | inl was ↦ rw (off, was) (last-closed n block (moment - 1) x t (sym k.free_is ∙ was) (sym off ∙ is)
       (omega (arith, now)))
   | inr was ↦ rw (was) (k.last_is was ∙ sym (rw (sym is ∙ off) refl))
 ]
 
 pub watched-state : {w : ℕ} (s old : BlockState w) (n block moment : ℕ) (x : Link × Beat w) (t : Trace w)
     → KnowsState old n block t (x ∷ t) → s.bytes ≡ old.bytes
-    → AreWatched s.free moment old.accesses.items s.accesses.items
-    → s.free ≡ is_free n None perm.Trunk block (x ∷ t) → moment ≡ length (x ∷ t)
-    → s.last_free ≡ (if old.free && not s.free then moment - 1 else old.last_free)
+    → AreWatched s.free moment old.accesses.items s.accesses.items → s.free ≡ is_free n None Perm.Trunk block (x ∷ t)
+    → moment ≡ length (x ∷ t) → s.last_free ≡ (if old.free && not s.free then moment - 1 else old.last_free)
     → KnowsState s n block (x ∷ t) (x ∷ t)
 watched-state s old n block moment x t k bytes watched free now ended = record {
   bytes_are = rw bytes k.bytes_are;
@@ -191,11 +168,10 @@ asked-write write block access e k = rw e at k
 
 -- what is kept of an access whose request is complete
 pub asked-access : {w : ℕ} (first : PendingAccess w) (writer : Writer w) (windows : WritingWindows) (n block : ℕ)
-    (access : Access w) (x : Link × Beat w) (t : Trace w)
-    → first.writer ≡ writer → first.windows ≡ windows → IsAsked writer.asked access → IsLawful access
-    → IsPendingWrite writer.write block access → access.asked ≡ suc (length t)
-    → KnowsWindows windows n block writer.asked.moment (x ∷ t) → KnowsRead first.read n block access (x ∷ t)
-    → KnowsAccess first n block access (x ∷ t) (x ∷ t)
+    (access : Access w) (x : Link × Beat w) (t : Trace w) → first.writer ≡ writer → first.windows ≡ windows
+    → IsAsked writer.asked access → IsLawful access → IsPendingWrite writer.write block access
+    → access.asked ≡ suc (length t) → KnowsWindows windows n block writer.asked.moment (x ∷ t)
+    → KnowsRead first.read n block access (x ∷ t) → KnowsAccess first n block access (x ∷ t) (x ∷ t)
 asked-access first writer windows n block access x t same same_windows asked lawful write now known read = record {
   asked_is = rw same asked;
   lawful = lawful;
@@ -216,15 +192,13 @@ own-write writer first same p v = rw (
 
 pub asked-state : {w : ℕ} (s old : BlockState w) (n block : ℕ) (writer : Writer w) (first : PendingAccess w)
     (one copies more : List (PendingAccess w)) (access : Access w) (x : Link × Beat w) (t : Trace w)
-    → KnowsState old n block t t → pending_accesses (x ∷ t) ≡ access ∷ pending_accesses t
-    → is_to block access ≡ true → WritesInside access → IsAsked writer.asked access
-    → IsPendingWrite writer.write block access
-    → is_free n None perm.Trunk block (x ∷ t) ≡ is_free n None perm.Trunk block t
-    → KnowsBlock s.bytes n block t → KnowsBlock s.bytes n block (x ∷ t)
-    → KnowsAccess first n block access (x ∷ t) (x ∷ t) → first.writer ≡ writer
+    → KnowsState old n block t t → pending_accesses (x ∷ t) ≡ access ∷ pending_accesses t → is_to block access ≡ true
+    → WritesInside access → IsAsked writer.asked access → IsPendingWrite writer.write block access
+    → is_free n None Perm.Trunk block (x ∷ t) ≡ is_free n None Perm.Trunk block t → KnowsBlock s.bytes n block t
+    → KnowsBlock s.bytes n block (x ∷ t) → KnowsAccess first n block access (x ∷ t) (x ∷ t) → first.writer ≡ writer
     → one ≡ old.accesses.items → AreRenewed nothing (staying None one) more → copies ≡ first ∷ more
-    → AreRenewed (written_by writer) copies s.accesses.items
-    → s.free ≡ old.free → s.last_free ≡ old.last_free → KnowsState s n block (x ∷ t) (x ∷ t)
+    → AreRenewed (written_by writer) copies s.accesses.items → s.free ≡ old.free → s.last_free ≡ old.last_free
+    → KnowsState s n block (x ∷ t) (x ∷ t)
 asked-state {w} s old n block writer first one copies more access x t k pending to inside asked write same before bytes
     known is_first is_old copied items renewed free last = record {
       bytes_are = bytes;
@@ -235,18 +209,16 @@ asked-state {w} s old n block writer first one copies more access x t k pending 
     }
   where
     others : AreKnown more n block (filter (is_to block) (pending_accesses t)) t t
-    others = subst (λ l. AreKnown more n block l t t) (sym (keeps-all
-        (filter (is_to block) (pending_accesses t))))
-        (copied-each n block t t None old.accesses.items more
-        (filter (is_to block) (pending_accesses t)) k.accesses_are.accesses_are (rw is_old at copied))
+    others = subst (λ l. AreKnown more n block l t t) (sym (keeps-all (filter (is_to block) (pending_accesses t))))
+        (copied-each n block t t None old.accesses.items more (filter (is_to block) (pending_accesses t))
+        k.accesses_are.accesses_are (rw is_old at copied))
 
     all : (new : List (PendingAccess w)) → AreRenewed (written_by writer) (first ∷ more) new
         → KnowsAccesses new n block (x ∷ t) (x ∷ t)
     all [] r = absurd r
     all (z ∷ rest) r = asked-more n block z rest access x t pending to inside k.accesses_are.inside
         (nothing-more n block (x ∷ t) (x ∷ t) (written_by writer) first z access r.0 (own-write writer first is_first)
-        known)
-        (windows-kept n block rest (filter (is_to block) (pending_accesses t)) x t same
+        known) (windows-kept n block rest (filter (is_to block) (pending_accesses t)) x t same
         (written-each n block s.bytes writer access x t more rest before bytes pending asked write others r.1))
 
 -- the access that was asked for at a moment

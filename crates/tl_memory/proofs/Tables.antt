@@ -1,43 +1,28 @@
 -- What is known of the table of blocks, with one more state or one more beat.
+use Rattle.tl_memory.proofs.Imports.{Beat, Link, Trace, is_free, pending_accesses, PassesBy, BlockState, KnowsState}
 use Rattle.std.proofs.Common.{◌≡◌, ◌<◌, ℕ, zero, suc, Bool, true, false, [], ◌∷◌, ◌++◌, List, length, refl, sym, ap}
 use Rattle.std.proofs.Common.{◌∙◌, ◌⊎◌, arith, inl, inr, length-append}
 use Rattle.std.specs.Prelude.{if◌then◌else◌, None, Option, slice_get, slice_set, Some, ◌==◌}
-use Rattle.std.specs.BTreeMap.{get, is_at}
-use Rattle.std.specs.Map.{lookup}
-use Rattle.std.specs.Ordering.{nat_cmp}
+use Rattle.std.{specs.BTreeMap.get, specs.BTreeMap.is_at, specs.Map.lookup, specs.Ordering.nat_cmp}
+use Rattle.std.{proofs.lemmas.List.length-set, proofs.lemmas.Option.none-some, proofs.lemmas.Option.same_Some}
 use Rattle.std.proofs.lemmas.Bool.{cases_Bool, eq-eqb, eqb-true}
-use Rattle.std.proofs.lemmas.List.{length-set}
-use Rattle.std.proofs.lemmas.Option.{none-some, same_Some}
-use Rattle.tl_beat.specs.declared.beat.Beat.{Beat}
-use Rattle.tl_beat.specs.declared.beat.Link.{Link}
-use Rattle.tl_params.specs.declared.perm.Perm.TheVariants as perm
-use Rattle.tl_rules.specs.statement.Conformance.{Trace}
-use Rattle.tl_rules.specs.statement.Windows.{is_free}
-use Rattle.tl_bytes.specs.statement.Bytes.{pending_accesses}
-use Rattle.tl_memory.specs.code.Elsewhere.{PassesBy}
-use Rattle.tl_memory.specs.code.Taking.{IsNext, put_next}
-use Rattle.tl_memory.specs.declared.block.BlockState.{BlockState}
-use Rattle.tl_memory.specs.declared.block.NextState.{NextState}
-use Rattle.tl_memory.specs.declared.blocks.Blocks.{Blocks}
+use Rattle.tl_params.specs.declared.perm.Perm.{Perm}
+use Rattle.tl_memory.{specs.code.Taking.IsNext, specs.code.Taking.put_next, specs.declared.block.NextState.NextState}
+use Rattle.tl_memory.{specs.declared.blocks.Blocks.Blocks, proofs.Bearing.stays, proofs.Elsewhere.elsewhere-kept}
 use Rattle.tl_memory.specs.statement.Blocks.{KnowsBlocks, KnowsKept, place_in, state_at, state_in}
-use Rattle.tl_memory.specs.statement.Known.{KnowsState}
-use Rattle.tl_memory.proofs.Bearing.{stays}
-use Rattle.tl_memory.proofs.Elsewhere.{elsewhere-kept}
 
 -- ---- one state
 
 -- the next state, or the one that stays, whose freedom isn't seen yet
 pub next-seen : {w : ℕ} (old : BlockState w) (next : Option (NextState w)) (free : Bool) (n block : ℕ)
-    (x : Link × Beat w) (t : Trace w)
-    → KnowsState old n block t t → IsNext next (Some free) old n block x t
-    → KnowsState (put_next old next) n block t (x ∷ t) × (free ≡ is_free n None perm.Trunk block (x ∷ t))
+    (x : Link × Beat w) (t : Trace w) → KnowsState old n block t t → IsNext next (Some free) old n block x t
+    → KnowsState (put_next old next) n block t (x ∷ t) × (free ≡ is_free n None Perm.Trunk block (x ∷ t))
 next-seen old None free n block x t k is = (elsewhere-kept old n block x t is.0 k, is.1)
 next-seen old (Some s) free n block x t k is = is
 
 -- or is seen
 pub next-whole : {w : ℕ} (old : BlockState w) (next : Option (NextState w)) (n block : ℕ) (x : Link × Beat w)
-    (t : Trace w)
-    → KnowsState old n block t t → IsNext next None old n block x t
+    (t : Trace w) → KnowsState old n block t t → IsNext next None old n block x t
     → KnowsState (put_next old next) n block (x ∷ t) (x ∷ t)
 next-whole old None n block x t k is = stays old n block x t is k
 next-whole old (Some s) n block x t k is = is
@@ -78,10 +63,8 @@ some-kept o s n block t is known = rw is at known
 
 -- with a beat that bears on one block
 kept-taken : {w : ℕ} (s next : BlockState w) (old new : Option (BlockState w)) (n block k : ℕ) (x : Link × Beat w)
-    (t : Trace w)
-    → (k ≡ block → old ≡ Some s) → new ≡ (if k == block then Some next else old)
-    → (KnowsState s n block t t → KnowsState next n block (x ∷ t) (x ∷ t))
-    → ((k == block) ≡ false → PassesBy k x t)
+    (t : Trace w) → (k ≡ block → old ≡ Some s) → new ≡ (if k == block then Some next else old)
+    → (KnowsState s n block t t → KnowsState next n block (x ∷ t) (x ∷ t)) → ((k == block) ≡ false → PassesBy k x t)
     → KnowsKept old n k t → KnowsKept new n k (x ∷ t)
 kept-taken s next old new n block k x t there is taken passes known = elim (cases_Bool (k == block)) [
   | inl here ↦
@@ -106,13 +89,10 @@ set-own [] i y lt = absurd (omega (arith, lt))
 set-own (x ∷ xs) zero y lt = refl
 set-own (x ∷ xs) (suc i) y lt = set-own xs i y (omega (arith, lt))
 
-set-other : {X : Type 0} (xs : List X) (i k : ℕ) (y : X) → (k ≡ i → ⊥)
-    → slice_get (slice_set xs i y) k ≡ slice_get xs k
-set-other [] i k y other = refl
+set-other : {X : Type 0} (xs : List X) (i k : ℕ) (y : X) → (k ≡ i → ⊥) → slice_get (slice_set xs i y) k ≡ slice_get xs k
 set-other (x ∷ xs) zero zero y other = absurd (other refl)
-set-other (x ∷ xs) zero (suc k) y other = refl
-set-other (x ∷ xs) (suc i) zero y other = refl
 set-other (x ∷ xs) (suc i) (suc k) y other = set-other xs i k y (λ e. other (ap suc e))
+set-other v u z y other = refl
 
 -- where the same states stand at the places of a block
 state-same : {w : ℕ} (b new : Blocks w) (o : Option ℕ)
@@ -124,10 +104,8 @@ state-same b new (Some place) same = same place refl
 -- with the state of a block that had none
 pub blocks-more : {w : ℕ} (b new : Blocks w) (s : BlockState w) (n block : ℕ) (t : Trace w)
     → new.states.items ≡ b.states.items ++ s ∷ []
-    → ((other : ℕ) → place_in new other
-    ≡ (if other == block then Some (length b.states.items) else place_in b other))
-    → new.last ≡ b.last → place_in b block ≡ None → KnowsState s n block [] []
-    → KnowsBlocks b n t → KnowsBlocks new n t
+    → ((other : ℕ) → place_in new other ≡ (if other == block then Some (length b.states.items) else place_in b other))
+    → new.last ≡ b.last → place_in b block ≡ None → KnowsState s n block [] [] → KnowsBlocks b n t → KnowsBlocks new n t
 blocks-more {w} b new s n block t items places last unmet first k = record {
   table_is = record {
     stand = λ other place e. elim (placed other place e) [
@@ -211,12 +189,10 @@ blocks-met b n block place t met k = record {
 -- ---- one more beat
 
 pub blocks-taken : {w : ℕ} (b new : Blocks w) (s next : BlockState w) (n block place : ℕ) (x : Link × Beat w)
-    (t : Trace w)
-    → new.states.items ≡ slice_set b.states.items place next → new.places ≡ b.places → new.last ≡ b.last
+    (t : Trace w) → new.states.items ≡ slice_set b.states.items place next → new.places ≡ b.places → new.last ≡ b.last
     → slice_get b.states.items place ≡ Some s → place_in b block ≡ Some place
     → (KnowsState s n block t t → KnowsState next n block (x ∷ t) (x ∷ t))
-    → ((other : ℕ) → (other == block) ≡ false → PassesBy other x t)
-    → KnowsBlocks b n t → KnowsBlocks new n (x ∷ t)
+    → ((other : ℕ) → (other == block) ≡ false → PassesBy other x t) → KnowsBlocks b n t → KnowsBlocks new n (x ∷ t)
 blocks-taken b new s next n block place x t items places last found at taken passes k = record {
   table_is = record {
     stand = λ other p e. rw (items, length-set b.states.items place next)

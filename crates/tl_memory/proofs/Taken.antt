@@ -1,22 +1,11 @@
 -- What is known of the state of a block with a beat that bears on it.
+use Rattle.tl_memory.proofs.Imports.{Beat, BeatA, BeatC, BeatD, Link, History, open_request, Request, Trace, on_link}
+use Rattle.tl_memory.proofs.Imports.{is_release_ack, is_free, block_asked, block_borne, IsLegalBeat, IsResponse}
+use Rattle.tl_memory.proofs.Imports.{BlockState}
 use Rattle.std.proofs.Common.{◌≡◌, ℕ, Bool, true, false, ◌∷◌, refl, sym, ap, ◌∙◌}
 use Rattle.std.specs.Prelude.{if◌then◌else◌, Option, Some, None}
-use Rattle.tl_beat.specs.declared.beat.Beat.{Beat}
-use Rattle.tl_beat.specs.declared.beat.Beat.TheVariants as beat
-use Rattle.tl_beat.specs.declared.beat.BeatA.{BeatA}
-use Rattle.tl_beat.specs.declared.beat.BeatC.{BeatC}
-use Rattle.tl_beat.specs.declared.beat.BeatD.{BeatD}
-use Rattle.tl_beat.specs.declared.beat.Link.{Link}
-use Rattle.tl_burst.specs.statement.Messages.{History}
-use Rattle.tl_params.specs.declared.perm.Perm.TheVariants as perm
-use Rattle.tl_rules.specs.code.Open.{open_request}
-use Rattle.tl_rules.specs.declared.past.Request.{Request}
-use Rattle.tl_rules.specs.statement.Conformance.{Trace, on_link}
-use Rattle.tl_rules.specs.statement.History.{is_release_ack}
-use Rattle.tl_rules.specs.statement.Windows.{is_free}
-use Rattle.tl_memory.specs.code.Elsewhere.{block_asked, block_borne}
-use Rattle.tl_memory.specs.code.Taking.{IsLegalBeat, IsNext, IsResponse, IsSeen, with_next}
-use Rattle.tl_memory.specs.declared.block.BlockState.{BlockState}
+use Rattle.tl_params.specs.declared.perm.Perm.{Perm}
+use Rattle.tl_memory.specs.code.Taking.{IsNext, IsSeen, with_next}
 use Rattle.tl_memory.specs.declared.block.NextState.{NextState}
 use Rattle.tl_memory.proofs.Elsewhere.{free-kept, freedom-kept}
 
@@ -25,23 +14,21 @@ true_false e = absurd cc
 
 -- with a beat of channel A nothing is told of how free it is
 pub seen-request : {w : ℕ} (next : Option (NextState w)) (free : Option Bool) (s : BlockState w) (n block : ℕ)
-    (link : Link) (y : BeatA w) (t : Trace w)
-    → IsSeen free n block (link, beat.A y) t → IsNext next None s n block (link, beat.A y) t
-    → IsNext next free s n block (link, beat.A y) t
+    (link : Link) (y : BeatA w) (t : Trace w) → IsSeen free n block (link, Beat.A y) t
+    → IsNext next None s n block (link, Beat.A y) t → IsNext next free s n block (link, Beat.A y) t
 seen-request next None s n block link y t seen is = is
 seen-request next (Some f) s n block link y t seen is = true_false seen.0
 
 -- with one of another channel it is, or doesn't change
 pub seen-other : {w : ℕ} (next : Option (NextState w)) (free : Option Bool) (s : BlockState w) (n block : ℕ)
-    (x : Link × Beat w) (t : Trace w)
-    → IsSeen free n block x t
-    → ((f : Bool) → f ≡ is_free n None perm.Trunk block (x ∷ t) → IsNext next (Some f) s n block x t)
+    (x : Link × Beat w) (t : Trace w) → IsSeen free n block x t
+    → ((f : Bool) → f ≡ is_free n None Perm.Trunk block (x ∷ t) → IsNext next (Some f) s n block x t)
     → IsNext next free s n block x t
 seen-other None None s n block x t same is =
-    record { elsewhere = (is (is_free n None perm.Trunk block (x ∷ t)) refl).0; held_is = same }
+    record { elsewhere = (is (is_free n None Perm.Trunk block (x ∷ t)) refl).0; held_is = same }
 seen-other (Some next) None s n block x t same is =
     freedom-kept (with_next s next) n block x t (free-kept n block x t same)
-    (is (is_free n None perm.Trunk block (x ∷ t)) refl).0
+    (is (is_free n None Perm.Trunk block (x ∷ t)) refl).0
 seen-other next (Some f) s n block x t seen is = is f seen.1
 
 pub same-block : (k block : ℕ) → Some k ≡ Some block → k ≡ block
@@ -49,8 +36,8 @@ same-block k block e = cc
 
 -- the request that a response answers which bears on a block
 pub response-borne : {w : ℕ} (link : ℕ) (y : BeatD w) (asked : Option Request) (block : ℕ) (t : Trace w)
-    → IsLegalBeat link (beat.D y) t → asked ≡ open_request y.source (on_link link t)
-    → block_borne (beat.D y) (on_link link t) ≡ Some block
+    → IsLegalBeat link (Beat.D y) t → asked ≡ open_request y.source (on_link link t)
+    → block_borne (Beat.D y) (on_link link t) ≡ Some block
     → (one : Request) × (asked ≡ Some one) × IsResponse link y one t × (one.block ≡ block)
 response-borne {w} link y asked block t legal open' borne = go (is_release_ack y.opcode) refl borne
   where
@@ -81,11 +68,9 @@ none-open None one e f = absurd cc
 none-open (Some a) one e f = absurd cc
 
 -- beats of the other channels bear on none
-pub none-borne : {w : ℕ} {X : Type 0} (x : Beat w) (past : History w) (block : ℕ)
-    → ((y : BeatA w) → x ≡ beat.A y → ⊥) → ((y : BeatC w) → x ≡ beat.C y → ⊥)
-    → ((y : BeatD w) → x ≡ beat.D y → ⊥) → block_borne x past ≡ Some block → X
-none-borne (beat.A y) past block a c d borne = absurd (a y refl)
-none-borne (beat.C y) past block a c d borne = absurd (c y refl)
-none-borne (beat.D y) past block a c d borne = absurd (d y refl)
-none-borne (beat.B y) past block a c d borne = absurd cc
-none-borne (beat.E y) past block a c d borne = absurd cc
+pub none-borne : {w : ℕ} {X : Type 0} (x : Beat w) (past : History w) (block : ℕ) → ((y : BeatA w) → x ≡ Beat.A y → ⊥)
+    → ((y : BeatC w) → x ≡ Beat.C y → ⊥) → ((y : BeatD w) → x ≡ Beat.D y → ⊥) → block_borne x past ≡ Some block → X
+none-borne (Beat.A y) past block a c d borne = absurd (a y refl)
+none-borne (Beat.C y) past block a c d borne = absurd (c y refl)
+none-borne (Beat.D y) past block a c d borne = absurd (d y refl)
+none-borne v past block a c d borne = absurd cc

@@ -1,63 +1,51 @@
 -- What is known of a burst that isn't complete, where no beat of its link broke a rule.
-use Rattle.std.proofs.Common.{◌≡◌, ℕ, true, false, ◌+◌, ◌*◌, ◌<◌, ◌≤◌, List, [], ◌∷◌, length}
-use Rattle.std.proofs.Common.{refl, sym, ap, ◌∙◌, arith, inl, inr}
+use Rattle.tl_memory.proofs.Imports.{Beat, BeatA, a_carries_data, c_carries_data, IsWidth, History, breaks_burst}
+use Rattle.tl_memory.proofs.Imports.{burst_length, channel_of, grown, on, same_control, unfinished, control_a}
+use Rattle.tl_memory.proofs.Imports.{control_d, Level, Profile, AreTyped, IsTyped, broken_after, is_legal, is_small}
+use Rattle.tl_memory.proofs.Imports.{AreWide}
+use Rattle.std.proofs.Common.{◌≡◌, ℕ, true, false, ◌+◌, ◌*◌, ◌<◌, ◌≤◌, List, [], ◌∷◌, length, refl, sym, ap, ◌∙◌, arith}
+use Rattle.std.proofs.Common.{inl, inr}
 use Rattle.std.specs.Prelude.{IfSome, is_some, Option, Some, None, unwrap_or, ⊤}
 use Rattle.std.proofs.lemmas.Bool.{cases_Bool, cases_eq, eq-eqb, leb-true, ne_eqb, not-false}
-use Rattle.tl_beat.specs.declared.beat.Beat.{Beat}
-use Rattle.tl_beat.specs.declared.beat.Beat.TheVariants as beat
-use Rattle.tl_beat.specs.declared.beat.BeatA.{BeatA}
 use Rattle.tl_beat.specs.declared.channel.Channel.{Channel}
-use Rattle.tl_beat.specs.declared.channel.Channel.TheVariants as channel
-use Rattle.tl_beat.specs.statement.Opcode.{a_carries_data, b_carries_data, c_carries_data, d_carries_data}
-use Rattle.tl_beat.specs.statement.Width.{IsWidth}
-use Rattle.tl_burst.specs.statement.Messages.{History, breaks_burst, burst_length, channel_of, grown, on, same_control}
-use Rattle.tl_burst.specs.statement.Messages.{unfinished}
-use Rattle.tl_burst.proofs.ControlFields.{control_a, control_b, control_c, control_d}
-use Rattle.tl_burst.proofs.Bits.{earlier_place}
-use Rattle.tl_burst.proofs.Splitting.{some_data_beats}
-use Rattle.tl_params.specs.declared.level.Level.{Level}
-use Rattle.tl_params.specs.declared.profile.Profile.{Profile}
-use Rattle.tl_rules.specs.laws.Typed.{AreTyped, IsTyped}
-use Rattle.tl_rules.specs.statement.Conformance.{broken_after, is_legal}
-use Rattle.tl_rules.specs.statement.Legality.{illegal}
-use Rattle.tl_rules.proofs.Checks.{data_room}
-use Rattle.tl_rules.proofs.Widths.{width-bounds}
-use Rattle.tl_burst.specs.statement.Part.{is_small}
-use Rattle.tl_memory.specs.statement.Known.{AreWide, HasRoom}
+use Rattle.tl_beat.specs.statement.Opcode.{b_carries_data, d_carries_data}
+use Rattle.tl_burst.{proofs.ControlFields.control_b, proofs.ControlFields.control_c, proofs.Bits.earlier_place}
+use Rattle.tl_burst.{proofs.Splitting.some_data_beats}
+use Rattle.tl_rules.{specs.statement.Legality.illegal, proofs.Checks.data_room, proofs.Widths.width-bounds}
+use Rattle.tl_memory.{specs.statement.Known.HasRoom, proofs.Masks.positive}
 use Rattle.tl_memory.proofs.Lawful.{by_itself, goes_on, is-request, legal-parts, narrow, small}
-use Rattle.tl_memory.proofs.Masks.{positive}
 
 on-own : {w : ℕ} (ch : Channel) (x : Beat w) → on ch x ≡ true → channel_of x ≡ ch
-on-own channel.A (beat.A x) e = refl
-on-own channel.B (beat.B x) e = refl
-on-own channel.C (beat.C x) e = refl
-on-own channel.D (beat.D x) e = refl
-on-own channel.E (beat.E x) e = refl
+on-own Channel.A (Beat.A x) e = refl
+on-own Channel.B (Beat.B x) e = refl
+on-own Channel.C (Beat.C x) e = refl
+on-own Channel.D (Beat.D x) e = refl
+on-own Channel.E (Beat.E x) e = refl
 on-own _ _ e = absurd cc
 
 -- beats with the same control fields are of bursts of one length
 same_length : {w : ℕ} (x y : Beat w) → same_control x y ≡ true → burst_length x ≡ burst_length y
-same_length (beat.A x) (beat.A y) e = let c = control_a x y e in rw (c.0, c.2) refl
-same_length (beat.B x) (beat.B y) e = let c = control_b x y e in rw (c.0, c.2) refl
-same_length (beat.C x) (beat.C y) e = let c = control_c x y e in rw (c.0, c.2) refl
-same_length (beat.D x) (beat.D y) e = let c = control_d x y e in rw (c.0, c.2) refl
-same_length (beat.E x) (beat.E y) e = refl
+same_length (Beat.A x) (Beat.A y) e = let c = control_a x y e in rw (c.0, c.2) refl
+same_length (Beat.B x) (Beat.B y) e = let c = control_b x y e in rw (c.0, c.2) refl
+same_length (Beat.C x) (Beat.C y) e = let c = control_c x y e in rw (c.0, c.2) refl
+same_length (Beat.D x) (Beat.D y) e = let c = control_d x y e in rw (c.0, c.2) refl
+same_length (Beat.E x) (Beat.E y) e = refl
 same_length _ _ e = absurd cc
 
 some_beats : {w : ℕ} (x : Beat w) → IsWidth w → 0 < burst_length x
-some_beats {w} (beat.A x) is = some_data_beats w x.size (a_carries_data x.opcode) is
-some_beats {w} (beat.B x) is = some_data_beats w x.size (b_carries_data x.opcode) is
-some_beats {w} (beat.C x) is = some_data_beats w x.size (c_carries_data x.opcode) is
-some_beats {w} (beat.D x) is = some_data_beats w x.size (d_carries_data x.opcode) is
-some_beats (beat.E x) is = omega arith
+some_beats {w} (Beat.A x) is = some_data_beats w x.size (a_carries_data x.opcode) is
+some_beats {w} (Beat.B x) is = some_data_beats w x.size (b_carries_data x.opcode) is
+some_beats {w} (Beat.C x) is = some_data_beats w x.size (c_carries_data x.opcode) is
+some_beats {w} (Beat.D x) is = some_data_beats w x.size (d_carries_data x.opcode) is
+some_beats (Beat.E x) is = omega arith
 
 -- a block has room for its bytes
 burst_room : {w : ℕ} (x : Beat w) → IsWidth w → is_small x ≡ true → w * burst_length x ≤ 64
-burst_room {w} (beat.A x) is e = data_room w x.size (a_carries_data x.opcode) is (leb-true x.size 6 e)
-burst_room {w} (beat.B x) is e = data_room w x.size (b_carries_data x.opcode) is (leb-true x.size 6 e)
-burst_room {w} (beat.C x) is e = data_room w x.size (c_carries_data x.opcode) is (leb-true x.size 6 e)
-burst_room {w} (beat.D x) is e = data_room w x.size (d_carries_data x.opcode) is (leb-true x.size 6 e)
-burst_room {w} (beat.E x) is e = omega (arith, (width-bounds w is).1)
+burst_room {w} (Beat.A x) is e = data_room w x.size (a_carries_data x.opcode) is (leb-true x.size 6 e)
+burst_room {w} (Beat.B x) is e = data_room w x.size (b_carries_data x.opcode) is (leb-true x.size 6 e)
+burst_room {w} (Beat.C x) is e = data_room w x.size (c_carries_data x.opcode) is (leb-true x.size 6 e)
+burst_room {w} (Beat.D x) is e = data_room w x.size (d_carries_data x.opcode) is (leb-true x.size 6 e)
+burst_room {w} (Beat.E x) is e = omega (arith, (width-bounds w is).1)
 
 -- Each of these beats of a channel, the newest of which is first, breaks no rule by itself, goes on as those
 -- before it, and isn't the last of their burst.
@@ -124,37 +112,33 @@ module _ {w : ℕ} (l : Level) (p : Profile) (x : Beat w) (t : History w) (is : 
 -- a block has room for its bytes, and its mask names no lane that there isn't
 pub has-room : {w : ℕ} (l : Level) (p : Profile) (x : Beat w) (t : History w) → IsWidth w → IsTyped x
     → is_legal l p t ≡ true → broken_after l p x t ≡ None → HasRoom x (unfinished (channel_of x) t)
-has-room {w} l p (beat.A x) t is typed legal fine = (
-  room l p (beat.A x) t is legal fine,
-  narrow w l x.opcode x.param x.size x.address x.mask is typed.0 (is-request l x is (by_itself l p (beat.A x) t fine)),
+has-room {w} l p (Beat.A x) t is typed legal fine = (
+  room l p (Beat.A x) t is legal fine,
+  narrow w l x.opcode x.param x.size x.address x.mask is typed.0 (is-request l x is (by_itself l p (Beat.A x) t fine)),
 )
-has-room {w} l p (beat.B x) t is typed legal fine = (room l p (beat.B x) t is legal fine, positive w)
-has-room {w} l p (beat.C x) t is typed legal fine = (room l p (beat.C x) t is legal fine, positive w)
-has-room {w} l p (beat.D x) t is typed legal fine = (room l p (beat.D x) t is legal fine, positive w)
-has-room {w} l p (beat.E x) t is typed legal fine = (room l p (beat.E x) t is legal fine, positive w)
+has-room {w} l p (Beat.B x) t is typed legal fine = (room l p (Beat.B x) t is legal fine, positive w)
+has-room {w} l p (Beat.C x) t is typed legal fine = (room l p (Beat.C x) t is legal fine, positive w)
+has-room {w} l p (Beat.D x) t is typed legal fine = (room l p (Beat.D x) t is legal fine, positive w)
+has-room {w} l p (Beat.E x) t is typed legal fine = (room l p (Beat.E x) t is legal fine, positive w)
 
 -- ---- the lanes of a request's beats
 
-wide_lanes : {w : ℕ} (x : BeatA w) → IsTyped (beat.A x) → a_carries_data x.opcode ≡ true
+wide_lanes : {w : ℕ} (x : BeatA w) → IsTyped (Beat.A x) → a_carries_data x.opcode ≡ true
     → length (unwrap_or x.lanes []) ≡ w
 wide_lanes {w} x typed carries = go x.lanes (x.carries ∙ carries) typed.1
   where
-    go : (o : Option (List ℕ)) → is_some o ≡ true → IfSome o (λ lanes. length lanes ≡ w)
-        → length (unwrap_or o []) ≡ w
+    go : (o : Option (List ℕ)) → is_some o ≡ true → IfSome o (λ lanes. length lanes ≡ w) → length (unwrap_or o []) ≡ w
     go None some long = absurd cc
     go (Some lanes) some long = long
 
 -- each of them has a byte for each lane where the last carries data
-pub are-wide : {w : ℕ} (l : Level) (x : BeatA w) (burst : List (Beat w)) → AreTyped (beat.A x ∷ burst)
-    → breaks_burst (beat.A x) burst ≡ false → AreBegun l channel.A burst → a_carries_data x.opcode ≡ true
-    → AreWide (beat.A x ∷ burst)
+pub are-wide : {w : ℕ} (l : Level) (x : BeatA w) (burst : List (Beat w)) → AreTyped (Beat.A x ∷ burst)
+    → breaks_burst (Beat.A x) burst ≡ false → AreBegun l Channel.A burst → a_carries_data x.opcode ≡ true
+    → AreWide (Beat.A x ∷ burst)
 are-wide l x [] typed e begun carries = (wide_lanes x typed.0 carries, tt)
-are-wide l x (beat.A y ∷ burst) typed e begun carries =
-    let same = control_a x y (not-false (same_control (beat.A x) (beat.A y)) e) in (
+are-wide l x (Beat.A y ∷ burst) typed e begun carries =
+    let same = control_a x y (not-false (same_control (Beat.A x) (Beat.A y)) e) in (
       wide_lanes x typed.0 carries,
       are-wide l y burst typed.1 begun.2 begun.4 (ap a_carries_data (sym same.0) ∙ carries),
     )
-are-wide l x (beat.B y ∷ burst) typed e begun carries = absurd (let no : false ≡ true = begun.0 in cc)
-are-wide l x (beat.C y ∷ burst) typed e begun carries = absurd (let no : false ≡ true = begun.0 in cc)
-are-wide l x (beat.D y ∷ burst) typed e begun carries = absurd (let no : false ≡ true = begun.0 in cc)
-are-wide l x (beat.E y ∷ burst) typed e begun carries = absurd (let no : false ≡ true = begun.0 in cc)
+are-wide l x v typed e begun carries = absurd (let no : false ≡ true = begun.0 in cc)

@@ -1,29 +1,17 @@
 -- What accesses write, and what those may write that are pending.
-use Rattle.std.proofs.Common.{◌≡◌, ℕ, zero, suc, Bool, true, false, not, ◌&&◌, ◌||◌, ◌+◌, ◌*◌}
-use Rattle.std.proofs.Common.{◌/◌, ◌<◌, List, [], ◌∷◌, ◌++◌, length}
-use Rattle.std.proofs.Common.{refl, sym, ap, ◌∙◌, arith, inl, inr, get_or, take, append-nil}
+use Rattle.tl_memory.proofs.Imports.{Beat, Link, OpA, a_carries_data, MessageA, Access, access_writes, is_of, writes}
+use Rattle.tl_memory.proofs.Imports.{others, PendingAccess, Writer, Trace, pending_accesses, written_as, AllWriteInside}
+use Rattle.tl_memory.proofs.Imports.{IsAsked, is_put, is_to, WritesInside, AreKnown, KnowsAccesses}
+use Rattle.std.proofs.Common.{◌≡◌, ℕ, zero, suc, Bool, true, false, not, ◌&&◌, ◌||◌, ◌+◌, ◌*◌, ◌/◌, ◌<◌, List, [], ◌∷◌}
+use Rattle.std.proofs.Common.{◌++◌, length, refl, sym, ap, ◌∙◌, arith, inl, inr, get_or, take, append-nil}
 use Rattle.std.proofs.lemmas.List.{take_more}
 use Rattle.std.specs.Prelude.{if◌then◌else◌, filter, is_some, nat_lt, None, Option, Some, ◌==◌}
 use Rattle.std.proofs.lemmas.Bool.{cases_Bool, eq-eqb, lt-ltb}
-use Rattle.tl_beat.specs.declared.beat.Beat.{Beat}
-use Rattle.tl_beat.specs.declared.beat.Link.{Link}
-use Rattle.tl_beat.specs.declared.opcode.OpA.{OpA}
-use Rattle.tl_beat.specs.declared.opcode.OpA.TheVariants as a
-use Rattle.tl_beat.specs.statement.Opcode.{a_carries_data}
-use Rattle.tl_burst.specs.declared.message.MessageA.{MessageA}
 use Rattle.tl_bytes.specs.code.Tellings.{is_written, leaves, value_at, left_as}
-use Rattle.tl_bytes.specs.statement.Bytes.{Access, access_writes, could_be, is_of, pending_value, value_written, writes}
-use Rattle.tl_bytes.specs.statement.Known.{count_of, MayWrite, others, windowed}
-use Rattle.tl_bytes.specs.statement.Bytes.{windows_since}
-use Rattle.tl_memory.specs.declared.pending.PendingAccess.{PendingAccess}
+use Rattle.tl_bytes.specs.statement.Bytes.{could_be, pending_value, value_written, windows_since}
+use Rattle.tl_bytes.specs.statement.Known.{count_of, MayWrite, windowed}
 use Rattle.tl_memory.specs.code.Writers.{names, picked, some_window, writes_but, writes_windowed}
-use Rattle.tl_memory.specs.declared.writer.Writer.{Writer}
-use Rattle.tl_rules.specs.statement.Conformance.{Trace}
-use Rattle.tl_bytes.specs.statement.Bytes.{pending_accesses, written_as}
 use Rattle.tl_memory.specs.declared.access.Asked.{Asked}
-use Rattle.tl_memory.specs.statement.Known.{AllWriteInside, IsAsked, is_put, is_to}
-use Rattle.tl_memory.specs.statement.Known.{WritesInside}
-use Rattle.tl_memory.specs.statement.Known.{AreKnown, KnowsAccesses}
 
 pub spoiled_value : (b : Bool) (v : ℕ) → b ≡ true → (if b then None else Some v) ≡ None
 spoiled_value b v e = rw e refl
@@ -37,37 +25,24 @@ both_false false b e = refl
 
 pub put_pending : {w : ℕ} (op : OpA) (access : Access w) (address : ℕ) → is_put op ≡ true
     → value_written access [] address ≡ pending_value op access address
-put_pending a.PutFullData access address e = refl
-put_pending a.PutPartialData access address e = refl
-put_pending a.ArithmeticData access address e = absurd cc
-put_pending a.LogicalData access address e = absurd cc
-put_pending a.Get access address e = absurd cc
-put_pending a.Intent access address e = absurd cc
-put_pending a.AcquireBlock access address e = absurd cc
-put_pending a.AcquirePerm access address e = absurd cc
+put_pending OpA.PutFullData access address e = refl
+put_pending OpA.PutPartialData access address e = refl
+put_pending v access address e = absurd cc
 
 pub other_pending : {w : ℕ} (op : OpA) (access : Access w) (address : ℕ) → is_put op ≡ false
     → None ≡ pending_value op access address
-other_pending a.PutFullData access address e = absurd cc
-other_pending a.PutPartialData access address e = absurd cc
-other_pending a.ArithmeticData access address e = refl
-other_pending a.LogicalData access address e = refl
-other_pending a.Get access address e = refl
-other_pending a.Intent access address e = refl
-other_pending a.AcquireBlock access address e = refl
-other_pending a.AcquirePerm access address e = refl
+other_pending OpA.PutFullData access address e = absurd cc
+other_pending OpA.PutPartialData access address e = absurd cc
+other_pending v access address e = refl
 
 -- what carries no data writes nothing
 pub no_data : {w : ℕ} (op : OpA) (m : MessageA w) (address : ℕ) → a_carries_data op ≡ false
     → writes op m address ≡ false
-no_data a.PutFullData m address e = absurd cc
-no_data a.PutPartialData m address e = absurd cc
-no_data a.ArithmeticData m address e = absurd cc
-no_data a.LogicalData m address e = absurd cc
-no_data a.Get m address e = refl
-no_data a.Intent m address e = refl
-no_data a.AcquireBlock m address e = refl
-no_data a.AcquirePerm m address e = refl
+no_data OpA.PutFullData m address e = absurd cc
+no_data OpA.PutPartialData m address e = absurd cc
+no_data OpA.ArithmeticData m address e = absurd cc
+no_data OpA.LogicalData m address e = absurd cc
+no_data v m address e = refl
 
 -- ---- what those write that are kept
 
@@ -94,8 +69,7 @@ module _ {X Y : Type 0} (keep : X → Bool) (write : X → Y) where
 
   next : (i : ℕ) (xs : List X) (x d : X) → x ≡ get_or xs i d → i < length xs
       → picked keep write (take (i + 1) xs) ≡ picked keep write (take i xs) ++ picked keep write (x ∷ [])
-  next i xs x d is lt = ap (picked keep write) (take_more xs i d lt)
-      ∙ picked-append (take i xs) (get_or xs i d ∷ [])
+  next i xs x d is lt = ap (picked keep write) (take_more xs i d lt) ∙ picked-append (take i xs) (get_or xs i d ∷ [])
       ∙ ap (λ y. picked keep write (take i xs) ++ picked keep write (y ∷ [])) (sym is)
 
   pub one_kept : (i : ℕ) (xs : List X) (x d : X) → x ≡ get_or xs i d → i < length xs → keep x ≡ true
@@ -116,11 +90,9 @@ named link source writer access k = ap (λ l. (l == link) && (writer.asked.reque
 -- it may leave the bytes that the access may write
 pub leaves-is : {w : ℕ} (block place byte : ℕ) (writer : Writer w) (access : Access w) → place < 64
     → ((is_written writer.write place ≡ access_writes (64 * block + place) access)
-    × (is_written writer.write place ≡ true
-    → value_at writer.write place ≡ pending_value access.request.opcode access (64 * block + place)))
-    → leaves place byte writer.write
-    ≡ (access_writes (64 * block + place) access
-    && could_be byte (pending_value access.request.opcode access (64 * block + place)))
+    × (is_written writer.write place ≡ true → value_at writer.write place ≡ pending_value access.request.opcode access
+    (64 * block + place))) → leaves place byte writer.write ≡ (access_writes (64 * block + place) access && could_be
+    byte (pending_value access.request.opcode access (64 * block + place)))
 leaves-is block place byte writer access lt is =
     where_written (is_written writer.write place) (value_at writer.write place)
     (pending_value access.request.opcode access (64 * block + place)) is.1
@@ -134,33 +106,27 @@ first_of : {X Y : Type 0} (b c : Bool) (x : X) (y : Y) (o : Option X) (p : Optio
     → is_some (if b then Some x else o) ≡ is_some (if c then Some y else p)
 first_of true true x y o p e f = refl
 first_of false false x y o p e f = f
-first_of true false x y o p e f = absurd cc
-first_of false true x y o p e f = absurd cc
+first_of v u x y o p e f = absurd cc
 
 -- what others write is what the accesses may write that are others
 others-write : {w : ℕ} (n link source block : ℕ) (seen t : Trace w) (pending : List (PendingAccess w))
-    (accesses : List (Access w))
-    → AreKnown pending n block accesses seen t
+    (accesses : List (Access w)) → AreKnown pending n block accesses seen t
     → MayWrite (writes_but link source pending) block (filter (λ other. not (is_of link source other)) accesses)
 unfolding picked
 others-write n link source block seen t [] [] are place byte lt = refl
-others-write n link source block seen t [] (x ∷ accesses) are place byte lt = absurd are
-others-write n link source block seen t (x ∷ pending) [] are place byte lt = absurd are
 others-write n link source block seen t (x ∷ pending) (y ∷ accesses) are place byte lt =
     let more = others-write n link source block seen t pending accesses are.1 place byte lt in
     let same = named link source x.writer y are.0.asked_is in
     elim (cases_Bool (is_of link source y)) [
       | inl own ↦ rw (same ∙ own, own) more
-      | inr other ↦
-          rw (same ∙ other, other)
-          (first_of (leaves place byte x.writer.write) _ x.writer.write y _ _
+      | inr other ↦ rw (same ∙ other, other) (first_of (leaves place byte x.writer.write) _ x.writer.write y _ _
           (leaves-is block place byte x.writer y lt (are.0.write_is place lt)) more)
     ]
+others-write n link source block seen t v u are place byte lt = absurd are
 
 -- what is elsewhere writes nothing here
 pub apart : {w : ℕ} (block place : ℕ) (access : Access w) → place < 64 → WritesInside access
-    → is_to block access ≡ false
-    → access_writes (64 * block + place) access ≡ false
+    → is_to block access ≡ false → access_writes (64 * block + place) access ≡ false
 apart block place access lt inside other = elim (cases_Bool (access_writes (64 * block + place) access)) [
   | inr none ↦ none
   | inl some ↦
@@ -178,8 +144,7 @@ none_first b c x o e = rw e refl
 
 -- so what all others write here is what those write that are to the block
 pub written-here : {w : ℕ} (block place byte : ℕ) (keep : Access w → Bool) (accesses : List (Access w)) → place < 64
-    → AllWriteInside accesses
-    → written_as (64 * block + place) byte (filter keep (filter (is_to block) accesses))
+    → AllWriteInside accesses → written_as (64 * block + place) byte (filter keep (filter (is_to block) accesses))
     ≡ written_as (64 * block + place) byte (filter keep accesses)
 written-here block place byte keep [] lt inside = refl
 written-here block place byte keep (x ∷ accesses) lt inside =
@@ -190,9 +155,7 @@ written-here block place byte keep (x ∷ accesses) lt inside =
         | inr left ↦ rw (here, left) more
       ]
       | inr elsewhere ↦ elim (cases_Bool (keep x)) [
-        | inl kept ↦
-            rw (elsewhere, kept)
-            (more ∙ sym (none_first _ _ x _ (apart block place x lt inside.0 elsewhere)))
+        | inl kept ↦ rw (elsewhere, kept) (more ∙ sym (none_first _ _ x _ (apart block place x lt inside.0 elsewhere)))
         | inr left ↦ rw (elsewhere, left) more
       ]
     ]
@@ -205,8 +168,7 @@ own-left access accesses =
 
 -- what others may write than an access whose request is complete
 pub others-may-write : {w : ℕ} (n block : ℕ) (asked : Asked w) (access : Access w) (x : Link × Beat w) (t : Trace w)
-    (pending : List (PendingAccess w))
-    → IsAsked asked access → KnowsAccesses pending n block t t
+    (pending : List (PendingAccess w)) → IsAsked asked access → KnowsAccesses pending n block t t
     → pending_accesses (x ∷ t) ≡ access ∷ pending_accesses t
     → MayWrite (writes_but asked.link.0 asked.request.source pending) block (others access (x ∷ t))
 others-may-write n block asked access x t pending k known more place byte lt =
@@ -232,18 +194,15 @@ windowed-write : {w : ℕ} (n block : ℕ) (t : Trace w) (pending : List (Pendin
     → MayWrite (writes_windowed pending) block (filter (λ x. nat_lt 0 (windows_since n block x.asked t)) accesses)
 unfolding picked
 windowed-write n block t [] [] are place byte lt = refl
-windowed-write n block t [] (y ∷ accesses) are place byte lt = absurd are
-windowed-write n block t (x ∷ pending) [] are place byte lt = absurd are
 windowed-write n block t (x ∷ pending) (y ∷ accesses) are place byte lt =
     let more = windowed-write n block t pending accesses are.1 place byte lt in
     let same = ap some_window are.0.windows_are.count_is ∙ some-is (windows_since n block y.asked t) in
     elim (cases_Bool (nat_lt 0 (windows_since n block y.asked t))) [
-      | inl had ↦
-          rw (same ∙ had, had)
-          (first_of (leaves place byte x.writer.write) _ x.writer.write y _ _
+      | inl had ↦ rw (same ∙ had, had) (first_of (leaves place byte x.writer.write) _ x.writer.write y _ _
           (leaves-is block place byte x.writer y lt (are.0.write_is place lt)) more)
       | inr none ↦ rw (same ∙ none, none) more
     ]
+windowed-write n block t v u are place byte lt = absurd are
 
 -- so that a Grant may bring it
 pub windowed-may-write : {w : ℕ} (n block : ℕ) (t : Trace w) (pending : List (PendingAccess w))

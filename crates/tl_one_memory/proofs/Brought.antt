@@ -1,33 +1,20 @@
 -- What each response brings is true.
-use Rattle.std.proofs.Common.{◌≡◌, ℕ, suc, Bool, true, false, not, ◌||◌, ◌+◌, ◌-◌, ◌*◌, ◌/◌, ◌%◌, ◌<◌}
-use Rattle.std.proofs.Common.{List, [], ◌∷◌, inl, refl, sym, ap, ◌∙◌, arith, length}
+use Rattle.tl_one_memory.proofs.Imports.{Beat, BeatD, Link, reaches, unfinished, on_link, Memory, is_release_ack}
+use Rattle.tl_one_memory.proofs.Imports.{Access, before_last, carried_byte, is_of, pending_accesses, same-some}
+use Rattle.tl_one_memory.proofs.Imports.{IsAnswer, IsRun, IsTaken, Performs, Run, Stores, Takes, found_in, trace_in}
+use Rattle.std.proofs.Common.{◌≡◌, ℕ, suc, Bool, true, false, not, ◌||◌, ◌+◌, ◌-◌, ◌*◌, ◌/◌, ◌%◌, ◌<◌, List, [], ◌∷◌}
+use Rattle.std.proofs.Common.{inl, refl, sym, ap, ◌∙◌, arith, length}
 use Rattle.std.specs.Prelude.{if◌then◌else◌, find, Option, Some, None, slice_get}
 use Rattle.std.proofs.lemmas.Bool.{and_from, eq-eqb, or_right}
-use Rattle.std.proofs.lemmas.Nat.{div-mul-add, mod-mul-add}
-use Rattle.std.proofs.lemmas.Option.{slice_get_within}
-use Rattle.std.proofs.Math.Nat.{mul_comm}
-use Rattle.tl_beat.specs.declared.beat.Beat.{Beat}
-use Rattle.tl_beat.specs.declared.beat.Beat.TheVariants as beat
-use Rattle.tl_beat.specs.declared.beat.BeatD.{BeatD}
-use Rattle.tl_beat.specs.declared.beat.Link.{Link}
-use Rattle.tl_beat.specs.declared.channel.Channel.TheVariants as channel
-use Rattle.tl_beat.specs.declared.opcode.OpA.{OpA}
-use Rattle.tl_beat.specs.declared.opcode.OpA.TheVariants as a
-use Rattle.tl_beat.specs.declared.opcode.OpD.{OpD}
-use Rattle.tl_beat.specs.declared.opcode.OpD.TheVariants as d
-use Rattle.tl_burst.specs.statement.Burst.{reaches}
-use Rattle.tl_burst.specs.statement.Messages.{unfinished}
+use Rattle.std.{proofs.lemmas.Nat.div-mul-add, proofs.lemmas.Nat.mod-mul-add, proofs.lemmas.Option.slice_get_within}
+use Rattle.std.{proofs.Math.Nat.mul_comm}
+use Rattle.tl_beat.{specs.declared.channel.Channel.Channel, specs.declared.opcode.OpA.OpA}
+use Rattle.tl_beat.{specs.declared.opcode.OpD.OpD}
 use Rattle.tl_rules.specs.statement.Admission.{is_spoiled, lanes_of}
-use Rattle.tl_rules.specs.statement.Conformance.{answers, on_link}
-use Rattle.tl_rules.specs.statement.Effect.{Memory}
-use Rattle.tl_rules.specs.statement.History.{is_release_ack}
-use Rattle.tl_bytes.specs.statement.Bytes.{Access, before_last, carried_byte, each_from, is_of, is_true, is_true_read}
-use Rattle.tl_bytes.specs.statement.Bytes.{may_read, pending_accesses, reads_truly}
-use Rattle.tl_one_memory.proofs.Granted.{granted}
-use Rattle.tl_bytes.proofs.Finding.{same-some}
-use Rattle.tl_one_memory.proofs.Read.{are-begun_read, read-next}
-use Rattle.tl_one_memory.specs.statement.Run.{IsAnswer, IsRun, IsTaken, Performs, Run, Stores, Takes, place_in, returns}
-use Rattle.tl_one_memory.specs.statement.Run.{found_in, trace_in}
+use Rattle.tl_rules.specs.statement.Conformance.{answers}
+use Rattle.tl_bytes.specs.statement.Bytes.{each_from, is_true, is_true_read, may_read, reads_truly}
+use Rattle.tl_one_memory.{proofs.Granted.granted, proofs.Read.are-begun_read, proofs.Read.read-next}
+use Rattle.tl_one_memory.{specs.statement.Run.place_in, specs.statement.Run.returns}
 use Rattle.tl_one_memory.specs.statement.TrueBytes.{AreTrue, IsTrueBeat, TrueBytes}
 
 -- ---- the lanes of a beat
@@ -55,39 +42,34 @@ place-mod w k j lt = ap (λ (i : ℕ). (i + j) % w) (mul_comm w k) ∙ mod-mul-a
 
 -- the byte that a beat has brought is the one in its lane
 lane-carried : {w : ℕ} (z : BeatD w) (older : List (Beat w)) (place j v found : ℕ) → place / w ≡ length older
-    → place % w ≡ j → carried_byte (beat.D z ∷ older) place ≡ Some found → slice_get (lanes_of (beat.D z)) j ≡ Some v
+    → place % w ≡ j → carried_byte (Beat.D z ∷ older) place ≡ Some found → slice_get (lanes_of (Beat.D z)) j ≡ Some v
     → found ≡ v
 unfolding carried_byte
 lane-carried {w} z older place j v found at in_lane carried lane =
-    go (is_spoiled (beat.D z)) (rw (eq-eqb (place / w) (length older) at, in_lane) at carried)
+    go (is_spoiled (Beat.D z)) (rw (eq-eqb (place / w) (length older) at, in_lane) at carried)
   where
-    go : (b : Bool) → (if b then None else slice_get (lanes_of (beat.D z)) j) ≡ Some found → found ≡ v
+    go : (b : Bool) → (if b then None else slice_get (lanes_of (Beat.D z)) j) ≡ Some found → found ≡ v
     go true e = absurd cc
     go false e = sym (same-some found v (sym e ∙ lane))
 
 -- ---- an answer with data
 
-answered-reads : (o : OpA) → answers d.AccessAckData o ≡ true → returns o ≡ true
-answered-reads a.Get e = refl
-answered-reads a.ArithmeticData e = refl
-answered-reads a.LogicalData e = refl
-answered-reads a.PutFullData e = absurd cc
-answered-reads a.PutPartialData e = absurd cc
-answered-reads a.Intent e = absurd cc
-answered-reads a.AcquireBlock e = absurd cc
-answered-reads a.AcquirePerm e = absurd cc
+answered-reads : (o : OpA) → answers OpD.AccessAckData o ≡ true → returns o ≡ true
+answered-reads OpA.Get e = refl
+answered-reads OpA.ArithmeticData e = refl
+answered-reads OpA.LogicalData e = refl
+answered-reads v e = absurd cc
 
 module _ {w : ℕ} (n : ℕ) (first : Memory) (link : Link) (z : BeatD w) (run : Run w)
-    (taken : IsTaken n first link (beat.D z) run) (is : IsRun n first run) where
+    (taken : IsTaken n first link (Beat.D z) run) (is : IsRun n first run) where
   abbrev older : List (Beat w)
-  older = unfinished channel.D (on_link link.0 (trace_in run))
+  older = unfinished Channel.D (on_link link.0 (trace_in run))
 
   read-byte : (p : Access w) → IsAnswer first link.0 z p run → is_release_ack z.opcode ≡ false
-      → answers d.AccessAckData p.request.opcode ≡ true
-      → find (is_of link.0 z.source) (pending_accesses (trace_in run)) ≡ Some p
-      → (address v : ℕ) → reaches p.request.address p.request.size address ≡ true
-      → place_in p address / w ≡ length older → (j : ℕ) → place_in p address % w ≡ j
-      → slice_get (lanes_of (beat.D z)) j ≡ Some v
+      → answers OpD.AccessAckData p.request.opcode ≡ true
+      → find (is_of link.0 z.source) (pending_accesses (trace_in run)) ≡ Some p → (address v : ℕ)
+      → reaches p.request.address p.request.size address ≡ true → place_in p address / w ≡ length older → (j : ℕ)
+      → place_in p address % w ≡ j → slice_get (lanes_of (Beat.D z)) j ≡ Some v
       → may_read n p (before_last link.0 (length older) (trace_in run)) address v ≡ true
   read-byte p answer no_ack admitted pending address v reached at j in_lane lane =
       ap (may_read n p (before_last link.0 (length older) (trace_in run)) address) (sym (same ∙ value))
@@ -105,13 +87,13 @@ module _ {w : ℕ} (n : ℕ) (first : Memory) (link : Link) (z : BeatD w) (run :
       value = lane-carried z older (place_in p address) j v (answer.found address) at in_lane
           (answer.brings (answered-reads p.request.opcode admitted) address reached (inl (omega (arith, at)))) lane
 
-  read : z.opcode ≡ d.AccessAckData → (z.corrupt || is_true_read n link.0 z (trace_in run)) ≡ true
+  read : z.opcode ≡ OpD.AccessAckData → (z.corrupt || is_true_read n link.0 z (trace_in run)) ≡ true
   read e = or_right z.corrupt _ (go (find (is_of link.0 z.source) (pending_accesses (trace_in run))) refl)
     where
       go : (o : Option (Access w)) → find (is_of link.0 z.source) (pending_accesses (trace_in run)) ≡ o
           → reads_truly n o (length older) z (before_last link.0 (length older) (trace_in run)) ≡ true
       go None f = refl
-      go (Some p) f = each-lane _ (w * (p.request.address / w) + w * length older) (lanes_of (beat.D z)) each
+      go (Some p) f = each-lane _ (w * (p.request.address / w) + w * length older) (lanes_of (Beat.D z)) each
         where
           no_ack : is_release_ack z.opcode ≡ false
           no_ack = ap is_release_ack e
@@ -119,9 +101,8 @@ module _ {w : ℕ} (n : ℕ) (first : Memory) (link : Link) (z : BeatD w) (run :
           answer : IsAnswer first link.0 z p run
           answer = taken.answers_rightly z p refl no_ack f
 
-          each : (j v : ℕ) → slice_get (lanes_of (beat.D z)) j ≡ Some v
-              → (not (reaches p.request.address p.request.size
-              (w * (p.request.address / w) + w * length older + j))
+          each : (j v : ℕ) → slice_get (lanes_of (Beat.D z)) j ≡ Some v
+              → (not (reaches p.request.address p.request.size (w * (p.request.address / w) + w * length older + j))
               || may_read n p (before_last link.0 (length older) (trace_in run))
               (w * (p.request.address / w) + w * length older + j) v) ≡ true
           each j v lane = byte (reaches p.request.address p.request.size address) refl
@@ -130,7 +111,7 @@ module _ {w : ℕ} (n : ℕ) (first : Memory) (link : Link) (z : BeatD w) (run :
               address = w * (p.request.address / w) + w * length older + j
 
               within : j < w
-              within = let lt = slice_get_within (lanes_of (beat.D z)) j v lane in omega (arith, lt, answer.lanes_fit)
+              within = let lt = slice_get_within (lanes_of (Beat.D z)) j v lane in omega (arith, lt, answer.lanes_fit)
 
               place : place_in p address ≡ w * length older + j
               place = place-of (w * (p.request.address / w)) (w * length older) j
@@ -144,22 +125,16 @@ module _ {w : ℕ} (n : ℕ) (first : Memory) (link : Link) (z : BeatD w) (run :
                   (ap (λ (i : ℕ). i % w) place ∙ place-mod w (length older) j within) lane
 
   true-response : (o : OpD) → z.opcode ≡ o → is_true o n link.0 z (trace_in run) ≡ true
-  true-response d.GrantData e = granted n first link z run taken is e
-  true-response d.AccessAckData e = read e
-  true-response d.AccessAck e = refl
-  true-response d.HintAck e = refl
-  true-response d.Grant e = refl
-  true-response d.ReleaseAck e = refl
+  true-response OpD.GrantData e = granted n first link z run taken is e
+  true-response OpD.AccessAckData e = read e
+  true-response v e = refl
 
 -- ---- all that is taken
 
 true-beat : {w : ℕ} (n : ℕ) (first : Memory) (link : Link) (x : Beat w) (run : Run w) → IsTaken n first link x run
     → IsRun n first run → IsTrueBeat n link.0 x (trace_in run)
-true-beat n first link (beat.D z) run taken is = true-response n first link z run taken is z.opcode refl
-true-beat n first link (beat.A z) run taken is = tt
-true-beat n first link (beat.B z) run taken is = tt
-true-beat n first link (beat.C z) run taken is = tt
-true-beat n first link (beat.E z) run taken is = tt
+true-beat n first link (Beat.D z) run taken is = true-response n first link z run taken is z.opcode refl
+true-beat n first link v run taken is = tt
 
 pub are-true : {w : ℕ} (n : ℕ) (first : Memory) (run : Run w) → IsRun n first run → AreTrue n (trace_in run)
 unfolding IsRun trace_in AreTrue

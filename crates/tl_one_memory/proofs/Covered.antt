@@ -1,34 +1,28 @@
 -- What a byte may be has the value that memory has, with one more beat.
-use Rattle.std.proofs.Common.{◌≡◌, ℕ, Bool, true, false, not, ◌&&◌, ◌<◌, ◌≤◌, ◌%◌, List, ◌∷◌, ◌⊎◌, inl}
-use Rattle.std.proofs.Common.{inr, length, refl, sym, ap, ◌∙◌, arith}
+use Rattle.tl_one_memory.proofs.Imports.{Beat, BeatD, Link, unfinished, Trace, on_link, block_at, is_free, Access}
+use Rattle.tl_one_memory.proofs.Imports.{access_writes, carried_byte, could_be, is_of, may_be, pending_accesses}
+use Rattle.tl_one_memory.proofs.Imports.{pending_value, windows_since, among-filter, IsPending, asked-by_now}
+use Rattle.std.proofs.Common.{◌≡◌, ℕ, Bool, true, false, not, ◌&&◌, ◌<◌, ◌≤◌, ◌%◌, List, ◌∷◌, ◌⊎◌, inl, inr, length}
+use Rattle.std.proofs.Common.{refl, sym, ap, ◌∙◌, arith}
 use Rattle.std.specs.Prelude.{if◌then◌else◌, find, filter, Option, Some, None, ◌==◌, nat_le, nat_lt}
 use Rattle.std.proofs.lemmas.Bool.{le-leb, eqb-true, not-false}
-use Rattle.tl_beat.specs.declared.beat.Beat.{Beat}
-use Rattle.tl_beat.specs.declared.beat.Beat.TheVariants as beat
-use Rattle.tl_beat.specs.declared.beat.BeatA.{BeatA}
-use Rattle.tl_beat.specs.declared.beat.BeatD.{BeatD}
-use Rattle.tl_beat.specs.declared.beat.Link.{Link}
-use Rattle.tl_beat.specs.declared.channel.Channel.TheVariants as channel
-use Rattle.tl_burst.specs.statement.Messages.{History, channel_of, unfinished}
-use Rattle.tl_params.specs.declared.perm.Perm.TheVariants as perm
-use Rattle.tl_rules.specs.statement.Conformance.{Trace, on_link}
-use Rattle.tl_rules.specs.statement.History.{block_at, ends}
-use Rattle.tl_rules.specs.statement.Windows.{is_free}
+use Rattle.tl_beat.{specs.declared.beat.BeatA.BeatA, specs.declared.channel.Channel.Channel}
+use Rattle.tl_burst.specs.statement.Messages.{History, channel_of}
+use Rattle.tl_params.specs.declared.perm.Perm.{Perm}
+use Rattle.tl_rules.specs.statement.History.{ends}
 use Rattle.tl_bytes.specs.declared.telling.Telling.{Telling}
-use Rattle.tl_bytes.specs.statement.Bytes.{Access, access_writes, after_answer, after_beat, after_write, carried_byte}
-use Rattle.tl_bytes.specs.statement.Bytes.{could_be, ends_request, is_access, is_of, last_told, last_window, may_be}
-use Rattle.tl_bytes.specs.statement.Bytes.{pending_accesses, pending_value, same_value, tells, told_too, value_written}
-use Rattle.tl_bytes.specs.statement.Bytes.{window_began, windows_since}
-use Rattle.tl_bytes.proofs.Finding.{Among, among-filter, among-map, among-or}
-use Rattle.tl_bytes.proofs.Pending.{IsPending, IsAnsweredNow, asked-by_now, pending-after, pending-before}
+use Rattle.tl_bytes.specs.statement.Bytes.{after_answer, after_beat, after_write, ends_request, is_access, last_told}
+use Rattle.tl_bytes.specs.statement.Bytes.{last_window, same_value, tells, told_too, value_written, window_began}
+use Rattle.tl_bytes.proofs.Finding.{Among, among-map, among-or}
+use Rattle.tl_bytes.proofs.Pending.{IsAnsweredNow, pending-after, pending-before}
 use Rattle.tl_one_memory.proofs.Spans.{began_by_now, one-still, windowed-more}
 
 -- nobody may write the block by himself
 abbrev pub is_unwritten : {w : ℕ} → ℕ → ℕ → Trace w → Bool
-is_unwritten n address t = is_free n None perm.Branch (block_at address) t
+is_unwritten n address t = is_free n None Perm.Branch (block_at address) t
 
 abbrev pub is_writable : {w : ℕ} → ℕ → ℕ → Trace w → Bool
-is_writable n address t = is_free n None perm.Trunk (block_at address) t
+is_writable n address t = is_free n None Perm.Trunk (block_at address) t
 
 -- `done` are the accesses that were performed and aren't answered whole, and `Answers` says what answers them
 
@@ -48,9 +42,8 @@ abbrev pub IsToldLate : {w : ℕ} → ℕ → ℕ → ℕ → (ℕ → ℕ → T
 IsToldLate n address v done t e = (could_be v e.value ≡ true) × IsLate n address done t e.moment
 
 -- it is what a pending access has written, in a window that is open
-pub record IsWrittenNow {w : ℕ} (n address v : ℕ) (done : ℕ → ℕ → Type 0)
-    (Answers : ℕ → ℕ → Access w → List (Beat w) → Type 0) (t : Trace w)
-    : Type 0 where
+pub record IsWrittenNow {w : ℕ} (n address v : ℕ) (done : ℕ → ℕ → Type 0) (Answers : ℕ → ℕ → Access w → List (Beat w)
+    → Type 0) (t : Trace w) : Type 0 where
   pub link : ℕ
   pub source : ℕ
   pub access : Access w
@@ -72,12 +65,12 @@ pub record IsOrderly {w : ℕ} (n address v : ℕ) (done : ℕ → ℕ → Type 
     (Answers : ℕ → ℕ → Access w → List (Beat w) → Type 0)
     (y : Link × Beat w) (t : Trace w) : Type 0 where
   -- an access that is asked for isn't performed
-  pub asks_new : (z : BeatA w) → y.1 ≡ beat.A z → is_access z.opcode && ends (beat.A z) (on_link y.0.0 t) ≡ true
+  pub asks_new : (z : BeatA w) → y.1 ≡ Beat.A z → is_access z.opcode && ends (Beat.A z) (on_link y.0.0 t) ≡ true
       → done y.0.0 z.source → ⊥
   -- one that is answered was, with this answer
-  pub answers_done : (z : BeatD w) (p : Access w) → y.1 ≡ beat.D z → ends_request z (on_link y.0.0 t) ≡ true
+  pub answers_done : (z : BeatD w) (p : Access w) → y.1 ≡ Beat.D z → ends_request z (on_link y.0.0 t) ≡ true
       → IsPending y.0.0 z.source p t
-      → done y.0.0 z.source × Answers y.0.0 z.source p (beat.D z ∷ unfinished channel.D (on_link y.0.0 t))
+      → done y.0.0 z.source × Answers y.0.0 z.source p (Beat.D z ∷ unfinished Channel.D (on_link y.0.0 t))
   -- what is told is so
   pub tells_value : is_unwritten n address (y ∷ t) ≡ true → tells (block_at address) y.1 (on_link y.0.0 t) ≡ true
       → could_be v (carried_byte (y.1 ∷ unfinished (channel_of y.1) (on_link y.0.0 t)) (address % 64)) ≡ true
@@ -123,30 +116,25 @@ module _ {w : ℕ} (n address v : ℕ) (done : ℕ → ℕ → Type 0) (Answers 
       where
         go : (free : Bool) → is_writable n address t ≡ free → (one : Bool)
             → (windows_since n block p.asked t == 1) ≡ one → (told : Bool)
-            → Among Told (if free
-            then if one
-            then told_too now (filter (λ e. nat_le (window_began n block p.asked t) e.moment) before)
-            else told_too now before
-            else if told then before else told_too now before)
+            → Among Told (if free then if one then told_too now
+            (filter (λ e. nat_le (window_began n block p.asked t) e.moment) before) else told_too now before else
+            if told then before else told_too now before)
         go true free true one told =
             written-too (filter (λ e. nat_le (window_began n block p.asked t) e.moment) before)
             (among-filter Told (λ e. nat_le (window_began n block p.asked t) e.moment) before
             (λ e late. le-leb (window_began n block p.asked t) e.moment
             (late.1 c s p performed pending writes free (eqb-true (windows_since n block p.asked t) 1 one))) is)
-        go true free false one told = written-too before is
         go false free one e true = is
-        go false free one e false = written-too before is
+        go v free u one y = written-too before is
 
     written-now : (before : List Telling) → could_be v given ≡ true → is_writable n address t ≡ true
         → Among Told (after_write n block p now t before)
     written-now before could free = go (is_writable n address t) free (windows_since n block p.asked t == 1)
       where
         go : (free : Bool) → free ≡ true → (one : Bool)
-            → Among Told (if free
-            then if one
-            then told_too now (filter (λ e. nat_le (window_began n block p.asked t) e.moment) before)
-            else told_too now before
-            else if nat_lt (last_window n block t) (last_told block t) then before else told_too now before)
+            → Among Told (if free then if one then told_too now
+            (filter (λ e. nat_le (window_began n block p.asked t) e.moment) before) else told_too now before else
+            if nat_lt (last_window n block t) (last_told block t) then before else told_too now before)
         go true free true = inl (could, late-now)
         go true free false = inl (could, late-now)
         go false free one = absurd cc
@@ -178,8 +166,7 @@ module _ {w : ℕ} (n address v : ℕ) (done : ℕ → ℕ → Type 0) (Answers 
         let le = late c s p performed was writes still.was_free still.was_one in
         omega (arith, le, still.began_is)
 
-    told-after : (tellings : List Telling) → Among Told tellings
-        → Among (IsToldLate n address v done (y ∷ t)) tellings
+    told-after : (tellings : List Telling) → Among Told tellings → Among (IsToldLate n address v done (y ∷ t)) tellings
     told-after tellings is = among-map Told (IsToldLate n address v done (y ∷ t)) tellings
         (λ e told. (told.0, late-after e.moment told.1)) is
 
@@ -187,32 +174,29 @@ module _ {w : ℕ} (n address v : ℕ) (done : ℕ → ℕ → Type 0) (Answers 
     told-beat : Among Told (may_be n address t) → Among Told (after_beat n address y.0.0 y.1 t (may_be n address t))
     told-beat is = go y.1 refl
       where
-        found : (z : BeatD w) → y.1 ≡ beat.D z → ends_request z past ≡ true → (o : Option (Access w))
+        found : (z : BeatD w) → y.1 ≡ Beat.D z → ends_request z past ≡ true → (o : Option (Access w))
             → find (is_of y.0.0 z.source) (pending_accesses t) ≡ o
-            → Among Told (after_answer n address o (beat.D z ∷ unfinished channel.D past) t (may_be n address t))
+            → Among Told (after_answer n address o (Beat.D z ∷ unfinished Channel.D past) t (may_be n address t))
         found z e f None g = is
         found z e f (Some p) g = go (access_writes address p) refl
           where
             go : (b : Bool) → access_writes address p ≡ b
                 → Among Told (if b then after_write n block p
-                (record { value = value_written p (beat.D z ∷ unfinished channel.D past) address; moment = length t }) t
+                (record { value = value_written p (Beat.D z ∷ unfinished Channel.D past) address; moment = length t }) t
                 (may_be n address t) else may_be n address t)
             go false i = is
             go true i = written-after y.0.0 z.source p (orderly.answers_done z p e f g).0 g i
-                (value_written p (beat.D z ∷ unfinished channel.D past) address) (may_be n address t) is
+                (value_written p (Beat.D z ∷ unfinished Channel.D past) address) (may_be n address t) is
 
-        ended : (z : BeatD w) → y.1 ≡ beat.D z → (b : Bool) → ends_request z past ≡ b
+        ended : (z : BeatD w) → y.1 ≡ Beat.D z → (b : Bool) → ends_request z past ≡ b
             → Among Told (if b then after_answer n address (find (is_of y.0.0 z.source) (pending_accesses t))
-            (beat.D z ∷ unfinished channel.D past) t (may_be n address t) else may_be n address t)
+            (Beat.D z ∷ unfinished Channel.D past) t (may_be n address t) else may_be n address t)
         ended z e true f = found z e f (find (is_of y.0.0 z.source) (pending_accesses t)) refl
         ended z e false f = is
 
         go : (b : Beat w) → y.1 ≡ b → Among Told (after_beat n address y.0.0 b t (may_be n address t))
-        go (beat.D z) e = ended z e (ends_request z past) refl
-        go (beat.A z) e = is
-        go (beat.B z) e = is
-        go (beat.C z) e = is
-        go (beat.E z) e = is
+        go (Beat.D z) e = ended z e (ends_request z past) refl
+        go v e = is
 
     -- what the access has written that is answered now
     answered-beat : (c s : ℕ) (p : Access w) → done c s → IsPending c s p t → access_writes address p ≡ true
@@ -221,12 +205,9 @@ module _ {w : ℕ} (n address v : ℕ) (done : ℕ → ℕ → Type 0) (Answers 
         → Among Told (after_beat n address y.0.0 y.1 t (may_be n address t))
     answered-beat c s p performed pending writes value free now =
         rw (now.beat_is, now.completes, here, writes)
-        (written-now c s p performed pending writes (value_written p (beat.D now.last ∷ unfinished channel.D past)
-        address)
-        (may_be n address t)
-        (value (beat.D now.last ∷ unfinished channel.D past)
-        (rw (now.link_is, now.source_is)
-        (orderly.answers_done now.last p now.beat_is now.completes here).1)) free)
+        (written-now c s p performed pending writes (value_written p (Beat.D now.last ∷ unfinished Channel.D past)
+        address) (may_be n address t) (value (Beat.D now.last ∷ unfinished Channel.D past)
+        (rw (now.link_is, now.source_is) (orderly.answers_done now.last p now.beat_is now.completes here).1)) free)
       where
         here : find (is_of y.0.0 now.last.source) (pending_accesses t) ≡ Some p
         here = rw (← now.link_is, ← now.source_is) pending
@@ -268,8 +249,7 @@ module _ {w : ℕ} (n address v : ℕ) (done : ℕ → ℕ → Type 0) (Answers 
               })
               | inr answered ↦ inl (rw e (told-after (after_beat n address y.0.0 y.1 t (may_be n address t))
                   (answered-beat now.link now.source now.access now.performed now.pending now.writes now.value_is
-                  now.free
-                  answered)))
+                  now.free answered)))
             ]
 
         go : (b : Bool) → tells block y.1 past ≡ b → IsCovered n address v done Answers (y ∷ t)

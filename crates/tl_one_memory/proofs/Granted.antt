@@ -1,32 +1,23 @@
 -- What a Grant brings may be granted.
-use Rattle.std.proofs.Common.{◌≡◌, ℕ, zero, suc, Bool, true, false, ◌&&◌, ◌||◌, ◌+◌, ◌*◌, ◌/◌, ◌<◌, ◌≤◌, List, []}
-use Rattle.std.proofs.Common.{◌∷◌, inl, inr, refl, ap, ◌∙◌, arith, length}
+use Rattle.tl_one_memory.proofs.Imports.{Beat, BeatD, Link, unfinished, Trace, on_link, Memory, block_at, is_free}
+use Rattle.tl_one_memory.proofs.Imports.{Access, access_writes, before_last, could_be, may_be, pending_accesses}
+use Rattle.tl_one_memory.proofs.Imports.{pending_value, windows_since, among-filter, asked-by_now, IsRun, IsTaken}
+use Rattle.tl_one_memory.proofs.Imports.{Performs, Run, Stores, Takes, memory_in, trace_in}
+use Rattle.std.proofs.Common.{◌≡◌, ℕ, zero, suc, Bool, true, false, ◌&&◌, ◌||◌, ◌+◌, ◌*◌, ◌/◌, ◌<◌, ◌≤◌, List, [], ◌∷◌}
+use Rattle.std.proofs.Common.{inl, inr, refl, ap, ◌∙◌, arith, length}
 use Rattle.std.specs.Prelude.{if◌then◌else◌, filter, Option, Some, None, ◌==◌, nat_lt}
 use Rattle.std.proofs.lemmas.Bool.{and_from, lt-ltb, or_left, or_right}
-use Rattle.tl_beat.specs.declared.beat.Beat.{Beat}
-use Rattle.tl_beat.specs.declared.beat.Beat.TheVariants as beat
-use Rattle.tl_beat.specs.declared.beat.BeatD.{BeatD}
-use Rattle.tl_beat.specs.declared.beat.Link.{Link}
-use Rattle.tl_beat.specs.declared.channel.Channel.TheVariants as channel
-use Rattle.tl_beat.specs.declared.opcode.OpD.TheVariants as d
-use Rattle.tl_burst.specs.statement.Messages.{on, unfinished}
-use Rattle.tl_params.specs.declared.perm.Perm.TheVariants as perm
-use Rattle.tl_rules.specs.code.Open.{open_request}
-use Rattle.tl_rules.specs.declared.past.Request.{Request}
-use Rattle.tl_rules.specs.statement.Conformance.{Trace, on_link}
-use Rattle.tl_rules.specs.statement.Effect.{Memory, bytes_from}
-use Rattle.tl_rules.specs.statement.History.{block_at}
-use Rattle.tl_rules.specs.statement.Windows.{is_free}
-use Rattle.tl_bytes.specs.statement.Bytes.{Access, access_writes, before_last, could_be, each_from, is_true_grant}
-use Rattle.tl_bytes.specs.statement.Bytes.{may_be, may_grant, pending_accesses, pending_value, told_as, windows_since}
-use Rattle.tl_bytes.specs.statement.Bytes.{written_as}
+use Rattle.tl_beat.{specs.declared.channel.Channel.Channel, specs.declared.opcode.OpD.OpD}
+use Rattle.tl_burst.specs.statement.Messages.{on}
+use Rattle.tl_params.specs.declared.perm.Perm.{Perm}
+use Rattle.tl_rules.{specs.code.Open.open_request, specs.declared.past.Request.Request}
+use Rattle.tl_rules.{specs.statement.Effect.bytes_from}
+use Rattle.tl_bytes.specs.statement.Bytes.{each_from, is_true_grant, may_grant, told_as, written_as}
 use Rattle.tl_one_memory.proofs.Covered.{IsToldLate, IsWrittenNow, is_unwritten}
-use Rattle.tl_bytes.proofs.Finding.{Among, among-filter, among-found, found-among}
+use Rattle.tl_bytes.proofs.Finding.{Among, among-found, found-among}
 use Rattle.tl_one_memory.proofs.Known.{Answers, IsDone, IsKnown, known}
-use Rattle.tl_bytes.proofs.Pending.{IsAsked, asked-by_now}
-use Rattle.tl_one_memory.proofs.Spans.{windowed-free}
-use Rattle.tl_one_memory.specs.statement.Run.{IsGranted, IsRun, IsTaken, Performs, Run, Stores, Takes}
-use Rattle.tl_one_memory.specs.statement.Run.{memory_in, run_before, trace_in}
+use Rattle.tl_bytes.proofs.Pending.{IsAsked}
+use Rattle.tl_one_memory.{proofs.Spans.windowed-free, specs.statement.Run.IsGranted, specs.statement.Run.run_before}
 
 -- ---- before the last beats of a response
 
@@ -37,7 +28,7 @@ trace-before link zero [] = refl
 trace-before link zero (x ∷ run) = refl
 trace-before link (suc k) [] = refl
 trace-before {w} link (suc k) (Takes l x ∷ run) =
-    go ((l.0 == link) && on channel.D x) (trace-before link k run) (trace-before link (suc k) run)
+    go ((l.0 == link) && on Channel.D x) (trace-before link k run) (trace-before link (suc k) run)
   where
     go : (b : Bool) → trace_in (run_before link k run) ≡ before_last link k (trace_in run)
         → trace_in (run_before link (suc k) run) ≡ before_last link (suc k) (trace_in run)
@@ -55,7 +46,7 @@ is_run-before n first link zero [] is = is
 is_run-before n first link zero (x ∷ run) is = is
 is_run-before n first link (suc k) [] is = is
 is_run-before {w} n first link (suc k) (Takes l x ∷ run) is =
-    go ((l.0 == link) && on channel.D x) (is_run-before n first link k run is.1)
+    go ((l.0 == link) && on Channel.D x) (is_run-before n first link k run is.1)
     (is_run-before n first link (suc k) run is.1)
   where
     go : (b : Bool) → IsRun n first (run_before link k run) → IsRun n first (run_before link (suc k) run)
@@ -86,8 +77,7 @@ may-grant {w} n address v done Answering t now =
     (among-found Writes _ (pending_accesses t) now.access now.pending (
       now.writes,
       now.pending_is,
-      windowed-free n (block_at address) now.access.asked t asked.some asked.by_now
-          now.free,
+      windowed-free n (block_at address) now.access.asked t asked.some asked.by_now now.free,
     )))
   where
     asked : IsAsked now.access t
@@ -108,9 +98,8 @@ granted-known {w} n first address run is unwritten = elim (is.covered unwritten)
 
 -- ---- the lanes of a beat
 
-each-of : (test : ℕ → ℕ → Bool) (memory : Memory) (from k : ℕ)
-    → ((address : ℕ) → from ≤ address → address < from + k → test address (memory address) ≡ true)
-    → each_from test from (bytes_from memory from k) ≡ true
+each-of : (test : ℕ → ℕ → Bool) (memory : Memory) (from k : ℕ) → ((address : ℕ) → from ≤ address → address < from + k
+    → test address (memory address) ≡ true) → each_from test from (bytes_from memory from k) ≡ true
 unfolding each_from bytes_from
 each-of test memory from zero each = refl
 each-of test memory from (suc k) each = and_from _ _ (each from (omega arith) (omega arith))
@@ -121,14 +110,14 @@ in-block : (block k w address : ℕ) → w * k + w ≤ 64 → 64 * block + w * k
 in-block block k w address le from to = omega (arith, le, from, to)
 
 pub granted : {w : ℕ} (n : ℕ) (first : Memory) (link : Link) (z : BeatD w) (run : Run w)
-    → IsTaken n first link (beat.D z) run → IsRun n first run → z.opcode ≡ d.GrantData
+    → IsTaken n first link (Beat.D z) run → IsRun n first run → z.opcode ≡ OpD.GrantData
     → (z.corrupt || is_true_grant n link.0 z (open_request z.source (on_link link.0 (trace_in run))) (trace_in run))
     ≡ true
 granted {w} n first link z run taken is granting =
     or_right z.corrupt _ (go (open_request z.source (on_link link.0 (trace_in run))) refl)
   where
     k : ℕ
-    k = length (unfinished channel.D (on_link link.0 (trace_in run)))
+    k = length (unfinished Channel.D (on_link link.0 (trace_in run)))
 
     old : Run w
     old = run_before link.0 k run
@@ -141,7 +130,7 @@ granted {w} n first link z run taken is granting =
         (each-of (may_grant n (trace_in old)) (memory_in first old) (64 * asked.block + w * k) w
         (λ address from to. granted-known n first address old
         (known n first address old (is_run-before n first link.0 k run is))
-        (ap (λ (b : ℕ). is_free n None perm.Branch b (trace_in old))
+        (ap (λ (b : ℕ). is_free n None Perm.Branch b (trace_in old))
         (in-block asked.block k w address grant.within from to) ∙ grant.free)))
       where
         grant : IsGranted n first link.0 z asked.block k run

@@ -1,26 +1,18 @@
 -- After each run of one memory a byte of a block of which no link holds Trunk may be what memory has.
-use Rattle.std.proofs.Common.{◌≡◌, ℕ, Bool, true, false, not, ◌&&◌, List, [], ◌∷◌, ◌⊎◌, inl, inr, refl, sym, ap}
-use Rattle.std.proofs.Common.{◌∙◌}
+use Rattle.tl_one_memory.proofs.Imports.{Beat, Link, Trace, on_link, Memory, effect, block_at, is_release_ack, is_free}
+use Rattle.tl_one_memory.proofs.Imports.{Access, access_writes, is_of, may_be, pending_accesses, same-some, IsPending}
+use Rattle.tl_one_memory.proofs.Imports.{asked-by_now, IsPerformed, IsRun, IsTaken, Performs, Run, Stores, Takes}
+use Rattle.tl_one_memory.proofs.Imports.{found_in, memory_in, trace_in}
+use Rattle.std.proofs.Common.{◌≡◌, ℕ, Bool, true, false, not, ◌&&◌, List, [], ◌∷◌, ◌⊎◌, inl, inr, refl, sym, ap, ◌∙◌}
 use Rattle.std.specs.Prelude.{if◌then◌else◌, find, filter, Some, None, ◌==◌}
 use Rattle.std.proofs.lemmas.Bool.{and_parts, eq-eqb, eqb-true, not-true}
-use Rattle.tl_beat.specs.declared.beat.Beat.{Beat}
-use Rattle.tl_beat.specs.declared.beat.Beat.TheVariants as beat
-use Rattle.tl_beat.specs.declared.beat.Link.{Link}
-use Rattle.tl_params.specs.declared.perm.Perm.TheVariants as perm
-use Rattle.tl_rules.specs.statement.Conformance.{Trace, on_link}
-use Rattle.tl_rules.specs.statement.Effect.{Memory, after, effect}
-use Rattle.tl_rules.specs.statement.History.{block_at, ends, is_release_ack}
-use Rattle.tl_rules.specs.statement.Windows.{is_free}
-use Rattle.tl_bytes.specs.statement.Bytes.{Access, access_writes, ends_request, is_of, may_be}
-use Rattle.tl_bytes.specs.statement.Bytes.{pending_accesses}
+use Rattle.tl_params.specs.declared.perm.Perm.{Perm}
+use Rattle.tl_rules.{specs.statement.Effect.after, specs.statement.History.ends}
+use Rattle.tl_bytes.{specs.statement.Bytes.ends_request, proofs.Finding.find-left_out, proofs.Finding.none-some}
 use Rattle.tl_one_memory.proofs.Covered.{AreWindowed, IsCovered, IsOrderly, covered-after, covered-as, is_unwritten}
 use Rattle.tl_one_memory.proofs.Covered.{windowed-after, windowed-as}
-use Rattle.tl_bytes.proofs.Finding.{find-left_out, none-some, same-some}
-use Rattle.tl_bytes.proofs.Pending.{IsPending, asked-by_now}
-use Rattle.tl_one_memory.proofs.Spans.{windowed-free}
+use Rattle.tl_one_memory.{proofs.Spans.windowed-free, specs.statement.Run.is_answered_by}
 use Rattle.tl_one_memory.proofs.Values.{HasFound, after-unwritten, value-pending, value-told}
-use Rattle.tl_one_memory.specs.statement.Run.{IsPerformed, IsRun, IsTaken, Performs, Run, Stores, Takes}
-use Rattle.tl_one_memory.specs.statement.Run.{found_in, is_answered_by, memory_in, trace_in}
 
 -- the access with this source was performed, and isn't answered whole
 abbrev pub IsDone : {w : ℕ} → Memory → Run w → ℕ → ℕ → Type 0
@@ -42,7 +34,7 @@ pub record IsKnown {w : ℕ} (n : ℕ) (first : Memory) (address : ℕ) (run : R
 pub answered-gone : {w : ℕ} (c s : ℕ) (p : Access w) (link : Link) (x : Beat w) (t : Trace w)
     → is_answered_by c s link x t ≡ true → IsPending c s p ((link, x) ∷ t) → ⊥
 unfolding pending_accesses
-answered-gone {w} c s p link (beat.D z) t answered pending =
+answered-gone {w} c s p link (Beat.D z) t answered pending =
     none-some p (sym (rw (whole.1) gone) ∙ pending)
   where
     whole : ((link.0 == c) && (z.source == s) ≡ true) × (ends_request z (on_link link.0 t) ≡ true)
@@ -54,10 +46,10 @@ answered-gone {w} c s p link (beat.D z) t answered pending =
     gone : find (is_of c s) (filter (λ access. not (is_of link.0 z.source access)) (pending_accesses t)) ≡ None
     gone = find-left_out (is_of link.0 z.source) (is_of c s) (pending_accesses t)
         (λ access e. rw (eqb-true link.0 c same.0, eqb-true z.source s same.1) e)
-answered-gone c s p link (beat.A z) t answered pending = absurd cc
-answered-gone c s p link (beat.B z) t answered pending = absurd cc
-answered-gone c s p link (beat.C z) t answered pending = absurd cc
-answered-gone c s p link (beat.E z) t answered pending = absurd cc
+answered-gone c s p link (Beat.A z) t answered pending = absurd cc
+answered-gone c s p link (Beat.B z) t answered pending = absurd cc
+answered-gone c s p link (Beat.C z) t answered pending = absurd cc
+answered-gone c s p link (Beat.E z) t answered pending = absurd cc
 
 -- what was performed by then, and isn't answered now
 pub found-taken : {w : ℕ} (first : Memory) (c s : ℕ) (link : Link) (x : Beat w) (run : Run w) (found : Memory)
@@ -66,9 +58,8 @@ pub found-taken : {w : ℕ} (first : Memory) (c s : ℕ) (link : Link) (x : Beat
 unfolding found_in
 found-taken {w} first c s link x run found is = go (is_answered_by c s link x (trace_in run)) refl is
   where
-    go : (b : Bool) → is_answered_by c s link x (trace_in run) ≡ b
-        → (if b then None else found_in first c s run) ≡ Some found
-        → (is_answered_by c s link x (trace_in run) ≡ false) × (found_in first c s run ≡ Some found)
+    go : (b : Bool) → is_answered_by c s link x (trace_in run) ≡ b → (if b then None else found_in first c s run) ≡ Some
+        found → (is_answered_by c s link x (trace_in run) ≡ false) × (found_in first c s run ≡ Some found)
     go true e f = absurd (none-some found f)
     go false e f = (e, f)
 
@@ -86,7 +77,7 @@ module _ {w : ℕ} (n : ℕ) (first : Memory) (address : ℕ) where
   orderly link x run taken = record {
     asks_new = λ z e completes done. none-some done.0 (sym (taken.asks z e completes) ∙ done.1);
     answers_done = λ z p e completes pending.
-        let both = and_parts (not (is_release_ack z.opcode)) (ends (beat.D z) (on_link link.0 (trace_in run)))
+        let both = and_parts (not (is_release_ack z.opcode)) (ends (Beat.D z) (on_link link.0 (trace_in run)))
         completes in
         let answer = taken.answers_rightly z p e (not-true (is_release_ack z.opcode) both.0) pending in (
           (answer.found, answer.performed),
@@ -255,7 +246,7 @@ module _ {w : ℕ} (n : ℕ) (first : Memory) (address : ℕ) where
 
   -- ---- a client stores to its copy
 
-  known-stored : (block : ℕ) (bytes : Memory) (run : Run w) → is_free n None perm.Branch block (trace_in run) ≡ false
+  known-stored : (block : ℕ) (bytes : Memory) (run : Run w) → is_free n None Perm.Branch block (trace_in run) ≡ false
       → IsKnown n first address run → IsKnown n first address (Stores block bytes ∷ run)
   unfolding trace_in memory_in found_in
   known-stored block bytes run held known = record {
@@ -267,7 +258,7 @@ module _ {w : ℕ} (n : ℕ) (first : Memory) (address : ℕ) where
           → IsCovered n address (if b then bytes address else memory_in first run address) (IsDone first run)
           (Answers first run) (trace_in run)
       go true e unwritten = absurd (let no : false ≡ true =
-          sym held ∙ ap (λ (k : ℕ). is_free n None perm.Branch k (trace_in run))
+          sym held ∙ ap (λ (k : ℕ). is_free n None Perm.Branch k (trace_in run))
           (sym (eqb-true (block_at address) block e))
           ∙ unwritten in cc)
       go false e unwritten = known.covered unwritten

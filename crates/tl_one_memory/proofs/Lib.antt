@@ -6,3 +6,4 @@ pub mod Read
 pub mod Spans
 pub mod Values
 pub mod Worked
+pub mod Imports

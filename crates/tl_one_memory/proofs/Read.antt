@@ -1,27 +1,20 @@
 -- What an answer brings its request may bring.
-use Rattle.std.proofs.Common.{◌≡◌, ℕ, suc, Bool, true, false, not, ◌&&◌, ◌+◌}
-use Rattle.std.proofs.Common.{List, [], ◌∷◌, ◌⊎◌, inl, inr, refl, sym, ap, ◌∙◌, arith, length}
+use Rattle.tl_one_memory.proofs.Imports.{Beat, BeatD, Link, reaches, unfinished, Trace, on_link, Memory, is_release_ack}
+use Rattle.tl_one_memory.proofs.Imports.{Access, access_writes, before_last, could_be, is_of, may_be, pending_accesses}
+use Rattle.tl_one_memory.proofs.Imports.{pending_value, among-filter, same-some, IsPending, asked-by_now, IsAnswer}
+use Rattle.tl_one_memory.proofs.Imports.{IsPerformed, IsRun, IsTaken, Performs, Run, Stores, Takes, found_in, memory_in}
+use Rattle.tl_one_memory.proofs.Imports.{trace_in}
+use Rattle.std.proofs.Common.{◌≡◌, ℕ, suc, Bool, true, false, not, ◌&&◌, ◌+◌, List, [], ◌∷◌, ◌⊎◌, inl, inr, refl, sym}
+use Rattle.std.proofs.Common.{ap, ◌∙◌, arith, length}
 use Rattle.std.specs.Prelude.{if◌then◌else◌, filter, Some, ◌==◌}
 use Rattle.std.proofs.lemmas.Bool.{and_from, and_parts, eqb-true, le-leb, or_left, or_right}
-use Rattle.tl_beat.specs.declared.beat.Beat.{Beat}
-use Rattle.tl_beat.specs.declared.beat.Beat.TheVariants as beat
-use Rattle.tl_beat.specs.declared.beat.BeatD.{BeatD}
-use Rattle.tl_beat.specs.declared.beat.Link.{Link}
-use Rattle.tl_beat.specs.declared.channel.Channel.TheVariants as channel
-use Rattle.tl_burst.specs.statement.Burst.{reaches}
-use Rattle.tl_burst.specs.statement.Messages.{History, burst_length, grown, on, unfinished}
-use Rattle.tl_rules.specs.statement.Conformance.{Trace, on_link}
-use Rattle.tl_rules.specs.statement.Effect.{Memory}
-use Rattle.tl_rules.specs.statement.History.{is_release_ack}
-use Rattle.tl_bytes.specs.statement.Bytes.{Access, access_writes, before_last, could_be, is_of, may_be, may_read}
-use Rattle.tl_bytes.specs.statement.Bytes.{pending_accesses, pending_value, told_as, written_as}
-use Rattle.tl_one_memory.proofs.Covered.{IsWrittenNow}
-use Rattle.tl_bytes.proofs.Finding.{among-filter, among-found, found-among, found-passes, none-some, same-some}
-use Rattle.tl_one_memory.proofs.Granted.{told-as}
+use Rattle.tl_beat.specs.declared.channel.Channel.{Channel}
+use Rattle.tl_burst.specs.statement.Messages.{History, burst_length, grown, on}
+use Rattle.tl_bytes.specs.statement.Bytes.{may_read, told_as, written_as}
+use Rattle.tl_one_memory.{proofs.Covered.IsWrittenNow, proofs.Granted.told-as, specs.statement.Run.is_answered_by}
+use Rattle.tl_bytes.proofs.Finding.{among-found, found-among, found-passes, none-some}
 use Rattle.tl_one_memory.proofs.Known.{Answers, IsDone, answered-gone, found-still, found-taken, known}
-use Rattle.tl_bytes.proofs.Pending.{IsPending, asked-by_now, pending-before}
-use Rattle.tl_one_memory.specs.statement.Run.{IsAnswer, IsPerformed, IsRun, IsTaken, Performs, Run, Stores, Takes}
-use Rattle.tl_one_memory.specs.statement.Run.{found_in, is_answered_by, memory_in, trace_in}
+use Rattle.tl_bytes.proofs.Pending.{pending-before}
 
 -- ---- what a pending access may bring
 
@@ -94,8 +87,7 @@ module _ {w : ℕ} (n : ℕ) (first : Memory) where
   read-performed d i run is runs before c s p found performed pending address reached =
       go ((d == c) && (i == s)) refl performed
     where
-      now : (c ≡ d) × (s ≡ i) → found ≡ memory_in first run
-          → may_read n p (trace_in run) address (found address) ≡ true
+      now : (c ≡ d) × (s ≡ i) → found ≡ memory_in first run → may_read n p (trace_in run) address (found address) ≡ true
       now same e = rw e (read-now n c s p (trace_in run) address (memory_in first run address) pending
           (elim ((known n first address run runs).covered (is.reads_free address
           (ap (λ (q : Access w). reaches q.request.address q.request.size address) this ∙ reached))) [
@@ -107,9 +99,8 @@ module _ {w : ℕ} (n : ℕ) (first : Memory) where
           this : is.access ≡ p
           this = same-some p is.access (sym pending ∙ rw (same.0, same.1) is.pending)
 
-          other : (written : IsWrittenNow n address (memory_in first run address) (IsDone first run)
-              (Answers first run) (trace_in run))
-              → is_of p.link p.request.source written.access ≡ true → ⊥
+          other : (written : IsWrittenNow n address (memory_in first run address) (IsDone first run) (Answers first run)
+              (trace_in run)) → is_of p.link p.request.source written.access ≡ true → ⊥
           other written e =
               let mine = and_parts (p.link == c) (p.request.source == s)
               (found-passes (is_of c s) (pending_accesses (trace_in run)) p pending) in
@@ -126,9 +117,8 @@ module _ {w : ℕ} (n : ℕ) (first : Memory) where
               ∙ eqb-true p.request.source s mine.1 ∙ same.1 in
               none-some written.performed.0 (sym is.once ∙ rw (← link, ← source) written.performed.1)
 
-      go : (b : Bool) → (d == c) && (i == s) ≡ b
-          → (if b then Some (memory_in first run) else found_in first c s run) ≡ Some found
-          → may_read n p (trace_in run) address (found address) ≡ true
+      go : (b : Bool) → (d == c) && (i == s) ≡ b → (if b then Some (memory_in first run) else found_in first c s run)
+          ≡ Some found → may_read n p (trace_in run) address (found address) ≡ true
       go true e f =
           let both = and_parts (d == c) (i == s) e in
           now (sym (eqb-true d c both.0), sym (eqb-true i s both.1)) (same-some (memory_in first run) found f)
@@ -144,24 +134,23 @@ module _ {w : ℕ} (n : ℕ) (first : Memory) where
   -- ---- an answer that has begun
 
   -- what has begun on channel D has beats of it
-  pub begun-on_d : (b : Beat w) (older : List (Beat w)) (h : History w) → unfinished channel.D h ≡ b ∷ older
-      → on channel.D b ≡ true
+  pub begun-on_d : (b : Beat w) (older : List (Beat w)) (h : History w) → unfinished Channel.D h ≡ b ∷ older
+      → on Channel.D b ≡ true
   unfolding unfinished
   begun-on_d b older [] e = absurd cc
-  begun-on_d b older (x ∷ h) e = go (on channel.D x) refl (begun-on_d b older h) e
+  begun-on_d b older (x ∷ h) e = go (on Channel.D x) refl (begun-on_d b older h) e
     where
       first_is : (y z : Beat w) (ys zs : List (Beat w)) → y ∷ ys ≡ z ∷ zs → z ≡ y
       first_is y z ys zs f = cc
 
-      more : on channel.D x ≡ true → (last : Bool) → (if last then [] else x ∷ unfinished channel.D h) ≡ b ∷ older
-          → on channel.D b ≡ true
+      more : on Channel.D x ≡ true → (last : Bool) → (if last then [] else x ∷ unfinished Channel.D h) ≡ b ∷ older
+          → on Channel.D b ≡ true
       more f true g = absurd cc
-      more f false g = rw (first_is x b (unfinished channel.D h) older g) f
+      more f false g = rw (first_is x b (unfinished Channel.D h) older g) f
 
-      go : (d : Bool) → on channel.D x ≡ d → (unfinished channel.D h ≡ b ∷ older → on channel.D b ≡ true)
-          → (if d then grown x (unfinished channel.D h) else unfinished channel.D h) ≡ b ∷ older
-          → on channel.D b ≡ true
-      go true f before g = more f (length (unfinished channel.D h) + 1 == burst_length x) g
+      go : (d : Bool) → on Channel.D x ≡ d → (unfinished Channel.D h ≡ b ∷ older → on Channel.D b ≡ true)
+          → (if d then grown x (unfinished Channel.D h) else unfinished Channel.D h) ≡ b ∷ older → on Channel.D b ≡ true
+      go true f before g = more f (length (unfinished Channel.D h) + 1 == burst_length x) g
       go false f before g = before g
 
   -- the access whose answer has begun was performed, and may bring what it found by what was so before
@@ -172,42 +161,42 @@ module _ {w : ℕ} (n : ℕ) (first : Memory) where
 
   abbrev AreBegunRead : Run w → Type 0
   AreBegunRead run = (c : ℕ) (z : BeatD w) (older : List (Beat w)) (p : Access w)
-      → unfinished channel.D (on_link c (trace_in run)) ≡ beat.D z ∷ older → is_release_ack z.opcode ≡ false
+      → unfinished Channel.D (on_link c (trace_in run)) ≡ Beat.D z ∷ older → is_release_ack z.opcode ≡ false
       → IsPending c z.source p (trace_in run) → IsReadBefore c z.source p (suc (length older)) run
 
   -- at a beat of an answer
-  pub read-next : (link : Link) (z : BeatD w) (p : Access w) (run : Run w) → IsTaken n first link (beat.D z) run
+  pub read-next : (link : Link) (z : BeatD w) (p : Access w) (run : Run w) → IsTaken n first link (Beat.D z) run
       → IsRun n first run → AreBegunRead run → is_release_ack z.opcode ≡ false
       → IsPending link.0 z.source p (trace_in run)
-      → IsReadBefore link.0 z.source p (length (unfinished channel.D (on_link link.0 (trace_in run)))) run
+      → IsReadBefore link.0 z.source p (length (unfinished Channel.D (on_link link.0 (trace_in run)))) run
   unfolding before_last
   read-next link z p run taken is begun no_ack pending =
-      go (unfinished channel.D (on_link link.0 (trace_in run))) refl
+      go (unfinished Channel.D (on_link link.0 (trace_in run))) refl
     where
       answer : IsAnswer first link.0 z p run
       answer = taken.answers_rightly z p refl no_ack pending
 
-      go : (burst : List (Beat w)) → unfinished channel.D (on_link link.0 (trace_in run)) ≡ burst
+      go : (burst : List (Beat w)) → unfinished Channel.D (on_link link.0 (trace_in run)) ≡ burst
           → IsReadBefore link.0 z.source p (length burst) run
       go [] e = (
         answer.found,
         answer.performed,
         λ address reached. are-read run is link.0 z.source p answer.found answer.performed pending address reached,
       )
-      go (beat.D y ∷ older) e =
+      go (Beat.D y ∷ older) e =
           let same = taken.continues z y older refl e in
           rw same.1 (begun link.0 y older p e (ap is_release_ack (sym same.0) ∙ no_ack) (rw (← same.1) pending))
-      go (beat.A y ∷ older) e = absurd (let no : false ≡ true = begun-on_d (beat.A y) older _ e in cc)
-      go (beat.B y ∷ older) e = absurd (let no : false ≡ true = begun-on_d (beat.B y) older _ e in cc)
-      go (beat.C y ∷ older) e = absurd (let no : false ≡ true = begun-on_d (beat.C y) older _ e in cc)
-      go (beat.E y ∷ older) e = absurd (let no : false ≡ true = begun-on_d (beat.E y) older _ e in cc)
+      go (Beat.A y ∷ older) e = absurd (let no : false ≡ true = begun-on_d (Beat.A y) older _ e in cc)
+      go (Beat.B y ∷ older) e = absurd (let no : false ≡ true = begun-on_d (Beat.B y) older _ e in cc)
+      go (Beat.C y ∷ older) e = absurd (let no : false ≡ true = begun-on_d (Beat.C y) older _ e in cc)
+      go (Beat.E y ∷ older) e = absurd (let no : false ≡ true = begun-on_d (Beat.E y) older _ e in cc)
 
-  same-newest : (a b : BeatD w) (xs ys : List (Beat w)) → beat.D a ∷ xs ≡ beat.D b ∷ ys → (b ≡ a) × (ys ≡ xs)
+  same-newest : (a b : BeatD w) (xs ys : List (Beat w)) → Beat.D a ∷ xs ≡ Beat.D b ∷ ys → (b ≡ a) × (ys ≡ xs)
   same-newest a b xs ys f = (cc, cc)
 
-  begun-here : (link : Link) (y : BeatD w) (run : Run w) → IsTaken n first link (beat.D y) run → IsRun n first run
+  begun-here : (link : Link) (y : BeatD w) (run : Run w) → IsTaken n first link (Beat.D y) run → IsRun n first run
       → AreBegunRead run → (c : ℕ) (z : BeatD w) (older : List (Beat w)) (p : Access w) → link.0 ≡ c → z ≡ y
-      → older ≡ unfinished channel.D (on_link c (trace_in run)) → is_release_ack z.opcode ≡ false
+      → older ≡ unfinished Channel.D (on_link c (trace_in run)) → is_release_ack z.opcode ≡ false
       → IsPending c z.source p (trace_in run) → IsReadBefore c z.source p (length older) run
   begun-here link y run taken is begun c z older p own same rest no_ack pending =
       rw (rest, same, ← own)
@@ -242,39 +231,36 @@ module _ {w : ℕ} (n : ℕ) (first : Memory) where
       )
 
       -- the beat is another one
-      apart : unfinished channel.D (on_link c t) ≡ beat.D z ∷ older
+      apart : unfinished Channel.D (on_link c t) ≡ Beat.D z ∷ older
           → before_last c (suc (length older)) ((link, x) ∷ t) ≡ before_last c (suc (length older)) t → Result
       apart f same = elim (pending-before c z.source p (link, x) t pending) [
         | inl old ↦ still (suc (length older)) same (begun c z older p f no_ack old)
         | inr new ↦ absurd (taken.asks_first new.first z older new.beat_is new.completes
-            (ap (λ (d : ℕ). unfinished channel.D (on_link d t)) (sym new.link_is) ∙ f) no_ack new.source_is)
+            (ap (λ (d : ℕ). unfinished Channel.D (on_link d t)) (sym new.link_is) ∙ f) no_ack new.source_is)
       ]
 
       -- it is the newest of the burst
-      newest : (y : BeatD w) → x ≡ beat.D y → link.0 ≡ c → (last : Bool)
-          → (if last then [] else beat.D y ∷ unfinished channel.D (on_link c t)) ≡ beat.D z ∷ older
+      newest : (y : BeatD w) → x ≡ Beat.D y → link.0 ≡ c → (last : Bool)
+          → (if last then [] else Beat.D y ∷ unfinished Channel.D (on_link c t)) ≡ Beat.D z ∷ older
           → before_last c (suc (length older)) ((link, x) ∷ t) ≡ before_last c (length older) t → Result
       newest y f own true g same = absurd cc
       newest y f own false g same =
-          let parts = same-newest y z (unfinished channel.D (on_link c t)) older g in
+          let parts = same-newest y z (unfinished Channel.D (on_link c t)) older g in
           still (length older) same
           (begun-here link y run (rw (← f) taken) is begun c z older p own parts.0 parts.1 no_ack
           (elim (pending-before c z.source p (link, x) t pending) [
             | inl old ↦ old
-            | inr new ↦ absurd (let no : beat.D y ≡ beat.A new.first = sym f ∙ new.beat_is in cc)
+            | inr new ↦ absurd (let no : Beat.D y ≡ Beat.A new.first = sym f ∙ new.beat_is in cc)
           ]))
 
       on_link_c : (b : Beat w) → x ≡ b → (link.0 == c) ≡ true
-          → unfinished channel.D (b ∷ on_link c t) ≡ beat.D z ∷ older → Result
-      on_link_c (beat.D y) f own g = newest y f (eqb-true link.0 c own)
-          (length (unfinished channel.D (on_link c t)) + 1 == burst_length (beat.D y)) g (rw (f, own) refl)
-      on_link_c (beat.A y) f own g = apart g (rw (f, own) refl)
-      on_link_c (beat.B y) f own g = apart g (rw (f, own) refl)
-      on_link_c (beat.C y) f own g = apart g (rw (f, own) refl)
-      on_link_c (beat.E y) f own g = apart g (rw (f, own) refl)
+          → unfinished Channel.D (b ∷ on_link c t) ≡ Beat.D z ∷ older → Result
+      on_link_c (Beat.D y) f own g = newest y f (eqb-true link.0 c own)
+          (length (unfinished Channel.D (on_link c t)) + 1 == burst_length (Beat.D y)) g (rw (f, own) refl)
+      on_link_c v f own g = apart g (rw (f, own) refl)
 
       here : (b : Bool) → (link.0 == c) ≡ b
-          → unfinished channel.D (if b then x ∷ on_link c t else on_link c t) ≡ beat.D z ∷ older → Result
+          → unfinished Channel.D (if b then x ∷ on_link c t else on_link c t) ≡ Beat.D z ∷ older → Result
       here true own g = on_link_c x refl own g
       here false own g = apart g (rw own refl)
 
@@ -285,8 +271,7 @@ module _ {w : ℕ} (n : ℕ) (first : Memory) where
       let before = begun c z older p e no_ack pending in
       (before.0, go before.0 before.1 ((d == c) && (i == z.source)) refl, before.2)
     where
-      go : (found : Memory) → found_in first c z.source run ≡ Some found → (b : Bool)
-          → (d == c) && (i == z.source) ≡ b
+      go : (found : Memory) → found_in first c z.source run ≡ Some found → (b : Bool) → (d == c) && (i == z.source) ≡ b
           → (if b then Some (memory_in first run) else found_in first c z.source run) ≡ Some found
       go found f true g = let both = and_parts (d == c) (i == z.source) g in
           absurd (none-some found (sym is.once ∙ rw (eqb-true d c both.0, eqb-true i z.source both.1) f))

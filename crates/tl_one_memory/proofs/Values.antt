@@ -1,20 +1,18 @@
 -- What an access writes, by the bytes that it found.
-use Rattle.std.proofs.Common.{◌≡◌, ℕ, zero, suc, Bool, true, false, ◌||◌, ◌+◌, ◌-◌, ◌*◌, ◌^◌, ◌<◌, ◌≤◌}
-use Rattle.std.proofs.Common.{List, [], refl, sym, ap, ◌∙◌, arith}
+use Rattle.tl_one_memory.proofs.Imports.{Beat, reaches, Memory, effect, Access, access_writes, carried_byte, could_be}
+use Rattle.tl_one_memory.proofs.Imports.{pending_value}
+use Rattle.std.proofs.Common.{◌≡◌, ℕ, zero, suc, Bool, true, false, ◌||◌, ◌+◌, ◌-◌, ◌*◌, ◌^◌, ◌<◌, ◌≤◌, List, [], refl}
+use Rattle.std.proofs.Common.{sym, ap, ◌∙◌, arith}
 use Rattle.std.specs.Prelude.{if◌then◌else◌, Option, Some, None, is_some, unwrap_or, find}
 use Rattle.std.proofs.lemmas.Bool.{and_from, eq-eqb, le-leb, lt-ltb}
-use Rattle.tl_beat.specs.declared.beat.Beat.{Beat}
 use Rattle.tl_beat.specs.declared.opcode.OpA.{OpA}
-use Rattle.tl_beat.specs.declared.opcode.OpA.TheVariants as a
-use Rattle.tl_burst.specs.declared.message.Message.TheVariants as message
-use Rattle.tl_burst.specs.declared.message.MessageA.{MessageA}
-use Rattle.tl_burst.specs.statement.Burst.{byte_at, reaches}
+use Rattle.tl_burst.{specs.declared.message.Message.Message, specs.declared.message.MessageA.MessageA}
+use Rattle.tl_burst.{specs.statement.Burst.byte_at}
 use Rattle.tl_params.specs.statement.Param.{arithmetic_of, logical_of}
 use Rattle.tl_rules.specs.statement.Admission.{is_spoiled}
-use Rattle.tl_rules.specs.statement.Effect.{Memory, after, arithmetic_result, byte_count, byte_of, by_param, effect}
-use Rattle.tl_rules.specs.statement.Effect.{logical_result, number_from, number_stored, operand_of}
-use Rattle.tl_bytes.specs.statement.Bytes.{Access, access_writes, carried_byte, could_be, found_memory, pending_value}
-use Rattle.tl_bytes.specs.statement.Bytes.{value_written, writes}
+use Rattle.tl_rules.specs.statement.Effect.{after, arithmetic_result, byte_count, byte_of, by_param, logical_result}
+use Rattle.tl_rules.specs.statement.Effect.{number_from, number_stored, operand_of}
+use Rattle.tl_bytes.specs.statement.Bytes.{found_memory, value_written, writes}
 use Rattle.tl_one_memory.specs.statement.Run.{place_in, returns}
 
 -- the burst has the bytes that the access found in this memory, where it returns them
@@ -31,8 +29,7 @@ number-same f g base zero same = refl
 number-same f g base (suc k) same =
     rw (
       same base (omega arith) (omega arith),
-      number-same f g (base + 1) k (λ address from to.
-          same address (omega (arith, from)) (omega (arith, to))),
+      number-same f g (base + 1) k (λ address from to. same address (omega (arith, from)) (omega (arith, to))),
     ) refl
 
 some-or : (x : Option ℕ) (u v : ℕ) → is_some x ≡ true → unwrap_or x u ≡ unwrap_or x v
@@ -64,30 +61,24 @@ module _ {w : ℕ} (r : MessageA w) (f g : Memory) where
   -- what is written is the same in both
   pub after-same : (o : OpA) (address : ℕ) → AreSame o → writes o r address ≡ true
       → after o r f address ≡ after o r g address
-  after-same a.PutFullData address same e = some-or (byte_at 0 (message.A r) address) (f address) (g address) e
-  after-same a.PutPartialData address same e = some-or (byte_at 0 (message.A r) address) (f address) (g address) e
-  after-same a.ArithmeticData address same e = number-written _ _
+  after-same OpA.PutFullData address same e = some-or (byte_at 0 (Message.A r) address) (f address) (g address) e
+  after-same OpA.PutPartialData address same e = some-or (byte_at 0 (Message.A r) address) (f address) (g address) e
+  after-same OpA.ArithmeticData address same e = number-written _ _
       (stored-same (by_param (λ o. arithmetic_result o (8 * byte_count r)) (arithmetic_of r.param)) (same refl))
       (reaches r.address r.size address) e address
-  after-same a.LogicalData address same e = number-written _ _
+  after-same OpA.LogicalData address same e = number-written _ _
       (stored-same (by_param logical_result (logical_of r.param)) (same refl))
       (reaches r.address r.size address) e address
-  after-same a.Get address same e = absurd cc
-  after-same a.Intent address same e = absurd cc
-  after-same a.AcquireBlock address same e = absurd cc
-  after-same a.AcquirePerm address same e = absurd cc
+  after-same v address same e = absurd cc
 
 -- and what isn't is as it was
 pub after-unwritten : {w : ℕ} (o : OpA) (r : MessageA w) (f : Memory) (address : ℕ) → writes o r address ≡ false
     → after o r f address ≡ f address
-after-unwritten a.PutFullData r f address e = none-or (byte_at 0 (message.A r) address) (f address) e
-after-unwritten a.PutPartialData r f address e = none-or (byte_at 0 (message.A r) address) (f address) e
-after-unwritten a.ArithmeticData r f address e = rw e refl
-after-unwritten a.LogicalData r f address e = rw e refl
-after-unwritten a.Get r f address e = refl
-after-unwritten a.Intent r f address e = refl
-after-unwritten a.AcquireBlock r f address e = refl
-after-unwritten a.AcquirePerm r f address e = refl
+after-unwritten OpA.PutFullData r f address e = none-or (byte_at 0 (Message.A r) address) (f address) e
+after-unwritten OpA.PutPartialData r f address e = none-or (byte_at 0 (Message.A r) address) (f address) e
+after-unwritten OpA.ArithmeticData r f address e = rw e refl
+after-unwritten OpA.LogicalData r f address e = rw e refl
+after-unwritten v r f address e = refl
 
 -- the value that an access has written is the one that its answer tells
 pub value-told : {w : ℕ} (p : Access w) (found : Memory) (burst : List (Beat w)) (address : ℕ) → HasFound found p burst
@@ -102,8 +93,7 @@ value-told {w} p found burst address has writing = go (p.spoiled || is_some (fin
         (λ reads k reached. ap (λ (o : Option ℕ). unwrap_or o 0) (has reads k reached)) writing
 
     go : (b : Bool) → could_be (after p.request.opcode p.request found address)
-        (if b then None
-        else Some (after p.request.opcode p.request (found_memory p.request burst) address)) ≡ true
+        (if b then None else Some (after p.request.opcode p.request (found_memory p.request burst) address)) ≡ true
     go true = refl
     go false = eq-eqb _ _ same
 
@@ -119,11 +109,6 @@ value-pending {w} p found address writing = go p.request.opcode refl
     put none = value-told p found [] address (λ reads. absurd (let bad : false ≡ true = sym none ∙ reads in cc)) writing
 
     go : (o : OpA) → p.request.opcode ≡ o → could_be now (pending_value o p address) ≡ true
-    go a.PutFullData e = put (ap returns e)
-    go a.PutPartialData e = put (ap returns e)
-    go a.ArithmeticData e = refl
-    go a.LogicalData e = refl
-    go a.Get e = refl
-    go a.Intent e = refl
-    go a.AcquireBlock e = refl
-    go a.AcquirePerm e = refl
+    go OpA.PutFullData e = put (ap returns e)
+    go OpA.PutPartialData e = put (ap returns e)
+    go v e = refl

@@ -1,27 +1,20 @@
 -- A worked run: one link writes eight bytes, and then another reads them.
-use Rattle.std.proofs.Common.{◌≡◌, ◌+◌, ◌-◌, ◌*◌, ◌/◌, ℕ, zero, suc, true, false}
-use Rattle.std.proofs.Common.{List, [], ◌∷◌, refl, sym, ◌∙◌, subst, arith}
+use Rattle.tl_one_memory.proofs.Imports.{Beat, BeatD, Link, reaches, unfinished, on_link, Memory, effect, block_at}
+use Rattle.tl_one_memory.proofs.Imports.{is_free, Access, carried_byte, is_of, pending_accesses, IsAnswer, IsPerformed}
+use Rattle.tl_one_memory.proofs.Imports.{IsRun, IsTaken, Performs, Run, Takes, found_in, memory_in, trace_in}
+use Rattle.std.proofs.Common.{◌≡◌, ◌+◌, ◌-◌, ◌*◌, ◌/◌, ℕ, zero, suc, true, false, List, [], ◌∷◌, refl, sym, ◌∙◌, subst}
+use Rattle.std.proofs.Common.{arith}
 use Rattle.std.specs.Prelude.{find, nat_le, nat_lt, Some, None, unwrap_or}
 use Rattle.std.proofs.lemmas.Bool.{and_parts, ltb-true}
-use Rattle.tl_beat.specs.declared.beat.Beat.{Beat}
-use Rattle.tl_beat.specs.declared.beat.Beat.TheVariants as beat
-use Rattle.tl_beat.specs.declared.beat.BeatA.{BeatA}
-use Rattle.tl_beat.specs.declared.beat.BeatD.{BeatD}
-use Rattle.tl_beat.specs.declared.beat.Link.{Link}
-use Rattle.tl_beat.specs.declared.channel.Channel.TheVariants as channel
-use Rattle.tl_beat.specs.declared.opcode.OpD.TheVariants as d
-use Rattle.tl_burst.specs.statement.Burst.{reaches}
-use Rattle.tl_burst.specs.statement.Messages.{unfinished}
-use Rattle.tl_params.specs.declared.perm.Perm.TheVariants as perm
+use Rattle.tl_beat.{specs.declared.beat.BeatA.BeatA, specs.declared.channel.Channel.Channel}
+use Rattle.tl_beat.{specs.declared.opcode.OpD.OpD}
+use Rattle.tl_params.specs.declared.perm.Perm.{Perm}
 use Rattle.tl_rules.specs.statement.Admission.{bytes_carried}
-use Rattle.tl_rules.specs.statement.Conformance.{on_link}
-use Rattle.tl_rules.specs.statement.Effect.{Memory, bytes_from, effect, number_from}
-use Rattle.tl_rules.specs.statement.History.{block_at, held, request_of}
-use Rattle.tl_rules.specs.statement.Windows.{is_free}
-use Rattle.tl_bytes.specs.statement.Bytes.{Access, carried_byte, carried_mask, is_of, pending_accesses, tells}
+use Rattle.tl_rules.specs.statement.Effect.{bytes_from, number_from}
+use Rattle.tl_rules.specs.statement.History.{held, request_of}
+use Rattle.tl_bytes.specs.statement.Bytes.{carried_mask, tells}
 use Rattle.tl_bytes.proofs.WorkedBeats.{done, eight, found, get, put}
-use Rattle.tl_one_memory.specs.statement.Run.{Happening, IsAnswer, IsPerformed, IsRun, IsTaken, Performs, Run, Takes}
-use Rattle.tl_one_memory.specs.statement.Run.{found_in, memory_in, trace_in}
+use Rattle.tl_one_memory.specs.statement.Run.{Happening}
 
 abbrev zeros : Memory
 zeros address = 0
@@ -38,13 +31,13 @@ written = takes (done 0 0 3) ∷ Performs 0 0 ∷ takes (put 0 0 3 (eight 7) 255
 abbrev read : Run 8
 read = takes (found 1 0 3 (eight 7)) ∷ Performs 1 0 ∷ takes (get 1 0 3 255) ∷ written
 
-same_d : (x y : BeatD 8) → beat.D x ≡ beat.D y → x ≡ y
+same_d : (x y : BeatD 8) → Beat.D x ≡ Beat.D y → x ≡ y
 same_d x y e = cc
 
 -- an answer to the access that is pending with its source
 answers-one : (first : Memory) (link : ℕ) (x : BeatD 8) (p : Access 8) (run : Run 8)
     → find (is_of link x.source) (pending_accesses (trace_in run)) ≡ Some p → IsAnswer first link x p run
-    → (z : BeatD 8) (access : Access 8) → beat.D x ≡ beat.D z
+    → (z : BeatD 8) (access : Access 8) → Beat.D x ≡ Beat.D z
     → find (is_of link z.source) (pending_accesses (trace_in run)) ≡ Some access → IsAnswer first link z access run
 answers-one first link x p run is answer z access e =
     subst (λ (i : BeatD 8). find (is_of link i.source) (pending_accesses (trace_in run)) ≡ Some access
@@ -62,19 +55,17 @@ unequal : true ≡ false → ⊥
 unequal e = cc
 
 -- a beat that begins where no response has, tells nothing and is no Grant, where no link holds anything
-plain : (link : Link) (x : Beat 8) (run : Run 8) → unfinished channel.D (on_link link.0 (trace_in run)) ≡ []
-    → ((z : BeatA 8) → x ≡ beat.A z → found_in zeros link.0 z.source run ≡ None)
-    → ((z : BeatD 8) (access : Access 8) → x ≡ beat.D z
-    → find (is_of link.0 z.source) (pending_accesses (trace_in run)) ≡ Some access → IsAnswer zeros link.0 z access run)
-    → ((z : BeatD 8) → x ≡ beat.D z → z.opcode ≡ d.GrantData → ⊥)
+plain : (link : Link) (x : Beat 8) (run : Run 8) → unfinished Channel.D (on_link link.0 (trace_in run)) ≡ []
+    → ((z : BeatA 8) → x ≡ Beat.A z → found_in zeros link.0 z.source run ≡ None)
+    → ((z : BeatD 8) (access : Access 8) → x ≡ Beat.D z → find (is_of link.0 z.source) (pending_accesses (trace_in run))
+    ≡ Some access → IsAnswer zeros link.0 z access run) → ((z : BeatD 8) → x ≡ Beat.D z → z.opcode ≡ OpD.GrantData → ⊥)
     → ((block : ℕ) → tells block x (on_link link.0 (trace_in run)) ≡ false)
-    → ((block : ℕ) → is_free 2 None perm.Branch block (trace_in run) ≡ true)
-    → ((block : ℕ) → is_free 2 None perm.Trunk block ((link, x) ∷ trace_in run) ≡ true)
-    → IsTaken 2 zeros link x run
+    → ((block : ℕ) → is_free 2 None Perm.Branch block (trace_in run) ≡ true)
+    → ((block : ℕ) → is_free 2 None Perm.Trunk block ((link, x) ∷ trace_in run) ≡ true) → IsTaken 2 zeros link x run
 plain link x run fresh asks answers no_grant untold before after = record {
   asks = λ z e both. asks z e;
-  asks_first = λ z y older e both begun no_ack same. nil-cons (beat.D y) older (sym fresh ∙ begun);
-  continues = λ z y older e begun. absurd (nil-cons (beat.D y) older (sym fresh ∙ begun));
+  asks_first = λ z y older e both begun no_ack same. nil-cons (Beat.D y) older (sym fresh ∙ begun);
+  continues = λ z y older e begun. absurd (nil-cons (Beat.D y) older (sym fresh ∙ begun));
   answers_rightly = λ z access e no_ack pending. answers z access e pending;
   grants_rightly = λ z asked e grant open_so. absurd (no_grant z e grant);
   tells_rightly = λ address free told. absurd (unequal (sym told ∙ untold (block_at address)));
@@ -84,7 +75,7 @@ plain link x run fresh asks answers no_grant untold before after = record {
 
 -- a response in a beat, and an access among those that are pending
 abbrev response : Beat 8 → BeatD 8 → BeatD 8
-response (beat.D x) other = x
+response (Beat.D x) other = x
 response _ other = other
 
 abbrev pending_of : ℕ → ℕ → Run 8 → Access 8 → Access 8
@@ -130,8 +121,7 @@ unfolding trace_in found_in memory_in on_link unfinished pending_accesses held r
     carried_mask bytes_carried effect bytes_from number_from
 done-taken = plain (record { 0 = 0 }) (done 0 0 3).1 performed refl (λ z e. absurd cc)
     (λ z access e pending. answers-one zeros 0 (response (done 0 0 3).1 z) (pending_of 0 0 performed access) performed
-    refl (put-answered z access) z access e pending)
-    (λ z e grant. cc) (λ block. refl) (λ block. refl) (λ block. refl)
+    refl (put-answered z access) z access e pending) (λ z e grant. cc) (λ block. refl) (λ block. refl) (λ block. refl)
 
 get-taken : IsTaken 2 zeros (record { 0 = 1 }) (get 1 0 3 255).1 written
 unfolding trace_in found_in memory_in on_link unfinished pending_accesses held request_of is_free carried_byte
@@ -157,9 +147,8 @@ abbrev looked : Run 8
 looked = Performs 1 0 ∷ wanted
 
 -- memory has the bytes that were written
-sevens : (address : ℕ) → reaches 0 3 address ≡ true
-    → carried_byte {w = 8} ((found 1 0 3 (eight 7)).1 ∷ []) (address - 8 * (0 / 8)) ≡ Some
-    (memory_in zeros wanted address)
+sevens : (address : ℕ) → reaches 0 3 address ≡ true → carried_byte {w = 8} ((found 1 0 3 (eight 7)).1 ∷ [])
+    (address - 8 * (0 / 8)) ≡ Some (memory_in zeros wanted address)
 unfolding trace_in found_in memory_in on_link unfinished pending_accesses held request_of is_free carried_byte
     carried_mask bytes_carried effect bytes_from number_from
 sevens zero reached = refl

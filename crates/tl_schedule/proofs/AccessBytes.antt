@@ -1,7 +1,6 @@
 -- The bytes of an access.
 use Rattle.std.proofs.Common.{◌≡◌, ◌≤◌, ◌-◌, ◌^◌, ℕ, List, length, lit<, refl, ap, sym, ◌∙◌, arith}
-use Rattle.std.proofs.Math.Nat.{pow-le-pow_right}
-use Rattle.std.proofs.lemmas.List.{append-nil}
+use Rattle.std.{proofs.Math.Nat.pow-le-pow_right, proofs.lemmas.List.append-nil}
 use Rattle.std.specs.Prelude.{Option, Some, None, option_map}
 use Rattle.tl_client.specs.statement.Offer.{padded}
 use Rattle.tl_schedule.specs.code.FieldReading.{bytes_in, last}

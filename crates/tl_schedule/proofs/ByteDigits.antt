@@ -1,11 +1,9 @@
 -- The digits of bytes, the last byte first.
 use Rattle.std.proofs.Common.{◌≡◌, ◌<◌, ◌≤◌, ℕ, suc, ◌+◌, ◌-◌, ◌^◌, List, [], ◌∷◌, ◌++◌, length, get_or, take, drop}
 use Rattle.std.proofs.Common.{refl, sym, ap, ◌∙◌, arith, append_assoc, lit<}
-use Rattle.std.proofs.Math.Nat.{pow-le-pow_right}
-use Rattle.std.proofs.Math.Seq.{drop-cons}
+use Rattle.std.{proofs.Math.Nat.pow-le-pow_right, proofs.Math.Seq.drop-cons}
 use Rattle.std.proofs.lemmas.List.{append-nil, drop-drop, drop_all, take-append-drop, take_all}
-use Rattle.tl_beat.specs.statement.Digits.{digits, lane_digits}
-use Rattle.tl_beat.proofs.LaneDigits.{halves-digits}
+use Rattle.tl_beat.{specs.statement.Digits.digits, specs.statement.Digits.lane_digits, proofs.LaneDigits.halves-digits}
 
 no_digits : lane_digits [] ≡ []
 unfolding lane_digits
@@ -20,8 +18,7 @@ pub nothing_behind : (n : ℕ) (bytes old : List ℕ) → length bytes ≤ n →
 nothing_behind n bytes old le = rw (drop_all n bytes le, no_digits, append-nil) refl
 
 pub append-step : (i : ℕ) (bytes old out pair : List ℕ) → i < length bytes
-    → pair ≡ digits 2 (get_or bytes (length bytes - 1 - i) 0)
-    → out ≡ old ++ lane_digits (drop (length bytes - i) bytes)
+    → pair ≡ digits 2 (get_or bytes (length bytes - 1 - i) 0) → out ≡ old ++ lane_digits (drop (length bytes - i) bytes)
     → out ++ pair ≡ old ++ lane_digits (drop (length bytes - (i + 1)) bytes)
 append-step i bytes old out pair lt two so_far =
     let at : length bytes - (i + 1) ≡ length bytes - 1 - i = omega arith in

@@ -1,25 +1,17 @@
 -- What is read at its places was said so.
-use Rattle.std.proofs.Common.{◌≡◌, ℕ, ◌-◌, ◌<◌, ◌≤◌, true, List, [], ◌∷◌, ◌++◌, length, take, drop, refl, sym, ap}
-use Rattle.std.proofs.Common.{◌∙◌, arith}
-use Rattle.std.proofs.lemmas.List.{take_rest}
-use Rattle.std.specs.Io.BufRead.{ends_with_byte}
+use Rattle.tl_schedule.proofs.Imports.{Channel, channel_named, spaced, Fits, event_of, number_in, size_in}
+use Rattle.std.proofs.Common.{◌≡◌, ℕ, ◌-◌, ◌<◌, ◌≤◌, true, List, [], ◌∷◌, ◌++◌, length, take, drop, refl, sym, ap, ◌∙◌}
+use Rattle.std.proofs.Common.{arith}
+use Rattle.std.{proofs.lemmas.List.take_rest, specs.Io.BufRead.ends_with_byte}
 use Rattle.std.specs.Prelude.{codes, IfSome, None, Option, Some, slice_index}
-use Rattle.tl_beat.specs.declared.beat.Link.{Link}
-use Rattle.tl_beat.specs.declared.channel.Channel.{Channel}
-use Rattle.tl_beat.specs.statement.Line.{channel_named, spaced}
-use Rattle.tl_beat.proofs.ReadFields.{letter-named}
-use Rattle.tl_schedule.specs.declared.common.Common.{Common}
-use Rattle.tl_schedule.specs.declared.common.Common.TheVariants as common
+use Rattle.tl_beat.{specs.declared.beat.Link.Link, proofs.ReadFields.letter-named}
+use Rattle.tl_schedule.{specs.declared.common.Common.Common, proofs.SpelledFields.number_taken}
+use Rattle.tl_schedule.{proofs.SpelledFields.size_taken, proofs.WholeLines.line-whole}
 use Rattle.tl_schedule.specs.statement.CommonLine.{SpellsCommon, common_event}
-use Rattle.tl_schedule.specs.statement.EventLine.{Fits, event_of}
 use Rattle.tl_schedule.specs.code.CommonReading.{HasFields, SpellsBody, common_said}
-use Rattle.tl_schedule.specs.code.FieldReading.{number_in, size_in}
-use Rattle.tl_schedule.proofs.SpelledFields.{number_taken, size_taken}
-use Rattle.tl_schedule.proofs.WholeLines.{line-whole}
 
 pub load_fields : (client size address : List ℕ) (n s a : ℕ) → number_in 0 2 client ≡ Some n → size_in 3 size ≡ Some s
-    → number_in 0 8 address ≡ Some a
-    → HasFields (client ∷ codes "load" ∷ size ∷ address ∷ []) (common.Load n a s)
+    → number_in 0 8 address ≡ Some a → HasFields (client ∷ codes "load" ∷ size ∷ address ∷ []) (Common.Load n a s)
 load_fields client size address n s a e f g w =
     let of_client = number_taken 2 n client e in
     let of_size = size_taken 3 s size f in
@@ -32,7 +24,7 @@ three = refl
 
 pub store_fields : (client address value : List ℕ) (n a v : ℕ) → number_in 0 2 client ≡ Some n
     → number_in 0 8 address ≡ Some a → number_in 0 16 value ≡ Some v
-    → HasFields (client ∷ codes "store" ∷ codes "3" ∷ address ∷ value ∷ []) (common.Store n a 3 v)
+    → HasFields (client ∷ codes "store" ∷ codes "3" ∷ address ∷ value ∷ []) (Common.Store n a 3 v)
 store_fields client address value n a v e g h w =
     let of_client = number_taken 2 n client e in
     let of_size = size_taken 3 3 (codes "3") three in
@@ -43,8 +35,7 @@ store_fields client address value n a v e g h w =
     )
 
 pub deliver_fields : (link letter : List ℕ) (l : Link) (channel : Channel) → number_in 0 2 link ≡ Some l.0
-    → channel_named letter ≡ Some channel
-    → HasFields (link ∷ codes "deliver" ∷ letter ∷ []) (common.Deliver l channel)
+    → channel_named letter ≡ Some channel → HasFields (link ∷ codes "deliver" ∷ letter ∷ []) (Common.Deliver l channel)
 deliver_fields link letter l channel e f w =
     let of_link = number_taken 2 l.0 link e in
     let of_letter = letter-named letter channel f in
@@ -61,11 +52,10 @@ deliver_body (x0 ∷ x1 ∷ x2 ∷ x3 ∷ x4 ∷ x5 ∷ x6 ∷ x7 ∷ x8 ∷ x9 
     rw (e2, e3, e4, e5, e6, e7, e8, e9, e10) refl
 deliver_body xs long short e2 e3 e4 e5 e6 e7 e8 e9 e10 = absurd (omega arith)
 
-pub load_body : (xs : List ℕ) → 10 ≤ length xs → slice_index xs 2 ≡ 32 → slice_index xs 3 ≡ 108
-    → slice_index xs 4 ≡ 111 → slice_index xs 5 ≡ 97 → slice_index xs 6 ≡ 100 → slice_index xs 7 ≡ 32
-    → slice_index xs 9 ≡ 32
-    → xs ≡ spaced ((slice_index xs 0 ∷ slice_index xs 1 ∷ []) ∷ codes "load" ∷ (slice_index xs 8 ∷ [])
-    ∷ take (length xs - 10) (drop 10 xs) ∷ [])
+pub load_body : (xs : List ℕ) → 10 ≤ length xs → slice_index xs 2 ≡ 32 → slice_index xs 3 ≡ 108 → slice_index xs 4 ≡ 111
+    → slice_index xs 5 ≡ 97 → slice_index xs 6 ≡ 100 → slice_index xs 7 ≡ 32 → slice_index xs 9 ≡ 32
+    → xs ≡ spaced ((slice_index xs 0 ∷ slice_index xs 1 ∷ []) ∷ codes "load" ∷ (slice_index xs 8 ∷ []) ∷ take
+    (length xs - 10) (drop 10 xs) ∷ [])
 unfolding spaced
 load_body (x0 ∷ x1 ∷ x2 ∷ x3 ∷ x4 ∷ x5 ∷ x6 ∷ x7 ∷ x8 ∷ x9 ∷ rest) long e2 e3 e4 e5 e6 e7 e9 =
     let xs = x0 ∷ x1 ∷ x2 ∷ x3 ∷ x4 ∷ x5 ∷ x6 ∷ x7 ∷ x8 ∷ x9 ∷ rest in
@@ -87,9 +77,8 @@ store_body xs address value long e2 e3 e4 e5 e6 e7 e8 e9 e10 parts = absurd (ome
 
 -- a line of these fields says it
 means : {w : ℕ} (c : Common) (fits : Fits w (common_said c)) → event_of (common_said c) fits ≡ common_event c
-means (common.Load client address size) fits = refl
-means (common.Store client address size value) fits = refl
-means (common.Deliver link channel) fits = refl
+means (Common.Load client address size) fits = refl
+means v fits = refl
 
 fields_spell : (line : List ℕ) (fields : List (List ℕ)) (c : Common) → line ≡ spaced fields ++ 10 ∷ []
     → HasFields fields c → SpellsCommon line c

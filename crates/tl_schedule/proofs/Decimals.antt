@@ -1,12 +1,10 @@
 -- Decimal numbers at the front of a text.
 use Rattle.std.proofs.Common.{◌≡◌, ◌<◌, ◌≤◌, ℕ, ◌+◌, ◌*◌, ◌/◌, ◌%◌, ◌-◌, ◌^◌, List, [], ◌∷◌, ◌++◌, get_or, Bool, true}
 use Rattle.std.proofs.Common.{false, refl, ap, sym, ◌∙◌, arith, append_assoc, cond}
-use Rattle.std.proofs.lemmas.Bool.Decides.{nat_tests}
+use Rattle.std.{proofs.lemmas.Bool.Decides.nat_tests, specs.Fmt.decimal, specs.Prelude.Option, specs.Prelude.Some}
+use Rattle.std.{specs.Prelude.None}
 use Rattle.std.proofs.lemmas.Fmt.{decimal_digit, decimal_step, decimal_by_steps, first_decimal}
-use Rattle.std.specs.Fmt.{decimal}
-use Rattle.std.specs.Prelude.{Option, Some, None}
-use Rattle.tl_params.specs.statement.Range.{is_from_to}
-use Rattle.tl_params.proofs.Options.{some_pair}
+use Rattle.tl_params.{specs.statement.Range.is_from_to, proofs.Options.some_pair}
 use Rattle.tl_schedule.specs.code.HeaderReading.{is_decimal, digit_at, decimal_from, starts_with_zero, within}
 use Rattle.tl_schedule.specs.code.HeaderReading.{number_at}
 
@@ -189,8 +187,7 @@ from_again n lt = decimal_by_steps (λ m ds. (rest : List ℕ) → decimal_from 
         digit-step 0 m ((48 + m) ∷ rest) rest (digit_read m rest small) ∙ ap (λ (k : ℕ). decimal_from k rest) same
 
     more : (m : ℕ) (ds : List ℕ) → 10 ≤ m → ((rest : List ℕ) → decimal_from 0 (ds ++ rest) ≡ decimal_from (m / 10) rest)
-        → (rest : List ℕ)
-        → decimal_from 0 ((ds ++ (48 + m % 10) ∷ []) ++ rest) ≡ decimal_from m rest
+        → (rest : List ℕ) → decimal_from 0 ((ds ++ (48 + m % 10) ∷ []) ++ rest) ≡ decimal_from m rest
     more m ds le front rest =
         let same : 10 * (m / 10) + m % 10 ≡ m = omega arith in
         let low : m % 10 < 10 = omega arith in

@@ -1,63 +1,44 @@
 -- What a line says is read.
+use Rattle.tl_schedule.proofs.Imports.{digits, lane_digits, Channel, Asked, Said, Get, Load, Store, Acquire, Whole}
+use Rattle.tl_schedule.proofs.Imports.{Release, Access, Deliver, Fits, said_fields, ask_at}
 use Rattle.std.proofs.Common.{◌≡◌, ℕ, zero, suc, ◌+◌, ◌*◌, ◌/◌, ◌%◌, ◌^◌, ◌≤◌, Bool, true, false, cond, List, [], ◌∷◌}
 use Rattle.std.proofs.Common.{length, refl, arith, inl, inr}
 use Rattle.std.specs.Prelude.{nat_lt, Some}
 use Rattle.tl_burst.proofs.Lanes.{block_size}
-use Rattle.tl_beat.specs.statement.Digits.{digits, lane_digits}
-use Rattle.tl_beat.specs.statement.Line.{letter}
-use Rattle.tl_beat.specs.statement.Width.{IsWidth}
+use Rattle.tl_beat.{specs.statement.Line.letter, specs.statement.Width.IsWidth, proofs.Pieces.NoSpace}
+use Rattle.tl_beat.{proofs.Pieces.NoSpaces, proofs.SpelledLines.NoSpace-append}
 use Rattle.tl_beat.proofs.SpelledDigits.{digit_char-no_space, length-digits, length-lane_digits}
-use Rattle.tl_beat.proofs.Pieces.{NoSpace, NoSpaces}
-use Rattle.tl_beat.specs.declared.channel.Channel.{Channel}
-use Rattle.tl_beat.specs.declared.channel.Channel.TheVariants as channel
-use Rattle.tl_params.specs.declared.param.Arithmetic.{Arithmetic}
-use Rattle.tl_params.specs.declared.param.Arithmetic.TheVariants as arithmetic
-use Rattle.tl_params.specs.declared.param.Grow.{Grow}
-use Rattle.tl_params.specs.declared.param.Grow.TheVariants as grow
-use Rattle.tl_params.specs.declared.param.Intent.{Intent}
-use Rattle.tl_params.specs.declared.param.Intent.TheVariants as intent
-use Rattle.tl_params.specs.declared.param.Logical.{Logical}
-use Rattle.tl_params.specs.declared.param.Logical.TheVariants as logical
-use Rattle.tl_params.specs.declared.param.Prune.{Prune}
-use Rattle.tl_params.specs.declared.param.Prune.TheVariants as prune
+use Rattle.tl_params.{specs.declared.param.Arithmetic.Arithmetic, specs.declared.param.Grow.Grow}
+use Rattle.tl_params.{specs.declared.param.Intent.Intent, specs.declared.param.Logical.Logical}
+use Rattle.tl_params.{specs.declared.param.Prune.Prune}
 use Rattle.tl_params.specs.statement.Names.{arithmetic_name, grow_name, intent_name, logical_name, prune_name}
-use Rattle.tl_schedule.specs.statement.EventLine.{Asked, Said, Get, Put, Part, Arith, Logic, Hint, Load, Store, Acquire}
-use Rattle.tl_schedule.specs.statement.EventLine.{Whole, Release, Access, Deliver, AskedFits, Fits}
-use Rattle.tl_schedule.specs.statement.EventLine.{asked_fields, asked_name, mask_digits, said_fields}
-use Rattle.tl_schedule.specs.code.EventReading.{ask_at}
+use Rattle.tl_schedule.specs.statement.EventLine.{Put, Part, Arith, Logic, Hint, AskedFits, asked_fields, asked_name}
+use Rattle.tl_schedule.specs.statement.EventLine.{mask_digits}
 use Rattle.tl_schedule.specs.code.NameReading.{arithmetic_in, grow_in, intent_in, logical_in, prune_in}
 use Rattle.tl_schedule.proofs.AccessBytes.{smaller_power}
 use Rattle.tl_schedule.proofs.SpelledFields.{number_again, size_again, bytes_again, channel_again}
-use Rattle.tl_beat.proofs.SpelledLines.{NoSpace-append}
 
 -- ---- names
 
 grow_again : (g : Grow) → grow_in (grow_name g) ≡ Some g
-grow_again grow.NtoB = refl
-grow_again grow.NtoT = refl
-grow_again grow.BtoT = refl
+grow_again Grow.NtoB = refl
+grow_again v = refl
 
 prune_again : (p : Prune) → prune_in (prune_name p) ≡ Some p
-prune_again prune.TtoB = refl
-prune_again prune.TtoN = refl
-prune_again prune.BtoN = refl
+prune_again Prune.TtoB = refl
+prune_again v = refl
 
 arithmetic_again : (o : Arithmetic) → arithmetic_in (arithmetic_name o) ≡ Some o
-arithmetic_again arithmetic.Min = refl
-arithmetic_again arithmetic.Max = refl
-arithmetic_again arithmetic.MinU = refl
-arithmetic_again arithmetic.MaxU = refl
-arithmetic_again arithmetic.Add = refl
+arithmetic_again Arithmetic.Min = refl
+arithmetic_again v = refl
 
 logical_again : (o : Logical) → logical_in (logical_name o) ≡ Some o
-logical_again logical.Xor = refl
-logical_again logical.Or = refl
-logical_again logical.And = refl
-logical_again logical.Swap = refl
+logical_again Logical.Xor = refl
+logical_again v = refl
 
 intent_again : (i : Intent) → intent_in (intent_name i) ≡ Some i
-intent_again intent.PrefetchRead = refl
-intent_again intent.PrefetchWrite = refl
+intent_again Intent.PrefetchRead = refl
+intent_again Intent.PrefetchWrite = refl
 
 -- ---- the fields of what is said are read
 
@@ -84,8 +65,7 @@ ask_again w (Access client size address (Put bytes)) fits =
       number_again 2 client fits.0,
       size_again 6 size (omega arith) fits.1,
       number_again 8 address fits.2,
-      bytes_again
-          (2 ^ size) bytes fits.3,
+      bytes_again (2 ^ size) bytes fits.3,
     ) refl
 ask_again w (Access client size address (Part mask bytes)) fits =
     rw (
@@ -138,30 +118,25 @@ record IsName (p : List ℕ) : Type 0 where
   short : length p ≤ 13
 
 grow_is : (g : Grow) → IsName (grow_name g)
-grow_is grow.NtoB = record { no_space = (refl, (refl, (refl, (refl, tt)))); short = omega arith }
-grow_is grow.NtoT = record { no_space = (refl, (refl, (refl, (refl, tt)))); short = omega arith }
-grow_is grow.BtoT = record { no_space = (refl, (refl, (refl, (refl, tt)))); short = omega arith }
+grow_is Grow.NtoB = record { no_space = (refl, (refl, (refl, (refl, tt)))); short = omega arith }
+grow_is v = record { no_space = (refl, (refl, (refl, (refl, tt)))); short = omega arith }
 
 prune_is : (p : Prune) → IsName (prune_name p)
-prune_is prune.TtoB = record { no_space = (refl, (refl, (refl, (refl, tt)))); short = omega arith }
-prune_is prune.TtoN = record { no_space = (refl, (refl, (refl, (refl, tt)))); short = omega arith }
-prune_is prune.BtoN = record { no_space = (refl, (refl, (refl, (refl, tt)))); short = omega arith }
+prune_is Prune.TtoB = record { no_space = (refl, (refl, (refl, (refl, tt)))); short = omega arith }
+prune_is v = record { no_space = (refl, (refl, (refl, (refl, tt)))); short = omega arith }
 
 arithmetic_is : (o : Arithmetic) → IsName (arithmetic_name o)
-arithmetic_is arithmetic.Min = record { no_space = (refl, (refl, (refl, tt))); short = omega arith }
-arithmetic_is arithmetic.Max = record { no_space = (refl, (refl, (refl, tt))); short = omega arith }
-arithmetic_is arithmetic.MinU = record { no_space = (refl, (refl, (refl, (refl, tt)))); short = omega arith }
-arithmetic_is arithmetic.MaxU = record { no_space = (refl, (refl, (refl, (refl, tt)))); short = omega arith }
-arithmetic_is arithmetic.Add = record { no_space = (refl, (refl, (refl, tt))); short = omega arith }
+arithmetic_is Arithmetic.MinU = record { no_space = (refl, (refl, (refl, (refl, tt)))); short = omega arith }
+arithmetic_is Arithmetic.MaxU = record { no_space = (refl, (refl, (refl, (refl, tt)))); short = omega arith }
+arithmetic_is v = record { no_space = (refl, (refl, (refl, tt))); short = omega arith }
 
 logical_is : (o : Logical) → IsName (logical_name o)
-logical_is logical.Xor = record { no_space = (refl, (refl, (refl, tt))); short = omega arith }
-logical_is logical.Or = record { no_space = (refl, (refl, tt)); short = omega arith }
-logical_is logical.And = record { no_space = (refl, (refl, (refl, tt))); short = omega arith }
-logical_is logical.Swap = record { no_space = (refl, (refl, (refl, (refl, tt)))); short = omega arith }
+logical_is Logical.Or = record { no_space = (refl, (refl, tt)); short = omega arith }
+logical_is Logical.Swap = record { no_space = (refl, (refl, (refl, (refl, tt)))); short = omega arith }
+logical_is v = record { no_space = (refl, (refl, (refl, tt))); short = omega arith }
 
 intent_is : (i : Intent) → IsName (intent_name i)
-intent_is intent.PrefetchRead =
+intent_is Intent.PrefetchRead =
     record {
       no_space = (
         refl,
@@ -169,7 +144,7 @@ intent_is intent.PrefetchRead =
       );
       short = omega arith;
     }
-intent_is intent.PrefetchWrite =
+intent_is Intent.PrefetchWrite =
     record {
       no_space = (
         refl,
@@ -180,19 +155,15 @@ intent_is intent.PrefetchWrite =
     }
 
 letter_is : (c : Channel) → IsName (letter c)
-letter_is channel.A = record { no_space = (refl, tt); short = omega arith }
-letter_is channel.B = record { no_space = (refl, tt); short = omega arith }
-letter_is channel.C = record { no_space = (refl, tt); short = omega arith }
-letter_is channel.D = record { no_space = (refl, tt); short = omega arith }
-letter_is channel.E = record { no_space = (refl, tt); short = omega arith }
+letter_is Channel.A = record { no_space = (refl, tt); short = omega arith }
+letter_is v = record { no_space = (refl, tt); short = omega arith }
 
 asked_is : (x : Asked) → IsName (asked_name x)
 asked_is Get = record { no_space = (refl, (refl, (refl, tt))); short = omega arith }
 asked_is (Put bytes) = record { no_space = (refl, (refl, (refl, tt))); short = omega arith }
 asked_is (Part mask bytes) = record { no_space = (refl, (refl, (refl, (refl, tt)))); short = omega arith }
-asked_is (Arith o bytes) = record { no_space = (refl, (refl, (refl, (refl, (refl, tt))))); short = omega arith }
-asked_is (Logic o bytes) = record { no_space = (refl, (refl, (refl, (refl, (refl, tt))))); short = omega arith }
 asked_is (Hint i) = record { no_space = (refl, (refl, (refl, (refl, (refl, (refl, tt)))))); short = omega arith }
+asked_is v = record { no_space = (refl, (refl, (refl, (refl, (refl, tt))))); short = omega arith }
 
 asked-no_spaces : (w size : ℕ) (x : Asked) → NoSpaces (asked_fields w size x)
 asked-no_spaces w size Get = tt
@@ -274,8 +245,7 @@ asked-short w size (Part mask bytes) width small fits =
       arith,
       length-digits (mask_digits w size) mask,
       mask-short w size width small,
-      data-short size bytes small
-          fits.1.0,
+      data-short size bytes small fits.1.0,
     )
 asked-short w size (Arith o bytes) width small fits =
     omega (arith, (arithmetic_is o).short, data-short size bytes small fits.0)
@@ -292,8 +262,7 @@ said-short w (Store client size address value) width fits =
       length-digits 2 client,
       length-digits 1 size,
       length-digits 8 address,
-      length-digits (2 * 2 ^ size)
-          value,
+      length-digits (2 * 2 ^ size) value,
       smaller_power size fits.1,
     )
 said-short w (Acquire client block g) width fits =
@@ -309,16 +278,10 @@ said-short w (Access client size address x) width fits =
       (asked_is x).short,
       length-digits 1 size,
       length-digits 8 address,
-      asked-short
-          w size x width fits.1 fits.3,
+      asked-short w size x width fits.1 fits.3,
     )
 said-short w (Deliver link c) width fits = omega (arith, length-digits 2 link, (letter_is c).short)
 
 pub said-some : (w : ℕ) (said : Said) → 2 ≤ length (said_fields w said)
 said-some w (Load client size address) = omega arith
-said-some w (Store client size address value) = omega arith
-said-some w (Acquire client block g) = omega arith
-said-some w (Whole client block bytes) = omega arith
-said-some w (Release client block p) = omega arith
-said-some w (Access client size address x) = omega arith
-said-some w (Deliver link c) = omega arith
+said-some w v = omega arith

@@ -1,22 +1,16 @@
 -- Fields cut from a line, and the numbers and bytes that they spell.
+use Rattle.tl_schedule.proofs.Imports.{pieces, number_in, bytes_in, ◌>>=◌}
 use Rattle.std.proofs.Common.{◌≡◌, ℕ, zero, suc, ◌+◌, ◌*◌, ◌-◌, ◌^◌, ◌<◌, ◌≤◌, Bool, true, false, cond, List, [], ◌∷◌}
-use Rattle.std.proofs.Common.{◌++◌, length, take, drop, get_or, replicate, set}
-use Rattle.std.proofs.Common.{refl, sym, ap, ◌∙◌, arith, lit<, inl, inr}
-use Rattle.std.proofs.Math.Nat.{pow-le-pow_right}
-use Rattle.std.proofs.Math.Seq.{drop-cons}
+use Rattle.std.proofs.Common.{◌++◌, length, take, drop, get_or, replicate, set, refl, sym, ap, ◌∙◌, arith, lit<, inl}
+use Rattle.std.proofs.Common.{inr}
+use Rattle.std.{proofs.Math.Nat.pow-le-pow_right, proofs.Math.Seq.drop-cons, specs.List.position_or_len}
+use Rattle.std.{proofs.lemmas.Bool.cases_lt, proofs.lemmas.Bool.lt-ltb, proofs.lemmas.Bool.Decides.nat_tests}
 use Rattle.std.specs.Prelude.{not, Option, Some, None, option_map, position, ◌==◌}
-use Rattle.std.specs.List.{position_or_len}
-use Rattle.std.proofs.lemmas.Bool.{cases_lt, lt-ltb}
-use Rattle.std.proofs.lemmas.Bool.Decides.{nat_tests}
 use Rattle.std.proofs.lemmas.List.{take_all, drop_all, replicate-append-replicate}
-use Rattle.tl_beat.specs.statement.Line.{pieces, onto_first}
-use Rattle.tl_beat.proofs.Pieces.{pieces-some}
-use Rattle.tl_beat.proofs.Spaces.{position_some}
+use Rattle.tl_beat.{specs.statement.Line.onto_first, proofs.Pieces.pieces-some, proofs.Spaces.position_some}
+use Rattle.tl_beat.{specs.code.FromLeft.digit_of}
 use Rattle.tl_client.specs.statement.Offer.{padded}
-use Rattle.tl_schedule.specs.code.FieldReading.{number_in, pair_at, pairs_in, bytes_in, fields_behind}
-use Rattle.tl_schedule.specs.code.FieldReading.{is_none_left, with_rest}
-use Rattle.tl_schedule.specs.code.Then.{◌>>=◌}
-use Rattle.tl_beat.specs.code.FromLeft.{digit_of}
+use Rattle.tl_schedule.specs.code.FieldReading.{pair_at, pairs_in, fields_behind, is_none_left, with_rest}
 
 -- ---- the first field
 
@@ -40,8 +34,7 @@ one_piece xs e = elim (cases_lt (position_or_len is_space xs) (length xs)) [
   | inl lt ↦ absurd (let none = rw (lt-ltb (position_or_len is_space xs) (length xs) lt) at e in cc)
   | inr past ↦ first_piece xs ∙ rw (
     take_all (position_or_len is_space xs) xs past,
-    drop_all
-        (position_or_len is_space xs) xs past,
+    drop_all (position_or_len is_space xs) xs past,
   ) refl
 ]
 
@@ -54,7 +47,8 @@ piece_before xs front back i e f b =
 -- ---- numbers
 
 pub number-step : (n i d : ℕ) (field : List ℕ) → i < length field → digit_of (get_or field i 0) ≡ Some d
-    → number_in n (length field - i) (drop i field) ≡ number_in (16 * n + d) (length field - (i + 1)) (drop (i + 1) field)
+    → number_in n (length field - i) (drop i field) ≡ number_in (16 * n + d) (length field - (i + 1))
+    (drop (i + 1) field)
 unfolding number_in
 number-step n i d field l e =
     let left : length field - i ≡ suc (length field - (i + 1)) = omega arith in
@@ -68,8 +62,7 @@ number-fails n i field l e =
     let left : length field - i ≡ suc (length field - (i + 1)) = omega arith in
     rw (left, drop-cons field i 0 l, e) refl
 
-pub number-done : (n i : ℕ) (field : List ℕ) → i ≡ length field
-    → number_in n (length field - i) (drop i field) ≡ Some n
+pub number-done : (n i : ℕ) (field : List ℕ) → i ≡ length field → number_in n (length field - i) (drop i field) ≡ Some n
 unfolding number_in
 number-done n i field e =
     let left : length field - i ≡ 0 = omega arith in
@@ -112,13 +105,11 @@ data-init count field le =
       [],
       refl,
       ap zeros whole ∙ sym (replicate-append-replicate (count - 0) (64 - count) 0),
-      ap
-          (λ (k : ℕ). pairs_in [] k field) none,
+      ap (λ (k : ℕ). pairs_in [] k field) none,
     )
 
 pub data-step : (count i byte : ℕ) (bytes field rest after : List ℕ) → i < count → Reads count i bytes field rest
-    → pair_at rest ≡ Some (byte, after)
-    → Reads count (i + 1) (set bytes (count - 1 - i) byte) field after
+    → pair_at rest ≡ Some (byte, after) → Reads count (i + 1) (set bytes (count - 1 - i) byte) field after
 unfolding pairs_in
 data-step count i byte bytes field rest after lt (done, len, is, same) read =
     let one : count - i ≡ suc (count - (i + 1)) = omega arith in

@@ -1,13 +1,10 @@
 -- The Get that is read at its places was said so.
+use Rattle.tl_schedule.proofs.Imports.{pieces, spaced, said_fields, ask_at, number_in, size_in}
 use Rattle.std.proofs.Common.{◌≡◌, ℕ, ◌-◌, ◌≤◌, List, [], ◌∷◌, length, take, drop, refl, ap, ◌∙◌, arith}
 use Rattle.std.proofs.lemmas.List.{take_rest}
 use Rattle.std.specs.Prelude.{codes, IfSome, Option, Some, slice_index}
-use Rattle.tl_beat.specs.statement.Line.{pieces, spaced}
 use Rattle.tl_beat.proofs.Pieces.{pieces-spaced}
 use Rattle.tl_schedule.specs.declared.get.GetLine.{GetLine}
-use Rattle.tl_schedule.specs.statement.EventLine.{said_fields}
-use Rattle.tl_schedule.specs.code.EventReading.{ask_at}
-use Rattle.tl_schedule.specs.code.FieldReading.{number_in, size_in}
 use Rattle.tl_schedule.specs.code.GetReading.{SpellsGet, get_said}
 use Rattle.tl_schedule.proofs.EventAgain.{ask_again, said-no_spaces, said-some}
 use Rattle.tl_schedule.proofs.SpelledFields.{number_taken, size_taken}

@@ -1,28 +1,21 @@
 -- Headers of schedules: what was spelled is read, and what was read was spelled so.
-use Rattle.std.proofs.Common.{◌≡◌, ◌<◌, ◌≤◌, ℕ, zero, suc, List, [], ◌∷◌, ◌++◌, length, true, refl, ap, sym, ◌∙◌}
-use Rattle.std.proofs.Common.{arith, append_assoc}
-use Rattle.std.proofs.lemmas.Bool.Decides.{nat_tests}
-use Rattle.std.specs.Fmt.{decimal}
+use Rattle.std.proofs.Common.{◌≡◌, ◌<◌, ◌≤◌, ℕ, zero, suc, List, [], ◌∷◌, ◌++◌, length, true, refl, ap, sym, ◌∙◌, arith}
+use Rattle.std.proofs.Common.{append_assoc}
+use Rattle.std.{proofs.lemmas.Bool.Decides.nat_tests, specs.Fmt.decimal, proofs.lemmas.Bool.and_parts}
 use Rattle.std.specs.Prelude.{Bool, ◌&&◌, IfSome, Option, Some, None}
-use Rattle.std.proofs.lemmas.Bool.{and_parts}
-use Rattle.tl_params.specs.declared.config.ClientConfig.{ClientConfig}
-use Rattle.tl_params.specs.declared.header.Version.{Version}
-use Rattle.tl_params.specs.declared.level.Level.{Level}
+use Rattle.tl_params.{specs.declared.config.ClientConfig.ClientConfig, specs.declared.header.Version.Version}
+use Rattle.tl_params.{specs.declared.level.Level.Level, specs.statement.Range.is_from_to, proofs.Options.some_pair}
+use Rattle.tl_params.{proofs.UpTo.all-so, proofs.UpTo.up_to-end, proofs.UpTo.up_to-step}
 use Rattle.tl_params.specs.statement.Config.{all_sources_fit, blocks_fit, trackers_fit, sources_fit}
 use Rattle.tl_params.specs.statement.Header.{is_end, level_text, version_text}
 use Rattle.tl_params.specs.code.HeaderReading.{after_word, level_at, onto, version_at}
-use Rattle.tl_params.specs.statement.Range.{is_from_to}
 use Rattle.tl_params.proofs.Headers.{after_taken, is_end-taken, level_again, level_taken, more_levels, version_again}
 use Rattle.tl_params.proofs.Headers.{version_taken}
-use Rattle.tl_params.proofs.Options.{some_pair}
-use Rattle.tl_params.proofs.UpTo.{all-so, up_to-end, up_to-step}
-use Rattle.tl_schedule.specs.declared.header.Schedule.{Schedule}
+use Rattle.tl_schedule.{specs.declared.header.Schedule.Schedule, specs.code.Then.◌>>=◌, proofs.Options.bind_some}
+use Rattle.tl_schedule.{proofs.Decimals.number_taken, proofs.Decimals.number_again}
 use Rattle.tl_schedule.specs.statement.Schedule.{IsSchedule, SpellsSchedule, clients_text, schedule_word, schedule_line}
 use Rattle.tl_schedule.specs.code.HeaderReading.{Named, byte_at, digit_at, number_at, client_of, client_at, clients_at}
 use Rattle.tl_schedule.specs.code.HeaderReading.{some_clients, named_at, header_at, named_by, GivesSchedule}
-use Rattle.tl_schedule.specs.code.Then.{◌>>=◌}
-use Rattle.tl_schedule.proofs.Options.{bind_some}
-use Rattle.tl_schedule.proofs.Decimals.{number_taken, number_again}
 
 -- ---- what was read was spelled so
 
@@ -107,15 +100,13 @@ record AreNamed (version : Version) (blocks trackers : ℕ) (clients : List Clie
   same : name_all version blocks trackers clients ≡ named
 
 some_clients-taken : (version : Version) (blocks trackers : ℕ) (clients : List ClientConfig) (named : Named)
-    → some_clients version blocks trackers clients ≡ Some named
-    → AreNamed version blocks trackers clients named
+    → some_clients version blocks trackers clients ≡ Some named → AreNamed version blocks trackers clients named
 some_clients-taken version blocks trackers [] named e = absurd cc
 some_clients-taken version blocks trackers (client ∷ clients) named e = record { some = omega arith; same = cc }
 
 whole_line : (line bytes a b c d e : List ℕ) (version : Version) (blocks trackers : ℕ) (clients : List ClientConfig)
-    → line ≡ schedule_word ++ bytes → bytes ≡ version_text version ++ a
-    → a ≡ 32 ∷ b → b ≡ decimal blocks ++ c → c ≡ 32 ∷ d
-    → d ≡ decimal trackers ++ e → e ≡ clients_text clients ++ 10 ∷ []
+    → line ≡ schedule_word ++ bytes → bytes ≡ version_text version ++ a → a ≡ 32 ∷ b → b ≡ decimal blocks ++ c
+    → c ≡ 32 ∷ d → d ≡ decimal trackers ++ e → e ≡ clients_text clients ++ 10 ∷ []
     → line ≡ schedule_line version blocks trackers clients
 whole_line line bytes a b c d e version blocks trackers clients p q r s t u v =
     rw (p, q, r, s, t, u, v) (simp append_assoc)
@@ -185,8 +176,7 @@ count_parts : (clients : List ClientConfig) → is_from_to 1 16 (length clients)
 count_parts clients e = (grind (arith, nat_tests), grind (arith, nat_tests))
 
 named_again : (version : Version) (blocks trackers : ℕ) (clients : List ClientConfig) → blocks_fit blocks ≡ true
-    → trackers_fit trackers ≡ true → is_from_to 1 16 (length clients) ≡ true
-    → all_sources_fit clients ≡ true
+    → trackers_fit trackers ≡ true → is_from_to 1 16 (length clients) ≡ true → all_sources_fit clients ≡ true
     → named_at (version_text
     version ++ 32 ∷ (decimal blocks ++ 32 ∷ (decimal trackers ++ (clients_text clients ++ 10 ∷ [])))) ≡ Some
     (name_all version blocks trackers clients)
@@ -229,6 +219,5 @@ spelled_read (Some s) line gives = λ version blocks trackers clients h.
       ap (λ (x : Named). x.version) same,
       ap (λ (x : Named). x.blocks) same,
       ap (λ (x : Named). x.trackers) same,
-      ap
-          (λ (x : Named). x.clients) same,
+      ap (λ (x : Named). x.clients) same,
     )

@@ -11,3 +11,4 @@ pub mod WholeLines
 pub mod Commons
 pub mod Gets
 pub mod ByteDigits
+pub mod Imports

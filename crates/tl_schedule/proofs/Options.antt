@@ -1,6 +1,5 @@
 -- What is left of a reading that gave something.
-use Rattle.std.proofs.Common.{◌≡◌, refl}
-use Rattle.std.specs.Prelude.{Option, Some, None}
+use Rattle.std.{proofs.Common.◌≡◌, proofs.Common.refl, specs.Prelude.Option, specs.Prelude.Some, specs.Prelude.None}
 use Rattle.tl_schedule.specs.code.Then.{◌>>=◌}
 
 -- each of two readings in a row gave something

@@ -1,29 +1,21 @@
 -- What a field spells is read, and what was read was spelled so.
+use Rattle.tl_schedule.proofs.Imports.{Channel, digits, lane_digits, channel_named, number_in, bytes_in, size_in, front}
+use Rattle.tl_schedule.proofs.Imports.{last, ◌>>=◌, some_pair}
 use Rattle.std.proofs.Common.{◌≡◌, ℕ, zero, suc, ◌+◌, ◌*◌, ◌/◌, ◌^◌, ◌<◌, ◌≤◌, Bool, true, false, cond, List, [], ◌∷◌}
 use Rattle.std.proofs.Common.{refl, sym, ap, ◌∙◌, arith}
-use Rattle.std.proofs.Math.Nat.{div-eq_of_lt, lt-div-mul-add}
-use Rattle.std.proofs.lemmas.Nat.{pow_pos}
-use Rattle.std.proofs.lemmas.Bool.{leb-true, le-leb}
-use Rattle.std.proofs.lemmas.Slice.Eq.{bytes_eq-Decides}
+use Rattle.std.{proofs.Math.Nat.div-eq_of_lt, proofs.Math.Nat.lt-div-mul-add, proofs.lemmas.Nat.pow_pos}
+use Rattle.std.{proofs.lemmas.Bool.leb-true, proofs.lemmas.Bool.le-leb, proofs.lemmas.Slice.Eq.bytes_eq-Decides}
 use Rattle.std.specs.Prelude.{◌&&◌, ◌||◌, nat_le, bytes_eq, Option, Some, None, option_map, Result, Ok, Err}
-use Rattle.tl_beat.specs.declared.fault.LineFault.{LineFault}
-use Rattle.tl_beat.specs.declared.fault.LineFault.TheVariants.{F3}
-use Rattle.tl_beat.specs.declared.channel.Channel.{Channel}
-use Rattle.tl_beat.specs.declared.channel.Channel.TheVariants as channel
-use Rattle.tl_beat.specs.statement.Digits.{digits, lane_digits, is_digit, digit_value, is_digits, value_from, value_of}
-use Rattle.tl_beat.specs.statement.Digits.{is_pairs, lanes_before, is_dash}
-use Rattle.tl_beat.specs.statement.Line.{channel_named, letter}
+use Rattle.tl_beat.{specs.declared.fault.LineFault.LineFault, specs.declared.fault.LineFault.TheVariants.F3}
+use Rattle.tl_beat.{specs.statement.Line.letter, proofs.OpcodeCodes.find-passes}
+use Rattle.tl_beat.specs.statement.Digits.{is_digit, digit_value, is_digits, value_from, value_of, is_pairs}
+use Rattle.tl_beat.specs.statement.Digits.{lanes_before, is_dash}
 use Rattle.tl_beat.specs.code.Reading as beat_reading
 use Rattle.tl_beat.proofs.SpelledDigits.{number_in-digits, number_in-ok, data_in-text, data_in-ok, pairs-no_dash}
-use Rattle.tl_schedule.specs.statement.EventLine.{AreBytes, HasRoom}
-use Rattle.tl_schedule.specs.code.FieldReading.{with_rest, number_in, byte_of, pairs_in, bytes_in, at_most, size_in}
-use Rattle.tl_schedule.specs.code.FieldReading.{before_fields, front, at_end, last}
-use Rattle.tl_schedule.specs.code.NameReading.{with_name}
-use Rattle.tl_schedule.specs.code.Then.{◌>>=◌}
-use Rattle.tl_params.proofs.Options.{some_pair}
-use Rattle.tl_schedule.proofs.Options.{bind_some}
+use Rattle.tl_schedule.{specs.statement.EventLine.AreBytes, specs.statement.EventLine.HasRoom}
+use Rattle.tl_schedule.{specs.code.NameReading.with_name, proofs.Options.bind_some}
+use Rattle.tl_schedule.specs.code.FieldReading.{with_rest, byte_of, pairs_in, at_most, before_fields, at_end}
 use Rattle.tl_burst.proofs.Whole.{some_is}
-use Rattle.tl_beat.proofs.OpcodeCodes.{find-passes}
 
 -- ---- numbers
 
@@ -111,8 +103,7 @@ pairs_in-is (suc n) done (c ∷ d ∷ cs) =
         low) >>= λ x. pairs_in (x.0 ∷ done) n x.1)
         ≡ cond ((a && b) && is_pairs n cs) (Some (lanes_before ((16 * digit_value c + digit_value d) ∷ done) cs)) None
     go true true h = h
-    go true false h = refl
-    go false b h = refl
+    go v u h = refl
 
 -- bytes stand in their field
 pub record IsData (n : ℕ) (p bytes : List ℕ) : Type 0 where
@@ -137,9 +128,8 @@ bytes_again n bytes all =
   where
     go : (a b : Bool) (found : List ℕ) → cond (a || b) (Ok (cond a None (Some found))) (Err F3) ≡ Ok (Some bytes)
         → cond b (Some found) None ≡ Some bytes
-    go true b found e = absurd cc
     go false true found e = cc
-    go false false found e = absurd cc
+    go v u found e = absurd cc
 
 -- ---- names
 
@@ -148,11 +138,8 @@ pub name_taken : {A : Type 0} (name : A → List ℕ) (all : List A) (p : List �
 name_taken name all p x e = (bytes_eq-Decides p (name x)).0 (find-passes (λ y. bytes_eq p (name y)) all x e)
 
 pub channel_again : (c : Channel) → channel_named (letter c) ≡ Some c
-channel_again channel.A = refl
-channel_again channel.B = refl
-channel_again channel.C = refl
-channel_again channel.D = refl
-channel_again channel.E = refl
+channel_again Channel.A = refl
+channel_again v = refl
 
 -- ---- fields in a row
 

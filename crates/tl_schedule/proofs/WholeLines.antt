@@ -1,29 +1,21 @@
 -- Whole lines of events: what is read is said by the line, and what the line says is read.
+use Rattle.tl_schedule.proofs.Imports.{pieces, spaced, Said, event_of, said_fields, ask_at}
 use Rattle.std.proofs.Common.{◌≡◌, ℕ, suc, ◌-◌, ◌<◌, ◌≤◌, Bool, true, false, cond, List, [], ◌∷◌, ◌++◌, length, get_or}
 use Rattle.std.proofs.Common.{take, drop, refl, sym, ap, ap₂, ◌∙◌, arith, length-append}
-use Rattle.std.proofs.Math.Seq.{drop-cons}
+use Rattle.std.{proofs.Math.Seq.drop-cons, proofs.lemmas.List.drop_all, proofs.lemmas.List.take-append-drop}
+use Rattle.std.{proofs.lemmas.Slice.Eq.bytes_eq-Decides, specs.Io.BufRead.ends_with_byte}
 use Rattle.std.proofs.lemmas.Bool.{eqb-true, le-ltb, ltb-true, and_parts}
-use Rattle.std.proofs.lemmas.List.{drop_all, take-append-drop}
-use Rattle.std.proofs.lemmas.Slice.Eq.{bytes_eq-Decides}
 use Rattle.std.specs.Prelude.{not, ◌==◌, ◌||◌, nat_lt, bytes_eq, codes, IfErr, IfOk, Option, Some, None, option_map}
 use Rattle.std.specs.Prelude.{Result, Ok, Err, ok_or}
-use Rattle.std.specs.Io.BufRead.{ends_with_byte}
-use Rattle.tl_beat.specs.statement.Line.{pieces, spaced}
-use Rattle.tl_beat.specs.statement.Width.{IsWidth}
-use Rattle.tl_beat.proofs.Pieces.{pieces-spaced, spaced-pieces}
+use Rattle.tl_beat.{specs.statement.Width.IsWidth, proofs.Pieces.pieces-spaced, proofs.Pieces.spaced-pieces}
 use Rattle.tl_beat.proofs.SpelledLines.{ends_with_byte-line, without_last-line, length-spaced}
 use Rattle.tl_coherence.specs.declared.event.Event.{Event}
-use Rattle.tl_schedule.specs.declared.line.EventFault.{EventFault}
+use Rattle.tl_schedule.{specs.declared.line.EventFault.EventFault, specs.declared.line.Line.Line}
+use Rattle.tl_schedule.{proofs.EventMeant.meant-event, proofs.EventTaken.ask_taken, proofs.SpelledFields.map_taken}
 use Rattle.tl_schedule.specs.declared.line.EventFault.TheVariants.{F1, F8}
-use Rattle.tl_schedule.specs.declared.line.Line.{Line}
-use Rattle.tl_schedule.specs.declared.line.Line.TheVariants as line_of
-use Rattle.tl_schedule.specs.statement.EventLine.{Said, SpellsEvent, SpellsLine, event_of, drain_line, event_fault}
-use Rattle.tl_schedule.specs.statement.EventLine.{said_fields}
-use Rattle.tl_schedule.specs.code.EventReading.{ask_at, event_at, line_at, meant, meant_by}
+use Rattle.tl_schedule.specs.statement.EventLine.{SpellsEvent, SpellsLine, drain_line, event_fault}
+use Rattle.tl_schedule.specs.code.EventReading.{event_at, line_at, meant, meant_by}
 use Rattle.tl_schedule.proofs.EventAgain.{ask_again, said-no_spaces, said-short, said-some}
-use Rattle.tl_schedule.proofs.EventMeant.{meant-event}
-use Rattle.tl_schedule.proofs.EventTaken.{ask_taken}
-use Rattle.tl_schedule.proofs.SpelledFields.{map_taken}
 
 -- ---- a line and its line feed
 
@@ -46,7 +38,7 @@ event_at-line w body short =
 -- ---- what is read is said by the line
 
 abbrev event_line_of : {w : ℕ} → Event w → Line w
-event_line_of e = line_of.Event e
+event_line_of e = Line.Event e
 
 some_line : {w : ℕ} {x y : Line w} → Some x ≡ Some y → x ≡ y
 some_line e = cc
@@ -76,11 +68,11 @@ line_taken : {w : ℕ} (line body : List ℕ) (read : Line w) → line ≡ body 
 line_taken {w} line body read whole e = go (bytes_eq body (codes "drain")) refl e
   where
     go : (b : Bool) → bytes_eq body (codes "drain") ≡ b
-        → cond b (Some line_of.Drain) (option_map event_line_of (meant_by (ask_at w (pieces body)))) ≡ Some read
+        → cond b (Some Line.Drain) (option_map event_line_of (meant_by (ask_at w (pieces body)))) ≡ Some read
         → SpellsLine line read
     go true is f =
         let text : body ≡ codes "drain" = (bytes_eq-Decides body (codes "drain")).0 is in
-        let same : line_of.Drain ≡ read = some_line f in
+        let same : Line.Drain ≡ read = some_line f in
         rw (← same) (whole ∙ ap (λ (x : List ℕ). x ++ 10 ∷ []) text)
     go false is f =
         let (event, found, same) = map_taken event_line_of (meant_by (ask_at w (pieces body))) read f in
@@ -96,10 +88,9 @@ event_taken {w} line read e = go (nat_lt 256 (length line)) (ends_with_byte 10 l
     go : (long ended : Bool) → ends_with_byte 10 line ≡ ended
         → cond (long || not ended) (Err F1) (ok_or (line_at (take (length line - 1) line)) F8) ≡ Ok read
         → SpellsLine line read
-    go true ended is f = absurd cc
-    go false false is f = absurd cc
     go false true is f = line_taken line (take (length line - 1) line) read (line-whole line is)
         (ok_or-ok (line_at (take (length line - 1) line)) read f)
+    go v u is f = absurd cc
 
 pub read_said : {w : ℕ} (r : Result (Line w) EventFault) (line : List ℕ) → r ≡ event_at line → IfOk r (SpellsLine line)
 read_said (Err fault) line e = tt
@@ -121,13 +112,11 @@ not_drain w said body true fields is =
 not_drain w said body false fields is = refl
 
 line_again : {w : ℕ} (said : Said) (body : List ℕ) (e : Event w) → pieces body ≡ said_fields w said
-    → ask_at w (said_fields w said) ≡ Some said
-    → meant {w = w} said ≡ Some e → line_at body ≡ Some (line_of.Event e)
+    → ask_at w (said_fields w said) ≡ Some said → meant {w = w} said ≡ Some e → line_at body ≡ Some (Line.Event e)
 line_again {w} said body e fields asked means =
     rw (not_drain w said body (bytes_eq body (codes "drain")) fields refl, fields, asked, means) refl
 
-event_again : {w : ℕ} (line : List ℕ) (e : Event w) → IsWidth w → SpellsEvent line e
-    → event_at line ≡ Ok (line_of.Event e)
+event_again : {w : ℕ} (line : List ℕ) (e : Event w) → IsWidth w → SpellsEvent line e → event_at line ≡ Ok (Line.Event e)
 event_again {w} line e width s =
     let fields = said_fields w s.said in
     let body = spaced fields in
@@ -138,21 +127,20 @@ event_again {w} line e width s =
     (meant-event s.said s.fits ∙ ap (λ (x : Event w). Some x) s.means) in
     ap event_at s.is_line ∙ event_at-line w body short ∙ ap (λ o. ok_or o F8) read
 
-drain_again : {w : ℕ} → event_at {w = w} drain_line ≡ Ok line_of.Drain
+drain_again : {w : ℕ} → event_at {w = w} drain_line ≡ Ok Line.Drain
 drain_again = refl
 
 pub said_read : {w : ℕ} (r : Result (Line w) EventFault) (line : List ℕ) → IsWidth w → r ≡ event_at line
     → (read : Line w) → SpellsLine line read → r ≡ Ok read
-said_read r line width e (line_of.Event event) s = e ∙ event_again line event width s
-said_read r line width e line_of.Drain s = e ∙ ap event_at s ∙ drain_again
+said_read r line width e (Line.Event event) s = e ∙ event_again line event width s
+said_read r line width e Line.Drain s = e ∙ ap event_at s ∙ drain_again
 
 -- ---- the fault of a line that says nothing
 
 fault_is : {w : ℕ} (long : Bool) (o : Option (Line w)) (fault : EventFault)
     → Err fault ≡ cond long (Err F1) (ok_or o F8) → fault ≡ cond long F1 F8
-fault_is true o fault e = cc
-fault_is false None fault e = cc
 fault_is false (Some read) fault e = absurd cc
+fault_is v u fault e = cc
 
 pub read_fault : {w : ℕ} (r : Result (Line w) EventFault) (line : List ℕ) → r ≡ event_at line
     → IfErr r (λ f. f ≡ event_fault line)

@@ -1,31 +1,16 @@
 -- A beat of the answer to an access brings what that found.
-use Rattle.std.proofs.Common.{◌≡◌, ℕ, zero, suc, ◌+◌, ◌-◌, ◌*◌, ◌/◌, ◌%◌, ◌^◌}
-use Rattle.std.proofs.Common.{◌<◌, ◌≤◌, ◌⊎◌, Bool, true, false, List, [], ◌∷◌}
-use Rattle.std.proofs.Common.{length, take, refl, sym, ap, ◌∙◌, arith, inl, inr}
+use Rattle.tl_true_bytes.proofs.Imports.{Beat, BeatD, OpA, OpD, IsWidth, MessageA, beats_of, begun, data_beats, reaches}
+use Rattle.tl_true_bytes.proofs.Imports.{History, unfinished, length-begun, Memory, bytes_from, effect, ends}
+use Rattle.tl_true_bytes.proofs.Imports.{carried_byte, is_access, tail_is, same_d, Channel}
+use Rattle.std.proofs.Common.{◌≡◌, ℕ, zero, suc, ◌+◌, ◌-◌, ◌*◌, ◌/◌, ◌%◌, ◌^◌, ◌<◌, ◌≤◌, ◌⊎◌, Bool, true, false, List}
+use Rattle.std.proofs.Common.{[], ◌∷◌, length, take, refl, sym, ap, ◌∙◌, arith, inl, inr}
 use Rattle.std.specs.Prelude.{drop, unwrap_or, Some}
-use Rattle.tl_beat.specs.declared.beat.Beat.{Beat}
-use Rattle.tl_beat.specs.declared.beat.Beat.TheVariants as beat
-use Rattle.tl_beat.specs.declared.beat.BeatD.{BeatD}
-use Rattle.tl_beat.specs.declared.channel.Channel.TheVariants as channel
-use Rattle.tl_beat.specs.declared.opcode.OpA.{OpA}
-use Rattle.tl_beat.specs.declared.opcode.OpA.TheVariants as a
-use Rattle.tl_beat.specs.declared.opcode.OpD.{OpD}
 use Rattle.tl_beat.specs.statement.Opcode.{d_carries_data}
-use Rattle.tl_beat.specs.statement.Width.{IsWidth}
-use Rattle.tl_burst.specs.declared.message.Message.TheVariants as message
-use Rattle.tl_burst.specs.declared.message.MessageA.{MessageA}
-use Rattle.tl_burst.specs.declared.message.MessageD.{MessageD}
-use Rattle.tl_burst.specs.statement.Burst.{beats_of, begun, d_beat_of, data_beats, lanes_at, reaches}
-use Rattle.tl_burst.specs.statement.Messages.{History, unfinished}
-use Rattle.tl_burst.proofs.Begun.{length-begun}
-use Rattle.tl_rules.specs.statement.Admission.{lanes_of}
-use Rattle.tl_rules.specs.statement.Conformance.{answers}
-use Rattle.tl_rules.specs.statement.Effect.{Memory, access_result, answer_of, as_payload, bytes_from, effect}
-use Rattle.tl_rules.specs.statement.History.{ends}
-use Rattle.tl_bytes.specs.statement.Bytes.{carried_byte, is_access}
+use Rattle.tl_burst.{specs.declared.message.Message.Message, specs.declared.message.MessageD.MessageD}
+use Rattle.tl_burst.{specs.statement.Burst.d_beat_of, specs.statement.Burst.lanes_at}
+use Rattle.tl_rules.{specs.statement.Admission.lanes_of, specs.statement.Conformance.answers}
+use Rattle.tl_rules.specs.statement.Effect.{access_result, answer_of, as_payload}
 use Rattle.tl_manager.specs.statement.Handing.{access_answer}
-use Rattle.tl_coherence.proofs.queues.Carried.{tail_is}
-use Rattle.tl_concord.proofs.Beats.{same_d}
 use Rattle.tl_concord.specs.statement.Accesses.{HasCome}
 use Rattle.tl_one_memory.specs.statement.Run.{returns}
 use Rattle.tl_true_bytes.proofs.Brought.{brought, within}
@@ -40,15 +25,15 @@ record IsReply {w : ℕ} (m : MessageA w) (f : Memory) (z : MessageD w) : Type 0
       × (z.payload ≡ as_payload (m.address % w) (bytes_from f m.address (2 ^ m.size)))
 
 reply-of : {w : ℕ} (m : MessageA w) (f : Memory) → is_access m.opcode ≡ true
-    → (z : MessageD w) × (access_answer m (answer_of (message.A m) (effect (message.A m) f).1) ≡ message.D z)
+    → (z : MessageD w) × (access_answer m (answer_of (Message.A m) (effect (Message.A m) f).1) ≡ Message.D z)
     × IsReply m f z
 unfolding effect
 reply-of {w} m f accesses = go m.opcode refl
   where
     go : (o : OpA) → m.opcode ≡ o
-        → (z : MessageD w) × (access_answer m (answer_of (message.A m) (access_result o m f)) ≡ message.D z)
+        → (z : MessageD w) × (access_answer m (answer_of (Message.A m) (access_result o m f)) ≡ Message.D z)
         × IsReply m f z
-    go a.Get e = (
+    go OpA.Get e = (
       _,
       refl,
       record {
@@ -60,7 +45,7 @@ reply-of {w} m f accesses = go m.opcode refl
             λ i. (refl, refl);
       },
     )
-    go a.ArithmeticData e = (
+    go OpA.ArithmeticData e = (
       _,
       refl,
       record {
@@ -72,7 +57,7 @@ reply-of {w} m f accesses = go m.opcode refl
             λ i. (refl, refl);
       },
     )
-    go a.LogicalData e = (
+    go OpA.LogicalData e = (
       _,
       refl,
       record {
@@ -84,7 +69,7 @@ reply-of {w} m f accesses = go m.opcode refl
             λ i. (refl, refl);
       },
     )
-    go a.PutFullData e = (
+    go OpA.PutFullData e = (
       _,
       refl,
       record {
@@ -95,7 +80,7 @@ reply-of {w} m f accesses = go m.opcode refl
         carries = λ i. absurd (let no : false ≡ true = sym (ap returns e) ∙ i in cc);
       },
     )
-    go a.PutPartialData e = (
+    go OpA.PutPartialData e = (
       _,
       refl,
       record {
@@ -106,16 +91,13 @@ reply-of {w} m f accesses = go m.opcode refl
         carries = λ i. absurd (let no : false ≡ true = sym (ap returns e) ∙ i in cc);
       },
     )
-    go a.Intent e = absurd (let no : false ≡ true = sym (ap is_access e) ∙ accesses in cc)
-    go a.AcquireBlock e = absurd (let no : false ≡ true = sym (ap is_access e) ∙ accesses in cc)
-    go a.AcquirePerm e = absurd (let no : false ≡ true = sym (ap is_access e) ∙ accesses in cc)
+    go v e = absurd (let no : false ≡ true = sym (ap is_access e) ∙ accesses in cc)
 
 -- ---- a beat of it
 
 few : (n : ℕ) (xs : List ℕ) → length (take n xs) ≤ n
-few zero xs = omega arith
-few (suc n) [] = omega arith
 few (suc n) (x ∷ xs) = let rest = few n xs in omega (arith, rest)
+few v u = omega arith
 
 few_lanes : (carries : Bool) (w : ℕ) (payload : List ℕ) (k : ℕ)
     → length (unwrap_or (lanes_at carries w payload k) []) ≤ w
@@ -127,31 +109,31 @@ few_lanes true w payload k =
 -- the beat is of an answer to an access that found this memory
 pub record IsBeatOfReply {w : ℕ} (m : MessageA w) (f : Memory) (x : BeatD w) (past : History w) : Type 0 where
   pub admitted : answers x.opcode m.opcode ≡ true
-  pub lanes_fit : length (lanes_of (beat.D x)) ≤ w
+  pub lanes_fit : length (lanes_of (Beat.D x)) ≤ w
   pub brings : returns m.opcode ≡ true → (address : ℕ) → reaches m.address m.size address ≡ true
-      → ((address - w * (m.address / w)) / w ≤ length (unfinished channel.D past)) ⊎ (ends (beat.D x) past ≡ true)
-      → carried_byte (beat.D x ∷ unfinished channel.D past) (address - w * (m.address / w)) ≡ Some (f address)
+      → ((address - w * (m.address / w)) / w ≤ length (unfinished Channel.D past)) ⊎ (ends (Beat.D x) past ≡ true)
+      → carried_byte (Beat.D x ∷ unfinished Channel.D past) (address - w * (m.address / w)) ≡ Some (f address)
 
 pub beat-of-reply : {w : ℕ} (m : MessageA w) (f : Memory) (x : BeatD w) (past : History w) → IsWidth w
     → m.address % 2 ^ m.size ≡ 0 → is_access m.opcode ≡ true
-    → HasCome (access_answer m (answer_of (message.A m) (effect (message.A m) f).1)) (beat.D x) past
+    → HasCome (access_answer m (answer_of (Message.A m) (effect (Message.A m) f).1)) (Beat.D x) past
     → IsBeatOfReply m f x past
 beat-of-reply {w} m f x past width aligned accesses come = go come.count burst_is refl
   where
-    reply : (z : MessageD w) × (access_answer m (answer_of (message.A m) (effect (message.A m) f).1) ≡ message.D z)
+    reply : (z : MessageD w) × (access_answer m (answer_of (Message.A m) (effect (Message.A m) f).1) ≡ Message.D z)
         × IsReply m f z
     reply = reply-of m f accesses
 
     z : MessageD w
     z = reply.0
 
-    burst_is : beat.D x ∷ unfinished channel.D past ≡ begun (message.D z) come.count
+    burst_is : Beat.D x ∷ unfinished Channel.D past ≡ begun (Message.D z) come.count
     burst_is = come.burst_is ∙ ap (λ i. begun i come.count) reply.1
 
-    whole : ends (beat.D x) past ≡ true → come.count ≡ beats_of (message.D z)
+    whole : ends (Beat.D x) past ≡ true → come.count ≡ beats_of (Message.D z)
     whole e = come.whole e ∙ ap beats_of reply.1
 
-    go : (n : ℕ) → beat.D x ∷ unfinished channel.D past ≡ begun (message.D z) n → come.count ≡ n
+    go : (n : ℕ) → Beat.D x ∷ unfinished Channel.D past ≡ begun (Message.D z) n → come.count ≡ n
         → IsBeatOfReply m f x past
     go zero e same = absurd cc
     go (suc k) e same = record {
@@ -165,22 +147,21 @@ beat-of-reply {w} m f x past width aligned accesses come = go come.count burst_i
     }
       where
         x_is : x ≡ d_beat_of z k
-        x_is = same_d x (d_beat_of z k) (tail_is (beat.D x) (beat.D (d_beat_of z k)) (unfinished channel.D past)
-            (begun (message.D z) k) e).0
+        x_is = same_d x (d_beat_of z k) (tail_is (Beat.D x) (Beat.D (d_beat_of z k)) (unfinished Channel.D past)
+            (begun (Message.D z) k) e).0
 
-        long : length (unfinished channel.D past) ≡ k
-        long = ap (λ (l : List (Beat w)). length l) (tail_is (beat.D x) (beat.D (d_beat_of z k))
-            (unfinished channel.D past) (begun (message.D z) k) e).1 ∙ length-begun (message.D z) k
+        long : length (unfinished Channel.D past) ≡ k
+        long = ap (λ (l : List (Beat w)). length l) (tail_is (Beat.D x) (Beat.D (d_beat_of z k))
+            (unfinished Channel.D past) (begun (Message.D z) k) e).1 ∙ length-begun (Message.D z) k
 
         below : {n i j : ℕ} → i ≡ j → j ≤ n → i ≤ n
         below e le = omega (arith, e, le)
 
-        beats : returns m.opcode ≡ true → beats_of (message.D z) ≡ data_beats w m.size
+        beats : returns m.opcode ≡ true → beats_of (Message.D z) ≡ data_beats w m.size
         beats reads = rw ((reply.2.carries reads).0) (ap (data_beats w) reply.2.size_is)
 
         so_far : returns m.opcode ≡ true → (address : ℕ) → reaches m.address m.size address ≡ true
-            → ((address - w * (m.address / w)) / w ≤ length (unfinished channel.D past))
-            ⊎ (ends (beat.D x) past ≡ true)
+            → ((address - w * (m.address / w)) / w ≤ length (unfinished Channel.D past)) ⊎ (ends (Beat.D x) past ≡ true)
             → (address - w * (m.address / w)) / w < suc k
         so_far reads address reached (inl early) = omega (arith, early, long)
         so_far reads address reached (inr last) =

@@ -1,18 +1,9 @@
 -- An access whose request is pending and complete on its link is pending by the trace of all links.
-use Rattle.std.proofs.Common.{◌≡◌, ℕ, suc, Bool, true, false, ◌&&◌, ◌∷◌, length, inl, inr, refl, sym}
-use Rattle.std.proofs.Common.{◌∙◌, subst}
+use Rattle.tl_true_bytes.proofs.Imports.{Beat, BeatA, BeatD, Link, History, unfinished, Trace, on_link, ends, Access}
+use Rattle.tl_true_bytes.proofs.Imports.{asked_by, ends_request, is_access, is_of, pending_accesses, Channel}
+use Rattle.std.proofs.Common.{◌≡◌, ℕ, suc, Bool, true, false, ◌&&◌, ◌∷◌, length, inl, inr, refl, sym, ◌∙◌, subst}
 use Rattle.std.specs.Prelude.{if◌then◌else◌, ◌==◌, find, Some}
 use Rattle.std.proofs.lemmas.Bool.{and_from, eq-eqb, eqb-true}
-use Rattle.tl_beat.specs.declared.beat.Beat.{Beat}
-use Rattle.tl_beat.specs.declared.beat.Beat.TheVariants as beat
-use Rattle.tl_beat.specs.declared.beat.BeatA.{BeatA}
-use Rattle.tl_beat.specs.declared.beat.BeatD.{BeatD}
-use Rattle.tl_beat.specs.declared.beat.Link.{Link}
-use Rattle.tl_beat.specs.declared.channel.Channel.TheVariants as channel
-use Rattle.tl_burst.specs.statement.Messages.{History, unfinished}
-use Rattle.tl_rules.specs.statement.Conformance.{Trace, on_link}
-use Rattle.tl_rules.specs.statement.History.{ends}
-use Rattle.tl_bytes.specs.statement.Bytes.{Access, asked_by, ends_request, is_access, is_of, pending_accesses}
 use Rattle.tl_bytes.proofs.Pending.{IsPending, pending-after}
 use Rattle.tl_true_bytes.proofs.Opened.{GoesOn, IsAskedBy, IsOpen, open-before}
 
@@ -25,13 +16,13 @@ module _ {w : ℕ} (c s : ℕ) (link : Link) (t : Trace w) where
   past = on_link link.0 t
 
   abbrev access : BeatA w → Access w
-  access z = asked_by link.0 z (beat.A z ∷ unfinished channel.A past) (suc (length t))
+  access z = asked_by link.0 z (Beat.A z ∷ unfinished Channel.A past) (suc (length t))
 
   -- one that is asked for now
-  asked-now : (z : BeatA w) → is_access z.opcode && ends (beat.A z) past ≡ true → link.0 ≡ c → z.source ≡ s
-      → IsPending c s (access z) ((link, beat.A z) ∷ t)
+  asked-now : (z : BeatA w) → is_access z.opcode && ends (Beat.A z) past ≡ true → link.0 ≡ c → z.source ≡ s
+      → IsPending c s (access z) ((link, Beat.A z) ∷ t)
   unfolding pending_accesses
-  asked-now z completes here from = go (is_access z.opcode && ends (beat.A z) past) completes
+  asked-now z completes here from = go (is_access z.opcode && ends (Beat.A z) past) completes
     where
       mine : is_of c s (access z) ≡ true
       mine = and_from (link.0 == c) (z.source == s) (eq-eqb link.0 c here) (eq-eqb z.source s from)
@@ -43,10 +34,10 @@ module _ {w : ℕ} (c s : ℕ) (link : Link) (t : Trace w) where
 
   -- one that isn't answered now
   kept-now : (y : Beat w) (p : Access w) → IsPending c s p t
-      → ((z : BeatD w) → y ≡ beat.D z → ends_request z past ≡ true → link.0 ≡ c → z.source ≡ s → ⊥)
+      → ((z : BeatD w) → y ≡ Beat.D z → ends_request z past ≡ true → link.0 ≡ c → z.source ≡ s → ⊥)
       → IsSomePending c s ((link, y) ∷ t)
   unfolding pending_accesses
-  kept-now (beat.A z) p pending left = go (is_access z.opcode && ends (beat.A z) past)
+  kept-now (Beat.A z) p pending left = go (is_access z.opcode && ends (Beat.A z) past)
     where
       new : (b : Bool) → is_of c s (access z) ≡ b
           → (q : Access w) × ((if b then Some (access z) else find (is_of c s) (pending_accesses t)) ≡ Some q)
@@ -57,15 +48,15 @@ module _ {w : ℕ} (c s : ℕ) (link : Link) (t : Trace w) where
           × (find (is_of c s) (if b then access z ∷ pending_accesses t else pending_accesses t) ≡ Some q)
       go true = new (is_of c s (access z)) refl
       go false = (p, pending)
-  kept-now (beat.D z) p pending left =
-      elim (pending-after c s p (link, beat.D z) t pending (λ y e. absurd cc)) [
+  kept-now (Beat.D z) p pending left =
+      elim (pending-after c s p (link, Beat.D z) t pending (λ y e. absurd cc)) [
         | inl still ↦ (p, still)
         | inr answered ↦ absurd (left answered.last answered.beat_is answered.completes (sym answered.link_is)
             (sym answered.source_is))
       ]
-  kept-now (beat.B z) p pending left = (p, pending)
-  kept-now (beat.C z) p pending left = (p, pending)
-  kept-now (beat.E z) p pending left = (p, pending)
+  kept-now (Beat.B z) p pending left = (p, pending)
+  kept-now (Beat.C z) p pending left = (p, pending)
+  kept-now (Beat.E z) p pending left = (p, pending)
 
   -- with one more beat
   pub pending-more : (y : Beat w) → GoesOn y past → (IsOpen s (on_link c t) → IsSomePending c s t)

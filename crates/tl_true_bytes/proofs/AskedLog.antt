@@ -1,56 +1,37 @@
 -- An access that is in service or answered is pending by what all links have carried.
+use Rattle.tl_true_bytes.proofs.Imports.{Beat, BeatA, a_beat_of, channel_of, unfinished, Config, on_link, pending, Ask}
+use Rattle.tl_true_bytes.proofs.Imports.{Deliver, AbstractState, MonitorRelations, SimulationRelation, EachTaken}
+use Rattle.tl_true_bytes.proofs.Imports.{trace_of, IsGiven, Log, system_after, shadow, trace-flows, flowed}
+use Rattle.tl_true_bytes.proofs.Imports.{matched-given, Channel, Outcome}
 use Rattle.std.proofs.Common.{◌≡◌, ℕ, true, false, List, [], ◌∷◌, sym, ◌∙◌, ap}
-use Rattle.tl_beat.specs.declared.beat.Beat.{Beat}
-use Rattle.tl_beat.specs.declared.beat.Beat.TheVariants as beat
-use Rattle.tl_beat.specs.declared.beat.BeatA.{BeatA}
-use Rattle.tl_beat.specs.declared.channel.Channel.TheVariants as channel
-use Rattle.tl_burst.specs.declared.message.Message.{Message}
-use Rattle.tl_burst.specs.declared.message.Message.TheVariants as message
-use Rattle.tl_burst.specs.statement.Burst.{a_beat_of, beat_of}
-use Rattle.tl_burst.specs.statement.Messages.{channel_of, unfinished}
-use Rattle.tl_params.specs.declared.config.Config.{Config}
-use Rattle.tl_rules.specs.statement.Conformance.{on_link}
-use Rattle.tl_rules.specs.statement.History.{pending}
-use Rattle.tl_coherence.specs.declared.event.Event.TheVariants.{Ask, Deliver}
-use Rattle.tl_coherence.specs.declared.event.Outcome.TheVariants as outcome
-use Rattle.tl_coherence.specs.refinement.AbstractStep.{AbstractState}
-use Rattle.tl_coherence.specs.refinement.PacketMessages.{message_of_kind}
-use Rattle.tl_coherence.specs.refinement.SimulationRelation.{MonitorRelations, SimulationRelation, is_caching}
-use Rattle.tl_coherence.specs.statement.Flow.{EachTaken, trace_of}
-use Rattle.tl_coherence.specs.statement.Headline.{IsGiven}
-use Rattle.tl_coherence.specs.statement.Log.{Log, system_after}
-use Rattle.tl_coherence.proofs.deliveries.Matching.{shadow}
-use Rattle.tl_coherence.proofs.flow.FlowTaken.{each-taken}
-use Rattle.tl_coherence.proofs.flow.FlowTraces.{trace-flows}
-use Rattle.tl_coherence.proofs.flow.Flows.{flowed}
-use Rattle.tl_coherence.proofs.links.FromInvariant.{matched-given}
-use Rattle.tl_coherence.proofs.queues.FirstToken.{IsFirst, first-token}
-use Rattle.tl_concord.proofs.Beats.{same_a}
-use Rattle.tl_concord.proofs.Responses.{last_begun}
+use Rattle.tl_burst.{specs.declared.message.Message.Message, specs.statement.Burst.beat_of}
+use Rattle.tl_coherence.specs.{refinement.PacketMessages.message_of_kind, refinement.SimulationRelation.is_caching}
+use Rattle.tl_coherence.proofs.{flow.FlowTaken.each-taken, queues.FirstToken.IsFirst, queues.FirstToken.first-token}
+use Rattle.tl_concord.{proofs.Beats.same_a, proofs.Responses.last_begun}
 use Rattle.tl_true_bytes.proofs.Asked.{IsSomePending, pending-more}
 use Rattle.tl_true_bytes.proofs.Opened.{GoesOn, IsOpen}
 
 -- ---- beats of a request go on with its source
 
-source_of_beat : {w : ℕ} (m : Message w) (x v : BeatA w) (k j : ℕ) → beat.A x ≡ beat_of m k → beat.A v ≡ beat_of m j
+source_of_beat : {w : ℕ} (m : Message w) (x v : BeatA w) (k j : ℕ) → Beat.A x ≡ beat_of m k → Beat.A v ≡ beat_of m j
     → x.source ≡ v.source
-source_of_beat {w} (message.A m) x v k j e f =
+source_of_beat {w} (Message.A m) x v k j e f =
     ap (λ (z : BeatA w). z.source) (same_a x (a_beat_of m k) e)
     ∙ sym (ap (λ (z : BeatA w). z.source) (same_a v (a_beat_of m j) f))
-source_of_beat (message.B m) x v k j e f = absurd cc
-source_of_beat (message.C m) x v k j e f = absurd cc
-source_of_beat (message.D m) x v k j e f = absurd cc
-source_of_beat (message.E m) x v k j e f = absurd cc
+source_of_beat (Message.B m) x v k j e f = absurd cc
+source_of_beat (Message.C m) x v k j e f = absurd cc
+source_of_beat (Message.D m) x v k j e f = absurd cc
+source_of_beat (Message.E m) x v k j e f = absurd cc
 
 goes-on : {w : ℕ} (config : Config) (log : Log w) → IsGiven config log → (c : ℕ) (x : Beat w) (queue : List (Beat w))
     → (system_after config log).channels c (channel_of x) ≡ x ∷ queue → GoesOn x (on_link c (trace_of log))
-goes-on config log given c (beat.B x) queue beats = λ z v older e. absurd cc
-goes-on config log given c (beat.C x) queue beats = λ z v older e. absurd cc
-goes-on config log given c (beat.D x) queue beats = λ z v older e. absurd cc
-goes-on config log given c (beat.E x) queue beats = λ z v older e. absurd cc
-goes-on {w} config log given c (beat.A x) queue beats = λ z v older e begun_so.
-    let last = last_begun m first.next.k (beat.A v) older
-    (sym begun_so ∙ ap (unfinished channel.A) (trace-flows c log) ∙ (values c).rest_is channel.A ∙ first.next.rest_is)
+goes-on config log given c (Beat.B x) queue beats = λ z v older e. absurd cc
+goes-on config log given c (Beat.C x) queue beats = λ z v older e. absurd cc
+goes-on config log given c (Beat.D x) queue beats = λ z v older e. absurd cc
+goes-on config log given c (Beat.E x) queue beats = λ z v older e. absurd cc
+goes-on {w} config log given c (Beat.A x) queue beats = λ z v older e begun_so.
+    let last = last_begun m first.next.k (Beat.A v) older
+    (sym begun_so ∙ ap (unfinished Channel.A) (trace-flows c log) ∙ (values c).rest_is Channel.A ∙ first.next.rest_is)
     in
     source_of_beat m z v first.next.k last.0 (sym e ∙ first.next.beat_is) last.1
   where
@@ -63,8 +44,8 @@ goes-on {w} config log given c (beat.A x) queue beats = λ z v older e begun_so.
     values : MonitorRelations log h.mail h.state (system_after config log)
     values = flowed config log given.width given.typed given.is_log
 
-    first : IsFirst channel.A c h.mail h.state (system_after config log) (beat.A x) queue
-    first = first-token (is_caching config) channel.A c h.mail h.state (system_after config log) (beat.A x) queue
+    first : IsFirst Channel.A c h.mail h.state (system_after config log) (Beat.A x) queue
+    first = first-token (is_caching config) Channel.A c h.mail h.state (system_after config log) (Beat.A x) queue
         given.width is.invariant is.carried beats
 
     m : Message w
@@ -78,14 +59,14 @@ open-pending : {w : ℕ} (c s : ℕ) (log : Log w)
 unfolding EachTaken trace_of on_link pending
 open-pending c s [] each is = absurd (let no : false ≡ true = is.pending_is in cc)
 open-pending c s ((Ask k i, o) ∷ log) each is = open-pending c s log each.1 is
-open-pending c s ((Deliver link ch, outcome.Moved x) ∷ log) each is =
+open-pending c s ((Deliver link ch, Outcome.Moved x) ∷ log) each is =
     pending-more c s link (trace_of log) x each.0 (open-pending c s log each.1) is
-open-pending c s ((Deliver link ch, outcome.Done x source f) ∷ log) each is =
+open-pending c s ((Deliver link ch, Outcome.Done x source f) ∷ log) each is =
     pending-more c s link (trace_of log) x each.0 (open-pending c s log each.1) is
-open-pending c s ((Deliver link ch, outcome.Replied r) ∷ log) each is = open-pending c s log each.1 is
-open-pending c s ((Deliver link ch, outcome.Empty) ∷ log) each is = open-pending c s log each.1 is
-open-pending c s ((Deliver link ch, outcome.Stalled) ∷ log) each is = open-pending c s log each.1 is
-open-pending c s ((Deliver link ch, outcome.NoSuchClient) ∷ log) each is = open-pending c s log each.1 is
+open-pending c s ((Deliver link ch, Outcome.Replied r) ∷ log) each is = open-pending c s log each.1 is
+open-pending c s ((Deliver link ch, Outcome.Empty) ∷ log) each is = open-pending c s log each.1 is
+open-pending c s ((Deliver link ch, Outcome.Stalled) ∷ log) each is = open-pending c s log each.1 is
+open-pending c s ((Deliver link ch, Outcome.NoSuchClient) ∷ log) each is = open-pending c s log each.1 is
 
 -- an access whose request is pending and complete is pending
 pub pending-open : {w : ℕ} (config : Config) (log : Log w) → IsGiven config log → (c s : ℕ)

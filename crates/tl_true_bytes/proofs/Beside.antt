@@ -1,39 +1,29 @@
 -- A run beside the one-memory machine, as something happens.
+use Rattle.tl_true_bytes.proofs.Imports.{Beat, BeatD, Link, OpA, MessageA, Trace, on_link, AccessResult, Memory, after}
+use Rattle.tl_true_bytes.proofs.Imports.{effect, block_at, ends, is_release_ack, Access, ends_request, is_access, is_of}
+use Rattle.tl_true_bytes.proofs.Imports.{pending_accesses, Op, Machine, Open, Requests, with_memory, with_open}
+use Rattle.tl_true_bytes.proofs.Imports.{same_open, Performs, Run, Takes, found_in, memory_in, trace_in, IsBeside}
+use Rattle.tl_true_bytes.proofs.Imports.{IsOpenAs, result_in}
 use Rattle.std.proofs.Common.{◌≡◌, ℕ, Bool, true, false, not, ◌&&◌, inl, inr, refl, sym, ◌∙◌, ap, subst}
 use Rattle.std.specs.Prelude.{if◌then◌else◌, ◌==◌, ◌∷◌, find, Option, Some, None}
-use Rattle.std.proofs.Math.Path.{fun_ext}
-use Rattle.std.proofs.lemmas.Bool.{and_from, eqb-true}
-use Rattle.tl_beat.specs.declared.beat.Beat.{Beat}
-use Rattle.tl_beat.specs.declared.beat.Beat.TheVariants as beat
-use Rattle.tl_beat.specs.declared.beat.BeatD.{BeatD}
-use Rattle.tl_beat.specs.declared.beat.Link.{Link}
-use Rattle.tl_beat.specs.declared.opcode.OpA.{OpA}
-use Rattle.tl_beat.specs.declared.opcode.OpA.TheVariants as opa
-use Rattle.tl_burst.specs.declared.message.Message.TheVariants as message
-use Rattle.tl_burst.specs.declared.message.MessageA.{MessageA}
-use Rattle.tl_rules.specs.statement.Conformance.{Trace, on_link}
-use Rattle.tl_rules.specs.statement.Effect.{AccessResult, Memory, after, effect}
-use Rattle.tl_rules.specs.statement.History.{block_at, ends, is_release_ack}
-use Rattle.tl_bytes.specs.statement.Bytes.{Access, ends_request, is_access, is_of, pending_accesses}
-use Rattle.tl_client.specs.declared.operation.Op.{Op}
-use Rattle.tl_client.specs.declared.operation.Op.TheVariants as op
-use Rattle.tl_coherence.specs.statement.Machine.{Machine, Open, Pool, Releases, Requests, with_memory, with_open}
+use Rattle.std.{proofs.Math.Path.fun_ext, proofs.lemmas.Bool.and_from, proofs.lemmas.Bool.eqb-true}
+use Rattle.tl_burst.specs.declared.message.Message.{Message}
+use Rattle.tl_coherence.specs.statement.Machine.{Pool, Releases}
 use Rattle.tl_coherence.proofs.memory.Beside.{IsElsewhere, done_at, open-here, open-requests, open-there, place-cases}
 use Rattle.tl_coherence.proofs.queues.Tokens.{same_number}
-use Rattle.tl_concord.proofs.WritesBeside.{same_access, same_open}
+use Rattle.tl_concord.proofs.WritesBeside.{same_access}
 use Rattle.tl_one_memory.proofs.Known.{answered-gone}
 use Rattle.tl_bytes.proofs.Pending.{IsAskedNow, IsPending, pending-before}
-use Rattle.tl_one_memory.specs.statement.Run.{Performs, Run, Stores, Takes, found_in, is_answered_by, memory_in}
-use Rattle.tl_one_memory.specs.statement.Run.{trace_in, with_performed}
-use Rattle.tl_true_bytes.specs.code.Beside.{IsBeside, IsFoundAs, IsOpenAs, result_in}
+use Rattle.tl_one_memory.specs.statement.Run.{Stores, is_answered_by, with_performed}
+use Rattle.tl_true_bytes.specs.code.Beside.{IsFoundAs}
 
 -- ---- what is open
 
 -- an access that is open is one
 pub same_asked : {w : ℕ} (x y : MessageA w) (q r : Option AccessResult) → ◌≡◌ {A = Option (Open w)}
-    (Some (record { asked = op.Access (message.A x); answer = q }))
-    (Some (record { asked = op.Access (message.A y); answer = r })) → x ≡ y
-same_asked x y q r e = same_access x y (same_open (op.Access (message.A x)) (op.Access (message.A y)) q r e).0
+    (Some (record { asked = Op.Access (Message.A x); answer = q }))
+    (Some (record { asked = Op.Access (Message.A y); answer = r })) → x ≡ y
+same_asked x y q r e = same_access x y (same_open (Op.Access (Message.A x)) (Op.Access (Message.A y)) q r e).0
 
 found-as : {w : ℕ} (f g : Option Memory) (q r : Option (MessageA w × AccessResult)) → g ≡ f → r ≡ q → IsFoundAs f q
     → IsFoundAs g r
@@ -47,8 +37,7 @@ elsewhere c s d i other = go (c == d) refl (s == i) refl
   where
     go : (a : Bool) → (c == d) ≡ a → (b : Bool) → (s == i) ≡ b → a && b ≡ false
     go true e true f = absurd (other (sym (eqb-true c d e)) (sym (eqb-true s i f)))
-    go true e false f = refl
-    go false e b f = refl
+    go v e u f = refl
 
 at-place : (P : ℕ → ℕ → Type 0) (c s d i : ℕ) → (d ≡ c) × (i ≡ s) → P c s → P d i
 at-place P c s d i same is = subst (λ e. P e i) (sym same.0) (subst (P c) (sym same.1) is)
@@ -60,33 +49,31 @@ module _ {w : ℕ} (run : Run w) (m : Machine w) (t : Trace w) (is : IsBeside ru
   -- ---- an access is performed
 
   pub beside-performed : (c s : ℕ) (a : MessageA w) (p : Access w)
-      → m.opened c Requests s ≡ Some (record { asked = op.Access (message.A a); answer = None })
-      → is_access a.opcode ≡ true → IsPending c s p t
-      → IsBeside (Performs c s ∷ run) (done_at c s (message.A a) m) t
+      → m.opened c Requests s ≡ Some (record { asked = Op.Access (Message.A a); answer = None })
+      → is_access a.opcode ≡ true → IsPending c s p t → IsBeside (Performs c s ∷ run) (done_at c s (Message.A a) m) t
   unfolding trace_in memory_in found_in
   beside-performed c s a p opened accesses pending = record {
     trace_is = is.trace_is;
-    memory_is = ap (λ (u : Trace w). with_performed (find (is_of c s) (pending_accesses u)) now) is.trace_is
-        ∙ ap (λ (o : Option (Access w)). with_performed o now) pending
-        ∙ ap (λ r. r.0) (like.like.effect_is now)
-        ∙ ap (λ (n : MessageA w). (effect (message.A n) now).0) asked
-        ∙ ap (λ (g : Memory). (effect (message.A a) g).0) is.memory_is;
+    memory_is = ap (λ (u : Trace w). with_performed (find (is_of c s) (pending_accesses u)) now) is.trace_is ∙ ap
+        (λ (o : Option (Access w)). with_performed o now) pending ∙ ap (λ r. r.0) (like.like.effect_is now) ∙ ap
+        (λ (n : MessageA w). (effect (Message.A n) now).0) asked ∙ ap (λ (g : Memory). (effect (Message.A a) g).0)
+        is.memory_is;
     found_are = λ d i. elim (place-cases c s d i) [
       | inl same ↦ at-place (λ e j. IsFoundAs (found_in (λ address. 0) e j (Performs c s ∷ run))
-          (result_in ((done_at c s (message.A a) m).opened e Requests j))) c s d i same here
+          (result_in ((done_at c s (Message.A a) m).opened e Requests j))) c s d i same here
       | inr other ↦ there d i other
     ];
     pending_are = λ d i q. elim (place-cases c s d i) [
       | inl same ↦ at-place (λ e j. IsPending e j q t
-          → IsOpenAs q ((done_at c s (message.A a) m).opened e Requests j)) c s d i same (mine q)
-      | inr apart ↦ λ other. open-as q (m.opened d Requests i) ((done_at c s (message.A a) m).opened d Requests i)
-          (open-there c Requests s after (with_memory (effect (message.A a) m.memory).0 m) d i apart)
+          → IsOpenAs q ((done_at c s (Message.A a) m).opened e Requests j)) c s d i same (mine q)
+      | inr apart ↦ λ other. open-as q (m.opened d Requests i) ((done_at c s (Message.A a) m).opened d Requests i)
+          (open-there c Requests s after (with_memory (effect (Message.A a) m.memory).0 m) d i apart)
           (is.pending_are d i q other)
     ];
   }
     where
       after : Option (Open w)
-      after = Some (record { asked = op.Access (message.A a); answer = Some (effect (message.A a) m.memory).1 })
+      after = Some (record { asked = Op.Access (Message.A a); answer = Some (effect (Message.A a) m.memory).1 })
 
       like : IsOpenAs p (m.opened c Requests s)
       like = is.pending_are c s p pending
@@ -94,36 +81,33 @@ module _ {w : ℕ} (run : Run w) (m : Machine w) (t : Trace w) (is : IsBeside ru
       asked : like.asked ≡ a
       asked = same_asked like.asked a like.answer None (sym like.opened ∙ opened)
 
-      opened_after : (done_at c s (message.A a) m).opened c Requests s ≡ after
-      opened_after = open-here c Requests s after (with_memory (effect (message.A a) m.memory).0 m)
+      opened_after : (done_at c s (Message.A a) m).opened c Requests s ≡ after
+      opened_after = open-here c Requests s after (with_memory (effect (Message.A a) m.memory).0 m)
 
-      result : result_in after ≡ Some (a, (effect (message.A a) m.memory).1)
+      result : result_in after ≡ Some (a, (effect (Message.A a) m.memory).1)
       result = rw accesses refl
 
       here : IsFoundAs (found_in (λ address. 0) c s (Performs c s ∷ run))
-          (result_in ((done_at c s (message.A a) m).opened c Requests s))
+          (result_in ((done_at c s (Message.A a) m).opened c Requests s))
       here = found-as (Some now) (found_in (λ address. 0) c s (Performs c s ∷ run))
-          (Some (a, (effect (message.A a) m.memory).1))
-          (result_in ((done_at c s (message.A a) m).opened c Requests s))
+          (Some (a, (effect (Message.A a) m.memory).1)) (result_in ((done_at c s (Message.A a) m).opened c Requests s))
           (rw (same_number c, same_number s) refl) (ap result_in opened_after ∙ result)
-          (ap (λ (g : Memory). (effect (message.A a) g).1) (sym is.memory_is))
+          (ap (λ (g : Memory). (effect (Message.A a) g).1) (sym is.memory_is))
 
-      there : (d i : ℕ) → IsElsewhere c s d i
-          → IsFoundAs (found_in (λ address. 0) d i (Performs c s ∷ run))
-          (result_in ((done_at c s (message.A a) m).opened d Requests i))
+      there : (d i : ℕ) → IsElsewhere c s d i → IsFoundAs (found_in (λ address. 0) d i (Performs c s ∷ run))
+          (result_in ((done_at c s (Message.A a) m).opened d Requests i))
       there d i other = found-as (found_in (λ address. 0) d i run) (found_in (λ address. 0) d i (Performs c s ∷ run))
-          (result_in (m.opened d Requests i))
-          (result_in ((done_at c s (message.A a) m).opened d Requests i))
+          (result_in (m.opened d Requests i)) (result_in ((done_at c s (Message.A a) m).opened d Requests i))
           (rw (elsewhere c s d i other) refl)
-          (ap result_in (open-there c Requests s after (with_memory (effect (message.A a) m.memory).0 m) d i other))
+          (ap result_in (open-there c Requests s after (with_memory (effect (Message.A a) m.memory).0 m) d i other))
           (is.found_are d i)
 
-      mine : (q : Access w) → IsPending c s q t → IsOpenAs q ((done_at c s (message.A a) m).opened c Requests s)
+      mine : (q : Access w) → IsPending c s q t → IsOpenAs q ((done_at c s (Message.A a) m).opened c Requests s)
       mine q other = let was = is.pending_are c s q other in
           let same : was.asked ≡ a = same_asked was.asked a was.answer None (sym was.opened ∙ opened) in
           record {
             asked = a;
-            answer = Some (effect (message.A a) m.memory).1;
+            answer = Some (effect (Message.A a) m.memory).1;
             opened = opened_after;
             accesses = accesses;
             like = rw same at was.like;
@@ -149,7 +133,7 @@ module _ {w : ℕ} (run : Run w) (m : Machine w) (t : Trace w) (is : IsBeside ru
 
   -- one that completes no response
   pub beside-moved : (link : Link) (x : Beat w)
-      → ((z : BeatD w) → x ≡ beat.D z → ends (beat.D z) (on_link link.0 t) ≡ false)
+      → ((z : BeatD w) → x ≡ Beat.D z → ends (Beat.D z) (on_link link.0 t) ≡ false)
       → ((c s : ℕ) (p : Access w) → IsAskedNow c s p (link, x) t → IsOpenAs p (m.opened c Requests s))
       → IsBeside (Takes link x ∷ run) m ((link, x) ∷ t)
   unfolding trace_in memory_in found_in
@@ -167,33 +151,28 @@ module _ {w : ℕ} (run : Run w) (m : Machine w) (t : Trace w) (is : IsBeside ru
     where
       never : (a b : Bool) → a && (b && false) ≡ false
       never true true = refl
-      never true false = refl
-      never false b = refl
+      never v u = refl
 
-      unanswered : (c s : ℕ) (y : Beat w) → ((z : BeatD w) → y ≡ beat.D z → ends (beat.D z) (on_link link.0 t) ≡ false)
+      unanswered : (c s : ℕ) (y : Beat w) → ((z : BeatD w) → y ≡ Beat.D z → ends (Beat.D z) (on_link link.0 t) ≡ false)
           → is_answered_by c s link y t ≡ false
-      unanswered c s (beat.D z) e =
+      unanswered c s (Beat.D z) e =
           rw (e z refl) (never ((link.0 == c) && (z.source == s)) (not (is_release_ack z.opcode)))
-      unanswered c s (beat.A z) e = refl
-      unanswered c s (beat.B z) e = refl
-      unanswered c s (beat.C z) e = refl
-      unanswered c s (beat.E z) e = refl
+      unanswered c s v e = refl
 
   -- one that completes a response, with which an operation ends
-  pub beside-ended : (link : Link) (z : BeatD w) (pool : Pool) → ends (beat.D z) (on_link link.0 t) ≡ true
+  pub beside-ended : (link : Link) (z : BeatD w) (pool : Pool) → ends (Beat.D z) (on_link link.0 t) ≡ true
       → pool ≡ (if is_release_ack z.opcode then Releases else Requests)
-      → IsBeside (Takes link (beat.D z) ∷ run) (with_open link.0 pool z.source None m) ((link, beat.D z) ∷ t)
+      → IsBeside (Takes link (Beat.D z) ∷ run) (with_open link.0 pool z.source None m) ((link, Beat.D z) ∷ t)
   unfolding trace_in memory_in found_in
   beside-ended link z pool last pool_is = record {
-    trace_is = ap (λ (u : Trace w). (link, beat.D z) ∷ u) is.trace_is;
+    trace_is = ap (λ (u : Trace w). (link, Beat.D z) ∷ u) is.trace_is;
     memory_is = is.memory_is;
-    found_are = λ c s. found-as (if is_answered_by c s link (beat.D z) t then None else found_in (λ address. 0) c s run)
-        (found_in (λ address. 0) c s (Takes link (beat.D z) ∷ run))
-        (result_in (after.opened c Requests s)) (result_in (after.opened c Requests s)) (rw is.trace_is refl) refl
-        (found c s (is_release_ack z.opcode) refl);
-    pending_are = λ c s p pending. elim (pending-before c s p (link, beat.D z) t pending) [
+    found_are = λ c s. found-as (if is_answered_by c s link (Beat.D z) t then None else found_in (λ address. 0) c s run)
+        (found_in (λ address. 0) c s (Takes link (Beat.D z) ∷ run)) (result_in (after.opened c Requests s))
+        (result_in (after.opened c Requests s)) (rw is.trace_is refl) refl (found c s (is_release_ack z.opcode) refl);
+    pending_are = λ c s p pending. elim (pending-before c s p (link, Beat.D z) t pending) [
       | inl old ↦ still c s p pending old (is_release_ack z.opcode) refl
-      | inr new ↦ absurd (let no : beat.D z ≡ beat.A new.first = new.beat_is in cc)
+      | inr new ↦ absurd (let no : Beat.D z ≡ Beat.A new.first = new.beat_is in cc)
     ];
   }
     where
@@ -202,11 +181,10 @@ module _ {w : ℕ} (run : Run w) (m : Machine w) (t : Trace w) (is : IsBeside ru
 
       -- a ReleaseAck ends no request
       let_go : (c s : ℕ) → is_release_ack z.opcode ≡ true
-          → (after.opened c Requests s ≡ m.opened c Requests s) × (is_answered_by c s link (beat.D z) t ≡ false)
+          → (after.opened c Requests s ≡ m.opened c Requests s) × (is_answered_by c s link (Beat.D z) t ≡ false)
       let_go c s e = (
         ap (λ (i : Pool). (with_open link.0 i z.source None m).opened c Requests s)
-            (pool_is ∙ ap (λ b. if b then Releases else Requests) e)
-            ∙ open-requests link.0 z.source None m c s,
+            (pool_is ∙ ap (λ b. if b then Releases else Requests) e) ∙ open-requests link.0 z.source None m c s,
         rw e (never ((link.0 == c) && (z.source == s))),
       )
         where
@@ -216,9 +194,9 @@ module _ {w : ℕ} (run : Run w) (m : Machine w) (t : Trace w) (is : IsBeside ru
 
       -- any other response ends the one with its source
       answered : is_release_ack z.opcode ≡ false → ends_request z (on_link link.0 t) ≡ true
-      answered e = and_from (not (is_release_ack z.opcode)) (ends (beat.D z) (on_link link.0 t)) (ap not e) last
+      answered e = and_from (not (is_release_ack z.opcode)) (ends (Beat.D z) (on_link link.0 t)) (ap not e) last
 
-      own : is_release_ack z.opcode ≡ false → is_answered_by link.0 z.source link (beat.D z) t ≡ true
+      own : is_release_ack z.opcode ≡ false → is_answered_by link.0 z.source link (Beat.D z) t ≡ true
       own e = rw (same_number link.0, same_number z.source, answered e) refl
 
       request : is_release_ack z.opcode ≡ false → pool ≡ Requests
@@ -229,44 +207,41 @@ module _ {w : ℕ} (run : Run w) (m : Machine w) (t : Trace w) (is : IsBeside ru
           ∙ open-here link.0 Requests z.source None m
 
       kept : (c s : ℕ) → IsElsewhere link.0 z.source c s → is_release_ack z.opcode ≡ false
-          → (after.opened c Requests s ≡ m.opened c Requests s) × (is_answered_by c s link (beat.D z) t ≡ false)
+          → (after.opened c Requests s ≡ m.opened c Requests s) × (is_answered_by c s link (Beat.D z) t ≡ false)
       kept c s other e = (
         ap (λ (i : Pool). (with_open link.0 i z.source None m).opened c Requests s) (request e)
             ∙ open-there link.0 Requests z.source None m c s other,
         rw (elsewhere link.0 z.source c s other) refl,
       )
 
-      same : (c s : ℕ) → is_answered_by c s link (beat.D z) t ≡ false
+      same : (c s : ℕ) → is_answered_by c s link (Beat.D z) t ≡ false
           → after.opened c Requests s ≡ m.opened c Requests s
-          → IsFoundAs (if is_answered_by c s link (beat.D z) t then None else found_in (λ address. 0) c s run)
+          → IsFoundAs (if is_answered_by c s link (Beat.D z) t then None else found_in (λ address. 0) c s run)
           (result_in (after.opened c Requests s))
-      same c s e f = found-as (found_in (λ address. 0) c s run)
-          (if is_answered_by c s link (beat.D z) t then None else found_in (λ address. 0) c s run)
-          (result_in (m.opened c Requests s))
-          (result_in (after.opened c Requests s)) (rw e refl) (ap result_in f) (is.found_are c s)
+      same c s e f = found-as (found_in (λ address. 0) c s run) (if is_answered_by c s link (Beat.D z) t then None else
+          found_in (λ address. 0) c s run) (result_in (m.opened c Requests s)) (result_in (after.opened c Requests s))
+          (rw e refl) (ap result_in f) (is.found_are c s)
 
       found : (c s : ℕ) (b : Bool) → is_release_ack z.opcode ≡ b
-          → IsFoundAs (if is_answered_by c s link (beat.D z) t then None else found_in (λ address. 0) c s run)
+          → IsFoundAs (if is_answered_by c s link (Beat.D z) t then None else found_in (λ address. 0) c s run)
           (result_in (after.opened c Requests s))
       found c s true e = let both = let_go c s e in same c s both.1 both.0
       found c s false e = elim (place-cases link.0 z.source c s) [
-        | inl here ↦ at-place (λ d i. IsFoundAs
-            (if is_answered_by d i link (beat.D z) t then None else found_in (λ address. 0) d i run)
-            (result_in (after.opened d Requests i))) link.0 z.source c s here
-            (found-as None
-            (if is_answered_by link.0 z.source link (beat.D z) t then None
-            else found_in (λ address. 0) link.0 z.source run)
-            None (result_in (after.opened link.0 Requests z.source)) (rw (own e) refl) (ap result_in (gone e)) tt)
+        | inl here ↦ at-place (λ d i. IsFoundAs (if is_answered_by d i link (Beat.D z) t then None else found_in
+            (λ address. 0) d i run) (result_in (after.opened d Requests i))) link.0 z.source c s here
+            (found-as None (if is_answered_by link.0 z.source link (Beat.D z) t then None else found_in (λ address. 0)
+            link.0 z.source run) None (result_in (after.opened link.0 Requests z.source)) (rw (own e) refl)
+            (ap result_in (gone e)) tt)
         | inr other ↦ let both = kept c s other e in same c s both.1 both.0
       ]
 
-      still : (c s : ℕ) (p : Access w) → IsPending c s p ((link, beat.D z) ∷ t) → IsPending c s p t → (b : Bool)
+      still : (c s : ℕ) (p : Access w) → IsPending c s p ((link, Beat.D z) ∷ t) → IsPending c s p t → (b : Bool)
           → is_release_ack z.opcode ≡ b → IsOpenAs p (after.opened c Requests s)
       still c s p pending old true e = open-as p (m.opened c Requests s) (after.opened c Requests s) (let_go c s e).0
           (is.pending_are c s p old)
       still c s p pending old false e = elim (place-cases link.0 z.source c s) [
-        | inl here ↦ absurd (answered-gone c s p link (beat.D z) t
-            (at-place (λ d i. is_answered_by d i link (beat.D z) t ≡ true) link.0 z.source c s here (own e)) pending)
+        | inl here ↦ absurd (answered-gone c s p link (Beat.D z) t
+            (at-place (λ d i. is_answered_by d i link (Beat.D z) t ≡ true) link.0 z.source c s here (own e)) pending)
         | inr other ↦ open-as p (m.opened c Requests s) (after.opened c Requests s) (kept c s other e).0
             (is.pending_are c s p old)
       ]
@@ -274,16 +249,16 @@ module _ {w : ℕ} (run : Run w) (m : Machine w) (t : Trace w) (is : IsBeside ru
   -- ---- an operation is started
 
   unanswered_op : (o : Op w) → result_in (Some (record { asked = o; answer = None })) ≡ None
-  unanswered_op (op.Load address size) = refl
-  unanswered_op (op.Store address size value) = refl
-  unanswered_op (op.Acquire block grow) = refl
-  unanswered_op (op.AcquireWhole block bytes) = refl
-  unanswered_op (op.Release block prune) = refl
-  unanswered_op (op.Access (message.A a)) = refl
-  unanswered_op (op.Access (message.B a)) = refl
-  unanswered_op (op.Access (message.C a)) = refl
-  unanswered_op (op.Access (message.D a)) = refl
-  unanswered_op (op.Access (message.E a)) = refl
+  unanswered_op (Op.Load address size) = refl
+  unanswered_op (Op.Store address size value) = refl
+  unanswered_op (Op.Acquire block grow) = refl
+  unanswered_op (Op.AcquireWhole block bytes) = refl
+  unanswered_op (Op.Release block prune) = refl
+  unanswered_op (Op.Access (Message.A a)) = refl
+  unanswered_op (Op.Access (Message.B a)) = refl
+  unanswered_op (Op.Access (Message.C a)) = refl
+  unanswered_op (Op.Access (Message.D a)) = refl
+  unanswered_op (Op.Access (Message.E a)) = refl
 
   pub beside-started : (c : ℕ) (pool : Pool) (s : ℕ) (o : Op w) → m.opened c pool s ≡ None
       → IsBeside run (with_open c pool s (Some (record { asked = o; answer = None })) m) t
@@ -293,9 +268,8 @@ module _ {w : ℕ} (run : Run w) (m : Machine w) (t : Trace w) (is : IsBeside ru
     found_are = λ d i. found-as (found_in (λ address. 0) d i run) (found_in (λ address. 0) d i run)
         (result_in (m.opened d Requests i)) (result_in ((with_open c Releases s after m).opened d Requests i)) refl
         (ap result_in (open-requests c s after m d i)) (is.found_are d i);
-    pending_are = λ d i p pending. open-as p (m.opened d Requests i)
-        ((with_open c Releases s after m).opened d Requests i) (open-requests c s after m d i)
-        (is.pending_are d i p pending);
+    pending_are = λ d i p pending. open-as p (m.opened d Requests i) ((with_open c Releases s after m).opened d Requests
+        i) (open-requests c s after m d i) (is.pending_are d i p pending);
   }
     where
       after : Option (Open w)
@@ -318,9 +292,8 @@ module _ {w : ℕ} (run : Run w) (m : Machine w) (t : Trace w) (is : IsBeside ru
       | inl same ↦ at-place (λ e j. IsPending e j p t
           → IsOpenAs p ((with_open c Requests s after m).opened e Requests j)) c s d i same
           (λ pending. absurd (unopened p (is.pending_are c s p pending)))
-      | inr other ↦ λ pending. open-as p (m.opened d Requests i)
-          ((with_open c Requests s after m).opened d Requests i) (open-there c Requests s after m d i other)
-          (is.pending_are d i p pending)
+      | inr other ↦ λ pending. open-as p (m.opened d Requests i) ((with_open c Requests s after m).opened d Requests i)
+          (open-there c Requests s after m d i other) (is.pending_are d i p pending)
     ];
   }
     where
@@ -332,51 +305,45 @@ module _ {w : ℕ} (run : Run w) (m : Machine w) (t : Trace w) (is : IsBeside ru
 
   -- ---- an access that neither reads nor writes is performed
 
-  unread : (a : MessageA w) (f : Memory) → is_access a.opcode ≡ false → (effect (message.A a) f).0 ≡ f
+  unread : (a : MessageA w) (f : Memory) → is_access a.opcode ≡ false → (effect (Message.A a) f).0 ≡ f
   unfolding effect
   unread a f none = go a.opcode none
     where
       go : (o : OpA) → is_access o ≡ false → after o a f ≡ f
-      go opa.Intent e = refl
-      go opa.AcquireBlock e = refl
-      go opa.AcquirePerm e = refl
-      go opa.Get e = absurd cc
-      go opa.PutFullData e = absurd cc
-      go opa.PutPartialData e = absurd cc
-      go opa.ArithmeticData e = absurd cc
-      go opa.LogicalData e = absurd cc
+      go OpA.Intent e = refl
+      go OpA.AcquireBlock e = refl
+      go OpA.AcquirePerm e = refl
+      go v e = absurd cc
 
   pub beside-unread : (c s : ℕ) (a : MessageA w)
-      → m.opened c Requests s ≡ Some (record { asked = op.Access (message.A a); answer = None })
-      → is_access a.opcode ≡ false → IsBeside run (done_at c s (message.A a) m) t
+      → m.opened c Requests s ≡ Some (record { asked = Op.Access (Message.A a); answer = None })
+      → is_access a.opcode ≡ false → IsBeside run (done_at c s (Message.A a) m) t
   beside-unread c s a opened none = record {
     trace_is = is.trace_is;
     memory_is = is.memory_is ∙ sym (unread a m.memory none);
     found_are = λ d i. elim (place-cases c s d i) [
       | inl same ↦ at-place (λ e j. IsFoundAs (found_in (λ address. 0) e j run)
-          (result_in ((done_at c s (message.A a) m).opened e Requests j))) c s d i same
+          (result_in ((done_at c s (Message.A a) m).opened e Requests j))) c s d i same
           (found-as (found_in (λ address. 0) c s run) (found_in (λ address. 0) c s run)
-          (result_in (m.opened c Requests s)) (result_in ((done_at c s (message.A a) m).opened c Requests s)) refl
-          (ap result_in (open-here c Requests s done (with_memory (effect (message.A a) m.memory).0 m)) ∙ unheard
+          (result_in (m.opened c Requests s)) (result_in ((done_at c s (Message.A a) m).opened c Requests s)) refl
+          (ap result_in (open-here c Requests s done (with_memory (effect (Message.A a) m.memory).0 m)) ∙ unheard
           ∙ sym (ap result_in opened)) (is.found_are c s))
       | inr other ↦ found-as (found_in (λ address. 0) d i run) (found_in (λ address. 0) d i run)
-          (result_in (m.opened d Requests i)) (result_in ((done_at c s (message.A a) m).opened d Requests i)) refl
-          (ap result_in (open-there c Requests s done (with_memory (effect (message.A a) m.memory).0 m) d i other))
+          (result_in (m.opened d Requests i)) (result_in ((done_at c s (Message.A a) m).opened d Requests i)) refl
+          (ap result_in (open-there c Requests s done (with_memory (effect (Message.A a) m.memory).0 m) d i other))
           (is.found_are d i)
     ];
     pending_are = λ d i p. elim (place-cases c s d i) [
-      | inl same ↦ at-place (λ e j. IsPending e j p t
-          → IsOpenAs p ((done_at c s (message.A a) m).opened e Requests j)) c s d i same
-          (λ pending. absurd (unopened p (is.pending_are c s p pending)))
-      | inr other ↦ λ pending. open-as p (m.opened d Requests i)
-          ((done_at c s (message.A a) m).opened d Requests i)
-          (open-there c Requests s done (with_memory (effect (message.A a) m.memory).0 m) d i other)
+      | inl same ↦ at-place (λ e j. IsPending e j p t → IsOpenAs p ((done_at c s (Message.A a) m).opened e Requests j))
+          c s d i same (λ pending. absurd (unopened p (is.pending_are c s p pending)))
+      | inr other ↦ λ pending. open-as p (m.opened d Requests i) ((done_at c s (Message.A a) m).opened d Requests i)
+          (open-there c Requests s done (with_memory (effect (Message.A a) m.memory).0 m) d i other)
           (is.pending_are d i p pending)
     ];
   }
     where
       done : Option (Open w)
-      done = Some (record { asked = op.Access (message.A a); answer = Some (effect (message.A a) m.memory).1 })
+      done = Some (record { asked = Op.Access (Message.A a); answer = Some (effect (Message.A a) m.memory).1 })
 
       unheard : result_in done ≡ None
       unheard = rw none refl

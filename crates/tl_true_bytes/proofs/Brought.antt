@@ -1,25 +1,18 @@
 -- The bytes of an answer to an access are those that it found.
-use Rattle.std.proofs.Common.{◌≡◌, ℕ, zero, suc, ◌+◌, ◌-◌, ◌*◌, ◌/◌, ◌%◌, ◌^◌, ◌<◌, ◌≤◌, true, false}
-use Rattle.std.proofs.Common.{List, [], ◌∷◌, ◌++◌, drop, length, refl, sym, ap, ◌∙◌, arith, inl, inr}
+use Rattle.tl_true_bytes.proofs.Imports.{IsWidth, begun, data_beats, reaches, length-begun, Memory, bytes_from}
+use Rattle.tl_true_bytes.proofs.Imports.{carried_byte}
+use Rattle.std.proofs.Common.{◌≡◌, ℕ, zero, suc, ◌+◌, ◌-◌, ◌*◌, ◌/◌, ◌%◌, ◌^◌, ◌<◌, ◌≤◌, true, false, List, [], ◌∷◌}
+use Rattle.std.proofs.Common.{◌++◌, drop, length, refl, sym, ap, ◌∙◌, arith, inl, inr}
 use Rattle.std.specs.Prelude.{nat_le, nat_lt, Some, replicate, slice_get, slice_index}
-use Rattle.std.proofs.Math.Nat.{div-lt_iff_lt-mul, mod-lt}
+use Rattle.std.{proofs.Math.Nat.div-lt_iff_lt-mul, proofs.Math.Nat.mod-lt, proofs.lemmas.Nat.div-add-mod'}
+use Rattle.std.{proofs.lemmas.Option.slice_get-get_or}
 use Rattle.std.proofs.lemmas.Bool.{and_parts, cases_eq, eq-eqb, leb-true, ltb-true, ne_eqb}
 use Rattle.std.proofs.lemmas.List.{get_or_append_left, get_or-append_right, length-append, length-replicate}
-use Rattle.std.proofs.lemmas.Nat.{div-add-mod'}
-use Rattle.std.proofs.lemmas.Option.{slice_get-get_or}
 use Rattle.tl_beat.specs.statement.Opcode.{d_carries_data}
-use Rattle.tl_beat.specs.statement.Width.{IsWidth}
-use Rattle.tl_burst.specs.declared.message.Message.TheVariants as message
-use Rattle.tl_burst.specs.declared.message.MessageD.{MessageD}
-use Rattle.tl_burst.specs.statement.Burst.{begun, data_beats, reaches}
-use Rattle.tl_burst.proofs.Begun.{length-begun}
-use Rattle.tl_rules.specs.statement.Effect.{Memory, as_payload, bytes_from}
-use Rattle.tl_rules.proofs.Rooms.{room_in_payload}
-use Rattle.tl_bytes.specs.statement.Bytes.{carried_byte}
-use Rattle.tl_manager.proofs.messages.Filled.{length-bytes}
-use Rattle.tl_manager.proofs.messages.Lawful.{no_bit}
-use Rattle.tl_coherence.proofs.manager.Memories.{byte_in}
-use Rattle.tl_coherence.proofs.protocol.Room.{positive}
+use Rattle.tl_burst.{specs.declared.message.Message.Message, specs.declared.message.MessageD.MessageD}
+use Rattle.tl_rules.{specs.statement.Effect.as_payload, proofs.Rooms.room_in_payload}
+use Rattle.tl_manager.{proofs.messages.Filled.length-bytes, proofs.messages.Lawful.no_bit}
+use Rattle.tl_coherence.proofs.{manager.Memories.byte_in, protocol.Room.positive}
 use Rattle.tl_true_bytes.proofs.Like.{get-taken}
 
 -- ---- the bytes of a payload
@@ -32,20 +25,17 @@ get-dropped (suc a) (x ∷ xs) i = let e : suc a + i ≡ suc (a + i) = omega ari
 -- what the first beats of a response bring at a place
 carried-place : {w : ℕ} (m : MessageD w) (n p : ℕ) → 0 < w → d_carries_data m.opcode ≡ true → m.corrupt ≡ 0
     → m.denied ≡ false → p < length m.payload → p / w < n
-    → carried_byte (begun (message.D m) n) p ≡ Some (slice_index m.payload p)
+    → carried_byte (begun (Message.D m) n) p ≡ Some (slice_index m.payload p)
 unfolding carried_byte
 carried-place m zero p pos carries clean granted lt few = absurd (omega (arith, few))
 carried-place {w} m (suc n) p pos carries clean granted lt few = elim (cases_eq (p / w) n) [
   | inl here ↦
       let whole : w * n + p % w ≡ p = omega (arith, div-add-mod' p w, ap (λ k. k * w) here) in
       let wide : w * n + w - w * n ≡ w = omega arith in
-      rw (length-begun (message.D m) n, eq-eqb (p / w) n here, carries, clean, no_bit n, granted, wide)
-      (get-taken w (drop (w * n) m.payload) (p % w) (mod-lt p pos)
-      ∙ get-dropped (w * n) m.payload (p % w)
-      ∙ ap (slice_get m.payload) whole
-      ∙ slice_get-get_or m.payload p 0 lt)
-  | inr other ↦
-      rw (length-begun (message.D m) n, ne_eqb (p / w) n other)
+      rw (length-begun (Message.D m) n, eq-eqb (p / w) n here, carries, clean, no_bit n, granted, wide)
+      (get-taken w (drop (w * n) m.payload) (p % w) (mod-lt p pos) ∙ get-dropped (w * n) m.payload (p % w) ∙ ap
+      (slice_get m.payload) whole ∙ slice_get-get_or m.payload p 0 lt)
+  | inr other ↦ rw (length-begun (Message.D m) n, ne_eqb (p / w) n other)
       (carried-place m n p pos carries clean granted lt (omega (arith, few, other)))
 ]
 
@@ -96,8 +86,7 @@ covers-8 (suc (suc (suc (suc (suc zero))))) address le e = omega (arith, e)
 covers-8 (suc (suc (suc (suc (suc (suc zero)))))) address le e = omega (arith, e)
 covers-8 (suc (suc (suc (suc (suc (suc (suc n))))))) address le e = absurd (omega (arith, le))
 
-covers-16 : (size address : ℕ) → size ≤ 6 → address % 2 ^ size ≡ 0
-    → address % 16 + 2 ^ size ≤ 16 * data_beats 16 size
+covers-16 : (size address : ℕ) → size ≤ 6 → address % 2 ^ size ≡ 0 → address % 16 + 2 ^ size ≤ 16 * data_beats 16 size
 covers-16 zero address le e = omega arith
 covers-16 (suc zero) address le e = omega (arith, e)
 covers-16 (suc (suc zero)) address le e = omega (arith, e)
@@ -145,17 +134,14 @@ within w size base x width small aligned e =
 
 -- and brings what was found there
 pub brought : {w : ℕ} (base size : ℕ) (f : Memory) (m : MessageD w) (n x : ℕ) → IsWidth w → size ≤ 6
-    → base % 2 ^ size ≡ 0
-    → d_carries_data m.opcode ≡ true → m.corrupt ≡ 0 → m.denied ≡ false
+    → base % 2 ^ size ≡ 0 → d_carries_data m.opcode ≡ true → m.corrupt ≡ 0 → m.denied ≡ false
     → m.payload ≡ as_payload (base % w) (bytes_from f base (2 ^ size)) → reaches base size x ≡ true
-    → (x - w * (base / w)) / w < n
-    → carried_byte (begun (message.D m) n) (x - w * (base / w)) ≡ Some (f x)
+    → (x - w * (base / w)) / w < n → carried_byte (begun (Message.D m) n) (x - w * (base / w)) ≡ Some (f x)
 brought {w} base size f m n x width small aligned carries clean granted payload e few =
     carried-place m n (x - w * (base / w)) (positive w width) carries clean granted inside few
-    ∙ ap Some (ap (λ (l : List ℕ). slice_index l (x - w * (base / w))) payload
-    ∙ ap (λ k. slice_index (as_payload (base % w) bytes) k) (sym at.place_is)
-    ∙ payload-byte (base % w) bytes at.far (omega (arith, long, at.inside))
-    ∙ byte_in f base (2 ^ size) at.far at.inside ∙ ap f at.address_is)
+    ∙ ap Some (ap (λ (l : List ℕ). slice_index l (x - w * (base / w))) payload ∙ ap
+    (λ k. slice_index (as_payload (base % w) bytes) k) (sym at.place_is) ∙ payload-byte (base % w) bytes at.far
+    (omega (arith, long, at.inside)) ∙ byte_in f base (2 ^ size) at.far at.inside ∙ ap f at.address_is)
   where
     at : IsReached w base size x
     at = reached w base size x e

@@ -1,31 +1,21 @@
 -- The run of a log is beside its one-memory machine, event by event.
-use Rattle.std.proofs.Common.{◌≡◌, ℕ, Bool, true, false, ◌+◌, ◌-◌, ◌%◌, ◌^◌, ◌≤◌, List, ◌∷◌}
-use Rattle.std.proofs.Common.{Some, None, refl, sym, ◌∙◌, arith}
+use Rattle.tl_true_bytes.proofs.Imports.{Beat, Link, Trace, Memory, block_at, reaches, Op, Reply, Finish, Machine, Open}
+use Rattle.tl_true_bytes.proofs.Imports.{after_reply, pool_of, with_memory, with_open, Run, Takes, IsBeside, with_end}
+use Rattle.tl_true_bytes.proofs.Imports.{with_reply, with_whole}
+use Rattle.std.proofs.Common.{◌≡◌, ℕ, Bool, true, false, ◌+◌, ◌-◌, ◌%◌, ◌^◌, ◌≤◌, List, ◌∷◌, Some, None, refl, sym, ◌∙◌}
+use Rattle.std.proofs.Common.{arith}
 use Rattle.std.specs.Prelude.{if◌then◌else◌, ◌==◌, Option, nat_le, nat_lt, ⊤}
 use Rattle.std.proofs.lemmas.Bool.{and_parts, eq-eqb, leb-true, ltb-true}
-use Rattle.tl_beat.specs.declared.beat.Beat.{Beat}
-use Rattle.tl_beat.specs.declared.beat.Link.{Link}
-use Rattle.tl_rules.specs.statement.Conformance.{Trace}
-use Rattle.tl_rules.specs.statement.Effect.{Memory, byte_of}
-use Rattle.tl_rules.specs.statement.History.{block_at}
-use Rattle.tl_burst.specs.statement.Burst.{reaches}
-use Rattle.tl_client.specs.declared.operation.Op.{Op}
-use Rattle.tl_client.specs.declared.operation.Op.TheVariants as op
-use Rattle.tl_client.specs.declared.reply.Reply.{Reply}
-use Rattle.tl_client.specs.declared.reply.Reply.TheVariants as reply
-use Rattle.tl_client.specs.declared.verdict.Finish.{Finish}
+use Rattle.tl_rules.specs.statement.Effect.{byte_of}
 use Rattle.tl_manager.specs.statement.Reaction.{with_block}
-use Rattle.tl_coherence.specs.statement.Machine.{Ends, Machine, Open, Replies, after_end, after_reply}
-use Rattle.tl_coherence.specs.statement.Machine.{memory_after, pool_of, pool_of_op, with_memory, with_number, with_open}
-use Rattle.tl_one_memory.specs.statement.Run.{Run, Takes}
-use Rattle.tl_true_bytes.specs.code.Beside.{IsBeside, with_end, with_reply, with_whole}
+use Rattle.tl_coherence.specs.statement.Machine.{Ends, Replies, after_end, memory_after, pool_of_op, with_number}
 use Rattle.tl_true_bytes.proofs.Beside.{beside-started, beside-stored}
 
 -- ---- a client replies
 
 -- a store of an aligned word
 abbrev pub IsAlignedStore : {w : ℕ} → Op w → Reply → Type 0
-IsAlignedStore (op.Store address size value) reply.Stored = address % 64 + 2 ^ size ≤ 64
+IsAlignedStore (Op.Store address size value) Reply.Stored = address % 64 + 2 ^ size ≤ 64
 IsAlignedStore o r = ⊤
 
 -- it leaves other blocks
@@ -44,46 +34,24 @@ unstored address size value x f room other = go (reaches address size x) refl
 
 pub replied : {w : ℕ} (c : ℕ) (run : Run w) (m : Machine w) (t : Trace w) (o : Op w) (r : Reply) → IsBeside run m t
     → Replies c o r m → IsAlignedStore o r → IsBeside (with_reply o r m.memory run) (after_reply c o r m) t
-replied {w} c run m t (op.Load address size) (reply.Value v) is replies may = is
-replied {w} c run m t (op.Load address size) reply.Stored is replies may = is
-replied {w} c run m t (op.Load address size) reply.Miss is replies may = is
-replied {w} c run m t (op.Load address size) (reply.Started source) is replies may =
-    beside-started run m t is c (pool_of_op {w = w} (op.Load address size)) source (op.Load address size) replies.1
-replied {w} c run m t (op.Load address size) (reply.Busy why) is replies may = is
-replied {w} c run m t (op.Store address size value) (reply.Value v) is replies may = is
-replied {w} c run m t (op.Store address size value) reply.Stored is replies may =
+replied {w} c run m t (Op.Load address size) (Reply.Started source) is replies may =
+    beside-started run m t is c (pool_of_op {w = w} (Op.Load address size)) source (Op.Load address size) replies.1
+replied {w} c run m t (Op.Store address size value) Reply.Stored is replies may =
     beside-stored run m t is (block_at address)
     (with_number address size value m.memory) (λ x. unstored address size value x m.memory may)
-replied {w} c run m t (op.Store address size value) reply.Miss is replies may = is
-replied {w} c run m t (op.Store address size value) (reply.Started source) is replies may =
-    beside-started run m t is c (pool_of_op {w = w} (op.Store address size value)) source (op.Store address size value)
+replied {w} c run m t (Op.Store address size value) (Reply.Started source) is replies may =
+    beside-started run m t is c (pool_of_op {w = w} (Op.Store address size value)) source (Op.Store address size value)
     replies.1
-replied {w} c run m t (op.Store address size value) (reply.Busy why) is replies may = is
-replied {w} c run m t (op.Acquire block grow) (reply.Value v) is replies may = is
-replied {w} c run m t (op.Acquire block grow) reply.Stored is replies may = is
-replied {w} c run m t (op.Acquire block grow) reply.Miss is replies may = is
-replied {w} c run m t (op.Acquire block grow) (reply.Started source) is replies may =
-    beside-started run m t is c (pool_of_op {w = w} (op.Acquire block grow)) source (op.Acquire block grow) replies.1
-replied {w} c run m t (op.Acquire block grow) (reply.Busy why) is replies may = is
-replied {w} c run m t (op.AcquireWhole block bytes) (reply.Value v) is replies may = is
-replied {w} c run m t (op.AcquireWhole block bytes) reply.Stored is replies may = is
-replied {w} c run m t (op.AcquireWhole block bytes) reply.Miss is replies may = is
-replied {w} c run m t (op.AcquireWhole block bytes) (reply.Started source) is replies may =
-    beside-started run m t is c (pool_of_op {w = w} (op.AcquireWhole block bytes)) source (op.AcquireWhole block bytes)
+replied {w} c run m t (Op.Acquire block grow) (Reply.Started source) is replies may =
+    beside-started run m t is c (pool_of_op {w = w} (Op.Acquire block grow)) source (Op.Acquire block grow) replies.1
+replied {w} c run m t (Op.AcquireWhole block bytes) (Reply.Started source) is replies may =
+    beside-started run m t is c (pool_of_op {w = w} (Op.AcquireWhole block bytes)) source (Op.AcquireWhole block bytes)
     replies.1
-replied {w} c run m t (op.AcquireWhole block bytes) (reply.Busy why) is replies may = is
-replied {w} c run m t (op.Release block prune) (reply.Value v) is replies may = is
-replied {w} c run m t (op.Release block prune) reply.Stored is replies may = is
-replied {w} c run m t (op.Release block prune) reply.Miss is replies may = is
-replied {w} c run m t (op.Release block prune) (reply.Started source) is replies may =
-    beside-started run m t is c (pool_of_op {w = w} (op.Release block prune)) source (op.Release block prune) replies.1
-replied {w} c run m t (op.Release block prune) (reply.Busy why) is replies may = is
-replied {w} c run m t (op.Access a) (reply.Value v) is replies may = is
-replied {w} c run m t (op.Access a) reply.Stored is replies may = is
-replied {w} c run m t (op.Access a) reply.Miss is replies may = is
-replied {w} c run m t (op.Access a) (reply.Started source) is replies may =
-    beside-started run m t is c (pool_of_op {w = w} (op.Access a)) source (op.Access a) replies.1
-replied {w} c run m t (op.Access a) (reply.Busy why) is replies may = is
+replied {w} c run m t (Op.Release block prune) (Reply.Started source) is replies may =
+    beside-started run m t is c (pool_of_op {w = w} (Op.Release block prune)) source (Op.Release block prune) replies.1
+replied {w} c run m t (Op.Access a) (Reply.Started source) is replies may =
+    beside-started run m t is c (pool_of_op {w = w} (Op.Access a)) source (Op.Access a) replies.1
+replied {w} c run m t u y is replies may = is
 
 -- ---- an operation ends
 
@@ -97,14 +65,10 @@ module _ {w : ℕ} (run : Run w) (m : Machine w) (t : Trace w) (is : IsBeside ru
       → IsBeside (Takes link x ∷ run) (with_open link.0 (pool_of f) source None m) ((link, x) ∷ t)
       → IsBeside (with_whole o m.memory (Takes link x ∷ run))
       (with_open link.0 (pool_of f) source None (with_memory (memory_after o m.memory) m)) ((link, x) ∷ t)
-  whole link x source f (op.AcquireWhole block bytes) ended =
+  whole link x source f (Op.AcquireWhole block bytes) ended =
       beside-stored (Takes link x ∷ run) (with_open link.0 (pool_of f) source None m) ((link, x) ∷ t) ended block
       (with_block block bytes m.memory) (λ y. unwritten block bytes m.memory y)
-  whole link x source f (op.Load address size) ended = ended
-  whole link x source f (op.Store address size value) ended = ended
-  whole link x source f (op.Acquire block grow) ended = ended
-  whole link x source f (op.Release block prune) ended = ended
-  whole link x source f (op.Access a) ended = ended
+  whole link x source f v ended = ended
 
   pub ended-open : (link : Link) (x : Beat w) (source : ℕ) (f : Finish) (o : Option (Open w)) → Ends o x f
       → IsBeside (Takes link x ∷ run) (with_open link.0 (pool_of f) source None m) ((link, x) ∷ t)

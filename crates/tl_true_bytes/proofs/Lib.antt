@@ -18,3 +18,4 @@ pub mod Taken
 pub mod Together
 pub mod WorldRuns
 pub mod Worlds
+pub mod Imports

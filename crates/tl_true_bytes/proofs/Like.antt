@@ -1,45 +1,35 @@
 -- The access that is gathered from the beats of a request does what the request does.
+use Rattle.tl_true_bytes.proofs.Imports.{Beat, BeatA, OpA, MessageA, IsBlankAfter, a_beat_of, begun, reaches}
+use Rattle.tl_true_bytes.proofs.Imports.{length-begun, AccessResult, Memory, after, bytes_from, effect, asked_by}
+use Rattle.tl_true_bytes.proofs.Imports.{writes, tail_is}
 use Rattle.std.proofs.Common.{◌≡◌, ℕ, zero, suc, ◌+◌, ◌-◌, ◌*◌, ◌/◌, ◌%◌, ◌^◌, ◌<◌, Bool, true, false, List, [], ◌∷◌}
 use Rattle.std.proofs.Common.{take, drop, refl, sym, ap, ◌∙◌, arith, eqb, inl, inr}
 use Rattle.std.specs.Prelude.{if◌then◌else◌, is_some, min, Option, Some, None, replicate, slice_get, slice_index}
 use Rattle.std.specs.Prelude.{unwrap_or}
-use Rattle.std.proofs.Math.Nat.{mod-eq_of_lt}
-use Rattle.std.proofs.Math.Path.{fun_ext}
-use Rattle.std.proofs.Math.Seq.{take-add}
-use Rattle.std.proofs.lemmas.Bool.{cases_lt}
-use Rattle.std.proofs.lemmas.Nat.{mod-pow-add}
-use Rattle.std.proofs.lemmas.Nat.Bits.{bit_at_above}
-use Rattle.tl_beat.specs.declared.beat.Beat.{Beat}
-use Rattle.tl_beat.specs.declared.beat.Beat.TheVariants as beat
-use Rattle.tl_beat.specs.declared.beat.BeatA.{BeatA}
-use Rattle.tl_beat.specs.declared.opcode.OpA.{OpA}
-use Rattle.tl_beat.specs.declared.opcode.OpA.TheVariants as a
+use Rattle.std.{proofs.Math.Nat.mod-eq_of_lt, proofs.Math.Path.fun_ext, proofs.Math.Seq.take-add}
+use Rattle.std.{proofs.lemmas.Bool.cases_lt, proofs.lemmas.Nat.mod-pow-add, proofs.lemmas.Nat.Bits.bit_at_above}
 use Rattle.tl_beat.specs.statement.Opcode.{a_carries_data}
-use Rattle.tl_burst.specs.declared.message.Message.TheVariants as message
-use Rattle.tl_burst.specs.declared.message.MessageA.{MessageA}
-use Rattle.tl_burst.specs.statement.Burst.{IsBlankAfter, a_beat_of, begun, bit, byte_at, byte_if, place_of, reaches}
-use Rattle.tl_burst.proofs.Begun.{length-begun}
+use Rattle.tl_burst.specs.declared.message.Message.{Message}
+use Rattle.tl_burst.specs.statement.Burst.{bit, byte_at, byte_if, place_of}
 use Rattle.tl_params.specs.statement.Param.{arithmetic_of, logical_of}
 use Rattle.tl_rules.specs.statement.Admission.{bytes_carried}
-use Rattle.tl_rules.specs.statement.Effect.{AccessResult, Bytes, Memory, after, access_result, arithmetic_result}
-use Rattle.tl_rules.specs.statement.Effect.{by_param, byte_count, byte_of, bytes_from, effect, logical_result}
-use Rattle.tl_rules.specs.statement.Effect.{number_from, operand_of, with_number}
-use Rattle.tl_bytes.specs.statement.Bytes.{asked_by, carried_mask, writes}
-use Rattle.tl_coherence.proofs.queues.Carried.{tail_is}
+use Rattle.tl_rules.specs.statement.Effect.{Bytes, access_result, arithmetic_result, by_param, byte_count, byte_of}
+use Rattle.tl_rules.specs.statement.Effect.{logical_result, number_from, operand_of, with_number}
+use Rattle.tl_bytes.specs.statement.Bytes.{carried_mask}
 use Rattle.tl_concord.proofs.Beats.{same_a}
 use Rattle.tl_true_bytes.specs.code.Like.{IsLike}
 
 -- ---- what is gathered
 
-mask_begun : {w : ℕ} (m : MessageA w) (n : ℕ) → carried_mask (begun (message.A m) n) ≡ m.mask % 2 ^ (w * n)
+mask_begun : {w : ℕ} (m : MessageA w) (n : ℕ) → carried_mask (begun (Message.A m) n) ≡ m.mask % 2 ^ (w * n)
 unfolding carried_mask
 mask_begun {w} m zero = let e : w * 0 ≡ 0 = omega arith in rw e (omega arith)
 mask_begun {w} m (suc n) =
     let next : w * suc n ≡ w + w * n = omega arith in
-    rw (next, length-begun (message.A m) n, mask_begun m n) (omega (arith, mod-pow-add m.mask w (w * n)))
+    rw (next, length-begun (Message.A m) n, mask_begun m n) (omega (arith, mod-pow-add m.mask w (w * n)))
 
 bytes_begun : {w : ℕ} (m : MessageA w) (n : ℕ) → a_carries_data m.opcode ≡ true
-    → bytes_carried (begun (message.A m) n) ≡ take (w * n) m.payload
+    → bytes_carried (begun (Message.A m) n) ≡ take (w * n) m.payload
 unfolding bytes_carried
 bytes_begun {w} m zero carries = let e : w * 0 ≡ 0 = omega arith in rw e refl
 bytes_begun {w} m (suc n) carries =
@@ -48,30 +38,26 @@ bytes_begun {w} m (suc n) carries =
     rw (next, carries, bytes_begun m n carries, wide) (sym (take-add (w * n) w m.payload))
 
 zero_there : (j i : ℕ) → slice_index (replicate j 0) i ≡ 0
-zero_there zero i = refl
-zero_there (suc j) zero = refl
 zero_there (suc j) (suc i) = zero_there j i
+zero_there v u = refl
 
-index-taken : (k j : ℕ) (xs : List ℕ) (i : ℕ) → drop k xs ≡ replicate j 0
-    → slice_index (take k xs) i ≡ slice_index xs i
+index-taken : (k j : ℕ) (xs : List ℕ) (i : ℕ) → drop k xs ≡ replicate j 0 → slice_index (take k xs) i ≡ slice_index xs i
 index-taken zero j xs i e = sym (ap (λ (l : List ℕ). slice_index l i) e ∙ zero_there j i)
-index-taken (suc k) j [] i e = refl
-index-taken (suc k) j (x ∷ xs) zero e = refl
 index-taken (suc k) j (x ∷ xs) (suc i) e = index-taken k j xs i e
+index-taken (suc k) j v u e = refl
 
 pub get-taken : (k : ℕ) (xs : List ℕ) (i : ℕ) → i < k → slice_get (take k xs) i ≡ slice_get xs i
 get-taken zero xs i lt = absurd (omega (arith, lt))
-get-taken (suc k) [] i lt = refl
-get-taken (suc k) (x ∷ xs) zero lt = refl
 get-taken (suc k) (x ∷ xs) (suc i) lt = get-taken k xs i (omega (arith, lt))
+get-taken (suc k) v u lt = refl
 
 -- ---- what it does
 
 module _ {w : ℕ} (p m : MessageA w) (opcode_is : p.opcode ≡ m.opcode) (param_is : p.param ≡ m.param)
     (size_is : p.size ≡ m.size) (address_is : p.address ≡ m.address)
-    (byte_is : (address : ℕ) → byte_at 0 (message.A p) address ≡ byte_at 0 (message.A m) address)
+    (byte_is : (address : ℕ) → byte_at 0 (Message.A p) address ≡ byte_at 0 (Message.A m) address)
     (operand_is : a_carries_data m.opcode ≡ true → (i : ℕ) → slice_index p.payload i ≡ slice_index m.payload i) where
-  put_is : (f : Memory) → after a.PutFullData p f ≡ after a.PutFullData m f
+  put_is : (f : Memory) → after OpA.PutFullData p f ≡ after OpA.PutFullData m f
   put_is f = fun_ext (λ i. ap (λ (o : Option ℕ). unwrap_or o (f i)) (byte_is i))
 
   number_is : a_carries_data m.opcode ≡ true → number_from (operand_of p) p.address (byte_count p)
@@ -114,54 +100,49 @@ module _ {w : ℕ} (p m : MessageA w) (opcode_is : p.opcode ≡ m.opcode) (param
     writes_is = λ i. ap (λ (o : OpA). writes o p i) opcode_is ∙ written m.opcode i;
   }
     where
-      found : (f : Memory) → access_result a.Get p f ≡ access_result a.Get m f
+      found : (f : Memory) → access_result OpA.Get p f ≡ access_result OpA.Get m f
       found f = ap (λ (k : ℕ). Bytes (bytes_from f p.address (2 ^ k))) size_is
           ∙ ap (λ (k : ℕ). Bytes (bytes_from f k (2 ^ m.size))) address_is
 
       same : (o : OpA) → m.opcode ≡ o → (f : Memory)
           → ◌≡◌ {A = Memory × AccessResult} (after o p f, access_result o p f) (after o m f, access_result o m f)
-      same a.PutFullData e f = ap (λ (g : Memory). (g, access_result a.PutFullData m f)) (put_is f)
-      same a.PutPartialData e f = ap (λ (g : Memory). (g, access_result a.PutPartialData m f)) (put_is f)
-      same a.ArithmeticData e f =
-          ap (λ (g : Memory). (g, access_result a.ArithmeticData p f))
+      same OpA.PutFullData e f = ap (λ (g : Memory). (g, access_result OpA.PutFullData m f)) (put_is f)
+      same OpA.PutPartialData e f = ap (λ (g : Memory). (g, access_result OpA.PutPartialData m f)) (put_is f)
+      same OpA.ArithmeticData e f =
+          ap (λ (g : Memory). (g, access_result OpA.ArithmeticData p f))
           (atomic_is (λ param count old new. by_param (λ o. arithmetic_result o (8 * count)) (arithmetic_of param) old
           new) f (ap a_carries_data e))
-          ∙ ap (λ r. (after a.ArithmeticData m f, r)) (found f)
-      same a.LogicalData e f =
-          ap (λ (g : Memory). (g, access_result a.LogicalData p f))
+          ∙ ap (λ r. (after OpA.ArithmeticData m f, r)) (found f)
+      same OpA.LogicalData e f =
+          ap (λ (g : Memory). (g, access_result OpA.LogicalData p f))
           (atomic_is (λ param count old new. by_param logical_result (logical_of param) old new) f
           (ap a_carries_data e))
-          ∙ ap (λ r. (after a.LogicalData m f, r)) (found f)
-      same a.Get e f = ap (λ r. (f, r)) (found f)
-      same a.Intent e f = refl
-      same a.AcquireBlock e f = refl
-      same a.AcquirePerm e f = refl
+          ∙ ap (λ r. (after OpA.LogicalData m f, r)) (found f)
+      same OpA.Get e f = ap (λ r. (f, r)) (found f)
+      same v e f = refl
 
       reached : (i : ℕ) → reaches p.address p.size i ≡ reaches m.address m.size i
       reached i = ap (λ (k : ℕ). reaches p.address k i) size_is ∙ ap (λ (k : ℕ). reaches k m.size i) address_is
 
       written : (o : OpA) (i : ℕ) → writes o p i ≡ writes o m i
-      written a.PutFullData i = ap (λ (b : Option ℕ). is_some b) (byte_is i)
-      written a.PutPartialData i = ap (λ (b : Option ℕ). is_some b) (byte_is i)
-      written a.ArithmeticData i = reached i
-      written a.LogicalData i = reached i
-      written a.Get i = refl
-      written a.Intent i = refl
-      written a.AcquireBlock i = refl
-      written a.AcquirePerm i = refl
+      written OpA.PutFullData i = ap (λ (b : Option ℕ). is_some b) (byte_is i)
+      written OpA.PutPartialData i = ap (λ (b : Option ℕ). is_some b) (byte_is i)
+      written OpA.ArithmeticData i = reached i
+      written OpA.LogicalData i = reached i
+      written v i = refl
 
 -- ---- the access that is gathered
 
 -- where all beats of the request have come, it is such an access
 pub like-asked : {w : ℕ} (link : ℕ) (x : BeatA w) (older : List (Beat w)) (moment : ℕ) (m : MessageA w) (n : ℕ)
-    → IsBlankAfter n (message.A m) → beat.A x ∷ older ≡ begun (message.A m) n
-    → IsLike (asked_by link x (beat.A x ∷ older) moment).request m
+    → IsBlankAfter n (Message.A m) → Beat.A x ∷ older ≡ begun (Message.A m) n
+    → IsLike (asked_by link x (Beat.A x ∷ older) moment).request m
 like-asked link x older moment m zero blank e = absurd cc
 like-asked {w} link x older moment m (suc k) blank e =
     like p m opcode_is (ap (λ (z : BeatA w). z.param) x_is) size_is address_is byte_is operand_is
   where
     beats : List (Beat w)
-    beats = beat.A x ∷ older
+    beats = Beat.A x ∷ older
 
     p : MessageA w
     p = (asked_by link x beats moment).request
@@ -171,7 +152,7 @@ like-asked {w} link x older moment m (suc k) blank e =
         if a_carries_data o then byte_if (λ i. bit mask i) payload (place_of w base address) else None
 
     x_is : x ≡ a_beat_of m k
-    x_is = same_a x (a_beat_of m k) (tail_is (beat.A x) (beat.A (a_beat_of m k)) older (begun (message.A m) k) e).0
+    x_is = same_a x (a_beat_of m k) (tail_is (Beat.A x) (Beat.A (a_beat_of m k)) older (begun (Message.A m) k) e).0
 
     opcode_is : x.opcode ≡ m.opcode
     opcode_is = ap (λ (z : BeatA w). z.opcode) x_is
@@ -193,7 +174,7 @@ like-asked {w} link x older moment m (suc k) blank e =
     operand_is carries i = ap (λ (l : List ℕ). slice_index l i) (payload_is carries)
         ∙ index-taken (w * suc k) (64 - w * suc k) m.payload i (rw carries at blank.0)
 
-    byte_is : (address : ℕ) → byte_at 0 (message.A p) address ≡ byte_at 0 (message.A m) address
+    byte_is : (address : ℕ) → byte_at 0 (Message.A p) address ≡ byte_at 0 (Message.A m) address
     byte_is address =
         ap (λ (o : OpA). given o (carried_mask beats) (bytes_carried beats) x.address address) opcode_is
         ∙ ap (λ (k : ℕ). given m.opcode k (bytes_carried beats) x.address address) mask_is

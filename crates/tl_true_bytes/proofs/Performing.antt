@@ -1,76 +1,46 @@
 -- An access of a world is performed rightly in the run beside it.
-use Rattle.std.proofs.Common.{◌≡◌, ℕ, zero, suc, ◌+◌, ◌%◌, ◌^◌, ◌≤◌, true, [], ◌∷◌, inl, inr}
-use Rattle.std.proofs.Common.{Some, None, refl, sym, ◌∙◌, ap, subst, arith}
+use Rattle.tl_true_bytes.proofs.Imports.{Link, Channel, OpA, IsWidth, MessageA, IsBlankAfter, a_beat_of, beats_of}
+use Rattle.tl_true_bytes.proofs.Imports.{reaches, Config, Level, Trace, on_link, AccessResult, Memory, after, effect}
+use Rattle.tl_true_bytes.proofs.Imports.{block_at, held, is_free, leaves, is_access, is_of, pending_accesses, writes}
+use Rattle.tl_true_bytes.proofs.Imports.{sourced, illegal_message_at, level_of, Deliver, Outcome, IsRequest, trace_of}
+use Rattle.tl_true_bytes.proofs.Imports.{IsGiven, Log, system_after, Requests, moved, accesses_answered}
+use Rattle.tl_true_bytes.proofs.Imports.{one_memory_after, stepped, given-before, Run, found_in, trace_in, IsBeside}
+use Rattle.tl_true_bytes.proofs.Imports.{IsOpenAs, result_in, Op}
+use Rattle.std.proofs.Common.{◌≡◌, ℕ, zero, suc, ◌+◌, ◌%◌, ◌^◌, ◌≤◌, true, [], ◌∷◌, inl, inr, Some, None, refl, sym}
+use Rattle.std.proofs.Common.{◌∙◌, ap, subst, arith}
 use Rattle.std.specs.Prelude.{find, is_some, nat_le, nat_lt, Option, unwrap_or}
 use Rattle.std.proofs.lemmas.Bool.{and_from, and_parts, cases_eq, leb-true, ltb-true}
-use Rattle.tl_beat.specs.declared.beat.Link.{Link}
-use Rattle.tl_beat.specs.declared.channel.Channel.{Channel}
-use Rattle.tl_beat.specs.declared.opcode.OpA.{OpA}
-use Rattle.tl_beat.specs.declared.opcode.OpA.TheVariants as a
-use Rattle.tl_beat.specs.statement.Width.{IsWidth}
-use Rattle.tl_burst.specs.declared.message.Message.TheVariants as message
-use Rattle.tl_burst.specs.declared.message.MessageA.{MessageA}
-use Rattle.tl_burst.specs.statement.Burst.{IsBlankAfter, a_beat_of, beats_of, byte_at, reaches}
-use Rattle.tl_params.specs.declared.config.Config.{Config}
-use Rattle.tl_params.specs.declared.level.Level.{Level}
+use Rattle.tl_burst.{specs.declared.message.Message.Message, specs.statement.Burst.byte_at}
 use Rattle.tl_params.specs.declared.perm.Perm.{Perm}
-use Rattle.tl_params.specs.declared.perm.Perm.TheVariants as perm
-use Rattle.tl_rules.specs.statement.Conformance.{Trace, on_link}
-use Rattle.tl_rules.specs.statement.Effect.{AccessResult, Memory, after, effect}
-use Rattle.tl_rules.specs.statement.History.{block_at, held}
-use Rattle.tl_rules.specs.statement.Windows.{is_free, leaves, needs}
-use Rattle.tl_bytes.specs.statement.Bytes.{access_writes, is_access, is_of, pending_accesses, writes}
-use Rattle.tl_client.specs.declared.operation.Op.TheVariants as op
-use Rattle.tl_client.specs.statement.Send.{sourced}
-use Rattle.tl_manager.specs.code.Kept.{illegal_message_at}
-use Rattle.tl_manager.specs.statement.Offer.{level_of}
-use Rattle.tl_coherence.specs.declared.event.Event.TheVariants.{Deliver}
-use Rattle.tl_coherence.specs.declared.event.Outcome.{Outcome}
-use Rattle.tl_coherence.specs.refinement.SimulationRelation.{IsRequest}
-use Rattle.tl_coherence.specs.statement.Flow.{trace_of}
-use Rattle.tl_coherence.specs.statement.Headline.{IsGiven}
-use Rattle.tl_coherence.specs.statement.Log.{Log, system_after}
-use Rattle.tl_coherence.specs.statement.Machine.{Requests, moved}
-use Rattle.tl_coherence.specs.statement.OneMemory.{accesses_answered, one_memory_after}
-use Rattle.tl_coherence.specs.statement.Step.{stepped}
-use Rattle.tl_coherence.proofs.bound.Settling.{given-before}
-use Rattle.tl_coherence.proofs.manager.Memories.{access-room}
-use Rattle.tl_coherence.proofs.theorem.Performed.{performed_free}
-use Rattle.tl_one_memory.specs.statement.Run.{IsPerformed, Run, found_in, trace_in}
-use Rattle.tl_true_bytes.specs.code.Beside.{IsBeside, IsOpenAs, result_in}
-use Rattle.tl_true_bytes.proofs.Asked.{IsSomePending}
-use Rattle.tl_true_bytes.proofs.Beside.{same_asked}
-use Rattle.tl_true_bytes.proofs.Quiet.{other-memory}
+use Rattle.tl_rules.specs.statement.Windows.{needs}
+use Rattle.tl_bytes.specs.statement.Bytes.{access_writes}
+use Rattle.tl_coherence.proofs.{manager.Memories.access-room, theorem.Performed.performed_free}
+use Rattle.tl_one_memory.specs.statement.Run.{IsPerformed}
+use Rattle.tl_true_bytes.{proofs.Asked.IsSomePending, proofs.Beside.same_asked, proofs.Quiet.other-memory}
+use Rattle.tl_true_bytes.{proofs.Runs.answered-after, proofs.Taken.none-found}
 use Rattle.tl_true_bytes.proofs.Requests.{answered-pending, request-asked, request-known, writes_sourced}
-use Rattle.tl_true_bytes.proofs.Runs.{answered-after}
-use Rattle.tl_true_bytes.proofs.Taken.{none-found}
 
 -- ---- who may write may read
 
-trunk-branch : {w : ℕ} (n block : ℕ) (t : Trace w) → is_free n None perm.Trunk block t ≡ true
-    → is_free n None perm.Branch block t ≡ true
+trunk-branch : {w : ℕ} (n block : ℕ) (t : Trace w) → is_free n None Perm.Trunk block t ≡ true
+    → is_free n None Perm.Branch block t ≡ true
 unfolding is_free
 trunk-branch zero block t free = refl
 trunk-branch {w} (suc n) block t free =
-    let both = and_parts (is_free n None perm.Trunk block t) (leaves perm.Trunk (held block (on_link n t))) free in
+    let both = and_parts (is_free n None Perm.Trunk block t) (leaves Perm.Trunk (held block (on_link n t))) free in
     and_from _ _ (trunk-branch n block t both.0) (weaker (held block (on_link n t)) both.1)
   where
-    weaker : (p : Perm) → leaves perm.Trunk p ≡ true → leaves perm.Branch p ≡ true
-    weaker perm.None e = refl
-    weaker perm.Branch e = absurd cc
-    weaker perm.Trunk e = absurd cc
+    weaker : (p : Perm) → leaves Perm.Trunk p ≡ true → leaves Perm.Branch p ≡ true
+    weaker Perm.None e = refl
+    weaker v e = absurd cc
 
 needs-branch : {w : ℕ} (n block : ℕ) (t : Trace w) (o : OpA) → is_access o ≡ true
-    → is_free n None (needs o) block t ≡ true
-    → is_free n None perm.Branch block t ≡ true
-needs-branch n block t a.Get e free = free
-needs-branch n block t a.PutFullData e free = trunk-branch n block t free
-needs-branch n block t a.PutPartialData e free = trunk-branch n block t free
-needs-branch n block t a.ArithmeticData e free = trunk-branch n block t free
-needs-branch n block t a.LogicalData e free = trunk-branch n block t free
-needs-branch n block t a.Intent e free = absurd cc
-needs-branch n block t a.AcquireBlock e free = absurd cc
-needs-branch n block t a.AcquirePerm e free = absurd cc
+    → is_free n None (needs o) block t ≡ true → is_free n None Perm.Branch block t ≡ true
+needs-branch n block t OpA.Get e free = free
+needs-branch n block t OpA.Intent e free = absurd cc
+needs-branch n block t OpA.AcquireBlock e free = absurd cc
+needs-branch n block t OpA.AcquirePerm e free = absurd cc
+needs-branch n block t v e free = trunk-branch n block t free
 
 -- ---- what an access reaches and writes is in its block
 
@@ -82,14 +52,14 @@ reached-here base size x room e =
     omega (arith, from, to, room)
 
 written-here : {w : ℕ} (m : MessageA w) (o : Option Level) (x : ℕ) → IsWidth w
-    → illegal_message_at o (message.A m) ≡ None → IsBlankAfter (beats_of (message.A m)) (message.A m)
-    → writes m.opcode m x ≡ true → (needs m.opcode ≡ perm.Trunk) × (block_at x ≡ block_at m.address)
+    → illegal_message_at o (Message.A m) ≡ None → IsBlankAfter (beats_of (Message.A m)) (Message.A m)
+    → writes m.opcode m x ≡ true → (needs m.opcode ≡ Perm.Trunk) × (block_at x ≡ block_at m.address)
 unfolding effect
 written-here {w} m o x width lawful blank = go m.opcode refl
   where
     -- a byte that a Put has is of its block: otherwise it would stay, whatever it was
-    never : (k : OpA) → m.opcode ≡ k → ((f : Memory) → after k m f x ≡ unwrap_or (byte_at 0 (message.A m) x) (f x))
-        → (block_at x ≡ block_at m.address → ⊥) → (b : Option ℕ) → byte_at 0 (message.A m) x ≡ b → is_some b ≡ true → ⊥
+    never : (k : OpA) → m.opcode ≡ k → ((f : Memory) → after k m f x ≡ unwrap_or (byte_at 0 (Message.A m) x) (f x))
+        → (block_at x ≡ block_at m.address → ⊥) → (b : Option ℕ) → byte_at 0 (Message.A m) x ≡ b → is_some b ≡ true → ⊥
     never k e puts other None f some = cc
     never k e puts other (Some v) f some =
         let stays : after m.opcode m (λ i. suc v) x ≡ suc v =
@@ -98,25 +68,22 @@ written-here {w} m o x width lawful blank = go m.opcode refl
         ∙ ap (λ (i : OpA). after i m (λ j. suc v) x) (sym e) ∙ stays in
         absurd (omega (arith, one))
 
-    put : (k : OpA) → m.opcode ≡ k → ((f : Memory) → after k m f x ≡ unwrap_or (byte_at 0 (message.A m) x) (f x))
-        → is_some (byte_at 0 (message.A m) x) ≡ true → block_at x ≡ block_at m.address
+    put : (k : OpA) → m.opcode ≡ k → ((f : Memory) → after k m f x ≡ unwrap_or (byte_at 0 (Message.A m) x) (f x))
+        → is_some (byte_at 0 (Message.A m) x) ≡ true → block_at x ≡ block_at m.address
     put k e puts some = elim (cases_eq (block_at x) (block_at m.address)) [
       | inl same ↦ same
-      | inr other ↦ absurd (never k e puts other (byte_at 0 (message.A m) x) refl some)
+      | inr other ↦ absurd (never k e puts other (byte_at 0 (Message.A m) x) refl some)
     ]
 
     reached : reaches m.address m.size x ≡ true → block_at x ≡ block_at m.address
     reached e = reached-here m.address m.size x (access-room o m width lawful) e
 
-    go : (k : OpA) → m.opcode ≡ k → writes k m x ≡ true → (needs k ≡ perm.Trunk) × (block_at x ≡ block_at m.address)
-    go a.PutFullData e some = (refl, put a.PutFullData e (λ f. refl) some)
-    go a.PutPartialData e some = (refl, put a.PutPartialData e (λ f. refl) some)
-    go a.ArithmeticData e some = (refl, reached some)
-    go a.LogicalData e some = (refl, reached some)
-    go a.Get e some = absurd cc
-    go a.Intent e some = absurd cc
-    go a.AcquireBlock e some = absurd cc
-    go a.AcquirePerm e some = absurd cc
+    go : (k : OpA) → m.opcode ≡ k → writes k m x ≡ true → (needs k ≡ Perm.Trunk) × (block_at x ≡ block_at m.address)
+    go OpA.PutFullData e some = (refl, put OpA.PutFullData e (λ f. refl) some)
+    go OpA.PutPartialData e some = (refl, put OpA.PutPartialData e (λ f. refl) some)
+    go OpA.ArithmeticData e some = (refl, reached some)
+    go OpA.LogicalData e some = (refl, reached some)
+    go v e some = absurd cc
 
 -- ---- the access that a delivery answers
 
@@ -125,9 +92,11 @@ pub performs-well : {w : ℕ} (config : Config) (log : Log w) (link : Link) (ch 
     → accesses_answered (stepped config (Deliver link ch) (system_after config log)).handed ≡ (q, source) ∷ []
     → moved (Deliver link ch) (stepped config (Deliver link ch) (system_after config log)).outcome
     (one_memory_after config log) ≡ one_memory_after config log
-    → (one_memory_after config log).opened q Requests source
-    ≡ Some (record { asked = op.Access (message.A a); answer = None })
-    → is_access a.opcode ≡ true → (run : Run w)
+    → (one_memory_after config log).opened q Requests source ≡ Some (record {
+      asked = Op.Access (Message.A a);
+      answer =
+          None;
+    }) → is_access a.opcode ≡ true → (run : Run w)
     → IsBeside run (one_memory_after config log) (trace_of ((Deliver link ch, o) ∷ log))
     → IsPerformed n (λ address. 0) q source run
 performs-well {w} config log link ch o given n q source a one still opened accesses run is = record {
@@ -136,24 +105,23 @@ performs-well {w} config log link ch o given n q source a one still opened acces
   once = none-found (found_in (λ address. 0) q source run)
       (result_in ((one_memory_after config log).opened q Requests source)) (ap result_in opened)
       (is.found_are q source);
-  reads_free = λ x reached. now perm.Branch x
+  reads_free = λ x reached. now Perm.Branch x
       (reached-here a.address a.size x (access-room (level_of config q) (sourced source a) given.width known.1)
-      (sym (reaching x) ∙ reached))
-      (needs-branch n (block_at a.address) t a.opcode accesses (free n));
+      (sym (reaching x) ∙ reached)) (needs-branch n (block_at a.address) t a.opcode accesses (free n));
   writes_free = λ x writing.
       let here = written-here (sourced source a) (level_of config q) x given.width known.1 known.2
       (writes_sourced source a a.opcode x ∙ sym (writing_is x) ∙ writing) in
-      now perm.Trunk x here.1 (subst (λ (k : Perm). is_free n None k (block_at a.address) t ≡ true) here.0 (free n));
+      now Perm.Trunk x here.1 (subst (λ (k : Perm). is_free n None k (block_at a.address) t ≡ true) here.0 (free n));
 }
   where
     t : Trace w
     t = trace_of ((Deliver link ch, o) ∷ log)
 
     result : AccessResult
-    result = (effect (message.A a) (one_memory_after config log).memory).1
+    result = (effect (Message.A a) (one_memory_after config log).memory).1
 
     after_it : (one_memory_after config ((Deliver link ch, o) ∷ log)).opened q Requests source
-        ≡ Some (record { asked = op.Access (message.A a); answer = Some result })
+        ≡ Some (record { asked = Op.Access (Message.A a); answer = Some result })
     after_it = answered-after config log link ch o given q source a one still opened
 
     p : IsSomePending q source t
@@ -165,7 +133,7 @@ performs-well {w} config log link ch o given n q source a one still opened acces
     same : open_as.asked ≡ a
     same = same_asked open_as.asked a open_as.answer None (sym open_as.opened ∙ opened)
 
-    known : IsRequest config q source (message.A (sourced source a))
+    known : IsRequest config q source (Message.A (sourced source a))
     known = request-known config log (given-before config (Deliver link ch, o) log given) q source a None opened
 
     free : (k : ℕ) → is_free k None (needs a.opcode) (block_at a.address) t ≡ true

@@ -1,68 +1,30 @@
 -- The requests of accesses that clients have open, as their links carry them.
-use Rattle.std.proofs.Common.{◌≡◌, ℕ, suc, Bool, true, false, not, ◌&&◌}
-use Rattle.std.proofs.Common.{◌∷◌, length}
-use Rattle.std.proofs.Common.{Some, None, refl, sym, ◌∙◌, ap, subst}
-use Rattle.std.specs.Prelude.{if◌then◌else◌, Option, is_some}
-use Rattle.std.proofs.lemmas.Bool.{and_parts}
-use Rattle.tl_beat.specs.declared.beat.Beat.{Beat}
-use Rattle.tl_beat.specs.declared.beat.Beat.TheVariants as beat
-use Rattle.tl_beat.specs.declared.beat.BeatA.{BeatA}
-use Rattle.tl_beat.specs.declared.beat.Link.{Link}
-use Rattle.tl_beat.specs.declared.channel.Channel.TheVariants as channel
-use Rattle.tl_beat.specs.declared.opcode.OpA.{OpA}
-use Rattle.tl_beat.specs.declared.opcode.OpA.TheVariants as a
-use Rattle.tl_burst.specs.declared.message.Message.TheVariants as message
-use Rattle.tl_burst.specs.declared.message.MessageA.{MessageA}
-use Rattle.tl_burst.specs.statement.Burst.{IsBlankAfter, a_beat_of, beats_of}
-use Rattle.tl_burst.specs.statement.Messages.{History, unfinished}
-use Rattle.tl_params.specs.declared.config.Config.{Config}
+use Rattle.tl_true_bytes.proofs.Imports.{Beat, BeatA, Link, OpA, MessageA, IsBlankAfter, a_beat_of, beats_of, History}
+use Rattle.tl_true_bytes.proofs.Imports.{unfinished, Config, Request, Trace, on_link, AccessResult, ends, pending}
+use Rattle.tl_true_bytes.proofs.Imports.{request_of, Access, asked_by, is_access, writes, sourced, AbstractState}
+use Rattle.tl_true_bytes.proofs.Imports.{IsRequest, MonitorRelations, SimulationRelation, trace_of, IsGiven, Log}
+use Rattle.tl_true_bytes.proofs.Imports.{system_after, Machine, Requests, one_memory_after, shadow, trace-flows, flowed}
+use Rattle.tl_true_bytes.proofs.Imports.{matched-given, effect-sourced, IsOfAccess, IsOpenAs, Channel, Op}
+use Rattle.std.proofs.Common.{◌≡◌, ℕ, suc, Bool, true, false, not, ◌&&◌, ◌∷◌, length, Some, None, refl, sym, ◌∙◌, ap}
+use Rattle.std.proofs.Common.{subst}
+use Rattle.std.{specs.Prelude.if◌then◌else◌, specs.Prelude.Option, specs.Prelude.is_some, proofs.lemmas.Bool.and_parts}
+use Rattle.tl_burst.specs.declared.message.Message.{Message}
 use Rattle.tl_params.specs.declared.key.Key.TheVariants.{RequestSource}
-use Rattle.tl_rules.specs.declared.past.Request.{Request}
-use Rattle.tl_rules.specs.code.Open.{request_fields}
-use Rattle.tl_rules.specs.statement.Conformance.{Trace, comes_in_request, on_link}
-use Rattle.tl_rules.specs.statement.Effect.{AccessResult}
-use Rattle.tl_rules.specs.statement.History.{ends, pending, request_of}
-use Rattle.tl_bytes.specs.statement.Bytes.{Access, asked_by, is_access, writes}
-use Rattle.tl_client.specs.declared.operation.Op.TheVariants as op
-use Rattle.tl_client.specs.statement.Send.{sourced}
-use Rattle.tl_coherence.specs.protocol.Protocol.{Replied}
-use Rattle.tl_coherence.specs.refinement.AbstractStep.{AbstractState}
-use Rattle.tl_coherence.specs.refinement.MemoryRelation.{IsOpened}
-use Rattle.tl_coherence.specs.refinement.SimulationRelation.{IsRequest, MonitorRelations, SimulationRelation}
-use Rattle.tl_coherence.specs.statement.Flow.{trace_of}
-use Rattle.tl_coherence.specs.statement.Headline.{IsGiven}
-use Rattle.tl_coherence.specs.statement.Log.{Log, system_after}
-use Rattle.tl_coherence.specs.statement.Machine.{Machine, Requests}
-use Rattle.tl_coherence.specs.statement.OneMemory.{one_memory_after}
-use Rattle.tl_coherence.proofs.deliveries.Matching.{shadow}
-use Rattle.tl_coherence.proofs.flow.FlowTraces.{trace-flows}
-use Rattle.tl_coherence.proofs.flow.Flows.{flowed}
+use Rattle.tl_rules.{specs.code.Open.request_fields, specs.statement.Conformance.comes_in_request}
+use Rattle.tl_coherence.specs.{protocol.Protocol.Replied, refinement.MemoryRelation.IsOpened}
 use Rattle.tl_coherence.proofs.flow.Windowed.{asked_flow, opened-now}
-use Rattle.tl_coherence.proofs.links.FromInvariant.{matched-given}
-use Rattle.tl_coherence.proofs.memory.OneMemory.{effect-sourced}
-use Rattle.tl_concord.proofs.WritesBeside.{replied_with}
-use Rattle.tl_concord.specs.statement.Accesses.{IsAsked, IsOfAccess}
+use Rattle.tl_concord.{proofs.WritesBeside.replied_with, specs.statement.Accesses.IsAsked}
 use Rattle.tl_bytes.proofs.Pending.{IsAskedNow}
-use Rattle.tl_true_bytes.specs.code.Beside.{IsOpenAs}
-use Rattle.tl_true_bytes.specs.code.Like.{IsLike}
-use Rattle.tl_true_bytes.proofs.Asked.{IsSomePending}
-use Rattle.tl_true_bytes.proofs.AskedLog.{pending-open}
-use Rattle.tl_true_bytes.proofs.Like.{like-asked}
-use Rattle.tl_true_bytes.proofs.Opened.{IsOpen, asks_access}
-use Rattle.tl_true_bytes.proofs.Sources.{open-request}
+use Rattle.tl_true_bytes.{specs.code.Like.IsLike, proofs.Asked.IsSomePending, proofs.AskedLog.pending-open}
+use Rattle.tl_true_bytes.{proofs.Like.like-asked, proofs.Opened.IsOpen, proofs.Opened.asks_access}
+use Rattle.tl_true_bytes.{proofs.Sources.open-request}
 
 -- ---- a request that comes
 
 pub writes_sourced : {w : ℕ} (source : ℕ) (m : MessageA w) (o : OpA) (x : ℕ)
     → writes o (sourced source m) x ≡ writes o m x
-writes_sourced source m a.PutFullData x = refl
-writes_sourced source m a.PutPartialData x = refl
-writes_sourced source m a.ArithmeticData x = refl
-writes_sourced source m a.LogicalData x = refl
-writes_sourced source m a.Get x = refl
-writes_sourced source m a.Intent x = refl
-writes_sourced source m a.AcquireBlock x = refl
-writes_sourced source m a.AcquirePerm x = refl
+writes_sourced source m OpA.PutFullData x = refl
+writes_sourced source m v x = refl
 
 like_sourced : {w : ℕ} (source : ℕ) (p m : MessageA w) → IsLike p (sourced source m) → IsLike p m
 like_sourced source p m like = record {
@@ -76,8 +38,8 @@ like_sourced source p m like = record {
 -- what is asked for whole is open so
 pub asked-open : {w : ℕ} (m : Machine w) (t : Trace w) (c s : ℕ) (p : Access w) (link : Link) (x : Beat w)
     → ((i : ℕ) (z : MessageA w) → m.opened link.0 Requests i
-    ≡ Some (record { asked = op.Access (message.A z); answer = None })
-    → IsBlankAfter (beats_of (message.A (sourced i z))) (message.A (sourced i z)))
+    ≡ Some (record { asked = Op.Access (Message.A z); answer = None })
+    → IsBlankAfter (beats_of (Message.A (sourced i z))) (Message.A (sourced i z)))
     → IsOfAccess m link.0 x t → IsAskedNow c s p (link, x) t → IsOpenAs p (m.opened c Requests s)
 asked-open {w} m t c s p link x blank of_access now = record {
   asked = z;
@@ -95,8 +57,8 @@ asked-open {w} m t c s p link x blank of_access now = record {
     past : History w
     past = on_link link.0 t
 
-    both : (is_access first.opcode ≡ true) × (ends (beat.A first) past ≡ true)
-    both = and_parts (is_access first.opcode) (ends (beat.A first) past) now.completes
+    both : (is_access first.opcode ≡ true) × (ends (Beat.A first) past ≡ true)
+    both = and_parts (is_access first.opcode) (ends (Beat.A first) past) now.completes
 
     asked : IsAsked m link.0 first t
     asked = subst (λ (b : Beat w). IsOfAccess m link.0 b t) now.beat_is of_access both.0
@@ -107,10 +69,10 @@ asked-open {w} m t c s p link x blank of_access now = record {
     n : ℕ
     n = asked.has_come.count
 
-    gathered : IsLike (asked_by link.0 first (beat.A first ∷ unfinished channel.A past) (suc (length t))).request
+    gathered : IsLike (asked_by link.0 first (Beat.A first ∷ unfinished Channel.A past) (suc (length t))).request
         (sourced first.source z)
-    gathered = like-asked link.0 first (unfinished channel.A past) (suc (length t)) (sourced first.source z) n
-        (subst (λ (k : ℕ). IsBlankAfter k (message.A (sourced first.source z))) (sym (asked.has_come.whole both.1))
+    gathered = like-asked link.0 first (unfinished Channel.A past) (suc (length t)) (sourced first.source z) n
+        (subst (λ (k : ℕ). IsBlankAfter k (Message.A (sourced first.source z))) (sym (asked.has_come.whole both.1))
         (blank first.source z asked.opened)) asked.has_come.burst_is
 
     like : IsLike p.request z
@@ -122,8 +84,7 @@ asked-open {w} m t c s p link x blank of_access now = record {
 some_open : (p c : Bool) (o : Option Request) → is_some (if p && not c then o else None) ≡ true
     → (p ≡ true) × (c ≡ false)
 some_open true false o e = (refl, refl)
-some_open true true o e = absurd cc
-some_open false c o e = absurd cc
+some_open v u o e = absurd cc
 
 module _ {w : ℕ} (config : Config) (log : Log w) (given : IsGiven config log) where
   abbrev h : AbstractState w
@@ -137,17 +98,21 @@ module _ {w : ℕ} (config : Config) (log : Log w) (given : IsGiven config log) 
 
   -- the request of one that is open is lawful, and zero where no beat carries anything
   pub request-known : (c s : ℕ) (a : MessageA w) (r : Option AccessResult)
-      → (one_memory_after config log).opened c Requests s
-      ≡ Some (record { asked = op.Access (message.A a); answer = r })
-      → IsRequest config c s (message.A (sourced s a))
+      → (one_memory_after config log).opened c Requests s ≡ Some (record {
+        asked = Op.Access (Message.A a);
+        answer =
+            r;
+      }) → IsRequest config c s (Message.A (sourced s a))
   request-known c s a r e = open-request c s h.mail h.state a config r (h.state.uses c s)
       (subst (IsOpened c s h.mail h.state (h.state.uses c s)) e (is.beside.requests c s)) (is.sourced c s)
 
   -- its request is the one that its link has
   pub request-asked : (c s : ℕ) (a : MessageA w) (r : AccessResult)
-      → (one_memory_after config log).opened c Requests s
-      ≡ Some (record { asked = op.Access (message.A a); answer = Some r })
-      → request_of s (on_link c (trace_of log)) ≡ Some (a_beat_of (sourced s a) 0)
+      → (one_memory_after config log).opened c Requests s ≡ Some (record {
+        asked = Op.Access (Message.A a);
+        answer =
+            Some r;
+      }) → request_of s (on_link c (trace_of log)) ≡ Some (a_beat_of (sourced s a) 0)
   request-asked c s a r e =
       let used = replied_with c s h.mail h.state (h.state.uses c s) a r
       (subst (IsOpened c s h.mail h.state (h.state.uses c s)) e (is.beside.requests c s)) in
@@ -155,7 +120,7 @@ module _ {w : ℕ} (config : Config) (log : Log w) (given : IsGiven config log) 
       ∙ asked_flow config log h (system_after config log) is values c s (sourced s a) used.0 used.1
 
   answered-open : (c s : ℕ) (a : MessageA w) (r : AccessResult) → (one_memory_after config log).opened c Requests s
-      ≡ Some (record { asked = op.Access (message.A a); answer = Some r })
+      ≡ Some (record { asked = Op.Access (Message.A a); answer = Some r })
       → is_access a.opcode ≡ true → IsOpen s (on_link c (trace_of log))
   answered-open c s a r e accesses = record {
     pending_is = parts.0;
@@ -163,20 +128,22 @@ module _ {w : ℕ} (config : Config) (log : Log w) (given : IsGiven config log) 
     accesses = ap asks_access (request-asked c s a r e) ∙ accesses;
   }
     where
-      used : (h.state.uses c s ≡ Replied) × (h.mail.request c s ≡ message.A (sourced s a))
+      used : (h.state.uses c s ≡ Replied) × (h.mail.request c s ≡ Message.A (sourced s a))
       used = replied_with c s h.mail h.state (h.state.uses c s) a r
           (subst (IsOpened c s h.mail h.state (h.state.uses c s)) e (is.beside.requests c s))
 
       parts : (pending (RequestSource s) (on_link c (trace_of log)) ≡ true)
-          × (comes_in_request s (unfinished channel.A (on_link c (trace_of log))) ≡ false)
+          × (comes_in_request s (unfinished Channel.A (on_link c (trace_of log))) ≡ false)
       parts = some_open (pending (RequestSource s) (on_link c (trace_of log)))
-          (comes_in_request s (unfinished channel.A (on_link c (trace_of log))))
+          (comes_in_request s (unfinished Channel.A (on_link c (trace_of log))))
           (request_fields (request_of s (on_link c (trace_of log))))
           (opened-now config log h (system_after config log) is values c s (sourced s a) used.0 used.1)
 
   -- so it is pending
   pub answered-pending : (c s : ℕ) (a : MessageA w) (r : AccessResult)
-      → (one_memory_after config log).opened c Requests s
-      ≡ Some (record { asked = op.Access (message.A a); answer = Some r })
-      → is_access a.opcode ≡ true → IsSomePending c s (trace_of log)
+      → (one_memory_after config log).opened c Requests s ≡ Some (record {
+        asked = Op.Access (Message.A a);
+        answer =
+            Some r;
+      }) → is_access a.opcode ≡ true → IsSomePending c s (trace_of log)
   answered-pending c s a r e accesses = pending-open config log given c s (answered-open c s a r e accesses)

@@ -1,83 +1,44 @@
 -- The run of a log is beside its one-memory machine.
-use Rattle.std.proofs.Common.{◌≡◌, ℕ, ◌+◌, ◌%◌, ◌^◌, ◌≤◌, Bool, true, false, ◌++◌, List, []}
-use Rattle.std.proofs.Common.{◌∷◌, inl, inr}
-use Rattle.std.proofs.Common.{Some, None, refl, sym, ◌∙◌, ap, subst}
+use Rattle.tl_true_bytes.proofs.Imports.{Beat, Link, Channel, MessageA, Config, Trace, effect, pending, is_access}
+use Rattle.tl_true_bytes.proofs.Imports.{pending_accesses, Op, Reply, EndConfig, Event, Ask, Deliver, Outcome}
+use Rattle.tl_true_bytes.proofs.Imports.{AbstractState, EachTaken, trace_of, IsGiven, IsLog, Log, system_after, Machine}
+use Rattle.tl_true_bytes.proofs.Imports.{Open, Requests, after_reply, moved, pool_of, with_memory, with_open}
+use Rattle.tl_true_bytes.proofs.Imports.{accesses_answered, one_memory_after, stepped, given-before, shadow}
+use Rattle.tl_true_bytes.proofs.Imports.{matched-given, answering-delivered, Performs, Run, Takes, found_in, memory_in}
+use Rattle.tl_true_bytes.proofs.Imports.{trace_in, IsBeside, after_access, happened, performed_all, run_of, with_reply}
+use Rattle.std.proofs.Common.{◌≡◌, ℕ, ◌+◌, ◌%◌, ◌^◌, ◌≤◌, Bool, true, false, ◌++◌, List, [], ◌∷◌, inl, inr, Some, None}
+use Rattle.std.proofs.Common.{refl, sym, ◌∙◌, ap, subst}
 use Rattle.std.specs.Prelude.{if◌then◌else◌, Option}
-use Rattle.tl_beat.specs.declared.beat.Beat.{Beat}
-use Rattle.tl_beat.specs.declared.beat.Beat.TheVariants as beat
-use Rattle.tl_beat.specs.declared.beat.Link.{Link}
-use Rattle.tl_beat.specs.declared.channel.Channel.{Channel}
-use Rattle.tl_burst.specs.declared.message.Message.TheVariants as message
-use Rattle.tl_burst.specs.declared.message.MessageA.{MessageA}
-use Rattle.tl_params.specs.declared.config.Config.{Config}
-use Rattle.tl_rules.specs.statement.Conformance.{Trace}
-use Rattle.tl_rules.specs.statement.Effect.{effect}
-use Rattle.tl_rules.specs.statement.History.{pending}
-use Rattle.tl_bytes.specs.statement.Bytes.{is_access, pending_accesses}
-use Rattle.tl_client.specs.declared.operation.Op.{Op}
-use Rattle.tl_client.specs.declared.operation.Op.TheVariants as op
-use Rattle.tl_client.specs.declared.reply.Reply.{Reply}
-use Rattle.tl_client.specs.declared.reply.Reply.TheVariants as reply
+use Rattle.tl_burst.specs.declared.message.Message.{Message}
 use Rattle.tl_client.specs.statement.Ask as ask
-use Rattle.tl_client.specs.statement.Endpoint.{EndConfig}
 use Rattle.tl_client.proofs.caching_client.Stores.{word_room}
-use Rattle.tl_coherence.specs.declared.event.Event.{Event}
-use Rattle.tl_coherence.specs.declared.event.Event.TheVariants.{Ask, Deliver}
-use Rattle.tl_coherence.specs.declared.event.Outcome.{Outcome}
-use Rattle.tl_coherence.specs.declared.event.Outcome.TheVariants as outcome
-use Rattle.tl_coherence.specs.refinement.AbstractStep.{AbstractState}
-use Rattle.tl_coherence.specs.statement.Flow.{EachTaken, taken_at, trace_of}
-use Rattle.tl_coherence.specs.statement.Headline.{Continues, IsGiven}
-use Rattle.tl_coherence.specs.statement.Log.{IsLog, Log, system_after}
-use Rattle.tl_coherence.specs.statement.Machine.{Machine, Open, Replies, Requests, after_reply, moved, pool_of}
-use Rattle.tl_coherence.specs.statement.Machine.{with_memory, with_open}
-use Rattle.tl_coherence.specs.statement.OneMemory.{accesses_answered, one_memory_after, performing}
-use Rattle.tl_coherence.specs.statement.Step.{Step, stepped}
-use Rattle.tl_coherence.specs.statement.System.{terms_at}
-use Rattle.tl_coherence.proofs.bound.Settling.{given-before}
-use Rattle.tl_coherence.proofs.deliveries.AskedAfter.{none_answered}
-use Rattle.tl_coherence.proofs.deliveries.AskedWell.{asked-well}
-use Rattle.tl_coherence.proofs.deliveries.Matching.{shadow, stepped-nobody}
-use Rattle.tl_coherence.proofs.links.FromInvariant.{matched-given}
+use Rattle.tl_coherence.specs.{statement.Flow.taken_at, statement.Headline.Continues, statement.Machine.Replies}
+use Rattle.tl_coherence.specs.{statement.OneMemory.performing, statement.Step.Step, statement.System.terms_at}
+use Rattle.tl_coherence.proofs.{deliveries.AskedAfter.none_answered, deliveries.AskedWell.asked-well}
+use Rattle.tl_coherence.proofs.{deliveries.Matching.stepped-nobody, queues.Steps.stepped-asked}
+use Rattle.tl_coherence.proofs.{simulation.SizedAfter.IsSizedAsk, theorem.Soundness.one_memory}
 use Rattle.tl_coherence.proofs.memory.Beside.{done_at, open-here, performing-one}
-use Rattle.tl_coherence.proofs.queues.Steps.{stepped-asked}
-use Rattle.tl_coherence.proofs.simulation.SizedAfter.{IsSizedAsk}
-use Rattle.tl_coherence.proofs.theorem.Continuing.{answering-delivered}
-use Rattle.tl_coherence.proofs.theorem.Soundness.{one_memory}
-use Rattle.tl_concord.proofs.Accesses.{carries_accesses}
-use Rattle.tl_concord.proofs.WholeStores.{allowed_ends}
-use Rattle.tl_one_memory.specs.statement.Run.{Performs, Run, Takes, found_in, memory_in, trace_in}
-use Rattle.tl_true_bytes.specs.code.Beside.{IsBeside, after_access, happened, performed_all, run_of}
-use Rattle.tl_true_bytes.specs.code.Beside.{with_reply}
-use Rattle.tl_true_bytes.proofs.Asked.{IsSomePending}
+use Rattle.tl_concord.{proofs.Accesses.carries_accesses, proofs.WholeStores.allowed_ends}
+use Rattle.tl_true_bytes.{proofs.Asked.IsSomePending, proofs.Ends.done-last, proofs.Ends.moved-part}
 use Rattle.tl_true_bytes.proofs.Beside.{beside-ended, beside-moved, beside-performed, beside-unread}
-use Rattle.tl_true_bytes.proofs.Ends.{done-last, moved-part}
 use Rattle.tl_true_bytes.proofs.Events.{IsAlignedStore, ended-open, replied}
 use Rattle.tl_true_bytes.proofs.Requests.{answered-pending, asked-open, request-known}
 
 -- ---- an event
 
-same_reply : {w : ℕ} (r s : Reply) → ◌≡◌ {A = Outcome w} (outcome.Replied r) (outcome.Replied s) → r ≡ s
+same_reply : {w : ℕ} (r s : Reply) → ◌≡◌ {A = Outcome w} (Outcome.Replied r) (Outcome.Replied s) → r ≡ s
 same_reply r s e = cc
 
-no_reply : {w : ℕ} (r : Reply) → ◌≡◌ {A = Outcome w} (outcome.Replied r) outcome.NoSuchClient → ⊥
+no_reply : {w : ℕ} (r : Reply) → ◌≡◌ {A = Outcome w} (Outcome.Replied r) Outcome.NoSuchClient → ⊥
 no_reply r e = cc
 
 aligned : {w : ℕ} (c : ℕ) (o : Op w) (r : Reply) (h : AbstractState w) → IsSizedAsk c o r h → IsAlignedStore o r
-aligned c (op.Store address size value) reply.Stored h word = word_room address size word.0
-aligned c (op.Store address size value) (reply.Value v) h word = tt
-aligned c (op.Store address size value) reply.Miss h word = tt
-aligned c (op.Store address size value) (reply.Started source) h word = tt
-aligned c (op.Store address size value) (reply.Busy why) h word = tt
-aligned c (op.Load address size) r h word = tt
-aligned c (op.Acquire block grow) r h word = tt
-aligned c (op.AcquireWhole block bytes) r h word = tt
-aligned c (op.Release block prune) r h word = tt
-aligned c (op.Access m) r h word = tt
+aligned c (Op.Store address size value) Reply.Stored h word = word_room address size word.0
+aligned c u y h word = tt
 
 -- what a client replies is well asked
 replied-well : {w : ℕ} (config : Config) (log : Log w) → IsGiven config log → (c : ℕ) (o : Op w) (r : Reply)
-    → outcome.Replied r ≡ (stepped config (Ask c o) (system_after config log)).outcome
+    → Outcome.Replied r ≡ (stepped config (Ask c o) (system_after config log)).outcome
     → Replies c o r (one_memory_after config log) × IsAlignedStore o r
 replied-well {w} config log given c o r o_is = go (terms_at config c) refl
   where
@@ -98,15 +59,14 @@ replied-well {w} config log given c o r o_is = go (terms_at config c) refl
 
 -- a client stores aligned words
 pub aligned-store : {w : ℕ} (config : Config) (log : Log w) → IsGiven config log → (c address size value : ℕ)
-    → (stepped config (Ask c (op.Store address size value)) (system_after config log)).outcome
-    ≡ outcome.Replied reply.Stored
-    → address % 64 + 2 ^ size ≤ 64
+    → (stepped config (Ask c (Op.Store address size value)) (system_after config log)).outcome ≡ Outcome.Replied
+    Reply.Stored → address % 64 + 2 ^ size ≤ 64
 aligned-store config log given c address size value stored =
-    (replied-well config log given c (op.Store address size value) reply.Stored (sym stored)).1
+    (replied-well config log given c (Op.Store address size value) Reply.Stored (sym stored)).1
 
 -- a client is asked
 asked-beside : {w : ℕ} (config : Config) (log : Log w) → IsGiven config log → (c : ℕ) (o : Op w) (r : Reply)
-    → outcome.Replied r ≡ (stepped config (Ask c o) (system_after config log)).outcome
+    → Outcome.Replied r ≡ (stepped config (Ask c o) (system_after config log)).outcome
     → IsBeside (run_of config log) (one_memory_after config log) (trace_of log)
     → IsBeside (with_reply o r (one_memory_after config log).memory (run_of config log))
     (after_reply c o r (one_memory_after config log)) (trace_of log)
@@ -115,46 +75,42 @@ asked-beside config log given c o r o_is is =
     replied c (run_of config log) (one_memory_after config log) (trace_of log) o r is well.0 well.1
 
 pub happened-beside : {w : ℕ} (config : Config) (log : Log w) (e : Event w) (o : Outcome w)
-    → IsGiven config ((e, o) ∷ log)
-    → IsBeside (run_of config log) (one_memory_after config log) (trace_of log)
+    → IsGiven config ((e, o) ∷ log) → IsBeside (run_of config log) (one_memory_after config log) (trace_of log)
     → IsBeside (happened e o (one_memory_after config log) (run_of config log))
-    (moved e o (one_memory_after config log))
-    (taken_at e o ++ trace_of log)
+    (moved e o (one_memory_after config log)) (taken_at e o ++ trace_of log)
 unfolding IsLog EachTaken
-happened-beside config log (Ask c i) (outcome.Replied r) given is =
-    asked-beside config log (given-before config (Ask c i, outcome.Replied r) log given) c i r given.is_log.0 is
-happened-beside config log (Ask c i) (outcome.Moved y) given is = is
-happened-beside config log (Ask c i) (outcome.Done y source f) given is = is
-happened-beside config log (Ask c i) outcome.Empty given is = is
-happened-beside config log (Ask c i) outcome.Stalled given is = is
-happened-beside config log (Ask c i) outcome.NoSuchClient given is = is
-happened-beside config log (Deliver link ch) (outcome.Moved y) given is =
-    let before = given-before config (Deliver link ch, outcome.Moved y) log given in
+happened-beside config log (Ask c i) (Outcome.Replied r) given is =
+    asked-beside config log (given-before config (Ask c i, Outcome.Replied r) log given) c i r given.is_log.0 is
+happened-beside config log (Ask c i) (Outcome.Moved y) given is = is
+happened-beside config log (Ask c i) (Outcome.Done y source f) given is = is
+happened-beside config log (Ask c i) Outcome.Empty given is = is
+happened-beside config log (Ask c i) Outcome.Stalled given is = is
+happened-beside config log (Ask c i) Outcome.NoSuchClient given is = is
+happened-beside config log (Deliver link ch) (Outcome.Moved y) given is =
+    let before = given-before config (Deliver link ch, Outcome.Moved y) log given in
     beside-moved (run_of config log) (one_memory_after config log) (trace_of log) is link y
     (λ z e. moved-part config log before link ch y z (sym given.is_log.0) e)
     (λ c s p now. asked-open (one_memory_after config log) (trace_of log) c s p link y
     (λ i z e. (request-known config log before link.0 i z None e).2)
-    (carries_accesses config ((Deliver link ch, outcome.Moved y) ∷ log) given).0 now)
-happened-beside {w} config log (Deliver link ch) (outcome.Done y source f) given is =
-    let before = given-before config (Deliver link ch, outcome.Done y source f) log given in
+    (carries_accesses config ((Deliver link ch, Outcome.Moved y) ∷ log) given).0 now)
+happened-beside {w} config log (Deliver link ch) (Outcome.Done y source f) given is =
+    let before = given-before config (Deliver link ch, Outcome.Done y source f) log given in
     let last = done-last config log before link ch y source f (sym given.is_log.0) in
-    let continues : Continues config (Deliver link ch, outcome.Done y source f) log =
-    (one_memory config log before).1 (Deliver link ch, outcome.Done y source f) tt given.is_log in
+    let continues : Continues config (Deliver link ch, Outcome.Done y source f) log =
+    (one_memory config log before).1 (Deliver link ch, Outcome.Done y source f) tt given.is_log in
     ended-open (run_of config log) (one_memory_after config log) (trace_of log) is link y source f
     ((one_memory_after config log).opened link.0 (pool_of f) source)
     (allowed_ends link ch y source f (one_memory_after config log) continues.2.1)
     (subst (λ (b : Beat w). IsBeside (Takes link b ∷ run_of config log)
     (with_open link.0 (pool_of f) source None (one_memory_after config log)) ((link, b) ∷ trace_of log))
-    (sym last.beat_is)
-    (subst (λ (k : ℕ). IsBeside (Takes link (beat.D last.last) ∷ run_of config log)
-    (with_open link.0 (pool_of f) k None (one_memory_after config log)) ((link, beat.D last.last) ∷ trace_of log))
-    (sym last.source_is)
-    (beside-ended (run_of config log) (one_memory_after config log) (trace_of log) is link last.last (pool_of f)
-    last.ends_so last.pool_is)))
-happened-beside config log (Deliver link ch) (outcome.Replied r) given is = is
-happened-beside config log (Deliver link ch) outcome.Empty given is = is
-happened-beside config log (Deliver link ch) outcome.Stalled given is = is
-happened-beside config log (Deliver link ch) outcome.NoSuchClient given is = is
+    (sym last.beat_is) (subst (λ (k : ℕ). IsBeside (Takes link (Beat.D last.last) ∷ run_of config log)
+    (with_open link.0 (pool_of f) k None (one_memory_after config log)) ((link, Beat.D last.last) ∷ trace_of log))
+    (sym last.source_is) (beside-ended (run_of config log) (one_memory_after config log) (trace_of log) is link
+    last.last (pool_of f) last.ends_so last.pool_is)))
+happened-beside config log (Deliver link ch) (Outcome.Replied r) given is = is
+happened-beside config log (Deliver link ch) Outcome.Empty given is = is
+happened-beside config log (Deliver link ch) Outcome.Stalled given is = is
+happened-beside config log (Deliver link ch) Outcome.NoSuchClient given is = is
 
 -- ---- what is performed then
 
@@ -166,21 +122,21 @@ none-performed {w} run m m' t l none is =
 
 one-performed : {w : ℕ} (run : Run w) (m m' : Machine w) (t : Trace w) (l : List (ℕ × ℕ)) (q source : ℕ)
     (a : MessageA w) → l ≡ (q, source) ∷ [] → m' ≡ m
-    → m.opened q Requests source ≡ Some (record { asked = op.Access (message.A a); answer = None })
+    → m.opened q Requests source ≡ Some (record { asked = Op.Access (Message.A a); answer = None })
     → (is_access a.opcode ≡ true → IsSomePending q source t) → IsBeside run m' t
     → IsBeside (performed_all l m run) (performing l m') t
 one-performed {w} run m m' t l q source a one still opened pending is =
     subst (λ (k : List (ℕ × ℕ)). IsBeside (performed_all k m run) (performing k m') t) (sym one)
     (subst (λ (n : Machine w). IsBeside (after_access q source (m.opened q Requests source) run) n t)
-    (sym (ap (performing ((q, source) ∷ [])) still ∙ performing-one q source (message.A a) m opened))
-    (subst (λ (o : Option (Open w)). IsBeside (after_access q source o run) (done_at q source (message.A a) m) t)
+    (sym (ap (performing ((q, source) ∷ [])) still ∙ performing-one q source (Message.A a) m opened))
+    (subst (λ (o : Option (Open w)). IsBeside (after_access q source o run) (done_at q source (Message.A a) m) t)
     (sym opened) (go (is_access a.opcode) refl)))
   where
     here : IsBeside run m t
     here = subst (λ (n : Machine w). IsBeside run n t) still is
 
     go : (b : Bool) → is_access a.opcode ≡ b
-        → IsBeside (if b then Performs q source ∷ run else run) (done_at q source (message.A a) m) t
+        → IsBeside (if b then Performs q source ∷ run else run) (done_at q source (Message.A a) m) t
     go true accesses =
         let p = pending accesses in
         beside-performed run m t here q source a p.0 opened accesses p.1
@@ -209,23 +165,24 @@ pub answered-after : {w : ℕ} (config : Config) (log : Log w) (link : Link) (ch
     → accesses_answered (stepped config (Deliver link ch) (system_after config log)).handed ≡ (q, source) ∷ []
     → moved (Deliver link ch) (stepped config (Deliver link ch) (system_after config log)).outcome
     (one_memory_after config log) ≡ one_memory_after config log
-    → (one_memory_after config log).opened q Requests source
-    ≡ Some (record { asked = op.Access (message.A a); answer = None })
-    → (one_memory_after config ((Deliver link ch, o) ∷ log)).opened q Requests source
+    → (one_memory_after config log).opened q Requests source ≡ Some (record {
+      asked = Op.Access (Message.A a);
+      answer =
+          None;
+    }) → (one_memory_after config ((Deliver link ch, o) ∷ log)).opened q Requests source
     ≡ Some (record {
-      asked = op.Access (message.A a);
-      answer = Some (effect (message.A a) (one_memory_after config log).memory).1;
+      asked = Op.Access (Message.A a);
+      answer = Some (effect (Message.A a) (one_memory_after config log).memory).1;
     })
 unfolding one_memory_after IsLog
 answered-after {w} config log link ch o given q source a one still opened =
     ap (λ (n : Machine w). n.opened q Requests source)
-    (ap (λ (r : Outcome w). performing l (moved (Deliver link ch) r m)) given.is_log.0
-    ∙ ap (λ (n : Machine w). performing l n) still
-    ∙ ap (λ (k : List (ℕ × ℕ)). performing k m) one
-    ∙ performing-one q source (message.A a) m opened)
+    (ap (λ (r : Outcome w). performing l (moved (Deliver link ch) r m)) given.is_log.0 ∙ ap
+    (λ (n : Machine w). performing l n) still ∙ ap (λ (k : List (ℕ × ℕ)). performing k m) one ∙ performing-one q
+    source (Message.A a) m opened)
     ∙ open-here q Requests source
-    (Some (record { asked = op.Access (message.A a); answer = Some (effect (message.A a) m.memory).1 }))
-    (with_memory (effect (message.A a) m.memory).0 m)
+    (Some (record { asked = Op.Access (Message.A a); answer = Some (effect (Message.A a) m.memory).1 }))
+    (with_memory (effect (Message.A a) m.memory).0 m)
   where
     m : Machine w
     m = one_memory_after config log
@@ -251,7 +208,7 @@ performed-beside {w} config log (Deliver link ch) o given run is =
       | inr one ↦ one-performed run m (moved (Deliver link ch) o m) t l one.0 one.1 one.3.0 one.2
           (ap (λ (r : Outcome w). moved (Deliver link ch) r m) given.is_log.0 ∙ one.4) one.3.2
           (λ accesses. answered-pending config ((Deliver link ch, o) ∷ log) given one.0 one.1 one.3.0
-          (effect (message.A one.3.0) m.memory).1
+          (effect (Message.A one.3.0) m.memory).1
           (answered-after config log link ch o given one.0 one.1 one.3.0 one.2 one.4 one.3.2) accesses) is
     ]
   where

@@ -1,41 +1,22 @@
 -- What is taken in a world is taken rightly in the run beside it.
-use Rattle.std.proofs.Common.{◌≡◌, ℕ, ◌-◌, ◌*◌, ◌/◌, ◌%◌, ◌^◌, ◌≤◌, true, false, ◌∷◌}
-use Rattle.std.proofs.Common.{length, Some, None, refl, sym, ◌∙◌, ap, subst, inl, inr}
-use Rattle.std.specs.Prelude.{find, Option}
-use Rattle.std.proofs.lemmas.Bool.{and_parts}
-use Rattle.tl_beat.specs.declared.beat.Beat.{Beat}
-use Rattle.tl_beat.specs.declared.beat.Beat.TheVariants as beat
-use Rattle.tl_beat.specs.declared.beat.BeatD.{BeatD}
-use Rattle.tl_beat.specs.declared.beat.Link.{Link}
-use Rattle.tl_beat.specs.declared.channel.Channel.TheVariants as channel
-use Rattle.tl_beat.specs.declared.opcode.OpD.{OpD}
-use Rattle.tl_beat.specs.declared.opcode.OpD.TheVariants as d
-use Rattle.tl_beat.specs.statement.Width.{IsWidth}
-use Rattle.tl_burst.specs.declared.message.Message.TheVariants as message
-use Rattle.tl_burst.specs.declared.message.MessageA.{MessageA}
-use Rattle.tl_burst.specs.statement.Burst.{reaches}
-use Rattle.tl_burst.specs.statement.Messages.{channel_of, unfinished}
-use Rattle.tl_rules.specs.code.Open.{open_request}
-use Rattle.tl_rules.specs.declared.past.Request.{Request}
-use Rattle.tl_rules.specs.statement.Conformance.{answers, on_link}
-use Rattle.tl_rules.specs.statement.Effect.{AccessResult, Memory, answer_of, effect}
-use Rattle.tl_rules.specs.statement.History.{ends, is_grant, is_release_ack}
-use Rattle.tl_bytes.specs.statement.Bytes.{Access, carried_byte, could_be, is_access, is_of}
-use Rattle.tl_bytes.specs.statement.Bytes.{pending_accesses}
-use Rattle.tl_client.specs.declared.operation.Op.TheVariants as op
-use Rattle.tl_client.specs.statement.Send.{sourced}
-use Rattle.tl_manager.specs.statement.Handing.{access_answer}
-use Rattle.tl_manager.specs.statement.Service.{is_access_answer}
-use Rattle.tl_coherence.specs.statement.Machine.{Machine, Requests}
-use Rattle.tl_coherence.proofs.memory.OneMemory.{effect-sourced}
-use Rattle.tl_concord.specs.statement.Accesses.{HasCome, IsAnswered, IsAsked, IsOfAccess}
-use Rattle.tl_concord.specs.statement.Responses.{IsResponse, IsRightBeat}
+use Rattle.tl_true_bytes.proofs.Imports.{Beat, BeatD, Link, OpD, IsWidth, MessageA, reaches, channel_of, unfinished}
+use Rattle.tl_true_bytes.proofs.Imports.{Request, on_link, AccessResult, Memory, effect, ends, is_grant, is_release_ack}
+use Rattle.tl_true_bytes.proofs.Imports.{Access, carried_byte, is_access, is_of, pending_accesses, sourced, Machine}
+use Rattle.tl_true_bytes.proofs.Imports.{Requests, effect-sourced, IsOfAccess, IsResponse, IsRightBeat, Run, found_in}
+use Rattle.tl_true_bytes.proofs.Imports.{trace_in, IsBeside, IsOpenAs, result_in, Channel, Op}
+use Rattle.std.proofs.Common.{◌≡◌, ℕ, ◌-◌, ◌*◌, ◌/◌, ◌%◌, ◌^◌, ◌≤◌, true, false, ◌∷◌, length, Some, None, refl, sym}
+use Rattle.std.proofs.Common.{◌∙◌, ap, subst, inl, inr}
+use Rattle.std.{specs.Prelude.find, specs.Prelude.Option, proofs.lemmas.Bool.and_parts}
+use Rattle.tl_burst.specs.declared.message.Message.{Message}
+use Rattle.tl_rules.{specs.code.Open.open_request, specs.statement.Conformance.answers}
+use Rattle.tl_rules.{specs.statement.Effect.answer_of}
+use Rattle.tl_bytes.specs.statement.Bytes.{could_be}
+use Rattle.tl_manager.{specs.statement.Handing.access_answer, specs.statement.Service.is_access_answer}
+use Rattle.tl_concord.specs.statement.Accesses.{HasCome, IsAnswered, IsAsked}
 use Rattle.tl_concord.specs.statement.Told.{IsToldOf}
-use Rattle.tl_one_memory.specs.statement.Run.{IsAnswer, IsGranted, IsTaken, Run, found_in, place_in, returns}
-use Rattle.tl_one_memory.specs.statement.Run.{trace_in}
-use Rattle.tl_true_bytes.specs.code.Beside.{IsBeside, IsFoundAs, IsOpenAs, result_in}
-use Rattle.tl_true_bytes.proofs.Answers.{IsBeatOfReply, beat-of-reply}
-use Rattle.tl_true_bytes.proofs.Beside.{same_asked}
+use Rattle.tl_one_memory.specs.statement.Run.{IsAnswer, IsGranted, IsTaken, place_in, returns}
+use Rattle.tl_true_bytes.{specs.code.Beside.IsFoundAs, proofs.Answers.IsBeatOfReply, proofs.Answers.beat-of-reply}
+use Rattle.tl_true_bytes.{proofs.Beside.same_asked}
 
 -- ---- what was found
 
@@ -45,7 +26,7 @@ none-found None r e is = refl
 none-found {w} (Some f) r e is = absurd (subst (IsFoundAs (Some f)) e is)
 
 some-found : {w : ℕ} (f : Option Memory) (q : Option (MessageA w × AccessResult)) (a : MessageA w) (r : AccessResult)
-    → q ≡ Some (a, r) → IsFoundAs f q → (g : Memory) × (f ≡ Some g) × (r ≡ (effect (message.A a) g).1)
+    → q ≡ Some (a, r) → IsFoundAs f q → (g : Memory) × (f ≡ Some g) × (r ≡ (effect (Message.A a) g).1)
 some-found {w} None q a r e is = absurd (subst (IsFoundAs None) e is)
 some-found {w} (Some f) q a r e is = (f, refl, subst (IsFoundAs (Some f)) e is)
 
@@ -56,46 +37,43 @@ pub record IsTakenWell {w : ℕ} (n : ℕ) (m : Machine w) (link : Link) (x : Be
   pub right : IsRightBeat link.0 x (trace_in run)
   pub of_access : IsOfAccess m link.0 x (trace_in run)
   -- a Grant answers no access
-  pub grants_other : (z : BeatD w) → x ≡ beat.D z → is_grant z.opcode ≡ true
+  pub grants_other : (z : BeatD w) → x ≡ Beat.D z → is_grant z.opcode ≡ true
       → (a : MessageA w) (r : Option AccessResult)
-      → m.opened link.0 Requests z.source ≡ Some (record { asked = op.Access (message.A a); answer = r }) → ⊥
-  pub granted : (z : BeatD w) (asked : Request) → x ≡ beat.D z → z.opcode ≡ d.GrantData
+      → m.opened link.0 Requests z.source ≡ Some (record { asked = Op.Access (Message.A a); answer = r }) → ⊥
+  pub granted : (z : BeatD w) (asked : Request) → x ≡ Beat.D z → z.opcode ≡ OpD.GrantData
       → open_request z.source (on_link link.0 (trace_in run)) ≡ Some asked
-      → IsGranted n (λ address. 0) link.0 z asked.block (length (unfinished channel.D (on_link link.0 (trace_in run))))
+      → IsGranted n (λ address. 0) link.0 z asked.block (length (unfinished Channel.D (on_link link.0 (trace_in run))))
       run
   -- an access is aligned
   pub aligned : (s : ℕ) (a : MessageA w) (r : Option AccessResult)
-      → m.opened link.0 Requests s ≡ Some (record { asked = op.Access (message.A a); answer = r })
+      → m.opened link.0 Requests s ≡ Some (record { asked = Op.Access (Message.A a); answer = r })
       → a.address % 2 ^ a.size ≡ 0
 
 module _ {w : ℕ} (n : ℕ) (run : Run w) (m : Machine w) (width : IsWidth w) (is : IsBeside run m (trace_in run)) where
   -- an access without a result wasn't performed
   unfound : (c s : ℕ) (a : MessageA w) → m.opened c Requests s
-      ≡ Some (record { asked = op.Access (message.A a); answer = None })
+      ≡ Some (record { asked = Op.Access (Message.A a); answer = None })
       → found_in (λ address. 0) c s run ≡ None
   unfound c s a e = none-found (found_in (λ address. 0) c s run) (result_in (m.opened c Requests s)) (ap result_in e)
       (is.found_are c s)
 
   -- ---- an answer
 
-  answer : (link : Link) (z : BeatD w) (p : Access w)
-      → ((s : ℕ) (a : MessageA w) (r : Option AccessResult)
-      → m.opened link.0 Requests s ≡ Some (record { asked = op.Access (message.A a); answer = r })
-      → a.address % 2 ^ a.size ≡ 0)
-      → IsAnswered m link.0 z (trace_in run)
-      → find (is_of link.0 z.source) (pending_accesses (trace_in run)) ≡ Some p
-      → IsAnswer (λ address. 0) link.0 z p run
+  answer : (link : Link) (z : BeatD w) (p : Access w) → ((s : ℕ) (a : MessageA w) (r : Option AccessResult)
+      → m.opened link.0 Requests s ≡ Some (record { asked = Op.Access (Message.A a); answer = r })
+      → a.address % 2 ^ a.size ≡ 0) → IsAnswered m link.0 z (trace_in run)
+      → find (is_of link.0 z.source) (pending_accesses (trace_in run)) ≡ Some p → IsAnswer (λ address. 0) link.0 z p run
   answer link z p aligned answered pending = record {
     found = found.0;
     performed = found.1;
     admitted = ap (answers z.opcode) (like.like.opcode_is ∙ ap (λ (i : MessageA w). i.opcode) same) ∙ reply.admitted;
     lanes_fit = reply.lanes_fit;
     brings = λ reads address reached come.
-        ap (carried_byte (beat.D z ∷ unfinished channel.D (on_link link.0 (trace_in run)))) (place address)
+        ap (carried_byte (Beat.D z ∷ unfinished Channel.D (on_link link.0 (trace_in run)))) (place address)
         ∙ reply.brings (sym (ap returns opcode) ∙ reads) address (sym (reaching address) ∙ reached) (elim come [
-          | inl early ↦ inl (subst (λ (k : ℕ). k / w ≤ length (unfinished channel.D (on_link link.0 (trace_in run))))
+          | inl early ↦ inl (subst (λ (k : ℕ). k / w ≤ length (unfinished Channel.D (on_link link.0 (trace_in run))))
               (place address) early)
-          | inr last ↦ inr (and_parts _ (ends (beat.D z) (on_link link.0 (trace_in run))) last).1
+          | inr last ↦ inr (and_parts _ (ends (Beat.D z) (on_link link.0 (trace_in run))) last).1
         ]);
   }
     where
@@ -128,26 +106,25 @@ module _ {w : ℕ} (n : ℕ) (run : Run w) (m : Machine w) (width : IsWidth w) (
           ∙ ap (λ (k : ℕ). reaches a.address k address) size_is
 
       found : (g : Memory) × (found_in (λ address. 0) link.0 z.source run ≡ Some g)
-          × (answered.result ≡ (effect (message.A a) g).1)
-      found = some-found (found_in (λ address. 0) link.0 z.source run)
-          (result_in (m.opened link.0 Requests z.source)) a answered.result
-          (ap result_in answered.opened ∙ rw accesses refl) (is.found_are link.0 z.source)
+          × (answered.result ≡ (effect (Message.A a) g).1)
+      found = some-found (found_in (λ address. 0) link.0 z.source run) (result_in (m.opened link.0 Requests z.source)) a
+          answered.result (ap result_in answered.opened ∙ rw accesses refl) (is.found_are link.0 z.source)
 
       reply : IsBeatOfReply (sourced z.source a) found.0 z (on_link link.0 (trace_in run))
       reply = beat-of-reply (sourced z.source a) found.0 z (on_link link.0 (trace_in run)) width
           (aligned z.source a (Some answered.result) answered.opened) accesses
           (subst (λ (r : AccessResult). HasCome (access_answer (sourced z.source a)
-          (answer_of (message.A (sourced z.source a)) r)) (beat.D z) (on_link link.0 (trace_in run)))
+          (answer_of (Message.A (sourced z.source a)) r)) (Beat.D z) (on_link link.0 (trace_in run)))
           (found.2 ∙ ap (λ e. e.1) (sym (effect-sourced z.source a found.0))) answered.has_come)
 
   -- ---- a beat
 
   answers-rightly : (link : Link) (x : Beat w) → IsTakenWell n m link x run → (z : BeatD w) (p : Access w)
-      → x ≡ beat.D z → is_release_ack z.opcode ≡ false
+      → x ≡ Beat.D z → is_release_ack z.opcode ≡ false
       → find (is_of link.0 z.source) (pending_accesses (trace_in run)) ≡ Some p → IsAnswer (λ address. 0) link.0 z p run
   answers-rightly link x well z p x_is no_ack pending = go z.opcode refl
     where
-      of_access : IsOfAccess m link.0 (beat.D z) (trace_in run)
+      of_access : IsOfAccess m link.0 (Beat.D z) (trace_in run)
       of_access = subst (λ (b : Beat w). IsOfAccess m link.0 b (trace_in run)) x_is well.of_access
 
       opened : IsOpenAs p (m.opened link.0 Requests z.source)
@@ -160,19 +137,17 @@ module _ {w : ℕ} (n : ℕ) (run : Run w) (m : Machine w) (width : IsWidth w) (
       grant e = absurd (well.grants_other z x_is e opened.asked opened.answer opened.opened)
 
       go : (o : OpD) → z.opcode ≡ o → IsAnswer (λ address. 0) link.0 z p run
-      go d.AccessAck e = given (ap is_access_answer e)
-      go d.AccessAckData e = given (ap is_access_answer e)
-      go d.HintAck e = given (ap is_access_answer e)
-      go d.Grant e = grant (ap is_grant e)
-      go d.GrantData e = grant (ap is_grant e)
-      go d.ReleaseAck e = absurd (let no : true ≡ false = sym (ap is_release_ack e) ∙ no_ack in cc)
+      go OpD.Grant e = grant (ap is_grant e)
+      go OpD.GrantData e = grant (ap is_grant e)
+      go OpD.ReleaseAck e = absurd (let no : true ≡ false = sym (ap is_release_ack e) ∙ no_ack in cc)
+      go v e = given (ap is_access_answer e)
 
   pub taken : (link : Link) (x : Beat w) → IsTakenWell n m link x run → IsTaken n (λ address. 0) link x run
   taken link x well = record {
     asks = λ z x_is both.
         let asked : IsAsked m link.0 z (trace_in run) =
         (subst (λ (b : Beat w). IsOfAccess m link.0 b (trace_in run)) x_is well.of_access)
-        (and_parts (is_access z.opcode) (ends (beat.A z) (on_link link.0 (trace_in run))) both).0 in
+        (and_parts (is_access z.opcode) (ends (Beat.A z) (on_link link.0 (trace_in run))) both).0 in
         unfound link.0 z.source asked.asked asked.opened;
     asks_first = λ z y older x_is both begun_so no_ack same.
         (subst (λ (b : Beat w). IsRightBeat link.0 b (trace_in run)) x_is well.right) y older begun_so no_ack same;

@@ -1,34 +1,22 @@
 -- No beat of a world breaks a rule of memory, and so none breaks a rule.
+use Rattle.tl_true_bytes.proofs.Imports.{Beat, Level, Trace, Ask, Deliver, EachTaken, trace_of, Log, Outcome}
 use Rattle.std.proofs.Common.{◌≡◌, ℕ, List, [], ◌∷◌, ◌++◌, length, refl, sym, ◌∙◌, ap, append_assoc, subst}
 use Rattle.std.specs.Prelude.{Option, Some, None, reverse, ⊤}
 use Rattle.std.proofs.lemmas.List.{append-nil, length-map, reverse-append, reverse-reverse}
-use Rattle.tl_beat.specs.declared.beat.Beat.{Beat}
-use Rattle.tl_beat.specs.declared.beat.Beat.TheVariants as beat
-use Rattle.tl_params.specs.declared.level.Level.{Level}
-use Rattle.tl_params.specs.declared.profile.Profile.{Profile}
-use Rattle.tl_params.specs.declared.rule.Rule.{Rule}
-use Rattle.tl_rules.specs.statement.Conformance.{Trace, broken_on_link, fault_from, fault_or}
-use Rattle.tl_coherence.specs.declared.event.Event.TheVariants.{Ask, Deliver}
-use Rattle.tl_coherence.specs.declared.event.Outcome.TheVariants as outcome
+use Rattle.tl_params.{specs.declared.profile.Profile.Profile, specs.declared.rule.Rule.Rule}
+use Rattle.tl_rules.specs.statement.Conformance.{broken_on_link, fault_from, fault_or}
 use Rattle.tl_coherence.specs.statement.Delivery.{levels_of}
-use Rattle.tl_coherence.specs.statement.Flow.{EachTaken, trace_of}
-use Rattle.tl_coherence.specs.statement.Log.{Log}
 use Rattle.tl_coherence.proofs.flow.FlowTraces.{faultless}
 use Rattle.tl_together.specs.statement.Coherence.{breach_from, broken_memory}
 use Rattle.tl_one_memory.specs.statement.TrueBytes.{AreTrue, IsTrueBeat}
-use Rattle.tl_concord.specs.statement.Beginnings.{BeginsUnbroken}
-use Rattle.tl_concord.proofs.Quiet.{begins_unbroken}
-use Rattle.tl_true_bytes.specs.statement.Concord.{Concord}
-use Rattle.tl_true_bytes.proofs.WorldRuns.{true_worlds}
+use Rattle.tl_concord.{specs.statement.Beginnings.BeginsUnbroken, proofs.Quiet.begins_unbroken}
+use Rattle.tl_true_bytes.{specs.statement.Concord.Concord, proofs.WorldRuns.true_worlds}
 
 -- a response that begins none that breaks M1 or M4, and has true bytes, breaks no rule of memory
 memory-quiet : {w : ℕ} (n link : ℕ) (x : Beat w) (t : Trace w) → BeginsUnbroken n link x t → IsTrueBeat n link x t
     → broken_memory n link x t ≡ None
-memory-quiet n link (beat.D y) t begun brought = rw (begun, brought) refl
-memory-quiet n link (beat.A y) t begun brought = refl
-memory-quiet n link (beat.B y) t begun brought = refl
-memory-quiet n link (beat.C y) t begun brought = refl
-memory-quiet n link (beat.E y) t begun brought = refl
+memory-quiet n link (Beat.D y) t begun brought = rw (begun, brought) refl
+memory-quiet n link v t begun brought = refl
 
 -- each beat of a trace, the newest first, breaks no rule of memory after the older ones
 unfoldable AreQuiet : {w : ℕ} → ℕ → Trace w → Type 0
@@ -40,24 +28,23 @@ unfolding AreQuiet
 older-quiet n [] t quiet = quiet
 older-quiet n (x ∷ newer) t quiet = older-quiet n newer t quiet.1
 
-log-quiet : {w : ℕ} (n : ℕ) (log : Log w)
-    → EachTaken (λ earlier link x. BeginsUnbroken n link x (trace_of earlier)) log
+log-quiet : {w : ℕ} (n : ℕ) (log : Log w) → EachTaken (λ earlier link x. BeginsUnbroken n link x (trace_of earlier)) log
     → AreTrue n (trace_of log) → AreQuiet n (trace_of log)
 unfolding AreQuiet EachTaken trace_of AreTrue
 log-quiet n [] begun brought = tt
 log-quiet n ((Ask c op, o) ∷ log) begun brought = log-quiet n log begun.1 brought
-log-quiet n ((Deliver link ch, outcome.Moved x) ∷ log) begun brought = (
+log-quiet n ((Deliver link ch, Outcome.Moved x) ∷ log) begun brought = (
   memory-quiet n link.0 x (trace_of log) begun.0 brought.0,
   log-quiet n log begun.1 brought.1,
 )
-log-quiet n ((Deliver link ch, outcome.Done x source f) ∷ log) begun brought = (
+log-quiet n ((Deliver link ch, Outcome.Done x source f) ∷ log) begun brought = (
   memory-quiet n link.0 x (trace_of log) begun.0 brought.0,
   log-quiet n log begun.1 brought.1,
 )
-log-quiet n ((Deliver link ch, outcome.Replied r) ∷ log) begun brought = log-quiet n log begun.1 brought
-log-quiet n ((Deliver link ch, outcome.Empty) ∷ log) begun brought = log-quiet n log begun.1 brought
-log-quiet n ((Deliver link ch, outcome.Stalled) ∷ log) begun brought = log-quiet n log begun.1 brought
-log-quiet n ((Deliver link ch, outcome.NoSuchClient) ∷ log) begun brought = log-quiet n log begun.1 brought
+log-quiet n ((Deliver link ch, Outcome.Replied r) ∷ log) begun brought = log-quiet n log begun.1 brought
+log-quiet n ((Deliver link ch, Outcome.Empty) ∷ log) begun brought = log-quiet n log begun.1 brought
+log-quiet n ((Deliver link ch, Outcome.Stalled) ∷ log) begun brought = log-quiet n log begun.1 brought
+log-quiet n ((Deliver link ch, Outcome.NoSuchClient) ∷ log) begun brought = log-quiet n log begun.1 brought
 
 -- what has no fault of a link and breaks no rule of memory has no breach
 no-breach : {w : ℕ} (levels : List Level) (p : Profile) (before trace : Trace w)

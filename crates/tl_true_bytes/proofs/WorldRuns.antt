@@ -1,59 +1,24 @@
 -- What happens to a world is a run of one memory, so the bytes that its links carry are true.
-use Rattle.std.proofs.Common.{◌≡◌, ℕ, zero, suc, ◌<◌, Bool, true, false, ◌&&◌, List, [], ◌∷◌, length, inl, inr}
-use Rattle.std.proofs.Common.{Some, None, refl, sym, ◌∙◌, ap, subst, arith}
+use Rattle.tl_true_bytes.proofs.Imports.{Beat, Link, Channel, MessageA, Config, Trace, on_link, Memory, block_at, held}
+use Rattle.tl_true_bytes.proofs.Imports.{is_free, leaves, is_access, Op, Reply, Finish, EndConfig, Event, Ask, Deliver}
+use Rattle.tl_true_bytes.proofs.Imports.{Outcome, EachTaken, trace_of, IsGiven, IsLog, Log, system_after, Machine, Open}
+use Rattle.tl_true_bytes.proofs.Imports.{Requests, moved, pool_of, accesses_answered, one_memory_after, stepped}
+use Rattle.tl_true_bytes.proofs.Imports.{given-before, shadow, matched-given, answering-delivered, responses, Performs}
+use Rattle.tl_true_bytes.proofs.Imports.{Run, Takes, trace_in, IsBeside, after_access, happened, performed_all, run_of}
+use Rattle.tl_true_bytes.proofs.Imports.{with_end, with_reply, with_whole}
+use Rattle.std.proofs.Common.{◌≡◌, ℕ, zero, suc, ◌<◌, Bool, true, false, ◌&&◌, List, [], ◌∷◌, length, inl, inr, Some}
+use Rattle.std.proofs.Common.{None, refl, sym, ◌∙◌, ap, subst, arith}
 use Rattle.std.specs.Prelude.{if◌then◌else◌, is_some, Option, option_map, slice_get}
-use Rattle.std.proofs.lemmas.Bool.{cases_eq}
-use Rattle.std.proofs.lemmas.Option.{slice_get_within}
-use Rattle.tl_beat.specs.declared.beat.Beat.{Beat}
-use Rattle.tl_beat.specs.declared.beat.Link.{Link}
-use Rattle.tl_beat.specs.declared.channel.Channel.{Channel}
-use Rattle.tl_burst.specs.declared.message.Message.TheVariants as message
-use Rattle.tl_burst.specs.declared.message.MessageA.{MessageA}
-use Rattle.tl_params.specs.declared.config.ClientConfig.{ClientConfig}
-use Rattle.tl_params.specs.declared.config.Config.{Config}
-use Rattle.tl_params.specs.declared.perm.Perm.TheVariants as perm
-use Rattle.tl_rules.specs.statement.Conformance.{Trace, on_link}
-use Rattle.tl_rules.specs.statement.Effect.{Memory}
-use Rattle.tl_rules.specs.statement.History.{block_at, held}
-use Rattle.tl_rules.specs.statement.Windows.{is_free, leaves}
-use Rattle.tl_bytes.specs.statement.Bytes.{is_access}
-use Rattle.tl_client.specs.declared.operation.Op.{Op}
-use Rattle.tl_client.specs.declared.operation.Op.TheVariants as op
-use Rattle.tl_client.specs.declared.reply.Reply.{Reply}
-use Rattle.tl_client.specs.declared.reply.Reply.TheVariants as reply
-use Rattle.tl_client.specs.declared.verdict.Finish.{Finish}
-use Rattle.tl_client.specs.statement.Endpoint.{EndConfig}
-use Rattle.tl_coherence.specs.declared.event.Event.{Event}
-use Rattle.tl_coherence.specs.declared.event.Event.TheVariants.{Ask, Deliver}
-use Rattle.tl_coherence.specs.declared.event.Outcome.{Outcome}
-use Rattle.tl_coherence.specs.declared.event.Outcome.TheVariants as outcome
-use Rattle.tl_coherence.specs.statement.Flow.{EachTaken, trace_of}
-use Rattle.tl_coherence.specs.statement.Headline.{AreTyped, Continues, IsGiven}
-use Rattle.tl_coherence.specs.statement.Log.{IsLog, Log, system_after}
-use Rattle.tl_coherence.specs.statement.Machine.{Machine, Open, Requests, is_client, moved, pool_of}
-use Rattle.tl_coherence.specs.statement.OneMemory.{accesses_answered, one_memory_after}
-use Rattle.tl_coherence.specs.statement.Step.{stepped}
-use Rattle.tl_coherence.proofs.bound.Settling.{given-before}
-use Rattle.tl_coherence.proofs.deliveries.Matching.{shadow}
-use Rattle.tl_coherence.proofs.flow.FlowTaken.{each-taken}
-use Rattle.tl_coherence.proofs.flow.HiddenStore.{hidden_stores}
-use Rattle.tl_coherence.proofs.links.FromInvariant.{matched-given}
-use Rattle.tl_coherence.proofs.theorem.Continuing.{answering-delivered}
-use Rattle.tl_coherence.proofs.theorem.Soundness.{one_memory}
-use Rattle.tl_concord.proofs.Accesses.{carries_accesses}
-use Rattle.tl_concord.proofs.Responses.{responses}
-use Rattle.tl_concord.proofs.Told.{tells_of_memory}
-use Rattle.tl_concord.proofs.WholeStores.{whole_stores}
-use Rattle.tl_one_memory.proofs.Brought.{true_bytes}
-use Rattle.tl_one_memory.specs.statement.Run.{IsRun, Performs, Run, Takes, trace_in}
-use Rattle.tl_one_memory.specs.statement.TrueBytes.{AreTrue}
-use Rattle.tl_true_bytes.specs.code.Beside.{IsBeside, after_access, happened, performed_all, run_of, with_end}
-use Rattle.tl_true_bytes.specs.code.Beside.{with_reply, with_whole}
-use Rattle.tl_true_bytes.specs.statement.TrueWorlds.{TrueWorlds}
-use Rattle.tl_true_bytes.specs.statement.WorldRuns.{WorldRuns}
-use Rattle.tl_true_bytes.proofs.Performing.{performs-well}
+use Rattle.std.{proofs.lemmas.Bool.cases_eq, proofs.lemmas.Option.slice_get_within}
+use Rattle.tl_burst.specs.declared.message.Message.{Message}
+use Rattle.tl_params.{specs.declared.config.ClientConfig.ClientConfig, specs.declared.perm.Perm.Perm}
+use Rattle.tl_coherence.specs.{statement.Headline.AreTyped, statement.Headline.Continues, statement.Machine.is_client}
+use Rattle.tl_coherence.proofs.{flow.FlowTaken.each-taken, flow.HiddenStore.hidden_stores, theorem.Soundness.one_memory}
+use Rattle.tl_concord.{proofs.Accesses.carries_accesses, proofs.Told.tells_of_memory, proofs.WholeStores.whole_stores}
+use Rattle.tl_one_memory.{proofs.Brought.true_bytes, specs.statement.Run.IsRun, specs.statement.TrueBytes.AreTrue}
+use Rattle.tl_true_bytes.{specs.statement.TrueWorlds.TrueWorlds, specs.statement.WorldRuns.WorldRuns}
+use Rattle.tl_true_bytes.{proofs.Performing.performs-well, proofs.Taken.IsTakenWell, proofs.Taken.taken}
 use Rattle.tl_true_bytes.proofs.Runs.{asked-none, beside-log, happened-beside}
-use Rattle.tl_true_bytes.proofs.Taken.{IsTakenWell, taken}
 use Rattle.tl_true_bytes.proofs.Worlds.{GrantsBlock, GrantsOther, grants-block, grants-other, taken-well}
 
 -- ---- who holds Trunk is a client
@@ -69,14 +34,14 @@ client-below config c is = go (slice_get config.clients.items c) refl is
     go None e some = absurd cc
     go (Some x) e some = slice_get_within config.clients.items c x e
 
-held-trunk : {w : ℕ} (n c block : ℕ) (t : Trace w) → c < n → held block (on_link c t) ≡ perm.Trunk
-    → is_free n None perm.Branch block t ≡ false
+held-trunk : {w : ℕ} (n c block : ℕ) (t : Trace w) → c < n → held block (on_link c t) ≡ Perm.Trunk
+    → is_free n None Perm.Branch block t ≡ false
 unfolding is_free
 held-trunk zero c block t below trunk = absurd (omega (arith, below))
 held-trunk {w} (suc n) c block t below trunk = elim (cases_eq c n) [
-  | inl same ↦ last (is_free n None perm.Branch block t) (leaves perm.Branch (held block (on_link n t)))
-      (ap (leaves perm.Branch) (subst (λ (k : ℕ). held block (on_link k t) ≡ perm.Trunk) same trunk))
-  | inr other ↦ first (is_free n None perm.Branch block t) (leaves perm.Branch (held block (on_link n t)))
+  | inl same ↦ last (is_free n None Perm.Branch block t) (leaves Perm.Branch (held block (on_link n t)))
+      (ap (leaves Perm.Branch) (subst (λ (k : ℕ). held block (on_link k t) ≡ Perm.Trunk) same trunk))
+  | inr other ↦ first (is_free n None Perm.Branch block t) (leaves Perm.Branch (held block (on_link n t)))
       (held-trunk n c block t (omega (arith, below, other)) trunk)
 ]
   where
@@ -92,38 +57,33 @@ held-trunk {w} (suc n) c block t below trunk = elim (cases_eq c n) [
 module _ {w : ℕ} (n : ℕ) (first : Memory) where
   -- the block that is stored to is one of which Trunk is held
   abbrev IsHeld : ℕ → Run w → Type 0
-  IsHeld block run = is_free n None perm.Branch block (trace_in run) ≡ false
+  IsHeld block run = is_free n None Perm.Branch block (trace_in run) ≡ false
 
   reply-run : (o : Op w) (r : Reply) (f : Memory) (run : Run w) → IsRun n first run
-      → ((address size value : ℕ) → o ≡ op.Store address size value → r ≡ reply.Stored → IsHeld (block_at address) run)
+      → ((address size value : ℕ) → o ≡ Op.Store address size value → r ≡ Reply.Stored → IsHeld (block_at address) run)
       → IsRun n first (with_reply o r f run)
   unfolding IsRun
-  reply-run o (reply.Value v) f run is stores = is
-  reply-run o reply.Miss f run is stores = is
-  reply-run o (reply.Started source) f run is stores = is
-  reply-run o (reply.Busy why) f run is stores = is
-  reply-run (op.Store address size value) reply.Stored f run is stores = (stores address size value refl refl, is)
-  reply-run (op.Load address size) reply.Stored f run is stores = is
-  reply-run (op.Acquire block grow) reply.Stored f run is stores = is
-  reply-run (op.AcquireWhole block bytes) reply.Stored f run is stores = is
-  reply-run (op.Release block prune) reply.Stored f run is stores = is
-  reply-run (op.Access m) reply.Stored f run is stores = is
+  reply-run o (Reply.Value v) f run is stores = is
+  reply-run o Reply.Miss f run is stores = is
+  reply-run o (Reply.Started source) f run is stores = is
+  reply-run o (Reply.Busy why) f run is stores = is
+  reply-run (Op.Store address size value) Reply.Stored f run is stores = (stores address size value refl refl, is)
+  reply-run (Op.Load address size) Reply.Stored f run is stores = is
+  reply-run (Op.Acquire block grow) Reply.Stored f run is stores = is
+  reply-run (Op.AcquireWhole block bytes) Reply.Stored f run is stores = is
+  reply-run (Op.Release block prune) Reply.Stored f run is stores = is
+  reply-run (Op.Access m) Reply.Stored f run is stores = is
 
   whole-run : (o : Op w) (f : Memory) (run : Run w) → IsRun n first run
-      → ((block : ℕ) (bytes : List ℕ) → o ≡ op.AcquireWhole block bytes → IsHeld block run)
+      → ((block : ℕ) (bytes : List ℕ) → o ≡ Op.AcquireWhole block bytes → IsHeld block run)
       → IsRun n first (with_whole o f run)
   unfolding IsRun
-  whole-run (op.AcquireWhole block bytes) f run is stores = (stores block bytes refl, is)
-  whole-run (op.Load address size) f run is stores = is
-  whole-run (op.Store address size value) f run is stores = is
-  whole-run (op.Acquire block grow) f run is stores = is
-  whole-run (op.Release block prune) f run is stores = is
-  whole-run (op.Access m) f run is stores = is
+  whole-run (Op.AcquireWhole block bytes) f run is stores = (stores block bytes refl, is)
+  whole-run v f run is stores = is
 
   end-run : (o : Option (Open w)) (f : Memory) (run : Run w) → IsRun n first run
-      → ((i : Open w) (block : ℕ) (bytes : List ℕ) → o ≡ Some i → i.asked ≡ op.AcquireWhole block bytes
-      → IsHeld block run)
-      → IsRun n first (with_end o f run)
+      → ((i : Open w) (block : ℕ) (bytes : List ℕ) → o ≡ Some i → i.asked ≡ Op.AcquireWhole block bytes
+      → IsHeld block run) → IsRun n first (with_end o f run)
   end-run None f run is stores = is
   end-run (Some i) f run is stores = whole-run i.asked f run is (λ block bytes e. stores i block bytes refl e)
 
@@ -139,9 +99,8 @@ module _ {w : ℕ} (config : Config) (log : Log w) where
       subst (IsBeside (run_of config log) (one_memory_after config log)) (sym is.trace_is) is
 
   -- a beat that is taken
-  taken-run : (link : Link) (y : Beat w) → IsGiven config log
-      → IsTakenWell (links config) (one_memory_after config log) link y (run_of config log)
-      → IsRun (links config) (λ address. 0) (run_of config log)
+  taken-run : (link : Link) (y : Beat w) → IsGiven config log → IsTakenWell (links config) (one_memory_after config log)
+      link y (run_of config log) → IsRun (links config) (λ address. 0) (run_of config log)
       → IsRun (links config) (λ address. 0) (Takes link y ∷ run_of config log)
   unfolding IsRun
   taken-run link y given well is = (
@@ -149,12 +108,12 @@ module _ {w : ℕ} (config : Config) (log : Log w) where
     is,
   )
 
-  moved-well : (link : Link) (ch : Channel) (y : Beat w) → IsGiven config ((Deliver link ch, outcome.Moved y) ∷ log)
+  moved-well : (link : Link) (ch : Channel) (y : Beat w) → IsGiven config ((Deliver link ch, Outcome.Moved y) ∷ log)
       → IsTakenWell (links config) (one_memory_after config log) link y (run_of config log)
   unfolding EachTaken
   moved-well link ch y given =
-      let all : Log w = (Deliver link ch, outcome.Moved y) ∷ log in
-      taken-well config log (given-before config (Deliver link ch, outcome.Moved y) log given) (links config) link y
+      let all : Log w = (Deliver link ch, Outcome.Moved y) ∷ log in
+      taken-well config log (given-before config (Deliver link ch, Outcome.Moved y) log given) (links config) link y
       (tells_of_memory config all given).0 (responses config all given).each.0 (carries_accesses config all given).0
       (each-taken config (λ earlier c x. GrantsOther (one_memory_after config earlier) c x) (grants-other config) all
       given).0
@@ -162,12 +121,12 @@ module _ {w : ℕ} (config : Config) (log : Log w) where
       (grants-block config) all given).0
 
   done-well : (link : Link) (ch : Channel) (y : Beat w) (source : ℕ) (f : Finish)
-      → IsGiven config ((Deliver link ch, outcome.Done y source f) ∷ log)
+      → IsGiven config ((Deliver link ch, Outcome.Done y source f) ∷ log)
       → IsTakenWell (links config) (one_memory_after config log) link y (run_of config log)
   unfolding EachTaken
   done-well link ch y source f given =
-      let all : Log w = (Deliver link ch, outcome.Done y source f) ∷ log in
-      taken-well config log (given-before config (Deliver link ch, outcome.Done y source f) log given) (links config)
+      let all : Log w = (Deliver link ch, Outcome.Done y source f) ∷ log in
+      taken-well config log (given-before config (Deliver link ch, Outcome.Done y source f) log given) (links config)
       link y
       (tells_of_memory config all given).0 (responses config all given).each.0 (carries_accesses config all given).0
       (each-taken config (λ earlier c x. GrantsOther (one_memory_after config earlier) c x) (grants-other config) all
@@ -176,34 +135,32 @@ module _ {w : ℕ} (config : Config) (log : Log w) where
       (grants-block config) all given).0
 
   -- what a client stores as it replies
-  asked-run : (c : ℕ) (o : Op w) (r : Reply) → IsGiven config ((Ask c o, outcome.Replied r) ∷ log)
+  asked-run : (c : ℕ) (o : Op w) (r : Reply) → IsGiven config ((Ask c o, Outcome.Replied r) ∷ log)
       → IsRun (links config) (λ address. 0) (run_of config log)
-      → IsRun (links config) (λ address. 0)
-      (with_reply o r (one_memory_after config log).memory (run_of config log))
+      → IsRun (links config) (λ address. 0) (with_reply o r (one_memory_after config log).memory (run_of config log))
   unfolding IsLog AreTyped
   asked-run c o r given is =
       reply-run (links config) (λ address. 0) o r (one_memory_after config log).memory (run_of config log) is stored
     where
       before : IsGiven config log
-      before = given-before config (Ask c o, outcome.Replied r) log given
+      before = given-before config (Ask c o, Outcome.Replied r) log given
 
-      continues : Continues config (Ask c o, outcome.Replied r) log
-      continues = (one_memory config log before).1 (Ask c o, outcome.Replied r) given.typed.0 given.is_log
+      continues : Continues config (Ask c o, Outcome.Replied r) log
+      continues = (one_memory config log before).1 (Ask c o, Outcome.Replied r) given.typed.0 given.is_log
 
-      stored : (address size value : ℕ) → o ≡ op.Store address size value → r ≡ reply.Stored
-          → is_free (links config) None perm.Branch (block_at address) (trace_in (run_of config log)) ≡ false
+      stored : (address size value : ℕ) → o ≡ Op.Store address size value → r ≡ Reply.Stored
+          → is_free (links config) None Perm.Branch (block_at address) (trace_in (run_of config log)) ≡ false
       stored address size value is_store stores =
-          subst (λ (t : Trace w). is_free (links config) None perm.Branch (block_at address) t ≡ false)
+          subst (λ (t : Trace w). is_free (links config) None Perm.Branch (block_at address) t ≡ false)
           (sym (beside-log config log before).trace_is)
           (held-trunk (links config) c (block_at address) (trace_of log) (client-below config c continues.2.0)
           (hidden_stores config log before c address size value
-          (subst (λ (j : Op w). (stepped config (Ask c j) (system_after config log)).outcome
-          ≡ outcome.Replied reply.Stored) is_store
-          (sym given.is_log.0 ∙ ap (λ (q : Reply). outcome.Replied q) stores))))
+          (subst (λ (j : Op w). (stepped config (Ask c j) (system_after config log)).outcome ≡ Outcome.Replied
+          Reply.Stored) is_store (sym given.is_log.0 ∙ ap (λ (q : Reply). Outcome.Replied q) stores))))
 
   -- and as an operation ends
   done-run : (link : Link) (ch : Channel) (y : Beat w) (source : ℕ) (f : Finish)
-      → IsGiven config ((Deliver link ch, outcome.Done y source f) ∷ log)
+      → IsGiven config ((Deliver link ch, Outcome.Done y source f) ∷ log)
       → IsRun (links config) (λ address. 0) (run_of config log)
       → IsRun (links config) (λ address. 0) (with_end ((one_memory_after config log).opened link.0 (pool_of f) source)
       (one_memory_after config log).memory (Takes link y ∷ run_of config log))
@@ -214,39 +171,29 @@ module _ {w : ℕ} (config : Config) (log : Log w) where
       (taken-run link y before (done-well link ch y source f given) is) stored
     where
       before : IsGiven config log
-      before = given-before config (Deliver link ch, outcome.Done y source f) log given
+      before = given-before config (Deliver link ch, Outcome.Done y source f) log given
 
-      continues : Continues config (Deliver link ch, outcome.Done y source f) log
-      continues = (one_memory config log before).1 (Deliver link ch, outcome.Done y source f) tt given.is_log
+      continues : Continues config (Deliver link ch, Outcome.Done y source f) log
+      continues = (one_memory config log before).1 (Deliver link ch, Outcome.Done y source f) tt given.is_log
 
-      stored : (i : Open w) (block : ℕ) (bytes : List ℕ)
-          → (one_memory_after config log).opened link.0 (pool_of f) source ≡ Some i
-          → i.asked ≡ op.AcquireWhole block bytes
-          → is_free (links config) None perm.Branch block ((link, y) ∷ trace_in (run_of config log)) ≡ false
+      stored : (i : Open w) (block : ℕ) (bytes : List ℕ) → (one_memory_after config log).opened link.0 (pool_of f)
+          source ≡ Some i → i.asked ≡ Op.AcquireWhole block bytes
+          → is_free (links config) None Perm.Branch block ((link, y) ∷ trace_in (run_of config log)) ≡ false
       stored i block bytes opened asked =
-          subst (λ (t : Trace w). is_free (links config) None perm.Branch block ((link, y) ∷ t) ≡ false)
+          subst (λ (t : Trace w). is_free (links config) None Perm.Branch block ((link, y) ∷ t) ≡ false)
           (sym (beside-log config log before).trace_is)
-          (held-trunk (links config) link.0 block ((link, y) ∷ trace_of log)
-          (client-below config link.0 continues.2.0)
+          (held-trunk (links config) link.0 block ((link, y) ∷ trace_of log) (client-below config link.0 continues.2.0)
           (whole_stores config log link ch y source f given i block bytes opened asked))
 
   happened-run : (e : Event w) (o : Outcome w) → IsGiven config ((e, o) ∷ log)
       → IsRun (links config) (λ address. 0) (run_of config log)
       → IsRun (links config) (λ address. 0) (happened e o (one_memory_after config log) (run_of config log))
-  happened-run (Ask c i) (outcome.Replied r) given is = asked-run c i r given is
-  happened-run (Ask c i) (outcome.Moved y) given is = is
-  happened-run (Ask c i) (outcome.Done y source f) given is = is
-  happened-run (Ask c i) outcome.Empty given is = is
-  happened-run (Ask c i) outcome.Stalled given is = is
-  happened-run (Ask c i) outcome.NoSuchClient given is = is
-  happened-run (Deliver link ch) (outcome.Moved y) given is =
-      taken-run link y (given-before config (Deliver link ch, outcome.Moved y) log given) (moved-well link ch y given)
+  happened-run (Ask c i) (Outcome.Replied r) given is = asked-run c i r given is
+  happened-run (Deliver link ch) (Outcome.Moved y) given is =
+      taken-run link y (given-before config (Deliver link ch, Outcome.Moved y) log given) (moved-well link ch y given)
       is
-  happened-run (Deliver link ch) (outcome.Done y source f) given is = done-run link ch y source f given is
-  happened-run (Deliver link ch) (outcome.Replied r) given is = is
-  happened-run (Deliver link ch) outcome.Empty given is = is
-  happened-run (Deliver link ch) outcome.Stalled given is = is
-  happened-run (Deliver link ch) outcome.NoSuchClient given is = is
+  happened-run (Deliver link ch) (Outcome.Done y source f) given is = done-run link ch y source f given is
+  happened-run v u given is = is
 
   -- ---- what is performed then
 
@@ -281,7 +228,7 @@ module _ {w : ℕ} (config : Config) (log : Log w) where
 
       performs : (q source : ℕ) (a : MessageA w) → l ≡ (q, source) ∷ []
           → moved (Deliver link ch) (stepped config (Deliver link ch) (system_after config log)).outcome m ≡ m
-          → m.opened q Requests source ≡ Some (record { asked = op.Access (message.A a); answer = None })
+          → m.opened q Requests source ≡ Some (record { asked = Op.Access (Message.A a); answer = None })
           → IsRun (links config) (λ address. 0) (performed_all l m run)
       performs q source a one still opened =
           subst (λ (k : List (ℕ × ℕ)). IsRun (links config) (λ address. 0) (performed_all k m run)) (sym one)

@@ -22,7 +22,8 @@ use Rattle.tl_coherence.proofs.{protocol.BothParts.not-answered}
 use Rattle.tl_coherence.proofs.rank.RankDecreases.{IsNoMore, owed_use, owed_use', use-falls, let-falls, use-no-more}
 use Rattle.tl_coherence.proofs.rank.RankDecreases.{probes-no-more, acquire-no-more, total-falls}
 use Rattle.tl_coherence.proofs.protocol.BeatsRemaining.{beats_left, taken_of, is_front, same_channels}
-use Rattle.tl_coherence.proofs.rank.RankParts.{AreClients, IsAsking, asking, IsWaited, waited-probing, open_use}
+use Rattle.tl_coherence.proofs.rank.Frames.{AreClients}
+use Rattle.tl_coherence.proofs.rank.RankParts.{IsAsking, asking, IsWaited, waited-probing, open_use}
 use Rattle.tl_coherence.proofs.simulation.Popped.{unfinished_at, first-left, kind_channel}
 
 -- The receiver of channel ch of client c's link has one beat more, and the others have what they had.
@@ -73,7 +74,7 @@ module _ {X : Type 0} (config : Config) (size : ℕ) (left left' : Left) (answer
 
   -- ---- and where less is left of one message, less is owed
 
-  module _ (caching : ℕ → Bool) (inv : IsInvariant caching s) (all : AreClients config s) (c : ℕ) (lt : c < number)
+  module _ {caching : ℕ → Bool} (inv : IsInvariant caching s) (all : AreClients config s) (c : ℕ) (lt : c < number)
     where
       abbrev Falls : Type 0
       Falls = rank config size left' answer s + 1 ≤ rank config size left answer s
@@ -85,13 +86,13 @@ module _ {X : Type 0} (config : Config) (size : ℕ) (left left' : Left) (answer
 
       request_less : (i : ℕ) → left' c Request i + 1 ≤ left c Request i → is_asked (s.uses c i) ≡ true → Falls
       request_less i less e =
-          let used = request_named caching s c i inv e in
+          let used = request_named c i inv e in
           use_owes c i (λ closed. absurd (let both : Asked ≡ SourceFree = sym used ∙ closed in cc))
           (rw used (omega (arith, less)))
 
       answer_less : (i : ℕ) → left' c Answer i + 1 ≤ left c Answer i → is_replied (s.uses c i) ≡ true → Falls
       answer_less i less e =
-          let used = answer_named caching s c i inv e in
+          let used = answer_named c i inv e in
           use_owes c i (λ closed. absurd (let both : Replied ≡ SourceFree = sym used ∙ closed in cc)) (rw used less)
 
       acquire_owes : (m : ℕ) → s.uses c ((s.block m).source c) ≡ Acquires m
@@ -106,7 +107,7 @@ module _ {X : Type 0} (config : Config) (size : ℕ) (left left' : Left) (answer
       acquire_less m less e =
           let waits = and_right (is_wanting ((s.block m).pair c).acquiring) (is_unserved (view (s.block m).service c)) e
           in
-          acquire_owes m (acquire_named caching s c m inv e)
+          acquire_owes m (acquire_named c m inv e)
           (rw (
             unserved-weight size (left' c Acquire m) (left' c Grant m) (probes_weight number size left' m (s.block m))
                 (view (s.block m).service c) waits,
@@ -120,14 +121,14 @@ module _ {X : Type 0} (config : Config) (size : ℕ) (left left' : Left) (answer
           (probes_weight number size left' m (s.block m)) v + 1 ≤ acquire_weight size (left c Acquire m)
           (left c Grant m) (probes_weight number size left m (s.block m)) v =
           elim [ Granting d k ↦ λ f. omega (arith, less) | v ↦ λ f. absurd cc ] in
-          acquire_owes m (grant_named caching s c m inv e) (go (view (s.block m).service c) e)
+          acquire_owes m (grant_named c m inv e) (go (view (s.block m).service c) e)
 
       release_less : (m : ℕ) → left' c Release m + 1 ≤ left c Release m → shown Release c (s.block m) ≡ true → Falls
       release_less m less e =
           let go : (x : ReleasePhase) → is_releasing x ≡ true → letting_weight (left' c Release m) x + 1
           ≤ letting_weight (left c Release m) x =
           elim [ ReleaseSent r ↦ λ f. omega (arith, less) | x ↦ λ f. absurd cc ] in
-          let named = release_named caching s c m inv e in
+          let named = release_named c m inv e in
           let source = (s.block m).release_source c in
           let-falls config size left left' answer answer s s c source (all.letters c source m named)
           (all.releases c source m named) none-more (rw named (go ((s.block m).pair c).letting e))
@@ -193,7 +194,7 @@ beat-falls {w} {config} {caching} {ch} {c} {mail} {s} {sys} sys' {x} {queue} siz
     let shown_it : shows_it s c first.kind first.number ≡ true = shown_there c ch first.kind first.number inv
     first.own (rw first.tokens (first-there (packet first.kind first.number) first.rest)) in
     message-less config size (beats_left mail s (unfinished_at sys))
-    (beats_left mail s (unfinished_at sys')) answer s less caching inv all c lt first.kind first.number shown_it
+    (beats_left mail s (unfinished_at sys')) answer s less inv all c lt first.kind first.number shown_it
     one_less (heavy (is_light first.kind) refl)
   where
     longer : (d : ℕ) (at : Channel) → (d ≡ c) ⊎ (d ≡ c → ⊥) → (at ≡ ch) ⊎ (at ≡ ch → ⊥)
@@ -219,8 +220,7 @@ beat-falls {w} {config} {caching} {ch} {c} {mail} {s} {sys} sys' {x} {queue} siz
       kind_channel ch first.kind first.own,
       first.tokens,
       same_kind_again first.kind,
-      same_number
-          first.number,
+      same_number first.number,
     ) refl
 
     one_more : length (unfinished_at sys' c (channel_for first.kind)) ≡ length

@@ -1,9 +1,9 @@
 -- What is owed in a world falls at every delivery that moves a beat, and rises at none.
-use Rattle.tl_coherence.proofs.bound.Imports.{IsWidth, Beat, Link, Channel, completes, Config, Deliver}
-use Rattle.tl_coherence.proofs.bound.Imports.{is_moving, AbstractState, kind_taken, Log, system_after, channel_for}
-use Rattle.tl_coherence.proofs.bound.Imports.{packet, packets_on, stepped, System, Kind, Request}
-use Rattle.tl_coherence.proofs.bound.Imports.{Acquire, Probe, ProbeAck, Release, Answer, Grant, ReleaseAck, GrantAck}
-use Rattle.tl_coherence.proofs.bound.Imports.{Packet, SimulationRelation, is_caching}
+use Rattle.tl_coherence.proofs.bound.Imports.{IsWidth, Beat, Link, Channel, completes, Config, Deliver, is_moving}
+use Rattle.tl_coherence.proofs.bound.Imports.{AbstractState, kind_taken, Log, system_after, channel_for, packet}
+use Rattle.tl_coherence.proofs.bound.Imports.{packets_on, stepped, System, Kind, Request, Acquire, Probe, ProbeAck}
+use Rattle.tl_coherence.proofs.bound.Imports.{Release, Answer, Grant, ReleaseAck, GrantAck, Packet, SimulationRelation}
+use Rattle.tl_coherence.proofs.bound.Imports.{is_caching}
 use Rattle.std.proofs.Common.{◌≡◌, ℕ, ◌+◌, ◌<◌, ◌≤◌, Bool, true, false, List, ◌∷◌, refl, sym, subst, arith}
 use Rattle.std.specs.Prelude.{◌/◌, length, Some}
 use Rattle.tl_client.specs.statement.Endpoint.{EndConfig}
@@ -24,7 +24,7 @@ use Rattle.tl_coherence.proofs.bound.RankByKind.{probe-owed, release-owed, answe
 use Rattle.tl_coherence.proofs.bound.RankByKind.{grant_ack-owed, grant-owed, acquire-owed}
 use Rattle.tl_coherence.proofs.simulation.Popped.{unfinished_at, IsReceived, kind_channel}
 
-module _ {w : ℕ} (config : Config) (log : Log w) (h : AbstractState w) (width : IsWidth w)
+module _ {w : ℕ} {config : Config} {log : Log w} (h : AbstractState w) (width : IsWidth w)
     (matched : SimulationRelation config log h.mail h.request h.state (system_after config log)) where
   -- less is owed than before
   abbrev IsLess : AbstractState w → System w → Type 0
@@ -40,39 +40,39 @@ module _ {w : ℕ} (config : Config) (log : Log w) (h : AbstractState w) (width 
       → IsReceived c (channel_for k) (system_after config log) sys' → IsReady tracker c k i h
       → Kept (kind_taken config tracker c k i rest h) → IsLess (kind_taken config tracker c k i rest h) sys'
   by-kind tracker c Request i rest sys' lt sixteen first received ready kept =
-      request-owed config log h sys' tracker c i rest ready.0 width matched lt sixteen first ready.1 ready.2 ready.3
+      request-owed h sys' tracker ready.0 width matched lt sixteen first ready.1 ready.2 ready.3
       received kept
   by-kind tracker c Acquire i rest sys' lt sixteen first received ready kept =
-      acquire-owed config log h sys' width matched tracker c i rest lt sixteen first ready.0 received kept
+      acquire-owed h sys' width matched tracker c i rest lt sixteen first ready.0 received kept
   by-kind tracker c Probe i rest sys' lt sixteen first received ready kept =
-      probe-owed config log h sys' width matched tracker c i rest lt first received kept
+      probe-owed h sys' width matched tracker c i rest lt first received kept
   by-kind tracker c ProbeAck i rest sys' lt sixteen first received ready kept =
-      report-owed config log h sys' tracker c i rest width matched lt first received kept
+      report-owed h sys' tracker width matched lt first received kept
   by-kind tracker c Release i rest sys' lt sixteen first received ready kept =
-      release-owed config log h sys' width matched tracker c i rest lt first received kept
+      release-owed h sys' width matched tracker c i rest lt first received kept
   by-kind tracker c Answer i rest sys' lt sixteen first received ready kept =
-      answer-owed config log h sys' width matched tracker c i rest lt first received kept
+      answer-owed h sys' width matched tracker c i rest lt first received kept
   by-kind tracker c Grant i rest sys' lt sixteen first received ready kept =
-      grant-owed config log h sys' width matched tracker c i rest lt first received kept
+      grant-owed h sys' width matched tracker c i rest lt first received kept
   by-kind tracker c ReleaseAck i rest sys' lt sixteen first received ready kept =
-      release_ack-owed config log h sys' width matched tracker c i rest lt first received kept
+      release_ack-owed h sys' width matched tracker c i rest lt first received kept
   by-kind tracker c GrantAck i rest sys' lt sixteen first received ready kept =
-      grant_ack-owed config log h sys' width matched tracker c i rest lt first received kept
+      grant_ack-owed h sys' width matched tracker c i rest lt first received kept
 
-  by-first : (link : Link) (ch : Channel) (x : Beat w) (queue : List (Beat w)) (sys' : System w)
+  by-first : {link : Link} {ch : Channel} {x : Beat w} {queue : List (Beat w)} (sys' : System w)
       (d : IsDelivery config h.mail h.state (system_after config log) link ch x queue)
       → link.0 < length config.clients.items → length config.clients.items ≤ 16
       → IsReceived link.0 ch (system_after config log) sys'
       → Kept (kind_taken config (next_tracker (system_after config log)) link.0 d.first.kind d.first.number d.first.rest
       h) → IsLess (kind_taken config (next_tracker (system_after config log)) link.0 d.first.kind d.first.number
       d.first.rest h) sys'
-  by-first link ch x queue sys' d lt sixteen received kept =
+  by-first {link} {ch} {x} {queue} sys' d lt sixteen received kept =
       let on : channel_for d.first.kind ≡ ch = kind_channel ch d.first.kind d.first.own in
       by-kind (next_tracker (system_after config log)) link.0 d.first.kind d.first.number d.first.rest sys' lt sixteen
       (subst (λ (i : Channel). packets_on i (h.state.link link.0) ≡ packet d.first.kind d.first.number ∷ d.first.rest)
       (sym on) d.first.tokens)
       (subst (λ (i : Channel). IsReceived link.0 i (system_after config log) sys') (sym on) received)
-      (ready-delivered config log h.mail h.request h.state (system_after config log) link ch x queue width matched d)
+      (ready-delivered ch width matched d)
       kept
 
   -- ---- a delivery
@@ -107,18 +107,16 @@ module _ {w : ℕ} (config : Config) (log : Log w) (h : AbstractState w) (width 
           first.kind first.number first.rest h =
           cc (followed-moving config link ch sys h x queue moving beats, last, first.tokens) in
           subst (λ (z : AbstractState w). IsLess z sys') (sym follows)
-          (by-first link ch x queue sys' d (client_below config link.0 terms known) sixteen
+          (by-first sys' d (client_below config link.0 terms known) sixteen
           (grown-received link.0 ch x sys sys' (grown-moved h link ch terms x queue width matched known beats
-          moving) last)
-          (subst Kept follows kept))
+          moving) last) (subst Kept follows kept))
       taken x queue terms known beats false part =
           let follows : abstract_step config (Deliver link ch) sys h ≡ h =
           cc (followed-moving config link ch sys h x queue moving beats, part) in
           subst (λ (z : AbstractState w). IsLess z sys') (sym follows)
-          (owed-begun sys' queue width matched
-          (client_below config link.0 terms known) beats part
-          (grown-begun link.0 ch x sys sys' (grown-moved h link ch terms x queue width matched known beats
-          moving) part))
+          (owed-begun sys' queue width matched (client_below config link.0 terms known) beats part
+          (grown-begun link.0 ch x sys sys' (grown-moved h link ch terms x queue width matched known beats moving)
+          part))
 
       go : ((x : Beat w) × (queue : List (Beat w)) × (terms : EndConfig)
           × ((sys.channels link.0 ch ≡ x ∷ queue) × (terms_at config link.0 ≡ Some terms)))

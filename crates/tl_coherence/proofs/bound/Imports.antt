@@ -23,10 +23,9 @@ pub use Rattle.tl_coherence.specs.protocol.Phase.{ProbePhase, ProbeSent, Release
 pub use Rattle.tl_coherence.specs.protocol.Protocol.{Acquires, Asked, Block, Free, GrantSent, GrantTaken, InService}
 pub use Rattle.tl_coherence.specs.protocol.Protocol.{Replied, Service, SourceFree, State, Waits, acquire_granted}
 pub use Rattle.tl_coherence.specs.protocol.Protocol.{acquire_served, ended_block, grant_taken, granted_at_once}
-pub use Rattle.tl_coherence.specs.protocol.Protocol.{granted_block, is_probed}
+pub use Rattle.tl_coherence.specs.protocol.Protocol.{granted_block, is_probed, let_block, packet, packets_on}
+pub use Rattle.tl_coherence.specs.protocol.Protocol.{probed_block, report_taken, taken_block, view}
 pub use Rattle.tl_coherence.specs.protocol.Tokens.{is_answered, is_unserved, is_wanting}
-pub use Rattle.tl_coherence.specs.protocol.Protocol.{let_block, packet, packets_on, probed_block, report_taken}
-pub use Rattle.tl_coherence.specs.protocol.Protocol.{taken_block, view}
 pub use Rattle.tl_coherence.specs.refinement.AbstractStep.{AbstractState, kind_taken}
 pub use Rattle.tl_coherence.specs.refinement.Move.{Move, channel_for}
 pub use Rattle.tl_coherence.specs.refinement.PacketMessages.{AccessMessages, message_of_kind}

@@ -42,8 +42,7 @@ grown-moved {w} {config} {log} h link ch terms x queue width is known beats movi
         let t = client-moves config link ch sys terms x queue known beats up moving in
         subst (λ (y : Step w). IsGrown link.0 ch x sys y.after) (sym t.step_is)
         (landed-client link.0 ch x queue t.message (offer.taken x (sys.clients link.0)).after sys up beats on_ch
-        (client-heard width (is.kept link.0)
-        t)).rests
+        (client-heard width (is.kept link.0) t)).rests
     go false down =
         let at = at-manager link ch h terms x queue width is known down beats moving in
         subst (λ (y : Step w). IsGrown link.0 ch x sys y.after) (sym at.step_is)

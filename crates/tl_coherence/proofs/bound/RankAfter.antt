@@ -1,38 +1,51 @@
 -- What is owed in a world falls as the last beat of a message is taken.
+use Rattle.tl_coherence.specs.protocol.Protocol.{Link, probe_taken, report_answers, report_grants, access_answered}
+use Rattle.tl_coherence.specs.protocol.Protocol.{access_served, release_taken, answer_taken, release_ack_taken}
+use Rattle.tl_coherence.specs.protocol.Protocol.{grant_ack_taken, answered_link, freed_block, is_on, let_go_block}
+use Rattle.tl_coherence.specs.protocol.Protocol.{let_link, performed_block, probed_link, reported_block, served_block}
+use Rattle.tl_coherence.specs.protocol.Protocol.{taken_link}
+use Rattle.tl_coherence.proofs.{rank.Frames.Taking, queues.Shown.IsShown, protocol.BothParts.acked-is}
+use Rattle.tl_coherence.proofs.{queues.Tokens.set-other, queues.Tokens.set-same, protocol.TokenNames.shows_it}
+use Rattle.tl_coherence.proofs.{protocol.BeatsRemaining.beats_left, bound.RankOfLog.owed, bound.RankOfLog.narrow-block}
+use Rattle.tl_coherence.proofs.{queues.Showing.carries, rank.Weights.IsLeft, queues.Tokens.set_at-same}
+use Rattle.tl_coherence.proofs.bound.EventDecreases.{left-first, set_at-unlike, acks_as, acks_set, acks_ended}
+use Rattle.tl_coherence.proofs.bound.EventDecreases.{acks_granted, acks_served, answered_with, releasing_with}
+use Rattle.tl_coherence.proofs.bound.EventDecreases.{shown-first}
+use Rattle.tl_coherence.proofs.bound.ReportDecreases.{report-falls, answering-falls, granting-falls, probe-falls}
+use Rattle.tl_coherence.proofs.bound.RequestDecreases.{answered-falls, acquire-granted-falls, acquire-served-falls}
+use Rattle.tl_coherence.proofs.bound.RequestDecreases.{granted-letting, served-letting, serving-falls}
+use Rattle.tl_coherence.proofs.bound.ResponseDecreases.{answer-falls, grant-taken-falls, release-taken-falls}
+use Rattle.tl_coherence.proofs.bound.ResponseDecreases.{release-ack-falls, grant-ack-falls}
+use Rattle.tl_coherence.proofs.protocol.Capacities.{acquire_named, answer_named, grant_named, release_ack_named}
+use Rattle.tl_coherence.proofs.protocol.Capacities.{release_named, request_named}
+use Rattle.tl_coherence.proofs.simulation.Popped.{are-clients, unfinished_at, IsReceived, popped-received}
 use Rattle.tl_coherence.proofs.bound.Imports.{IsWidth, Message, MessageA, Config, Cap, Prune, Report, Perm, IsInvariant}
 use Rattle.tl_coherence.proofs.bound.Imports.{Log, system_after, ProbeSent, Free, Waits, GrantSent, GrantTaken, Block}
-use Rattle.tl_coherence.proofs.bound.Imports.{State, Asked, Replied, packet, is_probed, probed_block, report_taken}
-use Rattle.tl_coherence.proofs.bound.Imports.{ended_block, granted_block, granted_at_once, acquire_granted}
-use Rattle.tl_coherence.proofs.bound.Imports.{acquire_served, let_block, taken_block, grant_taken, AccessMessages}
-use Rattle.tl_coherence.proofs.bound.Imports.{System, Kind, Request, Acquire, Probe, ProbeAck, Release, Answer, Grant}
-use Rattle.tl_coherence.proofs.bound.Imports.{ReleaseAck, GrantAck, Packet, SimulationRelation, is_caching, Channel}
-use Rattle.std.proofs.Common.{◌≡◌, ℕ, ◌+◌, ◌/◌, ◌<◌, ◌≤◌, Bool, true, false, List, ◌∷◌, refl, arith, ◌⊎◌}
-use Rattle.std.specs.Prelude.{Some, None, length}
+use Rattle.tl_coherence.proofs.bound.Imports.{State, Asked, Replied, packet, probed_block, report_taken, ended_block}
+use Rattle.tl_coherence.proofs.bound.Imports.{granted_block, granted_at_once, acquire_granted, acquire_served}
+use Rattle.tl_coherence.proofs.bound.Imports.{let_block, taken_block, grant_taken, AccessMessages, System, Kind}
+use Rattle.tl_coherence.proofs.bound.Imports.{Request, Acquire, Probe, ProbeAck, Release, Answer, Grant, ReleaseAck}
+use Rattle.tl_coherence.proofs.bound.Imports.{GrantAck, Packet, SimulationRelation, is_caching, Channel, Acquires}
+use Rattle.tl_coherence.proofs.bound.Imports.{InService, ProbeAnswered, SourceFree, packets_on, set}
+use Rattle.std.proofs.Common.{◌≡◌, ℕ, ◌+◌, ◌/◌, ◌<◌, ◌≤◌, Bool, true, false, List, ◌∷◌, refl, arith, ◌⊎◌, inl, inr, ap}
+use Rattle.std.proofs.Common.{[]}
+use Rattle.std.{specs.Prelude.None, specs.Prelude.length, specs.Prelude.Option, proofs.lemmas.Bool.cases_eq}
+use Rattle.std.{proofs.lemmas.List.length-append}
 use Rattle.tl_beat.specs.declared.opcode.OpB.{OpB}
 use Rattle.tl_client.specs.statement.Send.{probe_ack}
 use Rattle.tl_coherence.specs.{protocol.Invariant.is_replied, protocol.Tokens.shown}
 use Rattle.tl_coherence.specs.{refinement.PacketMessages.block_message, statement.System.channel_of_message}
 use Rattle.tl_coherence.specs.{protocol.Packet.set_at}
-use Rattle.tl_coherence.specs.protocol.Protocol.{probe_taken, report_answers, report_grants, access_answered}
-use Rattle.tl_coherence.specs.protocol.Protocol.{access_served, release_taken, answer_taken, release_ack_taken}
-use Rattle.tl_coherence.specs.protocol.Protocol.{grant_ack_taken}
 use Rattle.tl_coherence.specs.refinement.SimulationRelation.{IsSourced, IsAnswered}
 use Rattle.tl_coherence.proofs.simulation.CarriedEvents.{probe_taken-shown, report_taken-shown, access_answered-shown}
 use Rattle.tl_coherence.proofs.simulation.CarriedEvents.{acquire_granted-shown, release_taken-shown}
 use Rattle.tl_coherence.proofs.simulation.CarriedResponses.{answer_taken-shown, release_ack_taken-shown}
 use Rattle.tl_coherence.proofs.simulation.CarriedResponses.{grant_taken-shown, grant_ack_taken-shown}
-use Rattle.tl_coherence.proofs.simulation.CarriedProbes.{access_served-shown, acquire_served-shown, probe_pushes}
+use Rattle.tl_coherence.proofs.simulation.CarriedProbes.{access_served-shown, acquire_served-shown}
 use Rattle.tl_coherence.proofs.simulation.CarriedLastReports.{report_answers-shown, report_grants-shown}
-use Rattle.tl_coherence.proofs.{queues.Channels.pushes_at, queues.Landed.pushes_of, protocol.BeatsRemaining.beats_left}
-use Rattle.tl_coherence.proofs.{bound.RankOfLog.owed, bound.RankOfLog.narrow-block, rank.RankParts.AreClients}
-use Rattle.tl_coherence.proofs.{queues.Showing.carries, rank.Weights.IsLeft, queues.Tokens.set_at-same}
-use Rattle.tl_coherence.proofs.bound.EventDecreases.{probe_taken-falls, report_taken-falls, report_answers-falls}
-use Rattle.tl_coherence.proofs.bound.EventDecreases.{report_grants-falls, access_answered-falls, access_served-falls}
-use Rattle.tl_coherence.proofs.bound.EventDecreases.{acquire_granted-falls, acquire_served-falls, release_taken-falls}
-use Rattle.tl_coherence.proofs.bound.EventDecreases.{answer_taken-falls, release_ack_taken-falls, grant_taken-falls}
-use Rattle.tl_coherence.proofs.bound.EventDecreases.{grant_ack_taken-falls}
-use Rattle.tl_coherence.proofs.simulation.Popped.{unfinished_at, IsReceived, are-clients}
 use Rattle.tl_coherence.proofs.rank.BeatsRemainingSums.{answer_to, is-left, answer-left, wide-block}
+use Rattle.tl_coherence.proofs.rank.RankParts.{IsAsking, asking, serving-use}
+use Rattle.tl_coherence.specs.refinement.PacketMessages.{message_of}
 
 -- ---- the channels of what is handed out
 
@@ -77,173 +90,245 @@ pub kept-matched : {w : ℕ} {config : Config} {log : Log w} {mail : AccessMessa
     {s : State (List ℕ)} {sys : System w} → SimulationRelation config log mail request s sys → IsKeptAfter config mail s
 kept-matched is = record { invariant = is.invariant; sourced = is.sourced; answered = is.answered }
 
-module _ {w : ℕ} (config : Config) (log : Log w) (mail : AccessMessages w) (request : ℕ → MessageA w)
-    (s : State (List ℕ)) (sys' : System w) (width : IsWidth w)
-    (matched : SimulationRelation config log mail request s (system_after config log)) (c n : ℕ) (rest : List Packet)
-    (lt : c < length config.clients.items) where
+module _ {w : ℕ} {config : Config} {log : Log w} {mail : AccessMessages w} {request : ℕ → MessageA w}
+    {s : State (List ℕ)} (sys' : System w) (width : IsWidth w) (matched : SimulationRelation config log mail request s
+    (system_after config log)) (c n : ℕ) (rest : List Packet) (lt : c < length config.clients.items) where
   abbrev sys : System w
   sys = system_after config log
 
   -- less is owed than before
   abbrev pub Falls : AccessMessages w → State (List ℕ) → Type 0
-  Falls mail' s' = owed config mail' s' sys' + 1 ≤ owed config mail s (system_after config log)
+  Falls mail' s' = owed config mail' s' sys' + 1 ≤ owed config mail s sys
 
-  left_after : (mail' : AccessMessages w) (s' : State (List ℕ)) → IsKeptAfter config mail' s'
+  left_after : {mail' : AccessMessages w} {s' : State (List ℕ)} → IsKeptAfter config mail' s'
       → IsLeft (64 / w) (beats_left mail' s' (unfinished_at sys')) (answer_to mail') s'
-  left_after mail' s' kept = is-left config (is_caching config) mail' s' (unfinished_at sys') width kept.invariant
-      kept.sourced
-
-  all : AreClients config s
-  all = are-clients config log mail request s matched width
+  left_after {mail'} {s'} kept =
+      is-left config mail' (unfinished_at sys') width kept.invariant kept.sourced
 
   some_beats : 1 ≤ 64 / w
   some_beats = let wide = wide-block w width in omega (arith, wide)
 
+  -- what is known of the token that is taken
+  some_left : (ch : Channel) (k : Kind) (i : ℕ) → is_on ch k ≡ true → packets_on ch (s.link c) ≡ packet k i ∷ rest
+      → 1 ≤ beats_left mail s (unfinished_at sys) c k i
+  some_left ch k i own first = left-first ch c k i rest mail s sys matched.carried own first
+
+  it_shows : (ch : Channel) (k : Kind) (i : ℕ) → is_on ch k ≡ true → packets_on ch (s.link c) ≡ packet k i ∷ rest
+      → shows_it s c k i ≡ true
+  it_shows ch k i own first = shown-first ch c k i rest matched.invariant own first
+
+  report_first : (s.link c).c ≡ packet ProbeAck n ∷ rest
+      → (r : Report) × (((s.block n).pair c).probing ≡ ProbeAnswered r)
+  report_first first = answered_with ((s.block n).pair c).probing (it_shows Channel.C ProbeAck n refl first)
+
+  acquire_first : (s.link c).a ≡ packet Acquire n ∷ rest → s.uses c ((s.block n).source c) ≡ Acquires n
+  acquire_first first =
+      acquire_named c n matched.invariant (it_shows Channel.A Acquire n refl first)
+
+  -- the event, for all that is owed
+  abbrev taking : {k : ℕ} {ch : Channel} {pushes : ℕ → Channel → Option (Message w)} {mail' : AccessMessages w}
+      {s' : State (List ℕ)} → IsShown (is_caching config) k c ch pushes mail mail' s s' → IsReceived c ch sys sys'
+      → Taking config mail mail' s s'
+  taking {k} {ch} {pushes} {mail'} {s'} is received = record {
+    caching = is_caching config;
+    n = k;
+    moves = is.moves;
+    showing = is.showing;
+    c = c;
+    ch = ch;
+    rest = unfinished_at sys;
+    rest' = unfinished_at sys';
+    popped = popped-received c ch pushes is.moves (λ d j i. message_of mail' s' d (packet j i)) s s' sys sys' received
+        is.fits is.showing.moved;
+    size = 64 / w;
+    answer = answer_to mail;
+    all = are-clients matched width;
+  }
+
   pub probe_taken-owed : (k : Cap) → (s.link c).b ≡ packet Probe n ∷ rest → ((s.block n).pair c).probing ≡ ProbeSent k
-      → IsReceived c Channel.B (system_after config log) sys' → IsKeptAfter config mail (probe_taken c n k rest s)
+      → IsReceived c Channel.B sys sys' → IsKeptAfter config mail (probe_taken c n k rest s)
       → Falls mail (probe_taken c n k rest s)
-  probe_taken-owed k first sent received kept = probe_taken-falls config (is_caching config) (64 / w) (answer_to mail)
-      mail s (system_after config log) sys'
-      (pushes_at c (pushes_of (Some (block_message ProbeAck c n (probed_block c k (s.block n)))))) all matched.carried c
-      n rest k (probe_taken-shown c n k rest (block_message ProbeAck c n (probed_block c k (s.block n))) mail
-      matched.invariant kept.invariant first sent (probed_on_c w c n k (s.block n)) refl) received lt sent
-      (left_after mail (probe_taken c n k rest s) kept)
+  probe_taken-owed k first sent received kept = probe-falls (taking (probe_taken-shown c n k rest
+      (block_message ProbeAck c n (probed_block c k (s.block n))) mail matched.invariant kept.invariant first sent
+      (probed_on_c w c n k (s.block n)) refl) received) k lt sent (set-same n (probed_block c k (s.block n)) s.block)
+      (left_after kept) (λ d i. refl) (λ d i. refl) (acks_set c (probed_link n rest (s.link c)) s.link refl)
 
-  pub report_taken-owed : (r : Report) → (s.link c).c ≡ packet ProbeAck n ∷ rest
-      → IsReceived c Channel.C (system_after config log) sys'
+  pub report_taken-owed : (r : Report) → (s.link c).c ≡ packet ProbeAck n ∷ rest → IsReceived c Channel.C sys sys'
       → IsKeptAfter config mail (report_taken c n r rest s) → Falls mail (report_taken c n r rest s)
-  report_taken-owed r first received kept = report_taken-falls config (is_caching config) (64 / w) (answer_to mail) mail
-      s (system_after config log) sys' (λ d at. None) all matched.carried c n rest r
-      (report_taken-shown c n r rest mail matched.invariant kept.invariant first) received lt first
+  report_taken-owed r first received kept =
+      let told = report_first first in
+      report-falls (taking (report_taken-shown c n r rest mail matched.invariant kept.invariant first) received) told.0
+      r lt told.1 (some_left Channel.C ProbeAck n refl first) (set-same n (reported_block c r (s.block n)) s.block)
+      (λ d i. refl) (λ d i. refl) (acks_set c (record (s.link c) { c = rest }) s.link refl)
 
-  pub release_taken-owed : (r : Prune) → (s.link c).c ≡ packet Release n ∷ rest
-      → IsReceived c Channel.C (system_after config log) sys'
+  pub release_taken-owed : (r : Prune) → (s.link c).c ≡ packet Release n ∷ rest → IsReceived c Channel.C sys sys'
       → IsKeptAfter config mail (release_taken c n r rest s) → Falls mail (release_taken c n r rest s)
-  release_taken-owed r first received kept = release_taken-falls config (is_caching config) (64 / w) (answer_to mail)
-      mail s (system_after config log) sys'
-      (pushes_at c (pushes_of (Some (block_message ReleaseAck c n (let_block c r (s.block n)))))) all matched.carried c
-      n rest r some_beats (release_taken-shown c n r rest (block_message ReleaseAck c n (let_block c r (s.block n)))
-      mail matched.invariant kept.invariant first (let_on_d w c n r (s.block n)) refl) received first
+  release_taken-owed r first received kept =
+      let it = it_shows Channel.C Release n refl first in
+      let told = releasing_with ((s.block n).pair c).letting it in
+      release-taken-falls (taking (release_taken-shown c n r rest
+      (block_message ReleaseAck c n (let_block c r (s.block n))) mail matched.invariant kept.invariant first
+      (let_on_d w c n r (s.block n)) refl) received) ((s.block n).release_source c) told.0 r some_beats
+      (release_named c n matched.invariant it) told.1 (some_left Channel.C Release n refl first)
+      (set-same n (let_block c r (s.block n)) s.block) (λ d i. refl) (λ d i. refl)
+      (acks_set c (let_link n rest (s.link c)) s.link refl)
 
   -- `n` is the source of the access here
-  pub answer_taken-owed : (s.link c).d ≡ packet Answer n ∷ rest → IsReceived c Channel.D (system_after config log) sys'
+  pub answer_taken-owed : (s.link c).d ≡ packet Answer n ∷ rest → IsReceived c Channel.D sys sys'
       → IsKeptAfter config mail (answer_taken c n rest s) → Falls mail (answer_taken c n rest s)
-  answer_taken-owed first received kept = answer_taken-falls config (is_caching config) (64 / w) (answer_to mail) mail s
-      (system_after config log) sys' (pushes_at c (pushes_of None)) all matched.carried c n rest
-      (answer_taken-shown c n rest mail matched.invariant kept.invariant first) received first
+  answer_taken-owed first received kept =
+      answer-falls (taking (answer_taken-shown c n rest mail matched.invariant kept.invariant first) received) n
+      (answer_named c n matched.invariant (it_shows Channel.D Answer n refl first))
+      (set_at-same c n SourceFree s.uses) (some_left Channel.D Answer n refl first) refl
+      (λ d i ne. set_at-unlike c n SourceFree s.uses d i ne) (λ d i. refl)
+      (acks_set c (record (s.link c) { d = rest }) s.link refl)
 
-  pub release_ack_taken-owed : (s.link c).d ≡ packet ReleaseAck n ∷ rest
-      → IsReceived c Channel.D (system_after config log) sys'
+  pub release_ack_taken-owed : (s.link c).d ≡ packet ReleaseAck n ∷ rest → IsReceived c Channel.D sys sys'
       → IsKeptAfter config mail (release_ack_taken c n rest s) → Falls mail (release_ack_taken c n rest s)
-  release_ack_taken-owed first received kept = release_ack_taken-falls config (is_caching config) (64 / w)
-      (answer_to mail) mail s (system_after config log) sys' (pushes_at c (pushes_of None)) all matched.carried c n rest
-      (release_ack_taken-shown c n rest mail matched.invariant kept.invariant first) received first
+  release_ack_taken-owed first received kept =
+      let it = it_shows Channel.D ReleaseAck n refl first in
+      release-ack-falls (taking (release_ack_taken-shown c n rest mail matched.invariant kept.invariant first) received)
+      ((s.block n).release_source c) (release_ack_named c n matched.invariant it)
+      (set_at-same c ((s.block n).release_source c) None s.lets) (acked-is ((s.block n).pair c).letting it)
+      (set-same n (let_go_block c (s.block n)) s.block) (λ d i. refl)
+      (λ d i ne. set_at-unlike c ((s.block n).release_source c) None s.lets d i ne)
+      (acks_set c (record (s.link c) { d = rest }) s.link refl)
 
   pub grant_taken-owed : (whole d : Bool) (k : Cap) → (s.link c).d ≡ packet Grant n ∷ rest
       → (s.block n).service ≡ GrantSent c d k → ((j : Kind) (i : ℕ) → shown j i (s.block n) ≡ true
       → shown j i (taken_block c whole d k (s.block n)) ≡ true → (carries j i (s.block n) ≡ false)
-      ⊎ ((taken_block c whole d k (s.block n)).truth ≡ (s.block n).truth))
-      → IsReceived c Channel.D (system_after config log) sys'
+      ⊎ ((taken_block c whole d k (s.block n)).truth ≡ (s.block n).truth)) → IsReceived c Channel.D sys sys'
       → IsKeptAfter config mail (grant_taken c n whole d k rest s) → Falls mail (grant_taken c n whole d k rest s)
-  grant_taken-owed whole d k first sent bytes received kept = grant_taken-falls config (is_caching config) (64 / w)
-      (answer_to mail) mail s (system_after config log) sys'
-      (pushes_at c (pushes_of (Some (block_message GrantAck c n (taken_block c whole d k (s.block n)))))) all
-      matched.carried c n rest whole d k
-      (grant_taken-shown c n whole d k rest (block_message GrantAck c n (taken_block c whole d k (s.block n))) mail
-      matched.invariant kept.invariant first sent bytes (taken_on_e w c n whole d k (s.block n)) refl) received first
-      sent
+  grant_taken-owed whole d k first given bytes received kept =
+      let elsewhere : (e : ℕ) → (e ≡ c → ⊥) → length (set c (taken_link n rest (s.link c)) s.link e).e
+      ≤ length (s.link e).e = λ e ne. acks_as (set c (taken_link n rest (s.link c)) s.link e) (s.link e)
+      (ap (λ (l : Link). l.e) (set-other c e (taken_link n rest (s.link c)) s.link ne)) in
+      grant-taken-falls (taking (grant_taken-shown c n whole d k rest
+      (block_message GrantAck c n (taken_block c whole d k (s.block n))) mail matched.invariant kept.invariant first
+      given bytes (taken_on_e w c n whole d k (s.block n)) refl) received) d d whole k k given
+      (grant_named c n matched.invariant (it_shows Channel.D Grant n refl first))
+      (set_at-same c ((s.block n).source c) SourceFree s.uses) (some_left Channel.D Grant n refl first)
+      (set-same n (taken_block c whole d k (s.block n)) s.block)
+      (λ e i ne. set_at-unlike c ((s.block n).source c) SourceFree s.uses e i ne) (λ e i. refl) elsewhere more
+    where
+      more : length (set c (taken_link n rest (s.link c)) s.link c).e ≡ length (s.link c).e + 1
+      more =
+          let same = ap (λ (l : Link). length l.e) (set-same c (taken_link n rest (s.link c)) s.link) in
+          let behind = length-append (s.link c).e (packet GrantAck n ∷ []) in
+          omega (arith, same, behind)
 
   pub grant_ack_taken-owed : (s.link c).e ≡ packet GrantAck n ∷ rest → (s.block n).service ≡ GrantTaken c
-      → IsReceived c Channel.E (system_after config log) sys'
-      → IsKeptAfter config mail (grant_ack_taken c n rest s) → Falls mail (grant_ack_taken c n rest s)
-  grant_ack_taken-owed first sent received kept = grant_ack_taken-falls config (is_caching config) (64 / w)
-      (answer_to mail) mail s (system_after config log) sys' (λ d at. None) all matched.carried c n rest c
-      (grant_ack_taken-shown c n rest mail matched.invariant kept.invariant first sent) received lt first sent
+      → IsReceived c Channel.E sys sys' → IsKeptAfter config mail (grant_ack_taken c n rest s)
+      → Falls mail (grant_ack_taken c n rest s)
+  grant_ack_taken-owed first given received kept =
+      grant-ack-falls (taking (grant_ack_taken-shown c n rest mail matched.invariant kept.invariant first given)
+      received) c lt given (set-same n (freed_block (s.block n)) s.block) (λ d i. refl) (λ d i. refl)
+      (λ d. fewer d (cases_eq d c)) less
+    where
+      less : length (set c (record (s.link c) { e = rest }) s.link c).e + 1 ≤ length (s.link c).e
+      less =
+          let same = ap (λ (l : Link). length l.e) (set-same c (record (s.link c) { e = rest }) s.link) in
+          let before = ap length first in
+          omega (arith, same, before)
+
+      fewer : (d : ℕ) → (d ≡ c) ⊎ (d ≡ c → ⊥) → length (set c (record (s.link c) { e = rest }) s.link d).e ≤ length
+          (s.link d).e
+      fewer d (inl e) = rw e (let l = less in omega (arith, l))
+      fewer d (inr ne) = acks_as (set c (record (s.link c) { e = rest }) s.link d) (s.link d)
+          (ap (λ (l : Link). l.e) (set-other c d (record (s.link c) { e = rest }) s.link ne))
 
   pub acquire_granted-owed : (tracker : ℕ) (d : Bool) (k : Cap) → (s.link c).a ≡ packet Acquire n ∷ rest
-      → (s.block n).service ≡ Free → IsReceived c Channel.A (system_after config log) sys'
+      → (s.block n).service ≡ Free → IsReceived c Channel.A sys sys'
       → IsKeptAfter config mail (acquire_granted c n tracker d k rest s)
       → Falls mail (acquire_granted c n tracker d k rest s)
-  acquire_granted-owed tracker d k first free received kept = acquire_granted-falls config (is_caching config) (64 / w)
-      (answer_to mail) mail s (system_after config log) sys'
-      (pushes_at c (pushes_of (Some (block_message Grant c n (granted_at_once c tracker d k (s.block n)))))) all
-      matched.carried c n rest tracker d k
-      (acquire_granted-shown c n tracker d k rest (block_message Grant c n (granted_at_once c tracker d k (s.block n)))
-      mail matched.invariant kept.invariant first free (once_on_d w c n tracker d k (s.block n)) refl) received first
-      free (left_after mail (acquire_granted c n tracker d k rest s) kept)
+  acquire_granted-owed tracker d k first free received kept =
+      let new = set-same n (granted_at_once c tracker d k (s.block n)) s.block in
+      let it = taking (acquire_granted-shown c n tracker d k rest
+      (block_message Grant c n (granted_at_once c tracker d k (s.block n))) mail matched.invariant kept.invariant first
+      free (once_on_d w c n tracker d k (s.block n)) refl) received in
+      acquire-granted-falls it free (granted-letting it tracker d k new) ((s.block n).source c) d k
+      (ap (λ (b : Block (List ℕ)). b.service) new) (acquire_first first) (left_after kept) (λ e i. refl) (λ e i. refl)
+      (acks_set c (answered_link (packet Grant n) rest (s.link c)) s.link refl)
 
   pub acquire_served-owed : (source tracker : ℕ) (k : Cap) → length config.clients.items ≤ 16
-      → (s.link c).a ≡ packet Acquire n ∷ rest
-      → (s.block n).service ≡ Free → IsReceived c Channel.A (system_after config log) sys'
+      → (s.link c).a ≡ packet Acquire n ∷ rest → (s.block n).service ≡ Free → IsReceived c Channel.A sys sys'
       → IsKeptAfter config mail (acquire_served c n source tracker k rest s)
       → Falls mail (acquire_served c n source tracker k rest s)
   acquire_served-owed source tracker k sixteen first free received kept =
-      acquire_served-falls config (is_caching config) (64 / w) (answer_to mail) mail s (system_after config log) sys'
-      (probe_pushes n k (λ d. is_probed c true k ((s.block n).pair d).recorded d)) all matched.carried c n rest source
-      tracker k some_beats (narrow-block w width) sixteen (acquire_served-shown c n source tracker k rest mail
-      matched.invariant kept.invariant first free) received first free
-      (left_after mail (acquire_served c n source tracker k rest s) kept)
+      let new = set-same n (served_block c true source tracker k (s.block n)) s.block in
+      let it = taking (acquire_served-shown c n source tracker k rest mail matched.invariant kept.invariant first free)
+      received in
+      acquire-served-falls it free (served-letting it true source tracker k new) ((s.block n).source c) source k
+      some_beats (narrow-block w width) sixteen (ap (λ (b : Block (List ℕ)). b.service) new) (acquire_first first)
+      (some_left Channel.A Acquire n refl first) (left_after kept) (λ d i. refl) (λ d i. refl)
+      (acks_served c true n k rest (s.block n) s.link)
 
   pub access_served-owed : (source tracker : ℕ) (k : Cap) → length config.clients.items ≤ 16
-      → (s.link c).a ≡ packet Request source ∷ rest
-      → (s.block n).service ≡ Free → IsReceived c Channel.A (system_after config log) sys'
+      → (s.link c).a ≡ packet Request source ∷ rest → (s.block n).service ≡ Free → IsReceived c Channel.A sys sys'
       → IsKeptAfter config mail (access_served c n source tracker k rest s)
       → Falls mail (access_served c n source tracker k rest s)
   access_served-owed source tracker k sixteen first free received kept =
-      access_served-falls config (is_caching config) (64 / w) (answer_to mail) mail s (system_after config log) sys'
-      (probe_pushes n k (λ d. is_probed c false k ((s.block n).pair d).recorded d)) all matched.carried c n rest source
-      tracker k some_beats (narrow-block w width) sixteen (access_served-shown c n source tracker k rest mail
-      matched.invariant kept.invariant first free) received first free
-      (left_after mail (access_served c n source tracker k rest s) kept)
+      let new = set-same n (served_block c false source tracker k (s.block n)) s.block in
+      let it = taking (access_served-shown c n source tracker k rest mail matched.invariant kept.invariant first free)
+      received in
+      serving-falls it free (served-letting it false source tracker k new) source source k some_beats
+      (narrow-block w width) sixteen (ap (λ (b : Block (List ℕ)). b.service) new)
+      (request_named c source matched.invariant (it_shows Channel.A Request source refl first))
+      (set_at-same c source (InService n) s.uses) (some_left Channel.A Request source refl first) (left_after kept)
+      (λ d i ne. set_at-unlike c source (InService n) s.uses d i ne) (λ d i. refl)
+      (acks_served c false n k rest (s.block n) s.link)
 
   pub report_grants-owed : (q source : ℕ) (k gift : Cap) (r : Report) (d : Bool)
       → (s.link c).c ≡ packet ProbeAck n ∷ rest → (s.block n).service ≡ Waits q true source k → (c ≡ q → ⊥)
-      → IsReceived c Channel.C (system_after config log) sys'
-      → IsKeptAfter config mail (report_grants c q n r d gift rest s) → Falls mail (report_grants c q n r d gift rest s)
+      → IsReceived c Channel.C sys sys' → IsKeptAfter config mail (report_grants c q n r d gift rest s)
+      → Falls mail (report_grants c q n r d gift rest s)
   report_grants-owed q source k gift r d first waits apart received kept =
-      report_grants-falls config (is_caching config) (64 / w) (answer_to mail) mail s (system_after config log) sys'
-      (pushes_at q (pushes_of (Some (block_message Grant q n (granted_block c q r d gift (s.block n)))))) all
-      matched.carried c n rest q source k gift r d
-      (report_grants-shown c q n source r d k gift rest
+      let told = report_first first in
+      let who : IsAsking n q true source s = asking n q true source k matched.invariant waits in
+      granting-falls (taking (report_grants-shown c q n source r d k gift rest
       (block_message Grant q n (granted_block c q r d gift (s.block n))) mail matched.invariant kept.invariant first
-      waits apart (granted_on_d w c q n r d gift (s.block n)) refl) received lt first waits
-      (left_after mail (report_grants c q n r d gift rest s) kept)
+      waits apart (granted_on_d w c q n r d gift (s.block n)) refl) received) q who.at source k gift told.0 r d lt
+      told.1 (some_left Channel.C ProbeAck n refl first) waits who.used (left_after kept)
+      (set-same n (granted_block c q r d gift (s.block n)) s.block) (λ e i. refl) (λ e i. refl)
+      (acks_granted c q n rest s.link)
 
   -- ---- the answer to an access is handed out
 
   abbrev with_reply : ℕ → ℕ → Message w → AccessMessages w
   with_reply q source m = record { request = mail.request; answer = set_at q source m mail.answer }
 
+  reply_left : {q source : ℕ} (m : Message w) {s' : State (List ℕ)} → IsKeptAfter config (with_reply q source m) s'
+      → s'.uses q source ≡ Replied
+      → beats_left (with_reply q source m) s' (unfinished_at sys') q Answer source ≤ answer_to mail q source
+  reply_left {q} {source} m {s'} kept replied = answer-left config (with_reply q source m)
+      (unfinished_at sys') width kept.invariant kept.sourced q source (kept.answered q source) replied
+
   pub access_answered-owed : (source : ℕ) (f : List ℕ → List ℕ) (m : Message w)
       → (s.link c).a ≡ packet Request source ∷ rest → s.uses c source ≡ Asked
       → ((k : Kind) (d : ℕ) → (carries k d (s.block n) ≡ false) ⊎ (f (s.block n).truth ≡ (s.block n).truth))
-      → channel_of_message m ≡ Channel.D → IsReceived c Channel.A (system_after config log) sys'
-      → IsKeptAfter config (record { request = mail.request; answer = set_at c source m mail.answer })
-      (access_answered c n source f rest s)
-      → Falls (record { request = mail.request; answer = set_at c source m mail.answer })
-      (access_answered c n source f rest s)
+      → channel_of_message m ≡ Channel.D → IsReceived c Channel.A sys sys'
+      → IsKeptAfter config (with_reply c source m) (access_answered c n source f rest s)
+      → Falls (with_reply c source m) (access_answered c n source f rest s)
   access_answered-owed source f m first used bytes chan received kept =
-      access_answered-falls config (is_caching config) (64 / w) (answer_to mail) mail s (system_after config log) sys'
-      (pushes_at c (pushes_of (Some m))) all matched.carried c n rest (with_reply c source m) source f
-      (access_answered-shown c n source f rest m mail matched.invariant kept.invariant first used bytes chan) received
-      used (answer-left config (is_caching config) (with_reply c source m) (access_answered c n source f rest s)
-      (unfinished_at sys') width kept.invariant kept.sourced c source (kept.answered c source)
-      (set_at-same c source Replied s.uses))
+      answered-falls (taking (access_answered-shown c n source f rest m mail matched.invariant kept.invariant first used
+      bytes chan) received) source f used (set_at-same c source Replied s.uses)
+      (reply_left m kept (set_at-same c source Replied s.uses)) (set-same n (performed_block f (s.block n)) s.block)
+      (λ d i ne. set_at-unlike c source Replied s.uses d i ne) (λ d i. refl)
+      (acks_set c (answered_link (packet Answer source) rest (s.link c)) s.link refl)
 
   pub report_answers-owed : (q source : ℕ) (r : Report) (k : Cap) (f : List ℕ → List ℕ) (m : Message w)
       → (s.link c).c ≡ packet ProbeAck n ∷ rest → (s.block n).service ≡ Waits q false source k
       → is_replied (s.uses q source) ≡ false → ((j : Kind) (i : ℕ) → shown j i (s.block n) ≡ true
       → shown j i (ended_block c r f (s.block n)) ≡ true → (carries j i (s.block n) ≡ false)
-      ⊎ (f (s.block n).truth ≡ (s.block n).truth)) → channel_of_message m ≡ Channel.D
-      → IsReceived c Channel.C (system_after config log) sys'
-      → IsKeptAfter config (record { request = mail.request; answer = set_at q source m mail.answer })
-      (report_answers c q n source r f rest s)
-      → Falls (record { request = mail.request; answer = set_at q source m mail.answer })
-      (report_answers c q n source r f rest s)
+      ⊎ (f (s.block n).truth ≡ (s.block n).truth)) → channel_of_message m ≡ Channel.D → IsReceived c Channel.C sys sys'
+      → IsKeptAfter config (with_reply q source m) (report_answers c q n source r f rest s)
+      → Falls (with_reply q source m) (report_answers c q n source r f rest s)
   report_answers-owed q source r k f m first waits used bytes chan received kept =
-      report_answers-falls config (is_caching config) (64 / w) (answer_to mail) mail s (system_after config log) sys'
-      (pushes_at q (pushes_of (Some m))) all matched.carried c n rest (with_reply q source m) q source k r f
-      (report_answers-shown c q n source r k f rest m mail matched.invariant kept.invariant first waits used bytes chan)
-      received lt first waits (answer-left config (is_caching config) (with_reply q source m)
-      (report_answers c q n source r f rest s) (unfinished_at sys') width kept.invariant kept.sourced q source
-      (kept.answered q source) (set_at-same q source Replied s.uses))
+      let told = report_first first in
+      answering-falls (taking (report_answers-shown c q n source r k f rest m mail matched.invariant kept.invariant
+      first waits used bytes chan) received) q source k told.0 r f lt told.1
+      (some_left Channel.C ProbeAck n refl first) waits
+      (serving-use n q source k matched.invariant waits)
+      (reply_left m kept (set_at-same q source Replied s.uses)) (set-same n (ended_block c r f (s.block n)) s.block)
+      (set_at-same q source Replied s.uses) (λ d i ne. set_at-unlike q source Replied s.uses d i ne) (λ d i. refl)
+      (acks_ended c q (packet Answer source) rest s.link)

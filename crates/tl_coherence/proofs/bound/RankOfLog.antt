@@ -6,10 +6,10 @@ use Rattle.std.proofs.Common.{◌≡◌, ℕ, ◌+◌, ◌*◌, ◌/◌, ◌<◌
 use Rattle.std.proofs.Common.{inl, inr}
 use Rattle.std.{specs.Prelude.◌==◌, specs.Prelude.length, proofs.lemmas.Bool.cases_eq}
 use Rattle.tl_coherence.specs.bound.Rank.{open_requests, open_releases}
-use Rattle.tl_coherence.proofs.{bound.Beginnings.IsBegun, bound.Beginnings.beat-falls}
-use Rattle.tl_coherence.proofs.{queues.FirstToken.first-token, protocol.BeatsRemaining.beats_left}
-use Rattle.tl_coherence.proofs.{simulation.Popped.unfinished_at, simulation.Popped.are-clients}
-use Rattle.tl_coherence.proofs.{queues.Tokens.same_number, rank.Weights.IsLeft, rank.Weights.potential-few}
+use Rattle.tl_coherence.proofs.{bound.Beginnings.IsBegun, bound.Beginnings.beat-falls, queues.FirstToken.first-token}
+use Rattle.tl_coherence.proofs.{protocol.BeatsRemaining.beats_left, simulation.Popped.unfinished_at}
+use Rattle.tl_coherence.proofs.{simulation.Popped.are-clients, queues.Tokens.same_number, rank.Weights.IsLeft}
+use Rattle.tl_coherence.proofs.{rank.Weights.potential-few}
 use Rattle.tl_coherence.proofs.rank.BeatsRemainingSums.{answer_to, is-left, wide-block}
 
 abbrev pub owed : {w : ℕ} → Config → AccessMessages w → State (List ℕ) → System w → ℕ
@@ -23,7 +23,7 @@ narrow-block w (inr (inr e)) = rw e (omega arith)
 pub left-matched : {w : ℕ} {config : Config} {log : Log w} {mail : AccessMessages w} {request : ℕ → MessageA w}
     {s : State (List ℕ)} {sys : System w} → IsWidth w → SimulationRelation config log mail request s sys
     → IsLeft (64 / w) (beats_left mail s (unfinished_at sys)) (answer_to mail) s
-left-matched {config} {mail} {s} {sys} width matched = is-left config (is_caching config) mail s (unfinished_at sys)
+left-matched {config} {mail} {s} {sys} width matched = is-left config mail (unfinished_at sys)
     width matched.invariant matched.sourced
 
 -- what is owed is at most a block's beats and 33 for each open request, a block's beats and one for each open Release
@@ -32,7 +32,7 @@ pub owed-few : {w : ℕ} {config : Config} {log : Log w} {mail : AccessMessages 
     → SimulationRelation config log mail request s sys → length config.clients.items ≤ 16
     → owed config mail s sys ≤ (64 / w + 33) * open_requests config s + (64 / w + 1) * open_releases config s
 owed-few {w} {config} {log} {mail} {request} {s} {sys} width matched sixteen =
-    potential-few (is_caching config) s matched.invariant (64 / w) (beats_left mail s (unfinished_at sys))
+    potential-few matched.invariant (64 / w) (beats_left mail s (unfinished_at sys))
     (answer_to mail) (left-matched width matched) (let wide = wide-block w width in omega (arith, wide))
     (narrow-block w width) (length config.clients.items) sixteen config refl
 
@@ -59,4 +59,4 @@ owed-begun {w} {config} {log} {mail} {request} {s} sys' {ch} {c} {x} queue width
     (not_last (completes x (unfinished_at (system_after config log) c ch)) first.next.k
     (beats_of (message_of_kind first.kind mail s c first.number)) first.next.completes_is part first.next.within) begun
     matched.invariant
-    (are-clients config log mail request s matched width) lt
+    (are-clients matched width) lt

@@ -10,7 +10,6 @@ use Rattle.tl_coherence.specs.refinement.AbstractStep.{with_state}
 use Rattle.tl_coherence.specs.{protocol.Invariant.IsWell, protocol.PhaseSteps.is_granted_data}
 use Rattle.tl_coherence.specs.{refinement.PacketMessages.report_told, refinement.SourceRelation.IsFor}
 use Rattle.tl_coherence.specs.protocol.Phase.{AcquirePhase, NoAcquire, AcquireOpen}
-use Rattle.tl_coherence.specs.protocol.Protocol as protocol
 use Rattle.tl_coherence.proofs.{deliveries.LandedReports.ended-bytes, deliveries.CarriedRequests.answer_on_d}
 use Rattle.tl_coherence.proofs.{manager.Choices.plain-past, bound.EventDecreases.shown-first}
 use Rattle.tl_coherence.proofs.{protocol.RequestsKept.settled_all, manager.ManagerAfter.others_probed}
@@ -20,9 +19,10 @@ use Rattle.tl_coherence.proofs.{queues.Tokens.set-same, rank.RankParts.serving-u
 use Rattle.tl_coherence.proofs.queues.Facts.{answered_other, is_other, own_wants}
 use Rattle.tl_coherence.proofs.bound.RankAfter.{IsKeptAfter, report_taken-owed, report_answers-owed, report_grants-owed}
 use Rattle.tl_coherence.proofs.protocol.BothParts.{answered-is, taken-unseen, granted-unseen}
+use Rattle.tl_coherence.specs.protocol.Protocol as protocol
 
-pub report-owed : {w : ℕ} (config : Config) (log : Log w) (h : AbstractState w) (sys' : System w) (tracker c n : ℕ)
-    (rest : List Packet) → IsWidth w
+pub report-owed : {w : ℕ} {config : Config} {log : Log w} (h : AbstractState w) (sys' : System w) (tracker : ℕ)
+    {c n : ℕ} {rest : List Packet} → IsWidth w
     → SimulationRelation config log h.mail h.request h.state (system_after config log) → c < length config.clients.items
     → (h.state.link c).c ≡ packet ProbeAck n ∷ rest → IsReceived c Channel.C (system_after config log) sys'
     → IsKeptAfter config (kind_taken config tracker c ProbeAck n rest h).mail
@@ -30,7 +30,7 @@ pub report-owed : {w : ℕ} (config : Config) (log : Log w) (h : AbstractState w
     → owed config (kind_taken config tracker c ProbeAck n rest h).mail
     (kind_taken config tracker c ProbeAck n rest h).state sys' + 1 ≤ owed config h.mail h.state
     (system_after config log)
-report-owed {w} config log h sys' tracker c n rest width matched lt first received kept =
+report-owed {w} {config} {log} h sys' tracker {c} {n} {rest} width matched lt first received kept =
     others (some_below clients (others_probed c b.pair)) refl kept
   where
     b : Block (List ℕ)
@@ -52,8 +52,7 @@ report-owed {w} config log h sys' tracker c n rest width matched lt first receiv
     Kept z = IsKeptAfter config z.mail z.state
 
     answered : (b.pair c).probing ≡ ProbeAnswered r
-    answered = answered-is (b.pair c).probing (shown-first (is_caching config) Channel.C c ProbeAck n rest h.state inv
-        refl first)
+    answered = answered-is (b.pair c).probing (shown-first Channel.C c ProbeAck n rest inv refl first)
 
     seen : is_other (view b.service c) ≡ true
     seen = answered_other r (b.pair c) (view b.service c) ((inv.blocks n).phases c) answered
@@ -68,14 +67,13 @@ report-owed {w} config log h sys' tracker c n rest width matched lt first receiv
         let v : MessageA w = h.request n in
         let said : Message w = answers v (protocol.written r b.truth b.memory) in
         let for : IsFor (Waits q false source low) n v = rw f at (matched.served.requests n) in
-        report_answers-owed config log h.mail h.request h.state sys' width matched c n rest lt q source r low
+        report_answers-owed sys' width matched c n rest lt q source r low
         (performs v) said first f
-        (rw (serving-use (is_caching config) h.state n q source low inv f) refl)
-        (ended-bytes (is_caching config) c q source r low v b (inv.blocks n)
+        (rw (serving-use n q source low inv f) refl)
+        (ended-bytes c q source r low v (inv.blocks n)
         (subst (IsWell (is_caching config)) (set-same n (ended_block c r (performs v) b) h.state.block)
-        (is.invariant.blocks n)) f answered
-        (settled_all clients (is_caching config) c b.pair (plain-past config) (inv.blocks n).outside alone) for.0 for.3
-        (matched.sized n).truth)
+        (is.invariant.blocks n)) f answered (settled_all clients (is_caching config) c b.pair (plain-past config)
+        (inv.blocks n).outside alone) for.0 for.3 (matched.sized n).truth)
         (answer_on_d v _) received is
     last alone (Waits q true source low) f is = go (b.pair q).acquiring refl is
       where
@@ -85,15 +83,13 @@ report-owed {w} config log h sys' tracker c n rest width matched lt first receiv
         go NoAcquire g then_kept =
             absurd (let wants = own_wants (b.pair q) (view b.service q) ((inv.blocks n).phases q)
             (rw (f, same_number q) refl) in let none : false ≡ true = rw g at wants in cc)
-        go (AcquireOpen whole grow) g then_kept = report_grants-owed config log h.mail h.request h.state sys' width
-            matched c n rest lt q source low (gift_after config c n r whole grow h) r
-            (is_granted_data whole grow (b.pair q).recorded) first f (seen_apart q source low c (rw f at seen)) received
-            then_kept
+        go (AcquireOpen whole grow) g then_kept = report_grants-owed sys' width matched c n rest lt q source low
+            (gift_after config c n r whole grow h) r (is_granted_data whole grow (b.pair q).recorded) first f
+            (seen_apart q source low c (rw f at seen)) received then_kept
 
     others : (y : Bool) → some_below clients (others_probed c b.pair) ≡ y
         → Kept (if y then with_state (report_taken c n r rest h.state) h else last_taken clients config.profile c n r
         b.service rest h) → Falls (if y then with_state (report_taken c n r rest h.state) h else last_taken clients
         config.profile c n r b.service rest h)
-    others true f is = report_taken-owed config log h.mail h.request h.state sys' width matched c n rest lt r first
-        received is
+    others true f is = report_taken-owed sys' width matched c n rest lt r first received is
     others false f is = last f b.service refl is

@@ -1,8 +1,8 @@
 -- What is owed in a world falls as the last beat of an access is taken.
 use Rattle.tl_coherence.proofs.bound.Imports.{IsWidth, Message, MessageA, Config, Cap, AbstractState, kind_taken, Log}
 use Rattle.tl_coherence.proofs.bound.Imports.{system_after, Free, Asked, Block, packet, System, Request, Packet}
-use Rattle.tl_coherence.proofs.bound.Imports.{SimulationRelation, is_caching, Channel}
-use Rattle.std.proofs.Common.{◌≡◌, ℕ, ◌+◌, ◌<◌, ◌≤◌, Bool, true, false, List, ◌∷◌, refl, sym, subst}
+use Rattle.tl_coherence.proofs.bound.Imports.{SimulationRelation, Channel}
+use Rattle.std.proofs.Common.{◌≡◌, ℕ, ◌+◌, ◌<◌, ◌≤◌, Bool, true, false, List, ◌∷◌, refl, subst}
 use Rattle.std.specs.Prelude.{Option, Some, None, length}
 use Rattle.tl_rules.specs.statement.Effect.{answer_of, effect}
 use Rattle.tl_rules.specs.statement.History.{is_acquire, block_at}
@@ -14,8 +14,8 @@ use Rattle.tl_coherence.proofs.{bound.RankOfLog.owed, simulation.Popped.IsReceiv
 use Rattle.tl_coherence.proofs.deliveries.CarriedRequests.{unread-bytes, answer_on_d}
 use Rattle.tl_coherence.proofs.bound.RankAfter.{IsKeptAfter, access_answered-owed, access_served-owed}
 
-pub request-owed : {w : ℕ} (config : Config) (log : Log w) (h : AbstractState w) (sys' : System w)
-    (tracker c source : ℕ) (rest : List Packet) (m : MessageA w) → IsWidth w
+pub request-owed : {w : ℕ} {config : Config} {log : Log w} (h : AbstractState w) (sys' : System w) (tracker : ℕ)
+    {c source : ℕ} {rest : List Packet} (m : MessageA w) → IsWidth w
     → SimulationRelation config log h.mail h.request h.state (system_after config log) → c < length config.clients.items
     → length config.clients.items ≤ 16 → (h.state.link c).a ≡ packet Request source ∷ rest
     → h.mail.request c source ≡ Message.A m → is_acquire m.opcode ≡ false → (h.state.block (block_at m.address)).service
@@ -25,8 +25,9 @@ pub request-owed : {w : ℕ} (config : Config) (log : Log w) (h : AbstractState 
     → owed config (kind_taken config tracker c Request source rest h).mail
     (kind_taken config tracker c Request source rest h).state sys' + 1 ≤ owed config h.mail h.state
     (system_after config log)
-request-owed {w} config log h sys' tracker c source rest m width matched lt sixteen first is_it access free received
-    kept = rw is_it (go (probes_some clients c false (cap_probed m.opcode m.param) b.pair) (cap_probed m.opcode m.param)
+request-owed {w} {config} {log} h sys' tracker {c} {source} {rest} m width matched lt sixteen first is_it access
+    free received kept = rw is_it (go (probes_some clients c false (cap_probed m.opcode m.param) b.pair)
+    (cap_probed m.opcode m.param)
     refl refl (subst (λ (i : Message w). Kept (request_taken clients c source i tracker rest h)) is_it kept))
   where
     n : ℕ
@@ -45,21 +46,20 @@ request-owed {w} config log h sys' tracker c source rest m width matched lt sixt
     Kept z = IsKeptAfter config z.mail z.state
 
     used : h.state.uses c source ≡ Asked
-    used = request_named (is_caching config) h.state c source matched.invariant
-        (shown-first (is_caching config) Channel.A c Request source rest h.state matched.invariant refl first)
+    used = request_named c source matched.invariant
+        (shown-first Channel.A c Request source rest matched.invariant refl first)
 
     answered : probes_some clients c false (cap_probed m.opcode m.param) b.pair ≡ false
         → Kept (access_taken c source m tracker false None rest h)
         → Falls (access_taken c source m tracker false None rest h)
-    answered none is = access_answered-owed config log h.mail h.request h.state sys' width matched c n rest lt source
-        (performs m) (answers m b.memory) first used
-        (unread-bytes config log h.mail h.request h.state (system_after config log) c n m matched access none)
+    answered none is = access_answered-owed sys' width matched c n rest lt source (performs m) (answers m b.memory)
+        first used (unread-bytes c n m matched access none)
         (answer_on_d m (answer_of (Message.A m) (effect (Message.A m) (bytes_at n b.memory)).1)) received is
 
     go : (p : Bool) (o : Option Cap) → probes_some clients c false (cap_probed m.opcode m.param) b.pair ≡ p
         → cap_probed m.opcode m.param ≡ o
         → Kept (access_taken c source m tracker p o rest h) → Falls (access_taken c source m tracker p o rest h)
     go true None f g is = absurd (let no : false ≡ true = rw g at f in cc)
-    go true (Some j) f g is = access_served-owed config log h.mail h.request h.state sys' width matched c n rest lt
+    go true (Some j) f g is = access_served-owed sys' width matched c n rest lt
         source tracker j sixteen first free received is
     go false o f g is = answered f is

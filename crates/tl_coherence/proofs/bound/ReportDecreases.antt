@@ -1,11 +1,12 @@
 -- What is owed falls as a Probe is taken, and as a report is taken: with others missing, or the last one.
-use Rattle.tl_coherence.proofs.bound.Imports.{Beat, Channel, Config, Cap, Report, Perm, IsInvariant, Move, ClientBlock}
-use Rattle.tl_coherence.proofs.bound.Imports.{Own, Granting, ProbePhase, NoProbe, ProbeSent, ProbeAnswered, is_unprobed}
-use Rattle.tl_coherence.proofs.bound.Imports.{Left, probing_weight, pair_weight, probes_weight, acquire_weight}
-use Rattle.tl_coherence.proofs.bound.Imports.{letting_weight, rank, Service, Free, Waits, GrantSent, GrantTaken, Block}
-use Rattle.tl_coherence.proofs.bound.Imports.{State, SourceFree, InService, Replied, Acquires, view, is_unserved}
-use Rattle.tl_coherence.proofs.bound.Imports.{probed_block, ended_block, granted_block, AccessMessages, ProbeAck}
-use Rattle.tl_coherence.proofs.bound.Imports.{Acquire, Grant, Release, Answer, set}
+use Rattle.tl_coherence.proofs.rank.Frames.{Taking, Falls, AreAsBefore, AreNoMore, AreElsewhere, IsBlockNoMore}
+use Rattle.tl_coherence.proofs.rank.Frames.{let-stays, unserved-stays}
+use Rattle.tl_coherence.proofs.bound.Imports.{Config, Cap, Report, Perm, IsInvariant, ClientBlock, Own, Granting}
+use Rattle.tl_coherence.proofs.bound.Imports.{ProbePhase, NoProbe, ProbeSent, ProbeAnswered, is_unprobed, Left}
+use Rattle.tl_coherence.proofs.bound.Imports.{probing_weight, pair_weight, probes_weight, acquire_weight, Service, Free}
+use Rattle.tl_coherence.proofs.bound.Imports.{Waits, GrantSent, GrantTaken, Block, State, SourceFree, InService}
+use Rattle.tl_coherence.proofs.bound.Imports.{Replied, Acquires, view, is_unserved, probed_block, ended_block}
+use Rattle.tl_coherence.proofs.bound.Imports.{granted_block, AccessMessages, ProbeAck, Acquire, Grant, Answer, set}
 use Rattle.std.proofs.Common.{◌≡◌, ℕ, zero, suc, ◌+◌, ◌<◌, ◌≤◌, Bool, true, false, List, refl, sym, ◌∙◌, ap, arith, ◌⊎◌}
 use Rattle.std.proofs.Common.{inl, inr}
 use Rattle.std.specs.Prelude.{if◌then◌else◌, length}
@@ -15,10 +16,8 @@ use Rattle.tl_rules.specs.statement.Conformance.{same_perm}
 use Rattle.tl_coherence.specs.{protocol.Invariant.serves_of, protocol.Invariant.is_serving, bound.Rank.total}
 use Rattle.tl_coherence.specs.{protocol.Protocol.reported_block}
 use Rattle.tl_coherence.specs.protocol.PhaseSteps.{after_probe, after_report, after_grant_sent}
-use Rattle.tl_coherence.proofs.{queues.Channels.IsShowing, protocol.BeatsRemaining.IsPopped}
 use Rattle.tl_coherence.proofs.{protocol.BeatsRemaining.beats_left, rank.Weights.IsLeft}
-use Rattle.tl_coherence.proofs.rank.Frames.{IsBlockNoMore, let-stays, unserved-stays}
-use Rattle.tl_coherence.proofs.rank.RankParts.{AreClients, pair-falls, request-falls}
+use Rattle.tl_coherence.proofs.rank.RankParts.{pair-falls, request-falls}
 use Rattle.tl_coherence.proofs.queues.Tokens.{same_number, set-same, set-other, set-part}
 
 -- ---- one client's pair
@@ -71,10 +70,10 @@ nobody-serving {caching} {s} n d i inv none e = go (s.block n).service none (ser
     go (GrantSent q b k) f h = cc
     go (GrantTaken q) f h = cc
 
-module _ {w : ℕ} (config : Config) (caching : ℕ → Bool) (n : ℕ) (moves : ℕ → Channel → Move)
-    (mail mail' : AccessMessages w) (s s' : State (List ℕ)) (showing : IsShowing caching n moves mail mail' s s')
-    (c : ℕ) (ch : Channel) (rest rest' : ℕ → Channel → List (Beat w)) (popped : IsPopped c ch moves rest rest' s s')
-    (size : ℕ) (answer : ℕ → ℕ → ℕ) (all : AreClients config s) where
+module _ {w : ℕ} {config : Config} {mail mail' : AccessMessages w} {s s' : State (List ℕ)}
+    (taking : Taking config mail mail' s s') where
+  open taking use {caching, n, moves, showing, c, ch, rest, rest', popped, size, answer, all}
+
   abbrev left : Left
   left = beats_left mail s rest
 
@@ -85,7 +84,7 @@ module _ {w : ℕ} (config : Config) (caching : ℕ → Bool) (n : ℕ) (moves :
   number = length config.clients.items
 
   -- a part of pairs that an event leaves alone
-  kept_at : {A : Type 0} (part : ClientBlock → A) (p : ClientBlock) → part p ≡ part ((s.block n).pair c)
+  pub kept_at : {A : Type 0} (part : ClientBlock → A) (p : ClientBlock) → part p ≡ part ((s.block n).pair c)
       → (s'.block n).pair ≡ set c p (s.block n).pair → (d : ℕ) → part ((s'.block n).pair d) ≡ part ((s.block n).pair d)
   kept_at part p e new d = ap (λ (f : ℕ → ClientBlock). part (f d)) new ∙ set-part part c p (s.block n).pair e d
 
@@ -97,13 +96,12 @@ module _ {w : ℕ} (config : Config) (caching : ℕ → Bool) (n : ℕ) (moves :
   own_at p new = ap (λ (f : ℕ → ClientBlock). f c) new ∙ set-same c p (s.block n).pair
 
   pub probe-falls : (k : Cap) → c < number → ((s.block n).pair c).probing ≡ ProbeSent k
-      → s'.block n ≡ probed_block c k (s.block n) → IsLeft size left' answer s' → ((d i : ℕ) → s'.uses d i ≡ s.uses d i)
-      → ((d i : ℕ) → s'.lets d i ≡ s.lets d i) → ((d : ℕ) → length (s'.link d).e ≤ length (s.link d).e)
-      → rank config size left' answer s' + 1 ≤ rank config size left answer s
+      → s'.block n ≡ probed_block c k (s.block n) → IsLeft size left' answer s' → AreAsBefore s'.uses s.uses
+      → AreAsBefore s'.lets s.lets → AreNoMore s'.link s.link → Falls taking
   probe-falls k lt sent new is uses lets acks =
       let pairs = ap (λ (b : Block (List ℕ)). b.pair) new in
       let is_pair : (s'.block n).pair c ≡ after_probe k was = own_at (after_probe k was) pairs in
-      pair-falls config caching n moves mail mail' s s' showing c ch rest rest' popped size answer all lt (rw sent refl)
+      pair-falls taking lt (rw sent refl)
       (ap (λ (b : Block (List ℕ)). b.service) new)
       (other_at (after_probe k was) pairs) (kept_at (λ p. p.acquiring) (after_probe k was) refl pairs c)
       (kept_at (λ p. p.letting) (after_probe k was) refl pairs c)
@@ -121,11 +119,10 @@ module _ {w : ℕ} (config : Config) (caching : ℕ → Bool) (n : ℕ) (moves :
           (after_probe_report was) (λ none. reports (rw e refl) (rw e none)) (is.few c ProbeAck n))
 
   pub report-falls : (told r : Report) → c < number → ((s.block n).pair c).probing ≡ ProbeAnswered told
-      → 1 ≤ left c ProbeAck n → s'.block n ≡ reported_block c r (s.block n) → ((d i : ℕ) → s'.uses d i ≡ s.uses d i)
-      → ((d i : ℕ) → s'.lets d i ≡ s.lets d i) → ((d : ℕ) → length (s'.link d).e ≤ length (s.link d).e)
-      → rank config size left' answer s' + 1 ≤ rank config size left answer s
-  report-falls told r lt answered some new uses lets acks = pair-falls config caching n moves mail mail' s s' showing c
-      ch rest rest' popped size answer all lt (rw answered refl) (ap (λ (b : Block (List ℕ)). b.service) new)
+      → 1 ≤ left c ProbeAck n → s'.block n ≡ reported_block c r (s.block n) → AreAsBefore s'.uses s.uses
+      → AreAsBefore s'.lets s.lets → AreNoMore s'.link s.link → Falls taking
+  report-falls told r lt answered some new uses lets acks =
+      pair-falls taking lt (rw answered refl) (ap (λ (b : Block (List ℕ)). b.service) new)
       (other_at (after_report r was) pairs) (kept_at (λ p. p.acquiring) (after_report r was) refl pairs c)
       (kept_at (λ p. p.letting) (after_report r was) refl pairs c) uses lets acks less
     where
@@ -153,26 +150,12 @@ module _ {w : ℕ} (config : Config) (caching : ℕ → Bool) (n : ℕ) (moves :
       let all = summand-few number c (λ d. pair_weight size left n d ((s.block n).pair d)) lt in
       omega (arith, one, all, some)
 
-  unserved : (d i : ℕ) → s.uses d i ≡ Acquires n → s'.uses d i ≡ Acquires n → is_unserved (view (s.block n).service d)
-      ≡ true → is_unserved (view (s'.block n).service d) ≡ true
-      → acquire_weight size (left' d Acquire n) (left' d Grant n) (probes_weight number size left' n (s'.block n))
-      (view (s'.block n).service d) ≤ acquire_weight size (left d Acquire n) (left d Grant n)
-      (probes_weight number size left n (s.block n)) (view (s.block n).service d)
-  unserved d i e f before after = unserved-stays config caching n moves mail mail' s s' showing c ch rest rest' popped
-      size answer d i n e f before after
-
-  lets-kept : (d : ℕ) → ((s'.block n).pair d).letting ≡ ((s.block n).pair d).letting
-      → letting_weight (left' d Release n) ((s'.block n).pair d).letting ≤ letting_weight (left d Release n)
-      ((s.block n).pair d).letting
-  lets-kept d e = let-stays config caching n moves mail mail' s s' showing c ch rest rest' popped size answer d n e
-
   pub answering-falls : (q source : ℕ) (k : Cap) (told r : Report) (f : List ℕ → List ℕ) → c < number
       → ((s.block n).pair c).probing ≡ ProbeAnswered told → 1 ≤ left c ProbeAck n
       → (s.block n).service ≡ Waits q false source k → s.uses q source ≡ InService n
       → left' q Answer source ≤ answer q source → s'.block n ≡ ended_block c r f (s.block n)
-      → s'.uses q source ≡ Replied → ((d i : ℕ) → (d ≡ q → i ≡ source → ⊥) → s'.uses d i ≡ s.uses d i)
-      → ((d i : ℕ) → s'.lets d i ≡ s.lets d i) → ((d : ℕ) → length (s'.link d).e ≤ length (s.link d).e)
-      → rank config size left' answer s' + 1 ≤ rank config size left answer s
+      → s'.uses q source ≡ Replied → AreElsewhere q source s'.uses s.uses → AreAsBefore s'.lets s.lets
+      → AreNoMore s'.link s.link → Falls taking
   answering-falls q source k told r f lt answered some waits used few new replied unlike lets acks =
       let was : ClientBlock = (s.block n).pair c in
       let opened : s.uses q source ≡ SourceFree → ⊥ = λ e. absurd (let both : InService n ≡ SourceFree = sym used ∙ e in
@@ -180,27 +163,26 @@ module _ {w : ℕ} (config : Config) (caching : ℕ → Bool) (n : ℕ) (moves :
       let pairs = ap (λ (b : Block (List ℕ)). b.pair) new in
       let free : (s'.block n).service ≡ Free = ap (λ (b : Block (List ℕ)). b.service) new in
       let gone : is_for_access (s'.block n).service ≡ false = ap is_for_access free in
-      let block : IsBlockNoMore config caching n moves mail mail' s s' showing c ch rest rest' popped size answer =
+      let block : IsBlockNoMore taking =
       record {
         serves = λ d i e g. absurd (nobody-serving n d i showing.after gone g);
-        acquires = λ d i e g. unserved d i e g (ap (λ (u : Service). is_unserved (view u d)) waits)
+        acquires = λ d i e g. unserved-stays taking d i n e g (ap (λ (u : Service). is_unserved (view u d)) waits)
             (ap (λ (u : Service). is_unserved (view u d)) free);
-        lets = λ d i e g. lets-kept d (kept_at (λ p. p.letting) (after_report r was) refl pairs d);
+        lets = λ d i e g. let-stays taking d n (kept_at (λ p. p.letting) (after_report r was) refl pairs d);
       } in
-      request-falls config caching n moves mail mail' s s' showing c ch rest rest' popped size answer all block q source
+      request-falls taking block q source
       opened unlike lets acks
       (rw (used, replied) (let owed = report-owed told lt answered some in omega (arith, few, owed)))
 
   pub granting-falls : (q source at : ℕ) (k gift : Cap) (told r : Report) (data_too : Bool) → c < number
       → ((s.block n).pair c).probing ≡ ProbeAnswered told → 1 ≤ left c ProbeAck n
       → (s.block n).service ≡ Waits q true at k → s.uses q source ≡ Acquires n → IsLeft size left' answer s'
-      → s'.block n ≡ granted_block c q r data_too gift (s.block n) → ((d i : ℕ) → s'.uses d i ≡ s.uses d i)
-      → ((d i : ℕ) → s'.lets d i ≡ s.lets d i) → ((d : ℕ) → length (s'.link d).e ≤ length (s.link d).e)
-      → rank config size left' answer s' + 1 ≤ rank config size left answer s
+      → s'.block n ≡ granted_block c q r data_too gift (s.block n) → AreAsBefore s'.uses s.uses
+      → AreAsBefore s'.lets s.lets → AreNoMore s'.link s.link → Falls taking
   granting-falls q source at k gift told r data_too lt answered some waits used is new uses lets acks =
       let opened : s.uses q source ≡ SourceFree → ⊥ = λ e. absurd (let both : Acquires n ≡ SourceFree = sym used ∙ e in
       cc) in
-      request-falls config caching n moves mail mail' s s' showing c ch rest rest' popped size answer all block q source
+      request-falls taking block q source
       opened (λ d i ne. uses d i) lets acks
       (rw (uses q source, used) (falls-at q refl))
     where
@@ -235,7 +217,7 @@ module _ {w : ℕ} (config : Config) (caching : ℕ → Bool) (n : ℕ) (moves :
           (view (s'.block n).service d) ≤ acquire_weight size (left d Acquire n) (left d Grant n)
           (probes_weight number size left n (s.block n)) (view (s.block n).service d)
       acquire d i e g (inl same) = let less = falls-at d same in omega (arith, less)
-      acquire d i e g (inr other) = unserved d i e g (waiting_else d other) (given_else d other)
+      acquire d i e g (inr other) = unserved-stays taking d i n e g (waiting_else d other) (given_else d other)
 
       letting : (d : ℕ) → ((s'.block n).pair d).letting ≡ ((s.block n).pair d).letting
       letting d = cc (
@@ -243,13 +225,12 @@ module _ {w : ℕ} (config : Config) (caching : ℕ → Bool) (n : ℕ) (moves :
         set-part (λ p. p.letting) q (after_grant_sent gift ((s.block n).pair q))
             (set c (after_report r was) (s.block n).pair)
             (sym (set-part (λ p. p.letting) c (after_report r was) (s.block n).pair refl q)) d,
-        set-part (λ p. p.letting)
-            c (after_report r was) (s.block n).pair refl d,
+        set-part (λ p. p.letting) c (after_report r was) (s.block n).pair refl d,
       )
 
-      block : IsBlockNoMore config caching n moves mail mail' s s' showing c ch rest rest' popped size answer
+      block : IsBlockNoMore taking
       block = record {
         serves = λ d i e g. absurd (nobody-serving n d i showing.after gone g);
         acquires = λ d i e g. acquire d i e g (cases_eq d q);
-        lets = λ d i e g. lets-kept d (letting d);
+        lets = λ d i e g. let-stays taking d n (letting d);
       }

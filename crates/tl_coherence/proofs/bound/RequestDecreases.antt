@@ -1,21 +1,20 @@
 -- What is owed falls as a request is taken: answered or granted at once, or with Probes.
-use Rattle.tl_coherence.proofs.bound.Imports.{Beat, Channel, Config, Cap, IsInvariant, Move, ClientBlock, Own, Granting}
-use Rattle.tl_coherence.proofs.bound.Imports.{is_unprobed, Left, pair_weight, probes_weight, acquire_weight, rank}
-use Rattle.tl_coherence.proofs.bound.Imports.{Service, Free, Waits, GrantSent, Block, State, SourceFree, Asked}
-use Rattle.tl_coherence.proofs.bound.Imports.{InService, Replied, Acquires, view, is_unserved, granted_at_once}
-use Rattle.tl_coherence.proofs.bound.Imports.{AccessMessages, Request, Acquire, Grant, Answer}
+use Rattle.tl_coherence.proofs.rank.Frames.{Taking, Falls, AreAsBefore, AreNoMore, AreElsewhere, IsBlockNoMore}
+use Rattle.tl_coherence.proofs.rank.Frames.{acquire-stays, let-stays, pair-stays, unserved-stays, wants-used}
+use Rattle.tl_coherence.proofs.bound.Imports.{Config, Cap, IsInvariant, ClientBlock, Own, Granting, is_unprobed, Left}
+use Rattle.tl_coherence.proofs.bound.Imports.{pair_weight, probes_weight, acquire_weight, Service, Free, Waits}
+use Rattle.tl_coherence.proofs.bound.Imports.{GrantSent, Block, State, SourceFree, Asked, InService, Replied, Acquires}
+use Rattle.tl_coherence.proofs.bound.Imports.{view, is_unserved, granted_at_once, AccessMessages, Request, Acquire}
+use Rattle.tl_coherence.proofs.bound.Imports.{Grant, Answer}
 use Rattle.std.proofs.Common.{◌≡◌, ℕ, ◌+◌, ◌≤◌, Bool, true, false, List, refl, sym, ◌∙◌, ap, arith, ◌⊎◌, inl, inr}
 use Rattle.std.specs.Prelude.{◌&&◌, ◌==◌, if◌then◌else◌, length}
 use Rattle.std.proofs.lemmas.Bool.{cases_eq, ne_eqb}
 use Rattle.tl_coherence.specs.protocol.Phase.{Idle}
 use Rattle.tl_coherence.specs.protocol.PhaseSteps.{after_served, after_grant_sent}
 use Rattle.tl_coherence.specs.protocol.Protocol.{performed_block, served_block, served_pair}
-use Rattle.tl_coherence.proofs.{queues.Channels.IsShowing, protocol.BeatsRemaining.IsPopped}
-use Rattle.tl_coherence.proofs.{protocol.BeatsRemaining.beats_left, rank.RankParts.AreClients}
-use Rattle.tl_coherence.proofs.{rank.RankParts.request-falls, protocol.QuiescentProtocol.serves_another}
-use Rattle.tl_coherence.proofs.{queues.Sums.total-le, queues.Tokens.same_number, queues.Tokens.set-part}
-use Rattle.tl_coherence.proofs.rank.Frames.{IsBlockNoMore, acquire-stays, let-stays, pair-stays, unserved-stays}
-use Rattle.tl_coherence.proofs.rank.Frames.{wants-used}
+use Rattle.tl_coherence.proofs.{protocol.BeatsRemaining.beats_left, rank.RankParts.request-falls}
+use Rattle.tl_coherence.proofs.{protocol.QuiescentProtocol.serves_another, queues.Sums.total-le}
+use Rattle.tl_coherence.proofs.{queues.Tokens.same_number, queues.Tokens.set-part}
 use Rattle.tl_coherence.proofs.bound.ReportDecreases.{is_for_access, nobody-serving}
 use Rattle.tl_coherence.proofs.rank.Weights.{IsLeft, probes-few, probes-fewer}
 
@@ -38,10 +37,10 @@ served_letting r own k pair d =
     elim [ true ↦ refl | false ↦ refl ] in
     go (own && (d == r))
 
-module _ {w : ℕ} (config : Config) (caching : ℕ → Bool) (n : ℕ) (moves : ℕ → Channel → Move)
-    (mail mail' : AccessMessages w) (s s' : State (List ℕ)) (showing : IsShowing caching n moves mail mail' s s')
-    (c : ℕ) (ch : Channel) (rest rest' : ℕ → Channel → List (Beat w)) (popped : IsPopped c ch moves rest rest' s s')
-    (size : ℕ) (answer : ℕ → ℕ → ℕ) (all : AreClients config s) where
+module _ {w : ℕ} {config : Config} {mail mail' : AccessMessages w} {s s' : State (List ℕ)}
+    (taking : Taking config mail mail' s s') where
+  open taking use {caching, n, moves, showing, c, ch, rest, rest', popped, size, answer, all}
+
   abbrev left : Left
   left = beats_left mail s rest
 
@@ -61,30 +60,26 @@ module _ {w : ℕ} (config : Config) (caching : ℕ → Bool) (n : ℕ) (moves :
 
   -- a block whose parts in flight are as before owes no more
   pub block-alike : (s'.block n).pair ≡ (s.block n).pair → (s'.block n).service ≡ (s.block n).service
-      → IsBlockNoMore config caching n moves mail mail' s s' showing c ch rest rest' popped size answer
+      → IsBlockNoMore taking
   block-alike pairs service =
       let probes = total-le number (λ d. pair_weight size left' n d ((s'.block n).pair d))
-      (λ d. pair_weight size left n d ((s.block n).pair d)) (λ d lt. pair-stays config caching n moves mail mail' s
-      s' showing c ch rest rest' popped size answer d n (ap (λ (p : ℕ → ClientBlock). (p d).probing) pairs)
+      (λ d. pair_weight size left n d ((s.block n).pair d))
+      (λ d lt. pair-stays taking d n (ap (λ (p : ℕ → ClientBlock). (p d).probing) pairs)
       (ap (λ (p : ℕ → ClientBlock). (p d).recorded) pairs)) in
       record {
         serves = λ d i e f. probes;
-        acquires = λ d i e f. acquire-stays config caching n moves mail mail' s s' showing c ch rest rest' popped size
-            answer d n (wants-used showing.before d i n e) (ap (λ (p : ℕ → ClientBlock). (p d).acquiring) pairs)
-            (ap (λ (u : Service). view u d) service) probes;
-        lets = λ d i e f. let-stays config caching n moves mail mail' s s' showing c ch rest rest' popped size answer d
-            n (ap (λ (p : ℕ → ClientBlock). (p d).letting) pairs);
+        acquires = λ d i e f. acquire-stays taking d n (wants-used showing.before d i n e)
+            (ap (λ (p : ℕ → ClientBlock). (p d).acquiring) pairs) (ap (λ (u : Service). view u d) service) probes;
+        lets = λ d i e f. let-stays taking d n (ap (λ (p : ℕ → ClientBlock). (p d).letting) pairs);
       }
 
   pub answered-falls : (source : ℕ) (f : List ℕ → List ℕ) → s.uses c source ≡ Asked → s'.uses c source ≡ Replied
       → left' c Answer source ≤ answer c source → s'.block n ≡ performed_block f (s.block n)
-      → ((d i : ℕ) → (d ≡ c → i ≡ source → ⊥) → s'.uses d i ≡ s.uses d i) → ((d i : ℕ) → s'.lets d i ≡ s.lets d i)
-      → ((d : ℕ) → length (s'.link d).e ≤ length (s.link d).e)
-      → rank config size left' answer s' + 1 ≤ rank config size left answer s
+      → AreElsewhere c source s'.uses s.uses → AreAsBefore s'.lets s.lets → AreNoMore s'.link s.link → Falls taking
   answered-falls source f asked replied few new unlike lets acks =
       let opened : s.uses c source ≡ SourceFree → ⊥ = λ e. absurd (let both : Asked ≡ SourceFree = sym asked ∙ e in cc)
       in
-      request-falls config caching n moves mail mail' s s' showing c ch rest rest' popped size answer all
+      request-falls taking
       (block-alike (ap (λ (b : Block (List ℕ)). b.pair) new) (ap (λ (b : Block (List ℕ)). b.service) new))
       c source opened unlike lets acks (rw (asked, replied) (omega (arith, few)))
 
@@ -97,18 +92,17 @@ module _ {w : ℕ} (config : Config) (caching : ℕ → Bool) (n : ℕ) (moves :
 
     -- where it owes no more to those who acquire it
     come-into-service : ((d : ℕ) → (is_unserved (view (s'.block n).service d) ≡ true) ⊎ (owed_for' d ≤ owed_for d))
-        → IsBlockNoMore config caching n moves mail mail' s s' showing c ch rest rest' popped size answer
+        → IsBlockNoMore taking
     come-into-service each = record {
       serves = λ d i e f. absurd (nobody-serving n d i showing.before none_before e);
       acquires = λ d i e f. acquire d i e f (each d);
-      lets = λ d i e f. let-stays config caching n moves mail mail' s s' showing c ch rest rest' popped size answer d n
-          (letting d);
+      lets = λ d i e f. let-stays taking d n (letting d);
     }
       where
         acquire : (d i : ℕ) → s.uses d i ≡ Acquires n → s'.uses d i ≡ Acquires n
             → (is_unserved (view (s'.block n).service d) ≡ true) ⊎ (owed_for' d ≤ owed_for d) → owed_for' d ≤ owed_for d
-        acquire d i e f (inl waits) = unserved-stays config caching n moves mail mail' s s' showing c ch rest rest'
-            popped size answer d i n e f (ap (λ (u : Service). is_unserved (view u d)) free) waits
+        acquire d i e f (inl waits) =
+            unserved-stays taking d i n e f (ap (λ (u : Service). is_unserved (view u d)) free) waits
         acquire d i e f (inr less) = less
 
     idle : (d : ℕ) → view (s.block n).service d ≡ Idle
@@ -116,26 +110,23 @@ module _ {w : ℕ} (config : Config) (caching : ℕ → Bool) (n : ℕ) (moves :
 
     pub serving-falls : (source at : ℕ) (k : Cap) → 1 ≤ size → size ≤ 16 → number ≤ 16
         → (s'.block n).service ≡ Waits c false at k → s.uses c source ≡ Asked → s'.uses c source ≡ InService n
-        → 1 ≤ left c Request source → IsLeft size left' answer s'
-        → ((d i : ℕ) → (d ≡ c → i ≡ source → ⊥) → s'.uses d i ≡ s.uses d i) → ((d i : ℕ) → s'.lets d i ≡ s.lets d i)
-        → ((d : ℕ) → length (s'.link d).e ≤ length (s.link d).e)
-        → rank config size left' answer s' + 1 ≤ rank config size left answer s
+        → 1 ≤ left c Request source → IsLeft size left' answer s' → AreElsewhere c source s'.uses s.uses
+        → AreAsBefore s'.lets s.lets → AreNoMore s'.link s.link → Falls taking
     serving-falls source at k wide narrow sixteen waits asked served some is unlike lets acks =
         let opened : s.uses c source ≡ SourceFree → ⊥ = λ e. absurd (let both : Asked ≡ SourceFree = sym asked ∙ e in
         cc) in
-        let probes = probes-few caching s' showing.after size left' answer is wide narrow number sixteen n in
-        request-falls config caching n moves mail mail' s s' showing c ch rest rest' popped size answer all
+        let probes = probes-few showing.after size left' answer is wide narrow number sixteen n in
+        request-falls taking
         (come-into-service (λ d. inl (ap (λ (u : Service). is_unserved (view u d)) waits)))
         c source opened unlike lets acks (rw (asked, served) (omega (arith, some, probes)))
 
     pub acquire-granted-falls : (source : ℕ) (data_too : Bool) (k : Cap) → (s'.block n).service ≡ GrantSent c data_too k
-        → s.uses c source ≡ Acquires n → IsLeft size left' answer s' → ((d i : ℕ) → s'.uses d i ≡ s.uses d i)
-        → ((d i : ℕ) → s'.lets d i ≡ s.lets d i) → ((d : ℕ) → length (s'.link d).e ≤ length (s.link d).e)
-        → rank config size left' answer s' + 1 ≤ rank config size left answer s
+        → s.uses c source ≡ Acquires n → IsLeft size left' answer s' → AreAsBefore s'.uses s.uses
+        → AreAsBefore s'.lets s.lets → AreNoMore s'.link s.link → Falls taking
     acquire-granted-falls source data_too k given used is uses lets acks =
         let opened : s.uses c source ≡ SourceFree → ⊥ =
         λ e. absurd (let both : Acquires n ≡ SourceFree = sym used ∙ e in cc) in
-        request-falls config caching n moves mail mail' s s' showing c ch rest rest' popped size answer all
+        request-falls taking
         (come-into-service (λ d. at d (cases_eq d c)))
         c source opened (λ d i ne. uses d i) lets acks (rw (uses c source, used) (less c refl))
       where
@@ -152,11 +143,10 @@ module _ {w : ℕ} (config : Config) (caching : ℕ → Bool) (n : ℕ) (moves :
 
     pub acquire-served-falls : (source at : ℕ) (k : Cap) → 1 ≤ size → size ≤ 16 → number ≤ 16
         → (s'.block n).service ≡ Waits c true at k → s.uses c source ≡ Acquires n → 1 ≤ left c Acquire n
-        → IsLeft size left' answer s' → ((d i : ℕ) → s'.uses d i ≡ s.uses d i) → ((d i : ℕ) → s'.lets d i ≡ s.lets d i)
-        → ((d : ℕ) → length (s'.link d).e ≤ length (s.link d).e) → rank config size left' answer s' + 1
-        ≤ rank config size left answer s
+        → IsLeft size left' answer s' → AreAsBefore s'.uses s.uses → AreAsBefore s'.lets s.lets
+        → AreNoMore s'.link s.link → Falls taking
     acquire-served-falls source at k wide narrow sixteen waits used some is uses lets acks =
-        request-falls config caching n moves mail mail' s s' showing c ch rest rest' popped size answer all
+        request-falls taking
         (come-into-service (λ d. each d (cases_eq d c)))
         c source opened (λ d i ne. uses d i) lets acks (rw (uses c source, used) less)
       where
@@ -167,7 +157,7 @@ module _ {w : ℕ} (config : Config) (caching : ℕ → Bool) (n : ℕ) (moves :
         own = rw (waits, same_number c) refl
 
         probes : probes_weight number size left' n (s'.block n) ≤ 30
-        probes = probes-fewer caching s' showing.after size left' answer is wide narrow number sixteen n c
+        probes = probes-fewer showing.after size left' answer is wide narrow number sixteen n c
             (all.clients c source opened) (owner_quiet n c showing.after own)
 
         less : owed_for' c + 1 ≤ owed_for c

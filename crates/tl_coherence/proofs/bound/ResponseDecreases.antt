@@ -1,11 +1,15 @@
 -- What is owed falls as a response is taken, a Release, and a GrantAck.
-use Rattle.tl_coherence.proofs.bound.Imports.{Beat, Channel, Config, Cap, Prune, Perm, IsInvariant, Move, ClientBlock}
-use Rattle.tl_coherence.proofs.bound.Imports.{Granting, ProbePhase, NoProbe, ProbeSent, ProbeAnswered, NoRelease}
-use Rattle.tl_coherence.proofs.bound.Imports.{ReleaseSent, ReleaseAcked, Left, probing_weight, pair_weight}
-use Rattle.tl_coherence.proofs.bound.Imports.{probes_weight, acquire_weight, letting_weight, rank, Service, Free}
-use Rattle.tl_coherence.proofs.bound.Imports.{GrantSent, GrantTaken, Block, State, SourceFree, Replied, Acquires, view}
-use Rattle.tl_coherence.proofs.bound.Imports.{is_unserved, is_wanting, is_answered, taken_block, let_block}
-use Rattle.tl_coherence.proofs.bound.Imports.{AccessMessages, Acquire, Grant, ProbeAck, Release, Answer, set}
+use Rattle.tl_coherence.proofs.bound.ReportDecreases.{kept_at, nobody-serving, is_for_access}
+use Rattle.tl_coherence.proofs.rank.Frames.{Taking, Falls, AreAsBefore, AreNoMore, AreElsewhere, IsBlockNoMore}
+use Rattle.tl_coherence.proofs.rank.Frames.{acquire-stays, let-stays, pair-stays, unserved-stays, wants-used}
+use Rattle.tl_coherence.proofs.rank.Frames.{report-here}
+use Rattle.tl_coherence.proofs.bound.Imports.{Config, Cap, Prune, Perm, IsInvariant, ClientBlock, Granting, ProbePhase}
+use Rattle.tl_coherence.proofs.bound.Imports.{NoProbe, ProbeSent, ProbeAnswered, NoRelease, ReleaseSent, ReleaseAcked}
+use Rattle.tl_coherence.proofs.bound.Imports.{Left, probing_weight, pair_weight, probes_weight, acquire_weight}
+use Rattle.tl_coherence.proofs.bound.Imports.{letting_weight, Service, Free, GrantSent, GrantTaken, Block, State}
+use Rattle.tl_coherence.proofs.bound.Imports.{SourceFree, Replied, Acquires, view, is_unserved, is_wanting, is_answered}
+use Rattle.tl_coherence.proofs.bound.Imports.{taken_block, let_block, AccessMessages, Acquire, Grant, ProbeAck, Release}
+use Rattle.tl_coherence.proofs.bound.Imports.{Answer, set}
 use Rattle.std.proofs.Common.{◌≡◌, ℕ, ◌+◌, ◌<◌, ◌≤◌, Bool, true, false, List, refl, sym, ◌∙◌, ap, arith, ◌⊎◌, inl, inr}
 use Rattle.std.specs.Prelude.{◌==◌, if◌then◌else◌, Some, None, length}
 use Rattle.std.proofs.lemmas.Bool.{cases_eq, ne_eqb, eqb-true}
@@ -15,15 +19,12 @@ use Rattle.tl_coherence.specs.protocol.Invariant.{acquires_with}
 use Rattle.tl_coherence.specs.protocol.Phase.{Acknowledging, GrantedOther}
 use Rattle.tl_coherence.specs.protocol.PhaseSteps.{after_release_taken, after_release_ack, after_grant}
 use Rattle.tl_coherence.specs.protocol.Protocol.{let_go_block, freed_block}
-use Rattle.tl_coherence.proofs.{queues.Channels.IsShowing, rank.RankDecreases.owed_use, rank.RankDecreases.owed_use'}
-use Rattle.tl_coherence.proofs.{queues.Phases.and_right, queues.Sums.total-le}
-use Rattle.tl_coherence.proofs.rank.Frames.{IsBlockNoMore, acquire-stays, let-stays, pair-stays, unserved-stays}
-use Rattle.tl_coherence.proofs.rank.Frames.{wants-used, report-here}
-use Rattle.tl_coherence.proofs.protocol.BeatsRemaining.{IsPopped, beats_left, left-same}
-use Rattle.tl_coherence.proofs.rank.RankParts.{AreClients, request-falls, release-falls, acknowledged-falls}
-use Rattle.tl_coherence.proofs.rank.RankParts.{granted-falls, block-same}
-use Rattle.tl_coherence.proofs.bound.ReportDecreases.{nobody-serving, is_for_access}
-use Rattle.tl_coherence.proofs.queues.Tokens.{same_number, set-same, set-other, set-part}
+use Rattle.tl_coherence.proofs.{rank.RankDecreases.owed_use, rank.RankDecreases.owed_use', queues.Phases.and_right}
+use Rattle.tl_coherence.proofs.{queues.Sums.total-le}
+use Rattle.tl_coherence.proofs.protocol.BeatsRemaining.{beats_left, left-same}
+use Rattle.tl_coherence.proofs.rank.RankParts.{request-falls, release-falls, acknowledged-falls, granted-falls}
+use Rattle.tl_coherence.proofs.rank.RankParts.{block-same}
+use Rattle.tl_coherence.proofs.queues.Tokens.{same_number, set-same, set-other}
 
 -- who has released is no longer recorded as the writer
 pruned : (r : Prune) → same_perm (prune_right r) Perm.Trunk ≡ false
@@ -52,10 +53,10 @@ acquired_with {s} n c i inv e =
     eqb-true i ((s.block n).source c) (and_right (is_wanting ((s.block n).pair c).acquiring) (i == (s.block n).source c)
     named)
 
-module _ {w : ℕ} (config : Config) (caching : ℕ → Bool) (n : ℕ) (moves : ℕ → Channel → Move)
-    (mail mail' : AccessMessages w) (s s' : State (List ℕ)) (showing : IsShowing caching n moves mail mail' s s')
-    (c : ℕ) (ch : Channel) (rest rest' : ℕ → Channel → List (Beat w)) (popped : IsPopped c ch moves rest rest' s s')
-    (size : ℕ) (answer : ℕ → ℕ → ℕ) (all : AreClients config s) where
+module _ {w : ℕ} {config : Config} {mail mail' : AccessMessages w} {s s' : State (List ℕ)}
+    (taking : Taking config mail mail' s s') where
+  open taking use {caching, n, moves, showing, c, ch, rest, rest', popped, size, answer, all}
+
   abbrev left : Left
   left = beats_left mail s rest
 
@@ -65,41 +66,28 @@ module _ {w : ℕ} (config : Config) (caching : ℕ → Bool) (n : ℕ) (moves :
   abbrev number : ℕ
   number = length config.clients.items
 
-  -- a part of pairs that an event leaves alone
-  kept_at : {A : Type 0} (part : ClientBlock → A) (p : ClientBlock) → part p ≡ part ((s.block n).pair c)
-      → (s'.block n).pair ≡ set c p (s.block n).pair → (d : ℕ) → part ((s'.block n).pair d) ≡ part ((s.block n).pair d)
-  kept_at part p e new d = ap (λ (f : ℕ → ClientBlock). part (f d)) new ∙ set-part part c p (s.block n).pair e d
-
-  letting_stays : (d : ℕ) → ((s'.block n).pair d).letting ≡ ((s.block n).pair d).letting
-      → letting_weight (left' d Release n) ((s'.block n).pair d).letting ≤ letting_weight (left d Release n)
-      ((s.block n).pair d).letting
-  letting_stays d e = let-stays config caching n moves mail mail' s s' showing c ch rest rest' popped size answer d n e
-
   pub answer-falls : (source : ℕ) → s.uses c source ≡ Replied → s'.uses c source ≡ SourceFree → 1 ≤ left c Answer source
-      → s'.block n ≡ s.block n → ((d i : ℕ) → (d ≡ c → i ≡ source → ⊥) → s'.uses d i ≡ s.uses d i)
-      → ((d i : ℕ) → s'.lets d i ≡ s.lets d i) → ((d : ℕ) → length (s'.link d).e ≤ length (s.link d).e)
-      → rank config size left' answer s' + 1 ≤ rank config size left answer s
+      → s'.block n ≡ s.block n → AreElsewhere c source s'.uses s.uses → AreAsBefore s'.lets s.lets
+      → AreNoMore s'.link s.link → Falls taking
   answer-falls source replied closed some same unlike lets acks =
       let opened : s.uses c source ≡ SourceFree → ⊥ = λ e. absurd (let both : Replied ≡ SourceFree = sym replied ∙ e in
       cc) in
-      request-falls config caching n moves mail mail' s s' showing c ch rest rest' popped size answer all
-      (block-same config caching n moves mail mail' s s' showing c ch rest rest' popped size answer all same)
+      request-falls taking
+      (block-same taking same)
       c source opened unlike lets acks (rw (replied, closed) (omega (arith, some)))
 
   pub grant-taken-falls : (data_too was_data whole : Bool) (k cap : Cap)
       → (s.block n).service ≡ GrantSent c was_data cap → s.uses c ((s.block n).source c) ≡ Acquires n
       → s'.uses c ((s.block n).source c) ≡ SourceFree → 1 ≤ left c Grant n
-      → s'.block n ≡ taken_block c whole data_too k (s.block n) → ((d i : ℕ) → (d ≡ c → i ≡ (s.block n).source c → ⊥)
-      → s'.uses d i ≡ s.uses d i) → ((d i : ℕ) → s'.lets d i ≡ s.lets d i)
-      → ((d : ℕ) → (d ≡ c → ⊥) → length (s'.link d).e ≤ length (s.link d).e)
-      → length (s'.link c).e ≡ length (s.link c).e + 1 → rank config size left' answer s' + 1 ≤ rank config size left
-      answer s
+      → s'.block n ≡ taken_block c whole data_too k (s.block n) → AreElsewhere c ((s.block n).source c) s'.uses s.uses
+      → AreAsBefore s'.lets s.lets → ((d : ℕ) → (d ≡ c → ⊥) → length (s'.link d).e ≤ length (s.link d).e)
+      → length (s'.link c).e ≡ length (s.link c).e + 1 → Falls taking
   grant-taken-falls data_too was_data whole k cap given used closed some new unlike lets acks more =
       let opened : s.uses c ((s.block n).source c) ≡ SourceFree → ⊥ =
       λ e. absurd (let both : Acquires n ≡ SourceFree = sym used ∙ e in cc) in
       let less : owed_use' config size left left' answer answer s s' c ((s.block n).source c) + 2 ≤ owed_use config size
       left left' answer answer s s' c ((s.block n).source c) = rw (used, closed, before) (omega (arith, some)) in
-      granted-falls config caching n moves mail mail' s s' showing c ch rest rest' popped size answer all block c
+      granted-falls taking block c
       ((s.block n).source c) opened unlike lets acks more less
     where
       taken : (s'.block n).service ≡ GrantTaken c
@@ -121,25 +109,23 @@ module _ {w : ℕ} (config : Config) (caching : ℕ → Bool) (n : ℕ) (moves :
           let end : s'.uses c i ≡ SourceFree = rw at closed in
           let still : s'.uses c i ≡ Acquires n = rw same at f in
           absurd (let both : Acquires n ≡ SourceFree = sym still ∙ end in cc)
-      acquire d i e f (inr other) = unserved-stays config caching n moves mail mail' s s' showing c ch rest rest' popped
-          size answer d i n e f (waiting d other) (ap (λ (u : Service). is_unserved (view u d)) taken
+      acquire d i e f (inr other) =
+          unserved-stays taking d i n e f (waiting d other) (ap (λ (u : Service). is_unserved (view u d)) taken
           ∙ granted_unserved c d)
 
-      block : IsBlockNoMore config caching n moves mail mail' s s' showing c ch rest rest' popped size answer
+      block : IsBlockNoMore taking
       block = record {
         serves = λ d i e f. absurd (nobody-serving n d i showing.before (ap is_for_access given) e);
         acquires = λ d i e f. acquire d i e f (cases_eq d c);
-        lets = λ d i e f. letting_stays d (kept_at (λ p. p.letting) (after_grant k ((s.block n).pair c)) refl
-            (ap (λ (b : Block (List ℕ)). b.pair) new) d);
+        lets = λ d i e f. let-stays taking d n (kept_at taking (λ p. p.letting) (after_grant k ((s.block n).pair c))
+            refl (ap (λ (b : Block (List ℕ)). b.pair) new) d);
       }
 
   pub release-taken-falls : (source : ℕ) (told r : Prune) → 1 ≤ size → s.lets c source ≡ Some n
       → ((s.block n).pair c).letting ≡ ReleaseSent told → 1 ≤ left c Release n → s'.block n ≡ let_block c r (s.block n)
-      → ((d i : ℕ) → s'.uses d i ≡ s.uses d i) → ((d i : ℕ) → s'.lets d i ≡ s.lets d i)
-      → ((d : ℕ) → length (s'.link d).e ≤ length (s.link d).e) → rank config size left' answer s' + 1
-      ≤ rank config size left answer s
+      → AreAsBefore s'.uses s.uses → AreAsBefore s'.lets s.lets → AreNoMore s'.link s.link → Falls taking
   release-taken-falls source told r wide used releasing some new uses lets acks =
-      release-falls config caching n moves mail mail' s s' showing c ch rest rest' popped size answer all block c source
+      release-falls taking block c source
       n used uses (λ d i ne. lets d i) acks (rw (lets c source, used, releasing, acked) (omega (arith, some)))
     where
       was : ClientBlock
@@ -163,10 +149,10 @@ module _ {w : ℕ} (config : Config) (caching : ℕ → Bool) (n : ℕ) (moves :
       told_as (ProbeSent k) e = pruned-weight size (left c ProbeAck n) 0 was.recorded r (ProbeSent k) wide
           (λ a. omega arith)
       told_as (ProbeAnswered t) e =
-          let before = report-here caching s showing.before c n (rw e refl) in
-          let after = report-here caching s' showing.after c n (ap (λ (p : ClientBlock). is_answered p.probing) own ∙ ap
+          let before = report-here showing.before c n (rw e refl) in
+          let after = report-here showing.after c n (ap (λ (p : ClientBlock). is_answered p.probing) own ∙ ap
           is_answered e) in
-          let same = left-same caching n moves mail mail' s s' showing c ch rest rest' popped c ProbeAck n before after
+          let same = left-same showing popped c ProbeAck n before after
           in
           omega (arith, same)
 
@@ -176,7 +162,7 @@ module _ {w : ℕ} (config : Config) (caching : ℕ → Bool) (n : ℕ) (moves :
       each : (d : ℕ) → (d ≡ c) ⊎ (d ≡ c → ⊥) → pair_weight size left' n d ((s'.block n).pair d) ≤ pair_weight size left
           n d ((s.block n).pair d)
       each d (inl same) = rw same here
-      each d (inr ne) = pair-stays config caching n moves mail mail' s s' showing c ch rest rest' popped size answer d n
+      each d (inr ne) = pair-stays taking d n
           (ap (λ (p : ClientBlock). p.probing) (other d ne)) (ap (λ (p : ClientBlock). p.recorded) (other d ne))
 
       probes : probes_weight number size left' n (s'.block n) ≤ probes_weight number size left n (s.block n)
@@ -186,24 +172,22 @@ module _ {w : ℕ} (config : Config) (caching : ℕ → Bool) (n : ℕ) (moves :
       letting : (d : ℕ) → (d ≡ c) ⊎ (d ≡ c → ⊥) → letting_weight (left' d Release n) ((s'.block n).pair d).letting
           ≤ letting_weight (left d Release n) ((s.block n).pair d).letting
       letting d (inl same) = rw (same, acked, releasing) (omega arith)
-      letting d (inr ne) = letting_stays d (ap (λ (p : ClientBlock). p.letting) (other d ne))
+      letting d (inr ne) = let-stays taking d n (ap (λ (p : ClientBlock). p.letting) (other d ne))
 
-      block : IsBlockNoMore config caching n moves mail mail' s s' showing c ch rest rest' popped size answer
+      block : IsBlockNoMore taking
       block = record {
         serves = λ d i e f. probes;
-        acquires = λ d i e f. acquire-stays config caching n moves mail mail' s s' showing c ch rest rest' popped size
-            answer d n (wants-used showing.before d i n e) (kept_at (λ p. p.acquiring) (after_release_taken r was) refl
+        acquires = λ d i e f. acquire-stays taking d n (wants-used showing.before d i n e)
+            (kept_at taking (λ p. p.acquiring) (after_release_taken r was) refl
             pairs d) (ap (λ (b : Block (List ℕ)). view b.service d) new) probes;
         lets = λ d i e f. letting d (cases_eq d c);
       }
 
   pub release-ack-falls : (source : ℕ) → s.lets c source ≡ Some n → s'.lets c source ≡ None
       → ((s.block n).pair c).letting ≡ ReleaseAcked → s'.block n ≡ let_go_block c (s.block n)
-      → ((d i : ℕ) → s'.uses d i ≡ s.uses d i) → ((d i : ℕ) → (d ≡ c → i ≡ source → ⊥) → s'.lets d i ≡ s.lets d i)
-      → ((d : ℕ) → length (s'.link d).e ≤ length (s.link d).e)
-      → rank config size left' answer s' + 1 ≤ rank config size left answer s
+      → AreAsBefore s'.uses s.uses → AreElsewhere c source s'.lets s.lets → AreNoMore s'.link s.link → Falls taking
   release-ack-falls source used gone acked new uses unlike acks =
-      release-falls config caching n moves mail mail' s s' showing c ch rest rest' popped size answer all block c source
+      release-falls taking block c source
       n used uses unlike acks (rw (gone, used, acked) (omega arith))
     where
       was : ClientBlock
@@ -221,37 +205,36 @@ module _ {w : ℕ} (config : Config) (caching : ℕ → Bool) (n : ℕ) (moves :
 
       probes : probes_weight number size left' n (s'.block n) ≤ probes_weight number size left n (s.block n)
       probes = total-le number (λ d. pair_weight size left' n d ((s'.block n).pair d))
-          (λ d. pair_weight size left n d ((s.block n).pair d)) (λ d lt. pair-stays config caching n moves mail mail' s
-          s' showing c ch rest rest' popped size answer d n (kept_at (λ p. p.probing) (after_release_ack was) refl pairs
-          d) (kept_at (λ p. p.recorded) (after_release_ack was) refl pairs d))
+          (λ d. pair_weight size left n d ((s.block n).pair d))
+          (λ d lt. pair-stays taking d n (kept_at taking (λ p. p.probing) (after_release_ack was) refl pairs
+          d) (kept_at taking (λ p. p.recorded) (after_release_ack was) refl pairs d))
 
       letting : (d : ℕ) → (d ≡ c) ⊎ (d ≡ c → ⊥) → letting_weight (left' d Release n) ((s'.block n).pair d).letting
           ≤ letting_weight (left d Release n) ((s.block n).pair d).letting
       letting d (inl same) = rw (same, kept) (omega arith)
-      letting d (inr ne) = letting_stays d (ap (λ (p : ClientBlock). p.letting) (other d ne))
+      letting d (inr ne) = let-stays taking d n (ap (λ (p : ClientBlock). p.letting) (other d ne))
 
-      block : IsBlockNoMore config caching n moves mail mail' s s' showing c ch rest rest' popped size answer
+      block : IsBlockNoMore taking
       block = record {
         serves = λ d i e f. probes;
-        acquires = λ d i e f. acquire-stays config caching n moves mail mail' s s' showing c ch rest rest' popped size
-            answer d n (wants-used showing.before d i n e) (kept_at (λ p. p.acquiring) (after_release_ack was) refl
+        acquires = λ d i e f. acquire-stays taking d n (wants-used showing.before d i n e)
+            (kept_at taking (λ p. p.acquiring) (after_release_ack was) refl
             pairs d) (ap (λ (b : Block (List ℕ)). view b.service d) new) probes;
         lets = λ d i e f. letting d (cases_eq d c);
       }
 
   pub grant-ack-falls : (q : ℕ) → c < number → (s.block n).service ≡ GrantTaken q → s'.block n ≡ freed_block (s.block n)
-      → ((d i : ℕ) → s'.uses d i ≡ s.uses d i) → ((d i : ℕ) → s'.lets d i ≡ s.lets d i)
-      → ((d : ℕ) → length (s'.link d).e ≤ length (s.link d).e) → length (s'.link c).e + 1 ≤ length (s.link c).e
-      → rank config size left' answer s' + 1 ≤ rank config size left answer s
+      → AreAsBefore s'.uses s.uses → AreAsBefore s'.lets s.lets → AreNoMore s'.link s.link
+      → length (s'.link c).e + 1 ≤ length (s.link c).e → Falls taking
   grant-ack-falls q lt taken new uses lets acks less =
       let free : (s'.block n).service ≡ Free = ap (λ (b : Block (List ℕ)). b.service) new in
-      let block : IsBlockNoMore config caching n moves mail mail' s s' showing c ch rest rest' popped size answer =
+      let block : IsBlockNoMore taking =
       record {
         serves = λ d i e f. absurd (nobody-serving n d i showing.before (ap is_for_access taken) e);
-        acquires = λ d i e f. unserved-stays config caching n moves mail mail' s s' showing c ch rest rest' popped size
-            answer d i n e f (ap (λ (u : Service). is_unserved (view u d)) taken ∙ granted_unserved q d)
+        acquires = λ d i e f. unserved-stays taking d i n e f
+            (ap (λ (u : Service). is_unserved (view u d)) taken ∙ granted_unserved q d)
             (ap (λ (u : Service). is_unserved (view u d)) free);
-        lets = λ d i e f. letting_stays d (ap (λ (b : Block (List ℕ)). (b.pair d).letting) new);
+        lets = λ d i e f. let-stays taking d n (ap (λ (b : Block (List ℕ)). (b.pair d).letting) new);
       } in
-      acknowledged-falls config caching n moves mail mail' s s' showing c ch rest rest' popped size answer all block c
+      acknowledged-falls taking block c
       lt uses lets acks less

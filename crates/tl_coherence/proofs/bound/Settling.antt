@@ -29,9 +29,7 @@ sixteen {config} given = (limits config given.fits).0
 -- it is at most the load
 owed-load : {w : ℕ} {config : Config} {log : Log w} → IsGiven config log → owed_after config log ≤ load log
 owed-load {w} {config} {log} given =
-    let few = owed-few
-    given.width
-    (matched-given config log given) (sixteen given) in
+    let few = owed-few given.width (matched-given config log given) (sixteen given) in
     subst (λ (n : ℕ). owed_after config log ≤ n)
     (sym (load-open (counted config log given.width given.typed given.is_log)))
     few
@@ -73,14 +71,14 @@ owed-moved : {w : ℕ} {config : Config} (link : Link) (ch : Channel) (o : Outco
     → is_moving (stepped config (Deliver link ch) (system_after config log)).outcome ≡ true
     → owed_after config ((Deliver link ch, o) ∷ log) + 1 ≤ owed_after config log
 unfolding shadow system_after
-owed-moved {config} link ch o {log} given moves = moving-owed config log (shadow config log) given.width
+owed-moved {config} link ch o {log} given moves = moving-owed (shadow config log) given.width
     (matched-given config log given) link ch (sixteen given) moves
 
 owed-unmoved : {w : ℕ} {config : Config} (link : Link) (ch : Channel) (o : Outcome w) {log : Log w} → IsGiven config log
     → is_moving (stepped config (Deliver link ch) (system_after config log)).outcome ≡ false
     → owed_after config ((Deliver link ch, o) ∷ log) ≤ owed_after config log
 unfolding shadow system_after
-owed-unmoved {config} link ch o {log} given still = still-owed config log (shadow config log) given.width
+owed-unmoved {config} link ch o {log} given still = still-owed (shadow config log) given.width
     (matched-given config log given) link ch still
 
 -- it takes one off what is owed, where it moves a beat
@@ -125,9 +123,9 @@ bounding {config} (x ∷ more) log given all =
     let count = moved-more x more in
     omega (arith, rest, here, count)
 
-pub bound : {w : ℕ} (config : Config) (more log : Log w) → IsGiven config (more ++ log)
+pub bound : {w : ℕ} {config : Config} (more log : Log w) → IsGiven config (more ++ log)
     → All (λ x. is_delivery x.0 ≡ true) more → beats_moved more ≤ load log
-bound config more log given all =
+bound more log given all =
     let beats = bounding more log given all in
     let few = owed-load (given-older more log given) in
     omega (arith, beats, few)
@@ -146,7 +144,7 @@ next-moves : {w : ℕ} {config : Config} {log : Log w} (d : Link × Channel) →
     → next_delivery config (system_after config log) ≡ Some d
     → is_moving (stepped config (Deliver d.0 d.1) (system_after config log)).outcome ≡ true
 next-moves {config} {log} d given is =
-    movable-moves config log d.0.0 d.1 (λ client. stalls config log given d.0.0 d.1 client)
+    movable-moves config log d.0.0 d.1 (λ client. stalls given d.0.0 d.1 client)
     (next-movable config (system_after config log) d is)
 
 standing : {w : ℕ} {config : Config} {log : Log w} (o : Option (Link × Channel)) → IsGiven config log

@@ -136,11 +136,9 @@ answered-used c source u mail s s' none uses h =
     answered-at c source mail mail s s' (λ d i other. (
       refl,
       refl,
-      ap (λ (f : ℕ → ℕ → SourceState). f d i) uses
-          ∙ set_at-apart c source u s.uses d i other,
-    )) (unanswered source (mail.request c source) (mail.answer c source)
-    (s'.uses c source) (ap is_unanswered (ap (λ (f : ℕ → ℕ → SourceState). f c source) uses
-    ∙ set_at-same c source u s.uses) ∙ none)) h
+      ap (λ (f : ℕ → ℕ → SourceState). f d i) uses ∙ set_at-apart c source u s.uses d i other,
+    )) (unanswered source (mail.request c source) (mail.answer c source) (s'.uses c source)
+    (ap is_unanswered (ap (λ (f : ℕ → ℕ → SourceState). f c source) uses ∙ set_at-same c source u s.uses) ∙ none)) h
 
 -- an access that is answered
 answered-now : {w : ℕ} (c source : ℕ) (x : Message w) (mail : AccessMessages w) (s s' : State (List ℕ))
@@ -151,13 +149,11 @@ answered-now {w} c source x mail s s' uses new h =
     (λ d i other. (
       refl,
       set_at-apart c source x mail.answer d i other,
-      ap (λ (f : ℕ → ℕ → SourceState). f d i) uses
-          ∙ set_at-apart c source Replied s.uses d i other,
+      ap (λ (f : ℕ → ℕ → SourceState). f d i) uses ∙ set_at-apart c source Replied s.uses d i other,
     ))
     (rw (
       ap (λ (f : ℕ → ℕ → SourceState). f c source) uses ∙ set_at-same c source Replied s.uses,
-      set_at-same c source x
-          mail.answer,
+      set_at-same c source x mail.answer,
     ) new) h
 
 -- ---- operations
@@ -197,8 +193,7 @@ answered-asked {w} c (Op.Access (Message.A m)) (Reply.Started source) h all =
     (λ d i other. (
       set_at-apart c source (access source m) h.mail.request d i other,
       refl,
-      set_at-apart c source
-          Asked h.state.uses d i other,
+      set_at-apart c source Asked h.state.uses d i other,
     ))
     (unanswered source (h'.mail.request c source) (h'.mail.answer c source) (h'.state.uses c source)
     (ap is_unanswered (set_at-same c source Asked h.state.uses))) all

@@ -2,7 +2,7 @@
 use Rattle.tl_coherence.proofs.client.Imports.{Message, MessageA, Config, RequestSource, ReleaseSource, AcquireOf}
 use Rattle.tl_coherence.proofs.client.Imports.{ReleaseOf, Level, Perm, block_at, pending, same_perm, Op, EndConfig}
 use Rattle.tl_coherence.proofs.client.Imports.{Endpoint, held_at, level_of, AbstractState, Log, AcquirePhase, NoAcquire}
-use Rattle.tl_coherence.proofs.client.Imports.{AcquireOpen, State, SourceState, SourceFree, Asked, Replied, Acquires}
+use Rattle.tl_coherence.proofs.client.Imports.{AcquireOpen, State, SourceState, SourceFree, Replied, Acquires}
 use Rattle.tl_coherence.proofs.client.Imports.{AccessMessages, acquire_of, block_message, System, terms_at, Acquire}
 use Rattle.tl_coherence.proofs.client.Imports.{SimulationRelation, is_caching, asked_by, Reply}
 use Rattle.std.proofs.Common.{◌≡◌, ℕ, Bool, true, false, List, Option, Some, None, refl, sym, ◌∙◌, ap}
@@ -114,11 +114,11 @@ free_use : {w : ℕ} {config : Config} {c : ℕ} (source : ℕ) {terms : EndConf
     → IsAt config c terms h e → pending (RequestSource source) e.past ≡ false → h.state.uses c source ≡ SourceFree
 free_use source at free = at.closes source (sym (at.end.opened.requests source) ∙ free)
 
-done_may : {w : ℕ} (config : Config) (c : ℕ) (terms : EndConfig) (o : Op w) (h : AbstractState w) (e : Endpoint w)
+done_may : {w : ℕ} {config : Config} {c : ℕ} {terms : EndConfig} (o : Op w) {h : AbstractState w} {e : Endpoint w}
     → IsAt config c terms h e → NotBusy terms o e → IsAskable (is_caching config) c o (done terms o e).reply h
-done_may config c terms (Op.Store address size value) h e at free = store_may (is_caching config) c address size value
+done_may {config} {c} (Op.Store address size value) {h} {e} at free = store_may (is_caching config) c address size value
     (held_at e (block_at address)) e h (at.end.known.held_is (block_at address))
-done_may config c terms (Op.Acquire n g) h e at free =
+done_may {config} {c} {terms} (Op.Acquire n g) {h} {e} at free =
     let idle = or_parts (pending (AcquireOf n) e.past) (pending (ReleaseOf n) e.past) free.b2 in (
       caches config c terms.level at.level_is (not-false (has_transfers terms.level) free.b4),
       free_use (source_or_0 (free_request terms e.past)) at
@@ -128,7 +128,7 @@ done_may config c terms (Op.Acquire n g) h e at free =
       ap (same_perm (grow_left g)) (sym (at.end.known.held_is n)) ∙ not-false (same_perm (grow_left g) (held_at e n))
           free.b3,
     )
-done_may config c terms (Op.AcquireWhole n bytes) h e at free =
+done_may {config} {c} {terms} (Op.AcquireWhole n bytes) {h} {e} at free =
     let idle = or_parts (pending (AcquireOf n) e.past) (pending (ReleaseOf n) e.past) free.b2 in (
       caches config c terms.level at.level_is (not-false (has_transfers terms.level) free.b4),
       free_use (source_or_0 (free_request terms e.past)) at
@@ -137,7 +137,7 @@ done_may config c terms (Op.AcquireWhole n bytes) h e at free =
       kept-letting ((h.state.block n).pair c).letting (sym (at.end.known.releases n) ∙ idle.1),
       ap (same_perm Perm.Trunk) (sym (at.end.known.held_is n)) ∙ free.b3,
     )
-done_may config c terms (Op.Release n r) h e at free =
+done_may {config} {c} {terms} (Op.Release n r) {h} {e} at free =
     let idle = or_parts (pending (AcquireOf n) e.past) (pending (ReleaseOf n) e.past) free.b2 in
     let source = source_or_0 (free_release terms e.past) in (
       caches config c terms.level at.level_is (not-false (has_transfers terms.level) free.b4),
@@ -147,12 +147,11 @@ done_may config c terms (Op.Release n r) h e at free =
       calm-is ((h.state.block n).pair c).acquiring (sym (at.end.known.acquires n) ∙ idle.0),
       kept-letting ((h.state.block n).pair c).letting (sym (at.end.known.releases n) ∙ idle.1),
       swap_perms ((h.state.block n).pair c).held (prune_left r) ∙ ap (same_perm (prune_left r))
-          (sym (at.end.known.held_is n))
-          ∙ not-false (same_perm (prune_left r) (held_at e n)) free.b3,
+          (sym (at.end.known.held_is n)) ∙ not-false (same_perm (prune_left r) (held_at e n)) free.b3,
     )
-done_may config c terms (Op.Access (Message.A m)) h e at free = free_use (source_or_0 (free_request terms e.past)) at
+done_may {terms} (Op.Access (Message.A m)) {e} at free = free_use (source_or_0 (free_request terms e.past)) at
     (least_free-some (λ s. pending (RequestSource s) e.past) 0 terms.sources free.b1).0
-done_may config c terms o h e at free = tt
+done_may o at free = tt
 
 -- What a client answers to an operation, the protocol allows.
 pub askable : {w : ℕ} {config : Config} {log : Log w} {mail : AccessMessages w} {request : ℕ → MessageA w}
@@ -162,7 +161,8 @@ pub askable : {w : ℕ} {config : Config} {log : Log w} {mail : AccessMessages w
 askable {w} {config} {log} {mail} {request} {s} {sys} terms c o h at =
     asked-cases terms o (sys.clients c) (λ (x : ask.Asked w). IsAskable (is_caching config) c o x.reply
     (shadow_of mail request s)) (λ b. busy_may (is_caching config) c o b (shadow_of mail request s))
-    (done_may config c terms o (shadow_of mail request s) (sys.clients c) (record {
+    (done_may {config = config} {c = c} {terms = terms} o {h = (shadow_of mail request s)} {e = (sys.clients c)}
+    (record {
       end = end-matched h c;
       level_is = (terms-are config c terms at).level;
       closes = λ source none. closed-source config c mail s (h.sourced c source) (h.answered c source) none;

@@ -1,16 +1,15 @@
 -- A client's end after it was asked for an operation: what it does is what the protocol does.
-use Rattle.tl_coherence.proofs.client.Imports.{IsWidth, BeatA, Message, MessageC, AcquireOf, ReleaseOf}
-use Rattle.tl_coherence.proofs.client.Imports.{Perm, sent, block_at, is_release, held, pending, same_perm, Op}
-use Rattle.tl_coherence.proofs.client.Imports.{copy_stored, whole_grow, EndConfig, Endpoint, copy_at, held_at, sending}
-use Rattle.tl_coherence.proofs.client.Imports.{acquisition, same_block, AbstractState, ClientBlock, is_unreleased}
-use Rattle.tl_coherence.proofs.client.Imports.{after_release, Block, State, is_wanting, releasing_block, stored_block}
-use Rattle.tl_coherence.proofs.client.Imports.{AccessMessages, asked_by, is_whole, Reply}
+use Rattle.tl_coherence.proofs.client.Imports.{IsWidth, BeatA, Message, MessageC, AcquireOf, ReleaseOf, Perm, sent}
+use Rattle.tl_coherence.proofs.client.Imports.{block_at, is_release, held, pending, same_perm, Op, copy_stored}
+use Rattle.tl_coherence.proofs.client.Imports.{whole_grow, EndConfig, Endpoint, copy_at, held_at, sending, acquisition}
+use Rattle.tl_coherence.proofs.client.Imports.{same_block, AbstractState, ClientBlock, is_unreleased, after_release}
+use Rattle.tl_coherence.proofs.client.Imports.{Block, State, is_wanting, releasing_block, stored_block, AccessMessages}
+use Rattle.tl_coherence.proofs.client.Imports.{asked_by, is_whole, Reply}
 use Rattle.std.proofs.Common.{◌≡◌, subst, ℕ, Bool, true, false, not, ◌&&◌, cond, List, Option, Some, None, refl, sym}
 use Rattle.std.proofs.Common.{◌∙◌, ap, ◌⊎◌, inl, inr}
 use Rattle.std.specs.Prelude.{◌==◌, unwrap_or}
 use Rattle.std.proofs.lemmas.Bool.{cases_eq, eqb-true, ne_eqb, or_parts, not-false}
-use Rattle.tl_beat.{specs.declared.opcode.OpA.OpA}
-use Rattle.tl_beat.{specs.declared.opcode.OpC.OpC}
+use Rattle.tl_beat.{specs.declared.opcode.OpA.OpA, specs.declared.opcode.OpC.OpC}
 use Rattle.tl_params.specs.declared.param.Prune.{Prune}
 use Rattle.tl_params.specs.statement.Param.{prune_code, prune_left, prune_right}
 use Rattle.tl_client.{specs.declared.busy.Busy.Busy, specs.statement.EndpointInvariant.holds}
@@ -145,8 +144,7 @@ end-release_asked {w} {c} n source r copy mail {s} {e} width begins kept end =
 -- ---- a store
 
 pub end-stored : {w : ℕ} {c : ℕ} (n : ℕ) (bytes : List ℕ) (mail : AccessMessages w) {s : State (List ℕ)}
-    {e : Endpoint w}
-    → IsWellKept (with_copy n (Some bytes) e) → IsEnd (asked_by mail s c) c s e
+    {e : Endpoint w} → IsWellKept (with_copy n (Some bytes) e) → IsEnd (asked_by mail s c) c s e
     → IsEnd (asked_by mail (block_stored c n bytes s) c) c (block_stored c n bytes s) (with_copy n (Some bytes) e)
 end-stored {w} {c} n bytes mail {s} {e} kept end =
     let same : IsSame c (asked_by mail s c) (asked_by mail s' c) s s' = record {
@@ -225,20 +223,20 @@ end_store {w} c address size value Perm.Trunk h e is end kept =
     (sym bytes) (λ k. end-stored n (copy_stored address size value ((h.state.block n).copy c)) h.mail k end)
     kept
 
-end_done : {w : ℕ} (terms : EndConfig) (c : ℕ) (o : Op w) (h : AbstractState w) (e : Endpoint w) → IsWidth w
+end_done : {w : ℕ} {terms : EndConfig} (c : ℕ) (o : Op w) (h : AbstractState w) {e : Endpoint w} → IsWidth w
     → AreNamed h.state → IsEndOf c h e → NotBusy terms o e → IsAfter c o h (done terms o e)
-end_done terms c (Op.Load address size) h e width named end free kept =
+end_done c (Op.Load address size) h {e} width named end free kept =
     end_load c address size (held_at e (block_at address)) h e end kept
-end_done terms c (Op.Store address size value) h e width named end free kept =
+end_done c (Op.Store address size value) h {e} width named end free kept =
     end_store c address size value (held_at e (block_at address)) h e (sym (end.known.held_is (block_at address))) end
     kept
-end_done terms c (Op.Acquire n g) h e width named end free kept =
+end_done {terms} c (Op.Acquire n g) h {e} width named end free kept =
     let idle = or_parts (pending (AcquireOf n) e.past) (pending (ReleaseOf n) e.past) free.b2 in
     let source = source_or_0 (free_request terms e.past) in
     end-acquire_asked n source false g ((h.state.block n).waiting c) h.mail
     width named
     idle.0 refl refl refl (λ i other. refl) (λ whole. absurd cc) kept end
-end_done {w} terms c (Op.AcquireWhole n bytes) h e width named end free kept =
+end_done {w} {terms} c (Op.AcquireWhole n bytes) h {e} width named end free kept =
     let idle = or_parts (pending (AcquireOf n) e.past) (pending (ReleaseOf n) e.past) free.b2 in
     let source = source_or_0 (free_request terms e.past) in
     let m : Perm → Message w = λ p. Message.A (acquisition OpA.AcquirePerm (whole_grow p) source n) in
@@ -247,24 +245,25 @@ end_done {w} terms c (Op.AcquireWhole n bytes) h e width named end free kept =
     idle.0 (ap (λ (p : Perm). sent (m p) e.past) (end.known.held_is n)) refl refl
     (λ i other. passed (i == n) (Some bytes) (e.waiting i) (ne_eqb i n other))
     (λ whole. chosen (n == n) (Some bytes) (e.waiting n) (same_number n)) kept end
-end_done terms c (Op.Release n r) h e width named end free kept =
+end_done {terms} c (Op.Release n r) h {e} width named end free kept =
     end-release_asked n (source_or_0 (free_release terms e.past)) r (copy_at e n) h.mail width
     (not-false (same_perm (prune_left r) (held_at e n)) free.b3) kept end
-end_done terms c (Op.Access (Message.A m)) h e width named end free kept =
+end_done {terms} c (Op.Access (Message.A m)) h {e} width named end free kept =
     let source = source_or_0 (free_request terms e.past) in
     let plain = no_acquire terms.level m.opcode (not-false (is_access_of terms.level m.opcode) free.b4) in
     end-access_asked (sourced source m) h.mail width plain.0 kept end
-end_done terms c (Op.Access (Message.B m)) h e width named end free kept = end
-end_done terms c (Op.Access (Message.C m)) h e width named end free kept = end
-end_done terms c (Op.Access (Message.D m)) h e width named end free kept = end
-end_done terms c (Op.Access (Message.E m)) h e width named end free kept = end
+end_done c (Op.Access (Message.B m)) h width named end free kept = end
+end_done c (Op.Access (Message.C m)) h width named end free kept = end
+end_done c (Op.Access (Message.D m)) h width named end free kept = end
+end_done c (Op.Access (Message.E m)) h width named end free kept = end
 
 -- a client's end is that of the protocol after it was asked, whatever it answers
 pub end-asked : {w : ℕ} (terms : EndConfig) (c : ℕ) (o : Op w) (h : AbstractState w) (e : Endpoint w) → IsWidth w
     → AreNamed h.state → IsEndOf c h e
     → IsEndOf c (world.asked c o (ask.asked terms o e).reply h) (ask.asked terms o e).after
 end-asked terms c o h e width named end =
-    asked-cases terms o e (IsAfter c o h) (λ b kept. end_busy c o b h e end) (end_done terms c o h e width named end)
+    asked-cases terms o e (IsAfter c o h) (λ b kept. end_busy c o b h e end)
+    (end_done {terms = terms} c o h {e = e} width named end)
     (record {
       kept = kept-asked terms o e width end.kept;
       accounted = accounted-asked terms o e width end.kept end.accounted;

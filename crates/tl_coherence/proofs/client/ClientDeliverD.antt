@@ -133,8 +133,7 @@ opened-heard {w} {c} {x} {t} {closes_source} {closes_let} {asked} {s} echo event
         source_now i x t,
         event.source_is i,
         open_.requests i,
-        none_cond
-            (closes_source i) (asked i),
+        none_cond (closes_source i) (asked i),
         event.asks i,
       );
       releases = λ i. cc (
@@ -142,8 +141,7 @@ opened-heard {w} {c} {x} {t} {closes_source} {closes_let} {asked} {s} echo event
         release_source_now i x t,
         event.let_is i,
         open_.releases i,
-        none_cond
-            (closes_let i) (s.lets c i),
+        none_cond (closes_let i) (s.lets c i),
         event.lets i,
       );
       released = λ i n some. ap (option_map (λ y. block_at y.address)) (echo.released i ∙ release_of-d i x t)
@@ -195,8 +193,7 @@ pub ack_closes : {w : ℕ} (n : ℕ) (x : BeatD w) (t : History w) → ends (Bea
 ack_closes n x t last plain acks block = (
   λ k. rw (last, plain) refl,
   λ k. rw (last, acks) (released_block k n (release_of x.source t) block),
-  λ i. rw
-      (last, acks) refl,
+  λ i. rw (last, acks) refl,
   λ i. rw (last, acks) refl,
 )
 
@@ -211,6 +208,5 @@ grant_closes n x r t last gives other request block = (
   λ k. rw (last, gives, request, block) refl,
   λ k. rw (last, other) refl,
   λ i. rw (last, other) refl,
-  λ i. rw
-      (last, other) refl,
+  λ i. rw (last, other) refl,
 )

@@ -125,13 +125,11 @@ answer-delivered {w} {config} {log} {mail} {request} {s} {sys} terms tracker c s
     subst (λ (m : Message w). IsNext x (unfinished Channel.D e.past) m ms queue) due.answer_is next in
     let kind = access_kind due.answer.opcode due.answers_access in
     taken-by config terms tracker c (shadow_of mail request s) due.answer e width end here
-    (taken-d terms c due.answer h at beats here
-    (answer-first config.profile end due))
+    (taken-d terms c due.answer h at beats here (answer-first config.profile end due))
     (λ y y_is opcode from param last burst well. taken_token config tracker c Answer source rest
     (shadow_of mail request s) (taken (Beat.D y) e).after first
-    (end-answer_taken source y rest mail
-    (plain_end y e last (ap is_grant opcode ∙ kind.0)) last (ap is_grant opcode ∙ kind.0)
-    (ap is_release_ack opcode ∙ kind.1) (from ∙ due.from) well end))
+    (end-answer_taken source y rest mail (plain_end y e last (ap is_grant opcode ∙ kind.0)) last
+    (ap is_grant opcode ∙ kind.0) (ap is_release_ack opcode ∙ kind.1) (from ∙ due.from) well end))
 
 pub ack-delivered : {w : ℕ} {config : Config} {log : Log w} {mail : AccessMessages w} {request : ℕ → MessageA w}
     {s : State (List ℕ)} {sys : System w} (terms : EndConfig) (tracker c n : ℕ) (rest : List Packet)
@@ -147,12 +145,10 @@ ack-delivered {w} {config} {log} {mail} {request} {s} {sys} terms tracker c n re
     let let_ = ack-due c n rest h.invariant first in
     let end = end-matched h c in
     taken-by config terms tracker c (shadow_of mail request s) m e width end next
-    (taken-d terms c m h at beats next
-    (ack-first config.profile n mail end let_))
+    (taken-d terms c m h at beats next (ack-first config.profile n mail end let_))
     (λ y y_is opcode from param last burst well. taken_token config tracker c ReleaseAck n rest
     (shadow_of mail request s) (taken (Beat.D y) e).after first
-    (end-release_ack_taken n y rest mail (plain_end y e last (ap is_grant opcode)) last
-    (ap is_grant opcode)
+    (end-release_ack_taken n y rest mail (plain_end y e last (ap is_grant opcode)) last (ap is_grant opcode)
     (ap is_release_ack opcode) from (ap (s.lets c) from ∙ let_) well end))
 
 grant_blank : {w : ℕ} (data_too : Bool) (k : Cap) (source sink : ℕ) (payload : List ℕ) → IsWidth w → length payload ≡ 64
@@ -195,12 +191,9 @@ grant-delivered {w} {config} {log} {mail} {request} {s} {sys} terms tracker c n 
     let here : IsNext x (unfinished Channel.D e.past) (Message.D m) ms queue =
     subst (λ (i : Message w). IsNext x (unfinished Channel.D e.past) i ms queue) (grant-rendered c n s due) next in
     taken-by config terms tracker c (shadow_of mail request s) m e width end here
-    (taken-d terms c m h at beats here
-    (grant-first config.profile mail end due given))
+    (taken-d terms c m h at beats here (grant-first config.profile mail end due given))
     (λ y y_is opcode from param last burst well. taken_token config tracker c Grant n rest (shadow_of mail request s)
-    (taken (Beat.D y) e).after first
-    (served y (end-grant_taken
-    rest mail width
+    (taken (Beat.D y) e).after first (served y (end-grant_taken rest mail width
     h.invariant.named (record {
       opcode = opcode;
       from = from;

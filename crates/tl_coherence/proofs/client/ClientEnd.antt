@@ -191,8 +191,7 @@ asks-same {w} c source mail mail' s s' request (inr both) a b =
           (block_message Acquire c (block_used (s'.uses c source)) (s'.block (block_used (s'.uses c source)))),
       request,
       access_asks (s.uses c source) (mail.request c source) both.0
-          (block_message Acquire c (block_used (s.uses c source))
-          (s.block (block_used (s.uses c source)))),
+          (block_message Acquire c (block_used (s.uses c source)) (s.block (block_used (s.uses c source)))),
     )
 
 -- a source that is closed asks for nothing, and the use that is an access for it, and that of an Acquire for that

@@ -1,12 +1,11 @@
 -- A client's end after it has taken a Probe, beside the event of the protocol.
-use Rattle.tl_coherence.proofs.client.Imports.{IsWidth, Beat, unfinished, Cap, Perm, same_perm, Endpoint, copy_at}
-use Rattle.tl_coherence.proofs.client.Imports.{held_at, sending, with_past, probed, ClientRelation, ClientBlock}
-use Rattle.tl_coherence.proofs.client.Imports.{after_probe, Block, State, probed_block, probe_taken, AccessMessages}
-use Rattle.tl_coherence.proofs.client.Imports.{probe_beat, Packet, asked_by, is_whole}
-use Rattle.std.proofs.Common.{◌≡◌, subst, ℕ, Bool, true, false, not, ◌&&◌, cond, List, ◌∷◌, Some, None, refl, sym, ◌∙◌}
-use Rattle.std.proofs.Common.{ap, inl}
+use Rattle.tl_coherence.proofs.client.Imports.{IsWidth, Beat, Cap, Perm, same_perm, Endpoint, copy_at, held_at, sending}
+use Rattle.tl_coherence.proofs.client.Imports.{with_past, probed, ClientBlock, after_probe, Block, State, probed_block}
+use Rattle.tl_coherence.proofs.client.Imports.{probe_taken, AccessMessages, probe_beat, Packet, asked_by, is_whole}
+use Rattle.std.proofs.Common.{◌≡◌, ℕ, Bool, true, false, not, ◌&&◌, cond, List, ◌∷◌, Some, None, refl, sym, ◌∙◌, ap}
+use Rattle.std.proofs.Common.{inl}
 use Rattle.std.{specs.Prelude.◌==◌, proofs.lemmas.Bool.eqb-true}
-use Rattle.tl_beat.{specs.declared.channel.Channel.Channel, specs.declared.opcode.OpB.OpB}
+use Rattle.tl_beat.{specs.declared.opcode.OpB.OpB}
 use Rattle.tl_params.specs.statement.Param.{report_right}
 use Rattle.tl_client.{specs.statement.EndpointInvariant.holds, specs.statement.Offer.report_for}
 use Rattle.tl_client.{specs.statement.Send.probe_ack, proofs.pending.KeptAsked.kept_waiting}
@@ -23,7 +22,6 @@ pub end-probe_taken : {w : ℕ} {c : ℕ} (n : ℕ) (k : Cap) (rest : List Packe
 end-probe_taken {w} {c} n k rest mail {s} {e} width well end =
     let g : Endpoint w = sending (probe_ack OpB.ProbeBlock p (report_for (probe_beat {w = w} n k) p) n (copy_at e n))
     (with_past (Beat.B (probe_beat n k) ∷ e.past) e) in
-    let f : Endpoint w = (probed (probe_beat n k) n (held_at e n) e).after in
     let s' : State (List ℕ) = probe_taken c n k rest s in
     let same : IsSame c (asked_by mail s c) (asked_by mail s' c) s' s' = record {
       held = λ i. refl;
@@ -35,12 +33,8 @@ end-probe_taken {w} {c} n k rest mail {s} {e} width well end =
           (ap (λ (q : ClientBlock). q.acquiring) pair_is) j)
           (λ j used. set-part (λ (b : Block (List ℕ)). b.source c) n new s.block refl j);
     } in
-    let known = known-probed n k rest e width end.kept.c_whole
-    end.known in
-    let here : ClientRelation (asked_by mail s c) (unfinished Channel.D f.past) c s' f.past =
-    subst (λ (b : List (Beat w)). ClientRelation (asked_by mail s c) b c s' f.past) (sym known.rest_is) known in
     record {
-      known = known-same same here;
+      known = known-same same (known-probed n k rest e width well end.kept.c_whole end.known);
       opened = opened-same same (opened-probed n k rest e width end.kept.c_whole end.opened);
       kept = well.kept;
       accounted = well.accounted;

@@ -40,9 +40,8 @@ asks_access {w} c i m mail s =
           (ap is_access (set_at-same c m.source Asked s.uses)) (set_at-same c m.source (Message.A m) mail.request)
           ∙ sym (chosen (m.source == i) (Some (a_beat_of m 0)) (asked_by mail s c i) (rw same (same_number m.source)))
       | inr other ↦ asks-same c i mail mail' s s' (set_at-else c m.source i (Message.A m) mail.request other c)
-          (inl (set_at-else c m.source i Asked s.uses other c)) (λ n used. refl) (λ n used. refl)
-          ∙ sym (passed (m.source == i) (Some (a_beat_of m 0)) (asked_by mail s c i)
-          (ne_eqb m.source i (λ e. other (sym e))))
+          (inl (set_at-else c m.source i Asked s.uses other c)) (λ n used. refl) (λ n used. refl) ∙ sym
+          (passed (m.source == i) (Some (a_beat_of m 0)) (asked_by mail s c i) (ne_eqb m.source i (λ e. other (sym e))))
     ]
 
 pub end-access_asked : {w : ℕ} {c : ℕ} (m : MessageA w) (mail : AccessMessages w) {s : State (List ℕ)} {e : Endpoint w}
@@ -96,11 +95,10 @@ asks_acquire {w} c n source i whole g bytes mail {s} named calm =
     let apart : (j : ℕ) → s.uses c i ≡ Acquires j → j ≡ n → ⊥ =
     λ j used same. unused c n i named calm (used ∙ ap Acquires same) in
     elim (cases_eq i source) [
-      | inl same ↦ ap (asked_by mail s' c) same
-          ∙ asks-acquire c source n source whole g mail s' (set_at-same c source (Acquires n) s.uses)
-          (ap (λ (b : Block (List ℕ)). (b.pair c).acquiring) (set-same n new s.block)
-          ∙ ap (λ (p : ClientBlock). p.acquiring) (set-same c (after_acquire whole g ((s.block n).pair c))
-          (s.block n).pair))
+      | inl same ↦ ap (asked_by mail s' c) same ∙ asks-acquire c source n source whole g mail s'
+          (set_at-same c source (Acquires n) s.uses) (ap (λ (b : Block (List ℕ)). (b.pair c).acquiring)
+          (set-same n new s.block) ∙ ap (λ (p : ClientBlock). p.acquiring)
+          (set-same c (after_acquire whole g ((s.block n).pair c)) (s.block n).pair))
           (ap (λ (b : Block (List ℕ)). b.source c) (set-same n new s.block) ∙ set-same c source (s.block n).source)
           ∙ sym (chosen (source == i) (Some (a_beat_of (acquisition (acquire_opcode whole) g source n) 0))
           (asked_by mail s c i) (rw same (same_number source)))
@@ -145,8 +143,7 @@ end-acquire_asked {w} {c} n source whole g bytes mail {s} {e} {f} width named id
       accounted = kept.accounted;
       copies = λ i some. cc (
         copies,
-        end.copies i (sym (ap (λ (p : Perm). same_perm p Perm.None) (event.held i))
-            ∙ some),
+        end.copies i (sym (ap (λ (p : Perm). same_perm p Perm.None) (event.held i)) ∙ some),
         set-part (λ (b : Block (List ℕ)). b.copy c) n new s.block refl i,
       );
       waiting = λ i storing. go i storing (cases_eq i n);

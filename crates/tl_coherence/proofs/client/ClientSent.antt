@@ -55,8 +55,7 @@ opened-requested {w} {m} {asked} {t} width none event open_ =
       requests = λ source. cc (
         pending-whole (RequestSource source) (A m) t none some,
         open_.requests source,
-        some_cond
-            (m.source == source) (a_beat_of m 0) (asked source),
+        some_cond (m.source == source) (a_beat_of m 0) (asked source),
         event.asks source,
       );
       releases = λ source. pending-whole (ReleaseSource source) (A m) t none some ∙ open_.releases source ∙ sym
@@ -122,17 +121,15 @@ opened-released {w} {c} {i} {m} {s} {t} width none event open_ =
       releases = λ source. cc (
         pending-whole (ReleaseSource source) (C m) t none some,
         opens source,
-        open_.releases
-            source,
+        open_.releases source,
         some_cond (m.source == source) i (s.lets c source),
         event.lets source,
       );
       released = λ source n is. cc (
         release_of-whole source (C m) t none some,
         names source,
-        last (m.source == source) n
-            (λ x. block_at x.address) source (sym (event.lets source) ∙ is) (λ e. event.of_block ∙ e)
-            (open_.released source n),
+        last (m.source == source) n (λ x. block_at x.address) source (sym (event.lets source) ∙ is)
+            (λ e. event.of_block ∙ e) (open_.released source n),
       );
       sizes = λ source n is. ap (option_map (λ x. x.size)) (release_of-whole source (C m) t none some ∙ names source)
           ∙ size (m.source == source) n source (sym (event.lets source) ∙ is) (open_.sizes source n);

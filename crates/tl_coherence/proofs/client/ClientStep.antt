@@ -1,8 +1,8 @@
 -- Clients' ends after every event: each is that of the protocol as it follows.
-use Rattle.tl_coherence.proofs.client.Imports.{IsWidth, Beat, BeatD, OpD, Message, MessageA, unfinished, completes}
-use Rattle.tl_coherence.proofs.client.Imports.{Config, Rule, Finish, EndConfig, Endpoint, Offered, offered, taken}
-use Rattle.tl_coherence.proofs.client.Imports.{ended, AbstractState, packet_taken, Log, is_unreleased, State}
-use Rattle.tl_coherence.proofs.client.Imports.{AccessMessages, System, terms_at, Packet, SimulationRelation, is_caching}
+use Rattle.tl_coherence.proofs.client.Imports.{IsWidth, Beat, Message, MessageA, unfinished, completes, Config, Rule}
+use Rattle.tl_coherence.proofs.client.Imports.{EndConfig, Endpoint, Offered, offered, taken, AbstractState}
+use Rattle.tl_coherence.proofs.client.Imports.{packet_taken, Log, is_unreleased, State, AccessMessages, System}
+use Rattle.tl_coherence.proofs.client.Imports.{terms_at, SimulationRelation, is_caching}
 use Rattle.std.proofs.Common.{◌≡◌, subst, ℕ, Bool, true, false, ◌&&◌, List, [], ◌∷◌, Option, Some, None, refl, sym, ◌∙◌}
 use Rattle.std.proofs.Common.{ap, ◌⊎◌, inl, inr}
 use Rattle.std.{specs.Prelude.if◌then◌else◌, specs.Prelude.Result, specs.Prelude.Ok, proofs.lemmas.Bool.cases_eq}
@@ -30,11 +30,6 @@ use Rattle.tl_coherence.proofs.client.ManagerStep.{client_kind, manager_ends}
 
 -- ---- a client takes a beat
 
-ended_unrefused : {w : ℕ} (opcode : OpD) (x : BeatD w) (f : Finish) (e : Endpoint w)
-    → is_refused (ended opcode x f e).answer ≡ false
-ended_unrefused OpD.AccessAck x f e = refl
-ended_unrefused opcode x f e = refl
-
 -- a beat that is taken is moved, and the client's end is that of the answer
 moved : {w : ℕ} (a : Result (Verdict × Option (Message w)) Rule) (c : ℕ) (ch : Channel) (x : Beat w)
     (queue : List (Beat w)) (e : Endpoint w) (s : System w) → is_refused a ≡ false → is_stalled a ≡ false
@@ -48,9 +43,8 @@ moved a c ch x queue e s unrefused moves = absurd cc
 
 -- a message that one client takes leaves the others' ends alone
 client_leaves : {w : ℕ} (config : Config) (tracker : ℕ) {c : ℕ} {ch : Channel} (h : AbstractState w) (d : ℕ)
-    {sys : System w}
-    {x : Beat w} {queue : List (Beat w)}
-    → is_to_client ch ≡ true → (d ≡ c → ⊥) → IsFirst ch c h.mail h.state sys x queue
+    {sys : System w} {x : Beat w} {queue : List (Beat w)} → is_to_client ch ≡ true → (d ≡ c → ⊥)
+    → IsFirst ch c h.mail h.state sys x queue
     → Leaves d h (packet_taken config tracker c (packets_on ch (h.state.link c)) h)
 client_leaves {w} config tracker {c} {ch} h d up other first =
     rw first.tokens (leaves-at_client config tracker c first.kind first.number first.rest h d
@@ -75,8 +69,7 @@ taken_ends {w} {config} {log} {mail} {request} {s} {sys} link ch k x queue o wid
     (subst (λ (b : Bool). IsEndOf k (if b && is_last (sys.channels link.0 ch) rest_now then event else before)
     ((client_took link.0 ch x queue t sys).after.clients k)) (sym moves.0)
     (subst (λ (f : ℕ → Endpoint w). IsEndOf k (if is_last (sys.channels link.0 ch) rest_now then event else before)
-    (f k)) (sym moves.1)
-    (subst (λ (b : Bool). IsEndOf k (if b then event else before)
+    (f k)) (sym moves.1) (subst (λ (b : Bool). IsEndOf k (if b then event else before)
     ((with_client link.0 t.after (with_channel link.0 ch queue sys)).clients k))
     (sym (ap (λ (beats_ : List (Beat w)). is_last beats_ rest_now) beats))
     (go (completes x rest_now) refl (cases_eq k link.0)))))

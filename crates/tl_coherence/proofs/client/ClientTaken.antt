@@ -135,11 +135,9 @@ end-release_ack_taken {w} {c} n x rest mail {s} {e} {f} is last plain acks from 
       accounted = well.accounted;
       copies = λ k some. cc (
         is,
-        end.copies k
-            (sym (ap (λ (q : Perm). same_perm q Perm.None) (set-part (λ (b : Block (List ℕ)). (b.pair c).held) n new
-            s.block (ap (λ (q : ClientBlock). q.held) pair_is) k)) ∙ some),
-        set-part (λ (b : Block (List ℕ)). b.copy c) n
-            new s.block refl k,
+        end.copies k (sym (ap (λ (q : Perm). same_perm q Perm.None) (set-part (λ (b : Block (List ℕ)). (b.pair c).held)
+            n new s.block (ap (λ (q : ClientBlock). q.held) pair_is) k)) ∙ some),
+        set-part (λ (b : Block (List ℕ)). b.copy c) n new s.block refl k,
       );
       waiting = λ k storing. ap (λ (g : Endpoint w). g.waiting k) is
           ∙ end.waiting k (sym (set-part (λ (b : Block (List ℕ)). is_whole (b.pair c).acquiring) n new s.block
@@ -155,9 +153,8 @@ end-release_ack_taken {w} {c} n x rest mail {s} {e} {f} is last plain acks from 
         → s'.lets c i ≡ cond (x.source == i) None (s.lets c i)
     lets_now i (inl same) = ap (s'.lets c) same ∙ set_at-same c ((s.block n).release_source c) None s.lets
         ∙ sym (chosen (x.source == i) None (s.lets c i) (rw (from, same) (same_number ((s.block n).release_source c))))
-    lets_now i (inr ne) = set_at-else c ((s.block n).release_source c) i None s.lets ne c
-        ∙ sym (passed (x.source == i) None (s.lets c i)
-        (rw from (ne_eqb ((s.block n).release_source c) i (λ g. ne (sym g)))))
+    lets_now i (inr ne) = set_at-else c ((s.block n).release_source c) i None s.lets ne c ∙ sym
+        (passed (x.source == i) None (s.lets c i) (rw from (ne_eqb ((s.block n).release_source c) i (λ g. ne (sym g)))))
 
 -- ---- a Grant
 
@@ -326,10 +323,9 @@ end-grant_taken {w} {c} {n} {whole} {data_too} {g} {k} {x} {payload} rest mail {
 
     copy_now : (i : ℕ) → (i ≡ n) ⊎ (i ≡ n → ⊥) → same_perm ((s'.block i).pair c).held Perm.None ≡ false
         → copy_granted (grant_opcode data_too) (Some r) payload i e ≡ Some ((s'.block i).copy c)
-    copy_now i (inl same) some = copy_here i whole data_too refl refl same
-        ∙ ap Some (sym (ap (λ (b : Block (List ℕ)). b.copy c) (block_now i same)
-        ∙ set-same c (granted_copy whole data_too ((s.block n).waiting c) (s.block n).truth ((s.block n).copy c))
-        (s.block n).copy))
+    copy_now i (inl same) some = copy_here i whole data_too refl refl same ∙ ap Some
+        (sym (ap (λ (b : Block (List ℕ)). b.copy c) (block_now i same) ∙ set-same c
+        (granted_copy whole data_too ((s.block n).waiting c) (s.block n).truth ((s.block n).copy c)) (s.block n).copy))
     copy_now i (inr ne) some =
         let old : s'.block i ≡ s.block i = set-other n i new s.block ne in
         copy_else i data_too ne ∙ end.copies i

@@ -1,11 +1,11 @@
 -- A beat of channel D that is delivered to a client is taken.
 use Rattle.tl_coherence.proofs.client.Imports.{Beat, BeatA, Message, MessageA, MessageD, a_beat_of, beat_of, History}
-use Rattle.tl_coherence.proofs.client.Imports.{unfinished, Config, RequestSource, Cap, Grow, Perm, Profile}
-use Rattle.tl_coherence.proofs.client.Imports.{is_outside, answers, broken_in_order, same_perm, held, pending}
-use Rattle.tl_coherence.proofs.client.Imports.{request_of, illegal, EndConfig, Endpoint, offered, taken, waits}
-use Rattle.tl_coherence.proofs.client.Imports.{open_beat, acquisition, same_block, grant_opcode, level_of}
-use Rattle.tl_coherence.proofs.client.Imports.{acquire_opcode, Log, AcquireOpen, State, AccessMessages, System}
-use Rattle.tl_coherence.proofs.client.Imports.{terms_at, SimulationRelation, gives_asked, asked_by}
+use Rattle.tl_coherence.proofs.client.Imports.{unfinished, Config, RequestSource, Cap, Grow, Perm, Profile, is_outside}
+use Rattle.tl_coherence.proofs.client.Imports.{answers, broken_in_order, same_perm, held, pending, request_of, illegal}
+use Rattle.tl_coherence.proofs.client.Imports.{EndConfig, Endpoint, offered, taken, waits, open_beat, acquisition}
+use Rattle.tl_coherence.proofs.client.Imports.{same_block, grant_opcode, level_of, acquire_opcode, Log, AcquireOpen}
+use Rattle.tl_coherence.proofs.client.Imports.{State, AccessMessages, System, terms_at, SimulationRelation, gives_asked}
+use Rattle.tl_coherence.proofs.client.Imports.{asked_by}
 use Rattle.std.proofs.Common.{◌≡◌, subst, ℕ, zero, suc, Bool, cond, true, false, not, ◌&&◌, ◌||◌, List, [], ◌∷◌, Option}
 use Rattle.std.proofs.Common.{Some, None, refl, sym, ◌∙◌, ap, arith}
 use Rattle.std.proofs.lemmas.Bool.{not-true}
@@ -51,9 +51,13 @@ terms-are config c terms e = go (slice_get config.clients.items c) refl
         })) f) ∙ e in cc)
     go (Some x) f =
         let is : record { level = x.level; profile = config.profile; sources = x.sources; blocks = config.blocks }
-        ≡ terms =
-        some_is (record { level = x.level; profile = config.profile; sources = x.sources; blocks = config.blocks })
-        terms
+        ≡ terms = some_is (record {
+          level = x.level;
+          profile = config.profile;
+          sources = x.sources;
+          blocks =
+              config.blocks;
+        }) terms
         (sym (ap (option_map (λ (y : ClientConfig). record {
           level = y.level;
           profile = config.profile;

@@ -94,8 +94,7 @@ given-asked p c (Op.Acquire n g) (Reply.Busy why) h inv may given = given
 given-asked {caching} p c (Op.AcquireWhole n bytes) (Reply.Started source) h inv may given =
     let g = whole_grow ((h.state.block n).pair c).held in
     given-set p n (acquiring_block c source true g bytes (h.state.block n)) h.state given
-    (given-acquiring p c true g (h.state.block n).service (h.state.block n).pair
-    (not_granting c n inv may.2) (given n))
+    (given-acquiring p c true g (h.state.block n).service (h.state.block n).pair (not_granting c n inv may.2) (given n))
 given-asked p c (Op.AcquireWhole n bytes) (Reply.Value v) h inv may given = given
 given-asked p c (Op.AcquireWhole n bytes) Reply.Stored h inv may given = given
 given-asked p c (Op.AcquireWhole n bytes) Reply.Miss h inv may given = given

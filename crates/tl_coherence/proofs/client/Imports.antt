@@ -45,24 +45,22 @@ pub use Rattle.tl_manager.specs.statement.Offer.{level_of}
 pub use Rattle.tl_coherence.specs.protocol.Invariant.{IsInvariant, cap_asked}
 pub use Rattle.tl_coherence.specs.protocol.Packet.{Acquire, Answer, Grant, GrantAck, Kind, Packet, Probe, ProbeAck}
 pub use Rattle.tl_coherence.specs.protocol.Packet.{Release, ReleaseAck, Request, set, set_at}
-pub use Rattle.tl_coherence.specs.protocol.Phase.{AcquireOpen, AcquirePhase, ClientBlock}
-pub use Rattle.tl_coherence.specs.protocol.Phase.{NoAcquire, is_unprobed, is_whole}
-pub use Rattle.tl_coherence.specs.protocol.Phase.{is_unreleased}
+pub use Rattle.tl_coherence.specs.protocol.Phase.{AcquireOpen, AcquirePhase, ClientBlock, NoAcquire, is_unprobed}
+pub use Rattle.tl_coherence.specs.protocol.Phase.{is_whole, is_unreleased}
 pub use Rattle.tl_coherence.specs.protocol.PhaseSteps.{after_acquire, after_probe, after_release, after_release_ack}
 pub use Rattle.tl_coherence.specs.protocol.PhaseSteps.{after_release_taken, after_report, is_granted_data}
 pub use Rattle.tl_coherence.specs.protocol.Protocol.{Acquires, Asked, Block, Free, GrantSent, GrantTaken, InService}
 pub use Rattle.tl_coherence.specs.protocol.Protocol.{Replied, Service, SourceFree, SourceState, State, Waits}
 pub use Rattle.tl_coherence.specs.protocol.Protocol.{acquire_granted, acquire_served, acquiring_block, ended_block}
 pub use Rattle.tl_coherence.specs.protocol.Protocol.{freed_block, grant_taken, granted_at_once, granted_block, is_on}
-pub use Rattle.tl_coherence.specs.protocol.Protocol.{is_probed, let_block, let_go_block, on, packet}
+pub use Rattle.tl_coherence.specs.protocol.Protocol.{is_probed, let_block, let_go_block, on, packet, performed_block}
+pub use Rattle.tl_coherence.specs.protocol.Protocol.{probe_taken, probed_block, releasing_block, report_taken}
+pub use Rattle.tl_coherence.specs.protocol.Protocol.{reported_block, served_block, stored_block, taken_block, view}
 pub use Rattle.tl_coherence.specs.protocol.Tokens.{is_wanting}
-pub use Rattle.tl_coherence.specs.protocol.Protocol.{performed_block, probe_taken, probed_block, releasing_block}
-pub use Rattle.tl_coherence.specs.protocol.Protocol.{report_taken, reported_block, served_block, stored_block}
-pub use Rattle.tl_coherence.specs.protocol.Protocol.{taken_block, view}
 pub use Rattle.tl_coherence.specs.refinement.AbstractStep.{AbstractState, access_taken, ack_taken, acquire_opcode}
 pub use Rattle.tl_coherence.specs.refinement.AbstractStep.{acquire_taken, asked, gift, granted_after, is_unheld}
-pub use Rattle.tl_coherence.specs.refinement.AbstractStep.{kind_taken, last_taken, packet_taken, performs}
-pub use Rattle.tl_coherence.specs.refinement.AbstractStep.{probes_some, request_taken, taken_by_client, with_state}
+pub use Rattle.tl_coherence.specs.refinement.AbstractStep.{kind_taken, last_taken, packet_taken, performs, probes_some}
+pub use Rattle.tl_coherence.specs.refinement.AbstractStep.{request_taken, taken_by_client, with_state}
 unfoldable pub use Rattle.tl_coherence.specs.refinement.AbstractStep.{some_below}
 pub use Rattle.tl_coherence.specs.refinement.ClientRelation.{ClientRelation}
 pub use Rattle.tl_coherence.specs.refinement.PacketMessages.{AccessMessages, acquire_of, cap_sent, probe_beat}

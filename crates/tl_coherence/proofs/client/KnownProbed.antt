@@ -1,4 +1,6 @@
 -- What a client knows after a Probe: the landed answer has exactly the effect of the abstract event.
+use Rattle.tl_coherence.proofs.{client.ClientEnd.IsWellKept, client.ClientEnd.known-kept, queues.Codes.cap-again}
+use Rattle.tl_client.specs.statement.Requests.{open_beat}
 use Rattle.tl_coherence.proofs.client.Imports.{IsWidth, Beat, BeatA, MessageC, beat_of, History, unfinished}
 use Rattle.tl_coherence.proofs.client.Imports.{beats-positive, Cap, Profile, Rule, Report, Perm, sent, is_outside}
 use Rattle.tl_coherence.proofs.client.Imports.{broken_in_order, block_at, held, pending, is_release, release_of}
@@ -15,16 +17,14 @@ use Rattle.tl_beat.{specs.declared.beat.BeatB.BeatB, specs.declared.channel.Chan
 use Rattle.tl_beat.{specs.declared.opcode.OpB.OpB, specs.declared.opcode.OpC.OpC}
 use Rattle.tl_params.specs.declared.key.Key.{Key}
 use Rattle.tl_params.specs.statement.Param.{report_at, report_code, report_right}
-use Rattle.tl_rules.specs.statement.Conformance.{broken_order}
+use Rattle.tl_rules.{specs.statement.Conformance.broken_order, proofs.Sent.pending-quiet, proofs.Sent.held_unsaid}
 use Rattle.tl_rules.specs.statement.History.{opens, closes, is_probe_ack}
-use Rattle.tl_rules.proofs.Sent.{unfinished-sent_other, pending-quiet, held_unsaid}
 use Rattle.tl_client.{specs.statement.Endpoint.zeros, specs.declared.verdict.Verdict.Verdict}
 use Rattle.tl_client.{specs.statement.Send.about, specs.statement.Send.probe_ack, proofs.pending.Opens.open_beat-b}
-use Rattle.tl_client.{proofs.pending.Opens.open_beat-c, proofs.messages.Bytes.burst_b}
+use Rattle.tl_client.{proofs.pending.Opens.open_beat-c}
 use Rattle.tl_client.specs.statement.Offer.{broken_before, broken_later, judged, judged_later, report_for}
 use Rattle.tl_client.proofs.endpoint.HeldAfter.{held-probe_ack, kept_past, still_whole}
 use Rattle.tl_coherence.proofs.queues.Tokens.{same_number, set-same, set-other}
-use Rattle.tl_coherence.proofs.queues.Codes.{cap-again}
 
 -- ---- the Probe
 
@@ -126,23 +126,6 @@ same_pending j {n} x {m} t width is none e =
     pending-whole j (Message.C m) (Beat.B x ∷ t) (still_whole x t ∙ none) (beats-positive (Message.C m) width) ∙ rw
     (o.0, o.1) (pending-quiet j (Beat.B x) t p.0 p.1)
 
--- no Probe is pending, as this one is answered
-other_probe : {w : ℕ} (i n : ℕ) (k : Cap) (t : History w) → (n == i) ≡ false
-    → pending (Key.ProbeOf i) (Beat.B (probe_beat n k) ∷ t) ≡ pending (Key.ProbeOf i) t
-other_probe {w} i n k t e =
-    let none : opens (Key.ProbeOf i) (Beat.B (probe_beat {w = w} n k)) t ≡ false = rw (same_block n, e) refl in
-    pending-quiet (Key.ProbeOf i) (Beat.B (probe_beat n k)) t none refl
-
-no_probe : {w : ℕ} (i : ℕ) {n : ℕ} (k : Cap) {m : MessageC w} (t : History w) → IsWidth w → IsProbeAck n m
-    → unfinished Channel.C t ≡ [] → pending (Key.ProbeOf i) t ≡ false
-    → pending (Key.ProbeOf i) (after (probe_beat n k) m t) ≡ false
-no_probe {w} i {n} k {m} t width is none before =
-    let go : (same : Bool) → (n == i) ≡ same
-    → (if same then false else pending (Key.ProbeOf i) (Beat.B (probe_beat n k) ∷ t)) ≡ false =
-    elim [ true ↦ λ e. refl | false ↦ λ e. other_probe i n k t e ∙ before ] in
-    pending-whole (Key.ProbeOf i) (Message.C m) (Beat.B (probe_beat n k) ∷ t) (still_whole (probe_beat n k) t ∙ none)
-    (beats-positive (Message.C m) width) ∙ rw (is.acks, is.of_block) (go (n == i) refl)
-
 -- ---- what is known
 
 -- a part of the client's pairs that its Probe leaves
@@ -153,17 +136,17 @@ same_part part c n k rest s e i = elim (cases_eq i n) [
   | inl same ↦ rw (
     same,
     set-same n (probed_block c k (s.block n)) s.block,
-    set-same c
-        (after_probe k ((s.block n).pair c)) (s.block n).pair,
+    set-same c (after_probe k ((s.block n).pair c)) (s.block n).pair,
   ) e
   | inr other ↦ rw (set-other n i (probed_block c k (s.block n)) s.block other) refl
 ]
 
-pub known-probed : {w : ℕ} {X : Type 0} {asked : ℕ → Option (BeatA w)} {burst : List (Beat w)} {c : ℕ} (n : ℕ) (k : Cap)
-    (rest : List Packet) {s : State X} (e : Endpoint w) → IsWidth w → unfinished Channel.C e.past ≡ []
-    → ClientRelation asked burst c s e.past → ClientRelation asked burst c (probe_taken c n k rest s)
-    (probed (probe_beat n k) n (held_at e n) e).after.past
-known-probed {w} {X} {c} n k rest {s} e width none known =
+pub known-probed : {w : ℕ} {asked : ℕ → Option (BeatA w)} {c : ℕ} (n : ℕ) (k : Cap) (rest : List Packet)
+    {s : State (List ℕ)} (e : Endpoint w) → IsWidth w → IsWellKept (probed (probe_beat n k) n (held_at e n) e).after
+    → unfinished Channel.C e.past ≡ [] → ClientRelation asked (unfinished Channel.D e.past) c s e.past
+    → ClientRelation asked (unfinished Channel.D (probed (probe_beat n k) n (held_at e n) e).after.past) c
+    (probe_taken c n k rest s) (probed (probe_beat n k) n (held_at e n) e).after.past
+known-probed {w} {asked} {c} n k rest {s} e width well none known =
     let p : Perm = held_at e n in
     let x : BeatB w = probe_beat n k in
     let r : Report = report_for x p in
@@ -172,24 +155,19 @@ known-probed {w} {X} {c} n k rest {s} e width none known =
     let past : (probed x n p e).after.past ≡ after x a.0 t =
     kept_past n (report_right r) (sending (probe_ack OpB.ProbeBlock p r n (copy_at e n)) (with_past (Beat.B x ∷ t) e))
     ∙ ap (λ m. sent m (Beat.B x ∷ t)) a.1 in
-    let same = λ (j : Key) (f : IsProbeKey j ≡ false). same_pending j x t width a.2 none f in
-    rw past (record {
-      held_is = λ i. ap (λ m. held i (sent m (Beat.B x ∷ t))) (sym a.1) ∙ held-probe_ack i OpB.ProbeBlock p r n
-          (copy_at e n) (Beat.B x ∷ t) width (still_whole x t ∙ none) ∙ held_now i (cases_eq i n);
-      acquires = λ i. same (Key.AcquireOf i) refl ∙ known.acquires i ∙ sym
-          (same_part (λ q. is_wanting q.acquiring) c n k rest s refl i);
-      releases = λ i. same (Key.ReleaseOf i) refl ∙ known.releases i ∙ sym
-          (same_part (λ q. not (is_unreleased q.letting)) c n k rest s refl i);
-      probes = λ i. no_probe i k t width a.2 none (known.probes i);
-      opens = λ source. open_beat-c source a.0 (Beat.B x ∷ t) width (still_whole x t ∙ none) ∙ open_beat-b source x
-          t ∙ known.opens source;
-      rest_is = unfinished-sent_other Channel.D (Message.C a.0) (Beat.B x ∷ t) refl ∙ burst_b x t ∙ known.rest_is;
-      sinks = λ sink. same (Key.GrantSink sink) refl ∙ known.sinks sink;
-      grants = λ i. same (Key.GrantAckOf i) refl ∙ known.grants i;
-    })
+    let same = λ (j : Key) (f : IsProbeKey j ≡ false). ap (pending j) past ∙ same_pending j x t width a.2 none f in
+    known-kept asked c (probe_taken c n k rest s) well
+    (λ i. ap (held i) past ∙ ap (λ m. held i (sent m (Beat.B x ∷ t))) (sym a.1) ∙ held-probe_ack i OpB.ProbeBlock p r n
+    (copy_at e n) (Beat.B x ∷ t) width (still_whole x t ∙ none) ∙ held_now i (cases_eq i n))
+    (λ i. same (Key.AcquireOf i) refl ∙ known.acquires i
+    ∙ sym (same_part (λ q. is_wanting q.acquiring) c n k rest s refl i))
+    (λ i. same (Key.ReleaseOf i) refl ∙ known.releases i
+    ∙ sym (same_part (λ q. not (is_unreleased q.letting)) c n k rest s refl i))
+    (λ source. ap (open_beat source) past ∙ open_beat-c source a.0 (Beat.B x ∷ t) width (still_whole x t ∙ none)
+    ∙ open_beat-b source x t ∙ known.opens source)
   where
     now_here : (((probe_taken c n k rest s).block n).pair c).held ≡ report_right (report_at k ((s.block n).pair c).held)
-    now_here = ap (λ (bl : Block X). (bl.pair c).held) (set-same n (probed_block c k (s.block n)) s.block)
+    now_here = ap (λ (bl : Block (List ℕ)). (bl.pair c).held) (set-same n (probed_block c k (s.block n)) s.block)
         ∙ ap (λ (q : ClientBlock). q.held) (set-same c (after_probe k ((s.block n).pair c)) (s.block n).pair)
 
     told : report_right (report_for (probe_beat {w = w} n k) (held_at e n)) ≡ report_right

@@ -2,8 +2,7 @@
 use Rattle.tl_coherence.proofs.client.Imports.{IsWidth, Beat, MessageA, unfinished, Config, Op, EndConfig, Endpoint}
 use Rattle.tl_coherence.proofs.client.Imports.{AbstractState, asked, packet_taken, IsInvariant, Log, State, on, is_on}
 use Rattle.tl_coherence.proofs.client.Imports.{AccessMessages, System, Kind, Request, Acquire, Probe, ProbeAck, Release}
-use Rattle.tl_coherence.proofs.client.Imports.{Answer, Grant, ReleaseAck, GrantAck, Packet, SimulationRelation}
-use Rattle.tl_coherence.proofs.client.Imports.{is_caching}
+use Rattle.tl_coherence.proofs.client.Imports.{Answer, Grant, ReleaseAck, GrantAck, SimulationRelation, is_caching}
 use Rattle.std.proofs.Common.{◌≡◌, subst, ℕ, Bool, true, false, cond, List, ◌∷◌, refl, sym, ◌∙◌, ap, inl, inr}
 use Rattle.std.{specs.Prelude.◌==◌, specs.Prelude.if◌then◌else◌, proofs.lemmas.Bool.cases_eq, proofs.lemmas.Bool.ne_eqb}
 use Rattle.tl_beat.{specs.declared.beat.Link.Link, specs.declared.channel.Channel.Channel}
@@ -56,16 +55,12 @@ asked_ends {w} {config} {log} {mail} {request} {s} {sys} terms c k o width h =
     (clients-with_messages (handed_by c a.message) (with_client c a.after sys)) in
     elim (cases_eq k c) [
       | inl same ↦ subst (λ (i : ℕ). AreEnds config (Ask c o) sys (shadow_of mail request s) i (replied c a sys))
-          (sym same)
-          (subst (λ (x : Endpoint w). IsEndOf c (asked c o a.reply (shadow_of mail request s)) x)
-          (sym (now c ∙ own_client c a.after sys))
-          (end-asked terms c o (shadow_of mail request s) (sys.clients c) width h.invariant.named
-          (end-matched h c)))
+          (sym same) (subst (λ (x : Endpoint w). IsEndOf c (asked c o a.reply (shadow_of mail request s)) x)
+          (sym (now c ∙ own_client c a.after sys)) (end-asked terms c o (shadow_of mail request s) (sys.clients c) width
+          h.invariant.named (end-matched h c)))
       | inr other ↦ left_alone k (shadow_of mail request s) (asked c o a.reply (shadow_of mail request s))
-          (sys.clients k)
-          ((replied c a sys).after.clients k)
-          (leaves-asked c o a.reply (shadow_of mail request s) k other) (now k ∙ other_client k c a.after sys other)
-          (end-matched h k)
+          (sys.clients k) ((replied c a sys).after.clients k) (leaves-asked c o a.reply (shadow_of mail request s) k
+          other) (now k ∙ other_client k c a.after sys other) (end-matched h k)
     ]
 
 -- ---- the manager takes a beat

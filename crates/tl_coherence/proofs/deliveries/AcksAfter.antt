@@ -68,18 +68,14 @@ delivered-e {w} {config} {log} link h terms x queue width matched known beats mo
     go true last =
         let unpushed : (d : ℕ) (at : Channel) → (after_taken config link Channel.E x queue sys []).channels d at
         ≡ (with_channel link.0 Channel.E queue sys).channels d at = λ d at. refl in
-        let quiet = beside_block n (freed_block (h.state.block n))
-        (grant_ack_taken link.0 n is.first.rest h.state) (λ i. refl) (λ d i. refl)
-        (λ d i. refl) refl (λ d. refl) (λ d. refl) matched.beside in
+        let quiet = beside_block n (freed_block (h.state.block n)) (grant_ack_taken link.0 n is.first.rest h.state)
+        (λ i. refl) (λ d i. refl) (λ d i. refl) refl (λ d. refl) (λ d. refl) matched.beside in
         delivered-last [] (λ d at. None) refl is last gives (λ d at. unpushed d at)
         (λ taken. subst (λ (k : Kind). ChannelRelation (kind_taken config (next_tracker sys) link.0 k n is.first.rest
-        h).mail
-        (kind_taken config (next_tracker sys) link.0 k n is.first.rest h).state
+        h).mail (kind_taken config (next_tracker sys) link.0 k n is.first.rest h).state
         (after_taken config link Channel.E x queue sys [])) (sym kind)
-        (carried-shown width (grant_ack_taken-shown link.0 n is.first.rest h.mail
-        matched.invariant (invariant-taken config log h sys link.0 GrantAck n is.first.rest matched tokens tt) tokens
-        sent)
-        taken matched.carried))
+        (carried-shown width (grant_ack_taken-shown link.0 n is.first.rest h.mail matched.invariant
+        (invariant-taken h link.0 GrantAck n is.first.rest matched tokens tt) tokens sent) taken matched.carried))
         (subst (λ (k : Kind). MemoryRelation (kind_taken config (next_tracker sys) link.0 k n is.first.rest h).mail
         (kind_taken config (next_tracker sys) link.0 k n is.first.rest h).state
         (performing [] (one_memory_after config log))) (sym kind) quiet)

@@ -80,36 +80,36 @@ CarriesAsked {w} config c h sys o r = (m : Option (Message w)) (e : client.Endpo
     → IsHanded (pushes_at c (pushes_of m)) sys (with_messages (handed_by c m) (with_client c e sys))
     → ChannelRelation (asked c o r h).mail (asked c o r h).state (with_messages (handed_by c m) (with_client c e sys))
 
-carried_asked : {w : ℕ} (config : Config) (log : Log w) (h : AbstractState w) (sys : System w) (c : ℕ) (o : Op w)
+carried_asked : {w : ℕ} {config : Config} {log : Log w} (h : AbstractState w) {sys : System w} (c : ℕ) (o : Op w)
     (r : Reply) → IsWidth w
     → SimulationRelation config log h.mail h.request h.state sys → IsReply o r → CarriesAsked config c h sys o r
-carried_asked {w} config log h sys c o r width is may_be =
+carried_asked {w} {config} h {sys} c o r width is may_be =
     let stored : (address size value : ℕ) → CarriesAsked config c h sys (Op.Store address size value) Reply.Stored =
     λ address size value m e may inv handed queued. carried_as m None _ _ e handed
-    (block_stored-carried (is_caching config) c (block_at address) _ h.mail s sys _ width is.invariant inv
-    (none-carried (is_caching config) (s.block (block_at address)) (is.invariant.blocks (block_at address))
+    (block_stored-carried c (block_at address) _ h.mail width is.invariant inv
+    (none-carried (is.invariant.blocks (block_at address))
     (low (block_at address) may)) (handed_as m None e handed queued) is.carried) in
     let acquires : (n : ℕ) (g : Grow) (source : ℕ)
     → CarriesAsked config c h sys (Op.Acquire n g) (Reply.Started source) =
     λ n g source m e may inv handed queued. carried_as m _ _ _ e handed
-    (acquire_asked-carried (is_caching config) c n source false g _
-    (Message.A (acquisition OpA.AcquireBlock g source n)) h.mail s sys _ width is.invariant inv may.2 refl
+    (acquire_asked-carried c n source false g _
+    (Message.A (acquisition OpA.AcquireBlock g source n)) h.mail width is.invariant inv may.2 refl
     (rendered_acquiring c n source false g _ (s.block n)) (handed_as m _ e handed queued) is.carried) in
     let stores : (n : ℕ) (bytes : List ℕ) (source : ℕ) → CarriesAsked config c h sys (Op.AcquireWhole n bytes)
     (Reply.Started source) = λ n bytes source m e may inv handed queued. carried_as m _ _ _ e handed
-    (acquire_asked-carried (is_caching config) c n source true (whole_grow ((s.block n).pair c).held) bytes
-    (Message.A (acquisition OpA.AcquirePerm (whole_grow ((s.block n).pair c).held) source n)) h.mail s sys _ width
+    (acquire_asked-carried c n source true (whole_grow ((s.block n).pair c).held) bytes
+    (Message.A (acquisition OpA.AcquirePerm (whole_grow ((s.block n).pair c).held) source n)) h.mail width
     is.invariant inv may.2 refl (rendered_acquiring c n source true (whole_grow ((s.block n).pair c).held) bytes
     (s.block n)) (handed_as m _ e handed queued) is.carried) in
     let releases : (n : ℕ) (p : Prune) (source : ℕ)
     → CarriesAsked config c h sys (Op.Release n p) (Reply.Started source) =
     λ n p source m e may inv handed queued. carried_as m _ _ _ e handed
-    (release_asked-carried (is_caching config) c n source p (release p source n (s.block n).truth) h.mail s sys _
+    (release_asked-carried c n source p (release p source n (s.block n).truth) h.mail
     width is.invariant inv may.3 (release_channel w p source n (s.block n).truth)
     (rendered_releasing c n source p (s.block n)) (handed_as m _ e handed queued) is.carried) in
     let accesses : (x : MessageA w) (source : ℕ) → CarriesAsked config c h sys (Op.Access (Message.A x))
     (Reply.Started source) = λ x source m e may inv handed queued. carried_as m _ _ _ e handed
-    (access_asked-carried (is_caching config) c source (access source x) h.mail s sys _ width is.invariant inv may
+    (access_asked-carried c source (access source x) h.mail width is.invariant inv may
     refl (handed_as m _ e handed queued) is.carried) in
     reply-cases (CarriesAsked config c h sys) o r may_be stored acquires stores releases accesses others
   where
@@ -145,7 +145,7 @@ carried_asked {w} config log h sys c o r width is may_be =
         let none : m ≡ None = (plain c h).1 m handed in
         subst (λ (x : AbstractState w). ChannelRelation x.mail x.state
         (with_messages (handed_by c m) (with_client c e sys))) (sym (plain c h).0)
-        (carried_as m None _ _ e none (nothing_asked-carried (is_caching config) c h.mail s sys _ width is.invariant
+        (carried_as m None _ _ e none (nothing_asked-carried c h.mail width is.invariant
         (handed_as m None e none queued) is.carried))
 
 pub carried-ask : {w : ℕ} {config : Config} {log : Log w} (h : AbstractState w) {sys : System w} (c : ℕ)
@@ -158,7 +158,7 @@ carried-ask {w} {config} {log} h {sys} c terms o width is known =
     let inv = asked-kept c o x.reply h is.invariant well.may in
     subst (λ (y : Step w). ChannelRelation (asked c o x.reply h).mail (asked c o x.reply h).state y.after)
     (sym (stepped-asked config c o sys terms known))
-    (carried_asked config log h sys c o x.reply width is well.reply x.message x.after well.may inv well.message
+    (carried_asked h c o x.reply width is well.reply x.message x.after well.may inv well.message
     (handed-client c x.message x.after sys (λ at. unfinished-asked terms o (sys.clients c) at width (is.kept c))))
 
 -- ---- the one memory
@@ -194,8 +194,7 @@ beside-ask {w} {config} {log} h c terms o width is known =
     cc (stepped-asked config c o sys terms known, none_answered c o x.reply h x.message well.reply well.message) in
     subst (λ (l : List (ℕ × ℕ)). MemoryRelation (asked c o x.reply h).mail (asked c o x.reply h).state
     (performing l (after_reply c o x.reply (one_memory_after config log)))) (sym none)
-    (beside-asked (is_caching config) c o x.reply h (one_memory_after config log) is.invariant is.sized well.reply
-    well.may well.word is.beside)
+    (beside-asked c o x.reply h is.invariant is.sized well.reply well.may well.word is.beside)
 
 pub continues-ask : {w : ℕ} {config : Config} {log : Log w} (h : AbstractState w) (c : ℕ) (terms : client.EndConfig)
     (o : Op w) → IsWidth w
@@ -212,6 +211,5 @@ continues-ask {w} {config} {log} h c terms o width is known =
       after_reply c o x.reply (one_memory_after config log),
       [],
       (rw known refl, well.replies, refl),
-      ap
-          (λ (l : List (ℕ × ℕ)). performing l (after_reply c o x.reply (one_memory_after config log))) none,
+      ap (λ (l : List (ℕ × ℕ)). performing l (after_reply c o x.reply (one_memory_after config log))) none,
     )

@@ -75,8 +75,7 @@ asked-well {w} config log h sys c terms o width is known = asked-cases terms o e
     transfers n none =
         let parts = or_parts (pending (AcquireOf n) e.past) (pending (ReleaseOf n) e.past) none in (
           calm-is ((s.block n).pair c).acquiring (sym ((is.known c).acquires n) ∙ parts.0),
-          kept-letting
-              ((s.block n).pair c).letting (sym ((is.known c).releases n) ∙ parts.1),
+          kept-letting ((s.block n).pair c).letting (sym ((is.known c).releases n) ∙ parts.1),
         )
 
     caching : not (has_transfers terms.level) ≡ false → is_caching config c ≡ true

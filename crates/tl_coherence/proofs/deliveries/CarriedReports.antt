@@ -1,15 +1,15 @@
 -- The channels carry the messages of the tokens after each delivery on channel C or E.
 
-use Rattle.tl_coherence.proofs.deliveries.Imports.{IsFor, beat_of, unfinished, completes, Handed, reaction}
-use Rattle.tl_coherence.proofs.deliveries.Imports.{Deliver, Log, receiver, stepped, System}
-use Rattle.tl_coherence.proofs.deliveries.Imports.{SimulationRelation, is_caching, IsWidth, Beat, Channel, Message}
-use Rattle.tl_coherence.proofs.deliveries.Imports.{MessageA, Config, Report, AbstractState, ack_taken, answers}
-use Rattle.tl_coherence.proofs.deliveries.Imports.{abstract_step, last_taken, some_below, packet_taken, with_state}
-use Rattle.tl_coherence.proofs.deliveries.Imports.{IsWell, IsInvariant, ProbeAnswered, AcquirePhase, NoAcquire}
-use Rattle.tl_coherence.proofs.deliveries.Imports.{AcquireOpen, is_granted_data, Service, Waits, Block, shown, view}
-use Rattle.tl_coherence.proofs.deliveries.Imports.{Free, GrantSent, GrantTaken, let_block, release_taken, report_taken}
-use Rattle.tl_coherence.proofs.deliveries.Imports.{packet, prune_told, block_message, report_told, ProbeAck}
-use Rattle.tl_coherence.proofs.deliveries.Imports.{Release, Grant, ReleaseAck, Packet}
+use Rattle.tl_coherence.proofs.deliveries.Imports.{IsFor, beat_of, unfinished, completes, Handed, reaction, Deliver}
+use Rattle.tl_coherence.proofs.deliveries.Imports.{Log, receiver, stepped, System, SimulationRelation, is_caching}
+use Rattle.tl_coherence.proofs.deliveries.Imports.{IsWidth, Beat, Channel, Message, MessageA, Config, Report}
+use Rattle.tl_coherence.proofs.deliveries.Imports.{AbstractState, ack_taken, answers, abstract_step, last_taken}
+use Rattle.tl_coherence.proofs.deliveries.Imports.{some_below, packet_taken, with_state, IsWell, IsInvariant}
+use Rattle.tl_coherence.proofs.deliveries.Imports.{ProbeAnswered, AcquirePhase, NoAcquire, AcquireOpen, is_granted_data}
+use Rattle.tl_coherence.proofs.deliveries.Imports.{Service, Waits, Block, shown, view, Free, GrantSent, GrantTaken}
+use Rattle.tl_coherence.proofs.deliveries.Imports.{let_block, release_taken, report_taken, packet, prune_told}
+use Rattle.tl_coherence.proofs.deliveries.Imports.{block_message, report_told, ProbeAck, Release, Grant, ReleaseAck}
+use Rattle.tl_coherence.proofs.deliveries.Imports.{Packet}
 use Rattle.tl_coherence.specs.protocol.Protocol as protocol
 use Rattle.tl_coherence.proofs.{queues.Shown.carried-shown, manager.Choices.plain-past, queues.FirstToken.first-token}
 use Rattle.tl_coherence.proofs.{manager.ManagerSettles.gift_after, manager.Reporting.report-about}
@@ -44,7 +44,7 @@ reports-last : {w : ℕ} {config : Config} {log : Log w} {h : AbstractState w} {
     (report_told ((h.state.block n).pair c).probing) rest h)
 reports-last {w} {config} {log} {h} {sys} {c} n rest {x} {queue} at tokens whole handed =
     others (some_below (length config.clients.items) (others_probed c b.pair)) refl
-    (invariant-taken config log h sys c ProbeAck n rest at.is tokens tt) handed
+    (invariant-taken h c ProbeAck n rest at.is tokens tt) handed
   where
     b : Block (List ℕ)
     b = h.state.block n
@@ -81,15 +81,13 @@ reports-last {w} {config} {log} {h} {sys} {c} n rest {x} {queue} at tokens whole
         let v : MessageA w = h.request n in
         let said : Message w = answers v (protocol.written r b.truth b.memory) in
         let for : IsFor (Waits q false source low) n v = rw f at (at.is.served.requests n) in
-        carried-shown at.width (report_answers-shown c q n source r low (performs v) rest said
-        h.mail inv later tokens f (rw (serving-use (is_caching config) h.state n q source low inv f) refl)
-        (ended-bytes (is_caching config) c q source r low v b (inv.blocks n) (subst (IsWell (is_caching config))
-        (set-same n (ended_block c r (performs v) b) h.state.block)
-        (later.blocks n)) f answered
-        (settled_all (length config.clients.items) (is_caching config) c b.pair (plain-past config)
-        (inv.blocks n).outside alone) for.0 for.3 (at.is.sized n).truth) (answer_on_d v _)) (last-handing
-        q said at (one ∙ rw (set_at-same q source said h.mail.answer)
-        refl) whole) at.is.carried
+        carried-shown at.width (report_answers-shown c q n source r low (performs v) rest said h.mail inv later tokens f
+        (rw (serving-use n q source low inv f) refl)
+        (ended-bytes c q source r low v (inv.blocks n)
+        (subst (IsWell (is_caching config)) (set-same n (ended_block c r (performs v) b) h.state.block)
+        (later.blocks n)) f answered (settled_all (length config.clients.items) (is_caching config) c b.pair
+        (plain-past config) (inv.blocks n).outside alone) for.0 for.3 (at.is.sized n).truth) (answer_on_d v _))
+        (last-handing q said at (one ∙ rw (set_at-same q source said h.mail.answer) refl) whole) at.is.carried
     last alone (Waits q true source low) f later one = go (b.pair q).acquiring refl later one
       where
         go : (y : AcquirePhase) → (b.pair q).acquiring ≡ y
@@ -174,13 +172,10 @@ carried-followed_c {w} {config} {log} h {sys} c x queue width is beats =
     (if completes x before then packet_taken config (next_tracker sys) c i h else h)) c h.mail h.state sys x queue
     (first-token (is_caching config) Channel.C c h.mail h.state sys x queue width is.invariant is.carried beats)
     (λ n rest tokens next.
-    let d = reports-delivered h c n rest width is beats
-    tokens next in
-    by-place _ _ at d.handed (λ whole one. reports-last n rest
-    at tokens whole one))
+    let d = reports-delivered h c n rest width is beats tokens next in
+    by-place _ _ at d.handed (λ whole one. reports-last n rest at tokens whole one))
     (λ n rest tokens next.
-    let d = releases-delivered h c n rest width is beats
-    tokens next in
+    let d = releases-delivered h c n rest width is beats tokens next in
     by-place _ _ at d.handed (λ whole one. releases-last n rest tokens whole one)))
   where
     before : List (Beat w)
@@ -212,9 +207,8 @@ carried-followed_c {w} {config} {log} h {sys} c x queue width is beats =
         (with_state (release_taken c n (prune_told ((h.state.block n).pair c).letting) rest h.state) h)
     releases-last n rest tokens whole one =
         let new : Block (List ℕ) = let_block c (prune_told ((h.state.block n).pair c).letting) (h.state.block n) in
-        carried-shown width (release_taken-shown c n (prune_told ((h.state.block n).pair c).letting)
-        rest (block_message ReleaseAck c n new) h.mail is.invariant (invariant-taken config log h sys c Release
-        n rest is tokens tt) tokens (ack_on_d w c n new) refl) (last-handing c
-        (block_message ReleaseAck c n new) at
+        carried-shown width (release_taken-shown c n (prune_told ((h.state.block n).pair c).letting) rest
+        (block_message ReleaseAck c n new) h.mail is.invariant (invariant-taken h c Release n rest is tokens tt)
+        tokens (ack_on_d w c n new) refl) (last-handing c (block_message ReleaseAck c n new) at
         (one ∙ ap (λ (i : Block (List ℕ)). (record { 0 = c }, block_message ReleaseAck c n i) ∷ [])
         (set-same n new h.state.block)) whole) is.carried

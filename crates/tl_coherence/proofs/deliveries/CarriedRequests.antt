@@ -131,20 +131,17 @@ taken-probing {w} {config} {log} {mail} {request} {s} {sys} {c} {k} n own j {m} 
       recorded-beat c k m sys.manager.trace i n,
       is.managed.recorded_is i n,
       kind,
-      same_above j
-          ((s.block n).pair i).recorded,
+      same_above j ((s.block n).pair i).recorded,
       swapped c i,
-    ) (and_comm (is_above j ((s.block n).pair i).recorded)
-    (not (own && (i == c)))) in
+    ) (and_comm (is_above j ((s.block n).pair i).recorded) (not (own && (i == c)))) in
     let none : (d : ℕ) → length config.clients.items ≤ d → test d ≡ false =
     λ d past. rw (beyond-none n is d past) (nothing_above j (own && (d == c))) in
     taken-landed
     (landed-coming queue sys
     (probes n j (probed config (service_for c m sys.manager.trace) j (with_beat c m k sys.manager.trace))) pushes
-    comes beats done
-    (λ v d at. channels-probes n j (length config.clients.items)
-    (λ i. holders.is_above j (recorded i (block_at m.address) (with_beat c m k sys.manager.trace))
-    && not (is_spared (service_for c m sys.manager.trace) i)) test v (λ i lt. same i) none d at))
+    comes beats done (λ v d at. channels-probes n j (length config.clients.items)
+    (λ i. holders.is_above j (recorded i (block_at m.address) (with_beat c m k sys.manager.trace)) && not
+    (is_spared (service_for c m sys.manager.trace) i)) test v (λ i lt. same i) none d at))
     (ends-coming comes ∙ rw last (is_last k (suc k) (omega arith)))
 
 -- ---- one message is handed out
@@ -172,7 +169,7 @@ pub carried-acquire_taken : {w : ℕ} {config : Config} {log : Log w} (h : Abstr
     (kind_taken config (next_tracker sys) c Acquire n rest h).state
     (system_after config c k (acquire_wanted c n h.state asked) queue sys)
 carried-acquire_taken {w} {config} {log} h {sys} {c} {n} {k} rest queue is first asked comes beats last moves =
-    let inv = invariant-taken config log h sys c Acquire n rest is first ready in
+    let inv = invariant-taken h c Acquire n rest is first ready in
     subst (λ (i : AcquirePhase). ChannelRelation (acquire_taken clients config.profile c n i tracker rest h).mail
     (acquire_taken clients config.profile c n i tracker rest h).state after) (sym asked.wants)
     (go (some_below clients (λ d. is_probed c true j (b.pair d).recorded d)) refl
@@ -217,24 +214,19 @@ carried-acquire_taken {w} {config} {log} h {sys} {c} {n} {k} rest queue is first
     go : (x : Bool) → some_below clients (λ d. is_probed c true j (b.pair d).recorded d) ≡ x
         → IsInvariant (is_caching config) (state_of x) → ChannelRelation h.mail (state_of x) after
     go true f kept =
-        let some = somebody-probed c k n true m is (acquires-so asked.whole)
-        (same_block n) (rw caps f) in
-        carried-shown comes.width (acquire_served-shown c n (b.source c) tracker j rest h.mail
-        is.invariant kept first ready.0) (taken-probing n true j
-        queue is comes beats last
-        (acquires-so asked.whole) (same_block n)
-        (ap (λ (d : Reaction w). d.handed) (reaction-probing config c k n j m sys.manager comes last (same_block n) caps
-        (probed-some config log h.mail h.request h.state sys c k n true j m is (acquires-so asked.whole) (same_block n)
-        ∙ ap not f)))) is.carried
+        let some = somebody-probed c k n true m is (acquires-so asked.whole) (same_block n) (rw caps f) in
+        carried-shown comes.width (acquire_served-shown c n (b.source c) tracker j rest h.mail is.invariant kept first
+        ready.0) (taken-probing n true j queue is comes beats last (acquires-so asked.whole) (same_block n)
+        (ap (λ (d : Reaction w). d.handed) (reaction-probing config c k n j m sys.manager comes last (same_block n)
+        caps (probed-some c k n true j m is (acquires-so asked.whole) (same_block n) ∙ ap not f)))) is.carried
     go false f kept =
         let new = granted_at_once c tracker data_too given b in
         let well : IsWell (is_caching config) new = subst (IsWell (is_caching config)) (set-same n new h.state.block)
         (kept.blocks n) in
-        carried-shown comes.width (acquire_granted-shown c n tracker data_too given rest
-        (block_message Grant c n new) h.mail is.invariant kept first ready.0 (once_on_d w c n tracker data_too
-        given b) refl) (taken-answering (block_message Grant c n new) queue sys comes beats last
-        (handed-granted is asked comes last
-        (rw caps f) well)) is.carried
+        carried-shown comes.width (acquire_granted-shown c n tracker data_too given rest (block_message Grant c n new)
+        h.mail is.invariant kept first ready.0 (once_on_d w c n tracker data_too given b) refl)
+        (taken-answering (block_message Grant c n new) queue sys comes beats last
+        (handed-granted is asked comes last (rw caps f) well)) is.carried
 
 -- ---- an access
 
@@ -243,12 +235,12 @@ answer_on_d m Answer.Ack = refl
 answer_on_d m r = refl
 
 -- an access that is answered at once changes the bytes only where no message carries them
-pub unread-bytes : {w : ℕ} (config : Config) (log : Log w) (mail : AccessMessages w) (request : ℕ → MessageA w)
-    (s : State (List ℕ)) (sys : System w) (c n : ℕ)
+pub unread-bytes : {w : ℕ} {config : Config} {log : Log w} {mail : AccessMessages w} {request : ℕ → MessageA w}
+    {s : State (List ℕ)} {sys : System w} (c n : ℕ)
     (m : MessageA w) → SimulationRelation config log mail request s sys → is_acquire m.opcode ≡ false
     → probes_some (length config.clients.items) c false (cap_probed m.opcode m.param) (s.block n).pair ≡ false
     → (k : Kind) (d : ℕ) → (carries k d (s.block n) ≡ false) ⊎ (performs m (s.block n).truth ≡ (s.block n).truth)
-unread-bytes {w} config log mail request s sys c n m is access none k d =
+unread-bytes {w} {config} {s} c n m is access none k d =
     let unheld : (i : ℕ) → cap_probed m.opcode m.param ≡ Some Cap.ToN
     → same_perm ((s.block n).pair i).recorded Perm.None ≡ true =
     λ i all. elim (cases_lt i (length config.clients.items)) [
@@ -259,7 +251,7 @@ unread-bytes {w} config log mail request s sys c n m is access none k d =
     ] in
     elim (leaves-bytes m (s.block n).truth access (is.sized n).truth) [
       | inl same ↦ inr same
-      | inr all ↦ inl (none-carried (is_caching config) (s.block n) (is.invariant.blocks n)
+      | inr all ↦ inl (none-carried (is.invariant.blocks n)
           (λ i. either (same_perm ((s.block n).pair i).held Perm.Trunk) (unheld i all)) k d)
     ]
   where
@@ -278,8 +270,7 @@ pub carried-request_taken : {w : ℕ} {config : Config} {log : Log w} (h : Abstr
     (kind_taken config (next_tracker sys) c Request source rest h).state
     (system_after config c k asked.request queue sys)
 carried-request_taken {w} {config} {log} h {sys} {c} {source} {k} rest queue is first asked comes beats last moves =
-    let inv = invariant-taken config log h sys c Request source rest is first
-    (ready-request h is asked comes last moves) in
+    let inv = invariant-taken h c Request source rest is first (ready-request h is asked comes last moves) in
     subst (λ (i : Message w). Carries (request_taken clients c source i tracker rest h)) (sym asked.is_it)
     (go (probes_some clients c false (cap_probed m.opcode m.param) b.pair) (cap_probed m.opcode m.param) refl refl
     (subst (λ (i : Message w). IsInvariant (is_caching config) (request_taken clients c source i tracker rest h).state)
@@ -314,8 +305,8 @@ carried-request_taken {w} {config} {log} h {sys} {c} {source} {k} rest queue is 
         → Carries (access_taken c source m tracker false None rest h)
     answered none kept =
         carried-shown comes.width (access_answered-shown c n source (performs m) rest (answers m
-        b.memory) h.mail is.invariant kept first asked.used (unread-bytes config log h.mail h.request h.state
-        sys c n m is asked.access none) (answer_on_d m (answer_of (Message.A m) (effect (Message.A m) (bytes_at n
+        b.memory) h.mail is.invariant kept first asked.used (unread-bytes c n m is asked.access none)
+        (answer_on_d m (answer_of (Message.A m) (effect (Message.A m) (bytes_at n
         b.memory)).1))) (taken-answering (answers m b.memory) queue sys comes beats last
         (handed-answered is asked comes last none)) is.carried
 
@@ -326,11 +317,9 @@ carried-request_taken {w} {config} {log} h {sys} {c} {source} {k} rest queue is 
     go true None f g kept = absurd (let no : false ≡ true = rw g at f in cc)
     go true (Some j) f g kept =
         let some : some_below clients (λ d. is_probed c false j (b.pair d).recorded d) ≡ true = rw g at f in
-        carried-shown comes.width (access_served-shown c n source tracker j rest h.mail
-        is.invariant kept first free) (taken-probing n false j queue is
-        comes beats last asked.access
-        refl
+        carried-shown comes.width (access_served-shown c n source tracker j rest h.mail is.invariant kept first free)
+        (taken-probing n false j queue is comes beats last asked.access refl
         (ap (λ (d : Reaction w). d.handed) (reaction-probing config c k n j m sys.manager comes last refl g
-        (probed-some config log h.mail h.request h.state sys c k n false j m is asked.access refl ∙ ap not some))))
+        (probed-some c k n false j m is asked.access refl ∙ ap not some))))
         is.carried
     go false o f g kept = answered f kept

@@ -103,7 +103,7 @@ responded-answer {w} {config} {log} h {sys} {c} {source} rest {x} {queue} due wi
     let none = acked_none is.y.opcode is.y.sink (ap is_grant is.opcode ∙ plain.0) in
     let pool : pool_of (finish_at is.y (sys.clients c)) ≡ Requests = finish_pool_is is ∙ rw plain.1 refl in
     let from : is.y.source ≡ source = is.source ∙ due.from in
-    let inv = invariant-taken config log h sys c Answer source rest matched first tt in
+    let inv = invariant-taken h c Answer source rest matched first tt in
     record {
       carried = rw none (carried-shown width (answer_taken-shown c source rest h.mail matched.invariant inv first)
           (taken_d None is) matched.carried);
@@ -114,8 +114,7 @@ responded-answer {w} {config} {log} h {sys} {c} {source} rest {x} {queue} due wi
     }
 
 pub responded-release_ack : {w : ℕ} {config : Config} {log : Log w} (h : AbstractState w) {sys : System w} {c : ℕ}
-    (n : ℕ)
-    (rest : List Packet) {x : Beat w} {queue : List (Beat w)} → IsWidth w
+    (n : ℕ) (rest : List Packet) {x : Beat w} {queue : List (Beat w)} → IsWidth w
     → SimulationRelation config log h.mail h.request h.state sys → (h.state.link c).d ≡ packet ReleaseAck n ∷ rest
     → is_unreleased ((h.state.block n).pair c).letting ≡ false
     → (is : IsLastBeat c x queue sys (ack_message ((h.state.block n).release_source c)))
@@ -125,7 +124,7 @@ unfolding accesses_answered
 responded-release_ack {w} {config} {log} h {sys} {c} n rest {x} {queue} width matched first open_ is =
     let none : acked {w = w} is.y.opcode is.y.sink ≡ None = acked_none is.y.opcode is.y.sink (ap is_grant is.opcode) in
     let pool = finish_pool_is is in
-    let inv = invariant-taken config log h sys c ReleaseAck n rest matched first tt in
+    let inv = invariant-taken h c ReleaseAck n rest matched first tt in
     record {
       carried = rw none (carried-shown width (release_ack_taken-shown c n rest h.mail matched.invariant inv first)
           (taken_d None is) matched.carried);
@@ -163,13 +162,13 @@ responded-grant {w} {config} {log} h {sys} {c} {n} rest {x} {queue} due width ma
   beside = subst (λ (p : Pool). MemoryRelation h.mail (grant_taken c
       n due.whole due.data_too due.k rest h.state) (after_end c p is.y.source ((one_memory_after config log).opened c p
       is.y.source) (one_memory_after config log))) (sym pool) (subst (λ (i : ℕ). MemoryRelation h.mail (grant_taken c n
-      due.whole due.data_too due.k rest h.state) (after_end c Requests i ((one_memory_after config log).opened c Requests
+      due.whole due.data_too due.k rest h.state)
+      (after_end c Requests i ((one_memory_after config log).opened c Requests
       i) (one_memory_after config log))) (sym is.source) (subst (λ (b : Bool). MemoryRelation h.mail (grant_taken c n b
       due.data_too due.k rest h.state) (after_end c Requests ((h.state.block n).source c) ((one_memory_after config
       log).opened c Requests ((h.state.block n).source c)) (one_memory_after config log))) (ap is_whole due.wants)
       (beside-grant c n due.data_too due.k rest matched.invariant (ap is_wanting due.wants) matched.beside)));
-  quiet = ap
-      (λ (m : Option (Message w)). accesses_answered (handed_by c m)) some;
+  quiet = ap (λ (m : Option (Message w)). accesses_answered (handed_by c m)) some;
 })
   where
     mm : MessageD w
@@ -189,4 +188,4 @@ responded-grant {w} {config} {log} h {sys} {c} {n} rest {x} {queue} due width ma
         due.wants
 
     inv : IsInvariant (is_caching config) (grant_taken c n due.whole due.data_too due.k rest h.state)
-    inv = rw same at (invariant-taken config log h sys c Grant n rest matched first tt)
+    inv = rw same at (invariant-taken h c Grant n rest matched first tt)

@@ -6,8 +6,8 @@ use Rattle.tl_coherence.proofs.deliveries.Imports.{Machine, moved, ChannelRelati
 use Rattle.tl_coherence.proofs.deliveries.Imports.{view, one_memory_after, performing, accesses_answered}
 use Rattle.tl_coherence.proofs.deliveries.Imports.{AccessMessages, Step, stepped, only, manager_took, is_to_client}
 use Rattle.tl_coherence.proofs.deliveries.Imports.{System, terms_at, with_client, with_manager, SimulationRelation}
-use Rattle.std.proofs.Common.{◌≡◌, ℕ, Bool, true, false, List, [], ◌∷◌, Option, Some, None, refl, sym, ◌∙◌, ap, subst}
-use Rattle.std.proofs.Common.{◌⊎◌, inl, inr}
+use Rattle.std.proofs.Common.{◌≡◌, ℕ, Bool, true, false, List, [], ◌∷◌, Option, Some, None, refl, sym, ◌∙◌, ap, ◌⊎◌}
+use Rattle.std.proofs.Common.{inl, inr}
 use Rattle.std.specs.Prelude.{◌==◌, if◌then◌else◌, Result, Ok, Err}
 use Rattle.std.proofs.lemmas.Bool.{cases_eq, ne_eqb, not-true, or_right}
 use Rattle.tl_params.specs.declared.rule.Rule.{Rule}
@@ -228,6 +228,5 @@ pub delivered-unmoved : {w : ℕ} {config : Config} {log : Log w} (link : Link) 
 delivered-unmoved {w} {config} {log} link ch h is still =
     let no = unmoved config link ch (system_after config log) still in
     delivered_as config log link ch h h (followed-still config link ch (system_after config log) h still)
-    (carried-unmoved h.mail h.state
-    no is.carried)
+    (carried-unmoved h.mail h.state no is.carried)
     (beside-unmoved config log link ch no is.beside)

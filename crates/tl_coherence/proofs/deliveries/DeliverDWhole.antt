@@ -15,9 +15,9 @@ use Rattle.tl_client.specs.declared.verdict.Verdict.{Verdict}
 use Rattle.tl_client.specs.statement.Endpoint as client
 use Rattle.tl_client.specs.statement.Offer as offer
 use Rattle.tl_coherence.specs.declared.event.Outcome.{Outcome}
-use Rattle.tl_coherence.proofs.{queues.Carried.IsNext, queues.FirstToken.IsFirst}
-use Rattle.tl_coherence.proofs.{queues.FirstToken.first-token, manager.UnwaitedRequests.next_tracker}
-use Rattle.tl_coherence.proofs.{queues.Tokens.holds-first, protocol.BothParts.acked-open}
+use Rattle.tl_coherence.proofs.{queues.Carried.IsNext, queues.FirstToken.IsFirst, queues.FirstToken.first-token}
+use Rattle.tl_coherence.proofs.{manager.UnwaitedRequests.next_tracker, queues.Tokens.holds-first}
+use Rattle.tl_coherence.proofs.{protocol.BothParts.acked-open}
 use Rattle.tl_coherence.proofs.protocol.HeadOfD.{grant_message, ack_message, answer-due, grant-due, grant-rendered}
 use Rattle.tl_coherence.proofs.client.DeliverD.{finish_at, acked, answer-last, answer-part, same_answers}
 use Rattle.tl_coherence.proofs.deliveries.DeliverDAfter.{IsLastBeat, IsResponded, followed-moving, on_d}
@@ -37,15 +37,14 @@ unfolding one_memory_after
 remembered_after {w} config log link ch x e = cc e
 
 last_d : {w : ℕ} (config : Config) (log : Log w) (link : Link) (h : AbstractState w) {h' : AbstractState w}
-    {terms : client.EndConfig}
-    {x : Beat w} {queue : List (Beat w)} {mm : MessageD w}
+    {terms : client.EndConfig} {x : Beat w} {queue : List (Beat w)} {mm : MessageD w}
     (is : IsLastBeat link.0 x queue (system_after config log) mm)
     → IsTakenByClient terms link.0 Channel.D x queue (system_after config log)
     (stepped config (Deliver link Channel.D) (system_after config log))
     → abstract_step config (Deliver link Channel.D) (system_after config log) h ≡ h'
     → IsResponded link.0 x queue (system_after config log) (one_memory_after config log) is.y.source
-    (finish_at is.y ((system_after config log).clients link.0))
-    (acked is.y.opcode is.y.sink) h' → IsDelivered config log link Channel.D h
+    (finish_at is.y ((system_after config log).clients link.0)) (acked is.y.opcode is.y.sink) h'
+    → IsDelivered config log link Channel.D h
 unfolding performing
 last_d {w} config log link h {h'} {x} {queue} is t same responded =
     delivered_as config log link Channel.D h h' same (subst (λ (y : Step w). ChannelRelation h'.mail h'.state y.after)
@@ -185,8 +184,7 @@ delivered-d {w} {config} {log} link h terms x queue width is known beats moving 
             } in
             last_d config log link h last t
             (follows ∙ ap (λ (b : Bool). if b then packet_taken config (next_tracker sys) c (h.state.link c).d h else h)
-            done
-            ∙ ap (λ (l : List Packet). packet_taken config (next_tracker sys) c l h) tokens) (responds last)
+            done ∙ ap (λ (l : List Packet). packet_taken config (next_tracker sys) c l h) tokens) (responds last)
         go false part = part_d link h mm next.k width is beats x_is part t
             (follows ∙ ap (λ (b : Bool). if b then packet_taken config (next_tracker sys) c (h.state.link c).d h else h)
             part)
@@ -202,12 +200,10 @@ delivered-d {w} {config} {log} link h terms x queue width is known beats moving 
         let due = grant-due (is_caching config) c n first.rest h.state is.invariant tokens in
         by_message Grant n (grant_message due.data_too due.k ((h.state.block n).source c) (h.state.block n).tracker
         (h.state.block n).truth) tokens (grant-rendered c n h.state due) next
-        (λ last. responded-grant h first.rest due width is tokens
-        (bare h due is.invariant) last)
+        (λ last. responded-grant h first.rest due width is tokens (bare h due is.invariant) last)
     kinds ReleaseAck n tokens own next =
         let acked_there = holds-first ReleaseAck (h.state.link c).d first.rest (packet ReleaseAck n)
-        (λ i. shown ReleaseAck c (h.state.block i)) tokens refl
-        (is.invariant.transfers c ReleaseAck refl) in
+        (λ i. shown ReleaseAck c (h.state.block i)) tokens refl (is.invariant.transfers c ReleaseAck refl) in
         by_message ReleaseAck n (ack_message ((h.state.block n).release_source c)) tokens
         (rendered_release_ack c n (h.state.block n)) next
         (λ last. responded-release_ack h n first.rest width is tokens

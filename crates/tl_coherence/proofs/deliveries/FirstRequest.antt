@@ -2,8 +2,7 @@
 use Rattle.tl_coherence.proofs.deliveries.Imports.{IsWidth, Beat, MessageA, a_beat_of, beats_of, unfinished, Config}
 use Rattle.tl_coherence.proofs.deliveries.Imports.{on_link, block_at, same_block, reaction, End, must_wait}
 use Rattle.tl_coherence.proofs.deliveries.Imports.{AbstractState, kind_taken, Free, packet, is_on, Log, message_of}
-use Rattle.tl_coherence.proofs.deliveries.Imports.{System, Kind, Request, Acquire}
-use Rattle.tl_coherence.proofs.deliveries.Imports.{Packet, SimulationRelation}
+use Rattle.tl_coherence.proofs.deliveries.Imports.{System, Kind, Request, Acquire, Packet, SimulationRelation}
 use Rattle.tl_coherence.proofs.deliveries.Imports.{MemoryRelation, Machine, ChannelRelation, accesses_answered}
 use Rattle.tl_coherence.proofs.deliveries.Imports.{performing, Channel, Message}
 use Rattle.std.proofs.Common.{◌≡◌, ℕ, suc, ◌+◌, ◌<◌, ◌==◌, true, false, List, [], ◌∷◌, None, length, refl, sym, ◌∙◌, ap}
@@ -83,7 +82,7 @@ on_link-access {w} {config} {log} h {sys} {c} {source} rest is first asked = rec
   unwaited = λ k more i src own j f same. unwaited-asked c source is asked.used
       i src own j f (sym asked.source_is ∙ same);
   ready = λ k comes last moves. ready-request h is asked comes last moves;
-  after = λ k comes last moves. at_manager-request_taken h rest is first asked comes last moves;
+  after = λ k comes last moves. at_manager-request_taken h rest is asked comes last moves;
   carried = λ k queue comes beats last moves. carried-request_taken h rest queue is first asked comes beats last moves;
   beside = λ k machine comes last beside. beside-request_taken h rest is asked comes last beside;
   once = λ k machine comes last beside. request-once h is asked comes last beside;
@@ -103,10 +102,10 @@ on_link-acquire {w} {config} {log} h {sys} {c} {n} rest width is first asked = r
   unwaited = λ k more. let one = acquisition_beats w asked.whole asked.grow ((h.state.block n).source c) n in
       absurd (omega (arith, more, one));
   ready = λ k comes last moves. ready-acquire h is asked comes last moves;
-  after = λ k comes last moves. at_manager-acquire_taken h rest is first asked comes last moves;
+  after = λ k comes last moves. at_manager-acquire_taken h rest is asked comes last moves;
   carried = λ k queue comes beats last moves. carried-acquire_taken h rest queue is first asked comes beats last moves;
   beside = λ k machine comes last beside. beside-acquire_taken h rest is asked comes last beside;
-  once = λ k machine comes last beside. inl (acquire-accesses config log h sys c n k is asked comes last);
+  once = λ k machine comes last beside. inl (acquire-accesses h k is asked comes last);
 }
   where
     m : MessageA w
@@ -121,8 +120,7 @@ on_link-acquire {w} {config} {log} h {sys} {c} {n} rest width is first asked = r
         ends-burst c k m sys.manager burst ∙ is_last k (beats_of (Message.A m)) (omega (arith, lt, one)) in
         let free_at = unserved-free (block_at m.address) is.managed
         (or_parts (is_in_service (block_at m.address) (services sys.manager.trace))
-        (nat_le config.trackers (length (services sys.manager.trace)))
-        (rw ended at moves)).0 in
+        (nat_le config.trackers (length (services sys.manager.trace))) (rw ended at moves)).0 in
         ap (λ i. (h.state.block i).service) (sym (same_block n)) ∙ free_at
 
 -- ---- what is first on the channel
@@ -172,8 +170,7 @@ arrival-first {w} {config} {log} h {sys} c x queue width is beats = go (h.state.
         arrived Request i rest asked.request (on_link-access h rest is e asked)
     of_kind Acquire i rest e =
         let wanted = wanted-first c i rest is e in
-        arrived Acquire i rest (acquire_wanted c i h.state wanted) (on_link-acquire h rest width is e
-        wanted)
+        arrived Acquire i rest (acquire_wanted c i h.state wanted) (on_link-acquire h rest width is e wanted)
     of_kind k i rest e = absurd (apart k i rest e refl)
 
     go : (xs : List Packet) → (h.state.link c).a ≡ xs → IsArrival config h sys c x queue
@@ -189,8 +186,7 @@ pub coming-arrival : {w : ℕ} {config : Config} {log : Log w} {h : AbstractStat
     sys.manager
 coming-arrival {w} {config} {log} {h} {sys} {c} {queue} width is beats arrives moves =
     let y = a_beat_of arrives.request arrives.next.k in
-    let first = first-beat c y queue is
-    (beats ∙ ap (λ (z : Beat w). z ∷ queue) arrives.next.beat_is) in
+    let first = first-beat c y queue is (beats ∙ ap (λ (z : Beat w). z ∷ queue) arrives.next.beat_is) in
     let moves_so : must_wait config (link_of c) (Beat.A y) sys.manager.trace ≡ false =
     rw arrives.next.beat_is at moves in
     record {
@@ -211,8 +207,7 @@ pub request-taken : {w : ℕ} {config : Config} {log : Log w} {h : AbstractState
     → must_wait config (link_of c) x sys.manager.trace ≡ false → offered config (link_of c) Channel.A x sys.manager
     ≡ (
       manager.Sent (reaction config (link_of c) x sys.manager).handed,
-      end_after config c arrives.next.k
-          arrives.request sys.manager,
+      end_after config c arrives.next.k arrives.request sys.manager,
     )
 request-taken {w} {config} {log} {h} {sys} {c} {x} {queue} width is beats arrives moves =
     let comes = coming-arrival width is beats arrives moves in
@@ -227,8 +222,7 @@ pub request-stalled : {w : ℕ} {config : Config} {log : Log w} {h : AbstractSta
     → offered config (link_of c) Channel.A x sys.manager ≡ (manager.Stalled, sys.manager)
 request-stalled {w} {config} {log} {h} {sys} {c} {queue} is beats arrives waits =
     let y = a_beat_of arrives.request arrives.next.k in
-    let first = first-beat c y queue is
-    (beats ∙ ap (λ (z : Beat w). z ∷ queue) arrives.next.beat_is) in
+    let first = first-beat c y queue is (beats ∙ ap (λ (z : Beat w). z ∷ queue) arrives.next.beat_is) in
     let waits_so : must_wait config (link_of c) (Beat.A y) sys.manager.trace ≡ true =
     rw arrives.next.beat_is at waits in
     rw arrives.next.beat_is (offered-stalled config (link_of c) Channel.A (Beat.A y) sys.manager

@@ -38,9 +38,9 @@ pub use Rattle.tl_coherence.specs.protocol.Protocol.{Block, Free, GrantSent, Gra
 pub use Rattle.tl_coherence.specs.protocol.Protocol.{Waits, is_on, let_block, packet, packets_on, release_taken}
 pub use Rattle.tl_coherence.specs.protocol.Protocol.{report_taken, view}
 pub use Rattle.tl_coherence.specs.protocol.Tokens.{shown}
-pub use Rattle.tl_coherence.specs.refinement.AbstractStep.{AbstractState, abstract_step}
-pub use Rattle.tl_coherence.specs.refinement.AbstractStep.{ack_taken, answers, abstract_delivery}
-pub use Rattle.tl_coherence.specs.refinement.AbstractStep.{kind_taken, last_taken, packet_taken, with_state}
+pub use Rattle.tl_coherence.specs.refinement.AbstractStep.{AbstractState, abstract_step, ack_taken, answers}
+pub use Rattle.tl_coherence.specs.refinement.AbstractStep.{abstract_delivery, kind_taken, last_taken, packet_taken}
+pub use Rattle.tl_coherence.specs.refinement.AbstractStep.{with_state}
 unfoldable pub use Rattle.tl_coherence.specs.refinement.AbstractStep.{some_below}
 pub use Rattle.tl_coherence.specs.refinement.ChannelRelation.{ChannelRelation}
 pub use Rattle.tl_coherence.specs.statement.Delivery.{receiver}

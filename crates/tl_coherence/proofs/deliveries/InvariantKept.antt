@@ -85,16 +85,16 @@ ready_up tracker c ch k i h up own = absurd cc
 -- ---- every event
 
 -- what is taken with the last beat of a message may be taken
-pub ready-delivered : {w : ℕ} (config : Config) (log : Log w) (mail : AccessMessages w) (request : ℕ → MessageA w)
-    (s : State (List ℕ)) (sys : System w) (link : Link) (ch : Channel) (x : Beat w) (queue : List (Beat w)) → IsWidth w
+pub ready-delivered : {w : ℕ} {config : Config} {log : Log w} {mail : AccessMessages w} {request : ℕ → MessageA w}
+    {s : State (List ℕ)} {sys : System w} {link : Link} (ch : Channel) {x : Beat w} {queue : List (Beat w)} → IsWidth w
     → SimulationRelation config log mail request s sys → (d : IsDelivery config mail s sys link ch x queue)
     → IsReady (next_tracker sys) link.0 d.first.kind d.first.number (shadow_of mail request s)
-ready-delivered config log mail request s sys link Channel.A x queue width h d = ready-a width h d
-ready-delivered config log mail request s sys link Channel.C x queue width h d =
+ready-delivered Channel.A width h d = ready-a width h d
+ready-delivered {mail} {request} {s} {sys} {link} Channel.C width h d =
     ready_up (next_tracker sys) link.0 Channel.C d.first.kind d.first.number (shadow_of mail request s) refl d.first.own
-ready-delivered config log mail request s sys link Channel.E x queue width h d =
+ready-delivered {mail} {request} {s} {sys} {link} Channel.E width h d =
     ready_up (next_tracker sys) link.0 Channel.E d.first.kind d.first.number (shadow_of mail request s) refl d.first.own
-ready-delivered config log mail request s sys link ch x queue width h d =
+ready-delivered {link} ch width h d =
     ready-client link ch d.first.kind d.first.number d.first.rest width h refl d.first.own d.moves d.beats
     d.first.tokens d.first.next
 
@@ -104,8 +104,8 @@ invariant-delivered : {w : ℕ} {config : Config} {log : Log w} {mail : AccessMe
     → IsInvariant (is_caching config) (taken_of config mail request s sys link.0 d.first.kind d.first.number
     d.first.rest).state
 invariant-delivered {config} {log} {mail} {request} {s} {sys} {link} {ch} {x} {queue} width h d =
-    invariant-taken config log (shadow_of mail request s) sys link.0 d.first.kind d.first.number d.first.rest h
-    (on-first d) (ready-delivered config log mail request s sys link ch x queue width h d)
+    invariant-taken (shadow_of mail request s) link.0 d.first.kind d.first.number d.first.rest h
+    (on-first d) (ready-delivered ch width h d)
 
 pub invariant-followed : {w : ℕ} {config : Config} {log : Log w} {mail : AccessMessages w} {request : ℕ → MessageA w}
     {s : State (List ℕ)} {sys : System w}

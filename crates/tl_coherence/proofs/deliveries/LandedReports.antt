@@ -1,6 +1,6 @@
 -- The channels after a beat of channel C or E was taken, and the bytes on their way.
 use Rattle.tl_rules.specs.declared.answer.Answer as answers_of
-use Rattle.tl_rules.specs.declared.answer.Answer.TheVariants as answer
+use Rattle.tl_rules.{specs.declared.answer.Answer.Answer, specs.statement.History.is_acquire}
 use Rattle.tl_coherence.proofs.deliveries.Imports.{same_perm, beat_of, unfinished, completes, EndConfig, Handed}
 use Rattle.tl_coherence.proofs.deliveries.Imports.{reaction, End, Deliver, Log, ChannelRelation, receiver, Step}
 use Rattle.tl_coherence.proofs.deliveries.Imports.{handing, is_to_client, stepped, System, terms_at, with_channel}
@@ -8,7 +8,7 @@ use Rattle.tl_coherence.proofs.deliveries.Imports.{with_manager, with_messages, 
 use Rattle.tl_coherence.proofs.deliveries.Imports.{IsWidth, Beat, Channel, Message, MessageA, Config, Cap, Report, Perm}
 use Rattle.tl_coherence.proofs.deliveries.Imports.{prune_left, AbstractState, IsWell, ClientBlock, ProbeAnswered, Waits}
 use Rattle.tl_coherence.proofs.deliveries.Imports.{Block, shown, view, GrantSent, prune_told, block_message, Kind}
-use Rattle.tl_coherence.proofs.deliveries.Imports.{ProbeAck, Release, Answer, Grant, ReleaseAck}
+use Rattle.tl_coherence.proofs.deliveries.Imports.{ProbeAck, Release, Grant, ReleaseAck}
 use Rattle.tl_burst.specs.declared.message.MessageC.{MessageC}
 use Rattle.tl_manager.{specs.statement.Handing.access_answer, specs.statement.Holders.cap_probed}
 use Rattle.tl_manager.specs.code.Kept as manager
@@ -28,7 +28,6 @@ use Rattle.std.proofs.Common.{◌≡◌, ℕ, Bool, true, false, List, [], ◌�
 use Rattle.std.proofs.Common.{subst, ◌⊎◌, inl, inr}
 use Rattle.std.{proofs.lemmas.Bool.cases_eq, proofs.Math.Bool.or-true, proofs.lemmas.Option.same_Some}
 use Rattle.tl_params.specs.statement.Param.{report_right}
-use Rattle.tl_rules.specs.statement.History.{is_acquire}
 use Rattle.tl_coherence.proofs.queues.Tokens.{set-same, set-other, set-part}
 
 -- ---- an access that ends leaves the bytes on their way, or there are none
@@ -43,29 +42,26 @@ unrecorded : {caching : ℕ → Bool} (c q source : ℕ) (r : Report) (f : List 
     → ((d : ℕ) → (d ≡ c → ⊥) → is_unprobed (b.pair d).probing ≡ true) → (d : ℕ)
     → same_perm ((ended_block c r f b).pair d).recorded Perm.None ≡ true
 unrecorded c q source r f {b} well waits answered settled d = elim (cases_eq d c) [
-  | inl same ↦
-      rw (same, set-same c (after_report r (b.pair c)) b.pair)
-      (least (report_right r) (reported_within Cap.ToN r (b.pair c) (view b.service c) (well.phases c)
-      (rw waits refl) answered))
-  | inr other ↦
-      rw (set-other c d (after_report r (b.pair c)) b.pair other)
+  | inl same ↦ rw (same, set-same c (after_report r (b.pair c)) b.pair)
+      (least (report_right r) (reported_within Cap.ToN r (b.pair c) (view b.service c) (well.phases c) (rw waits refl)
+      answered))
+  | inr other ↦ rw (set-other c d (after_report r (b.pair c)) b.pair other)
       (least (b.pair d).recorded (spared_within Cap.ToN (b.pair d) (view b.service d) (well.phases d) (rw waits refl)
       (quiet-is (b.pair d).probing (settled d other))))
 ]
 
-pub ended-bytes : {w : ℕ} (caching : ℕ → Bool) (c q source : ℕ) (r : Report) (k : Cap) (m : MessageA w)
-    (b : Block (List ℕ)) → IsWell caching b → IsWell caching (ended_block c r (performs m) b)
+pub ended-bytes : {w : ℕ} {caching : ℕ → Bool} (c q source : ℕ) (r : Report) (k : Cap) (m : MessageA w)
+    {b : Block (List ℕ)} → IsWell caching b → IsWell caching (ended_block c r (performs m) b)
     → b.service ≡ Waits q false source k → (b.pair c).probing ≡ ProbeAnswered r
     → ((d : ℕ) → (d ≡ c → ⊥) → is_unprobed (b.pair d).probing ≡ true) → is_acquire m.opcode ≡ false
     → cap_probed m.opcode m.param ≡ Some k → length b.truth ≡ 64 → (j : Kind) (i : ℕ) → shown j i b ≡ true
     → shown j i (ended_block c r (performs m) b) ≡ true → (carries j i b ≡ false) ⊎ (performs m b.truth ≡ b.truth)
-ended-bytes {w} caching c q source r k m b before after waits answered settled access low long j i shown_now
+ended-bytes {w} {caching} c q source r k m {b} before after waits answered settled access low long j i shown_now
     shown_after = elim (leaves-bytes m b.truth access long) [
       | inl same ↦ inr same
-      | inr all ↦ inl (kept j shown_after ∙ none-carried caching new after
-          (λ d. rw (unrecorded c q source r (performs m) before
-          (rw (same_Some k Cap.ToN (sym low ∙ all)) at waits) answered settled d)
-          (or-true (same_perm (new.pair d).held Perm.Trunk))) j i)
+      | inr all ↦ inl (kept j shown_after ∙ none-carried after
+          (λ d. rw (unrecorded c q source r (performs m) before (rw (same_Some k Cap.ToN (sym low ∙ all)) at waits)
+          answered settled d) (or-true (same_perm (new.pair d).held Perm.Trunk))) j i)
     ]
   where
     new : Block (List ℕ)
@@ -175,7 +171,7 @@ last-handing {config} {log} {h} {sys} {c} q {ch} {x} {queue} m at one last =
 
 pub answer_on_d : {w : ℕ} (v : MessageA w) (kind : answers_of.Answer)
     → channel_of_message (access_answer v kind) ≡ Channel.D
-answer_on_d v answer.Ack = refl
+answer_on_d v Answer.Ack = refl
 answer_on_d v kind = refl
 
 pub grant_on_d : (w : ℕ) (q n : ℕ) (b : Block (List ℕ)) (d : Bool) (k : Cap) → b.service ≡ GrantSent q d k

@@ -73,16 +73,15 @@ Does config c h h' kind n e x = IsManagerOf config h' (left c x (reaction config
 -- where its last beat is taken
 pub reported-last : {w : ℕ} {config : Config} {log : Log w} (h : AbstractState w) {sys : System w} {c n k : ℕ}
     (rest : List Packet) {m : MessageC w} → SimulationRelation config log h.mail h.request h.state sys
-    → (h.state.link c).c ≡ packet ProbeAck n ∷ rest → ((h.state.block n).pair c).probing
-    ≡ ProbeAnswered (report_told ((h.state.block n).pair c).probing)
-    → IsTakenUp config c Channel.C (Beat.C (c_beat_of m k)) sys.manager
+    → (h.state.link c).c ≡ packet ProbeAck n ∷ rest → ((h.state.block n).pair c).probing ≡ ProbeAnswered
+    (report_told ((h.state.block n).pair c).probing) → IsTakenUp config c Channel.C (Beat.C (c_beat_of m k)) sys.manager
     → IsEnd true c n (report_code (report_told ((h.state.block n).pair c).probing))
     (same_perm (report_left (report_told ((h.state.block n).pair c).probing)) Perm.Trunk) (h.state.block n).truth k m
     sys.manager → Does config c h (ack_taken (length config.clients.items) config.profile c n
     (report_told ((h.state.block n).pair c).probing) rest h) ProbeAck n sys.manager (Beat.C (c_beat_of m k))
 reported-last {w} {config} {log} h {sys} {c} {n} {k} rest {m} is tokens answered up end =
     others (some_below (length config.clients.items) (others_probed c b.pair)) refl
-    (invariant-taken config log h sys c ProbeAck n rest is tokens tt)
+    (invariant-taken h c ProbeAck n rest is tokens tt)
   where
     b : Block (List ℕ)
     b = h.state.block n
@@ -125,13 +124,11 @@ reported-last {w} {config} {log} h {sys} {c} {n} {k} rest {m} is tokens answered
           end = end;
           alone = alone;
           waits = f;
-          named = is.invariant.named;
           is = at_manager-matched is;
         } in (
           ended-left rest at,
-          ap (λ (d : Reaction w). d.handed) (reaction-ended at)
-              ∙ rw (set_at-same q source (answers (h.request n) (protocol.written r b.truth b.memory)) h.mail.answer)
-              refl,
+          ap (λ (d : Reaction w). d.handed) (reaction-ended at) ∙ rw
+              (set_at-same q source (answers (h.request n) (protocol.written r b.truth b.memory)) h.mail.answer) refl,
         )
     last alone (Waits q true source low) f inv = go (b.pair q).acquiring refl inv
       where
@@ -167,7 +164,6 @@ reported-last {w} {config} {log} h {sys} {c} {n} {k} rest {m} is tokens answered
               end = end;
               alone = alone;
               waits = f;
-              named = is.invariant.named;
               is = at_manager-matched is;
             } in
             let wanted : IsWanted c q n source whole grow h =
@@ -181,11 +177,10 @@ reported-last {w} {config} {log} h {sys} {c} {n} {k} rest {m} is tokens answered
             (gift_after config c n r whole grow h) b in
             let here : set n new h.state.block n ≡ new = set-same n new h.state.block in (
               conceded-left rest at wanted,
-              ap (λ (d : Reaction w). d.handed) (reaction-conceded at
-                  wanted)
-                  ∙ ap (λ (i : Message w). (record { 0 = q }, i) ∷ [])
-                  (grant-rendered config (is_caching config) c q n source r whole grow h own_source
-                  (subst (IsWell (is_caching config)) here (after.blocks n)) ∙ ap (block_message Grant q n) (sym here)),
+              ap (λ (d : Reaction w). d.handed) (reaction-conceded at wanted) ∙ ap
+                  (λ (i : Message w). (record { 0 = q }, i) ∷ []) (grant-rendered config c q n source r whole grow h
+                  own_source (subst (IsWell (is_caching config)) here (after.blocks n)) ∙ ap (block_message Grant q n)
+                  (sym here)),
             )
 
     others : (y : Bool) → some_below (length config.clients.items) (others_probed c b.pair) ≡ y
@@ -197,8 +192,7 @@ reported-last {w} {config} {log} h {sys} {c} {n} {k} rest {m} is tokens answered
         (length config.clients.items) config.profile c n r b.service rest h))
     others true f inv = (
       reported-left r rest h up end f (at_manager-matched is),
-      ap (λ (d : Reaction w). d.handed)
-          (reaction-reported config r h end f is.managed) ∙ rw f refl,
+      ap (λ (d : Reaction w). d.handed) (reaction-reported config r h end f (at_manager-matched is).traced) ∙ rw f refl,
     )
     others false f inv =
         let done = last f b.service refl inv in

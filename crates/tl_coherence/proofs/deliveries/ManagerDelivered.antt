@@ -2,12 +2,11 @@
 -- is kept as the protocol follows.
 use Rattle.tl_coherence.proofs.deliveries.Imports.{reaction-part, Reaction, Handed, IsWidth, Beat, Channel, Message}
 use Rattle.tl_coherence.proofs.deliveries.Imports.{beats_of, unfinished, completes, Config, Prune, Report, prune_left}
-use Rattle.tl_coherence.proofs.deliveries.Imports.{on_link, same_perm, IsFor, reaction, End, AbstractState}
-use Rattle.tl_coherence.proofs.deliveries.Imports.{ack_taken, packet_taken, with_state, Log, ProbeAnswered, GrantTaken}
-use Rattle.tl_coherence.proofs.deliveries.Imports.{Block, release_taken, shown, packet, let_block}
-use Rattle.tl_coherence.proofs.deliveries.Imports.{prune_told, block_message, report_told, System, Kind, ProbeAck}
-use Rattle.tl_coherence.proofs.deliveries.Imports.{Release, GrantAck, Packet, ReleaseAck, SimulationRelation}
-use Rattle.tl_coherence.proofs.deliveries.Imports.{is_caching, Perm}
+use Rattle.tl_coherence.proofs.deliveries.Imports.{on_link, same_perm, IsFor, reaction, End, AbstractState, ack_taken}
+use Rattle.tl_coherence.proofs.deliveries.Imports.{packet_taken, with_state, Log, ProbeAnswered, GrantTaken, Block}
+use Rattle.tl_coherence.proofs.deliveries.Imports.{release_taken, shown, packet, let_block, prune_told, block_message}
+use Rattle.tl_coherence.proofs.deliveries.Imports.{report_told, System, Kind, ProbeAck, Release, GrantAck, Packet}
+use Rattle.tl_coherence.proofs.deliveries.Imports.{ReleaseAck, SimulationRelation, is_caching, Perm}
 use Rattle.tl_coherence.proofs.{queues.FirstToken.first-token, manager.ManagersEnd.at_manager-matched}
 use Rattle.tl_coherence.proofs.{queues.Carried.IsNext, manager.ManagedAcks.IsAcked, queues.Tokens.holds-first}
 use Rattle.tl_coherence.proofs.{queues.Tokens.set-same, manager.Admitted.head_all}
@@ -18,9 +17,8 @@ use Rattle.std.{specs.Prelude.◌==◌, specs.Prelude.if◌then◌else◌, proof
 use Rattle.tl_beat.specs.declared.beat.BeatE.{BeatE}
 use Rattle.tl_burst.specs.declared.message.MessageC.{MessageC}
 use Rattle.tl_burst.specs.statement.Burst.{begun, c_beat_of}
-use Rattle.tl_params.specs.statement.Param.{prune_code}
+use Rattle.tl_params.{specs.statement.Param.prune_code, specs.declared.key.Key.TheVariants.GrantSink}
 use Rattle.tl_rules.{specs.statement.Conformance.broken_in_order, specs.statement.History.pending}
-use Rattle.tl_params.specs.declared.key.Key.TheVariants.{GrantSink}
 use Rattle.tl_manager.specs.code.Kept as manager
 use Rattle.tl_coherence.specs.{protocol.Phase.ReleaseSent, protocol.Protocol.grant_ack_taken}
 use Rattle.tl_coherence.proofs.manager.ManagerAfter.{IsManagerOf, left, IsEnd, report_part-left, released-left}
@@ -114,9 +112,7 @@ reports-delivered {w} {config} {log} h {sys} c n rest {x} {queue} {ms} width is 
     (head_all (λ y. manager.IsSound config (record { 0 = c }, y)) x queue (sys.channels c Channel.C) beats
     (is.sound c Channel.C))
     (subst (λ (i : Message w). IsNext x (unfinished Channel.C (on_link c sys.manager.trace)) i ms queue) about.1 next)
-    (λ k before. report-order c k r
-    is.invariant is.managed is.served is.manager_kept
-    answered about.2 before)
+    (λ k before. report-order c k r is.invariant is.managed is.served is.manager_kept answered about.2 before)
     (λ k all before up. reported-last h rest is tokens answered up
     (record { width = width; about = about.2; rest = before; last = all; long = (is.sized n).truth }))
 
@@ -145,15 +141,12 @@ releases-delivered {w} {config} {log} h {sys} c n rest {x} {queue} {ms} width is
     (head_all (λ y. manager.IsSound config (record { 0 = c }, y)) x queue (sys.channels c Channel.C) beats
     (is.sound c Channel.C))
     (subst (λ (i : Message w). IsNext x (unfinished Channel.C (on_link c sys.manager.trace)) i ms queue) about.1 next)
-    (λ k before. release-order c k r rest
-    is.invariant is.managed is.manager_kept tokens releasing
-    about.2 before)
+    (λ k before. release-order c k r rest is.invariant is.managed is.manager_kept tokens releasing about.2 before)
     (λ k all before up.
     let end : IsEnd false c n (prune_code r) (same_perm (prune_left r) Perm.Trunk) (h.state.block n).truth k m
     sys.manager =
     record { width = width; about = about.2; rest = before; last = all; long = (is.sized n).truth } in (
-      released-left r rest h up end (at_manager-matched
-          is),
+      released-left r rest h up end (at_manager-matched is),
       ap (λ (d : Reaction w). d.handed) (reaction-released config r h end)
           ∙ ap (λ (i : ℕ). (record { 0 = c }, release_ack {w = w} i) ∷ []) about.3
           ∙ sym (ap (λ (b : Block (List ℕ)). (record { 0 = c }, block_message {w = w} ReleaseAck c n b) ∷ [])
@@ -206,8 +199,6 @@ acks-delivered {w} {config} {log} h {sys} c n rest {x} {queue} width is beats to
       acquires = let for : IsFor (GrantTaken c) n (h.request n) = rw taken_is at (is.served.requests n) in for.0;
       named = is.invariant.named;
       apart = is.manager_kept.blocks_apart;
-      pends = order.0;
-      accounted = is.manager_kept.steady.accounted;
     }
 
 -- ---- channels C and E

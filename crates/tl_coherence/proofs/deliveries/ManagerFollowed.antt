@@ -51,8 +51,7 @@ pub manager-taken : {w : ℕ} (config : Config) (c : ℕ) (ch : Channel) (x : Be
 manager-taken {w} config c ch x queue sys t terms beats down up =
     cc (
       step-taken config c ch x queue sys t terms beats down up,
-      manager-with_messages
-          (reaction config (record { 0 = c }) x sys.manager).handed
+      manager-with_messages (reaction config (record { 0 = c }) x sys.manager).handed
           (with_manager (left c x (reaction config (record { 0 = c }) x sys.manager) sys.manager)
           (with_channel c ch queue sys)),
     )
@@ -77,13 +76,11 @@ pub manager-followed_c : {w : ℕ} {config : Config} {log : Log w} (h : Abstract
     (stepped config (Deliver (record { 0 = c }) Channel.C) sys).after.manager
 manager-followed_c {w} {config} {log} h {sys} c x queue width is beats =
     let t = client-of config c Channel.C x queue sys beats (is.sound c Channel.C) in
-    let d = channel_c-delivered (least_untaken (trackers_of (services sys.manager.trace))) h c x queue
-    width is beats in
+    let d = channel_c-delivered (least_untaken (trackers_of (services sys.manager.trace))) h c x queue width is beats in
     subst (λ (i : End w). IsManagerOf config (abstract_step config (Deliver (record { 0 = c }) Channel.C) sys h) i)
     (sym (manager-taken config c Channel.C x queue sys t.0 t.1 beats refl d.up))
     (subst (λ (i : AbstractState w). IsManagerOf config i (left c x (reaction config (record { 0 = c }) x sys.manager)
-    sys.manager))
-    (sym (followed-taken queue sys h t.0 t.1 beats refl d.up)) d.manager)
+    sys.manager)) (sym (followed-taken queue sys h t.0 t.1 beats refl d.up)) d.manager)
 
 pub manager-followed_e : {w : ℕ} {config : Config} {log : Log w} (h : AbstractState w) {sys : System w} (c : ℕ)
     (x : Beat w) (queue : List (Beat w)) → IsWidth w
@@ -92,10 +89,8 @@ pub manager-followed_e : {w : ℕ} {config : Config} {log : Log w} (h : Abstract
     (stepped config (Deliver (record { 0 = c }) Channel.E) sys).after.manager
 manager-followed_e {w} {config} {log} h {sys} c x queue width is beats =
     let t = client-of config c Channel.E x queue sys beats (is.sound c Channel.E) in
-    let d = channel_e-delivered (least_untaken (trackers_of (services sys.manager.trace))) h c x queue
-    width is beats in
+    let d = channel_e-delivered (least_untaken (trackers_of (services sys.manager.trace))) h c x queue width is beats in
     subst (λ (i : End w). IsManagerOf config (abstract_step config (Deliver (record { 0 = c }) Channel.E) sys h) i)
     (sym (manager-taken config c Channel.E x queue sys t.0 t.1 beats refl d.up))
     (subst (λ (i : AbstractState w). IsManagerOf config i (left c x (reaction config (record { 0 = c }) x sys.manager)
-    sys.manager))
-    (sym (followed-taken queue sys h t.0 t.1 beats refl d.up)) d.manager)
+    sys.manager)) (sym (followed-taken queue sys h t.0 t.1 beats refl d.up)) d.manager)

@@ -1,8 +1,8 @@
 -- What is kept of the manager's end is kept by every event, where the invariant is.
 use Rattle.tl_coherence.proofs.deliveries.Imports.{IsWidth, Beat, Channel, Config, EndConfig, Event, Ask, Deliver}
-use Rattle.tl_coherence.proofs.deliveries.Imports.{AbstractState, abstract_delivery, abstract_step, IsInvariant, Log}
-use Rattle.tl_coherence.proofs.deliveries.Imports.{Step, stepped, System, terms_at, SimulationRelation, is_caching}
-use Rattle.std.proofs.Common.{◌≡◌, subst, ℕ, List, [], ◌∷◌, Option, Some, None, refl, sym}
+use Rattle.tl_coherence.proofs.deliveries.Imports.{AbstractState, abstract_step, Log, stepped, System, terms_at}
+use Rattle.tl_coherence.proofs.deliveries.Imports.{SimulationRelation, is_caching}
+use Rattle.std.proofs.Common.{◌≡◌, ℕ, List, [], ◌∷◌, Option, Some, None, refl}
 use Rattle.std.specs.Prelude.{⊤}
 use Rattle.tl_client.specs.statement.Ask as client_ask
 use Rattle.tl_coherence.specs.statement.Step.{client_of}
@@ -12,15 +12,10 @@ use Rattle.tl_coherence.proofs.{deliveries.RequestsDelivered.at_manager-delivere
 use Rattle.tl_coherence.proofs.deliveries.ManagerFollowed.{manager-followed_c, manager-followed_e}
 use Rattle.tl_coherence.proofs.manager.UnseenSteps.{at_manager-nobody, at_manager-ask, at_manager-to_client}
 
--- what the invariant asks for at an event of a client with these terms: that a client may do what it is asked; that
--- the invariant is kept as a client takes a beat
+-- what the invariant asks for at an event of a client with these terms: that the client may do what it is asked
 abbrev pub IsAllowed : {w : ℕ} → Config → Event w → EndConfig → System w → AbstractState w → Type 0
 IsAllowed config (Ask c o) terms sys h =
     IsAskable (is_caching config) c o (client_ask.asked terms o (sys.clients c)).reply h
-IsAllowed config (Deliver link Channel.B) terms sys h =
-    IsInvariant (is_caching config) (abstract_step config (Deliver link Channel.B) sys h).state
-IsAllowed config (Deliver link Channel.D) terms sys h =
-    IsInvariant (is_caching config) (abstract_step config (Deliver link Channel.D) sys h).state
 IsAllowed config event terms sys h = ⊤
 
 -- where a channel is empty
@@ -56,12 +51,12 @@ manager-kept {w} {config} {log} h {sys} event width is may = go (terms_at config
         → IsManagerOf config (abstract_step config event sys h) (stepped config event sys).after.manager
     with_terms terms (Ask c o) client allowed = at_manager-ask h c o terms is client allowed
     with_terms terms (Deliver link Channel.A) client allowed = at_manager-delivered_a h link.0 terms width is client
-    with_terms terms (Deliver link Channel.B) client allowed = at_manager-to_client h link Channel.B
-        terms is client refl allowed
+    with_terms terms (Deliver link Channel.B) client allowed = at_manager-to_client h link Channel.B terms is client
+        refl
     with_terms terms (Deliver link Channel.C) client allowed =
         reports link.0 terms client (sys.channels link.0 Channel.C) refl
-    with_terms terms (Deliver link Channel.D) client allowed = at_manager-to_client h link Channel.D
-        terms is client refl allowed
+    with_terms terms (Deliver link Channel.D) client allowed = at_manager-to_client h link Channel.D terms is client
+        refl
     with_terms terms (Deliver link Channel.E) client allowed = acks link.0 terms client (sys.channels link.0 Channel.E)
         refl
 

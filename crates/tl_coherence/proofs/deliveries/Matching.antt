@@ -1,4 +1,15 @@
 -- What is kept of the whole is kept by every event: so it holds after every log, beside the protocol as it follows.
+use Rattle.tl_coherence.proofs.{manager.BlockAccounts.managed-traced, manager.Accounts.are_served-traced}
+use Rattle.tl_coherence.proofs.{deliveries.AcksAfter.delivered-e, client.Askable.askable}
+use Rattle.tl_coherence.proofs.{deliveries.AskedAfter.carried-ask, deliveries.AskedAfter.beside-ask}
+use Rattle.tl_coherence.proofs.{deliveries.AskedWell.asked-well, client.ClientAsked.IsEndOf}
+use Rattle.tl_coherence.proofs.{client.ClientStep.clients-kept, simulation.Fresh.fresh-matched}
+use Rattle.tl_coherence.proofs.{deliveries.DeliverDWhole.delivered-d, deliveries.InvariantKept.invariant-followed}
+use Rattle.tl_coherence.proofs.{deliveries.ManagerFollowed.client-of, deliveries.ManagerKept.IsAllowed}
+use Rattle.tl_coherence.proofs.{deliveries.ManagerKept.manager-kept, deliveries.ProbesAfter.delivered-b}
+use Rattle.tl_coherence.proofs.{deliveries.ReportsAfter.delivered-c, manager.UnwaitedRequests.next_tracker}
+use Rattle.tl_coherence.proofs.{simulation.SoundAfter.sound-after, simulation.SoundAfter.typed-after}
+use Rattle.tl_coherence.proofs.{queues.Steps.stepped-asked, queues.Steps.stepped-empty}
 use Rattle.tl_coherence.proofs.deliveries.Imports.{IsWidth, Beat, Link, Channel, Config, Op, EndConfig, Event, Ask}
 use Rattle.tl_coherence.proofs.deliveries.Imports.{Deliver, MemoryRelation, is_moving, AbstractState, abstract_step}
 use Rattle.tl_coherence.proofs.deliveries.Imports.{Log, system_after, Machine, moved, ChannelRelation, one_memory_after}
@@ -9,17 +20,6 @@ use Rattle.tl_client.specs.statement.Ask as ask
 use Rattle.tl_coherence.specs.{declared.event.Outcome.Outcome, statement.Headline.IsTyped, statement.Headline.AreTyped}
 use Rattle.tl_coherence.specs.{statement.Log.IsLog, statement.Step.client_of}
 use Rattle.tl_coherence.specs.refinement.AbstractStep.{first_abstract_state, abstract_step_by}
-use Rattle.tl_coherence.proofs.{deliveries.AcksAfter.delivered-e, client.Askable.askable}
-use Rattle.tl_coherence.proofs.{deliveries.AskedAfter.carried-ask, deliveries.AskedAfter.beside-ask}
-use Rattle.tl_coherence.proofs.{deliveries.AskedWell.asked-well, client.ClientAsked.IsEndOf}
-use Rattle.tl_coherence.proofs.{client.ClientStep.clients-kept, simulation.Fresh.fresh-matched}
-use Rattle.tl_coherence.proofs.{deliveries.DeliverDWhole.delivered-d, deliveries.InvariantKept.invariant-followed}
-use Rattle.tl_coherence.proofs.{deliveries.ManagerFollowed.client-of}
-use Rattle.tl_coherence.proofs.{deliveries.ManagerKept.IsAllowed, deliveries.ManagerKept.manager-kept}
-use Rattle.tl_coherence.proofs.{deliveries.ProbesAfter.delivered-b, deliveries.ReportsAfter.delivered-c}
-use Rattle.tl_coherence.proofs.{manager.UnwaitedRequests.next_tracker, simulation.SoundAfter.sound-after}
-use Rattle.tl_coherence.proofs.{simulation.SoundAfter.typed-after, queues.Steps.stepped-asked}
-use Rattle.tl_coherence.proofs.{queues.Steps.stepped-empty}
 use Rattle.tl_coherence.proofs.simulation.FollowCases.{followed-cases, asked-cases, delivered-cases, answered-followed}
 use Rattle.tl_coherence.proofs.simulation.FollowCases.{given-followed, on-first}
 use Rattle.tl_coherence.proofs.deliveries.DeliverDUnmoved.{IsDelivered, delivered-unmoved}
@@ -123,15 +123,12 @@ asked-all {w} {config} {log} c o h width is = go (terms_at config c) refl
         let replied : (stepped config (Ask c o) sys).outcome ≡ Outcome.Replied r =
         ap (λ (x : Step w). x.outcome) (stepped-asked config c o sys terms known) in (
           subst (λ (x : Outcome w). ChannelRelation (abstract_step_by config (Ask c o) x sys h).mail
-              (abstract_step_by config (Ask c o) x sys h).state
-              (stepped config (Ask c o) sys).after) (sym replied)
+              (abstract_step_by config (Ask c o) x sys h).state (stepped config (Ask c o) sys).after) (sym replied)
               (carried-ask h c terms o width is known),
-          subst
-              (λ (x : Outcome w). MemoryRelation (abstract_step_by config (Ask c o) x sys h).mail
+          subst (λ (x : Outcome w). MemoryRelation (abstract_step_by config (Ask c o) x sys h).mail
               (abstract_step_by config (Ask c o) x sys h).state
               (performing (accesses_answered (stepped config (Ask c o) sys).handed)
-              (moved (Ask c o) x (one_memory_after config log)))) (sym replied)
-              (beside-ask h c terms o width is known),
+              (moved (Ask c o) x (one_memory_after config log)))) (sym replied) (beside-ask h c terms o width is known),
         )
 
 followed-all : {w : ℕ} {config : Config} {log : Log w} (event : Event w) (h : AbstractState w) → IsWidth w
@@ -191,10 +188,6 @@ allowed : {w : ℕ} {config : Config} {log : Log w} (h : AbstractState w) {sys :
     → SimulationRelation config log h.mail h.request h.state sys → (terms : EndConfig)
     → terms_at config (client_of event) ≡ Some terms → IsAllowed config event terms sys h
 allowed {config} {log} h {sys} (Ask c o) width is terms at = askable terms c o is at
-allowed {config} {log} h {sys} (Deliver link Channel.B) width is terms at =
-    invariant-followed (Deliver link Channel.B) width is
-allowed {config} {log} h {sys} (Deliver link Channel.D) width is terms at =
-    invariant-followed (Deliver link Channel.D) width is
 allowed h event width is terms at = tt
 
 -- what is kept of the whole is kept by an event
@@ -209,9 +202,10 @@ matched-event {w} {config} {log} h event width typed is =
     let all : IsFollowed config log event h = followed-all event h width is in
     let end : (c : ℕ) → IsEndOf c (abstract_step config event sys h) ((stepped config event sys).after.clients c) =
     λ c. clients-kept event width is c in
+    let invariant = invariant-followed event width is in
     let manager = manager-kept h event width is (allowed h event width is) in
     record {
-      invariant = invariant-followed event width is;
+      invariant = invariant;
       sized = sized-followed h event width is typed;
       strangers = strangers-followed h event width is;
       carried = all.carried;
@@ -227,8 +221,8 @@ matched-event {w} {config} {log} h event width typed is =
       copies = λ c. (end c).copies;
       waiting = λ c. (end c).waiting;
       live = λ c. (end c).live;
-      managed = manager.managed;
-      served = manager.served;
+      managed = managed-traced invariant manager.manager_kept manager.traced;
+      served = are_served-traced invariant manager.manager_kept manager.traced;
       served_with = manager.served_with;
       acquired = acquired-followed h event width is;
       manager_kept = manager.manager_kept;

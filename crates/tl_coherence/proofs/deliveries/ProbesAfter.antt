@@ -131,8 +131,7 @@ delivered-b {w} {config} {log} link h terms x queue width is known beats moving 
           mail = h.mail;
           request = h.request;
         }) x e
-        probed = probe-delivered terms (next_tracker sys) c n first.rest
-            width is known beats tokens next
+        probed = probe-delivered terms (next_tracker sys) c n first.rest width is known beats tokens next
 
         answers : (offer.taken x e).answer ≡ Ok (Verdict.Taken, Some (handed_for y e))
         answers = ap (λ (z : Beat w). (offer.taken z e).answer) probed.beat_is ∙ answer_b y e
@@ -153,8 +152,7 @@ delivered-b {w} {config} {log} link h terms x queue width is known beats moving 
           at,
           (is.known c).held_is n,
           report_is w n k b_pair.held,
-          ack_same b_pair.held
-              (report_at k b_pair.held) n (copy_at e n) (h.state.block n).truth copied,
+          ack_same b_pair.held (report_at k b_pair.held) n (copy_at e n) (h.state.block n).truth copied,
         )
 
         message_is : t.message ≡ Some ack
@@ -182,7 +180,7 @@ delivered-b {w} {config} {log} link h terms x queue width is known beats moving 
 
         by_letting : (b : Bool) → is_unreleased b_pair.letting ≡ b → IsDelivered config log link Channel.B h
         by_letting true kept =
-            let inv = invariant-taken config log h sys c Probe n first.rest is tokens (kept-is b_pair.letting kept) in
+            let inv = invariant-taken h c Probe n first.rest is tokens (kept-is b_pair.letting kept) in
             delivered_as config log link Channel.B h (kind_taken config (next_tracker sys) c Probe n first.rest h)
             follows
             (subst (λ (z : Step w). ChannelRelation h.mail (probe_taken c n k first.rest h.state) z.after) (sym step_is)
@@ -190,14 +188,13 @@ delivered-b {w} {config} {log} link h terms x queue width is known beats moving 
             inv tokens sent (ack_channel w b_pair.held (report_at k b_pair.held) n (h.state.block n).truth)
             (rendered_probed c n k (h.state.block n))) taken is.carried))
             (subst (λ (m : Machine w). MemoryRelation h.mail (probe_taken c n k first.rest h.state) m)
-            (sym (remembered_after config log link Channel.B now step_is
-            ∙ ap (λ (l : List (ℕ × ℕ)). performing l
+            (sym (remembered_after config log link Channel.B now step_is ∙ ap
+            (λ (l : List (ℕ × ℕ)). performing l
             (moved (Deliver link Channel.B) now.outcome (one_memory_after config log)))
             (ack_quiet w c b_pair.held (report_at k b_pair.held) n (h.state.block n).truth)))
-            (beside_block n (probed_block c k (h.state.block n)) (probe_taken c n k first.rest h.state)
-            (λ i. refl)
-            (λ d i. refl) (λ d i. refl) refl (λ d. same_acquiring c (after_probe k b_pair) (h.state.block n).pair refl
-            d) (λ d. refl) is.beside))
+            (beside_block n (probed_block c k (h.state.block n)) (probe_taken c n k first.rest h.state) (λ i. refl)
+            (λ d i. refl) (λ d i. refl) refl (λ d. same_acquiring c (after_probe k b_pair) (h.state.block n).pair
+            refl d) (λ d. refl) is.beside))
         by_letting false open_ =
             let stalled = ap (λ (o : offer.Offered w). o.answer) (sym t.takes ∙ probed.waits_for open_) in
             let differ = (same_answers Verdict.Taken Verdict.Stalled (Some (handed_for y e)) None

@@ -1,14 +1,13 @@
 -- A beat of channel C that is delivered to the manager: the channels and the one memory afterwards.
 use Rattle.tl_coherence.proofs.deliveries.Imports.{IsWidth, Beat, Link, Message, unfinished, completes, Config, Prune}
-use Rattle.tl_coherence.proofs.deliveries.Imports.{Report, on_link, Handed, reaction, Deliver, MemoryRelation}
-use Rattle.tl_coherence.proofs.deliveries.Imports.{AbstractState, ack_taken, answers, kind_taken, last_taken}
-use Rattle.tl_coherence.proofs.deliveries.Imports.{some_below, packet_taken, with_state, Log, system_after, Machine}
-use Rattle.tl_coherence.proofs.deliveries.Imports.{Requests, Service, Free, Waits, GrantSent, GrantTaken}
-use Rattle.tl_coherence.proofs.deliveries.Imports.{Block, SourceState, packet, let_block, release_taken, report_taken}
-use Rattle.tl_coherence.proofs.deliveries.Imports.{shown, one_memory_after, performing, accesses_answered}
-use Rattle.tl_coherence.proofs.deliveries.Imports.{prune_told, block_message, report_told, stepped, IsFor, System}
-use Rattle.tl_coherence.proofs.deliveries.Imports.{ProbeAck, Release, ReleaseAck, Grant, Packet, SimulationRelation}
-use Rattle.tl_coherence.proofs.deliveries.Imports.{IsRequest, is_caching, Channel}
+use Rattle.tl_coherence.proofs.deliveries.Imports.{Report, on_link, Handed, reaction, MemoryRelation, AbstractState}
+use Rattle.tl_coherence.proofs.deliveries.Imports.{ack_taken, answers, kind_taken, last_taken, some_below, packet_taken}
+use Rattle.tl_coherence.proofs.deliveries.Imports.{with_state, Log, system_after, Machine, Requests, Service, Free}
+use Rattle.tl_coherence.proofs.deliveries.Imports.{Waits, GrantSent, GrantTaken, Block, SourceState, packet, let_block}
+use Rattle.tl_coherence.proofs.deliveries.Imports.{release_taken, report_taken, shown, performing, accesses_answered}
+use Rattle.tl_coherence.proofs.deliveries.Imports.{prune_told, block_message, report_told, IsFor, System, ProbeAck}
+use Rattle.tl_coherence.proofs.deliveries.Imports.{Release, ReleaseAck, Grant, Packet, SimulationRelation, IsRequest}
+use Rattle.tl_coherence.proofs.deliveries.Imports.{is_caching, Channel}
 use Rattle.std.proofs.Common.{◌≡◌, ℕ, Bool, true, false, List, [], ◌∷◌, None, refl, sym, ◌∙◌, ap, subst, inl, inr, not}
 use Rattle.std.proofs.Common.{◌&&◌}
 use Rattle.std.specs.Prelude.{◌==◌, if◌then◌else◌, length}
@@ -92,7 +91,7 @@ waiting-one h n (GrantSent q d k) width is beside e for with = tt
 waiting-one h n (GrantTaken q) width is beside e for with = tt
 waiting-one h n (Waits q true source k) width is beside e for with = tt
 waiting-one {w} {config} h n {m} (Waits q false source k) width is beside e for with =
-    let used = serving-use (is_caching config) h.state n q source k is.invariant e in (
+    let used = serving-use n q source k is.invariant e in (
       record {
         width = width;
         request = with;
@@ -134,14 +133,12 @@ beside-followed_c {w} {config} {log} h {sys} c x queue {m} width is beats beside
     queue
     (first-token (is_caching config) Channel.C c h.mail h.state sys x queue width is.invariant is.carried beats)
     (λ n rest tokens next.
-    let d = reports-delivered h c n rest width is beats
-    tokens next in
+    let d = reports-delivered h c n rest width is beats tokens next in
     by-place h (kind_taken config (next_tracker sys) c ProbeAck n rest h) _
     (reaction config (record { 0 = c }) x sys.manager).handed (completes x before) d.handed beside
     (reported n rest tokens))
     (λ n rest tokens next.
-    let d = releases-delivered h c n rest width is beats
-    tokens next in
+    let d = releases-delivered h c n rest width is beats tokens next in
     by-place h (kind_taken config (next_tracker sys) c Release n rest h) _
     (reaction config (record { 0 = c }) x sys.manager).handed (completes x before) d.handed beside
     (released n rest))
@@ -161,9 +158,8 @@ beside-followed_c {w} {config} {log} h {sys} c x queue {m} width is beats beside
         (sym (report-answered config c n r rest h (is.served.requests n)))
         (beside-report config c n r rest h is.invariant answered
         (settled_all (length config.clients.items) (is_caching config) c b.pair (plain-past config)
-        (is.invariant.blocks n).outside)
-        (waiting-one h n b.service width is beside refl (is.served.requests n) (is.served_with n))
-        beside)
+        (is.invariant.blocks n).outside) (waiting-one h n b.service width is beside refl (is.served.requests n)
+        (is.served_with n)) beside)
 
     released : (n : ℕ) (rest : List Packet)
         → MemoryRelation (kind_taken config (next_tracker sys) c Release n rest h).mail
@@ -175,9 +171,8 @@ beside-followed_c {w} {config} {log} h {sys} c x queue {m} width is beats beside
         let p : Prune = prune_told (b.pair c).letting in
         subst (λ (l : List (ℕ × ℕ)). MemoryRelation h.mail (release_taken c n p rest h.state) (performing l m))
         (sym (ack-quiet w (record { 0 = c }) c n ((release_taken c n p rest h.state).block n)))
-        (beside_block n (let_block c p b) (release_taken c n p rest h.state) (λ i. refl) (λ d i. refl)
-        (λ d i. refl) refl
-        (λ d. same_acquiring c (after_release_taken p (b.pair c)) b.pair refl d) (λ d. refl) beside)
+        (beside_block n (let_block c p b) (release_taken c n p rest h.state) (λ i. refl) (λ d i. refl) (λ d i. refl)
+        refl (λ d. same_acquiring c (after_release_taken p (b.pair c)) b.pair refl d) (λ d. refl) beside)
 
 -- at most one access is answered then, and it can be performed
 report-once : {w : ℕ} {config : Config} {log : Log w} (h : AbstractState w) {sys : System w} (c n : ℕ) {m : Machine w}
@@ -213,16 +208,14 @@ once-followed_c {w} {config} {log} h {sys} c x queue {m} width is beats beside =
     h.state sys x queue
     (first-token (is_caching config) Channel.C c h.mail h.state sys x queue width is.invariant is.carried beats)
     (λ n rest tokens next.
-    let d = reports-delivered h c n rest width is beats
-    tokens next in
+    let d = reports-delivered h c n rest width is beats tokens next in
     once-place h _ (reaction config (record { 0 = c }) x sys.manager).handed m
     (completes x (unfinished Channel.C (on_link c sys.manager.trace))) d.handed
     (subst (λ (l : List (ℕ × ℕ)). IsOnce l h m)
     (sym (report-answered config c n (report_told ((h.state.block n).pair c).probing) rest h
     (is.served.requests n))) (report-once h c n width is beside)))
     (λ n rest tokens next.
-    let d = releases-delivered h c n rest width is beats
-    tokens next in
+    let d = releases-delivered h c n rest width is beats tokens next in
     once-place h _ (reaction config (record { 0 = c }) x sys.manager).handed m
     (completes x (unfinished Channel.C (on_link c sys.manager.trace))) d.handed
     (inl (ack-quiet w (record { 0 = c }) c n

@@ -5,9 +5,9 @@ use Rattle.tl_coherence.proofs.deliveries.Imports.{Config, on_link, EndConfig, r
 use Rattle.tl_coherence.proofs.deliveries.Imports.{AbstractState, kind_taken, packet_taken, abstract_delivery}
 use Rattle.tl_coherence.proofs.deliveries.Imports.{abstract_step, Step, only, handing, manager_took, stepped, packet}
 use Rattle.tl_coherence.proofs.deliveries.Imports.{Log, System, terms_at, with_manager, with_channel, Kind, Packet}
-use Rattle.tl_coherence.proofs.deliveries.Imports.{SimulationRelation, MemoryRelation, Machine}
-use Rattle.tl_coherence.proofs.deliveries.Imports.{ChannelRelation, accesses_answered, performing, Handed, Reaction}
-use Rattle.tl_coherence.proofs.deliveries.Imports.{reaction-part, Channel, Message}
+use Rattle.tl_coherence.proofs.deliveries.Imports.{SimulationRelation, MemoryRelation, Machine, ChannelRelation}
+use Rattle.tl_coherence.proofs.deliveries.Imports.{accesses_answered, performing, Handed, Reaction, reaction-part}
+use Rattle.tl_coherence.proofs.deliveries.Imports.{Channel, Message}
 use Rattle.std.proofs.Common.{◌≡◌, subst, ℕ, suc, ◌+◌, ◌<◌, ◌==◌, Bool, true, false, List, [], ◌∷◌, Some, refl, sym}
 use Rattle.std.proofs.Common.{◌∙◌, ap, inl, inr, arith}
 use Rattle.std.{specs.Prelude.if◌then◌else◌, proofs.lemmas.Bool.cases_eq, proofs.lemmas.Bool.eqb-true}
@@ -119,8 +119,7 @@ at_manager-delivered_a {w} {config} {log} h {sys} c terms width is client =
     (with_manager after (with_channel c Channel.A queue sys))))
     (moved-a (λ (i : AbstractState w). IsManagerOf config i after) beats arrives
     (λ last. arrives.is_it.after k comes last (rw arrives.next.beat_is at moves))
-    (λ more. at_manager-more
-    is.invariant comes more (arrives.is_it.unwaited k more) known)))
+    (λ more. at_manager-more comes more (arrives.is_it.unwaited k more) known)))
 
 -- and the channels carry the messages of the tokens
 pub carried-delivered_a : {w : ℕ} {config : Config} {log : Log w} (h : AbstractState w) {sys : System w} (c : ℕ)
@@ -129,9 +128,8 @@ pub carried-delivered_a : {w : ℕ} {config : Config} {log : Log w} (h : Abstrac
     (abstract_step config (Deliver (link_of c) Channel.A) sys h).state
     (stepped config (Deliver (link_of c) Channel.A) sys).after
 carried-delivered_a {w} {config} {log} h {sys} c terms width is client =
-    delivery-a h c terms (λ (step : Step w).
-    ChannelRelation (abstract_delivery config c Channel.A step.outcome sys h).mail
-    (abstract_delivery config c Channel.A step.outcome sys h).state step.after) width is client
+    delivery-a h c terms (λ (step : Step w). ChannelRelation (abstract_delivery config c Channel.A step.outcome sys
+    h).mail (abstract_delivery config c Channel.A step.outcome sys h).state step.after) width is client
     (λ e. is.carried) (λ x queue e waits. is.carried) (λ x queue beats arrives moves.
     let comes = coming-arrival width is beats arrives moves in
     let k : ℕ = arrives.next.k in
@@ -140,14 +138,11 @@ carried-delivered_a {w} {config} {log} h {sys} c terms width is client =
     let same = ap (λ (y : Beat w). (step_moved config c k m y queue sys).after) (sym arrives.next.beat_is) in
     moved-a (λ (i : AbstractState w). ChannelRelation i.mail i.state
     (step_moved config c k m x queue sys).after) beats arrives
-    (λ last.
-    subst (ChannelRelation (kind_taken config (next_tracker sys) c arrives.kind arrives.number arrives.rest h).mail
-    (kind_taken config (next_tracker sys) c arrives.kind arrives.number arrives.rest h).state) same
+    (λ last. subst (ChannelRelation (kind_taken config (next_tracker sys) c arrives.kind arrives.number arrives.rest
+    h).mail (kind_taken config (next_tracker sys) c arrives.kind arrives.number arrives.rest h).state) same
     (arrives.is_it.carried k queue comes first last (rw arrives.next.beat_is at moves)))
-    (λ more.
-    subst (ChannelRelation h.mail h.state) same
-    (carried-more queue is comes first
-    (ends-coming comes ∙ not_last k (beats_of (Message.A m)) more))))
+    (λ more. subst (ChannelRelation h.mail h.state) same
+    (carried-more queue is comes first (ends-coming comes ∙ not_last k (beats_of (Message.A m)) more))))
 
 -- and the one-memory machine is beside the protocol, once the accesses that are answered are performed
 pub beside-delivered_a : {w : ℕ} {config : Config} {log : Log w} (h : AbstractState w) {sys : System w} (c : ℕ)
@@ -169,13 +164,9 @@ beside-delivered_a {w} {config} {log} h {sys} c terms {machine} width is client 
     let same = ap (λ (y : Beat w). (reaction config (link_of c) y sys.manager).handed) (sym arrives.next.beat_is) in
     moved-a (λ (i : AbstractState w). MemoryRelation i.mail i.state
     (performing (accesses_answered (reaction config (link_of c) x sys.manager).handed) machine)) beats arrives
-    (λ last.
-    subst
-    (λ (i : Handed w). MemoryRelation (kind_taken config (next_tracker sys) c arrives.kind arrives.number arrives.rest
-    h).mail
-    (kind_taken config (next_tracker sys) c arrives.kind arrives.number arrives.rest h).state
-    (performing (accesses_answered i) machine))
-    same (arrives.is_it.beside k machine comes last beside))
+    (λ last. subst (λ (i : Handed w). MemoryRelation (kind_taken config (next_tracker sys) c arrives.kind arrives.number
+    arrives.rest h).mail (kind_taken config (next_tracker sys) c arrives.kind arrives.number arrives.rest h).state
+    (performing (accesses_answered i) machine)) same (arrives.is_it.beside k machine comes last beside))
     (λ more.
     let part = ap (λ (d : Reaction w). d.handed) (reaction-part config (link_of c) (Beat.A (a_beat_of m k)) sys.manager
     (ends-coming comes ∙ not_last k (beats_of (Message.A m)) more)) in

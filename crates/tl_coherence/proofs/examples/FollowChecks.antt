@@ -127,24 +127,21 @@ abbrev pub flowed : {w : ℕ} → ℕ → ℕ → ℕ → AccessMessages w → S
 flowed {w} blocks sources trackers mail s sys t c =
     let rest : Channel → List (Beat w) = λ ch. unfinished ch (receiver ch c sys) in
     let still : Channel → Bool = λ ch. same_beats (unfinished ch t) (rest ch) in
-    all_below blocks (λ n.
-    same_perm (held n t) (if is_granting (view (s.block n).service c) then ((s.block n).pair c).held else
-    ((s.block n).pair c).recorded)
+    all_below blocks (λ n. same_perm (held n t)
+    (if is_granting (view (s.block n).service c) then ((s.block n).pair c).held else ((s.block n).pair c).recorded)
     && (beq (pending (AcquireOf n) t)
     (is_wanting ((s.block n).pair c).acquiring && not (is_unserved (view (s.block n).service c)))
     && (beq (pending (ReleaseOf n) t) (is_release_pending ((s.block n).release_source c) (rest Channel.C)
-    ((s.block n).pair c).letting)
-    && (beq (pending (GrantAckOf n) t) (is_acknowledging (view (s.block n).service c) || comes_granting n
-    (asked_by mail s c) (rest Channel.D))
+    ((s.block n).pair c).letting) && (beq (pending (GrantAckOf n) t)
+    (is_acknowledging (view (s.block n).service c) || comes_granting n (asked_by mail s c) (rest Channel.D))
     && (beq (pending (ProbeOf n) t) (is_answered ((s.block n).pair c).probing)
     && (implies (is_answered ((s.block n).pair c).probing)
-    (same_b (probe_of n t) (Some (probe_beat n (cap_waited (s.block n).service))))
-    && implies (pending (GrantAckOf n) t) (is_of (s.block n).tracker (grant_sink n t))))))))
-    && (all_below sources (λ i.
-    beq (pending (RequestSource i) t) (is_requested c i (rest Channel.A) (s.uses c i) s)
+    (same_b (probe_of n t) (Some (probe_beat n (cap_waited (s.block n).service)))) && implies
+    (pending (GrantAckOf n) t) (is_of (s.block n).tracker (grant_sink n t))))))))
+    && (all_below sources (λ i. beq (pending (RequestSource i) t) (is_requested c i (rest Channel.A) (s.uses c i) s)
     && (implies (pending (RequestSource i) t) (same_a (request_of i t) (asked_by mail s c i))
-    && (beq (pending (ReleaseSource i) t) (is_let_by c i (rest Channel.C) (s.lets c i) s)
-    && implies (pending (ReleaseSource i) t) (is_of 6 (option_map (λ x. x.size) (release_of i t))))))
+    && (beq (pending (ReleaseSource i) t) (is_let_by c i (rest Channel.C) (s.lets c i) s) && implies
+    (pending (ReleaseSource i) t) (is_of 6 (option_map (λ x. x.size) (release_of i t))))))
     && (all_below trackers (λ i. beq (pending (GrantSink i) t) (is_sunk c i (rest Channel.D) (s.tracked i) s))
     && (still Channel.A && (still Channel.B && (still Channel.C && (still Channel.D && still Channel.E))))))
 

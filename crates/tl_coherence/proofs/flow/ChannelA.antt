@@ -6,8 +6,8 @@ use Rattle.tl_coherence.proofs.flow.Imports.{is_unprobed, is_unreleased, Free, G
 use Rattle.tl_coherence.proofs.flow.Imports.{is_granting, is_acknowledging, is_answered, is_unserved, served_block}
 use Rattle.tl_coherence.proofs.flow.Imports.{acquire_served, granted_at_once, acquire_granted, System, Packet, set}
 use Rattle.tl_coherence.proofs.flow.Imports.{SimulationRelation, asked_by}
-use Rattle.std.proofs.Common.{◌≡◌, subst, ℕ, Bool, true, false, ◌&&◌, List, ◌∷◌, Option, Some, None, refl, sym, ◌∙◌}
-use Rattle.std.proofs.Common.{ap, ◌⊎◌, inl, inr}
+use Rattle.std.proofs.Common.{◌≡◌, subst, ℕ, Bool, true, false, ◌&&◌, List, ◌∷◌, Option, Some, None, refl, sym, ◌∙◌, ap}
+use Rattle.std.proofs.Common.{◌⊎◌, inl, inr}
 use Rattle.std.{specs.Prelude.◌==◌, specs.Prelude.if◌then◌else◌, proofs.lemmas.Bool.cases_eq}
 use Rattle.std.{proofs.lemmas.Bool.eqb-true, proofs.Math.Bool.and-false, proofs.lemmas.Option.same_Some}
 use Rattle.tl_coherence.specs.protocol.PhaseSteps.{after_grant_sent}
@@ -25,10 +25,10 @@ use Rattle.tl_coherence.proofs.flow.FlowSunk.{sunk_in, sunk-elsewhere, IsWithin,
 use Rattle.tl_coherence.proofs.protocol.Heads.{acquisition_beats, IsAsked, IsWanted}
 use Rattle.tl_coherence.proofs.queues.Tokens.{same_number, set-same, set-other}
 
-module _ {w : ℕ} (config : Config) (log : Log w) (h : AbstractState w) (sys : System w) (c : ℕ)
-    (is : SimulationRelation config log h.mail h.request h.state sys)
-    (t : History w) (flowed : MonitorRelation (asked_by h.mail h.state c) (unfinished_at sys c) c h.state t)
-    (rest' : Channel → List (Beat w)) where
+module _ {w : ℕ} {config : Config} {log : Log w} (h : AbstractState w) {sys : System w} {c : ℕ}
+    (is : SimulationRelation config log h.mail h.request h.state sys) {t : History w}
+    (flowed : MonitorRelation (asked_by h.mail h.state c) (unfinished_at sys c) c h.state t) (rest' : Channel
+    → List (Beat w)) where
   -- ---- an access
 
   -- the state in which the access is answered, with the last beat
@@ -56,15 +56,13 @@ module _ {w : ℕ} (config : Config) (log : Log w) (h : AbstractState w) (sys : 
         asked_is = λ i e first. cc (
           eqb-true asked.request.source i e,
           asked.source_is,
-          asks-access c source asked.request
-              h.mail h.state (ap is_access asked.used) asked.is_it,
+          asks-access c source asked.request h.mail h.state (ap is_access asked.used) asked.is_it,
           zeroth first,
         );
         came = λ i. came-so (comes_in_request i) (asked.request.source == i) next refl (λ j. refl);
         comes = λ i. cc (
           rests Channel.A,
-          comes-so (comes_in_request i) y (unfinished_at sys c Channel.A)
-              (asked.request.source == i) refl refl,
+          comes-so (comes_in_request i) y (unfinished_at sys c Channel.A) (asked.request.source == i) refl refl,
           last,
         );
         blocks = λ m. blocks b m;
@@ -89,19 +87,17 @@ module _ {w : ℕ} (config : Config) (log : Log w) (h : AbstractState w) (sys : 
       subst (λ (z : Beat w). AreRests z (unfinished_at sys c) rest') next.beat_is rests in
       subst (λ (z : Beat w). MonitorRelation (asked_by h.mail h.state c) rest' c (replied_if source b) (z ∷ t))
       (sym next.beat_is)
-      (flowed-access
-      (ap is_empty (flowed.rest_is Channel.A)) (ap (completes (Beat.A (a_beat_of asked.request next.k)))
+      (flowed-access (ap is_empty (flowed.rest_is Channel.A)) (ap (completes (Beat.A (a_beat_of asked.request next.k)))
       (flowed.rest_is Channel.A) ∙ last_y) rests_y
       (access_of source asked next.k ms queue
       (subst (λ (z : Beat w). IsNext z (unfinished_at sys c Channel.A) (Message.A asked.request) ms queue)
-      next.beat_is next) rests_y b last_y
-      (first-zero next)) flowed)
+      next.beat_is next) rests_y b last_y (first-zero next)) flowed)
 
   -- ---- an Acquire
 
-  module _ (n : ℕ) (wanted : IsWanted w c n h.state) (free : (h.state.block n).service ≡ Free) (tracker : ℕ)
-      (unused : h.state.tracked tracker ≡ None)
-      (asked' : ℕ → Option (BeatA w)) (asks : (i : ℕ) → asked' i ≡ asked_by h.mail h.state c i) where
+  module _ {n : ℕ} (wanted : IsWanted w c n h.state) (free : (h.state.block n).service ≡ Free) (tracker : ℕ)
+      (unused : h.state.tracked tracker ≡ None) (asked' : ℕ → Option (BeatA w)) (asks : (i : ℕ)
+      → asked' i ≡ asked_by h.mail h.state c i) where
     abbrev s : State (List ℕ)
     s = h.state
 
@@ -141,8 +137,7 @@ module _ {w : ℕ} (config : Config) (log : Log w) (h : AbstractState w) (sys : 
         → AreRests x (unfinished_at sys c) rest' → MonitorRelation asked' rest' c s' (x ∷ t)
     acquired new s' changed uses lets tracked taken x ms queue next rests =
         let y : BeatA w = a_beat_of (acquire_wanted c n s wanted) 0 in
-        let one = one-beat next
-        (acquisition_beats w wanted.whole wanted.grow ((s.block n).source c) n) in
+        let one = one-beat next (acquisition_beats w wanted.whole wanted.grow ((s.block n).source c) n) in
         let x_is : x ≡ Beat.A y = cc (next.beat_is, one.0) in
         let last_y : completes (Beat.A y) (unfinished_at sys c Channel.A) ≡ true = cc (x_is, one.2) in
         let rests_y : AreRests (Beat.A y) (unfinished_at sys c) rest' =
@@ -151,13 +146,11 @@ module _ {w : ℕ} (config : Config) (log : Log w) (h : AbstractState w) (sys : 
         let unsunk : (i : ℕ) → set tracker (Some n) s.tracked i ≡ Some n
         → sunk_in c i (unfinished_at sys c Channel.D) (s'.block n) ≡ false =
         λ i e. rw (
-          ap (λ (b : Block (List ℕ)). is_acknowledging (view b.service c)) now
-              ∙ taken.waits_so,
+          ap (λ (b : Block (List ℕ)). is_acknowledging (view b.service c)) now ∙ taken.waits_so,
           none_comes i e,
         ) (and-false (is_granting (view (s'.block n).service c))) in
         subst (λ (z : Beat w). MonitorRelation asked' rest' c s' (z ∷ t)) (sym x_is)
-        (flowed-acquire
-        (ap is_empty (flowed.rest_is Channel.A ∙ one.1))
+        (flowed-acquire (ap is_empty (flowed.rest_is Channel.A ∙ one.1))
         (ap (completes (Beat.A y)) (flowed.rest_is Channel.A) ∙ last_y) rests_y (record {
           acquire = acquires-so wanted.whole;
           at = same_block n;

@@ -45,11 +45,10 @@ waited_as k (GrantTaken r) c e =
     elim [ true ↦ λ f. cc | false ↦ λ f. cc ] in
     absurd (go (c == r) e)
 
-module _ {w : ℕ} (config : Config) (log : Log w) (h : AbstractState w) (sys : System w) (c : ℕ)
-    (is : SimulationRelation config log h.mail h.request h.state sys)
-    (t : History w) (flowed : MonitorRelation (asked_by h.mail h.state c) (unfinished_at sys c) c h.state t)
-    (rest' : Channel → List (Beat w))
-    (toks : List Packet) where
+module _ {w : ℕ} {config : Config} {log : Log w} (h : AbstractState w) {sys : System w} {c : ℕ}
+    (is : SimulationRelation config log h.mail h.request h.state sys) {t : History w}
+    (flowed : MonitorRelation (asked_by h.mail h.state c) (unfinished_at sys c) c h.state t) (rest' : Channel
+    → List (Beat w)) (toks : List Packet) where
   abbrev s : State (List ℕ)
   s = h.state
 
@@ -71,9 +70,8 @@ module _ {w : ℕ} (config : Config) (log : Log w) (h : AbstractState w) (sys : 
       (sent-is ((s.block n).pair c).probing (holds-first Probe (s.link c).b toks (packet Probe n)
       (λ i. shown Probe c (s.block i)) tokens refl (is.invariant.transfers c Probe refl))) in
       subst (λ (z : Beat w). MonitorRelation asked' rest' c (probe_taken c n k toks s) (z ∷ t)) (sym x_is)
-      (flowed-probe n k toks asked' rest'
-      (ap is_empty (flowed.rest_is Channel.B ∙ whole))
+      (flowed-probe n k toks asked' rest' (ap is_empty (flowed.rest_is Channel.B ∙ whole))
       (ap (completes {w = w} (Beat.B (probe_beat n k))) (flowed.rest_is Channel.B ∙ whole))
-      (subst (λ (z : Beat w). AreRests z (unfinished_at sys c) rest') x_is rests) asks
-      (same_block n) seen (waited_as k (s.block n).service c seen)
-      (λ m. comes-same m before asked' (unfinished_at sys c Channel.D) asks) flowed)
+      (subst (λ (z : Beat w). AreRests z (unfinished_at sys c) rest') x_is rests) asks (same_block n) seen
+      (waited_as k (s.block n).service c seen) (λ m. comes-same m before asked' (unfinished_at sys c Channel.D)
+      asks) flowed)

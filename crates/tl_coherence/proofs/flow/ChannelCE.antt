@@ -80,10 +80,10 @@ pub ack_rendered : {w : ℕ} (c n : ℕ) (b : Block (List ℕ)) → block_messag
 unfolding block_message
 ack_rendered c n b = refl
 
-module _ {w : ℕ} (config : Config) (log : Log w) (h : AbstractState w) (sys : System w) (c : ℕ) (width : IsWidth w)
-    (is : SimulationRelation config log h.mail h.request h.state sys) (t : History w)
-    (flowed : MonitorRelation (asked_by h.mail h.state c) (unfinished_at sys c) c h.state t)
-    (rest' : Channel → List (Beat w)) (n : ℕ) (toks : List Packet) where
+module _ {w : ℕ} {config : Config} {log : Log w} (h : AbstractState w) {sys : System w} {c : ℕ} (width : IsWidth w)
+    (is : SimulationRelation config log h.mail h.request h.state sys) {t : History w}
+    (flowed : MonitorRelation (asked_by h.mail h.state c) (unfinished_at sys c) c h.state t) (rest' : Channel
+    → List (Beat w)) (n : ℕ) (toks : List Packet) where
   abbrev s : State (List ℕ)
   s = h.state
 
@@ -166,9 +166,8 @@ module _ {w : ℕ} (config : Config) (log : Log w) (h : AbstractState w) (sys : 
           → MonitorRelation before rest' c (reported_if r z) (Beat.C (c_beat_of m here.k) ∷ t)
       go false e = flowed-report_part (c_beat_of m here.k) (is_empty (unfinished_at sys c Channel.C)) rest'
           (ap is_empty (flowed.rest_is Channel.C))
-          (ap (completes (Beat.C (c_beat_of m here.k))) (flowed.rest_is Channel.C)
-          ∙ last_y m x ms queue here rests false e) (rests_y m x ms queue here rests false e) about.2.releases
-          (same false e) flowed
+          (ap (completes (Beat.C (c_beat_of m here.k))) (flowed.rest_is Channel.C) ∙ last_y m x ms queue here rests
+          false e) (rests_y m x ms queue here rests false e) about.2.releases (same false e) flowed
       go true e = flowed-report n r toks (c_beat_of m here.k) (is_empty (unfinished_at sys c Channel.C)) rest'
           (ap is_empty (flowed.rest_is Channel.C))
           (ap (completes (Beat.C (c_beat_of m here.k))) (flowed.rest_is Channel.C)
@@ -216,10 +215,9 @@ module _ {w : ℕ} (config : Config) (log : Log w) (h : AbstractState w) (sys : 
       let here : IsNext x (unfinished_at sys c Channel.C) (Message.C m) ms queue =
       subst (λ (i : Message w). IsNext x (unfinished_at sys c Channel.C) i ms queue) about.1 next in
       subst (λ (z : Beat w). MonitorRelation before rest' c (released_if r b) (z ∷ t)) (sym here.beat_is)
-      (flowed-release
-      (ap is_empty (flowed.rest_is Channel.C))
-      (ap (completes (Beat.C (c_beat_of m here.k))) (flowed.rest_is Channel.C) ∙ last_y m x ms queue here rests b last)
-      (rests_y m x ms queue here rests b last)
+      (flowed-release (ap is_empty (flowed.rest_is Channel.C))
+      (ap (completes (Beat.C (c_beat_of m here.k))) (flowed.rest_is Channel.C) ∙ last_y m x ms queue here rests b
+      last) (rests_y m x ms queue here rests b last)
       (λ i k. is.invariant.named.releases c i k) (record {
         release = about.2.releases;
         ack = about.2.reports;
@@ -274,18 +272,15 @@ module _ {w : ℕ} (config : Config) (log : Log w) (h : AbstractState w) (sys : 
       let here : IsNext x (unfinished_at sys c Channel.E) (Message.E (record { sink = (s.block n).tracker })) ms queue =
       subst (λ (i : Message w). IsNext x (unfinished_at sys c Channel.E) i ms queue) (ack_rendered c n (s.block n))
       next in
-      let one = one-beat
-      here refl in
+      let one = one-beat here refl in
       let x_is : x ≡ Beat.E y = here.beat_is in
       subst (λ (z : Beat w). MonitorRelation asked' rest' c (grant_ack_taken c n toks s) (z ∷ t)) (sym x_is)
-      (flowed-grant_ack n toks y asked' rest'
-      (ap is_empty (flowed.rest_is Channel.E ∙ one.1))
+      (flowed-grant_ack n toks y asked' rest' (ap is_empty (flowed.rest_is Channel.E ∙ one.1))
       (ap (completes {w = w} (Beat.E y)) (flowed.rest_is Channel.E ∙ one.1))
       (subst (λ (z : Beat w). AreRests z (unfinished_at sys c) rest') x_is rests) asks refl seen is.invariant.named
       (busy_seen is_acknowledging refl (s.block n).service c shows)
       (λ k e. busy_seen is_acknowledging refl (s.block k).service c e)
-      (λ k e. busy_seen is_granting refl (s.block k).service c e) (coming-granting
-      c is)
+      (λ k e. busy_seen is_granting refl (s.block k).service c e) (coming-granting c is)
       (λ k. comes-same k before asked' (unfinished_at sys c Channel.D) asks) flowed)
     where
       shows : is_acknowledging (view (s.block n).service c) ≡ true

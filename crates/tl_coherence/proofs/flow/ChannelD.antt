@@ -1,14 +1,14 @@
 -- What is delivered on a link, as a beat of channel D is: of an answer, a Grant or a ReleaseAck.
 use Rattle.tl_coherence.proofs.flow.Imports.{Beat, BeatA, Channel, Message, MessageD, History, unfinished, is_empty}
-use Rattle.tl_coherence.proofs.flow.Imports.{completes, Config, Cap, comes_in_grant, is_grant, asks_for}
-use Rattle.tl_coherence.proofs.flow.Imports.{same_block, MonitorRelation, AbstractState, acquires_of, is_busy}
-use Rattle.tl_coherence.proofs.flow.Imports.{comes_granting, Log, ClientBlock, Granting, is_unprobed, is_unreleased}
-use Rattle.tl_coherence.proofs.flow.Imports.{after_release_ack, Block, State, SourceFree, Acquires, packet, shown, view}
-use Rattle.tl_coherence.proofs.flow.Imports.{is_granting, is_answered, is_wanting, taken_block, let_go_block}
-use Rattle.tl_coherence.proofs.flow.Imports.{release_ack_taken, block_message, System, Answer, Grant, ReleaseAck}
-use Rattle.tl_coherence.proofs.flow.Imports.{Packet, SimulationRelation, is_caching, asked_by}
-use Rattle.std.proofs.Common.{◌≡◌, subst, ℕ, Bool, true, false, not, ◌&&◌, List, ◌∷◌, Option, None, refl, sym, ◌∙◌}
-use Rattle.std.proofs.Common.{ap, inl}
+use Rattle.tl_coherence.proofs.flow.Imports.{completes, Config, Cap, comes_in_grant, is_grant, asks_for, same_block}
+use Rattle.tl_coherence.proofs.flow.Imports.{MonitorRelation, AbstractState, acquires_of, is_busy, comes_granting, Log}
+use Rattle.tl_coherence.proofs.flow.Imports.{ClientBlock, Granting, is_unprobed, is_unreleased, after_release_ack}
+use Rattle.tl_coherence.proofs.flow.Imports.{Block, State, SourceFree, Acquires, packet, shown, view, is_granting}
+use Rattle.tl_coherence.proofs.flow.Imports.{is_answered, is_wanting, taken_block, let_go_block, release_ack_taken}
+use Rattle.tl_coherence.proofs.flow.Imports.{block_message, System, Answer, Grant, ReleaseAck, Packet}
+use Rattle.tl_coherence.proofs.flow.Imports.{SimulationRelation, is_caching, asked_by}
+use Rattle.std.proofs.Common.{◌≡◌, subst, ℕ, Bool, true, false, not, ◌&&◌, List, ◌∷◌, Option, None, refl, sym, ◌∙◌, ap}
+use Rattle.std.proofs.Common.{inl}
 use Rattle.std.specs.Prelude.{◌==◌, if◌then◌else◌}
 use Rattle.std.proofs.lemmas.Bool.{eqb-false, eqb-true, and_right as with_false}
 use Rattle.tl_burst.specs.statement.Burst.{d_beat_of}
@@ -25,17 +25,16 @@ use Rattle.tl_coherence.proofs.{flow.FlowGranted.flowed-grant, flow.FlowResponse
 use Rattle.tl_coherence.proofs.{flow.FlowResponses.grant_tracked, flow.FlowStep.held_by, queues.Phases.and_right}
 use Rattle.tl_coherence.proofs.{protocol.BothParts.acked-is, queues.Codes.access_kind, queues.Codes.grants-so}
 use Rattle.tl_coherence.proofs.{simulation.Popped.unfinished_at}
-use Rattle.tl_coherence.proofs.protocol.HeadOfD.{answer-due, IsGrantDue, grant-rendered, grant_message}
-use Rattle.tl_coherence.proofs.protocol.HeadOfD.{ack_message, own_view}
+use Rattle.tl_coherence.proofs.protocol.HeadOfD.{answer-due, IsGrantDue, grant-rendered, grant_message, ack_message}
+use Rattle.tl_coherence.proofs.protocol.HeadOfD.{own_view}
 use Rattle.tl_coherence.proofs.flow.FlowBeats.{came-so, comes-so, one-beat, set_at-if, same_perms, unused-else}
 use Rattle.tl_coherence.proofs.flow.FlowBeats.{first_false}
 use Rattle.tl_coherence.proofs.queues.Tokens.{same_number, set-same, set-other, holds-first}
 
-module _ {w : ℕ} (config : Config) (log : Log w) (h : AbstractState w) (sys : System w) (c : ℕ)
-    (is : SimulationRelation config log h.mail h.request h.state sys)
-    (t : History w) (flowed : MonitorRelation (asked_by h.mail h.state c) (unfinished_at sys c) c h.state t)
-    (rest' : Channel → List (Beat w))
-    (toks : List Packet) where
+module _ {w : ℕ} {config : Config} {log : Log w} (h : AbstractState w) {sys : System w} {c : ℕ}
+    (is : SimulationRelation config log h.mail h.request h.state sys) {t : History w}
+    (flowed : MonitorRelation (asked_by h.mail h.state c) (unfinished_at sys c) c h.state t) (rest' : Channel
+    → List (Beat w)) (toks : List Packet) where
   abbrev s : State (List ℕ)
   s = h.state
 
@@ -142,8 +141,7 @@ module _ {w : ℕ} (config : Config) (log : Log w) (h : AbstractState w) (sys : 
       let kind = access_kind due.answer.opcode due.answers_access in
       subst (λ (z : Beat w). MonitorRelation (asked_by h.mail (answered_if source b) c) rest' c (answered_if source b)
       (z ∷ t)) (sym here.beat_is)
-      (flowed-answer (is_empty (unfinished_at sys c Channel.D))
-      (begins_y due.answer x ms queue here rests b last)
+      (flowed-answer (is_empty (unfinished_at sys c Channel.D)) (begins_y due.answer x ms queue here rests b last)
       (ends_y due.answer x ms queue here rests b last)
       (rests_y due.answer x ms queue here rests b last) (record {
         grant = kind.0;
@@ -170,9 +168,8 @@ module _ {w : ℕ} (config : Config) (log : Log w) (h : AbstractState w) (sys : 
       let one = one-beat here refl in
       let now : (release_ack_taken c n toks s).block n ≡ new = set-same n new s.block in
       subst (λ (z : Beat w). MonitorRelation asked' rest' c (release_ack_taken c n toks s) (z ∷ t)) (sym here.beat_is)
-      (flowed-let_go
-      (begins_y m x ms queue here rests true one.2 ∙ ap is_empty one.1) (ends_y m x ms queue here rests true one.2)
-      (rests_y m x ms queue here rests true one.2)
+      (flowed-let_go (begins_y m x ms queue here rests true one.2 ∙ ap is_empty one.1)
+      (ends_y m x ms queue here rests true one.2) (rests_y m x ms queue here rests true one.2)
       (λ i k. is.invariant.named.releases c i k) (record {
         grant = refl;
         ack = refl;
@@ -220,13 +217,13 @@ module _ {w : ℕ} (config : Config) (log : Log w) (h : AbstractState w) (sys : 
           let no : acquires_of n (Acquires n) ≡ false = cc (used, same, unused-else c n i is.invariant.named e) in
           let yes : true ≡ false = sym (same_number n) ∙ no in cc
 
-  pub own-grant : (n : ℕ) → (s.link c).d ≡ packet Grant n ∷ toks → (due : IsGrantDue c n s) → (whole : Bool)
+  pub own-grant : {n : ℕ} → (s.link c).d ≡ packet Grant n ∷ toks → (due : IsGrantDue c n s) → (whole : Bool)
       → (x : Beat w) (ms : List (Message w)) (queue : List (Beat w))
       → IsNext x (unfinished_at sys c Channel.D) (block_message Grant c n (s.block n)) ms queue
       → AreRests x (unfinished_at sys c) rest' → (b : Bool) → completes x (unfinished_at sys c Channel.D) ≡ b
       → MonitorRelation (asked_by h.mail (granted_if n whole due.data_too due.k b) c) rest' c
       (granted_if n whole due.data_too due.k b) (x ∷ t)
-  own-grant n tokens due whole x ms queue next rests b last =
+  own-grant {n} tokens due whole x ms queue next rests b last =
       let seen : view (s.block n).service c ≡ Granting due.data_too due.k =
       own_view c due.data_too due.k (s.block n).service due.service in
       let even : ((s.block n).pair c).recorded ≡ cap_right due.k = sym (same_perms ((s.block n).pair c).recorded
@@ -266,9 +263,7 @@ module _ {w : ℕ} (config : Config) (log : Log w) (h : AbstractState w) (sys : 
       subst (λ (i : Message w). IsNext x (unfinished_at sys c Channel.D) i ms queue) (grant-rendered c n s due) next
       in
       subst (λ (z : Beat w). MonitorRelation (asked_by h.mail (s_if b) c) rest' c (s_if b) (z ∷ t)) (sym here.beat_is)
-      (flowed-grant
-      (begins_y m x ms queue here rests b last)
-      (ends_y m x ms queue here rests b last)
+      (flowed-grant (begins_y m x ms queue here rests b last) (ends_y m x ms queue here rests b last)
       (rests_y m x ms queue here rests b last) (record {
         grant = grants-so due.data_too;
         ack = no_ack_grant due.data_too;

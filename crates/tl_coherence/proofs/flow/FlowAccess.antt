@@ -138,6 +138,5 @@ flowed-access {w} {X} {c} {y} {first} {last} {asked} {rest} {rest'} {s} {s'} {t}
     lets i = cc (
       rests Channel.C,
       is.lets i,
-      let_by-same c i (rest Channel.C) (s.lets c i) s s'
-          (λ m. ap (λ (z : Block X). (z.pair c).letting) (is.blocks m)),
+      let_by-same c i (rest Channel.C) (s.lets c i) s s' (λ m. ap (λ (z : Block X). (z.pair c).letting) (is.blocks m)),
     )

@@ -60,10 +60,9 @@ flowed-acquire {w} {X} {c} {n} {y} {asked} {asked'} {rest} {rest'} {s} {s'} {t} 
     (s.block m) = λ m. cc (
       rests Channel.D,
       comes-same m asked asked' (rest Channel.D) is.asked_is,
-      each-block
-          (λ j z. granted_by c j asked (rest Channel.D) z ≡ granted_by c j asked (rest Channel.D) (s.block j)) n s s'
-          is.elsewhere (neither (is_acknowledging (view new.service c)) (comes_granting n asked (rest Channel.D)) is.waits
-          none_comes ∙ sym granted_then) (λ j ne. refl) m,
+      each-block (λ j z. granted_by c j asked (rest Channel.D) z ≡ granted_by c j asked (rest Channel.D) (s.block j)) n
+          s s' is.elsewhere (neither (is_acknowledging (view new.service c)) (comes_granting n asked (rest Channel.D))
+          is.waits none_comes ∙ sym granted_then) (λ j ne. refl) m,
     ) in
     let tracked : (m : ℕ) → granted_by c m asked' (rest' Channel.D) (s'.block m) ≡ true → grant_sink m t ≡ Some
     (s'.block m).tracker = λ m e. each-block (λ j z. granted_by c j asked (rest Channel.D) (s.block j) ≡ true →

@@ -106,8 +106,7 @@ flowed-grant_ack {w} {X} {c} n toks y {asked} asked' {rest} rest' {s} {t} first 
         → probe_of m t ≡ Some (probe_beat m (cap_waited (s'.block m).service))
     probed m e = cc (
       before.probed m (answered_other m e),
-      set-part (λ (z : Block X). cap_waited z.service) n new
-          s.block (no_cap b.service seen) m,
+      set-part (λ (z : Block X). cap_waited z.service) n new s.block (no_cap b.service seen) m,
     )
       where
         no_cap : (q : Service) → view q c ≡ Acknowledging → cap_waited Free ≡ cap_waited q
@@ -200,8 +199,7 @@ flowed-grant_ack {w} {X} {c} n toks y {asked} asked' {rest} rest' {s} {t} first 
         )
         go (inr other) = cc (
           set-other b.tracker i None s.tracked other,
-          others (s.tracked i) (named.trackers i n
-              ∙ rw (busy, ne_eqb i b.tracker other) refl),
+          others (s.tracked i) (named.trackers i n ∙ rw (busy, ne_eqb i b.tracker other) refl),
           leaves_it (is_sunk c i (rest Channel.D) (s.tracked i) s)
               (y.sink == i) (λ e. rw sink (ne_eqb b.tracker i (λ f. other (sym f)))),
         )

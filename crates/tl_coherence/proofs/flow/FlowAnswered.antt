@@ -79,8 +79,7 @@ flowed-answer {w} {X} {c} {y} first {last} {asked} {asked'} {rest} {rest'} {s} {
           (unsaid last (is_grant y.opcode) (asks_for m (request_of y.source t)) (capped y.param) (held_by c (s.block m))
           is.grant);
       requests = λ i. ap (λ (l : List (Beat w)). is_requested c i l (s'.uses c i) s') (rests Channel.A) ∙ ap
-          (λ (u : SourceState). is_requested c i (rest Channel.A) u s') (is.uses i)
-          ∙ requests i last (y.source == i)
+          (λ (u : SourceState). is_requested c i (rest Channel.A) u s') (is.uses i) ∙ requests i last (y.source == i)
           ∙ sym (ap (λ (z : Bool). step first last false (not z && (y.source == i))
           (is_requested c i (rest Channel.A) (s.uses c i) s)) is.ack);
       asked_is = λ i e. asked_still i e (last && (y.source == i)) refl;
@@ -140,9 +139,8 @@ flowed-answer {w} {X} {c} {y} first {last} {asked} {asked'} {rest} {rest'} {s} {
     asked_still i e false f =
         cc (
           request_of-d i y t,
-          before.asked_is i (before.requests i ∙ sym (same_requested i (s.uses c i))
-              ∙ sym (use_at i ∙ ap (λ (z : Bool). is_requested c i (rest Channel.A)
-              (if z then SourceFree else s.uses c i) s')
+          before.asked_is i (before.requests i ∙ sym (same_requested i (s.uses c i)) ∙ sym
+              (use_at i ∙ ap (λ (z : Bool). is_requested c i (rest Channel.A) (if z then SourceFree else s.uses c i) s')
               f) ∙ e),
           is.asked_is i f,
         )
@@ -151,8 +149,7 @@ flowed-answer {w} {X} {c} {y} first {last} {asked} {asked'} {rest} {rest'} {s} {
     lets i = cc (
       rests Channel.C,
       is.lets i,
-      let_by-same c i (rest Channel.C) (s.lets c i) s s'
-          (λ m. ap (λ (z : Block X). (z.pair c).letting) (is.blocks m)),
+      let_by-same c i (rest Channel.C) (s.lets c i) s s' (λ m. ap (λ (z : Block X). (z.pair c).letting) (is.blocks m)),
     )
 
     grants : (m : ℕ) → granted_by c m asked' (rest' Channel.D) (s'.block m) ≡ granted_by c m asked (rest Channel.D)
@@ -294,20 +291,17 @@ flowed-let_go {w} {X} {c} {n} {y} {asked} {asked'} {rest} {rest'} {s} {s'} {t} f
     rest_same i (Some m) e f = cc (rests Channel.C, is.elsewhere m (other_source i m e f))
 
     lets : (i : ℕ) (z : Bool) → (y.source == i) ≡ z → is_let_by c i (rest' Channel.C) (s'.lets c i) s' ≡ step true true
-        false
-        (is_release_ack y.opcode && (y.source == i)) (is_let_by c i (rest Channel.C) (s.lets c i) s)
+        false (is_release_ack y.opcode && (y.source == i)) (is_let_by c i (rest Channel.C) (s.lets c i) s)
     lets i true e = cc (
       is.lets i,
       e,
-      closed (is_release_ack y.opcode) (y.source == i)
-          (is_let_by c i (rest Channel.C) (s.lets c i) s) is.ack e,
+      closed (is_release_ack y.opcode) (y.source == i) (is_let_by c i (rest Channel.C) (s.lets c i) s) is.ack e,
     )
     lets i false e = cc (
       is.lets i,
       e,
       rest_same i (s.lets c i) refl e,
-      unclosed_by (is_release_ack y.opcode)
-          (y.source == i) (is_let_by c i (rest Channel.C) (s.lets c i) s) e,
+      unclosed_by (is_release_ack y.opcode) (y.source == i) (is_let_by c i (rest Channel.C) (s.lets c i) s) e,
     )
 
     is_another : (i m : ℕ) → s'.lets c i ≡ Some m → (z : Bool) → (y.source == i) ≡ z → ((y.source == i) ≡ false)

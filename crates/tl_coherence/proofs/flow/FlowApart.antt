@@ -47,8 +47,7 @@ set-again n y z f m = elim (cases_eq m n) [
 ]
 
 module _ {w : ℕ} {X : Type 0} (d : ℕ) (asked asked' : ℕ → Option (BeatA w)) (rest : Channel → List (Beat w))
-    (s : State X) (asks : (i : ℕ) → asked' i ≡ asked i)
-    (coming : IsComing asked (rest Channel.D) d s) where
+    (s : State X) (asks : (i : ℕ) → asked' i ≡ asked i) (coming : IsComing asked (rest Channel.D) d s) where
   -- ---- a state that differs in block n alone
 
   -- what is delivered is as it was
@@ -62,10 +61,10 @@ module _ {w : ℕ} {X : Type 0} (d : ℕ) (asked asked' : ℕ → Option (BeatA 
   AreSameSinks s' = (i : ℕ) → is_sunk d i (rest Channel.D) (s'.tracked i) s' ≡ is_sunk d i (rest Channel.D)
       (s.tracked i) s
 
-  apart-at : (n : ℕ) (b : Block X) (s' : State X) → IsChanged n b s' → IsSameBlock d (s.block n) b
+  apart-at : (n : ℕ) {b : Block X} (s' : State X) → IsChanged n b s' → IsSameBlock d (s.block n) b
       → ((i : ℕ) → IsSameUse (s.uses d i) (s'.uses d i))
       → ((i : ℕ) → s'.lets d i ≡ s.lets d i) → AreSameSinks s' → IsLeft s'
-  apart-at n b s' changed same uses lets sinks = record {
+  apart-at n {b} s' changed same uses lets sinks = record {
     blocks = λ m. subst (λ (z : Block X). IsSameBlock d (s.block m) z) (sym (changed m))
         (set-each (λ j z. IsSameBlock d (s.block j) z) n b s.block same (λ j ne. same-block d (s.block j)) m);
     uses = uses;
@@ -112,20 +111,20 @@ module _ {w : ℕ} {X : Type 0} (d : ℕ) (asked asked' : ℕ → Option (BeatA 
 
   pub left-acquire_asked : (c n source : ℕ) (whole : Bool) (g : Grow) (bytes : X) → (d ≡ c → ⊥)
       → IsLeft (acquire_asked c n source whole g bytes s)
-  left-acquire_asked c n source whole g bytes ne = apart-at n (acquiring_block c source whole g bytes (s.block n))
+  left-acquire_asked c n source whole g bytes ne = apart-at n
       (acquire_asked c n source whole g bytes s) (λ m. refl) (same-acquiring d c source whole g bytes (s.block n) ne)
       (λ i. inl (set_at-other c d source i (Acquires n) s.uses ne)) (λ i. refl)
       (sinks-same n (acquiring_block c source whole g bytes (s.block n)) (acquire_asked c n source whole g bytes s)
       (λ m. refl) refl (λ i. refl))
 
   pub left-release_asked : (c n source : ℕ) (r : Prune) → (d ≡ c → ⊥) → IsLeft (release_asked c n source r s)
-  left-release_asked c n source r ne = apart-at n (releasing_block c source r (s.block n))
+  left-release_asked c n source r ne = apart-at n
       (release_asked c n source r s) (λ m. refl) (same-releasing d c source r (s.block n) ne) (λ i. inl refl)
       (λ i. set_at-other c d source i (Some n) s.lets ne) (sinks-same n (releasing_block c source r (s.block n))
       (release_asked c n source r s) (λ m. refl) refl (λ i. refl))
 
   pub left-block_stored : (c n : ℕ) (bytes : X) → IsLeft (block_stored c n bytes s)
-  left-block_stored c n bytes = apart-at n (stored_block c bytes (s.block n)) (block_stored c n bytes s) (λ m. refl)
+  left-block_stored c n bytes = apart-at n (block_stored c n bytes s) (λ m. refl)
       (same-stored d c bytes (s.block n)) (λ i. inl refl) (λ i. refl)
       (sinks-same n (stored_block c bytes (s.block n)) (block_stored c n bytes s) (λ m. refl) refl (λ i. refl))
 
@@ -144,7 +143,7 @@ module _ {w : ℕ} {X : Type 0} (d : ℕ) (asked asked' : ℕ → Option (BeatA 
   left-performed : (n : ℕ) (f : X → X) (s' : State X) → IsChanged n (performed_block f (s.block n)) s'
       → ((i : ℕ) → IsSameUse (s.uses d i) (s'.uses d i))
       → ((i : ℕ) → s'.lets d i ≡ s.lets d i) → ((i : ℕ) → s'.tracked i ≡ s.tracked i) → IsLeft s'
-  left-performed n f s' changed uses lets tracked = apart-at n (performed_block f (s.block n)) s' changed
+  left-performed n f s' changed uses lets tracked = apart-at n s' changed
       (same-performed d f (s.block n)) uses lets (sinks-same n (performed_block f (s.block n)) s' changed refl tracked)
 
   pub left-served : (r n source tracker : ℕ) (own : Bool) (k : Cap) (s' : State X)
@@ -154,7 +153,7 @@ module _ {w : ℕ} {X : Type 0} (d : ℕ) (asked asked' : ℕ → Option (BeatA 
       → s.tracked tracker ≡ None → ((i : ℕ) → s'.tracked i ≡ set tracker (Some n) s.tracked i) → IsLeft s'
   left-served r n source tracker own k s' changed other free quiet uses lets unused tracked =
       let new : Block X = served_block r own source tracker k (s.block n) in
-      apart-at n new s' changed (same-served d r source tracker own k (s.block n) other free quiet) uses lets
+      apart-at n s' changed (same-served d r source tracker own k (s.block n) other free quiet) uses lets
       (sinks-outside n new s' changed (free-outside n free) (outside-waits d r source own k other)
       (λ i. subst (λ (o : Option ℕ). (o ≡ s.tracked i) ⊎ (IsWithin n (s.tracked i) × IsWithin n o)) (sym (tracked i))
       (tracked-new n tracker s.tracked unused i)))
@@ -164,7 +163,7 @@ module _ {w : ℕ} {X : Type 0} (d : ℕ) (asked asked' : ℕ → Option (BeatA 
       → IsLeft (acquire_granted r n tracker x k toks s)
   left-acquire_granted r n tracker x k toks ne free quiet unused =
       let new : Block X = granted_at_once r tracker x k (s.block n) in
-      apart-at n new (acquire_granted r n tracker x k toks s) (λ m. refl)
+      apart-at n (acquire_granted r n tracker x k toks s) (λ m. refl)
       (same-granted_at_once d r tracker x k (s.block n) ne free quiet) (λ i. inl refl) (λ i. refl)
       (sinks-outside n new (acquire_granted r n tracker x k toks s) (λ m. refl) (free-outside n free)
       (outside-sent d r x k ne) (tracked-new n tracker s.tracked unused))
@@ -172,18 +171,18 @@ module _ {w : ℕ} {X : Type 0} (d : ℕ) (asked asked' : ℕ → Option (BeatA 
   -- ---- Probes, ProbeAcks and Releases
 
   pub left-probe_taken : (c n : ℕ) (k : Cap) (toks : List Packet) → (d ≡ c → ⊥) → IsLeft (probe_taken c n k toks s)
-  left-probe_taken c n k toks ne = apart-at n (probed_block c k (s.block n)) (probe_taken c n k toks s) (λ m. refl)
+  left-probe_taken c n k toks ne = apart-at n (probe_taken c n k toks s) (λ m. refl)
       (same-probed d c k (s.block n) ne) (λ i. inl refl) (λ i. refl)
       (sinks-same n (probed_block c k (s.block n)) (probe_taken c n k toks s) (λ m. refl) refl (λ i. refl))
 
   pub left-report_taken : (c n : ℕ) (r : Report) (toks : List Packet) → (d ≡ c → ⊥) → IsLeft (report_taken c n r toks s)
-  left-report_taken c n r toks ne = apart-at n (reported_block c r (s.block n)) (report_taken c n r toks s) (λ m. refl)
+  left-report_taken c n r toks ne = apart-at n (report_taken c n r toks s) (λ m. refl)
       (same-reported d c r (s.block n) ne) (λ i. inl refl) (λ i. refl)
       (sinks-same n (reported_block c r (s.block n)) (report_taken c n r toks s) (λ m. refl) refl (λ i. refl))
 
   pub left-release_taken : (c n : ℕ) (r : Prune) (toks : List Packet) → (d ≡ c → ⊥)
       → IsLeft (release_taken c n r toks s)
-  left-release_taken c n r toks ne = apart-at n (let_block c r (s.block n)) (release_taken c n r toks s) (λ m. refl)
+  left-release_taken c n r toks ne = apart-at n (release_taken c n r toks s) (λ m. refl)
       (same-let d c r (s.block n) ne) (λ i. inl refl) (λ i. refl)
       (sinks-same n (let_block c r (s.block n)) (release_taken c n r toks s) (λ m. refl) refl (λ i. refl))
 
@@ -202,21 +201,20 @@ module _ {w : ℕ} {X : Type 0} (d : ℕ) (asked asked' : ℕ → Option (BeatA 
   pub left-grant_taken : (c n : ℕ) (whole x : Bool) (k : Cap) (toks : List Packet) → (d ≡ c → ⊥)
       → (s.block n).service ≡ GrantSent c x k → IsLeft (grant_taken c n whole x k toks s)
   left-grant_taken c n whole x k toks ne sent =
-      apart-at n (taken_block c whole x k (s.block n)) (grant_taken c n whole x k toks s) (λ m. refl)
+      apart-at n (grant_taken c n whole x k toks s) (λ m. refl)
       (same-taken d c whole x k (s.block n) ne sent) (λ i. inl (set_at-other c d ((s.block n).source c) i _ s.uses ne))
       (λ i. refl) (sinks-outside n (taken_block c whole x k (s.block n)) (grant_taken c n whole x k toks s) (λ m. refl)
       (ap (λ (q : Service). is_outside (view q d)) sent ∙ outside-sent d c x k ne) (outside-taken d c ne)
       (λ i. inl refl))
 
   pub left-release_ack_taken : (c n : ℕ) (toks : List Packet) → (d ≡ c → ⊥) → IsLeft (release_ack_taken c n toks s)
-  left-release_ack_taken c n toks ne = apart-at n (let_go_block c (s.block n)) (release_ack_taken c n toks s)
-      (λ m. refl) (same-let_go d c (s.block n) ne) (λ i. inl refl) (λ i. set_at-other c d ((s.block n).release_source c)
-      i None s.lets ne) (sinks-same n (let_go_block c (s.block n)) (release_ack_taken c n toks s) (λ m. refl) refl
-      (λ i. refl))
+  left-release_ack_taken c n toks ne = apart-at n (release_ack_taken c n toks s) (λ m. refl)
+      (same-let_go d c (s.block n) ne) (λ i. inl refl) (λ i. set_at-other c d ((s.block n).release_source c) i None
+      s.lets ne) (sinks-same n (let_go_block c (s.block n)) (release_ack_taken c n toks s) (λ m. refl) refl (λ i. refl))
 
   pub left-grant_ack_taken : (c n : ℕ) (toks : List Packet) → (d ≡ c → ⊥) → (s.block n).service ≡ GrantTaken c
       → s.tracked (s.block n).tracker ≡ Some n → IsLeft (grant_ack_taken c n toks s)
-  left-grant_ack_taken c n toks ne taken tracks = apart-at n (freed_block (s.block n)) (grant_ack_taken c n toks s)
+  left-grant_ack_taken c n toks ne taken tracks = apart-at n (grant_ack_taken c n toks s)
       (λ m. refl) (same-freed d c (s.block n) ne taken) (λ i. inl refl) (λ i. refl)
       (sinks-outside n (freed_block (s.block n)) (grant_ack_taken c n toks s) (λ m. refl)
       (ap (λ (q : Service). is_outside (view q d)) taken ∙ outside-taken d c ne) refl
@@ -225,8 +223,7 @@ module _ {w : ℕ} {X : Type 0} (d : ℕ) (asked asked' : ℕ → Option (BeatA 
 -- ---- an access, after its last beat
 
 module _ {w : ℕ} {X : Type 0} (d : ℕ) (asked asked' : ℕ → Option (BeatA w)) (rest : Channel → List (Beat w))
-    (s : State X) (asks : (i : ℕ) → asked' i ≡ asked i)
-    (coming : IsComing asked (rest Channel.D) d s) where
+    (s : State X) (asks : (i : ℕ) → asked' i ≡ asked i) (coming : IsComing asked (rest Channel.D) d s) where
   pub left-access_answered : (c n source : ℕ) (f : X → X) (toks : List Packet)
       → IsAside asked asked' rest d (replied c source s) (access_answered c n source f toks s)
   left-access_answered c n source f toks = left-performed d asked asked' rest (replied c source s) asks coming n f
@@ -267,7 +264,7 @@ module _ {w : ℕ} {X : Type 0} (d : ℕ) (asked asked' : ℕ → Option (BeatA 
         ≡ Some n → is_heard (s.uses q source) ≡ true → IsAside asked asked' rest d (report_taken c n r toks s)
         (report_answers c q n source r f toks s)
     left-report_answers q source k f waits quiet tracks heard = apart-at d asked asked' rest between asks coming_still n
-        (ended_block c r f (s.block n)) (report_answers c q n source r f toks s)
+        (report_answers c q n source r f toks s)
         (set-again n (reported_block c r (s.block n)) (ended_block c r f (s.block n)) s.block)
         (subst (λ (z : Block X). IsSameBlock d z (ended_block c r f (s.block n))) (sym new_is)
         (same-settled d c q source r k f (s.block n) waits (unanswered quiet))) uses (λ i. refl)
@@ -302,7 +299,7 @@ module _ {w : ℕ} {X : Type 0} (d : ℕ) (asked asked' : ℕ → Option (BeatA 
         λ i. cc (sunk-elsewhere d i n (rest Channel.D) (s.tracked i) (s.tracked i) between
         (report_grants c q n r x k toks s) (λ m ne. changed m ∙ set-other n m new between.block ne) (inl refl)
         (λ e. unsunk_then i) (λ e. ap (sunk_in d i (rest Channel.D)) (set-same n new s.block) ∙ unsunk_now i e)) in
-        apart-at d asked asked' rest between asks coming_still n new (report_grants c q n r x k toks s) changed
+        apart-at d asked asked' rest between asks coming_still n (report_grants c q n r x k toks s) changed
         (subst (λ (z : Block X). IsSameBlock d z new) (sym new_is) same) (λ i. inl refl) (λ i. refl) sinks
       where
         new : Block X

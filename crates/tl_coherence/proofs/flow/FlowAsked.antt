@@ -142,8 +142,7 @@ untouched-release_asked {w} {X} c n source r asked asked' rest s free none kept 
           (set-part (sunk_in c i (rest Channel.D)) n new s.block refl);
       grants = λ m. cc (
         comes-same m asked asked' (rest Channel.D) asks,
-        set-part (granted_by c m asked (rest Channel.D)) n
-            new s.block refl m,
+        set-part (granted_by c m asked (rest Channel.D)) n new s.block refl m,
       );
       probes = set-part (λ (z : Block X). is_answered (z.pair c).probing) n new s.block
           (ap (λ (p : ClientBlock). is_answered p.probing) pair);
@@ -173,19 +172,16 @@ untouched-release_asked {w} {X} c n source r asked asked' rest s free none kept 
       | inl here ↦ absurd (let no : (n == n) ≡ false = rw here at e in let yes : true ≡ false =
           sym (same_number n) ∙ no in cc)
       | inr other ↦ set-each (λ j z. (j ≡ n → ⊥)
-          → is_release_pending i (rest Channel.C) (z.pair c).letting ≡ is_release_pending i
-          (rest Channel.C) ((s.block j).pair c).letting) n new
-          s.block (λ ne. absurd (ne refl)) (λ j ne f. refl) m other
+          → is_release_pending i (rest Channel.C) (z.pair c).letting ≡ is_release_pending i (rest Channel.C)
+          ((s.block j).pair c).letting) n new s.block (λ ne. absurd (ne refl)) (λ j ne f. refl) m other
     ]
 
     lets : (i : ℕ) → is_let_by c i (rest Channel.C) (s'.lets c i) s' ≡ is_let_by c i (rest Channel.C) (s.lets c i) s
     lets i = elim (cases_eq i source) [
       | inl here ↦ rw here (ap (λ (o : Option ℕ). is_let_by c source (rest Channel.C) o s')
-          (set_at-same c source (Some n) s.lets)
-          ∙ ap (λ (z : Block X). is_release_pending source (rest Channel.C) (z.pair c).letting) (set-same n new s.block)
-          ∙ ap
-          (is_release_pending source (rest Channel.C)) letting_is ∙ none
-          ∙ sym (ap (λ (o : Option ℕ). is_let_by c source (rest Channel.C) o s) free))
+          (set_at-same c source (Some n) s.lets) ∙ ap (λ (z : Block X). is_release_pending source (rest Channel.C)
+          (z.pair c).letting) (set-same n new s.block) ∙ ap (is_release_pending source (rest Channel.C)) letting_is
+          ∙ none ∙ sym (ap (λ (o : Option ℕ). is_let_by c source (rest Channel.C) o s) free))
       | inr other ↦ ap (λ (o : Option ℕ). is_let_by c i (rest Channel.C) o s')
           (set_at-else c source i (Some n) s.lets other c) ∙ others i (s.lets c i) (unused i)
     ]

@@ -5,7 +5,7 @@ use Rattle.tl_coherence.proofs.flow.Imports.{ClientBlock, after_release, Block, 
 use Rattle.tl_coherence.proofs.flow.Imports.{Acquires, view, is_granting, is_unserved, is_wanting, access_asked}
 use Rattle.tl_coherence.proofs.flow.Imports.{acquire_asked, release_asked, releasing_block, AccessMessages, System}
 use Rattle.tl_coherence.proofs.flow.Imports.{set_at, SimulationRelation, is_caching, asked_by, Message}
-use Rattle.std.proofs.Common.{◌≡◌, subst, ℕ, Bool, true, false, Option, refl, sym, ◌∙◌, ap, List, inl, inr}
+use Rattle.std.proofs.Common.{◌≡◌, ℕ, Bool, true, false, Option, refl, sym, ◌∙◌, ap, List, inl, inr}
 use Rattle.std.{specs.Prelude.◌==◌, proofs.lemmas.Bool.cases_eq, proofs.lemmas.Bool.ne_eqb}
 use Rattle.tl_client.{specs.declared.operation.Op.Op, specs.declared.reply.Reply.Reply, specs.statement.Ask.copy_stored}
 use Rattle.tl_client.{specs.statement.Ask.whole_grow, specs.statement.Send.access}
@@ -36,7 +36,7 @@ unserved_ungranted v e = refl
 acquires_not : (u : SourceState) (n : ℕ) → u ≡ SourceFree → u ≡ Acquires n → ⊥
 acquires_not u n e f = let g : SourceFree ≡ Acquires n = sym e ∙ f in cc
 
-module _ {w : ℕ} (config : Config) (log : Log w) (h : AbstractState w) (sys : System w) (c : ℕ) (width : IsWidth w)
+module _ {w : ℕ} {config : Config} {log : Log w} (h : AbstractState w) {sys : System w} (c : ℕ) (width : IsWidth w)
     (is : SimulationRelation config log h.mail h.request h.state sys) where
   -- what is delivered on client d's link is as it was
   abbrev pub IsAskedOn : ℕ → History w → Op w → Reply → Type 0
@@ -60,15 +60,14 @@ module _ {w : ℕ} (config : Config) (log : Log w) (h : AbstractState w) (sys : 
       (λ j used. set-part (λ b. b.source c) n _ h.state.block refl j) in
       flowed-aside
       (left-block_stored c (asked_by h.mail h.state c) (asked_by h.mail (block_stored c n bytes h.state) c)
-      (unfinished_at sys c) h.state asks
-      (coming-granting c is) c n bytes)
+      (unfinished_at sys c) h.state asks (coming-granting c is) c n bytes)
 
-  own-acquire : (t : History w) (n source : ℕ) (whole : Bool) (g : Grow) (bytes : List ℕ)
+  own-acquire : {t : History w} (n source : ℕ) (whole : Bool) (g : Grow) (bytes : List ℕ)
       → h.state.uses c source ≡ SourceFree → ((h.state.block n).pair c).acquiring ≡ NoAcquire
       → MonitorRelation (asked_by h.mail h.state c) (unfinished_at sys c) c h.state t
       → MonitorRelation (asked_by h.mail (acquire_asked c n source whole g bytes h.state) c) (unfinished_at sys c) c
       (acquire_asked c n source whole g bytes h.state) t
-  own-acquire t n source whole g bytes closed calm =
+  own-acquire n source whole g bytes closed calm =
       flowed-untouched (untouched-acquire_asked c n source whole g bytes before after (unfinished_at sys c) h.state
       closed calm (unserved_calm ((h.state.block n).pair c) (view (h.state.block n).service c)
       ((is.invariant.blocks n).phases c) calm) asks
@@ -82,9 +81,8 @@ module _ {w : ℕ} (config : Config) (log : Log w) (h : AbstractState w) (sys : 
       after = asked_by h.mail (acquire_asked c n source whole g bytes h.state) c
 
       asks : (i : ℕ) → (i ≡ source → ⊥) → after i ≡ before i
-      asks i ne = let other : (source == i) ≡ false = ne_eqb source i
-          (λ e. ne (sym e)) in asks_acquire c n source i whole g bytes h.mail is.invariant.named
-          (ap is_wanting calm) ∙ rw other refl
+      asks i ne = let other : (source == i) ≡ false = ne_eqb source i (λ e. ne (sym e)) in
+          asks_acquire c n source i whole g bytes h.mail is.invariant.named (ap is_wanting calm) ∙ rw other refl
 
   own-release : (t : History w) (n source : ℕ) (r : Prune) → IsAskedOn c t (Op.Release n r) (Reply.Started source)
   own-release t n source r may =
@@ -99,11 +97,10 @@ module _ {w : ℕ} (config : Config) (log : Log w) (h : AbstractState w) (sys : 
       j) in
       flowed-untouched
       (untouched-release_asked c n source r before after (unfinished_at sys c) h.state may.1
-      (coming-free c source width is may.1) may.3
-      (λ i. is.invariant.named.releases c i n ∙ rw may.3 refl)
+      (coming-free c source width is may.1) may.3 (λ i. is.invariant.named.releases c i n ∙ rw may.3 refl)
       (unserved_ungranted (view (h.state.block n).service c)
-      (unserved_calm ((h.state.block n).pair c) (view (h.state.block n).service c) ((is.invariant.blocks n).phases c)
-      may.2)) asks)
+      (unserved_calm ((h.state.block n).pair c) (view (h.state.block n).service c)
+      ((is.invariant.blocks n).phases c) may.2)) asks)
 
   own-access : (t : History w) (m : MessageA w) (source : ℕ)
       → IsAskedOn c t (Op.Access (Message.A m)) (Reply.Started source)
@@ -120,16 +117,15 @@ module _ {w : ℕ} (config : Config) (log : Log w) (h : AbstractState w) (sys : 
       (inl (set_at-else c source i Asked h.state.uses ne c)) (λ n used. refl) (λ n used. refl) in
       flowed-untouched
       (untouched-access_asked c source before after (unfinished_at sys c) h.state closed
-      (not-coming_a c source is
-      (ap (λ (u : SourceState). waits_on_a c u h.state) closed)) asks
+      (not-coming_a c source is (ap (λ (u : SourceState). waits_on_a c u h.state) closed)) asks
       (λ k. coming-asked c k before after is
       (λ i n used. asks i (λ e. acquires_not (h.state.uses c i) n (ap (h.state.uses c) e ∙ closed) used))))
 
   asked-own : (t : History w) (o : Op w) (r : Reply) → IsReply o r → IsAskedOn c t o r
   asked-own t o r may_be = reply-cases (IsAskedOn c t) o r may_be (own-stored t)
-      (λ n g source may. own-acquire t n source false g ((h.state.block n).waiting c) may.1 may.2)
-      (λ n bytes source may. own-acquire t n source true (whole_grow ((h.state.block n).pair c).held) bytes may.1 may.2)
-      (λ n p source. own-release t n source p) (own-access t) (asked-nothing c t)
+      (λ n g source may. own-acquire {t = t} n source false g ((h.state.block n).waiting c) may.1 may.2)
+      (λ n bytes source may. own-acquire {t = t} n source true (whole_grow ((h.state.block n).pair c).held) bytes may.1
+      may.2) (λ n p source. own-release t n source p) (own-access t) (asked-nothing c t)
 
   -- ---- another one
 

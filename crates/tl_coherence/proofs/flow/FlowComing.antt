@@ -41,8 +41,7 @@ alone_answer {config} {mail} {s} c i rest h first =
     let due = answer-due (is_caching config) c i rest mail s h.invariant (h.answered c i) first in (
       due.answer,
       due.answer_is,
-      never_grant (is_grant due.answer.opcode)
-          (access_kind due.answer.opcode due.answers_access).0,
+      never_grant (is_grant due.answer.opcode) (access_kind due.answer.opcode due.answers_access).0,
     )
 
 alone_grant : {w : ℕ} {config : Config} {log : Log w} {mail : AccessMessages w} {request : ℕ → MessageA w}
@@ -53,8 +52,7 @@ unfolding IsGrantAlone
 alone_grant {config} {s} c n rest h first =
     let due = grant-due (is_caching config) c n rest s h.invariant first in (
       grant_message due.data_too due.k ((s.block n).source c) (s.block n).tracker (s.block n).truth,
-      grant-rendered c n s
-          due,
+      grant-rendered c n s due,
       λ e. (n, due, refl, refl),
     )
 
@@ -140,8 +138,7 @@ coming-granting {w} {config} {log} {mail} {request} {s} {sys} c h n =
     go : (beats : List (Beat w)) → unfinished Channel.D (sys.clients c).past ≡ beats
         → comes_granting n (asked_by mail s c) beats ≡ true → is_granting (view (s.block n).service c) ≡ true
     go (Beat.D x ∷ more) e f =
-        let of = half-granted c x more h e
-        (and_left (is_grant x.opcode) (asks_for n (asked_by mail s c x.source)) f) in
+        let of = half-granted c x more h e (and_left (is_grant x.opcode) (asks_for n (asked_by mail s c x.source)) f) in
         let asks = asks-acquire c ((s.block of.0).source c) of.0 ((s.block of.0).source c) of.1.whole of.1.g mail s
         of.1.used of.1.wants refl in
         let here : (block_at (64 * of.0) == n) ≡ true =
@@ -270,8 +267,7 @@ coming-free {w} {config} {log} {mail} {request} {s} {sys} c source width h free 
         by : (b : Bool) → (is_release x.opcode && (x.source == source)) ≡ b → b ≡ false
         by false f = refl
         by true f =
-            let of = half-released c x more width h e
-            (and_left (is_release x.opcode) (x.source == source) f) in
+            let of = half-released c x more width h e (and_left (is_release x.opcode) (x.source == source) f) in
             let same : source ≡ (s.block of.0).release_source c =
             sym (eqb-true x.source source (and_right (is_release x.opcode) (x.source == source) f)) ∙ of.2 in
             let letting = releasing-is ((s.block of.0).pair c).letting of.1 in

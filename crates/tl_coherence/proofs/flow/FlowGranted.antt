@@ -146,8 +146,7 @@ flowed-grant {w} {X} {c} {n} {d} {k} {y} {first} {last} {asked} {asked'} {rest} 
     let names : (m : ℕ) → (is_grant y.opcode && asks_for m (request_of y.source t)) ≡ (n == m) =
     λ m. cc (
       is.grant,
-      before.asked_is y.source (before.requests y.source
-          ∙ was_requested y.source (same_number y.source)),
+      before.asked_is y.source (before.requests y.source ∙ was_requested y.source (same_number y.source)),
       is.asks m,
     ) in
     let apart : (m : ℕ) → (m ≡ n → ⊥) → (is_grant y.opcode && asks_for m (request_of y.source t)) ≡ false =
@@ -160,8 +159,7 @@ flowed-grant {w} {X} {c} {n} {d} {k} {y} {first} {last} {asked} {asked'} {rest} 
       is.grants m,
       and_right (not last) (n == m) (ne_eqb n m (λ e. ne (sym e))),
       is.granted m,
-      and_right
-          (not first) (n == m) (ne_eqb n m (λ e. ne (sym e))),
+      and_right (not first) (n == m) (ne_eqb n m (λ e. ne (sym e))),
     ) in
     let let_same : (m : ℕ) → let_of c (rest Channel.C) (s'.block m) ≡ let_of c (rest Channel.C) (s.block m) =
     part-block (let_of c (rest Channel.C)) n s s' is.elsewhere (rw (is.release_source, is.letting_is) refl) in
@@ -232,9 +230,8 @@ flowed-grant {w} {X} {c} {n} {d} {k} {y} {first} {last} {asked} {asked'} {rest} 
           is.use_is i f,
           now_requested last d k (view new.service c) is.seen_is e,
           e,
-          closed first last
-              (is_release_ack y.opcode) (y.source == i) (is_requested c i (rest Channel.A) (s.uses c i) s) is.ack f
-              (was_requested i f),
+          closed first last (is_release_ack y.opcode) (y.source == i) (is_requested c i (rest Channel.A) (s.uses c i) s)
+              is.ack f (was_requested i f),
         )
     requests i true false e f = requested-apart c i n (rest Channel.A) (rest Channel.A) (s.uses c i) s s' is.elsewhere
         refl (is.no_use i f) ∙ sym (unclosed_by first last (not (is_release_ack y.opcode)) (y.source == i)
@@ -259,10 +256,9 @@ flowed-grant {w} {X} {c} {n} {d} {k} {y} {first} {last} {asked} {asked'} {rest} 
     asked_still i e false f =
         cc (
           request_of-d i y t,
-          before.asked_is i
-              (was_pending i (sym (use_at i
-              ∙ ap (λ (z : Bool). is_requested c i (rest Channel.A) (if z then SourceFree else s.uses c i) s') f) ∙ e)
-              (y.source == i) refl),
+          before.asked_is i (was_pending i
+              (sym (use_at i ∙ ap (λ (z : Bool). is_requested c i (rest Channel.A)
+              (if z then SourceFree else s.uses c i) s') f) ∙ e) (y.source == i) refl),
           is.asked_is i f,
         )
 
@@ -284,8 +280,7 @@ flowed-grant {w} {X} {c} {n} {d} {k} {y} {first} {last} {asked} {asked'} {rest} 
           at_n,
           now_sunk last d k (view new.service c) (comes_in_grant i (rest' Channel.D)) is.seen_is (is.comes i
               ∙ with_true (not last) (y.sink == i) e),
-          opened first last (is_grant y.opcode) (y.sink == i)
-              (is_sunk c i (rest Channel.D) o s) is.grant e then_sunk,
+          opened first last (is_grant y.opcode) (y.sink == i) (is_sunk c i (rest Channel.D) o s) is.grant e then_sunk,
         )
     sinks i false None e f =
         sym (unbegun first last (is_grant y.opcode && (y.sink == i)) false
@@ -296,8 +291,7 @@ flowed-grant {w} {X} {c} {n} {d} {k} {y} {first} {last} {asked} {asked'} {rest} 
               let j : true ≡ false = sym (same_number n) ∙ h in cc),
           is.comes i,
           and_right (not last) (y.sink == i) e,
-          is.came
-              i,
+          is.came i,
           and_right (not first) (y.sink == i) e,
           unbegun first last (is_grant y.opcode && (y.sink == i))
               (is_sunk c i (rest Channel.D) (Some m) s) (and_right (is_grant y.opcode) (y.sink == i) e),

@@ -36,7 +36,7 @@ use Rattle.tl_coherence.proofs.flow.FlowApart.{left-report_answers, left-report_
 use Rattle.tl_coherence.proofs.flow.FlowAside.{is_heard, IsComing, flowed-aside, flowed-asks}
 use Rattle.tl_coherence.proofs.protocol.BothParts.{answered-is, quiet_unanswered, acknowledging-is, not-other}
 
-module _ {w : ℕ} (config : Config) (log : Log w) (h : AbstractState w) (sys : System w) (c : ℕ)
+module _ {w : ℕ} {config : Config} {log : Log w} (h : AbstractState w) {sys : System w} (c : ℕ)
     (is : SimulationRelation config log h.mail h.request h.state sys) (tracker : ℕ) where
   abbrev s : State (List ℕ)
   s = h.state
@@ -155,8 +155,7 @@ module _ {w : ℕ} (config : Config) (log : Log w) (h : AbstractState w) (sys : 
             let after = report_grants c q n r x j toks s in
             flowed-aside
             (left-report_grants d before (asked_by h.mail after d) rest s (asks-left d h (with_state after h) l) coming
-            c n r toks q source k j x waits
-            (unanswered quiet) apart even (none_comes q source k waits)) flowed
+            c n r toks q source k j x waits (unanswered quiet) apart even (none_comes q source k waits)) flowed
           where
             own : view (s.block n).service q ≡ Own
             own = rw (waits, same_number q) refl
@@ -186,7 +185,7 @@ module _ {w : ℕ} (config : Config) (log : Log w) (h : AbstractState w) (sys : 
             (left-report_answers d before (asked_by after.mail after.state d) rest s (asks-left d h after l) coming c n
             r toks q source k
             (performs (h.request n)) e (unanswered quiet) (tracker-of n is.invariant.named (rw e refl))
-            (ap is_heard (serving-use (is_caching config) s n q source k is.invariant e))) flowed
+            (ap is_heard (serving-use n q source k is.invariant e))) flowed
 
         others : (x : Bool) → some_below (length config.clients.items)
             (λ i. not (i == c) && not (is_unprobed ((s.block n).pair i).probing)) ≡ x
@@ -254,11 +253,11 @@ module _ {w : ℕ} (config : Config) (log : Log w) (h : AbstractState w) (sys : 
             (gift config.profile whole g (is_unheld (length config.clients.items) b.pair)) toks ne free
             (quiet_unanswered (b.pair d).probing (free_quiet n free d)) unused) flowed
 
-    other_grant : (n : ℕ) (toks : List Packet) (due : IsGrantDue c n s) (service : Service)
+    other_grant : {n : ℕ} (toks : List Packet) (due : IsGrantDue c n s) (service : Service)
         → service ≡ GrantSent c due.data_too due.k
         → Leaves d h (taken_by_client c n service toks h) → FlowsAs h → FlowsAs (taken_by_client c n service toks h)
-    other_grant n toks due service e l flowed = subst (λ (q : Service). FlowsAs (taken_by_client c n q toks h)) (sym e)
-        (go (subst (λ (q : Service). Leaves d h (taken_by_client c n q toks h)) e l))
+    other_grant {n} toks due service e l flowed = subst (λ (q : Service). FlowsAs (taken_by_client c n q toks h))
+        (sym e) (go (subst (λ (q : Service). Leaves d h (taken_by_client c n q toks h)) e l))
       where
         go : Leaves d h (taken_by_client c n (GrantSent c due.data_too due.k) toks h)
             → FlowsAs (taken_by_client c n (GrantSent c due.data_too due.k) toks h)
@@ -297,7 +296,7 @@ module _ {w : ℕ} (config : Config) (log : Log w) (h : AbstractState w) (sys : 
         (asks-left d h after l) comes c source toks ne) flowed
     by_kind Grant n toks first ready l flowed =
         let due = grant-due (is_caching config) c n toks s is.invariant first in
-        other_grant n toks due (s.block n).service due.service l flowed
+        other_grant toks due (s.block n).service due.service l flowed
     by_kind ReleaseAck n toks first ready l flowed =
         let after = kind_taken config tracker c ReleaseAck n toks h in
         flowed-aside
@@ -305,13 +304,11 @@ module _ {w : ℕ} (config : Config) (log : Log w) (h : AbstractState w) (sys : 
         (asks-left d h after l) comes c n toks ne) flowed
     by_kind GrantAck n toks first ready l flowed =
         let after = kind_taken config tracker c GrantAck n toks h in
-        let taken = acknowledging-is (s.block n).service c
-        (holds-first GrantAck (s.link c).e toks (packet GrantAck n) (λ i. shown GrantAck c (s.block i)) first refl
-        (is.invariant.transfers c GrantAck refl)) in
+        let taken = acknowledging-is (s.block n).service c (holds-first GrantAck (s.link c).e toks (packet GrantAck n)
+        (λ i. shown GrantAck c (s.block i)) first refl (is.invariant.transfers c GrantAck refl)) in
         flowed-aside
         (left-grant_ack_taken d then_asked (asked_by after.mail after.state d) (unfinished_at sys d) s
-        (asks-left d h after l) comes c n toks ne taken
-        (tracker-of n is.invariant.named (rw taken refl))) flowed
+        (asks-left d h after l) comes c n toks ne taken (tracker-of n is.invariant.named (rw taken refl))) flowed
 
     pub other-kind : (k : Kind) (i : ℕ) (toks : List Packet) → on k (s.link c) ≡ packet k i ∷ toks
         → IsReady tracker c k i h → FlowsAs h → FlowsAs (kind_taken config tracker c k i toks h)

@@ -1,16 +1,14 @@
 -- A beat of channel B or C that is delivered breaks no rule after what was delivered before it.
 use Rattle.tl_coherence.proofs.flow.Imports.{IsWidth, Beat, Channel, Message, MessageA, MessageC, beat_of, History}
-use Rattle.tl_coherence.proofs.flow.Imports.{channel_of, unfinished, Config, Level, Prune, Report, Profile}
-use Rattle.tl_coherence.proofs.flow.Imports.{on_link, broken_in_order}
-use Rattle.tl_coherence.proofs.flow.Imports.{broken_after, illegal, same_block, level_of, flow, Log}
-use Rattle.tl_coherence.proofs.flow.Imports.{View, Granting, Acknowledging}
-use Rattle.tl_coherence.proofs.flow.Imports.{ProbeSent, ProbeAnswered, ReleasePhase, ReleaseSent, ReleaseAcked}
-use Rattle.tl_coherence.proofs.flow.Imports.{AcquirePhase, NoAcquire, AcquireOpen, ok, is_unreleased, is_unprobed}
-use Rattle.tl_coherence.proofs.flow.Imports.{Block, State, packet, shown, view, is_granting, is_acknowledging}
-use Rattle.tl_coherence.proofs.flow.Imports.{is_answered, is_acked, is_on, AccessMessages, message_of, message_of_kind}
-use Rattle.tl_coherence.proofs.flow.Imports.{block_message, prune_told, report_told, cap_waited, System, Kind, Probe}
-use Rattle.tl_coherence.proofs.flow.Imports.{ProbeAck, Release, Packet, SimulationRelation, MonitorRelations}
-use Rattle.tl_coherence.proofs.flow.Imports.{is_caching}
+use Rattle.tl_coherence.proofs.flow.Imports.{channel_of, unfinished, Config, Level, Prune, Report, Profile, on_link}
+use Rattle.tl_coherence.proofs.flow.Imports.{broken_in_order, broken_after, illegal, same_block, level_of, flow, Log}
+use Rattle.tl_coherence.proofs.flow.Imports.{View, Granting, Acknowledging, ProbeSent, ProbeAnswered, ReleasePhase}
+use Rattle.tl_coherence.proofs.flow.Imports.{ReleaseSent, ReleaseAcked, AcquirePhase, NoAcquire, AcquireOpen, ok}
+use Rattle.tl_coherence.proofs.flow.Imports.{is_unreleased, is_unprobed, Block, State, packet, shown, view, is_granting}
+use Rattle.tl_coherence.proofs.flow.Imports.{is_acknowledging, is_answered, is_acked, is_on, AccessMessages, message_of}
+use Rattle.tl_coherence.proofs.flow.Imports.{message_of_kind, block_message, prune_told, report_told, cap_waited}
+use Rattle.tl_coherence.proofs.flow.Imports.{System, Kind, Probe, ProbeAck, Release, Packet, SimulationRelation}
+use Rattle.tl_coherence.proofs.flow.Imports.{MonitorRelations, is_caching}
 use Rattle.std.proofs.Common.{◌≡◌, ℕ, true, false, List, [], ◌∷◌, Some, None, refl, sym, ◌∙◌, ap, subst}
 use Rattle.std.specs.Prelude.{map}
 use Rattle.tl_burst.{specs.statement.Burst.c_beat_of, specs.statement.Messages.channel_in}
@@ -69,9 +67,8 @@ report-lawful {w} {config} {log} {mail} {s} {sys} c n toks l {x} {ms} {queue} wi
     (report_fits r (b.pair c) (view b.service c) ok_is answered))) in
     next-flows l config.profile (flow c log) lawful
     (subst (λ (i : Message w). IsNext x rest i ms queue) about.1 next) ((flowed c).rest_is Channel.C)
-    (λ none. report-flows config.profile n (cap_waited b.service) r (c_beat_of m 0)
-    (flowed c) none about.2.reports about.2.releases about.2.block about.2.param_is
-    answered refl (unacked (b.pair c).letting refl)
+    (λ none. report-flows config.profile n (cap_waited b.service) r (c_beat_of m 0) (flowed c) none about.2.reports
+    about.2.releases about.2.block about.2.param_is answered refl (unacked (b.pair c).letting refl)
     (other_ungranted (view b.service c) (answered_other r (b.pair c) (view b.service c) ok_is answered)) told)
   where
     b : Block (List ℕ)
@@ -148,9 +145,8 @@ flows-c {w} {config} {log} {mail} {request} {s} {sys} c l x queue width is flowe
     let lawful = lawful-beat c Channel.C l x queue is beats level in
     cc (by-first_c (λ i. broken_after l config.profile x (flow c log) ≡ None) c mail s sys x queue
     (first-token (is_caching config) Channel.C c mail s sys x queue width is.invariant is.carried beats)
-    (λ n rest tokens next. report-lawful c n rest l
-    width is flowed lawful tokens next) (λ n rest tokens next. release-lawful c n
-    rest l width is flowed lawful tokens next))
+    (λ n rest tokens next. report-lawful c n rest l width is flowed lawful tokens next)
+    (λ n rest tokens next. release-lawful c n rest l width is flowed lawful tokens next))
 
 -- ---- channel B
 
@@ -173,10 +169,8 @@ probe-lawful {w} {config} {log} {mail} {request} {s} {sys} c n toks l {x} {ms} {
     (λ i. shown Probe c (s.block i)) tokens refl (is.invariant.transfers c Probe refl) in
     next-flows l config.profile
     (flow c log) lawful next ((flowed c).rest_is Channel.B)
-    (λ none. probe-flows config.profile n _
-    (flowed c) none (same_block n)
-    (unanswered_yet (b.pair c).probing shows) unacknowledged
-    (not_coming c n is shows))
+    (λ none. probe-flows config.profile n _ (flowed c) none (same_block n) (unanswered_yet (b.pair c).probing shows)
+    unacknowledged (not_coming c n is shows))
 
 pub flows-b : {w : ℕ} {config : Config} {log : Log w} {mail : AccessMessages w} {request : ℕ → MessageA w}
     {s : State (List ℕ)} {sys : System w} (c : ℕ) (l : Level) (x : Beat w) (queue : List (Beat w)) → IsWidth w

@@ -1,14 +1,13 @@
 -- A message of channel A, B, C or E that is delivered breaks no rule of order after what was delivered before it.
 use Rattle.tl_coherence.proofs.flow.Imports.{Beat, BeatA, BeatC, BeatE, Channel, Message, beat_of, begun, History}
 use Rattle.tl_coherence.proofs.flow.Imports.{channel_of, unfinished, Level, Cap, Prune, Report, Profile, prune_code}
-use Rattle.tl_coherence.proofs.flow.Imports.{prune_left, report_code, broken_in_order, broken_after}
-use Rattle.tl_coherence.proofs.flow.Imports.{comes_in_release, comes_in_grant, same_perm, block_at, is_acquire}
-use Rattle.tl_coherence.proofs.flow.Imports.{is_probe_ack, is_release, held, pending, illegal, MonitorRelation}
-use Rattle.tl_coherence.proofs.flow.Imports.{is_requested, is_release_pending, is_let_by, comes_granting, View}
-use Rattle.tl_coherence.proofs.flow.Imports.{Idle, ReleasePhase, NoRelease, ReleaseSent, ReleaseAcked}
-use Rattle.tl_coherence.proofs.flow.Imports.{NoAcquire, ProbeAnswered, State, SourceState, Asked, Acquires, view}
-use Rattle.tl_coherence.proofs.flow.Imports.{is_granting, is_acknowledging, is_answered, is_acked, is_wanting}
-use Rattle.tl_coherence.proofs.flow.Imports.{is_unserved, probe_beat, cap_waited}
+use Rattle.tl_coherence.proofs.flow.Imports.{prune_left, report_code, broken_in_order, broken_after, comes_in_release}
+use Rattle.tl_coherence.proofs.flow.Imports.{comes_in_grant, same_perm, block_at, is_acquire, is_probe_ack, is_release}
+use Rattle.tl_coherence.proofs.flow.Imports.{held, pending, illegal, MonitorRelation, is_requested, is_release_pending}
+use Rattle.tl_coherence.proofs.flow.Imports.{is_let_by, comes_granting, View, Idle, ReleasePhase, NoRelease}
+use Rattle.tl_coherence.proofs.flow.Imports.{ReleaseSent, ReleaseAcked, NoAcquire, ProbeAnswered, State, SourceState}
+use Rattle.tl_coherence.proofs.flow.Imports.{Asked, Acquires, view, is_granting, is_acknowledging, is_answered}
+use Rattle.tl_coherence.proofs.flow.Imports.{is_acked, is_wanting, is_unserved, probe_beat, cap_waited}
 use Rattle.std.proofs.Common.{◌≡◌, ℕ, zero, suc, Bool, true, false, not, ◌&&◌, ◌||◌, [], Option, Some, None, refl, ◌∙◌}
 use Rattle.std.proofs.Common.{ap, List}
 use Rattle.std.proofs.Math.Bool.{and-false}
@@ -118,8 +117,7 @@ release-flows {w} p {c} n r x {asked} {rest} {s} {t} flowed whole is block param
     let prunes : prunes_from (prune_of x.param) (held n t) ≡ true =
     rw (param, prune_again r, held_as n flowed ungranted) left in
     rw (none, is, block) (releases (pending (Key.ReleaseSource x.source) t) (pending (Key.AcquireOf n) t)
-    (pending (Key.ReleaseOf n) t)
-    (prunes_from (prune_of x.param) (held n t)) free once again prunes)
+    (pending (Key.ReleaseOf n) t) (prunes_from (prune_of x.param) (held n t)) free once again prunes)
 
 -- ---- channel E
 

@@ -5,17 +5,16 @@ use Rattle.tl_coherence.specs.{protocol.Protocol.is_probed}
 use Rattle.tl_coherence.proofs.flow.Imports.{IsWidth, Beat, Channel, Message, MessageA, MessageC, beat_of, History, on}
 use Rattle.tl_coherence.proofs.flow.Imports.{completes, Config, Cap, block_at, MonitorRelation, AbstractState}
 use Rattle.tl_coherence.proofs.flow.Imports.{kind_taken, Log, ClientBlock, AcquirePhase, AcquireOpen, after_probe}
-use Rattle.tl_coherence.proofs.flow.Imports.{after_release_ack, Service, Block, State, packet, is_on, probed_block}
-use Rattle.tl_coherence.proofs.flow.Imports.{probe_taken, let_go_block, release_ack_taken, release_taken}
-use Rattle.tl_coherence.proofs.flow.Imports.{acquire_served, acquire_granted, cap_sent, prune_told, block_message}
-use Rattle.tl_coherence.proofs.flow.Imports.{message_of_kind, System, Kind, Request, Acquire, Probe, ProbeAck, Release}
-use Rattle.tl_coherence.proofs.flow.Imports.{Answer, Grant, ReleaseAck, GrantAck, Packet, SimulationRelation}
-use Rattle.tl_coherence.proofs.flow.Imports.{is_caching, asked_by}
+use Rattle.tl_coherence.proofs.flow.Imports.{after_release_ack, Block, State, packet, is_on, probed_block, probe_taken}
+use Rattle.tl_coherence.proofs.flow.Imports.{let_go_block, release_ack_taken, release_taken, acquire_served}
+use Rattle.tl_coherence.proofs.flow.Imports.{acquire_granted, cap_sent, prune_told, block_message, message_of_kind}
+use Rattle.tl_coherence.proofs.flow.Imports.{System, Kind, Request, Acquire, Probe, ProbeAck, Release, Answer, Grant}
+use Rattle.tl_coherence.proofs.flow.Imports.{ReleaseAck, GrantAck, Packet, SimulationRelation, is_caching, asked_by}
 use Rattle.std.proofs.Common.{◌≡◌, subst, ℕ, Bool, true, false, List, ◌∷◌, length, refl, sym, ◌∙◌, ap, inl}
 use Rattle.std.specs.Prelude.{if◌then◌else◌}
 use Rattle.tl_burst.specs.declared.message.MessageE.{MessageE}
 use Rattle.tl_coherence.specs.refinement.AbstractStep.{with_state, some_below, request_taken, is_unheld, gift}
-use Rattle.tl_coherence.specs.refinement.AbstractStep.{acquire_taken, taken_by_client}
+use Rattle.tl_coherence.specs.refinement.AbstractStep.{acquire_taken}
 use Rattle.tl_coherence.proofs.{client.AsideAll.Leaves, client.AsideAll.leaves-at_manager, queues.Carried.IsNext}
 use Rattle.tl_coherence.proofs.{client.ClientDelivered.ack_next, client.ClientEnd.asks-same, flow.FlowAlone.AreRests}
 use Rattle.tl_coherence.proofs.{flow.FlowAside.flowed-asks, flow.FlowAsking.asks-left, flow.FlowBeats.one-beat}
@@ -29,8 +28,8 @@ use Rattle.tl_coherence.proofs.flow.ChannelA.{own-access, own-acquire_served, ow
 use Rattle.tl_coherence.proofs.flow.ChannelCE.{report_rendered, ack_rendered, own-report, own-release, own-grant_ack}
 use Rattle.tl_coherence.proofs.protocol.Heads.{IsAsked, asked-first, IsWanted, wanted-first, acquisition_beats}
 
-module _ {w : ℕ} (config : Config) (log : Log w) (h : AbstractState w) (sys : System w) (c : ℕ) (width : IsWidth w)
-    (is : SimulationRelation config log h.mail h.request h.state sys) (tracker : ℕ) (t : History w)
+module _ {w : ℕ} {config : Config} {log : Log w} (h : AbstractState w) {sys : System w} {c : ℕ} (width : IsWidth w)
+    (is : SimulationRelation config log h.mail h.request h.state sys) (tracker : ℕ) {t : History w}
     (flowed : MonitorRelation (asked_by h.mail h.state c) (unfinished_at sys c) c h.state t) (rest' : Channel
     → List (Beat w)) where
   abbrev s : State (List ℕ)
@@ -70,21 +69,19 @@ module _ {w : ℕ} (config : Config) (log : Log w) (h : AbstractState w) (sys : 
 
         go : (z : Bool) → completes x (unfinished_at sys c Channel.A) ≡ z → (z ≡ true → IsReady tracker c Request i h)
             → FlowsWith x (if z then kind_taken config tracker c Request i toks h else h)
-        go false e r = own-access config log h sys c is t flowed rest' i asked x ms queue here rests false e
+        go false e r = own-access h is flowed rest' i asked x ms queue here rests false e
         go true e r =
             let told = r refl in
             let same : told.0 ≡ asked.request = (let both : Message.A told.0 ≡ Message.A asked.request =
             sym told.1 ∙ asked.is_it in cc) in
             let left : Leaves c h (request_taken (length config.clients.items) c i (Message.A asked.request) tracker
-            toks h) = subst (λ (m : Message w). Leaves c h (request_taken (length config.clients.items) c i m
-            tracker toks h)) asked.is_it (leaves-at_manager config tracker c Request i toks h c refl is.invariant
-            tokens) in
+            toks h) = subst (λ (m : Message w). Leaves c h (request_taken (length config.clients.items) c i m tracker
+            toks h)) asked.is_it (leaves-at_manager config tracker c Request i toks h c refl is.invariant tokens) in
             subst (λ (m : Message w). FlowsWith x (request_taken (length config.clients.items) c i m tracker toks h))
             (sym asked.is_it)
-            (settled-request config log h sys c is tracker c rest' (d_same (Message.A asked.request) here.k here.beat_is
-            refl) (x ∷ t) i asked.request toks
-            (ap (λ (m : MessageA w). (s.block (block_at m.address)).service) (sym same) ∙ told.3) told.4 left
-            (own-access config log h sys c is t flowed rest' i asked x ms queue here rests true e))
+            (settled-request h c is tracker c rest' (d_same (Message.A asked.request) here.k here.beat_is refl) (x ∷ t)
+            i asked.request toks (ap (λ (m : MessageA w). (s.block (block_at m.address)).service) (sym same)
+            ∙ told.3) told.4 left (own-access h is flowed rest' i asked x ms queue here rests true e))
 
     goes-acquire : Goes Channel.A Acquire
     goes-acquire tokens next b last ready = go b last ready
@@ -121,10 +118,10 @@ module _ {w : ℕ} (config : Config) (log : Log w) (h : AbstractState w) (sys : 
 
             either : (z : Bool) → Leaves c h (with_state (if z then served else granted) h)
                 → FlowsWith x (with_state (if z then served else granted) h)
-            either true l = own-acquire_served config log h sys c is t flowed rest' i wanted r.0 tracker r.1
+            either true l = own-acquire_served h is flowed rest' wanted r.0 tracker r.1
                 (asked_by h.mail served c) (asks-left c h (with_state served h) l)
                 (cap_asked (AcquireOpen wanted.whole wanted.grow)) toks x ms queue here rests
-            either false l = own-acquire_granted config log h sys c is t flowed rest' i wanted r.0 tracker r.1
+            either false l = own-acquire_granted h is flowed rest' wanted r.0 tracker r.1
                 (asked_by h.mail granted c) (asks-left c h (with_state granted h) l)
                 (is_granted_data wanted.whole wanted.grow ((s.block i).pair c).recorded)
                 (gift config.profile wanted.whole wanted.grow
@@ -161,7 +158,7 @@ module _ {w : ℕ} (config : Config) (log : Log w) (h : AbstractState w) (sys : 
         go : (z : Bool) → completes x (unfinished_at sys c Channel.B) ≡ z
             → FlowsWith x (if z then kind_taken config tracker c Probe i toks h else h)
         go false e = contrary (completes x (unfinished_at sys c Channel.B)) one e
-        go true e = own-probe config log h sys c is t flowed rest' toks i tokens x ms queue next rests
+        go true e = own-probe h is flowed rest' toks i tokens x ms queue next rests
             (asked_by h.mail (probe_taken c i k toks s) c) asks
 
     -- ---- channel C
@@ -177,11 +174,10 @@ module _ {w : ℕ} (config : Config) (log : Log w) (h : AbstractState w) (sys : 
 
         go : (z : Bool) → completes x (unfinished_at sys c Channel.C) ≡ z
             → FlowsWith x (if z then kind_taken config tracker c ProbeAck i toks h else h)
-        go false e = own-report config log h sys c width is t flowed rest' i toks tokens x ms queue next rests false e
-        go true e = settled-report config log h sys c is tracker c rest'
-            (d_same (Message.C about.0) here.k here.beat_is refl) (x ∷ t) i toks tokens
-            (leaves-at_manager config tracker c ProbeAck i toks h c refl is.invariant tokens)
-            (own-report config log h sys c width is t flowed rest' i toks tokens x ms queue next rests true e)
+        go false e = own-report h width is flowed rest' i toks tokens x ms queue next rests false e
+        go true e = settled-report h c is tracker c rest' (d_same (Message.C about.0) here.k here.beat_is refl) (x ∷ t)
+            i toks tokens (leaves-at_manager config tracker c ProbeAck i toks h c refl is.invariant tokens)
+            (own-report h width is flowed rest' i toks tokens x ms queue next rests true e)
 
     goes-release : Goes Channel.C Release
     goes-release tokens next b last ready = go b last
@@ -191,10 +187,10 @@ module _ {w : ℕ} (config : Config) (log : Log w) (h : AbstractState w) (sys : 
 
         go : (z : Bool) → completes x (unfinished_at sys c Channel.C) ≡ z
             → FlowsWith x (if z then kind_taken config tracker c Release i toks h else h)
-        go false e = own-release config log h sys c width is t flowed rest' i toks tokens x ms queue next rests false e
+        go false e = own-release h width is flowed rest' i toks tokens x ms queue next rests false e
         go true e = flowed-asks (asked_by h.mail after c)
             (asks-left c h (with_state after h) (leaves-at_manager config tracker c Release i toks h c refl is.invariant
-            tokens)) (own-release config log h sys c width is t flowed rest' i toks tokens x ms queue next rests true e)
+            tokens)) (own-release h width is flowed rest' i toks tokens x ms queue next rests true e)
 
     -- ---- channel D
 
@@ -203,8 +199,8 @@ module _ {w : ℕ} (config : Config) (log : Log w) (h : AbstractState w) (sys : 
       where
         go : (z : Bool) → completes x (unfinished_at sys c Channel.D) ≡ z
             → FlowsWith x (if z then kind_taken config tracker c Answer i toks h else h)
-        go false e = own-answer config log h sys c is t flowed rest' toks i tokens x ms queue next rests false e
-        go true e = own-answer config log h sys c is t flowed rest' toks i tokens x ms queue next rests true e
+        go false e = own-answer h is flowed rest' toks i tokens x ms queue next rests false e
+        go true e = own-answer h is flowed rest' toks i tokens x ms queue next rests true e
 
     goes-grant : Goes Channel.D Grant
     goes-grant tokens next b last ready = go b last
@@ -214,9 +210,9 @@ module _ {w : ℕ} (config : Config) (log : Log w) (h : AbstractState w) (sys : 
 
         go : (z : Bool) → completes x (unfinished_at sys c Channel.D) ≡ z
             → FlowsWith x (if z then kind_taken config tracker c Grant i toks h else h)
-        go false e = own-grant config log h sys c is t flowed rest' toks i tokens due
+        go false e = own-grant h is flowed rest' toks tokens due
             (is_whole ((s.block i).pair c).acquiring) x ms queue next rests false e
-        go true e = rw due.service (own-grant config log h sys c is t flowed rest' toks i tokens due
+        go true e = rw due.service (own-grant h is flowed rest' toks tokens due
             (is_whole ((s.block i).pair c).acquiring) x ms queue next rests true e)
 
     goes-release_ack : Goes Channel.D ReleaseAck
@@ -237,7 +233,7 @@ module _ {w : ℕ} (config : Config) (log : Log w) (h : AbstractState w) (sys : 
         go : (z : Bool) → completes x (unfinished_at sys c Channel.D) ≡ z
             → FlowsWith x (if z then kind_taken config tracker c ReleaseAck i toks h else h)
         go false e = contrary (completes x (unfinished_at sys c Channel.D)) one e
-        go true e = own-release_ack config log h sys c is t flowed rest' toks i tokens x ms queue next rests
+        go true e = own-release_ack h is flowed rest' toks i tokens x ms queue next rests
             (asked_by h.mail (release_ack_taken c i toks s) c) asks
 
     -- ---- channel E
@@ -256,10 +252,9 @@ module _ {w : ℕ} (config : Config) (log : Log w) (h : AbstractState w) (sys : 
         go false e = contrary (completes x (unfinished_at sys c Channel.E)) one e
         go true e =
             let after = kind_taken config tracker c GrantAck i toks h in
-            own-grant_ack config log h sys c width is t flowed rest' i toks tokens x ms queue next rests
+            own-grant_ack h width is flowed rest' i toks tokens x ms queue next rests
             (asked_by after.mail after.state c)
-            (asks-left c h after (leaves-at_manager config tracker c GrantAck i toks h c refl
-            is.invariant tokens))
+            (asks-left c h after (leaves-at_manager config tracker c GrantAck i toks h c refl is.invariant tokens))
 
     -- ---- each kind on its channel
 

@@ -34,9 +34,8 @@ pub part_of : {A : Type 0} (part : ClientBlock → A) (c : ℕ) (p : ClientBlock
 part_of part c p pair e = ap part (set-same c p pair) ∙ e
 
 pub flowed-probe : {w : ℕ} {X : Type 0} {c : ℕ} (n : ℕ) (k : Cap) (toks : List Packet) {asked : ℕ → Option (BeatA w)}
-    (asked' : ℕ → Option (BeatA w))
-    {rest : Channel → List (Beat w)} (rest' : Channel → List (Beat w)) {s : State X} {t : History w}
-    → begins (Beat.B (probe_beat n k)) t ≡ true → ends (Beat.B (probe_beat n k)) t ≡ true
+    (asked' : ℕ → Option (BeatA w)) {rest : Channel → List (Beat w)} (rest' : Channel → List (Beat w)) {s : State X}
+    {t : History w} → begins (Beat.B (probe_beat n k)) t ≡ true → ends (Beat.B (probe_beat n k)) t ≡ true
     → AreRests (Beat.B (probe_beat n k)) rest rest' → ((i : ℕ) → asked' i ≡ asked i) → block_at (64 * n) ≡ n
     → view (s.block n).service c ≡ Other k → cap_waited (s.block n).service ≡ k
     → ((m : ℕ) → comes_granting m asked' (rest Channel.D) ≡ comes_granting m asked (rest Channel.D))
@@ -57,8 +56,7 @@ flowed-probe {w} {X} {c} n k toks {asked} asked' {rest} rest' {s} {t} first last
     (s.block m) = λ m. cc (
       rests Channel.D,
       comes m,
-      set-part (granted_by c m asked (rest Channel.D)) n new s.block
-          refl m,
+      set-part (granted_by c m asked (rest Channel.D)) n new s.block refl m,
     ) in
     flowed-next (record {
       first_is = first;

@@ -253,8 +253,7 @@ flowed-release {w} {X} {c} {n} {r} {y} {first} {last} {asked} {rest} {rest'} {s}
           of_block i same,
           let_now i last r (rest' Channel.C) (new.pair c).letting is.letting_is (is.comes i
               ∙ with_true (not last) (y.source == i) (rw same (same_number y.source))),
-          opened first last
-              (is_release y.opcode) (y.source == i) (is_let_by c i (rest Channel.C) o s) is.release
+          opened first last (is_release y.opcode) (y.source == i) (is_let_by c i (rest Channel.C) o s) is.release
               (rw same (same_number y.source)) (then_by i o e same),
         )
     lets_with i None e (inr ne) = sym (unopened first last (is_release y.opcode) (y.source == i) false (another i ne))
@@ -262,8 +261,7 @@ flowed-release {w} {X} {c} {n} {r} {y} {first} {last} {asked} {rest} {rest'} {s}
         cc (
           is.elsewhere m (λ f. let g : (n == n) ≡ false = sym (rw (e, f) refl) ∙ of_no_block i ne in
               let h : true ≡ false = sym (same_number n) ∙ g in cc),
-          let_other i (rest Channel.C) (rest' Channel.C)
-              ((s.block m).pair c).letting (λ begun. comes_other i ne),
+          let_other i (rest Channel.C) (rest' Channel.C) ((s.block m).pair c).letting (λ begun. comes_other i ne),
           unopened first last (is_release y.opcode)
               (y.source == i) (is_release_pending i (rest Channel.C) ((s.block m).pair c).letting) (another i ne),
         )

@@ -124,9 +124,8 @@ flowed-report {w} {X} {c} n r toks y first {asked} {rest} rest' {s} {t} first_is
     letting_same = part_of (λ (p : ClientBlock). p.letting) c (after_report r (b.pair c)) b.pair refl
 
     lets : (i : ℕ) → is_let_by c i (rest' Channel.C) (s'.lets c i) s' ≡ is_let_by c i (rest Channel.C) (s.lets c i) s
-    lets i = let_by_rest c i (rest Channel.C) (rest' Channel.C) (s.lets c i) s' (comes i)
-        ∙ let_by-same c i (rest Channel.C) (s.lets c i) s s' (set-part (λ (z : Block X). (z.pair c).letting) n new
-        s.block letting_same)
+    lets i = let_by_rest c i (rest Channel.C) (rest' Channel.C) (s.lets c i) s' (comes i) ∙ let_by-same c i
+        (rest Channel.C) (s.lets c i) s s' (set-part (λ (z : Block X). (z.pair c).letting) n new s.block letting_same)
 
     probed : (m : ℕ) → is_answered ((s'.block m).pair c).probing ≡ true
         → probe_of m t ≡ Some (probe_beat m (cap_waited (s'.block m).service))

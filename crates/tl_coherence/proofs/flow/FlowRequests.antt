@@ -1,11 +1,10 @@
 -- A beat of channel A that needn't wait breaks no rule after what was delivered before it.
 use Rattle.tl_coherence.proofs.flow.Imports.{IsWidth, Beat, Message, MessageA, a_beat_of, channel_of, unfinished}
 use Rattle.tl_coherence.proofs.flow.Imports.{Config, Level, broken_after, on_link, same_perm, block_at, ends, illegal}
-use Rattle.tl_coherence.proofs.flow.Imports.{same_block, level_of, flow, Log, ClientBlock, Idle}
-use Rattle.tl_coherence.proofs.flow.Imports.{is_unreleased, is_unprobed, ok, Free, State, packet, view, is_on}
-use Rattle.tl_coherence.proofs.flow.Imports.{AccessMessages, message_of, message_of_kind, System, Kind, Request}
-use Rattle.tl_coherence.proofs.flow.Imports.{Acquire, SimulationRelation, MonitorRelations, is_caching}
-use Rattle.tl_coherence.proofs.flow.Imports.{Channel}
+use Rattle.tl_coherence.proofs.flow.Imports.{same_block, level_of, flow, Log, ClientBlock, Idle, is_unreleased}
+use Rattle.tl_coherence.proofs.flow.Imports.{is_unprobed, ok, Free, State, packet, view, is_on, AccessMessages}
+use Rattle.tl_coherence.proofs.flow.Imports.{message_of, message_of_kind, System, Kind, Request, Acquire}
+use Rattle.tl_coherence.proofs.flow.Imports.{SimulationRelation, MonitorRelations, is_caching, Channel}
 use Rattle.std.proofs.Common.{◌≡◌, ℕ, true, false, ◌&&◌, List, ◌∷◌, length, Some, None, refl, sym, ◌∙◌, ap, subst}
 use Rattle.std.proofs.Common.{arith}
 use Rattle.std.{specs.Prelude.map, specs.Prelude.nat_le, proofs.lemmas.Bool.or_parts}
@@ -51,10 +50,8 @@ acquire-lawful {w} {config} {log} {mail} {request} {s} {sys} {c} {n} l {x} {ms} 
     (asked_alone wanted.whole wanted.grow p (view (s.block n).service c) well idle wanted.wants) in
     next-flows l config.profile
     (flow c log) lawful next ((flowed c).rest_is Channel.A)
-    (λ none. acquire-flows config.profile n (a_beat_of m 0)
-    (flowed c) none
-    (acquires-so wanted.whole) (same_block n) wanted.used idle
-    (kept-is p.letting (and_right (is_unprobed p.probing) (is_unreleased p.letting)
+    (λ none. acquire-flows config.profile n (a_beat_of m 0) (flowed c) none (acquires-so wanted.whole) (same_block n)
+    wanted.used idle (kept-is p.letting (and_right (is_unprobed p.probing) (is_unreleased p.letting)
     (and_left (is_unprobed p.probing && is_unreleased p.letting) (same_perm p.recorded p.held) settled)))
     (grows wanted.grow p.recorded p.held wanted.whole
     (acquire_fits wanted.whole wanted.grow p (view (s.block n).service c) well wanted.wants)
@@ -73,8 +70,7 @@ acquire-lawful {w} {config} {log} {mail} {request} {s} {sys} {c} {n} l {x} {ms} 
         ∙ is_last next.k (beats_of (Message.A m)) (omega (arith, next.within, one)) in
         let free_at = unserved-free (block_at m.address) is.managed
         (or_parts (is_in_service (block_at m.address) (services sys.manager.trace))
-        (nat_le config.trackers (length (services sys.manager.trace)))
-        (rw ended at moves_so)).0 in
+        (nat_le config.trackers (length (services sys.manager.trace))) (rw ended at moves_so)).0 in
         ap (λ i. (s.block i).service) (sym (same_block n)) ∙ free_at
 
 pub flows-a : {w : ℕ} {config : Config} {log : Log w} {mail : AccessMessages w} {request : ℕ → MessageA w}

@@ -5,18 +5,17 @@ use Rattle.tl_coherence.proofs.flow.Imports.{illegal, level_of, RequestSource, R
 use Rattle.tl_coherence.proofs.flow.Imports.{prune_code, report_code, report_left, on_link, comes_in_release}
 use Rattle.tl_coherence.proofs.flow.Imports.{broken_in_order, same_perm, broken_after, is_release, held, pending}
 use Rattle.tl_coherence.proofs.flow.Imports.{request_of, same_block, IsCarried, flow, is_requested, is_sunk}
-use Rattle.tl_coherence.proofs.flow.Imports.{is_release_pending, is_busy, Log, View, ReleasePhase}
-use Rattle.tl_coherence.proofs.flow.Imports.{ReleaseSent, ReleaseAcked, AcquirePhase, AcquireOpen, is_unreleased}
-use Rattle.tl_coherence.proofs.flow.Imports.{Service, GrantSent, is_answered, is_acked, is_granting, is_acknowledging}
-use Rattle.tl_coherence.proofs.flow.Imports.{State, SourceState, view, packet, shown, is_on, is_unserved}
-use Rattle.tl_coherence.proofs.flow.Imports.{AccessMessages, report_told, prune_told, block_message, message_of}
-use Rattle.tl_coherence.proofs.flow.Imports.{message_of_kind, System, Kind, ProbeAck, Release, Answer, Grant}
-use Rattle.tl_coherence.proofs.flow.Imports.{ReleaseAck, Packet, SimulationRelation, MonitorRelations, is_caching}
-use Rattle.tl_coherence.proofs.flow.Imports.{Channel}
+use Rattle.tl_coherence.proofs.flow.Imports.{is_release_pending, is_busy, Log, View, ReleasePhase, ReleaseSent}
+use Rattle.tl_coherence.proofs.flow.Imports.{ReleaseAcked, AcquirePhase, AcquireOpen, is_unreleased, Service, GrantSent}
+use Rattle.tl_coherence.proofs.flow.Imports.{is_answered, is_acked, is_granting, is_acknowledging, State, SourceState}
+use Rattle.tl_coherence.proofs.flow.Imports.{view, packet, shown, is_on, is_unserved, AccessMessages, report_told}
+use Rattle.tl_coherence.proofs.flow.Imports.{prune_told, block_message, message_of, message_of_kind, System, Kind}
+use Rattle.tl_coherence.proofs.flow.Imports.{ProbeAck, Release, Answer, Grant, ReleaseAck, Packet, SimulationRelation}
+use Rattle.tl_coherence.proofs.flow.Imports.{MonitorRelations, is_caching, Channel}
 use Rattle.std.proofs.Common.{◌≡◌, subst, ℕ, zero, suc, Bool, true, false, not, ◌&&◌, ◌||◌, List, [], ◌∷◌, Option, Some}
 use Rattle.std.proofs.Common.{None, refl, sym, ◌∙◌, ap}
-use Rattle.std.{specs.Prelude.◌==◌, specs.Prelude.map, proofs.lemmas.Bool.eqb-true}
-use Rattle.std.{proofs.lemmas.Bool.and_from, proofs.lemmas.Option.same_Some}
+use Rattle.std.{specs.Prelude.◌==◌, specs.Prelude.map, proofs.lemmas.Bool.eqb-true, proofs.lemmas.Bool.and_from}
+use Rattle.std.{proofs.lemmas.Option.same_Some}
 use Rattle.tl_beat.{specs.declared.opcode.OpB.OpB, specs.declared.opcode.OpC.OpC}
 use Rattle.tl_burst.specs.statement.Burst.{d_beat_of}
 use Rattle.tl_rules.specs.statement.Conformance as rules
@@ -55,8 +54,7 @@ flow-answer {w} {config} {log} {mail} {request} {s} {sys} {c} {source} h flowed 
       complete = cc (
         (flowed c).rest_is Channel.A,
         due.from,
-        not-coming_a c source h
-            (ap (λ (u : SourceState). waits_on_a c u s) due.used),
+        not-coming_a c source h (ap (λ (u : SourceState). waits_on_a c u s) due.used),
       );
       other = kind.1;
       live = ap (λ (i : ℕ). pending (RequestSource i) (flow c log)) due.from ∙ live;
@@ -108,8 +106,7 @@ flow-grant {w} {config} {log} {mail} {request} {s} {sys} {c} {n} h flowed due gi
       whole = (flowed c).rest_is Channel.D ∙ whole;
       complete = cc (
         (flowed c).rest_is Channel.A,
-        not-coming_a c source h
-            (ap (λ (u : SourceState). waits_on_a c u s) due.used ∙ ap is_unserved mine),
+        not-coming_a c source h (ap (λ (u : SourceState). waits_on_a c u s) due.used ∙ ap is_unserved mine),
       );
       other = no_ack_grant due.data_too;
       live = live;

@@ -48,9 +48,8 @@ flowed-untouched is before = record {
 
 -- and what each channel's receiver has of the first message is given in another way
 pub flowed-rests : {w : ℕ} {X : Type 0} {asked : ℕ → Option (BeatA w)} {rest : Channel → List (Beat w)} (rest' : Channel
-    → List (Beat w)) {c : ℕ}
-    {s : State X} {t : History w}
-    → ((ch : Channel) → rest' ch ≡ rest ch) → MonitorRelation asked rest c s t → MonitorRelation asked rest' c s t
+    → List (Beat w)) {c : ℕ} {s : State X} {t : History w} → ((ch : Channel) → rest' ch ≡ rest ch)
+    → MonitorRelation asked rest c s t → MonitorRelation asked rest' c s t
 flowed-rests {w} {asked} rest' {c} {s} same before = record {
   rest_is = λ ch. before.rest_is ch ∙ sym (same ch);
   held_is = before.held_is;

@@ -2,11 +2,11 @@
 -- with its sink is still coming.
 use Rattle.tl_coherence.proofs.flow.Imports.{IsWidth, Beat, BeatE, Message, MessageA, MessageD, begun, unfinished}
 use Rattle.tl_coherence.proofs.flow.Imports.{channel_of, Config, Level, Cap, broken_after, comes_in_grant, on_link}
-use Rattle.tl_coherence.proofs.flow.Imports.{is_grant, illegal, level_of, IsCarried, flow, Log, Service}
-use Rattle.tl_coherence.proofs.flow.Imports.{GrantSent, GrantTaken, State, packet, shown, is_on}
-use Rattle.tl_coherence.proofs.flow.Imports.{AccessMessages, message_of, message_of_kind, block_message, System, Kind}
-use Rattle.tl_coherence.proofs.flow.Imports.{Answer, Grant, ReleaseAck, GrantAck, Packet, SimulationRelation}
-use Rattle.tl_coherence.proofs.flow.Imports.{MonitorRelations, is_caching, Channel}
+use Rattle.tl_coherence.proofs.flow.Imports.{is_grant, illegal, level_of, IsCarried, flow, Log, Service, GrantSent}
+use Rattle.tl_coherence.proofs.flow.Imports.{GrantTaken, State, packet, shown, is_on, AccessMessages, message_of}
+use Rattle.tl_coherence.proofs.flow.Imports.{message_of_kind, block_message, System, Kind, Answer, Grant, ReleaseAck}
+use Rattle.tl_coherence.proofs.flow.Imports.{GrantAck, Packet, SimulationRelation, MonitorRelations, is_caching}
+use Rattle.tl_coherence.proofs.flow.Imports.{Channel}
 use Rattle.std.proofs.Common.{◌≡◌, ℕ, zero, suc, Bool, true, false, ◌&&◌, List, [], ◌∷◌, Some, None, refl, sym, ◌∙◌, ap}
 use Rattle.std.proofs.Common.{subst}
 use Rattle.std.{specs.Prelude.◌==◌, specs.Prelude.map, proofs.lemmas.Bool.ne_eqb, proofs.lemmas.Bool.and_right}
@@ -121,10 +121,8 @@ ack-lawful {w} {config} {log} {mail} {request} {s} {sys} c n toks l {x} {ms} {qu
     next-flows l config.profile
     (flow c log) lawful next
     ((flowed c).rest_is Channel.E)
-    (λ none. grant_ack-flows config.profile n y
-    (flowed c) none
-    (tracker-of n is.invariant.named (rw taken refl)) shows (no_grant_coming c n is
-    taken))
+    (λ none. grant_ack-flows config.profile n y (flowed c) none (tracker-of n is.invariant.named (rw taken refl)) shows
+    (no_grant_coming c n is taken))
 
 pub flows-e : {w : ℕ} {config : Config} {log : Log w} {mail : AccessMessages w} {request : ℕ → MessageA w}
     {s : State (List ℕ)} {sys : System w} (c : ℕ) (l : Level) (x : Beat w) (queue : List (Beat w)) → IsWidth w

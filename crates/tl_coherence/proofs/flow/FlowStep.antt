@@ -67,14 +67,12 @@ pub record IsStepped {w : ℕ} {X : Type 0} (x : Beat w) (first last : Bool) (as
   pub held_is : (n : ℕ) → held_by c (s'.block n) ≡ (if last then unwrap_or (says_held n x t) (held_by c (s.block n))
       else held_by c (s.block n))
   pub requests : (i : ℕ) → is_requested c i (rest' Channel.A) (s'.uses c i) s' ≡ step first last
-      (opens (RequestSource i) x t) (closes (RequestSource i) x t)
-      (is_requested c i (rest Channel.A) (s.uses c i) s)
+      (opens (RequestSource i) x t) (closes (RequestSource i) x t) (is_requested c i (rest Channel.A) (s.uses c i) s)
   pub asked_is : (i : ℕ) → is_requested c i (rest' Channel.A) (s'.uses c i) s' ≡ true → request_of i (x ∷ t) ≡ asked' i
   pub acquires : (n : ℕ) → acquired_by c (s'.block n) ≡ step first last (opens (AcquireOf n) x t)
       (closes (AcquireOf n) x t) (acquired_by c (s.block n))
   pub release_sources : (i : ℕ) → is_let_by c i (rest' Channel.C) (s'.lets c i) s' ≡ step first last
-      (opens (ReleaseSource i) x t)
-      (closes (ReleaseSource i) x t) (is_let_by c i (rest Channel.C) (s.lets c i) s)
+      (opens (ReleaseSource i) x t) (closes (ReleaseSource i) x t) (is_let_by c i (rest Channel.C) (s.lets c i) s)
   pub released : (i n : ℕ) → s'.lets c i ≡ Some n → is_let_by c i (rest' Channel.C) (s'.lets c i) s' ≡ true
       → option_map (λ y. block_at y.address) (release_of i (x ∷ t)) ≡ Some n
   pub sizes : (i n : ℕ) → s'.lets c i ≡ Some n → is_let_by c i (rest' Channel.C) (s'.lets c i) s' ≡ true
@@ -84,8 +82,7 @@ pub record IsStepped {w : ℕ} {X : Type 0} (x : Beat w) (first last : Bool) (as
   pub sinks : (i : ℕ) → is_sunk c i (rest' Channel.D) (s'.tracked i) s' ≡ step first last (opens (GrantSink i) x t)
       (closes (GrantSink i) x t) (is_sunk c i (rest Channel.D) (s.tracked i) s)
   pub grants : (n : ℕ) → granted_by c n asked' (rest' Channel.D) (s'.block n) ≡ step first last
-      (opens (GrantAckOf n) x t) (closes (GrantAckOf n) x t)
-      (granted_by c n asked (rest Channel.D) (s.block n))
+      (opens (GrantAckOf n) x t) (closes (GrantAckOf n) x t) (granted_by c n asked (rest Channel.D) (s.block n))
   pub probes : (n : ℕ) → is_answered ((s'.block n).pair c).probing ≡ step first last (opens (ProbeOf n) x t)
       (closes (ProbeOf n) x t) (is_answered ((s.block n).pair c).probing)
   pub probed : (n : ℕ) → is_answered ((s'.block n).pair c).probing ≡ true

@@ -53,8 +53,7 @@ pub tracked-new : (n tracker : ℕ) (tracked : ℕ → Option ℕ) → tracked t
 tracked-new n tracker tracked free i = elim (cases_eq i tracker) [
   | inl same ↦ inr (
     inl (ap tracked same ∙ free),
-    inr (ap (set tracker (Some n) tracked) same ∙ set-same tracker
-        (Some n) tracked),
+    inr (ap (set tracker (Some n) tracked) same ∙ set-same tracker (Some n) tracked),
   )
   | inr other ↦ inl (set-other tracker i (Some n) tracked other)
 ]
@@ -64,8 +63,7 @@ pub tracked-free : (n tracker : ℕ) (tracked : ℕ → Option ℕ) → tracked 
 tracked-free n tracker tracked used i = elim (cases_eq i tracker) [
   | inl same ↦ inr (
     inr (ap tracked same ∙ used),
-    inl (ap (set tracker None tracked) same ∙ set-same tracker None
-        tracked),
+    inl (ap (set tracker None tracked) same ∙ set-same tracker None tracked),
   )
   | inr other ↦ inl (set-other tracker i None tracked other)
 ]

@@ -10,10 +10,9 @@ use Rattle.tl_coherence.specs.{declared.event.Outcome.Outcome, statement.Drainin
 use Rattle.tl_coherence.specs.{statement.Log.IsLog, statement.Log.system_after, statement.Step.stepped}
 use Rattle.tl_coherence.specs.{statement.Step.is_to_client, statement.System.terms_at}
 use Rattle.tl_coherence.specs.statement.Flow.{taken_at, IsTaken, EachTaken}
-use Rattle.tl_coherence.proofs.{bound.Settling.given-before, deliveries.Matching.shadow}
-use Rattle.tl_coherence.proofs.{flow.FlowReceived.moved-on, links.FromInvariant.matched-given}
-use Rattle.tl_coherence.proofs.{links.HeadsOfLinks.first-of, outstanding.Outstanding.first-moved}
-use Rattle.tl_coherence.proofs.{queues.Tokens.same_number}
+use Rattle.tl_coherence.proofs.{bound.Settling.given-before, deliveries.Matching.shadow, flow.FlowReceived.moved-on}
+use Rattle.tl_coherence.proofs.{links.FromInvariant.matched-given, links.HeadsOfLinks.first-of}
+use Rattle.tl_coherence.proofs.{outstanding.Outstanding.first-moved, queues.Tokens.same_number}
 
 first_of_two : {w : ℕ} (x y : Beat w) (t : History w) → x ∷ t ≡ y ∷ t → y ≡ x
 first_of_two x y t e = cc
@@ -80,8 +79,7 @@ module _ {w : ℕ} (config : Config) (P : Log w → ℕ → Beat w → Type 0)
         → o ≡ (stepped config event (system_after config log)).outcome → IsTaken P log (taken_at event o)
     taken-event (Deliver link ch) (Outcome.Moved x) log given o_is =
         let before = given-before config (Deliver link ch, Outcome.Moved x) log given in
-        let first = moved-beat (shadow config log) link ch x given.width (matched-given config log before)
-        o_is in
+        let first = moved-beat (shadow config log) link ch x given.width (matched-given config log before) o_is in
         front log before link.0 x first.0 first.1
     taken-event (Deliver link ch) (Outcome.Done x source f) log given o_is =
         let before = given-before config (Deliver link ch, Outcome.Done x source f) log given in

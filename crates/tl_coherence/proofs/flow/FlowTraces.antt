@@ -79,7 +79,7 @@ delivered-unbroken {w} config log link ch o x given moving flowing =
     let is = levelled config log link ch o given moving in
     let legal : is_legal is.level config.profile (x ∷ flow link.0 log) ≡ true =
     subst (λ (t : History w). is_legal is.level config.profile t ≡ true) flowing
-    (flows config whole given link.0 is.level is.of_link) in
+    (flows given link.0 is.level is.of_link) in
     ap (λ (l : Option Level). broken_at_level l config.profile x (on_link link.0 (trace_of log))) is.in_levels
     ∙ ap (λ (t : History w). broken_after is.level config.profile x t) (trace-flows link.0 log)
     ∙ unbroken (broken_after is.level config.profile x (flow link.0 log))
@@ -108,31 +108,30 @@ no-fault {w} levels p before (x ∷ trace) good =
     let all : AreGood levels p (reverse trace ++ (x ∷ before)) = subst (AreGood levels p) turned good in
     rw (older-good levels p (reverse trace) (x ∷ before) all).0 (no-fault levels p (x ∷ before) trace all)
 
-all-good : {w : ℕ} (config : Config) (log : Log w) → IsGiven config log
+all-good : {w : ℕ} {config : Config} (log : Log w) → IsGiven config log
     → AreGood (levels_of config) config.profile (trace_of log)
 unfolding AreGood trace_of flow
-all-good config [] given = tt
-all-good config ((Ask client op, o) ∷ log) given =
-    all-good config log (given-before config (Ask client op, o) log given)
-all-good config ((Deliver link ch, Outcome.Moved x) ∷ log) given = (
+all-good [] given = tt
+all-good {config} ((Ask client op, o) ∷ log) given =
+    all-good log (given-before config (Ask client op, o) log given)
+all-good {config} ((Deliver link ch, Outcome.Moved x) ∷ log) given = (
   delivered-unbroken config log link ch (Outcome.Moved x) x given refl (taken link x (flow link.0 log)),
-  all-good
-      config log (given-before config (Deliver link ch, Outcome.Moved x) log given),
+  all-good log (given-before config (Deliver link ch, Outcome.Moved x) log given),
 )
-all-good config ((Deliver link ch, Outcome.Done x source f) ∷ log) given = (
+all-good {config} ((Deliver link ch, Outcome.Done x source f) ∷ log) given = (
   delivered-unbroken config log link ch (Outcome.Done x source f) x given refl (taken link x (flow link.0 log)),
-  all-good config log (given-before config (Deliver link ch, Outcome.Done x source f) log given),
+  all-good log (given-before config (Deliver link ch, Outcome.Done x source f) log given),
 )
-all-good config ((Deliver link ch, Outcome.Replied r) ∷ log) given =
-    all-good config log (given-before config (Deliver link ch, Outcome.Replied r) log given)
-all-good config ((Deliver link ch, Outcome.Empty) ∷ log) given =
-    all-good config log (given-before config (Deliver link ch, Outcome.Empty) log given)
-all-good config ((Deliver link ch, Outcome.Stalled) ∷ log) given =
-    all-good config log (given-before config (Deliver link ch, Outcome.Stalled) log given)
-all-good config ((Deliver link ch, Outcome.NoSuchClient) ∷ log) given =
-    all-good config log (given-before config (Deliver link ch, Outcome.NoSuchClient) log given)
+all-good {config} ((Deliver link ch, Outcome.Replied r) ∷ log) given =
+    all-good log (given-before config (Deliver link ch, Outcome.Replied r) log given)
+all-good {config} ((Deliver link ch, Outcome.Empty) ∷ log) given =
+    all-good log (given-before config (Deliver link ch, Outcome.Empty) log given)
+all-good {config} ((Deliver link ch, Outcome.Stalled) ∷ log) given =
+    all-good log (given-before config (Deliver link ch, Outcome.Stalled) log given)
+all-good {config} ((Deliver link ch, Outcome.NoSuchClient) ∷ log) given =
+    all-good log (given-before config (Deliver link ch, Outcome.NoSuchClient) log given)
 
 pub faultless : {w : ℕ} → Faultless w
 faultless {w} config log given = no-fault (levels_of config) config.profile [] (reverse (trace_of log))
     (subst (AreGood (levels_of config) config.profile)
-    (sym (append-nil (reverse (reverse (trace_of log))) ∙ reverse-reverse (trace_of log))) (all-good config log given))
+    (sym (append-nil (reverse (reverse (trace_of log))) ∙ reverse-reverse (trace_of log))) (all-good log given))

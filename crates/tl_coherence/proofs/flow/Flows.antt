@@ -14,23 +14,21 @@ use Rattle.tl_client.{proofs.endpoint.Outstanding.unfinished-asked}
 use Rattle.tl_client.specs.statement.Ask as ask
 use Rattle.tl_coherence.specs.{declared.event.Event.Event, declared.event.Outcome.Outcome, statement.Draining.is_moving}
 use Rattle.tl_coherence.specs.{statement.Headline.AreTyped, statement.Headline.IsGiven, statement.Log.IsLog}
-use Rattle.tl_coherence.specs.{statement.Log.system_after, protocol.Protocol.on}
-use Rattle.tl_coherence.specs.{statement.System.terms_at}
+use Rattle.tl_coherence.specs.{statement.Log.system_after, protocol.Protocol.on, statement.System.terms_at}
 use Rattle.tl_coherence.specs.declared.event.Event.TheVariants.{Ask, Deliver}
 use Rattle.tl_coherence.specs.refinement.AbstractStep.{abstract_step, abstract_step_by, asked}
 use Rattle.tl_coherence.specs.statement.Step.{Step, stepped, replied, is_to_client}
-use Rattle.tl_coherence.proofs.{deliveries.AskedWell.asked-well}
-use Rattle.tl_coherence.proofs.{client.ManagerStep.on_same, links.FifoOfChannels.flow_still, flow.FlowAlone.AreRests}
-use Rattle.tl_coherence.proofs.{flow.FlowAsking.flowed-asked, flow.FlowKinds.FlowsAs, flow.FlowKinds.other-kind}
-use Rattle.tl_coherence.proofs.{flow.FlowOwn.own-kind, flow.FlowLawful.flows-b, flow.FlowLawful.flows-c}
-use Rattle.tl_coherence.proofs.{flow.FlowRequests.flows-a, flow.FlowResponses.flows-d, flow.FlowSame.flowed-rests}
-use Rattle.tl_coherence.proofs.{flow.FlowSinks.flows-e, protocol.FollowKept.IsReady}
-use Rattle.tl_coherence.proofs.{deliveries.DeliverDAfter.followed-still, deliveries.DeliverDUnmoved.unmoved}
-use Rattle.tl_coherence.proofs.{simulation.Fresh.fresh-flowed, deliveries.FirstRequest.arrival-first}
-use Rattle.tl_coherence.proofs.{queues.Landed.handed-client, outstanding.Outstanding.first-moved}
-use Rattle.tl_coherence.proofs.{manager.UnwaitedRequests.next_tracker, queues.Steps.stepped-asked}
-use Rattle.tl_coherence.proofs.{queues.Tokens.same_number, simulation.Popped.unfinished_at, flow.FlowReceived.IsMovedOn}
-use Rattle.tl_coherence.proofs.{flow.FlowReceived.moved-on}
+use Rattle.tl_coherence.proofs.{deliveries.AskedWell.asked-well, client.ManagerStep.on_same}
+use Rattle.tl_coherence.proofs.{links.FifoOfChannels.flow_still, flow.FlowAlone.AreRests, flow.FlowAsking.flowed-asked}
+use Rattle.tl_coherence.proofs.{flow.FlowKinds.FlowsAs, flow.FlowKinds.other-kind, flow.FlowOwn.own-kind}
+use Rattle.tl_coherence.proofs.{flow.FlowLawful.flows-b, flow.FlowLawful.flows-c, flow.FlowRequests.flows-a}
+use Rattle.tl_coherence.proofs.{flow.FlowResponses.flows-d, flow.FlowSame.flowed-rests, flow.FlowSinks.flows-e}
+use Rattle.tl_coherence.proofs.{protocol.FollowKept.IsReady, deliveries.DeliverDAfter.followed-still}
+use Rattle.tl_coherence.proofs.{deliveries.DeliverDUnmoved.unmoved, simulation.Fresh.fresh-flowed}
+use Rattle.tl_coherence.proofs.{deliveries.FirstRequest.arrival-first, queues.Landed.handed-client}
+use Rattle.tl_coherence.proofs.{outstanding.Outstanding.first-moved, manager.UnwaitedRequests.next_tracker}
+use Rattle.tl_coherence.proofs.{queues.Steps.stepped-asked, queues.Tokens.same_number, simulation.Popped.unfinished_at}
+use Rattle.tl_coherence.proofs.{flow.FlowReceived.IsMovedOn, flow.FlowReceived.moved-on}
 use Rattle.tl_coherence.proofs.deliveries.InvariantKept.{request-moves, ready-delivered}
 use Rattle.tl_coherence.proofs.deliveries.Matching.{shadow, matched, stepped-nobody}
 
@@ -77,7 +75,7 @@ moved-flowed {w} {config} {log} {link} {ch} {h} {x} {queue} width is flowed beat
     h' = if last then kind_taken config (next_tracker sys) c at.first.kind at.first.number at.first.rest h else h
 
     ready : last ≡ true → IsReady (next_tracker sys) c at.first.kind at.first.number h
-    ready e = ready-delivered config log h.mail h.request h.state sys link ch x queue width is
+    ready e = ready-delivered {link = link} ch {x = x} {queue = queue} width is
         (record { moves = moving; beats = beats; whole = e; first = at.first })
 
     on_kind : on at.first.kind (h.state.link c) ≡ packet at.first.kind at.first.number ∷ at.first.rest
@@ -85,7 +83,7 @@ moved-flowed {w} {config} {log} {link} {ch} {h} {x} {queue} width is flowed beat
 
     own : MonitorRelation (asked_by h'.mail h'.state c) (unfinished_at sys' c) c h'.state
         (if c == c then x ∷ flow c log else flow c log)
-    own = rw (same_number c) (own-kind config log h sys c width is (next_tracker sys) (flow c log) (flowed c)
+    own = rw (same_number c) (own-kind h width is (next_tracker sys) (flowed c)
         (unfinished_at sys' c) at.first.number at.first.rest x (map (message_of h.mail h.state c) at.first.rest) queue
         rests ch at.first.kind at.first.own at.first.tokens at.first.next last refl ready)
       where
@@ -99,9 +97,9 @@ moved-flowed {w} {config} {log} {link} {ch} {h} {x} {queue} width is flowed beat
         rests : (i : Channel) → unfinished_at sys' d i ≡ unfinished_at sys d i
         rests i = cc (at.rests d i, ne_eqb d c ne)
 
-        either : (b : Bool) → last ≡ b → FlowsAs config log h sys c is (next_tracker sys) d ne (flow d log)
+        either : (b : Bool) → last ≡ b → FlowsAs h c is (next_tracker sys) d ne (flow d log)
             (if b then kind_taken config (next_tracker sys) c at.first.kind at.first.number at.first.rest h else h)
-        either true e = other-kind config log h sys c is (next_tracker sys) d ne (flow d log) at.first.kind
+        either true e = other-kind h c is (next_tracker sys) d ne (flow d log) at.first.kind
             at.first.number at.first.rest on_kind (ready e) (flowed d)
         either false e = flowed d
 
@@ -156,8 +154,8 @@ asked-flowed {w} {config} {log} c o h width is flowed = go (terms_at config c) r
         (asked_by h'.mail h'.state d) (unfinished_at (replied c a sys).after d) d h'.state t) (sym (flow_still (Ask
         c o) (Outcome.Replied a.reply) log d refl)) (flowed-rests
         (unfinished_at (replied c a sys).after d) (λ i. (handed-client c a.message
-        a.after sys (λ j. unfinished-asked terms o (sys.clients c) j width (is.kept c))).rests d i) (flowed-asked
-        config log h sys c width is d (flow d log) o a.reply well.reply well.may (flowed d))))
+        a.after sys (λ j. unfinished-asked terms o (sys.clients c) j width (is.kept c))).rests d i)
+        (flowed-asked h c width is d (flow d log) o a.reply well.reply well.may (flowed d))))
 
 flowed-event : {w : ℕ} {config : Config} {log : Log w} (event : Event w) (h : AbstractState w) → IsWidth w
     → SimulationRelation config log h.mail h.request h.state (system_after config log)
@@ -240,13 +238,11 @@ legal-event {w} {config} {log} h (Deliver link ch) d l width is values level leg
     go true moving =
         let at = first-moved config link ch sys moving in
         ap (is_legal l config.profile)
-        ((moved-on link ch h at.0 at.1 at.2 width is at.3.0 at.3.1 moving (is_to_client ch)
-        refl).delivered d)
+        ((moved-on link ch h at.0 at.1 at.2 width is at.3.0 at.3.1 moving (is_to_client ch) refl).delivered d)
         ∙ with_beat at.0 (link.0 == d) (λ same.
         let here : link.0 ≡ d = eqb-true link.0 d same in
         subst (λ (i : ℕ). broken_after l config.profile at.0 (flow i log) ≡ None) here
-        (unbroken h link ch l at.0 at.1 width is values moving at.3.0
-        (ap (level_of config) here ∙ level)))
+        (unbroken h link ch l at.0 at.1 width is values moving at.3.0 (ap (level_of config) here ∙ level)))
     go false still = cc (flow_still (Deliver link ch) (stepped config (Deliver link ch) sys).outcome log d still, legal)
 
 legal : {w : ℕ} (config : Config) (log : Log w) (d : ℕ) (l : Level) → IsWidth w → AreTyped log → IsLog config log
@@ -258,6 +254,6 @@ legal {w} config (x ∷ log) d l width typed is level =
     (flowed config log width typed.1 is.1) level (legal config log d l width typed.1 is.1 level))
 
 -- A monitor in the middle of a link finds no fault in what is delivered there.
-pub flows : {w : ℕ} (config : Config) (log : Log w) → IsGiven config log → (link : ℕ) (l : Level)
+pub flows : {w : ℕ} {config : Config} {log : Log w} → IsGiven config log → (link : ℕ) (l : Level)
     → level_of config link ≡ Some l → is_legal l config.profile (flow link log) ≡ true
-flows config log given link l level = legal config log link l given.width given.typed given.is_log level
+flows {config} {log} given link l level = legal config log link l given.width given.typed given.is_log level

@@ -47,19 +47,17 @@ pub use Rattle.tl_coherence.specs.protocol.Protocol.{Acquires, Asked, Block, Fre
 pub use Rattle.tl_coherence.specs.protocol.Protocol.{Replied, Service, SourceFree, SourceState, State, Waits}
 pub use Rattle.tl_coherence.specs.protocol.Protocol.{access_asked, acquire_asked, acquire_granted, acquire_served}
 pub use Rattle.tl_coherence.specs.protocol.Protocol.{acquiring_block, freed_block, grant_ack_taken, granted_at_once}
-pub use Rattle.tl_coherence.specs.protocol.Protocol.{is_on}
+pub use Rattle.tl_coherence.specs.protocol.Protocol.{is_on, let_block, let_go_block, packet, probe_taken, probed_block}
+pub use Rattle.tl_coherence.specs.protocol.Protocol.{release_ack_taken, release_asked, release_taken, releasing_block}
+pub use Rattle.tl_coherence.specs.protocol.Protocol.{report_taken, reported_block, served_block, taken_block, view}
 pub use Rattle.tl_coherence.specs.protocol.Tokens.{is_acked, is_acknowledging, is_answered, is_granting, is_unserved}
 pub use Rattle.tl_coherence.specs.protocol.Tokens.{is_wanting, shown}
-pub use Rattle.tl_coherence.specs.protocol.Protocol.{let_block, let_go_block, packet}
-pub use Rattle.tl_coherence.specs.protocol.Protocol.{probe_taken, probed_block, release_ack_taken, release_asked}
-pub use Rattle.tl_coherence.specs.protocol.Protocol.{release_taken, releasing_block, report_taken, reported_block}
-pub use Rattle.tl_coherence.specs.protocol.Protocol.{served_block, taken_block, view}
 pub use Rattle.tl_coherence.specs.refinement.AbstractStep.{AbstractState, kind_taken}
 pub use Rattle.tl_coherence.specs.refinement.Carried.{IsCarried}
 pub use Rattle.tl_coherence.specs.statement.Delivery.{receiver}
 pub use Rattle.tl_coherence.specs.refinement.ClientRelation.{comes_granting}
-pub use Rattle.tl_coherence.specs.refinement.MonitorRelation.{MonitorRelation, is_release_pending}
-pub use Rattle.tl_coherence.specs.refinement.MonitorRelation.{is_let_by, is_requested, is_sunk}
+pub use Rattle.tl_coherence.specs.refinement.MonitorRelation.{MonitorRelation, is_release_pending, is_let_by}
+pub use Rattle.tl_coherence.specs.refinement.MonitorRelation.{is_requested, is_sunk}
 pub use Rattle.tl_coherence.specs.refinement.PacketMessages.{AccessMessages, cap_sent, message_of, message_of_kind}
 pub use Rattle.tl_coherence.specs.refinement.PacketMessages.{probe_beat, prune_told, report_told}
 unfoldable pub use Rattle.tl_coherence.specs.refinement.PacketMessages.{block_message}

@@ -29,8 +29,7 @@ same_beat : {w : ℕ} (x y : BeatD w) → Beat.D x ≡ Beat.D y → x ≡ y
 same_beat x y e = cc
 
 module _ {w : ℕ} (config : Config) (log : Log w) (h : AbstractState w) (c : ℕ) (y : BeatD w) (queue : List (Beat w))
-    (width : IsWidth w)
-    (is : SimulationRelation config log h.mail h.request h.state (system_after config log))
+    (width : IsWidth w) (is : SimulationRelation config log h.mail h.request h.state (system_after config log))
     (flowed : MonitorRelations log h.mail h.state (system_after config log))
     (beats : (system_after config log).channels c Channel.D ≡ Beat.D y ∷ queue) where
   abbrev s : State (List ℕ)
@@ -69,8 +68,7 @@ module _ {w : ℕ} (config : Config) (log : Log w) (h : AbstractState w) (c : �
             beat_is = cc (
               same_beat y (d_beat_of (grant_sent c i s due) next.k) (next.beat_is
                   ∙ ap (λ (z : Message w). beat_of z next.k) (grant-rendered c i s due)),
-              place
-                  (message_of_kind Grant h.mail s c i) next.k next.rest_is,
+              place (message_of_kind Grant h.mail s c i) next.k next.rest_is,
             );
           })
       go ReleaseAck i tokens own next =
@@ -78,9 +76,9 @@ module _ {w : ℕ} (config : Config) (log : Log w) (h : AbstractState w) (c : �
       go k i tokens own next = absurd cc
 
   -- a Grant that is on its way is of the block that its request asks for
-  granted_block : (i n : ℕ) → IsGrantBeat c i s y (length (unfinished Channel.D (flow c log)))
+  granted_block : {i : ℕ} (n : ℕ) → IsGrantBeat c i s y (length (unfinished Channel.D (flow c log)))
       → asks_for n (request_of y.source (flow c log)) ≡ true → i ≡ n
-  granted_block i n grant asks =
+  granted_block {i} n grant asks =
       let b : Block (List ℕ) = s.block i in
       let rest_now : List (Beat w) = unfinished Channel.A (receiver Channel.A c (system_after config log)) in
       let from : y.source ≡ b.source c = ap (λ (z : BeatD w). z.source) grant.beat_is in
@@ -106,7 +104,7 @@ module _ {w : ℕ} (config : Config) (log : Log w) (h : AbstractState w) (c : �
   grant-next n granted = next-on_d Of (λ i due e. not_granted (ap (λ (z : BeatD w). is_grant z.opcode) e
       ∙ (access_kind due.answer.opcode due.answers_access).0))
       (λ i grant. subst (λ (j : ℕ). IsGrantBeat c j s y (length (unfinished Channel.D (flow c log))))
-      (granted_block i n grant (and_right (is_grant y.opcode) (asks_for n (request_of y.source (flow c log))) granted))
+      (granted_block n grant (and_right (is_grant y.opcode) (asks_for n (request_of y.source (flow c log))) granted))
       grant) (λ i k e. not_granted (ap (λ (z : BeatD w). is_grant z.opcode) e))
     where
       Of : Type 0

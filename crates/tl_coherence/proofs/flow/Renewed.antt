@@ -1,7 +1,7 @@
 -- What the protocol does at an event to the accesses that are answered: each was answered before, or nobody is recorded
 -- any more with what excludes it, and it is answered what the block had.
 use Rattle.std.proofs.Common.{◌≡◌, ℕ, Bool, true, false, not, ◌&&◌, List, ◌∷◌, ◌⊎◌, Option, Some, None, refl, sym, ◌∙◌}
-use Rattle.std.proofs.Common.{ap, subst, inl, inr}
+use Rattle.std.proofs.Common.{ap, inl, inr}
 use Rattle.std.{specs.Prelude.◌==◌, specs.Prelude.if◌then◌else◌, specs.Prelude.length, proofs.lemmas.Bool.cases_eq}
 use Rattle.tl_burst.{specs.declared.message.Message.Message, specs.declared.message.MessageA.MessageA}
 use Rattle.tl_params.{specs.declared.config.Config.Config, specs.declared.param.Cap.Cap}
@@ -281,25 +281,25 @@ renewed-grant c n (GrantSent q x k) rest h = renewed-set c ((h.state.block n).so
     (taken_by_client c n (GrantSent q x k) rest h) (λ e. cc) (λ d j. refl) (λ d j other. (refl, refl))
 renewed-grant c n service rest h = renewed-same h h (λ d j. refl) (λ d j. (refl, refl))
 
-pub renewed-kind_taken : {w : ℕ} (config : Config) (log : Log w) (tracker c : ℕ) (k : Kind) (i : ℕ) (rest : List Packet)
-    (h : AbstractState w) (sys : System w)
+pub renewed-kind_taken : {w : ℕ} {config : Config} {log : Log w} (tracker c : ℕ) (k : Kind) (i : ℕ) (rest : List Packet)
+    (h : AbstractState w) {sys : System w}
     → SimulationRelation config log h.mail h.request h.state sys → on k (h.state.link c) ≡ packet k i ∷ rest
     → IsReady tracker c k i h → AreRenewed h (kind_taken config tracker c k i rest h)
-renewed-kind_taken {w} config log tracker c Request i rest h sys is first ready =
+renewed-kind_taken {w} tracker c Request i rest h is first ready =
     rw ready.1 (renewed-request tracker c i ready.0 rest h is ready.1 ready.2)
-renewed-kind_taken config log tracker c Acquire n rest h sys is first ready =
+renewed-kind_taken {config} tracker c Acquire n rest h is first ready =
     renewed-acquire (length config.clients.items) config.profile c n tracker ((h.state.block n).pair c).acquiring rest h
-renewed-kind_taken config log tracker c Probe n rest h sys is first ready =
+renewed-kind_taken {config} tracker c Probe n rest h is first ready =
     renewed-same h (kind_taken config tracker c Probe n rest h) (λ d j. refl) (λ d j. (refl, refl))
-renewed-kind_taken config log tracker c ProbeAck n rest h sys is first ready = renewed-report c n rest h is first
-renewed-kind_taken config log tracker c Release n rest h sys is first ready =
+renewed-kind_taken tracker c ProbeAck n rest h is first ready = renewed-report c n rest h is first
+renewed-kind_taken {config} tracker c Release n rest h is first ready =
     renewed-same h (kind_taken config tracker c Release n rest h) (λ d j. refl) (λ d j. (refl, refl))
-renewed-kind_taken config log tracker c Answer i rest h sys is first ready =
+renewed-kind_taken {config} tracker c Answer i rest h is first ready =
     renewed-set c i SourceFree h (kind_taken config tracker c Answer i rest h) (λ e. cc) (λ d j. refl)
     (λ d j other. (refl, refl))
-renewed-kind_taken config log tracker c Grant n rest h sys is first ready =
+renewed-kind_taken tracker c Grant n rest h is first ready =
     renewed-grant c n (h.state.block n).service rest h
-renewed-kind_taken config log tracker c ReleaseAck n rest h sys is first ready =
+renewed-kind_taken {config} tracker c ReleaseAck n rest h is first ready =
     renewed-same h (kind_taken config tracker c ReleaseAck n rest h) (λ d j. refl) (λ d j. (refl, refl))
-renewed-kind_taken config log tracker c GrantAck n rest h sys is first ready =
+renewed-kind_taken {config} tracker c GrantAck n rest h is first ready =
     renewed-same h (kind_taken config tracker c GrantAck n rest h) (λ d j. refl) (λ d j. (refl, refl))

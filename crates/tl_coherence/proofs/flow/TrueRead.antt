@@ -43,12 +43,12 @@ lawful_request : {w : ℕ} (config : Config) (c source : ℕ) (m : MessageA w) (
 lawful_request config c source m r u sourced used is = (rw (used, is) at sourced).1
 
 -- each access that is answered was so
-answered : {w : ℕ} (config : Config) (log : Log w) → IsGiven config log → (c source : ℕ) (m : MessageA w)
+answered : {w : ℕ} {config : Config} (log : Log w) → IsGiven config log → (c source : ℕ) (m : MessageA w)
     → (shadow config log).state.uses c source ≡ Replied → (shadow config log).mail.request c source ≡ Message.A m
     → WasAnswered config c source m ((shadow config log).mail.answer c source) log
 unfolding shadow system_after WasAnswered
-answered config [] given c source m used request = absurd (closed_first used)
-answered {w} config (x ∷ log) given c source m used request =
+answered [] given c source m used request = absurd (closed_first used)
+answered {w} {config} (x ∷ log) given c source m used request =
     let before : IsGiven config log = given-before config x log given in
     let h : AbstractState w = shadow config log in
     let h' : AbstractState w = shadow config (x ∷ log) in
@@ -72,7 +72,7 @@ answered {w} config (x ∷ log) given c source m used request =
       opened-now config (x ∷ log) h' sys' is' values c source m used request,
       elim (renewed-followed config log x.0 h given.width is c source used) [
         | inl old ↦ inr (subst (λ (r : Message w). WasAnswered config c source m r log) (sym old.1.1)
-            (answered config log before c source m old.0 (sym old.1.0 ∙ request)))
+            (answered log before c source m old.0 (sym old.1.0 ∙ request)))
         | inr new ↦ inl (now new.0 new.1 new.2 new.3 (same_request new.0 m (sym new.1 ∙ request)))
       ],
     )
@@ -124,11 +124,11 @@ found-beat config c source m z k (e ∷ log) with_data was = (
 
 -- ---- a beat that is next
 
-true-next : {w : ℕ} (config : Config) (log : Log w) → IsGiven config log → (c : ℕ) (y : BeatD w) (queue : List (Beat w))
+true-next : {w : ℕ} {config : Config} {log : Log w} → IsGiven config log → (c : ℕ) (y : BeatD w) (queue : List (Beat w))
     → (system_after config log).channels c Channel.D ≡ Beat.D y ∷ queue
     → (x : BeatA w) → y.opcode ≡ OpD.AccessAckData → request_of y.source (flow c log) ≡ Some x
     → WasFound config c y.source x y.lanes (length (unfinished Channel.D (flow c log))) log
-true-next {w} config log given c y queue beats x with_data asks =
+true-next {w} {config} {log} given c y queue beats x with_data asks =
     let no_grant : (b : Bool) → grant_opcode b ≡ OpD.AccessAckData → ⊥ = elim [ true ↦ λ e. cc | false ↦ λ e. cc ] in
     next-on_d config log h c y queue given.width is values beats Found
     (λ i due e. answer i due.request due.answer e (ap (λ (z : BeatD w). z.source) e ∙ due.from) due.used
@@ -164,16 +164,15 @@ true-next {w} config log given c y queue beats x with_data asks =
         (subst (λ (l : Option (List ℕ)). WasFound config c y.source (a_beat_of m 0) l k log)
         (sym (ap (λ (u : BeatD w). u.lanes) e))
         (found-beat config c y.source m z k log (sym (ap (λ (u : BeatD w). u.opcode) e) ∙ with_data)
-        (subst (λ (r : Message w). WasAnswered config c y.source m r log)
-        (ap (h.mail.answer c) from ∙ reply)
-        (answered config log given c y.source m used_y request_y))))
+        (subst (λ (r : Message w). WasAnswered config c y.source m r log) (ap (h.mail.answer c) from ∙ reply)
+        (answered log given c y.source m used_y request_y))))
 
 true-moved : {w : ℕ} (config : Config) (log : Log w) → IsGiven config log → (c : ℕ) (x : Beat w) (queue : List (Beat w))
     → (system_after config log).channels c (channel_of x) ≡ x ∷ queue → IsTrueRead config c x log
 true-moved {w} config log given c (Beat.D y) queue beats = λ x with_data asks.
     subst (λ (t : List (Beat w)). WasFound config c y.source x y.lanes (length (unfinished Channel.D t)) log)
     (sym (trace-flows c log))
-    (true-next config log given c y queue beats x with_data (ap (request_of y.source) (sym (trace-flows c log)) ∙ asks))
+    (true-next given c y queue beats x with_data (ap (request_of y.source) (sym (trace-flows c log)) ∙ asks))
 true-moved config log given c (Beat.A y) queue beats = tt
 true-moved config log given c (Beat.B y) queue beats = tt
 true-moved config log given c (Beat.C y) queue beats = tt

@@ -1,7 +1,7 @@
 -- Each beat of data that are given back has bytes of the one memory.
 use Rattle.tl_coherence.proofs.flow.Imports.{Beat, BeatC, History, MessageC, channel_of, unfinished, Config, Log}
-use Rattle.tl_coherence.proofs.flow.Imports.{AbstractState, SimulationRelation, is_caching, flow}
-use Rattle.tl_coherence.proofs.flow.Imports.{Message, beat_of, begun, block_at, on_link, Channel}
+use Rattle.tl_coherence.proofs.flow.Imports.{AbstractState, SimulationRelation, is_caching, flow, Message, beat_of}
+use Rattle.tl_coherence.proofs.flow.Imports.{begun, block_at, on_link, Channel}
 use Rattle.std.proofs.Common.{◌≡◌, ℕ, Bool, true, List, ◌∷◌, sym, ◌∙◌, ap, subst}
 use Rattle.std.specs.Prelude.{length}
 use Rattle.tl_beat.specs.statement.Opcode.{c_carries_data}
@@ -18,11 +18,11 @@ use Rattle.tl_coherence.proofs.{manager.Reporting.IsAbout, queues.FirstToken.fir
 same_beat : {w : ℕ} (x y : BeatC w) → Beat.C x ≡ Beat.C y → x ≡ y
 same_beat x y e = cc
 
-true-next : {w : ℕ} (config : Config) (log : Log w) → IsGiven config log → (c : ℕ) (y : BeatC w) (queue : List (Beat w))
+true-next : {w : ℕ} {config : Config} {log : Log w} → IsGiven config log → (c : ℕ) (y : BeatC w) (queue : List (Beat w))
     → (system_after config log).channels c Channel.C ≡ Beat.C y ∷ queue → c_carries_data y.opcode ≡ true
     → (bytes : List ℕ) × IsBlock (one_memory_after config log).memory (block_at y.address) bytes
     × (y.lanes ≡ lanes_at true w bytes (length (unfinished Channel.C (flow c log))))
-true-next {w} config log given c y queue beats with_data =
+true-next {w} {config} {log} given c y queue beats with_data =
     let values = flowed config log given.width given.typed given.is_log in
     let place : (m : Message w) (k : ℕ) → unfinished Channel.C (on_link c (system_after config log).manager.trace)
     ≡ begun m k → k ≡ length (unfinished Channel.C (flow c log)) =
@@ -70,7 +70,7 @@ true-moved : {w : ℕ} (config : Config) (log : Log w) → IsGiven config log �
 true-moved {w} config log given c (Beat.C y) queue beats = λ with_data.
     subst (λ (t : History w). (bytes : List ℕ) × IsBlock (one_memory_after config log).memory (block_at y.address) bytes
     × (y.lanes ≡ lanes_at true w bytes (length (unfinished Channel.C t)))) (sym (trace-flows c log))
-    (true-next config log given c y queue beats with_data)
+    (true-next given c y queue beats with_data)
 true-moved config log given c (Beat.A y) queue beats = tt
 true-moved config log given c (Beat.B y) queue beats = tt
 true-moved config log given c (Beat.D y) queue beats = tt

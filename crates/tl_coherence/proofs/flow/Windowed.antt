@@ -89,8 +89,7 @@ module _ {w : ℕ} (config : Config) (log : Log w) (h : AbstractState w) (sys : 
       let whole : comes_in_request source (unfinished Channel.A (flow c log)) ≡ false =
       cc (
         (values c).rest_is Channel.A,
-        not-coming_a c source is
-            (ap (λ (u : SourceState). waits_on_a c u h.state) used),
+        not-coming_a c source is (ap (λ (u : SourceState). waits_on_a c u h.state) used),
       ) in
       ap (λ (t : History w). is_some (open_request source t)) (trace-flows c log)
       ∙ rw (pending_flow, whole, asked_flow) refl
@@ -155,10 +154,8 @@ renewed-followed {w} config log event h width is =
     followed-cases event (λ (i : AbstractState w). AreRenewed h i) width is
     (renewed-same h h (λ d j. refl) (λ d j. (refl, refl)))
     (λ terms c o at d j e. inl (kept-asked c o (ask.asked terms o (sys.clients c)).reply h d j e))
-    (λ link ch x queue d. renewed-kind_taken config log (next_tracker sys) link.0 d.first.kind d.first.number
-    d.first.rest h sys is
-    (on-first d) (ready-delivered config log h.mail h.request h.state sys link
-    ch x queue width is d))
+    (λ link ch x queue d. renewed-kind_taken (next_tracker sys) link.0 d.first.kind d.first.number d.first.rest h is
+    (on-first d) (ready-delivered ch width is d))
 
 windowed-event : {w : ℕ} {config : Config} {log : Log w} (h : AbstractState w) (event : Event w) (o : Outcome w)
     → IsWidth w → SimulationRelation config log h.mail h.request h.state (system_after config log)

@@ -27,9 +27,9 @@ use Rattle.tl_coherence.proofs.lines.Ranges.{few-sources, first-ranged, ranged-b
 
 -- ---- the first beat of a channel
 
-module _ {w : ℕ} (config : Config) (log : Log w) (given : IsGiven config log) (c : ℕ) (terms : EndConfig)
-    (known : terms_at config c ≡ Some terms) (ch : Channel)
-    (x : Beat w) (queue : List (Beat w)) (beats : (system_after config log).channels c ch ≡ x ∷ queue) where
+module _ {w : ℕ} {config : Config} {log : Log w} (given : IsGiven config log) (c : ℕ) (terms : EndConfig)
+    (known : terms_at config c ≡ Some terms) (ch : Channel) (x : Beat w) (queue : List (Beat w))
+    (beats : (system_after config log).channels c ch ≡ x ∷ queue) where
   is : SimulationRelation config log (shadow config log).mail (shadow config log).request (shadow config log).state
       (system_after config log)
   is = matched-given config log given
@@ -40,16 +40,14 @@ module _ {w : ℕ} (config : Config) (log : Log w) (given : IsGiven config log) 
 
   pub first-writable : IsWritable x
   first-writable =
-      let lawful = lawful-beat
-      c ch terms.level x queue is beats (level-terms config c terms known).0 in
+      let lawful = lawful-beat c ch terms.level x queue is beats (level-terms config c terms known).0 in
       subst IsWritable (sym first.next.beat_is) (legal-writable terms.level (channel_of x) _ first.next.k given.width
       (ap (λ (y : Beat w). illegal terms.level (channel_of x) y) (sym first.next.beat_is) ∙ lawful))
 
   pub first-in_range : AreRanged log → IsInRange x
   first-in_range ranged =
       let few = limits config given.fits in
-      let sound = sound-beat
-      c ch x queue is beats in
+      let sound = sound-beat c ch x queue is beats in
       let lanes : AreLanes x =
       All-head AreLanes x queue (subst (λ (l : List (Beat w)). All AreLanes l) beats (is.typed c ch)) in
       let bounds = matched-bounded config log (shadow config log).mail (shadow config log).request
@@ -57,10 +55,7 @@ module _ {w : ℕ} (config : Config) (log : Log w) (given : IsGiven config log) 
       subst IsInRange (sym first.next.beat_is)
       (ranged-beat config.blocks _ first.next.k few.1
       (ap (λ (y : Beat w). is_outside config.blocks y) (sym first.next.beat_is) ∙ sound.inside)
-      (subst AreLanes first.next.beat_is lanes)
-      (first-ranged config log (shadow config log).mail (shadow config log).request (shadow config log).state
-      (system_after config log) is
-      (remembered-ranged config log ranged) c _ config.trackers bounds
+      (subst AreLanes first.next.beat_is lanes) (first-ranged is (remembered-ranged config log ranged) bounds
       (few-sources config c given.fits) few.2 ch first.kind first.number first.rest first.own first.tokens))
 
 -- ---- all that is delivered
@@ -76,12 +71,12 @@ module _ {w : ℕ} (config : Config) (P : Beat w → Type 0) (Q : Log w → Type
     with-beat d log x true here rest = All-cons P x (flow d log) here rest
     with-beat d log x false here rest = rest
 
-    next : (log : Log w) (event : Event w) (d : ℕ) → IsGiven config log → Q log → All P (flow d log)
+    next : {log : Log w} (event : Event w) (d : ℕ) → IsGiven config log → Q log → All P (flow d log)
         → All P (flow d ((event, (stepped config event (system_after config log)).outcome) ∷ log))
-    next log (Ask c o) d given q rest =
+    next {log} (Ask c o) d given q rest =
         subst (All P) (sym (flow_still (Ask c o) (stepped config (Ask c o) (system_after config log)).outcome log d
         (asked-still config log c o))) rest
-    next log (Deliver link ch) d given q rest =
+    next {log} (Deliver link ch) d given q rest =
         go (is_moving (stepped config (Deliver link ch) (system_after config log)).outcome) refl
       where
         go : (b : Bool) → is_moving (stepped config (Deliver link ch) (system_after config log)).outcome ≡ b
@@ -108,16 +103,16 @@ module _ {w : ℕ} (config : Config) (P : Beat w → Type 0) (Q : Log w → Type
           is_log = given.is_log.1;
         } in
         subst (λ (o : Outcome w). All P (flow d ((x.0, o) ∷ log))) (sym given.is_log.0)
-        (next log x.0 d before (earlier x log q) (all-delivered log before (earlier x log q) d))
+        (next x.0 d before (earlier x log q) (all-delivered log before (earlier x log q) d))
 
 pub have-room : {w : ℕ} (config : Config) (log : Log w) → IsGiven config log → (link : ℕ)
     → All IsWritable (flow link log)
 have-room config log given link = all-delivered config IsWritable (λ l. Unit {0}) (λ x l q. tt)
-    (λ l g q c terms known ch x queue beats. first-writable config l g c terms known ch x queue beats) log given tt link
+    (λ l g q c terms known ch x queue beats. first-writable g c terms known ch x queue beats) log given tt link
 
 pub are-in_range : {w : ℕ} (config : Config) (log : Log w) → IsGiven config log → AreRanged log → (link : ℕ)
     → All IsInRange (flow link log)
 unfolding AreRanged
 are-in_range config log given ranged link =
-    all-delivered config IsInRange AreRanged (λ x l q. q.1) (λ l g q c terms known ch x queue beats. first-in_range
-    config l g c terms known ch x queue beats q) log given ranged link
+    all-delivered config IsInRange AreRanged (λ x l q. q.1) (λ l g q c terms known ch x queue beats. first-in_range g c
+    terms known ch x queue beats q) log given ranged link

@@ -30,7 +30,7 @@ use Rattle.tl_coherence.specs.refinement.PacketMessages.{prune_told, block_messa
 use Rattle.tl_coherence.specs.protocol.Packet.{Kind, Request, Acquire, Probe, ProbeAck, Release, Answer, Grant}
 use Rattle.tl_coherence.specs.protocol.Packet.{ReleaseAck, GrantAck, Packet, count, is}
 use Rattle.tl_manager.specs.laws.Pending.{one_if}
-use Rattle.tl_coherence.specs.refinement.SimulationRelation.{AreLanes, SimulationRelation, is_caching}
+use Rattle.tl_coherence.specs.refinement.SimulationRelation.{AreLanes, SimulationRelation}
 use Rattle.tl_coherence.proofs.memory.Bytes.{IsRangedMachine, IsRangedOpen, IsRangedReply}
 use Rattle.tl_coherence.proofs.protocol.Capacities.{acquire_named, answer_named, grant_ack_named, grant_named}
 use Rattle.tl_coherence.proofs.protocol.Capacities.{release_ack_named, release_named, request_named}
@@ -145,10 +145,9 @@ few-sources config c fits = go (slice_get config.clients.items c) refl
 
 -- ---- the message of the first token of a channel
 
-module _ {w : ℕ} (config : Config) (log : Log w) (mail : AccessMessages w) (request : ℕ → MessageA w)
-    (s : State (List ℕ)) (sys : System w)
-    (matched : SimulationRelation config log mail request s sys)
-    (ranged : IsRangedMachine (one_memory_after config log)) (c sources trackers : ℕ)
+module _ {w : ℕ} {config : Config} {log : Log w} {mail : AccessMessages w} {request : ℕ → MessageA w}
+    {s : State (List ℕ)} {sys : System w} (matched : SimulationRelation config log mail request s sys)
+    (ranged : IsRangedMachine (one_memory_after config log)) {c sources trackers : ℕ}
     (bounds : AreBounded c sources trackers s) (few_sources : sources ≤ 8) (few_trackers : trackers ≤ 8) where
   truth-bytes : (n : ℕ) → AreBytes (s.block n).truth
   truth-bytes n = All-from_get_or (λ byte. byte < 2 ^ 8) (s.block n).truth 0 (λ i less.
@@ -186,33 +185,30 @@ module _ {w : ℕ} (config : Config) (log : Log w) (mail : AccessMessages w) (re
 
   kind-ranged : (k : Kind) (n : ℕ) → shows_it s c k n ≡ true → IsRangedMessage (message_of_kind k mail s c n)
   unfolding block_message
-  kind-ranged Request n shows = request-ranged n (request_named (is_caching config) s c n matched.invariant shows)
-  kind-ranged Answer n shows = answer-is-ranged n (answer_named (is_caching config) s c n matched.invariant shows)
+  kind-ranged Request n shows = request-ranged n (request_named c n matched.invariant shows)
+  kind-ranged Answer n shows = answer-is-ranged n (answer_named c n matched.invariant shows)
   kind-ranged Acquire n shows = acquire-ranged w ((s.block n).pair c).acquiring ((s.block n).source c) n
-      (used-small ((s.block n).source c) (Acquires n) (acquire_named (is_caching config) s c n matched.invariant shows)
-      (λ e. absurd cc))
+      (used-small ((s.block n).source c) (Acquires n) (acquire_named c n matched.invariant shows) (λ e. absurd cc))
   kind-ranged Probe n shows = (lit< tt, zeros-bytes 64)
   kind-ranged ProbeAck n shows = report-ranged w _ (report_told ((s.block n).pair c).probing) n (s.block n).truth
       (truth-bytes n)
   kind-ranged Release n shows =
       release-ranged w (prune_told ((s.block n).pair c).letting) ((s.block n).release_source c) n (s.block n).truth
-      (let-small ((s.block n).release_source c) n (release_named (is_caching config) s c n matched.invariant shows))
+      (let-small ((s.block n).release_source c) n (release_named c n matched.invariant shows))
       (truth-bytes n)
   kind-ranged Grant n shows = grant-ranged w (s.block n).service ((s.block n).source c) (s.block n).tracker
-      (s.block n).truth (used-small ((s.block n).source c) (Acquires n)
-      (grant_named (is_caching config) s c n matched.invariant shows) (λ e. absurd cc))
-      (λ q d k e. tracker-small (s.block n).tracker n (tracker_of_service n matched.invariant (rw e refl)))
-      (truth-bytes n)
+      (s.block n).truth (used-small ((s.block n).source c) (Acquires n) (grant_named c n matched.invariant shows)
+      (λ e. absurd cc)) (λ q d k e. tracker-small (s.block n).tracker n
+      (tracker_of_service n matched.invariant (rw e refl))) (truth-bytes n)
   kind-ranged ReleaseAck n shows =
       ack-ranged w ((s.block n).release_source c)
-      (let-small ((s.block n).release_source c) n (release_ack_named (is_caching config) s c n matched.invariant shows))
+      (let-small ((s.block n).release_source c) n (release_ack_named c n matched.invariant shows))
   kind-ranged GrantAck n shows =
-      tracker-small (s.block n).tracker n (grant_ack_named (is_caching config) s c n matched.invariant shows)
+      tracker-small (s.block n).tracker n (grant_ack_named c n matched.invariant shows)
 
   pub first-ranged : (ch : Channel) (k : Kind) (n : ℕ) (rest : List Packet) → is_on ch k ≡ true
       → packets_on ch (s.link c) ≡ packet k n ∷ rest → IsRangedMessage (message_of_kind k mail s c n)
   unfolding count
   first-ranged ch k n rest on_it tokens =
       let one : one_if (is k n (packet k n)) ≡ 1 = rw (same_kind_again k, same_number n) refl in
-      kind-ranged k n (shown_there c ch k n matched.invariant on_it
-      (rw tokens (omega (arith, one))))
+      kind-ranged k n (shown_there c ch k n matched.invariant on_it (rw tokens (omega (arith, one))))

@@ -29,8 +29,7 @@ a-large OpA.ArithmeticData n large =
       apart n 1 (omega arith),
       apart n 2 (omega arith),
       apart n 3 (omega arith),
-      apart n 4
-          (omega arith),
+      apart n 4 (omega arith),
     ) refl
 a-large OpA.LogicalData n large =
     rw (apart n 0 (omega arith), apart n 1 (omega arith), apart n 2 (omega arith), apart n 3 (omega arith)) refl
@@ -46,8 +45,7 @@ c-large OpC.ProbeAck n large =
       apart n 1 (omega arith),
       apart n 2 (omega arith),
       apart n 3 (omega arith),
-      apart n 4
-          (omega arith),
+      apart n 4 (omega arith),
       apart n 5 (omega arith),
     ) refl
 c-large OpC.ProbeAckData n large = rw (apart n 0 (omega arith), apart n 1 (omega arith), apart n 3 (omega arith)) refl

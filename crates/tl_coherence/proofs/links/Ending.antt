@@ -152,12 +152,10 @@ ending {w} config log link ch h x source f width is done = found (terms_at confi
         → sys.channels link.0 Channel.B ≡ y ∷ queue
         → (stepped config (Deliver link Channel.B) sys).outcome ≡ Outcome.Done x source f → ⊥
     probe terms y queue known beats o =
-        let p = delivered-b terms (next_tracker sys) link.0 y queue width is
-        known beats in
+        let p = delivered-b terms (next_tracker sys) link.0 y queue width is known beats in
         let t = client-moves config link Channel.B sys terms y queue known beats refl (ap is_moving o) in
-        done_moved x y source f (sym o ∙ ap (λ (s : Step w). s.outcome) t.step_is
-        ∙ ap (outcome_of y) (same_answers t.verdict_is Verdict.Taken t.message _
-        (offer.taken y (sys.clients link.0)).answer t.answer
+        done_moved x y source f (sym o ∙ ap (λ (s : Step w). s.outcome) t.step_is ∙ ap (outcome_of y)
+        (same_answers t.verdict_is Verdict.Taken t.message _ (offer.taken y (sys.clients link.0)).answer t.answer
         (ap (λ (i : Beat w). (offer.taken i (sys.clients link.0)).answer) p.1.beat_is)).0)
 
     moves : (at : Channel) (terms : EndConfig) (beats : List (Beat w)) → terms_at config link.0 ≡ Some terms

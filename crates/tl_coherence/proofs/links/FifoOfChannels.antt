@@ -73,8 +73,7 @@ says-passing {w} c (Some m) e t sys {p} {f} ours past others is =
     (λ d. elim (cases_eq d c) [
       | inl same ↦ rw (same, same_number c) past
       | inr other ↦ rw (ne_eqb d c other, ne_eqb c d (λ i. other (sym i))) (sym (others d other))
-    ]) (λ d. refl) (λ d at. refl) (λ d. refl) (client-says c m ours
-    is)
+    ]) (λ d. refl) (λ d at. refl) (λ d. refl) (client-says c m ours is)
 
 -- ---- the manager hands out messages
 
@@ -234,9 +233,8 @@ moved-passing {w} config log link ch terms x queue width typed logged known beat
                 (with_channel c ch queue sys))) (λ d. flow d ((Deliver link ch, outcome_of x v) ∷ log))
             took v m answer moves =
                 let handed_is : (v : Verdict) (m : Option (Message w)) → is_moving (outcome_of x v) ≡ true
-                → sent_if_any (client_after.handed (Ok (v, m))) (x ∷ (sys.clients c).past)
-                ≡ sent_if_any m (x ∷ (sys.clients c).past) =
-                elim [ Verdict.Stalled ↦ λ m e. absurd cc | v ↦ λ m e. refl ] in
+                → sent_if_any (client_after.handed (Ok (v, m))) (x ∷ (sys.clients c).past) ≡ sent_if_any m
+                (x ∷ (sys.clients c).past) = elim [ Verdict.Stalled ↦ λ m e. absurd cc | v ↦ λ m e. refl ] in
                 passing-same _ _ _ _ (λ d. refl) (λ d. refl) (λ d at. refl) (λ d. flow_moved link ch (outcome_of x v) x
                 log d (taken_at link ch x v d moves)) (says-passing c m (offer.taken x (sys.clients c)).after
                 (sys.clients c).past (with_channel c ch queue sys) (ours v m answer) (ap (λ (o : offer.Offered w).
@@ -262,16 +260,14 @@ moved-passing {w} config log link ch terms x queue width typed logged known beat
             let e = manager_offer.taken link x (manager_reaction.reaction config link x sys.manager) sys.manager in
             let now : System w = with_manager e (with_channel c ch queue sys) in
             subst (λ (y : Step w). IsPassing y.after (λ d. flow d ((Deliver link ch, y.outcome) ∷ log))) (sym t.step_is)
-            (passing-same _ _
-            (with_messages handed now).channels
-            _ (λ d. ap (λ (i : ℕ → Endpoint w). (i d).past) (clients-with_messages handed now))
-            (λ d. ap (λ (i : manager_end.End w). on_link d i.trace) (manager-with_messages handed now)) (λ d at. refl)
-            (λ d. flow_moved link ch (Outcome.Moved x) x log d refl)
+            (passing-same _ _ (with_messages handed now).channels _
+            (λ d. ap (λ (i : ℕ → Endpoint w). (i d).past) (clients-with_messages handed now))
+            (λ d. ap (λ (i : manager_end.End w). on_link d i.trace) (manager-with_messages handed now))
+            (λ d at. refl) (λ d. flow_moved link ch (Outcome.Moved x) x log d refl)
             (manages-passing config handed ((link, x) ∷ sys.manager.trace) now
             (reaction_handable config link x sys.manager width head h.manager_kept.sound)
             (passing-same _ _ _ _ (λ d. refl) (λ d. refl) (λ d at. refl) (λ d. refl)
-            (manager-hears c ch x queue
-            down on_ch beats is))))
+            (manager-hears c ch x queue down on_ch beats is))))
           where
             handed : Handed w
             handed = (manager_reaction.reaction config link x sys.manager).handed

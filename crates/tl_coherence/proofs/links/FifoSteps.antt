@@ -27,8 +27,7 @@ push_order true m sent queue own taken same is =
       is,
       append_assoc (burst_of m) (reverse queue) taken,
       reverse-beats_from m (beats_of m),
-      reverse-append queue
-          (beats_from m 0 (beats_of m)),
+      reverse-append queue (beats_from m 0 (beats_of m)),
       same refl,
     )
 push_order false m sent queue own taken same is = is
@@ -121,8 +120,7 @@ said_here : {w : ℕ} (l : ℕ) (m : Message w) (p : ℕ → History w) (q : ℕ
 said_here {w} l m p q d at taken is = elim (cases_eq d l) [
   | inl same ↦ rw (same, same_number l, carried-begun m (beats_of m) at (p l))
       (push_order (same_channel at (channel_of_message m)) m (carried_on at (p l)) (q l at) (q l (channel_of_message m))
-      taken
-      (λ e. ap (q l) (sym (same_channel-is at (channel_of_message m) e))) (rw same at is))
+      taken (λ e. ap (q l) (sym (same_channel-is at (channel_of_message m) e))) (rw same at is))
   | inr other ↦ rw (ne_eqb d l other, ne_eqb l d (λ e. other (sym e))) is
 ]
 
@@ -169,9 +167,8 @@ heard_history : {w : ℕ} (c : ℕ) (ch : Channel) (x : Beat w) (p : ℕ → His
     → carried_on at (heard_at c x p d) ≡ (if (c == d) && same_channel at ch then x ∷ carried_on at (p d) else carried_on
     at (p d))
 heard_history {w} c ch x p d at is =
-    let go : (b : Bool) → carried_on at (if b then x ∷ p d else p d)
-    ≡ (if b && same_channel at ch then x ∷ carried_on at (p d) else carried_on at (p d)) =
-    elim [ true ↦ carried-beat x ch at (p d) is | false ↦ refl ] in
+    let go : (b : Bool) → carried_on at (if b then x ∷ p d else p d) ≡ (if b && same_channel at ch then x ∷ carried_on
+    at (p d) else carried_on at (p d)) = elim [ true ↦ carried-beat x ch at (p d) is | false ↦ refl ] in
     go (c == d)
 
 heard_here : {w : ℕ} (c : ℕ) (ch : Channel) (x : Beat w) (queue : List (Beat w)) (p : ℕ → History w) (q : ℕ → Channel
@@ -233,10 +230,9 @@ manager-hears {w} c ch x queue {p} {t} {q} {f} theirs on first is = record {
 
 -- the same histories and channels
 pub passing-same : {w : ℕ} {p t : ℕ → History w} (p' t' : ℕ → History w) {q : ℕ → Channel → List (Beat w)} (q' : ℕ
-    → Channel → List (Beat w)) {f : ℕ → History w} (f' : ℕ → History w)
-    → ((d : ℕ) → p' d ≡ p d)
-    → ((d : ℕ) → t' d ≡ t d) → ((d : ℕ) (at : Channel) → q' d at ≡ q d at) → ((d : ℕ) → f' d ≡ f d)
-    → ArePassing p t q f → ArePassing p' t' q' f'
+    → Channel → List (Beat w)) {f : ℕ → History w} (f' : ℕ → History w) → ((d : ℕ) → p' d ≡ p d)
+    → ((d : ℕ) → t' d ≡ t d) → ((d : ℕ) (at : Channel) → q' d at ≡ q d at) → ((d : ℕ) → f' d ≡ f d) → ArePassing p t q f
+    → ArePassing p' t' q' f'
 passing-same p' t' q' f' ps ts qs fs is = record {
   down = λ d at e. rw (ps d, ts d, qs d at, fs d) (is.down d at e);
   up = λ d at e. rw (ps d, ts d, qs d at, fs d) (is.up d at e);

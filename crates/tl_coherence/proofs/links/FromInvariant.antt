@@ -22,8 +22,8 @@ pub matched-given : {w : ℕ} (config : Config) (log : Log w) → IsGiven config
     (system_after config log)
 matched-given config log given = matched config log given.width given.typed given.is_log
 
-pub unrefused : {w : ℕ} (config : Config) (log : Log w) → IsGiven config log → IsUnrefused (system_after config log)
-unrefused config log given = let is = matched-given config log given in
+pub unrefused : {w : ℕ} {config : Config} {log : Log w} → IsGiven config log → IsUnrefused (system_after config log)
+unrefused {config} {log} given = let is = matched-given config log given in
     record { by_clients = is.live; by_manager = is.all_live }
 
 pub channels : {w : ℕ} (config : Config) (log : Log w) → IsGiven config log → (link : ℕ) (ch : Channel)
@@ -43,18 +43,18 @@ client_terms config c is =
     × (terms_at config c ≡ Some terms) = elim [ Some terms ↦ λ e f. (terms, e) | None ↦ λ e f. absurd cc ] in
     go (terms_at config c) refl is
 
-pub stalls : {w : ℕ} (config : Config) (log : Log w) → IsGiven config log → (link : ℕ) (ch : Channel)
+pub stalls : {w : ℕ} {config : Config} {log : Log w} → IsGiven config log → (link : ℕ) (ch : Channel)
     → is_client config link ≡ true → IsExact config log link ch
-stalls config log given link ch client =
+stalls {config} {log} given link ch client =
     let known = client_terms config link client in
     let is = matched-given config log given in
-    exact config log (shadow config log).mail (shadow config log).request (shadow config log).state is
+    exact is
     (coherent config log given) link known.0 known.1 ch
     (λ x rest e. first-of config log (shadow config log) link known.0 ch x rest given.width is known.1 e)
 
-pub carries : {w : ℕ} (config : Config) (log : Log w) → IsGiven config log → (link : ℕ) (ch : Channel)
+pub carries : {w : ℕ} {config : Config} {log : Log w} → IsGiven config log → (link : ℕ) (ch : Channel)
     → IsFifo (system_after config log) log link ch
-carries config log given link ch =
+carries {config} {log} given link ch =
     carried-passing config log link ch (passing config log given.width given.typed given.is_log)
 
 pub grants : {w : ℕ} (config : Config) (log : Log w) (link : Link) (ch : Channel) (x : Beat w) (source : ℕ) (p : Perm)
@@ -67,10 +67,10 @@ grants config log link ch x source p op given asked = granted-holds link ch (sha
     given.width (matched config log given.width given.typed.1 given.is_log.1) (sym given.is_log.0) asked
 
 -- No client holds more of a block than is recorded for it.
-pub at_most_recorded : {w : ℕ} (config : Config) (log : Log w) → IsGiven config log → (link block : ℕ)
+pub at_most_recorded : {w : ℕ} {config : Config} {log : Log w} → IsGiven config log → (link block : ℕ)
     → perm_le (held_at ((system_after config log).clients link) block)
     (recorded link block (system_after config log).manager.trace) ≡ true
-at_most_recorded config log given link block =
+at_most_recorded {config} {log} given link block =
     let is = matched-given config log given in
     let b = (shadow config log).state.block block in
     ap₂ perm_le ((is.known link).held_is block) (is.managed.recorded_is link block)

@@ -72,9 +72,8 @@ acquired_block w (AcquireOpen true g) n bytes = refl
 acquired_block w x n bytes = refl
 
 pub opened-acquire : {w : ℕ} (config : Config) (log : Log w) (h : AbstractState w) (sys : System w) (c source n : ℕ)
-    (u : SourceState)
-    → SimulationRelation config log h.mail h.request h.state sys → h.state.uses c source ≡ u → u ≡ Acquires n
-    → (one_memory_after config log).opened c Requests source ≡ Some
+    (u : SourceState) → SimulationRelation config log h.mail h.request h.state sys → h.state.uses c source ≡ u
+    → u ≡ Acquires n → (one_memory_after config log).opened c Requests source ≡ Some
     (record { asked = op_of ((h.state.block n).pair c).acquiring n ((h.state.block n).waiting c); answer = None })
 opened-acquire {w} config log h sys c source n u is e f =
     let go : (v : SourceState) → v ≡ Acquires n

@@ -78,8 +78,8 @@ stalled-as-it-waits terms ch x e taken = rw (up-unbroken terms ch x e taken) ref
 is_some_of : (n : ℕ) (o : Option ℕ) → o ≡ Some n → is_of n o ≡ true
 is_some_of n o e = rw e (same_number n)
 
-module _ {w : ℕ} (config : Config) (log : Log w) (mail : AccessMessages w) (request : ℕ → MessageA w)
-    (s : State (List ℕ)) (matched : SimulationRelation config log mail request s (system_after config log))
+module _ {w : ℕ} {config : Config} {log : Log w} {mail : AccessMessages w} {request : ℕ → MessageA w}
+    {s : State (List ℕ)} (matched : SimulationRelation config log mail request s (system_after config log))
     (coherent : IsCoherent (system_after config log) log (one_memory_after config log)) (c n : ℕ) where
   pub releasing-started : pending (ReleaseOf n) ((system_after config log).clients c).past ≡ true → IsReleasing c n log
   releasing-started p =
@@ -95,8 +95,7 @@ module _ {w : ℕ} (config : Config) (log : Log w) (mail : AccessMessages w) (re
           → (prune : Prune) × (started c Releases source log ≡ Some (Release n prune))
       of_let (p, is) = (
         p,
-        sym (coherent.opened c Releases source)
-            ∙ ap (λ (o : Option (Open w)). option_map (λ x. x.asked) o) is,
+        sym (coherent.opened c Releases source) ∙ ap (λ (o : Option (Open w)). option_map (λ x. x.asked) o) is,
       )
 
   pub started-releasing : IsReleasing c n log → pending (ReleaseOf n) ((system_after config log).clients c).past ≡ true
@@ -210,8 +209,8 @@ pub record IsFirst {w : ℕ} (config : Config) (terms : EndConfig) (c : ℕ) (ch
   pub taken : IsTaken config terms c ch x sys
   pub probes : (y : BeatB w) → x ≡ Beat.B y → is_probe y.opcode ≡ true
 
-module _ {w : ℕ} (config : Config) (log : Log w) (mail : AccessMessages w) (request : ℕ → MessageA w)
-    (s : State (List ℕ)) (matched : SimulationRelation config log mail request s (system_after config log))
+module _ {w : ℕ} {config : Config} {log : Log w} {mail : AccessMessages w} {request : ℕ → MessageA w}
+    {s : State (List ℕ)} (matched : SimulationRelation config log mail request s (system_after config log))
     (coherent : IsCoherent (system_after config log) log (one_memory_after config log)) (c : ℕ) (terms : EndConfig)
     (is : terms_at config c ≡ Some terms) where
   movable-is : (ch : Channel) (x : Beat w) (rest : List (Beat w)) → (system_after config log).channels c ch ≡ x ∷ rest
@@ -243,11 +242,10 @@ module _ {w : ℕ} (config : Config) (log : Log w) (mail : AccessMessages w) (re
       ∙ ap not (stalled-as-it-waits terms Channel.B (Beat.B y) ((system_after config log).clients c)
       (first.taken.0 refl) ∙ rw (first.probes y refl) refl) in
       let there : is_movable config c Channel.B (system_after config log) ≡ false
-      → IsReleasing c (block_at y.address) log = λ h. releasing-started config log mail request s matched coherent c
+      → IsReleasing c (block_at y.address) log = λ h. releasing-started matched coherent c
       (block_at y.address) (not-false _ (sym waits ∙ h)) in
       let back : IsReleasing c (block_at y.address) log → is_movable config c Channel.B (system_after config log)
-      ≡ false = λ h. waits ∙ ap not (started-releasing config log mail request s matched coherent c
-      (block_at y.address) h) in
+      ≡ false = λ h. waits ∙ ap not (started-releasing matched coherent c (block_at y.address) h) in
       (there, back)
   moves-exactly ch x rest e first = absurd (let on = first.on in cc)
 

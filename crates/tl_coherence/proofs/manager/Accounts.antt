@@ -284,10 +284,8 @@ pub are_served-traced : {w : ℕ} {X : Type 0} {caching : ℕ → Bool} {config 
 are_served-traced {w} {X} {caching} {config} {request} {s} {e} inv kept is = record {
   sources = λ c source. cc (
     source-pending c source e.trace kept.steady.accounted,
-    sources-traced
-        inv kept is c source,
-    or_comm (comes_in_request source (unfinished Channel.A (on_link c e.trace)))
-        (is_served c (s.uses c source) s),
+    sources-traced inv kept is c source,
+    or_comm (comes_in_request source (unfinished Channel.A (on_link c e.trace))) (is_served c (s.uses c source) s),
   );
   sinks = λ c sink. sink-pending c sink e.trace kept.sinks ∙ sinks-traced inv kept is c sink;
   requests = is.requests;

@@ -4,9 +4,8 @@ use Rattle.tl_coherence.proofs.manager.Imports.{A, MessageA, a_beat_of, beats_of
 use Rattle.tl_coherence.proofs.manager.Imports.{effect, ends, block_at, Reaction, with_handed, probes, performed}
 use Rattle.tl_coherence.proofs.manager.Imports.{is_nobody, probed, cap_probed, IsKept, illegal_message_at, services}
 use Rattle.tl_coherence.proofs.manager.Imports.{least_untaken, trackers_of, reaction, End, level_of, taken}
-use Rattle.tl_coherence.proofs.manager.Imports.{performed-access, performed-acquire, performs, IsInvariant, Waits}
-use Rattle.tl_coherence.proofs.manager.Imports.{Block, State, granted_at_once, AccessMessages, set, IsServedWith, Beat}
-use Rattle.tl_coherence.proofs.manager.Imports.{Channel}
+use Rattle.tl_coherence.proofs.manager.Imports.{performed-access, performed-acquire, performs, Waits, Block, State}
+use Rattle.tl_coherence.proofs.manager.Imports.{granted_at_once, AccessMessages, set, IsServedWith, Beat, Channel}
 use Rattle.std.proofs.Common.{◌≡◌, subst, ℕ, suc, ◌+◌, ◌*◌, ◌<◌, Bool, false, List, Some, None, refl, sym, ◌∙◌, ap, ap₂}
 use Rattle.std.proofs.Common.{inl, inr}
 use Rattle.std.proofs.lemmas.Bool.{cases_eq, ne_eqb}
@@ -15,13 +14,12 @@ use Rattle.tl_manager.{specs.statement.Handing.nothing, specs.statement.Offer.Re
 use Rattle.tl_manager.{proofs.calls.Events.reaction-part, proofs.calls.Events.reaction-probes}
 use Rattle.tl_manager.{proofs.calls.Keeping.kept-offered, proofs.blocks.Memories.memory-elsewhere}
 use Rattle.tl_coherence.specs.protocol.Protocol.{served_block, performed_block}
-use Rattle.tl_coherence.proofs.{manager.Accounts.traced-known, manager.Admitted.offered-taken}
-use Rattle.tl_coherence.proofs.{manager.Choices.some-clients, manager.Memories.block-same}
-use Rattle.tl_coherence.proofs.{manager.Memories.performed-block, manager.Probing.IsProbing}
-use Rattle.tl_coherence.proofs.{manager.Probing.traced-probing, manager.Requests.IsUnwaited}
+use Rattle.tl_coherence.proofs.{manager.Admitted.offered-taken, manager.Choices.some-clients}
+use Rattle.tl_coherence.proofs.{manager.Memories.block-same, manager.Memories.performed-block}
+use Rattle.tl_coherence.proofs.{manager.Probing.IsProbing, manager.Probing.traced-probing, manager.Requests.IsUnwaited}
 use Rattle.tl_coherence.proofs.{manager.Requests.traced-more}
 use Rattle.tl_coherence.proofs.manager.Arrivals.{link_of, with_beat, IsComing, ends-coming, service_for, served-last}
-use Rattle.tl_coherence.proofs.manager.ManagersEnd.{IsAtManager, at_manager-traced}
+use Rattle.tl_coherence.proofs.manager.ManagersEnd.{IsAtManager}
 use Rattle.tl_coherence.proofs.manager.Performing.{IsAnswering, traced-answered, IsGranting, traced-granted}
 use Rattle.tl_coherence.proofs.queues.Tokens.{set-same, set-other, set-part}
 
@@ -52,27 +50,30 @@ memory-coming {w} {config} {c} {k} i {m} {e} is other =
 
 -- ---- a beat that isn't the last
 
-pub at_manager-more : {w : ℕ} {caching : ℕ → Bool} {config : Config} {mail : AccessMessages w} {request : ℕ
-    → MessageA w} {s : State (List ℕ)} {c k : ℕ} {m : MessageA w} {e : End w} → IsInvariant caching s
+pub at_manager-more : {w : ℕ} {config : Config} {mail : AccessMessages w} {request : ℕ
+    → MessageA w} {s : State (List ℕ)} {c k : ℕ} {m : MessageA w} {e : End w}
     → IsComing config c k m e → k + 1 < beats_of (A m) → IsUnwaited c m.source s → IsAtManager config mail request s e
     → IsAtManager config mail request s (end_after config c k m e)
 unfolding with_handed
-at_manager-more {w} {caching} {config} {mail} {request} {s} {c} {k} {m} {e} inv is more unwaited known =
+at_manager-more {w} {config} {mail} {request} {s} {c} {k} {m} {e} is more unwaited known =
     let part : ends (Beat.A (a_beat_of m k)) (on_link c e.trace) ≡ false =
     ends-coming is ∙ not_last k (beats_of (A m)) more in
     let done = reaction-part config (link_of c) (Beat.A (a_beat_of m k)) e part in
     let kept : IsKept config (end_with c k m (nothing e.memory) e) =
     subst (λ (d : Reaction w). IsKept config (end_with c k m d e)) done (kept-coming is) in
     subst (λ (d : Reaction w). IsAtManager config mail request s (end_with c k m d e)) (sym done)
-    (at_manager-traced mail inv kept
-    (traced-more is more unwaited (traced-known known.managed known.served))
-    known.served_with known.memory known.all_live)
+    (record {
+      traced = traced-more is more unwaited known.traced;
+      served_with = known.served_with;
+      manager_kept = kept;
+      memory = known.memory;
+      all_live = known.all_live;
+    })
 
 -- ---- the last one: others are probed
 
 pub reaction-probing : {w : ℕ} (config : Config) (c k n : ℕ) (j : Cap) (m : MessageA w) (e : End w)
-    → IsComing config c k m e → beats_of (A m) ≡ suc k
-    → block_at m.address ≡ n → cap_probed m.opcode m.param ≡ Some j
+    → IsComing config c k m e → beats_of (A m) ≡ suc k → block_at m.address ≡ n → cap_probed m.opcode m.param ≡ Some j
     → is_nobody (probed config (service_for c m e.trace) j (with_beat c m k e.trace)) ≡ false
     → reaction config (link_of c) (Beat.A (a_beat_of m k)) e ≡ record {
       handed = probes n j (probed config (service_for c m e.trace) j (with_beat c m k e.trace));
@@ -85,15 +86,14 @@ reaction-probing {w} config c k n j m e is last block caps someone =
     (served-last is last) caps one.2
     ∙ ap₂ (λ i ds. probing_of i ds) block (sym one.2)
 
-pub at_manager-probing : {w : ℕ} {caching : ℕ → Bool} {config : Config} {mail : AccessMessages w} {request : ℕ
+pub at_manager-probing : {w : ℕ} {config : Config} {mail : AccessMessages w} {request : ℕ
     → MessageA w} {c k n : ℕ} {own : Bool} {source : ℕ} {j : Cap} {m : MessageA w} {s u : State (List ℕ)} {e : End w}
-    → IsInvariant caching u → ((i : ℕ)
-    → u.block i ≡ set n (served_block c own source (least_untaken (trackers_of (services e.trace))) j (s.block n))
-    s.block i) → IsProbing config c k n own source j m s e
+    → ((i : ℕ) → u.block i ≡ set n (served_block c own source (least_untaken (trackers_of (services e.trace))) j
+    (s.block n)) s.block i) → IsProbing config c k n own source j m s e
     → is_nobody (probed config (service_for c m e.trace) j (with_beat c m k e.trace)) ≡ false
     → IsServedWith mail (Waits c own source j) m → IsAtManager config mail request s e
     → IsAtManager config mail (set n m request) u (end_after config c k m e)
-at_manager-probing {w} {caching} {config} {mail} {request} {c} {k} {n} {own} {source} {j} {m} {s} {u} {e} inv blocks is
+at_manager-probing {w} {config} {mail} {request} {c} {k} {n} {own} {source} {j} {m} {s} {u} {e} blocks is
     someone with known =
     let probing : Reaction w = record {
       handed = probes n j (probed config (service_for c m e.trace) j (with_beat c m k e.trace));
@@ -108,22 +108,25 @@ at_manager-probing {w} {caching} {config} {mail} {request} {c} {k} {n} {own} {so
     let kept : IsKept config (end_with c k m probing e) = subst (λ (d : Reaction w). IsKept config (end_with c k m d e))
     done (kept-coming is.comes) in
     subst (λ (d : Reaction w). IsAtManager config mail (set n m request) u (end_with c k m d e)) (sym done)
-    (at_manager-traced mail inv kept
-    (traced-probing u blocks is
-    (traced-known known.managed known.served))
-    served_now (λ i. known.memory i ∙ sym (ap (λ (b : Block (List ℕ)). b.memory) (blocks i) ∙ set-part
-    (λ (b : Block (List ℕ)). b.memory) n new s.block refl i)) known.all_live)
+    (record {
+      traced = traced-probing u blocks is known.traced;
+      served_with = λ i. served_now i;
+      manager_kept = kept;
+      memory = λ i. known.memory i ∙ sym (ap (λ (b : Block (List ℕ)). b.memory) (blocks i) ∙ set-part
+          (λ (b : Block (List ℕ)). b.memory) n new s.block refl i);
+      all_live = known.all_live;
+    })
 
 -- ---- the last one: the access is answered
 
-pub at_manager-answered : {w : ℕ} {caching : ℕ → Bool} {config : Config} {mail : AccessMessages w} {request : ℕ
+pub at_manager-answered : {w : ℕ} {config : Config} {mail : AccessMessages w} {request : ℕ
     → MessageA w} {c k n : ℕ} {m : MessageA w} {s u : State (List ℕ)} {e : End w}
-    → IsInvariant caching u → ((i : ℕ) → u.block i ≡ set n (performed_block (performs m) (s.block n)) s.block i)
+    → ((i : ℕ) → u.block i ≡ set n (performed_block (performs m) (s.block n)) s.block i)
     → IsAnswering config c k n m s e → illegal_message_at (level_of config c) (A m) ≡ None
     → reaction config (link_of c) (Beat.A (a_beat_of m k)) e ≡ performed config (service_for c m e.trace)
     (with_beat c m k e.trace) e.memory
     → IsAtManager config mail request s e → IsAtManager config mail request u (end_after config c k m e)
-at_manager-answered {w} {caching} {config} {mail} {request} {c} {k} {n} {m} {s} {u} {e} inv blocks is lawful done
+at_manager-answered {w} {config} {mail} {request} {c} {k} {n} {m} {s} {u} {e} blocks is lawful done
     known =
     let answering : Reaction w = performed config (service_for c m e.trace) (with_beat c m k e.trace) e.memory in
     let new : Block (List ℕ) = performed_block (performs m) (s.block n) in
@@ -143,20 +146,24 @@ at_manager-answered {w} {caching} {config} {mail} {request} {c} {k} {n} {m} {s} 
     let kept : IsKept config (end_with c k m answering e) =
     subst (λ (d : Reaction w). IsKept config (end_with c k m d e)) done (kept-coming is.comes) in
     subst (λ (d : Reaction w). IsAtManager config mail request u (end_with c k m d e)) (sym done)
-    (at_manager-traced mail inv kept
-    (traced-answered (performs m) u e.memory blocks is
-    (traced-known known.managed known.served)) served_now memory_now known.all_live)
+    (record {
+      traced = traced-answered (performs m) u e.memory blocks is known.traced;
+      served_with = λ i. served_now i;
+      manager_kept = kept;
+      memory = λ i. memory_now i;
+      all_live = known.all_live;
+    })
 
 -- ---- the last one: the Acquire is granted
 
-pub at_manager-granted : {w : ℕ} {caching : ℕ → Bool} {config : Config} {mail : AccessMessages w} {request : ℕ
+pub at_manager-granted : {w : ℕ} {config : Config} {mail : AccessMessages w} {request : ℕ
     → MessageA w} {c k n : ℕ} (b : Bool) {j : Cap} {m : MessageA w} {s u : State (List ℕ)} {e : End w}
-    → IsInvariant caching u → ((i : ℕ)
+    → ((i : ℕ)
     → u.block i ≡ set n (granted_at_once c (least_untaken (trackers_of (services e.trace))) b j (s.block n)) s.block i)
     → IsGranting config c k n j m s e → reaction config (link_of c) (Beat.A (a_beat_of m k)) e
     ≡ performed config (service_for c m e.trace) (with_beat c m k e.trace) e.memory
     → IsAtManager config mail request s e → IsAtManager config mail (set n m request) u (end_after config c k m e)
-at_manager-granted {w} {caching} {config} {mail} {request} {c} {k} {n} b {j} {m} {s} {u} {e} inv blocks is done known =
+at_manager-granted {w} {config} {mail} {request} {c} {k} {n} b {j} {m} {s} {u} {e} blocks is done known =
     let granting : Reaction w = performed config (service_for c m e.trace) (with_beat c m k e.trace) e.memory in
     let new : Block (List ℕ) = granted_at_once c (least_untaken (trackers_of (services e.trace))) b j (s.block n) in
     let served_now : (i : ℕ) → IsServedWith mail (u.block i).service (set n m request i) = λ i. elim (cases_eq i n) [
@@ -173,6 +180,10 @@ at_manager-granted {w} {caching} {config} {mail} {request} {c} {k} {n} b {j} {m}
     let kept : IsKept config (end_with c k m granting e) =
     subst (λ (d : Reaction w). IsKept config (end_with c k m d e)) done (kept-coming is.comes) in
     subst (λ (d : Reaction w). IsAtManager config mail (set n m request) u (end_with c k m d e)) (sym done)
-    (at_manager-traced mail inv kept
-    (traced-granted b u e.memory blocks is
-    (traced-known known.managed known.served)) served_now memory_now known.all_live)
+    (record {
+      traced = traced-granted b u e.memory blocks is known.traced;
+      served_with = λ i. served_now i;
+      manager_kept = kept;
+      memory = λ i. memory_now i;
+      all_live = known.all_live;
+    })

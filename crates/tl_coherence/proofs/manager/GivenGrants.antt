@@ -1,65 +1,29 @@
 -- A Grant of a block to a client whose request asks for it: what is pending on the link after it.
 use Rattle.tl_coherence.proofs.manager.Imports.{IsWidth, D, MessageD, unfinished, beats-positive, Trace, on_link}
-use Rattle.tl_coherence.proofs.manager.Imports.{capped, held, is_grant, pending, request_of, held-sent_d, recorded}
-use Rattle.tl_coherence.proofs.manager.Imports.{after_sent, own_link, other_link, ClientBlock, Block, set, Channel}
-use Rattle.std.proofs.Common.{◌≡◌, ℕ, ◌==◌, Bool, true, false, ◌&&◌, [], Some, None, refl, sym, ◌∙◌, ap, inl, inr}
-use Rattle.std.proofs.Common.{subst}
+use Rattle.tl_coherence.proofs.manager.Imports.{capped, held, is_grant, request_of, held-sent_d, recorded, after_sent}
+use Rattle.tl_coherence.proofs.manager.Imports.{own_link, other_link, ClientBlock, Block, set, Channel}
+use Rattle.std.proofs.Common.{◌≡◌, ℕ, ◌==◌, Bool, true, false, ◌&&◌, [], Some, None, refl, sym, ap, inl, inr, subst}
 use Rattle.std.specs.Prelude.{if◌then◌else◌, unwrap_or}
 use Rattle.std.proofs.lemmas.Bool.{cases_eq, eqb-true, ne_eqb}
-use Rattle.tl_params.specs.declared.key.Key.{Key}
-use Rattle.tl_rules.{specs.statement.History.asks_for, proofs.Handed.after_whole}
-use Rattle.tl_manager.proofs.pending.Replies.{pending-reply}
+use Rattle.tl_rules.{specs.statement.History.asks_for}
 use Rattle.tl_coherence.proofs.queues.Tokens.{same_number, set-same, set-other}
 
 -- ---- a Grant of block n to client q, whose request asks for that block
 
-pub record IsGiven {w : ℕ} (q n tracker : ℕ) (m : MessageD w) (u : Trace w) : Type 0 where
+pub record IsGiven {w : ℕ} (q n : ℕ) (m : MessageD w) (u : Trace w) : Type 0 where
   pub width : IsWidth w
   pub whole : unfinished Channel.D (on_link q u) ≡ []
   pub grants : is_grant m.opcode ≡ true
-  pub sink : m.sink ≡ tracker
   pub asks : (i : ℕ) → asks_for i (request_of m.source (on_link q u)) ≡ (n == i)
 
-grants_it : {w : ℕ} {q n tracker : ℕ} {m : MessageD w} {u : Trace w} → IsGiven q n tracker m u → (d i : ℕ)
+grants_it : {w : ℕ} {q n : ℕ} {m : MessageD w} {u : Trace w} → IsGiven q n m u → (d i : ℕ)
     → (q == d) ≡ true → (is_grant m.opcode && asks_for i (request_of m.source (on_link d u))) ≡ (n == i)
 grants_it {q} is d i e = rw (← eqb-true q d e, is.grants) (is.asks i)
 
-pub given-acquires : {w : ℕ} {q n tracker : ℕ} {m : MessageD w} {u : Trace w} → IsGiven q n tracker m u → (d i : ℕ)
-    → pending (Key.AcquireOf i) (on_link d (after_sent (record { 0 = q }) (D m) u))
-    ≡ (if (q == d) && (n == i) then false else pending (Key.AcquireOf i) (on_link d u))
-given-acquires {w} {q} {n} {tracker} {m} {u} is d i =
-    let go : (b : Bool) → (q == d) ≡ b
-    → (if b then after_whole false (is_grant m.opcode && asks_for i (request_of m.source (on_link d u)))
-    (pending (Key.AcquireOf i) (on_link d u)) else pending (Key.AcquireOf i) (on_link d u))
-    ≡ (if b && (n == i) then false else pending (Key.AcquireOf i) (on_link d u)) =
-    elim [ true ↦ λ e. cc (grants_it is d i e) | false ↦ λ e. refl ] in
-    pending-reply (Key.AcquireOf i) (record { 0 = q }) m u d is.width is.whole ∙ go (q == d) refl
-
-pub given-acks : {w : ℕ} {q n tracker : ℕ} {m : MessageD w} {u : Trace w} → IsGiven q n tracker m u → (d i : ℕ)
-    → pending (Key.GrantAckOf i) (on_link d (after_sent (record { 0 = q }) (D m) u))
-    ≡ (if (q == d) && (n == i) then true else pending (Key.GrantAckOf i) (on_link d u))
-given-acks {w} {q} {n} {tracker} {m} {u} is d i =
-    let go : (b : Bool) → (q == d) ≡ b
-    → (if b then after_whole (is_grant m.opcode && asks_for i (request_of m.source (on_link d u))) false
-    (pending (Key.GrantAckOf i) (on_link d u)) else pending (Key.GrantAckOf i) (on_link d u))
-    ≡ (if b && (n == i) then true else pending (Key.GrantAckOf i) (on_link d u)) =
-    elim [ true ↦ λ e. cc (grants_it is d i e) | false ↦ λ e. refl ] in
-    pending-reply (Key.GrantAckOf i) (record { 0 = q }) m u d is.width is.whole ∙ go (q == d) refl
-
-pub given-sinks : {w : ℕ} {q n tracker : ℕ} {m : MessageD w} {u : Trace w} → IsGiven q n tracker m u → (d i : ℕ)
-    → pending (Key.GrantSink i) (on_link d (after_sent (record { 0 = q }) (D m) u))
-    ≡ (if (q == d) && (tracker == i) then true else pending (Key.GrantSink i) (on_link d u))
-given-sinks {w} {q} {tracker} {m} {u} is d i =
-    let go : (b : Bool) → (if b then after_whole (tracker == i) false (pending (Key.GrantSink i) (on_link d u)) else
-    pending (Key.GrantSink i) (on_link d u))
-    ≡ (if b && (tracker == i) then true else pending (Key.GrantSink i) (on_link d u)) =
-    elim [ true ↦ refl | false ↦ refl ] in
-    pending-reply (Key.GrantSink i) (record { 0 = q }) m u d is.width is.whole ∙ rw (is.grants, is.sink) (go (q == d))
-
-pub given-records : {w : ℕ} {q n tracker : ℕ} {m : MessageD w} {u : Trace w} → IsGiven q n tracker m u → (d i : ℕ)
+pub given-records : {w : ℕ} {q n : ℕ} {m : MessageD w} {u : Trace w} → IsGiven q n m u → (d i : ℕ)
     → recorded d i (after_sent (record { 0 = q }) (D m) u) ≡ (if (q == d) && (n == i) then capped m.param else recorded
     d i u)
-given-records {w} {q} {n} {tracker} {m} {u} is d i = go (q == d) refl
+given-records {w} {q} {n} {m} {u} is d i = go (q == d) refl
   where
     said : (b : Bool) → unwrap_or (if b then Some (capped m.param) else None) (recorded d i u)
         ≡ (if b then capped m.param else recorded d i u)
@@ -70,9 +34,8 @@ given-records {w} {q} {n} {tracker} {m} {u} is d i = go (q == d) refl
         ≡ (if b && (n == i) then capped m.param else recorded d i u)
     go true e = cc (
       own_link d (record { 0 = q }) (D m) u e,
-      held-sent_d i m (on_link d u)
-          (subst (λ (j : ℕ). unfinished Channel.D (on_link j u) ≡ []) (eqb-true q d e) is.whole)
-          (beats-positive (D m) is.width),
+      held-sent_d i m (on_link d u) (subst (λ (j : ℕ). unfinished Channel.D (on_link j u) ≡ []) (eqb-true q d e)
+          is.whole) (beats-positive (D m) is.width),
       grants_it is d i e,
       said (n == i),
     )
@@ -89,7 +52,8 @@ pair-over {X} {A} part q n p new mid block is d i =
     elim (cases_eq i n) [
       | inl same ↦ rw (same, set-same n new block, set-same n mid block, same_number n, is d) (elim (cases_eq d q) [
         | inl mine ↦ rw (mine, set-same q p mid.pair, same_number q) refl
-        | inr apart ↦ let differ : q ≡ d → ⊥ = λ e. apart (sym e) in rw (set-other q d p mid.pair apart, ne_eqb q d differ)
+        | inr apart ↦ let differ : q ≡ d → ⊥ = λ e. apart (sym e) in
+            rw (set-other q d p mid.pair apart, ne_eqb q d differ)
             refl
       ])
       | inr other ↦ let differ : n ≡ i → ⊥ = λ e. other (sym e) in

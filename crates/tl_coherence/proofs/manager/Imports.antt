@@ -61,10 +61,9 @@ unfoldable pub use Rattle.tl_coherence.specs.protocol.Phase.{ok}
 pub use Rattle.tl_coherence.specs.protocol.PhaseSteps.{after_grant_sent, after_report, is_above, is_granted_data}
 pub use Rattle.tl_coherence.specs.protocol.Protocol.{Acquires, Asked, Block, Free, GrantSent, GrantTaken, InService}
 pub use Rattle.tl_coherence.specs.protocol.Protocol.{Replied, Service, SourceFree, SourceState, State, Waits}
-pub use Rattle.tl_coherence.specs.protocol.Protocol.{granted_at_once, granted_block}
+pub use Rattle.tl_coherence.specs.protocol.Protocol.{granted_at_once, granted_block, is_on, let_block, on, packet}
+pub use Rattle.tl_coherence.specs.protocol.Protocol.{report_grants, reported_block, view}
 pub use Rattle.tl_coherence.specs.protocol.Tokens.{is_acknowledging, is_granting, is_wanting}
-pub use Rattle.tl_coherence.specs.protocol.Protocol.{is_on, let_block, on, packet, report_grants}
-pub use Rattle.tl_coherence.specs.protocol.Protocol.{reported_block, view}
 pub use Rattle.tl_coherence.specs.refinement.AbstractStep.{AbstractState, acquire_opcode, answers, gift, is_unheld}
 pub use Rattle.tl_coherence.specs.refinement.AbstractStep.{kind_taken, performs}
 unfoldable pub use Rattle.tl_coherence.specs.refinement.AbstractStep.{some_below}

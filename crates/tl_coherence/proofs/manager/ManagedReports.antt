@@ -1,39 +1,33 @@
 -- What the manager knows after a ProbeAck that isn't the last one missing, after a Release, and after a beat of channel
 -- C
 -- that isn't the last of its message.
+use Rattle.tl_coherence.proofs.{manager.BlockAccounts.IsTraced, queues.Tokens.set-part}
+use Rattle.tl_coherence.proofs.manager.QuiescentManager.{traced-still, AreQuiet, quiet-then, quiet-c, IsLastOf}
+use Rattle.tl_coherence.proofs.manager.QuiescentManager.{recorded-last, recorded-part, missing-last, missing-part}
+use Rattle.tl_coherence.proofs.manager.QuiescentManager.{missing-release, quiet-release_ack, recorded-answer, AreStill}
+use Rattle.tl_coherence.proofs.manager.QuiescentManager.{pair-part, pair-still}
 use Rattle.tl_coherence.proofs.manager.Imports.{IsWidth, BeatC, D, MessageA, MessageD, unfinished, Prune, Report}
 use Rattle.tl_coherence.proofs.manager.Imports.{prune_right, report_right, Trace, on_link, ends, is_grant, is_probe_ack}
-use Rattle.tl_coherence.proofs.manager.Imports.{is_release_ack, pending, recorded, after_sent, reply-quiet}
-use Rattle.tl_coherence.proofs.manager.Imports.{ManagerRelation, ClientBlock, is_unprobed, after_report, Block, State}
-use Rattle.tl_coherence.proofs.manager.Imports.{reported_block, let_block, ServedSourceRelation, Packet, set, Beat}
-use Rattle.tl_coherence.proofs.manager.Imports.{Channel}
+use Rattle.tl_coherence.proofs.manager.Imports.{is_release_ack, pending, recorded, after_sent, reply-quiet, ClientBlock}
+use Rattle.tl_coherence.proofs.manager.Imports.{is_unprobed, after_report, Block, State, reported_block, let_block}
+use Rattle.tl_coherence.proofs.manager.Imports.{Packet, set, Beat, Channel}
 use Rattle.std.proofs.Common.{◌≡◌, ℕ, ◌==◌, Bool, true, false, not, ◌&&◌, [], ◌∷◌, refl, sym, ◌∙◌, ap}
 use Rattle.std.specs.Prelude.{if◌then◌else◌, List}
 use Rattle.tl_params.specs.declared.key.Key.{Key}
 use Rattle.tl_coherence.specs.protocol.PhaseSteps.{after_release_taken}
 use Rattle.tl_coherence.specs.protocol.Protocol.{report_taken, release_taken}
-use Rattle.tl_coherence.proofs.manager.QuiescentManager.{AreQuiet, quiet-then, quiet-c, IsLastOf, recorded-last}
-use Rattle.tl_coherence.proofs.manager.QuiescentManager.{recorded-part, missing-last, missing-part, missing-release}
-use Rattle.tl_coherence.proofs.manager.QuiescentManager.{quiet-release_ack, recorded-answer, AreStill, managed-still}
-use Rattle.tl_coherence.proofs.manager.QuiescentManager.{are_served-still, pair-part, pair-still}
-use Rattle.tl_coherence.proofs.queues.Tokens.{set-part}
 
 -- ---- a beat that isn't the last one
 
 pub nothing-changes : {X : Type 0} (s : State X) → AreStill s s
-nothing-changes s = record { services = λ n. refl; trackers = λ n. refl; uses = λ c source. refl; tracked = λ i. refl }
+nothing-changes s = record { services = λ n. refl; trackers = λ n. refl }
 
-pub managed-report_part : {w : ℕ} {X : Type 0} {request : ℕ → MessageA w} (c : ℕ) (x : BeatC w) {s : State X}
-    {t : Trace w} → ends (Beat.C x) (on_link c t) ≡ false
-    → ManagerRelation request s t → ManagerRelation request s ((record { 0 = c }, Beat.C x) ∷ t)
-managed-report_part {request} c x {s} {t} part known =
-    managed-still (quiet-c (record { 0 = c }) x t) (nothing-changes s) (λ d i. recorded-part c x t part d i
+pub traced-report_part : {w : ℕ} {X : Type 0} {request : ℕ → MessageA w} (c : ℕ) (x : BeatC w) {s : State X}
+    {t : Trace w} → ends (Beat.C x) (on_link c t) ≡ false → IsTraced request s t
+    → IsTraced request s ((record { 0 = c }, Beat.C x) ∷ t)
+traced-report_part c x {s} {t} part known =
+    traced-still (quiet-c (record { 0 = c }) x t) (nothing-changes s) (λ d i. recorded-part c x t part d i
     ∙ known.recorded_is d i) (λ d i. missing-part c x t part d i ∙ known.probes d i) known
-
-pub are_served-report_part : {w : ℕ} {X : Type 0} {request : ℕ → MessageA w} (c : ℕ) (x : BeatC w) {s : State X}
-    {t : Trace w} → ServedSourceRelation request s t → ServedSourceRelation request s ((record { 0 = c }, Beat.C x) ∷ t)
-are_served-report_part {request} c x {s} {t} known =
-    are_served-still (quiet-c (record { 0 = c }) x t) (nothing-changes s) (λ d i e. e) known
 
 -- ---- a ProbeAck, where others are missing
 
@@ -42,8 +36,6 @@ pub still-reported : {X : Type 0} (c n : ℕ) (r : Report) (rest : List Packet) 
 still-reported {X} c n r rest s = record {
   services = λ i. set-part (λ (b : Block X). b.service) n (reported_block c r (s.block n)) s.block refl i;
   trackers = λ i. set-part (λ (b : Block X). b.tracker) n (reported_block c r (s.block n)) s.block refl i;
-  uses = λ d source. refl;
-  tracked = λ i. refl;
 }
 
 -- what is said of the one client and block, and of the others as before
@@ -52,9 +44,8 @@ same_or b p q q' e = ap (λ z. if b then p else z) e
 
 pub reported-records : {w : ℕ} {X : Type 0} {request : ℕ → MessageA w} {c n : ℕ} (r : Report) (new : Block X)
     {x : BeatC w} {s : State X} {t : Trace w} → IsLastOf c n (report_right r) x t
-    → ((d : ℕ) → new.pair d ≡ set c (after_report r ((s.block n).pair c)) (s.block n).pair d)
-    → ManagerRelation request s t → (d i : ℕ)
-    → recorded d i ((record { 0 = c }, Beat.C x) ∷ t) ≡ ((set n new s.block i).pair d).recorded
+    → ((d : ℕ) → new.pair d ≡ set c (after_report r ((s.block n).pair c)) (s.block n).pair d) → IsTraced request s t
+    → (d i : ℕ) → recorded d i ((record { 0 = c }, Beat.C x) ∷ t) ≡ ((set n new s.block i).pair d).recorded
 reported-records {c} {n} r new {x} {s} {t} is pairs known d i = recorded-last is d i
     ∙ same_or ((c == d) && (n == i)) (report_right r) _ _ (known.recorded_is d i)
     ∙ sym (pair-part (λ p. p.recorded) c n (after_report r ((s.block n).pair c)) new s.block pairs d i)
@@ -62,37 +53,19 @@ reported-records {c} {n} r new {x} {s} {t} is pairs known d i = recorded-last is
 pub reported-missing : {w : ℕ} {X : Type 0} {request : ℕ → MessageA w} {c n : ℕ} (r : Report) (new : Block X)
     {x : BeatC w} {s : State X} {t : Trace w} → IsLastOf c n (report_right r) x t → is_probe_ack x.opcode ≡ true
     → ((d : ℕ) → new.pair d ≡ set c (after_report r ((s.block n).pair c)) (s.block n).pair d)
-    → ManagerRelation request s t → (d i : ℕ) → pending (Key.ProbeOf i) (on_link d ((record { 0 = c }, Beat.C x) ∷ t))
+    → IsTraced request s t → (d i : ℕ) → pending (Key.ProbeOf i) (on_link d ((record { 0 = c }, Beat.C x) ∷ t))
     ≡ not (is_unprobed ((set n new s.block i).pair d).probing)
 reported-missing {c} {n} r new {x} {s} {t} is report pairs known d i =
     missing-last is report d i ∙ same_or ((c == d) && (n == i)) false _ _ (known.probes d i)
     ∙ sym (pair-part (λ p. not (is_unprobed p.probing)) c n (after_report r ((s.block n).pair c)) new s.block pairs d i)
 
--- who isn't quiet afterwards wasn't before
-pub reported-probing : {X : Type 0} (c n : ℕ) (r : Report) (new : Block X) (block : ℕ → Block X)
-    → ((d : ℕ) → new.pair d ≡ set c (after_report r ((block n).pair c)) (block n).pair d) → (d i : ℕ)
-    → is_unprobed ((set n new block i).pair d).probing ≡ false → is_unprobed ((block i).pair d).probing ≡ false
-reported-probing c n r new block pairs d i e =
-    let go : (b : Bool) → (if b then true else is_unprobed ((block i).pair d).probing) ≡ false
-    → is_unprobed ((block i).pair d).probing ≡ false = elim [ true ↦ λ f. absurd cc | false ↦ λ f. f ] in
-    go ((c == d) && (n == i))
-    (sym (pair-part (λ p. is_unprobed p.probing) c n (after_report r ((block n).pair c)) new block pairs d i) ∙ e)
-
-pub managed-reported : {w : ℕ} {X : Type 0} {request : ℕ → MessageA w} {c n : ℕ} (r : Report) (rest : List Packet)
+pub traced-reported : {w : ℕ} {X : Type 0} {request : ℕ → MessageA w} {c n : ℕ} (r : Report) (rest : List Packet)
     {x : BeatC w} {s : State X} {t : Trace w} → IsLastOf c n (report_right r) x t → is_probe_ack x.opcode ≡ true
-    → ManagerRelation request s t → ManagerRelation request (report_taken c n r rest s)
-    ((record { 0 = c }, Beat.C x) ∷ t)
-managed-reported {request} {c} {n} r rest {x} {s} {t} is report known =
-    managed-still (quiet-c (record { 0 = c }) x t) (still-reported c n r rest s)
+    → IsTraced request s t → IsTraced request (report_taken c n r rest s) ((record { 0 = c }, Beat.C x) ∷ t)
+traced-reported {c} {n} r rest {x} {s} {t} is report known =
+    traced-still (quiet-c (record { 0 = c }) x t) (still-reported c n r rest s)
     (λ d i. reported-records r (reported_block c r (s.block n)) is (λ j. refl) known d i)
     (λ d i. reported-missing r (reported_block c r (s.block n)) is report (λ j. refl) known d i) known
-
-pub are_served-reported : {w : ℕ} {X : Type 0} {request : ℕ → MessageA w} (c n : ℕ) (r : Report) (rest : List Packet)
-    (x : BeatC w) {s : State X} {t : Trace w} → ServedSourceRelation request s t
-    → ServedSourceRelation request (report_taken c n r rest s) ((record { 0 = c }, Beat.C x) ∷ t)
-are_served-reported {request} c n r rest x {s} {t} known =
-    are_served-still (quiet-c (record { 0 = c }) x t) (still-reported c n r rest s)
-    (λ d i e. reported-probing c n r (reported_block c r (s.block n)) s.block (λ j. refl) d i e) known
 
 -- ---- a Release
 
@@ -101,8 +74,6 @@ still-released : {X : Type 0} (c n : ℕ) (r : Prune) (rest : List Packet) (s : 
 still-released {X} c n r rest s = record {
   services = λ i. set-part (λ (b : Block X). b.service) n (let_block c r (s.block n)) s.block refl i;
   trackers = λ i. set-part (λ (b : Block X). b.tracker) n (let_block c r (s.block n)) s.block refl i;
-  uses = λ d source. refl;
-  tracked = λ i. refl;
 }
 
 probing-released : {X A : Type 0} (part : ClientBlock → A)
@@ -126,29 +97,19 @@ released-quiet {c} {x} {m} {t} is =
     quiet-then (quiet-c (record { 0 = c }) x t)
     (quiet-release_ack (record { 0 = c }) m ((record { 0 = c }, Beat.C x) ∷ t) is.width is.whole is.ack is.none)
 
-pub managed-released : {w : ℕ} {X : Type 0} {request : ℕ → MessageA w} {c n : ℕ} (r : Prune) (rest : List Packet)
+pub traced-released : {w : ℕ} {X : Type 0} {request : ℕ → MessageA w} {c n : ℕ} (r : Prune) (rest : List Packet)
     {x : BeatC w} {m : MessageD w} {s : State X} {t : Trace w} → IsLastOf c n (prune_right r) x t → IsReleased c x m t
-    → ManagerRelation request s t → ManagerRelation request (release_taken c n r rest s)
+    → IsTraced request s t → IsTraced request (release_taken c n r rest s)
     (after_sent (record { 0 = c }) (D m) ((record { 0 = c }, Beat.C x) ∷ t))
-managed-released {w} {request} {c} {n} r rest {x} {m} {s} {t} is answer known =
+traced-released {w} {c} {n} r rest {x} {m} {s} {t} is answer known =
     let u : Trace w = (record { 0 = c }, Beat.C x) ∷ t in
-    managed-still
+    traced-still
     (released-quiet answer) (still-released c n r rest s)
-    (λ d i. recorded-answer (record { 0 = c }) m u answer.width answer.whole answer.none d i ∙ recorded-last
-    is d i
-    ∙ same_or ((c == d) && (n == i)) (prune_right r) _ _ (known.recorded_is d i)
-    ∙ sym (pair-part (λ p. p.recorded) c n (after_release_taken r ((s.block n).pair c)) (let_block c r (s.block n))
+    (λ d i. recorded-answer (record { 0 = c }) m u answer.width answer.whole answer.none d i ∙ recorded-last is d
+    i ∙ same_or ((c == d) && (n == i)) (prune_right r) _ _ (known.recorded_is d i) ∙ sym
+    (pair-part (λ p. p.recorded) c n (after_release_taken r ((s.block n).pair c)) (let_block c r (s.block n))
     s.block (λ j. refl) d i))
     (λ d i. reply-quiet (Key.ProbeOf i) (record { 0 = c }) m u d answer.width answer.whole (λ e. (refl, refl))
     ∙ missing-release c x t answer.other d i ∙ known.probes d i
     ∙ sym (probing-released (λ p. not (is_unprobed p.probing)) (λ q p. refl) c n r rest s d i))
     known
-
-pub are_served-released : {w : ℕ} {X : Type 0} {request : ℕ → MessageA w} {c : ℕ} (n : ℕ) (r : Prune)
-    (rest : List Packet)
-    {x : BeatC w} {m : MessageD w} {s : State X} {t : Trace w} → IsReleased c x m t
-    → ServedSourceRelation request s t → ServedSourceRelation request (release_taken c n r rest s)
-    (after_sent (record { 0 = c }) (D m) ((record { 0 = c }, Beat.C x) ∷ t))
-are_served-released {w} {request} {c} n r rest {x} {m} {s} {t} answer known =
-    are_served-still (released-quiet answer) (still-released c n r rest s)
-    (λ d i e. sym (probing-released (λ p. is_unprobed p.probing) (λ q p. refl) c n r rest s d i) ∙ e) known

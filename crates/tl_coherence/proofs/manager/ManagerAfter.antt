@@ -1,15 +1,17 @@
 -- All that is kept of the manager's end, after a beat of channel C or E that it takes: a beat that isn't the last of
 -- its
 -- message, a ProbeAck that isn't the last one missing, a Release, and a GrantAck.
+use Rattle.tl_coherence.proofs.manager.BlockAccounts.{IsTraced}
+use Rattle.tl_coherence.proofs.manager.ManagedAcks.{traced-acked, IsAcked}
+use Rattle.tl_coherence.proofs.manager.ManagedReports.{traced-report_part, traced-reported, traced-released, IsReleased}
 use Rattle.tl_coherence.proofs.manager.Imports.{IsWidth, Beat, BeatC, BeatE, Channel, Message, MessageC, MessageD}
 use Rattle.tl_coherence.proofs.manager.Imports.{beats_of, begun, c_beat_of, unfinished, Config, Prune, Report, Perm}
 use Rattle.tl_coherence.proofs.manager.Imports.{prune_code, prune_left, prune_right, report_code, report_left}
 use Rattle.tl_coherence.proofs.manager.Imports.{report_right, on_link, same_perm, ends, block_at, is_grant}
 use Rattle.tl_coherence.proofs.manager.Imports.{is_probe_ack, is_release_ack, pending, reported, is_last, Reaction}
 use Rattle.tl_coherence.proofs.manager.Imports.{with_handed, IsKept, reaction, End, offered, taken, whole-taken}
-use Rattle.tl_coherence.proofs.manager.Imports.{AbstractState, some_below, ManagerRelation, ClientBlock, is_unprobed}
-use Rattle.tl_coherence.proofs.manager.Imports.{Block, State, reported_block, let_block, ServedSourceRelation, Packet}
-use Rattle.tl_coherence.proofs.manager.Imports.{IsServedWith}
+use Rattle.tl_coherence.proofs.manager.Imports.{AbstractState, some_below, ClientBlock, is_unprobed, Block, State}
+use Rattle.tl_coherence.proofs.manager.Imports.{reported_block, let_block, Packet, IsServedWith}
 use Rattle.std.proofs.Common.{◌≡◌, ℕ, suc, ◌+◌, Bool, true, false, not, ◌&&◌, ◌||◌, List, [], ◌∷◌, length, refl, sym}
 use Rattle.std.proofs.Common.{◌∙◌, ap, subst, inl, inr, arith}
 use Rattle.std.{specs.Prelude.◌==◌, specs.Prelude.if◌then◌else◌, proofs.lemmas.Bool.cases_eq, proofs.lemmas.Bool.ne_eqb}
@@ -22,10 +24,6 @@ use Rattle.tl_manager.proofs.calls.Events.{reaction-part, reaction-release, reac
 use Rattle.tl_manager.proofs.calls.Keeping.{kept-offered}
 use Rattle.tl_coherence.specs.refinement.AbstractStep.{with_state}
 use Rattle.tl_coherence.specs.protocol.Protocol.{report_taken, release_taken, grant_ack_taken, freed_block}
-use Rattle.tl_coherence.proofs.manager.ManagedAcks.{IsAcked, managed-acked, are_served-acked}
-use Rattle.tl_coherence.proofs.manager.ManagedReports.{managed-report_part, are_served-report_part, managed-reported}
-use Rattle.tl_coherence.proofs.manager.ManagedReports.{are_served-reported, IsReleased, managed-released}
-use Rattle.tl_coherence.proofs.manager.ManagedReports.{are_served-released}
 use Rattle.tl_coherence.proofs.{manager.ManagersEnd.IsAtManager, manager.Choices.nobody-same}
 use Rattle.tl_coherence.proofs.{manager.ManagerTakes.IsTakenUp, manager.Reporting.IsAbout}
 use Rattle.tl_coherence.proofs.{manager.Reporting.reported-prune}
@@ -70,8 +68,7 @@ unfolding with_handed
 report_part-left {w} {config} {c} x h {e} width up part is =
     let done = reaction-part config (record { 0 = c }) (Beat.C x) e part in
     subst (λ (d : Reaction w). IsManagerOf config h (left c (Beat.C x) d e)) (sym done) (record {
-      managed = managed-report_part c x part is.managed;
-      served = are_served-report_part c x is.served;
+      traced = traced-report_part c x part is.traced;
       served_with = is.served_with;
       manager_kept = kept-left x (nothing e.memory) width up done is.manager_kept;
       memory = is.memory;
@@ -135,8 +132,7 @@ release_is : {w : ℕ} (source : ℕ) → (m : MessageD w) × (release_ack sourc
 release_is source = (_, refl, refl, refl)
 
 pub reaction-released : {w : ℕ} (config : Config) {c n k : ℕ} (r : Prune) {m : MessageC w} (h : AbstractState w)
-    {e : End w}
-    → IsEnd false c n (prune_code r) (same_perm (prune_left r) Perm.Trunk) (h.state.block n).truth k m e
+    {e : End w} → IsEnd false c n (prune_code r) (same_perm (prune_left r) Perm.Trunk) (h.state.block n).truth k m e
     → reaction config (record { 0 = c }) (Beat.C (c_beat_of m k)) e ≡ record {
       handed = (record { 0 = c }, release_ack m.source) ∷ [];
       memory = memory_with (record { 0 = c }) (c_beat_of m k) e;
@@ -172,12 +168,9 @@ released-left {w} {config} {c} {n} {k} r rest {m} h {e} up end is =
       | inr other ↦ rw (set-other n i (let_block c r (h.state.block n)) h.state.block other) (is.served_with i)
     ] in
     subst (λ (d : Reaction w). IsManagerOf config (with_state after h) (left c (Beat.C x) d e)) (sym done) (record {
-      managed = subst (λ (i : Message w). ManagerRelation h.request after
+      traced = subst (λ (i : Message w). IsTraced h.request after
           (with_handed ((record { 0 = c }, i) ∷ []) ((record { 0 = c }, Beat.C x) ∷ e.trace))) (sym answer.1)
-          (managed-released r rest (last-of (prune_right r) end (reported-prune r)) released is.managed);
-      served = subst (λ (i : Message w). ServedSourceRelation h.request after
-          (with_handed ((record { 0 = c }, i) ∷ []) ((record { 0 = c }, Beat.C x) ∷ e.trace))) (sym answer.1)
-          (are_served-released n r rest released is.served);
+          (traced-released r rest (last-of (prune_right r) end (reported-prune r)) released is.traced);
       served_with = λ i. still i;
       manager_kept = kept-left x does end.width up done is.manager_kept;
       memory = λ i. cc (blocks-now e.memory does.memory n (let_block c r (h.state.block n)) h.state (memory-end end
@@ -196,10 +189,10 @@ abbrev pub others_probed : ℕ → (ℕ → ClientBlock) → ℕ → Bool
 others_probed c pair d = not (d == c) && not (is_unprobed (pair d).probing)
 
 pub settled-is : {w : ℕ} (config : Config) {c n : ℕ} {right : Perm} {x : BeatC w} (h : AbstractState w) (e : End w)
-    → IsLastOf c n right x e.trace → is_probe_ack x.opcode ≡ true → ManagerRelation h.request h.state e.trace
+    → IsLastOf c n right x e.trace → is_probe_ack x.opcode ≡ true → IsTraced h.request h.state e.trace
     → is_settled config n ((record { 0 = c }, Beat.C x) ∷ e.trace)
     ≡ not (some_below (length config.clients.items) (others_probed c (h.state.block n).pair))
-settled-is {w} config {c} {n} {right} {x} h e last report managed =
+settled-is {w} config {c} {n} {right} {x} h e last report traced =
     nobody-same config (λ d. is_missing d n ((record { 0 = c }, Beat.C x) ∷ e.trace))
     (others_probed c (h.state.block n).pair) (λ d. missing-last last report d n ∙ now d)
   where
@@ -208,7 +201,7 @@ settled-is {w} config {c} {n} {right} {x} h e last report managed =
     now d = elim (cases_eq c d) [
       | inl same ↦ rw (same, same_number d, same_number n) refl
       | inr other ↦ let differ : d ≡ c → ⊥ = λ f. other (sym f) in
-          rw (ne_eqb c d other, ne_eqb d c differ) (managed.probes d n)
+          rw (ne_eqb c d other, ne_eqb d c differ) (traced.probes d n)
     ]
 
 -- ---- a ProbeAck that isn't the last one missing
@@ -216,16 +209,15 @@ settled-is {w} config {c} {n} {right} {x} h e last report managed =
 pub reaction-reported : {w : ℕ} (config : Config) {c n k : ℕ} (r : Report) {m : MessageC w} (h : AbstractState w)
     {e : End w} → IsEnd true c n (report_code r) (same_perm (report_left r) Perm.Trunk) (h.state.block n).truth k m e
     → some_below (length config.clients.items) (others_probed c (h.state.block n).pair) ≡ true
-    → ManagerRelation h.request h.state e.trace → reaction config (record { 0 = c }) (Beat.C (c_beat_of m k)) e
+    → IsTraced h.request h.state e.trace → reaction config (record { 0 = c }) (Beat.C (c_beat_of m k)) e
     ≡ nothing (memory_with (record { 0 = c }) (c_beat_of m k) e)
-reaction-reported {w} config {c} {n} {k} r {m} h {e} end others managed =
+reaction-reported {w} config {c} {n} {k} r {m} h {e} end others traced =
     let x : BeatC w = c_beat_of m k in
     let carries : Bool = same_perm (report_left r) Perm.Trunk in
     reaction-report config (record { 0 = c }) x e (ends-it end)
     end.about.releases end.about.reports
-    (ap (λ i. is_settled config i ((record { 0 = c }, Beat.C x) ∷ e.trace)) end.about.block
-    ∙ settled-is config h e (last-of (report_right r)
-    end (reported-report r)) end.about.reports managed ∙ rw others refl)
+    (ap (λ i. is_settled config i ((record { 0 = c }, Beat.C x) ∷ e.trace)) end.about.block ∙ settled-is config h e
+    (last-of (report_right r) end (reported-report r)) end.about.reports traced ∙ rw others refl)
   where
     truth : List ℕ
     truth = (h.state.block n).truth
@@ -243,14 +235,13 @@ reported-left {w} {config} {c} {n} {k} r rest {m} h {e} up end others is =
     let after : State (List ℕ) = report_taken c n r rest h.state in
     let does : Reaction w = nothing (memory_with (record { 0 = c }) x e) in
     let last = last-of (report_right r) end (reported-report r) in
-    let done = reaction-reported config r h end others is.managed in
+    let done = reaction-reported config r h end others is.traced in
     let still : (i : ℕ) → IsServedWith h.mail (after.block i).service (h.request i) = λ i. elim (cases_eq i n) [
       | inl same ↦ rw (same, set-same n (reported_block c r (h.state.block n)) h.state.block) (is.served_with n)
       | inr other ↦ rw (set-other n i (reported_block c r (h.state.block n)) h.state.block other) (is.served_with i)
     ] in
     subst (λ (d : Reaction w). IsManagerOf config (with_state after h) (left c (Beat.C x) d e)) (sym done) (record {
-      managed = managed-reported r rest last end.about.reports is.managed;
-      served = are_served-reported c n r rest x is.served;
+      traced = traced-reported r rest last end.about.reports is.traced;
       served_with = λ i. still i;
       manager_kept = kept-left x does end.width up done is.manager_kept;
       memory = λ i. cc (blocks-now e.memory does.memory n (reported_block c r (h.state.block n)) h.state (memory-end end
@@ -277,8 +268,7 @@ acked-left {w} {config} {c} {n} rest {x} h {e} width up acks is =
       | inr other ↦ rw (set-other n i (freed_block (h.state.block n)) h.state.block other) (is.served_with i)
     ] in
     subst (λ (d : Reaction w). IsManagerOf config (with_state after h) (left c (Beat.E x) d e)) (sym done) (record {
-      managed = managed-acked rest acks is.managed;
-      served = are_served-acked rest acks is.served;
+      traced = traced-acked rest acks is.traced;
       served_with = λ i. still i;
       manager_kept = subst (IsKept config) (left-is (nothing e.memory) up done)
           (kept-offered config (record { 0 = c }) Channel.E (Beat.E x) e width tt is.manager_kept);

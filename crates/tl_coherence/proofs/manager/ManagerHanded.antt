@@ -21,14 +21,14 @@ granted-memory {caching} c q r d k b some well =
     (set-same q (after_grant_sent k (b.pair q)) (set c (after_report r (b.pair c)) b.pair))) some
 
 -- the Grant that is handed out is the one of the token
-pub grant-rendered : {w : ℕ} (config : Config) (caching : ℕ → Bool) (c q n source : ℕ) (r : Report) (whole : Bool)
+pub grant-rendered : {w : ℕ} (config : Config) {caching : ℕ → Bool} (c q n source : ℕ) (r : Report) (whole : Bool)
     (g : Grow) (h : AbstractState w) → source ≡ (h.state.block n).source q
     → IsWell caching (granted_block c q r (is_granted_data whole g ((h.state.block n).pair q).recorded)
     (gift_after config c n r whole g h) (h.state.block n)) → grant_after config c q n source r whole g h
     ≡ block_message Grant q n (granted_block c q r (is_granted_data whole g ((h.state.block n).pair q).recorded)
     (gift_after config c n r whole g h) (h.state.block n))
 unfolding block_message
-grant-rendered config caching c q n source r whole g h own well =
+grant-rendered config c q n source r whole g h own well =
     rw (
       own,
       granted-memory c q r (is_granted_data whole g ((h.state.block n).pair q).recorded)

@@ -1,4 +1,7 @@
 -- All that is kept of the manager's end, after the last ProbeAck that a request waited for.
+use Rattle.tl_coherence.proofs.manager.BlockAccounts.{IsTraced}
+use Rattle.tl_coherence.proofs.manager.ManagedGrants.{traced-conceded, IsConceded}
+use Rattle.tl_coherence.proofs.manager.ManagedEndings.{traced-ended, IsEnding, service_for}
 use Rattle.tl_manager.specs.statement.Holders as holders
 use Rattle.tl_manager.specs.statement.Handing as handing
 use Rattle.tl_coherence.proofs.manager.Imports.{is_granted_data, after_report, Perm, Grow, BeatC, Message, MessageA}
@@ -6,13 +9,11 @@ use Rattle.tl_coherence.proofs.manager.Imports.{MessageC, MessageD, c_beat_of, C
 use Rattle.tl_coherence.proofs.manager.Imports.{effect, Memory, block_at, is_release_ack, is_grant, capped, Reaction}
 use Rattle.tl_coherence.proofs.manager.Imports.{access_answer, with_handed, cap_granted, recorded, reaction, End}
 use Rattle.tl_coherence.proofs.manager.Imports.{level_of, performed-access, performed-acquire, AbstractState, answers}
-use Rattle.tl_coherence.proofs.manager.Imports.{performs, acquire_opcode, gift, is_unheld, ManagerRelation, ClientBlock}
-use Rattle.tl_coherence.proofs.manager.Imports.{GrantSent, Block, State, Acquires, report_grants, granted_block}
-use Rattle.tl_coherence.proofs.manager.Imports.{reported_block, ServedSourceRelation, set, Packet, IsServedWith}
-use Rattle.tl_coherence.proofs.manager.Imports.{Beat}
+use Rattle.tl_coherence.proofs.manager.Imports.{performs, acquire_opcode, gift, is_unheld, ClientBlock, GrantSent}
+use Rattle.tl_coherence.proofs.manager.Imports.{Block, State, Acquires, report_grants, granted_block, reported_block}
+use Rattle.tl_coherence.proofs.manager.Imports.{set, Packet, IsServedWith, Beat}
 use Rattle.tl_coherence.proofs.{manager.ManagedReports.reported-records, manager.Choices.nobody-same}
 use Rattle.tl_coherence.proofs.{queues.Tokens.set-same, queues.Tokens.set-other, queues.Codes.data-same}
-use Rattle.tl_coherence.proofs.manager.ManagedGrants.{IsConceded, managed-conceded, are_served-conceded}
 use Rattle.tl_coherence.specs.refinement.PacketMessages.{grant_of}
 use Rattle.std.proofs.Common.{◌≡◌, ℕ, Bool, true, false, not, List, [], ◌∷◌, length, refl, sym, ◌∙◌, ap, ap₂, subst}
 use Rattle.std.proofs.Common.{inl, inr}
@@ -25,12 +26,11 @@ use Rattle.tl_manager.{proofs.blocks.Recording.cap-gives, proofs.pending.Perform
 use Rattle.tl_coherence.specs.refinement.AbstractStep.{with_answer, with_state}
 use Rattle.tl_coherence.specs.protocol.Protocol as protocol
 use Rattle.tl_coherence.specs.protocol.Protocol.{report_answers, ended_block}
-use Rattle.tl_coherence.proofs.manager.ManagedEndings.{IsEnding, managed-ended, are_served-ended, service_for}
 use Rattle.tl_coherence.proofs.manager.ManagerAfter.{IsManagerOf, left, kept-left, others-left}
 use Rattle.tl_coherence.proofs.manager.ManagerMemory.{block_in, blocks-now, block-performed, answer-performed}
 use Rattle.tl_coherence.proofs.manager.SettlingService.{IsSettling, trace_with, settling-last, settling-ready}
-use Rattle.tl_coherence.proofs.manager.SettlingService.{settling-reaction, settling-quiet, settling-lawful}
-use Rattle.tl_coherence.proofs.manager.SettlingService.{settling-for, settling-reply, settling-memory}
+use Rattle.tl_coherence.proofs.manager.SettlingService.{settling-reaction, settling-lawful, settling-for}
+use Rattle.tl_coherence.proofs.manager.SettlingService.{settling-reply, settling-memory}
 
 -- ---- an access
 
@@ -46,8 +46,7 @@ pub reaction-ended : {w : ℕ} {config : Config} {c q n source k : ℕ} {low : C
     ≡ record {
       handed = (
         record { 0 = q },
-        answers (h.request n)
-            (protocol.written r (h.state.block n).truth (h.state.block n).memory),
+        answers (h.request n) (protocol.written r (h.state.block n).truth (h.state.block n).memory),
       ) ∷ [];
       memory = (effect (Message.A (h.request n)) (memory_with (record { 0 = c }) (c_beat_of m k) e)).0;
     }
@@ -60,9 +59,8 @@ reaction-ended {w} {config} {c} {q} {n} {source} {k} {low} {r} {m} {h} {e} at =
       handed = (record { 0 = q }, i) ∷ [];
       memory = (effect (Message.A (h.request n)) memory).0;
     })
-    (answer-performed (level_of config q) (h.request n) memory n at.end.width
-    (settling-lawful at).lawful for.2
-    ∙ ap (answers (h.request n)) (settling-memory at))
+    (answer-performed (level_of config q) (h.request n) memory n at.end.width (settling-lawful at).lawful for.2 ∙ ap
+    (answers (h.request n)) (settling-memory at))
 
 pub ended-left : {w : ℕ} {config : Config} {c q n source k : ℕ} {low : Cap} {r : Report} (rest : List Packet)
     {m : MessageC w} {h : AbstractState w} {e : End w} → IsSettling config c q n source k false low r m h e
@@ -87,13 +85,10 @@ ended-left {w} {config} {c} {q} {n} {source} {k} {low} {r} rest {m} {h} {e} at =
       last = settling-last at;
       report = at.end.about.reports;
       waits = at.waits;
-      settled = settling-quiet at;
-      named = at.named;
       reply = settling-reply reply.0 at reply.4 reply.3;
       answers = reply.2;
       accounted = (settling-ready at).accounted;
       access = for.0;
-      source_is = for.1;
     } in
     let still : (i : ℕ) → IsServedWith h.mail (after.block i).service (h.request i) = λ i. elim (cases_eq i n) [
       | inl same ↦ rw (same, set-same n new h.state.block) tt
@@ -101,10 +96,9 @@ ended-left {w} {config} {c} {q} {n} {source} {k} {low} {r} rest {m} {h} {e} at =
     ] in
     subst (λ (d : Reaction w). IsManagerOf config (with_answer q source said (with_state after h))
     (left c (Beat.C x) d e)) (sym done) (record {
-      managed = subst (λ (i : Message w). ManagerRelation h.request after
+      traced = subst (λ (i : Message w). IsTraced h.request after
           (with_handed ((record { 0 = q }, i) ∷ []) (trace_with c k m e))) (sym reply.1)
-          (managed-ended (performs (h.request n)) rest ending at.is.managed);
-      served = rw reply.1 (are_served-ended (performs (h.request n)) rest ending at.is.served);
+          (traced-ended (performs (h.request n)) rest ending at.is.traced);
       served_with = λ i. still i;
       manager_kept = kept-left x does at.end.width at.up done at.is.manager_kept;
       memory = λ i. cc (blocks-now e.memory does.memory n new h.state (block-performed (level_of config q) (h.request n)
@@ -118,9 +112,8 @@ ended-left {w} {config} {c} {q} {n} {source} {k} {low} {r} rest {m} {h} {e} at =
 
 -- the Grant of an Acquire, by what is recorded
 pub grant-made : {w : ℕ} (config : Config) (q n tracker : ℕ) (v : MessageA w) (t : Trace w) (memory : Memory)
-    (whole : Bool) (g : Grow) (unheld : Bool)
-    (p : Perm) → v.opcode ≡ acquire_opcode whole → v.param ≡ grow_code g → block_at v.address ≡ n
-    → holders.is_unheld config n t ≡ unheld → recorded q n t ≡ p
+    (whole : Bool) (g : Grow) (unheld : Bool) (p : Perm) → v.opcode ≡ acquire_opcode whole → v.param ≡ grow_code g
+    → block_at v.address ≡ n → holders.is_unheld config n t ≡ unheld → recorded q n t ≡ p
     → grant config (record { tracker = tracker; link = record { 0 = q }; request = v }) t memory ≡ grant_of
     (GrantSent q (is_granted_data whole g p) (gift config.profile whole g unheld)) v.source tracker (block_in memory n)
 grant-made {w} config q n tracker v t memory whole g unheld p opcode param block none held_is =
@@ -147,7 +140,7 @@ settling-records : {w : ℕ} {config : Config} {c q n source k : ℕ} {own : Boo
     {h : AbstractState w} {e : End w} → IsSettling config c q n source k own low r m h e
     → (d : ℕ) → recorded d n (trace_with c k m e) ≡ (pairs_after c r (h.state.block n).pair d).recorded
 settling-records {w} {config} {c} {q} {n} {source} {k} {own} {low} {r} {m} {h} {e} at d =
-    reported-records r (reported_block c r (h.state.block n)) (settling-last at) (λ j. refl) at.is.managed d n
+    reported-records r (reported_block c r (h.state.block n)) (settling-last at) (λ j. refl) at.is.traced d n
     ∙ ap (λ (b : Block (List ℕ)). (b.pair d).recorded) (set-same n (reported_block c r (h.state.block n)) h.state.block)
 
 has_copy-is : (p : Perm) → has_copy p ≡ not (same_perm p Perm.None)
@@ -196,8 +189,7 @@ reaction-conceded {w} {config} {c} {q} {n} {source} {k} {low} {r} {whole} {g} {m
     ≡ grant_after config c q n source r whole g h = rw (for.1, settling-memory at) refl in
     cc (
       settling-reaction at,
-      performed-acquire config
-          (service_for q n h.request h.state) u memory for.0,
+      performed-acquire config (service_for q n h.request h.state) u memory for.0,
       grant-made config q n (h.state.block n).tracker (h.request n) u
           memory whole g unheld ((h.state.block n).pair q).recorded wanted.opcode_is wanted.param_is for.2 none
           (settling-records at q ∙ mine),
@@ -230,20 +222,16 @@ conceded-left {w} {config} {c} {q} {n} {source} {k} {low} {r} {whole} {g} rest {
       last = settling-last at;
       report = at.end.about.reports;
       waits = at.waits;
-      settled = settling-quiet at;
       apart = wanted.apart;
-      named = at.named;
-      used = wanted.used;
       grant = record {
         reply = settling-reply reply.0 at (reply.4 ∙ sym for.1) reply.3;
         grants = reply.2;
         sink = reply.5;
         acquires = for.0;
       };
-      accounted = (settling-ready at).accounted;
       source_is = for.1;
       block_is = for.2;
-      asked = at.is.served.asked n q source true low at.waits;
+      asked = at.is.traced.asked n q source true low at.waits;
       cap_is = ap capped reply.6 ∙ cap-gives given;
     } in
     let still : (i : ℕ) → IsServedWith h.mail (after.block i).service (h.request i) = λ i. elim (cases_eq i n) [
@@ -251,12 +239,9 @@ conceded-left {w} {config} {c} {q} {n} {source} {k} {low} {r} {whole} {g} rest {
       | inr other ↦ rw (set-other n i new h.state.block other) (at.is.served_with i)
     ] in
     subst (λ (d : Reaction w). IsManagerOf config (with_state after h) (left c (Beat.C x) d e)) (sym done) (record {
-      managed = subst (λ (i : Message w). ManagerRelation h.request after
+      traced = subst (λ (i : Message w). IsTraced h.request after
           (with_handed ((record { 0 = q }, i) ∷ []) (trace_with c k m e))) (sym reply.1)
-          (managed-conceded data_too rest conceded at.is.managed);
-      served = subst (λ (i : Message w). ServedSourceRelation h.request after
-          (with_handed ((record { 0 = q }, i) ∷ []) (trace_with c k m e))) (sym reply.1)
-          (are_served-conceded data_too rest conceded at.is.served);
+          (traced-conceded data_too rest conceded at.is.traced);
       served_with = λ i. still i;
       manager_kept = kept-left x does at.end.width at.up done at.is.manager_kept;
       memory = λ i. blocks-now e.memory does.memory n new h.state (settling-memory at)

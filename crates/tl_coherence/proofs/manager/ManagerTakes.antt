@@ -74,8 +74,7 @@ pub record IsTakenUp {w : ℕ} (config : Config) (c : ℕ) (ch : Channel) (x : B
   pub answer : offered config (record { 0 = c }) ch x e
       ≡ (
         manager_offer.Sent (reaction config (record { 0 = c }) x e).handed,
-        taken (record { 0 = c }) x
-            (reaction config (record { 0 = c }) x e) e,
+        taken (record { 0 = c }) x (reaction config (record { 0 = c }) x e) e,
       )
 
 pub takes : {w : ℕ} {config : Config} (c : ℕ) (ch : Channel) (x : Beat w) (e : End w)

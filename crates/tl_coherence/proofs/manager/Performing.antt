@@ -80,8 +80,7 @@ traced-answered {w} {X} {config} {request} {c} {k} {n} f {m} {s} u memory {e} bl
     let missing_same : (d i : ℕ) → pending (ProbeOf i) (on_link d after) ≡ pending (ProbeOf i) (on_link d e.trace) =
     λ d i. cc (
       after_is,
-      reply-quiet (ProbeOf i) (link_of c) reply.0 t d is.comes.width (whole c)
-          (λ g. (refl, refl)),
+      reply-quiet (ProbeOf i) (link_of c) reply.0 t d is.comes.width (whole c) (λ g. (refl, refl)),
       missing-beat c k m e.trace d i,
     ) in
     let asked_same : (r src : ℕ) → request_of src (on_link r after) ≡ request_of src (on_link r t) =
@@ -102,8 +101,7 @@ traced-answered {w} {X} {config} {request} {c} {k} {n} f {m} {s} u memory {e} bl
       serving_here = served n ∙ rw (is.access, is.block, same_number n)
           (sym (ap (λ (b : Block X). service_with (client_in b.service) b.tracker (request n)) here ∙ rw is.free refl));
       serving_else = λ i ne. let differ : n ≡ i → ⊥ = λ g. ne (sym g) in
-          served i ∙ rw (is.access, is.block, ne_eqb n i differ) (serving-others n i is.comes is.last
-          is.block ne);
+          served i ∙ rw (is.access, is.block, ne_eqb n i differ) (serving-others n i is.comes is.last is.block ne);
       request_here = rw (here, is.free) tt;
       asked_here = λ r src o l g. absurd (let no : Free ≡ Waits r o src l =
           sym is.free ∙ ap (λ (b : Block X). b.service) (sym here) ∙ g in cc);
@@ -136,8 +134,7 @@ grant_of_d : {w : ℕ} (config : Config) (n : ℕ) (j : Cap) (s : Service w) (t 
 grant_of_d config n j s t memory block given = (
   _,
   refl,
-  grants-so (is_granted_data s.request.opcode s.request.param
-      (recorded s.link.0 (block_at s.request.address) t)),
+  grants-so (is_granted_data s.request.opcode s.request.param (recorded s.link.0 (block_at s.request.address) t)),
   refl,
   rw (block, given) (cap-gives j),
 )
@@ -162,8 +159,7 @@ traced-granted {w} {X} {config} {request} {c} {k} {n} b {j} {m} {s} u memory {e}
     let missing_same : (d i : ℕ) → pending (ProbeOf i) (on_link d after) ≡ pending (ProbeOf i) (on_link d e.trace) =
     λ d i. cc (
       after_is,
-      reply-quiet (ProbeOf i) (link_of c) reply.0 t d is.comes.width (whole c)
-          (λ g. (refl, refl)),
+      reply-quiet (ProbeOf i) (link_of c) reply.0 t d is.comes.width (whole c) (λ g. (refl, refl)),
       missing-beat c k m e.trace d i,
     ) in
     let quiet_same : (d : ℕ) → is_unprobed (set c (after_grant_sent j ((s.block n).pair c)) (s.block n).pair d).probing

@@ -72,20 +72,17 @@ traced-probing {w} {X} {config} {request} {c} {k} {n} {own} {source} {j} {m} {s}
       recorded-beat c k m e.trace d n,
       known.recorded_is d n,
       is.for.0,
-      same_above j
-          ((s.block n).pair d).recorded,
+      same_above j ((s.block n).pair d).recorded,
       swapped c d,
     ) refl in
     let missing_now : (d : ℕ) → pending (ProbeOf n) (on_link d after)
     ≡ not (is_unprobed (served_pair c own j (s.block n).pair d).probing) =
     λ d. elim (cases_lt d (length config.clients.items)) [
-      | inl lt ↦
-          ap (pending (ProbeOf n)) (probes-within d n j 0 (length config.clients.items) test t (omega arith)
+      | inl lt ↦ ap (pending (ProbeOf n)) (probes-within d n j 0 (length config.clients.items) test t (omega arith)
           (omega (arith, lt))) ∙ probed_or d (test d) ∙ test_is d ∙ quiet_now d (own && (d == c))
-      | inr le ↦
-          ap (pending (ProbeOf n)) (probes-beyond d n j 0 (length config.clients.items) test t (omega (arith, le)))
-          ∙ missing_before d
-          ∙ sym (rw (is.beyond d le, nothing-above j) refl) ∙ quiet_now d (own && (d == c))
+      | inr le ↦ ap (pending (ProbeOf n)) (probes-beyond d n j 0 (length config.clients.items) test t
+          (omega (arith, le))) ∙ missing_before d ∙ sym (rw (is.beyond d le, nothing-above j) refl) ∙ quiet_now d
+          (own && (d == c))
     ] in
     traced-at (record {
       other_blocks = λ i ne. blocks i ∙ set-other n i new s.block ne;

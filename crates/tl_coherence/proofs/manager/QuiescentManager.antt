@@ -1,47 +1,33 @@
 -- Beats and answers after which the manager's end says the same of all but what is recorded and which
 -- ProbeAcks are missing.
+use Rattle.tl_coherence.proofs.manager.BlockAccounts.{IsTraced}
 use Rattle.tl_coherence.proofs.manager.Imports.{IsWidth, BeatC, Link, D, MessageA, MessageD, unfinished, Perm, Trace}
 use Rattle.tl_coherence.proofs.manager.Imports.{on_link, ends, block_at, is_grant, is_probe_ack, is_release}
-use Rattle.tl_coherence.proofs.manager.Imports.{is_release_ack, pending, probe_of, reported, request_of, held}
-use Rattle.tl_coherence.proofs.manager.Imports.{held-sent_d, pending-quiet, beats-positive, recorded, services}
-use Rattle.tl_coherence.proofs.manager.Imports.{service_of_block, after_sent, own_link, other_link, own_beat}
-use Rattle.tl_coherence.proofs.manager.Imports.{other_beat, beat-keeps, reply-quiet, burst-reply, request-reply}
-use Rattle.tl_coherence.proofs.manager.Imports.{probe-reply, ManagerRelation, is_own, ClientBlock, is_unprobed, Service}
-use Rattle.tl_coherence.proofs.manager.Imports.{Block, State, SourceState, Acquires, view, ServedSourceRelation}
-use Rattle.tl_coherence.proofs.manager.Imports.{is_served, is_granted, set, Beat, Channel}
-use Rattle.std.proofs.Common.{◌≡◌, ℕ, ◌==◌, Bool, true, false, not, ◌&&◌, ◌||◌, [], ◌∷◌, Option, Some, None, refl, sym}
-use Rattle.std.proofs.Common.{◌∙◌, ap, subst, inl, inr}
+use Rattle.tl_coherence.proofs.manager.Imports.{is_release_ack, pending, reported, request_of, held, held-sent_d}
+use Rattle.tl_coherence.proofs.manager.Imports.{beats-positive, recorded, services, service_of_block, after_sent}
+use Rattle.tl_coherence.proofs.manager.Imports.{own_link, other_link, own_beat, other_beat, beat-keeps, request-reply}
+use Rattle.tl_coherence.proofs.manager.Imports.{ClientBlock, is_unprobed, Block, State, set, Beat, Channel}
+use Rattle.std.proofs.Common.{◌≡◌, ℕ, ◌==◌, Bool, true, false, not, ◌&&◌, ◌||◌, [], ◌∷◌, Some, None, refl, sym, ◌∙◌, ap}
+use Rattle.std.proofs.Common.{subst, inl, inr}
 use Rattle.std.specs.Prelude.{if◌then◌else◌, unwrap_or}
 use Rattle.std.proofs.lemmas.Bool.{cases_eq, eqb-true, ne_eqb}
 use Rattle.tl_params.specs.declared.key.Key.{Key}
 use Rattle.tl_manager.{proofs.pending.Accesses.services-release_ack, proofs.pending.Handed.recorded-taken}
 use Rattle.tl_manager.{proofs.pending.LinkHistories.pending-closed}
-use Rattle.tl_manager.proofs.pending.Probing.{services-c, burst-c, probe_of-c, request_of-c}
+use Rattle.tl_manager.proofs.pending.Probing.{services-c, request_of-c}
 use Rattle.tl_coherence.proofs.queues.Tokens.{same_number, set-same, set-other}
 
 -- ---- the manager's end
 
 pub record AreQuiet {w : ℕ} (t u : Trace w) : Type 0 where
   pub serves : services u ≡ services t
-  pub acquires : (c n : ℕ) → pending (Key.AcquireOf n) (on_link c u) ≡ pending (Key.AcquireOf n) (on_link c t)
-  pub grants : (c n : ℕ) → pending (Key.GrantAckOf n) (on_link c u) ≡ pending (Key.GrantAckOf n) (on_link c t)
-  pub sources : (c q : ℕ) → pending (Key.RequestSource q) (on_link c u) ≡ pending (Key.RequestSource q) (on_link c t)
-  pub sinks : (c q : ℕ) → pending (Key.GrantSink q) (on_link c u) ≡ pending (Key.GrantSink q) (on_link c t)
-  pub bursts : (c : ℕ) → unfinished Channel.A (on_link c u) ≡ unfinished Channel.A (on_link c t)
   pub requests : (c q : ℕ) → request_of q (on_link c u) ≡ request_of q (on_link c t)
-  pub probe : (c n : ℕ) → probe_of n (on_link c u) ≡ probe_of n (on_link c t)
 
 -- one after another
 pub quiet-then : {w : ℕ} {t u v : Trace w} → AreQuiet t u → AreQuiet u v → AreQuiet t v
 quiet-then a b = record {
   serves = b.serves ∙ a.serves;
-  acquires = λ c n. b.acquires c n ∙ a.acquires c n;
-  grants = λ c n. b.grants c n ∙ a.grants c n;
-  sources = λ c q. b.sources c q ∙ a.sources c q;
-  sinks = λ c q. b.sinks c q ∙ a.sinks c q;
-  bursts = λ c. b.bursts c ∙ a.bursts c;
   requests = λ c q. b.requests c q ∙ a.requests c q;
-  probe = λ c n. b.probe c n ∙ a.probe c n;
 }
 
 -- ---- a beat of channel C
@@ -49,17 +35,7 @@ quiet-then a b = record {
 pub quiet-c : {w : ℕ} (link : Link) (x : BeatC w) (t : Trace w) → AreQuiet t ((link, Beat.C x) ∷ t)
 quiet-c link x t = record {
   serves = services-c link x t;
-  acquires = λ c n. beat-keeps (pending (Key.AcquireOf n)) c link (Beat.C x) t
-      (λ h. pending-quiet (Key.AcquireOf n) (Beat.C x) h refl refl);
-  grants = λ c n. beat-keeps (pending (Key.GrantAckOf n)) c link (Beat.C x) t
-      (λ h. pending-quiet (Key.GrantAckOf n) (Beat.C x) h refl refl);
-  sources = λ c q. beat-keeps (pending (Key.RequestSource q)) c link (Beat.C x) t
-      (λ h. pending-quiet (Key.RequestSource q) (Beat.C x) h refl refl);
-  sinks = λ c q. beat-keeps (pending (Key.GrantSink q)) c link (Beat.C x) t
-      (λ h. pending-quiet (Key.GrantSink q) (Beat.C x) h refl refl);
-  bursts = λ c. beat-keeps (unfinished Channel.A) c link (Beat.C x) t (burst-c x);
   requests = λ c q. beat-keeps (request_of q) c link (Beat.C x) t (request_of-c q x);
-  probe = λ c n. beat-keeps (probe_of n) c link (Beat.C x) t (probe_of-c n x);
 }
 
 -- what is recorded after it
@@ -148,13 +124,7 @@ pub quiet-release_ack : {w : ℕ} (link : Link) (m : MessageD w) (t : Trace w) �
     → AreQuiet t (after_sent link (D m) t)
 quiet-release_ack link m t width none ack other = record {
   serves = services-release_ack link m t width none ack;
-  acquires = λ c n. reply-quiet (Key.AcquireOf n) link m t c width none (λ e. (refl, rw other refl));
-  grants = λ c n. reply-quiet (Key.GrantAckOf n) link m t c width none (λ e. (rw other refl, refl));
-  sources = λ c q. reply-quiet (Key.RequestSource q) link m t c width none (λ e. (refl, rw ack refl));
-  sinks = λ c q. reply-quiet (Key.GrantSink q) link m t c width none (λ e. (rw other refl, refl));
-  bursts = λ c. burst-reply link m t c;
   requests = λ c q. request-reply link m t c q;
-  probe = λ c n. probe-reply link m t c n;
 }
 
 -- what is recorded after an answer that is no Grant
@@ -169,51 +139,23 @@ recorded-answer {w} link m t width none other d i = go (link.0 == d) refl
         (eqb-true link.0 d e) none) (beats-positive (D m) width) ∙ rw other refl
     go false e = ap (held i) (other_link d link (D m) t e)
 
--- ---- the protocol: no service, source or tracker changes
+-- ---- the protocol: no service or tracker changes
 
 pub record AreStill {X : Type 0} (s z : State X) : Type 0 where
   pub services : (n : ℕ) → (z.block n).service ≡ (s.block n).service
   pub trackers : (n : ℕ) → (z.block n).tracker ≡ (s.block n).tracker
-  pub uses : (c source : ℕ) → z.uses c source ≡ s.uses c source
-  pub tracked : (i : ℕ) → z.tracked i ≡ s.tracked i
 
-pub managed-still : {w : ℕ} {X : Type 0} {request : ℕ → MessageA w} {s z : State X} {t u : Trace w} → AreQuiet t u
+pub traced-still : {w : ℕ} {X : Type 0} {request : ℕ → MessageA w} {s z : State X} {t u : Trace w} → AreQuiet t u
     → AreStill s z → ((c n : ℕ) → recorded c n u ≡ ((z.block n).pair c).recorded)
     → ((c n : ℕ) → pending (Key.ProbeOf n) (on_link c u) ≡ not (is_unprobed ((z.block n).pair c).probing))
-    → ManagerRelation request s t → ManagerRelation request z u
-managed-still quiet still records missing known = record {
+    → IsTraced request s t → IsTraced request z u
+traced-still quiet still records missing known = record {
   recorded_is = records;
   probes = missing;
-  acquires = λ c n. cc (quiet.acquires c n, known.acquires c n, still.services n);
-  grant_acks = λ c n. cc (quiet.grants c n, known.grant_acks c n, still.services n);
   serving_is = λ n. ap (service_of_block n) quiet.serves ∙ known.serving_is n ∙ rw (still.services n, still.trackers n)
       refl;
-}
-
-served-still : {X : Type 0} {s z : State X} → AreStill s z → (c : ℕ) (u : SourceState)
-    → is_served c u z ≡ is_served c u s
-served-still still c (Acquires n) = ap (λ (v : Service). is_own (view v c)) (still.services n)
-served-still still c u = refl
-
-granted-still : {X : Type 0} {s z : State X} → AreStill s z → (c : ℕ) (o : Option ℕ)
-    → is_granted c o z ≡ is_granted c o s
-granted-still still c None = refl
-granted-still still c (Some n) = cc (still.services n)
-
-pub are_served-still : {w : ℕ} {X : Type 0} {request : ℕ → MessageA w} {s z : State X} {t u : Trace w} → AreQuiet t u
-    → AreStill s z
-    → ((c n : ℕ) → is_unprobed ((z.block n).pair c).probing ≡ false → is_unprobed ((s.block n).pair c).probing ≡ false)
-    → ServedSourceRelation request s t → ServedSourceRelation request z u
-are_served-still {w} {s} {z} quiet still probing known = record {
-  sources = λ c q. quiet.sources c q ∙ known.sources c q ∙ rw (
-    still.uses c q,
-    served-still still c (s.uses c q),
-    quiet.bursts c,
-  ) refl;
-  sinks = λ c q. quiet.sinks c q ∙ known.sinks c q ∙ rw (still.tracked q, granted-still still c (s.tracked q)) refl;
   requests = λ n. rw (still.services n) (known.requests n);
   asked = λ n r source own k e. quiet.requests r source ∙ known.asked n r source own k (sym (still.services n) ∙ e);
-  probes = λ c n e. quiet.probe c n ∙ known.probes c n (probing c n e) ∙ rw (still.services n) refl;
 }
 
 -- ---- one client of one block has another pair

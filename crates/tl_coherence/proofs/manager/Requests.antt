@@ -27,9 +27,8 @@ missing-beat c k m t d i = beat-keeps (pending (ProbeOf i)) d (link_of c) (Beat.
 pub request-beat : {w : ℕ} (c k : ℕ) (m : MessageA w) (t : Trace w) (d src : ℕ) → (d ≡ c → m.source ≡ src → ⊥)
     → request_of src (on_link d (with_beat c m k t)) ≡ request_of src (on_link d t)
 request-beat c k m t d src other = elim (cases_eq c d) [
-  | inl same ↦
-      ap (request_of src) (own_beat d (link_of c) (Beat.A (a_beat_of m k)) t (rw same (same_number d))) ∙ request-else
-      (a_beat_of m k) (on_link d t) src (other (sym same))
+  | inl same ↦ ap (request_of src) (own_beat d (link_of c) (Beat.A (a_beat_of m k)) t (rw same (same_number d)))
+      ∙ request-else (a_beat_of m k) (on_link d t) src (other (sym same))
   | inr ne ↦ ap (request_of src) (other_beat d (link_of c) (Beat.A (a_beat_of m k)) t (ne_eqb c d ne))
 ]
 
@@ -72,8 +71,7 @@ traced-more {w} {X} {config} {s} {c} {k} {m} {e} is more unwaited known = record
 pub services-last : {w : ℕ} {config : Config} {c k : ℕ} {m : MessageA w} {e : End w} → IsComing config c k m e
     → beats_of (A m) ≡ suc k → services (with_beat c m k e.trace) ≡ service_for c m e.trace ∷ services e.trace
 services-last {config} {c} {k} {m} {e} is last = services-request (link_of c) (a_beat_of m k) (service_for c m e.trace)
-    e.trace
-    (served-last is last)
+    e.trace (served-last is last)
 
 pub serving-last : {w : ℕ} {config : Config} {c k : ℕ} (n : ℕ) {m : MessageA w} {e : End w} → IsComing config c k m e
     → beats_of (A m) ≡ suc k
@@ -82,8 +80,7 @@ serving-last {config} {c} {k} n {m} {e} is last block = ap (service_of_block n) 
     (block, same_number n) refl
 
 pub serving-others : {w : ℕ} {config : Config} {c k : ℕ} (n i : ℕ) {m : MessageA w} {e : End w}
-    → IsComing config c k m e
-    → beats_of (A m) ≡ suc k → block_at m.address ≡ n → (i ≡ n → ⊥)
+    → IsComing config c k m e → beats_of (A m) ≡ suc k → block_at m.address ≡ n → (i ≡ n → ⊥)
     → service_of_block i (services (with_beat c m k e.trace)) ≡ service_of_block i (services e.trace)
 serving-others {config} {c} {k} n i {m} {e} is last block other =
     let differ : n ≡ i → ⊥ = λ f. other (sym f) in

@@ -38,9 +38,8 @@ handed-answered {w} {config} {log} {mail} {request} {s} {sys} {c} {k} is asked c
     let n : ℕ = block_at m.address in
     let e : End w = sys.manager in
     let bytes_are : bytes_from e.memory (64 * n) 64 ≡ (s.block n).memory = is.memory n in
-    ap (λ (d : Reaction w). d.handed) (reaction-performed config log mail request s sys c k n false m is comes last
-    asked.access refl none
-    ∙ performed-access config (service_for c m e.trace) (with_beat c m k e.trace) e.memory asked.access)
+    ap (λ (d : Reaction w). d.handed) (reaction-performed c k n false m is comes last asked.access refl
+    none ∙ performed-access config (service_for c m e.trace) (with_beat c m k e.trace) e.memory asked.access)
     ∙ ap (λ (i : Message w). (link_of c, i) ∷ [])
     (ap (λ (r : memory.AccessResult). access_answer m (answer_of (Message.A m) r))
     (performed-reply (level_of config c) m e.memory comes.width asked.lawful) ∙ ap (answers m) bytes_are)
@@ -115,15 +114,12 @@ handed-granted {w} {config} {log} {mail} {request} {s} {sys} {caching} {c} {n} {
       same_block n,
       recorded-beat c k m e.trace c n,
       is.managed.recorded_is c n,
-      data-same asked.whole asked.grow
-          (b.pair c).recorded,
+      data-same asked.whole asked.grow (b.pair c).recorded,
     ) in
-    ap (λ (d : Reaction w). d.handed) (reaction-performed config log mail request s sys c k n true m is comes last
-    (acquires-so asked.whole) (same_block n) none
-    ∙ performed-acquire config (service_for c m e.trace) u e.memory (acquires-so asked.whole))
+    ap (λ (d : Reaction w). d.handed) (reaction-performed c k n true m is comes last (acquires-so asked.whole)
+    (same_block n) none ∙ performed-acquire config (service_for c m e.trace) u e.memory (acquires-so asked.whole))
     ∙ ap (λ (i : Message w). (link_of c, i) ∷ [])
-    (ap₂ (λ (j : Cap) (d : Bool). grant_with (service_for c m e.trace) j d e.memory) given carried
-    ∙ grant-is (service_for c m e.trace) c n (b.source c) (next_tracker sys) data_too gift_is e.memory b.truth refl refl
-    (same_block n)
-    (is.memory n ∙ memory-granted c data_too gift_is well refl recorded_now
+    (ap₂ (λ (j : Cap) (d : Bool). grant_with (service_for c m e.trace) j d e.memory) given carried ∙ grant-is
+    (service_for c m e.trace) c n (b.source c) (next_tracker sys) data_too gift_is e.memory b.truth refl refl
+    (same_block n) (is.memory n ∙ memory-granted c data_too gift_is well refl recorded_now
     (gives-some config.profile asked.whole asked.grow unheld)))

@@ -1,25 +1,22 @@
 -- The service that the last report of a block settles.
 
 use Rattle.tl_coherence.proofs.manager.Imports.{MessageC, MessageD, c_beat_of, Config, Cap, Report, report_code}
-use Rattle.tl_coherence.proofs.manager.Imports.{report_left, report_right, Trace, on_link, same_perm, is_release_ack}
-use Rattle.tl_coherence.proofs.manager.Imports.{pending, performed, services, service_of_block, reaction, End}
-use Rattle.tl_coherence.proofs.manager.Imports.{AbstractState, some_below, AreNamed, is_unprobed, Waits, IsFor, Beat}
-use Rattle.tl_coherence.proofs.manager.Imports.{Channel, Perm}
+use Rattle.tl_coherence.proofs.manager.Imports.{report_left, report_right, Trace, same_perm, is_release_ack, performed}
+use Rattle.tl_coherence.proofs.manager.Imports.{services, service_of_block, reaction, End, AbstractState, some_below}
+use Rattle.tl_coherence.proofs.manager.Imports.{Waits, IsFor, Beat, Channel, Perm}
 use Rattle.tl_manager.{specs.code.Ready.IsReady, specs.statement.Holders.is_settled, specs.code.Kept.IsPerformable}
 use Rattle.tl_manager.{proofs.calls.Events.reaction-settled, proofs.calls.Events.memory_with}
 use Rattle.tl_manager.{proofs.pending.Granted.of_served, proofs.judging.Judged.passed, proofs.calls.Keeping.is_taken}
 use Rattle.tl_manager.{proofs.pending.Replied.IsReply, proofs.pending.SteadyReports.report-ready}
-use Rattle.std.proofs.Common.{◌≡◌, ℕ, Bool, true, false, not, ◌&&◌, Some, length, refl, sym, ◌∙◌, ap, subst}
-use Rattle.std.specs.Prelude.{◌==◌, if◌then◌else◌}
-use Rattle.std.proofs.lemmas.Bool.{ne_eqb, not-false}
-use Rattle.tl_params.specs.declared.key.Key.{Key}
+use Rattle.std.proofs.Common.{◌≡◌, ℕ, Bool, true, false, not, Some, length, refl, ◌∙◌, ap}
+use Rattle.std.specs.Prelude.{if◌then◌else◌}
 use Rattle.tl_coherence.specs.protocol.Protocol as protocol
 use Rattle.tl_coherence.proofs.{manager.ManagedEndings.service_for, manager.ManagerMemory.block_in}
 use Rattle.tl_coherence.proofs.{manager.ManagerTakes.IsTakenUp}
 use Rattle.tl_coherence.proofs.manager.ManagedEndings as endings
 use Rattle.tl_coherence.proofs.manager.ManagerAfter.{IsManagerOf, IsEnd, ends-it, last-of, memory-end, others_probed}
 use Rattle.tl_coherence.proofs.manager.ManagerAfter.{settled-is}
-use Rattle.tl_coherence.proofs.manager.QuiescentManager.{quiet-c, IsLastOf, missing-last}
+use Rattle.tl_coherence.proofs.manager.QuiescentManager.{quiet-c, IsLastOf}
 use Rattle.tl_client.proofs.endpoint.HeldAfter.{reported-report}
 
 -- ---- the service of the block
@@ -31,7 +28,6 @@ pub record IsSettling {w : ℕ} (config : Config) (c q n source k : ℕ) (own : 
   pub end : IsEnd true c n (report_code r) (same_perm (report_left r) Perm.Trunk) (h.state.block n).truth k m e
   pub alone : some_below (length config.clients.items) (others_probed c (h.state.block n).pair) ≡ false
   pub waits : (h.state.block n).service ≡ Waits q own source low
-  pub named : AreNamed h.state
   pub is : IsManagerOf config h e
 
 abbrev pub trace_with : {w : ℕ} → ℕ → ℕ → MessageC w → End w → Trace w
@@ -46,13 +42,13 @@ settling-all : {w : ℕ} {config : Config} {c q n source k : ℕ} {own : Bool} {
     {h : AbstractState w} {e : End w}
     → IsSettling config c q n source k own low r m h e → is_settled config n (trace_with c k m e) ≡ true
 settling-all {config} {c} {q} {n} {source} {k} {own} {low} {r} {m} {h} {e} at =
-    settled-is config h e (settling-last at) at.end.about.reports at.is.managed ∙ ap not at.alone
+    settled-is config h e (settling-last at) at.end.about.reports at.is.traced ∙ ap not at.alone
 
 settling-found : {w : ℕ} {config : Config} {c q n source k : ℕ} {own : Bool} {low : Cap} {r : Report} {m : MessageC w}
     {h : AbstractState w} {e : End w} → IsSettling config c q n source k own low r m h e
     → service_of_block n (services (trace_with c k m e)) ≡ Some (service_for q n h.request h.state)
 settling-found {c} {n} {k} {m} {e} at =
-    ap (service_of_block n) ((quiet-c (record { 0 = c }) (c_beat_of m k) e.trace).serves) ∙ at.is.managed.serving_is
+    ap (service_of_block n) ((quiet-c (record { 0 = c }) (c_beat_of m k) e.trace).serves) ∙ at.is.traced.serving_is
     n ∙ rw at.waits refl
 
 pub settling-ready : {w : ℕ} {config : Config} {c q n source k : ℕ} {own : Bool} {low : Cap} {r : Report}
@@ -76,30 +72,17 @@ settling-reaction {w} {config} {c} {q} {n} {source} {k} {own} {low} {r} {m} {h} 
     (ap (λ (i : ℕ). is_settled config i (trace_with c k m e)) at.end.about.block ∙ settling-all at)
     (ap (λ (i : ℕ). service_of_block i (services (trace_with c k m e))) at.end.about.block ∙ settling-found at))
 
--- nobody else's Probe is under way
-pub settling-quiet : {w : ℕ} {config : Config} {c q n source k : ℕ} {own : Bool} {low : Cap} {r : Report}
-    {m : MessageC w} {h : AbstractState w} {e : End w} → IsSettling config c q n source k own low r m h e
-    → (d : ℕ) → (d ≡ c → ⊥) → is_unprobed ((h.state.block n).pair d).probing ≡ true
-settling-quiet {config} {c} {q} {n} {source} {k} {own} {low} {r} {m} {h} {e} at d other =
-    let differ : c ≡ d → ⊥ = λ f. other (sym f) in
-    let now = missing-last
-    (settling-last at) at.end.about.reports d n in
-    let none : (if (c == d) && (n == n) then false else pending (Key.ProbeOf n) (on_link d e.trace)) ≡ false =
-    sym now ∙ (settling-ready at).settled d in
-    let before : pending (Key.ProbeOf n) (on_link d e.trace) ≡ false = rw (ne_eqb c d differ) at none in
-    not-false (is_unprobed ((h.state.block n).pair d).probing) (sym (at.is.managed.probes d n) ∙ before)
-
 -- the request is lawful
 pub settling-lawful : {w : ℕ} {config : Config} {c q n source k : ℕ} {own : Bool} {low : Cap} {r : Report}
     {m : MessageC w} {h : AbstractState w} {e : End w} → IsSettling config c q n source k own low r m h e
     → IsPerformable config (service_for q n h.request h.state)
 settling-lawful {config} {q} {n} {h} {e} at = of_served (IsPerformable config) n (services e.trace)
-    (service_for q n h.request h.state) (at.is.managed.serving_is n ∙ rw at.waits refl) at.is.manager_kept.requests
+    (service_for q n h.request h.state) (at.is.traced.serving_is n ∙ rw at.waits refl) at.is.manager_kept.requests
 
 pub settling-for : {w : ℕ} {config : Config} {c q n source k : ℕ} {own : Bool} {low : Cap} {r : Report} {m : MessageC w}
     {h : AbstractState w} {e : End w}
     → IsSettling config c q n source k own low r m h e → IsFor (Waits q own source low) n (h.request n)
-settling-for {n} at = rw at.waits at (at.is.served.requests n)
+settling-for {n} at = rw at.waits at (at.is.traced.requests n)
 
 -- the answer is the reply of the service
 pub settling-reply : {w : ℕ} {config : Config} {c q n source k : ℕ} {own : Bool} {low : Cap} {r : Report}

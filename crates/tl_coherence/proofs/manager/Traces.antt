@@ -42,10 +42,9 @@ traced-at {w} {X} {n} {s} {u} at is = record {
   ];
   serving_is = λ i. elim (cases_eq i n) [
     | inl same ↦ rw same at.serving_here
-    | inr other ↦ at.serving_else i other ∙ is.serving_is i
-        ∙ ap₂ (λ (b : Block X) (m : MessageA w). service_with (client_in b.service) b.tracker m)
-        (sym (at.other_blocks i other))
-        (sym (at.other_requests i other))
+    | inr other ↦ at.serving_else i other ∙ is.serving_is i ∙ ap₂
+        (λ (b : Block X) (m : MessageA w). service_with (client_in b.service) b.tracker m)
+        (sym (at.other_blocks i other)) (sym (at.other_requests i other))
   ];
   requests = λ i. elim (cases_eq i n) [
     | inl same ↦ rw same at.request_here

@@ -15,12 +15,11 @@ use Rattle.tl_coherence.specs.{refinement.PacketMessages.cap_sent, protocol.Pack
 use Rattle.tl_coherence.specs.protocol.PhaseSteps.{after_acquire, after_release, after_probe, after_grant}
 use Rattle.tl_coherence.specs.protocol.PhaseSteps.{after_release_ack}
 use Rattle.tl_coherence.specs.protocol.Protocol.{acquiring_block, releasing_block, stored_block, probed_block}
-use Rattle.tl_coherence.specs.protocol.Protocol.{taken_block, let_go_block, access_asked}
+use Rattle.tl_coherence.specs.protocol.Protocol.{taken_block, let_go_block}
 use Rattle.tl_coherence.proofs.{manager.Traces.IsSameToManager, manager.Traces.SameService, manager.Choices.waits-used}
-use Rattle.tl_coherence.proofs.{protocol.FollowKept.IsAskable, protocol.FollowKept.asked-kept}
-use Rattle.tl_coherence.proofs.{manager.ManagersEnd.IsAtManager, manager.ManagersEnd.at_manager-same}
-use Rattle.tl_coherence.proofs.{protocol.BothParts.granting-own, protocol.BothParts.sent-is}
-use Rattle.tl_coherence.proofs.{manager.ManagerAfter.IsManagerOf}
+use Rattle.tl_coherence.proofs.{protocol.FollowKept.IsAskable, manager.ManagersEnd.IsAtManager}
+use Rattle.tl_coherence.proofs.{manager.ManagersEnd.at_manager-same, protocol.BothParts.granting-own}
+use Rattle.tl_coherence.proofs.{protocol.BothParts.sent-is, manager.ManagerAfter.IsManagerOf}
 use Rattle.tl_coherence.proofs.queues.Tokens.{set-same, set-other, set-part, holds-first}
 
 -- ---- one block changes, and not to the manager
@@ -57,21 +56,20 @@ same-blocks {X} n {new} s u blocks is = (
     same part e i = ap part (blocks i) ∙ set-part part n new s.block e i
 
 -- and what is kept of the manager's end stays
-pub at_manager-unseen : {w : ℕ} {caching : ℕ → Bool} {config : Config} {mail : AccessMessages w} {request : ℕ
-    → MessageA w} (n : ℕ) {new : Block (List ℕ)} {s u : State (List ℕ)} {e : End w} → IsInvariant caching u
+pub at_manager-unseen : {w : ℕ} {config : Config} {mail : AccessMessages w} {request : ℕ
+    → MessageA w} (n : ℕ) {new : Block (List ℕ)} {s u : State (List ℕ)} {e : End w}
     → ((i : ℕ) → u.block i ≡ set n new s.block i) → IsSameBlock (s.block n) new → IsAtManager config mail request s e
     → IsAtManager config mail request u e
-at_manager-unseen {caching} {config} {mail} {request} n {new} {s} {u} {e} inv blocks same is =
+at_manager-unseen n {new} {s} {u} blocks same is =
     let all = same-blocks n s u blocks same in
-    at_manager-same inv all.0 all.1 is
+    at_manager-same all.0 all.1 is
 
 -- where no block changes at all
-pub at_manager-untouched : {w : ℕ} {caching : ℕ → Bool} {config : Config} {mail : AccessMessages w} {request : ℕ
-    → MessageA w} {s u : State (List ℕ)} {e : End w} → IsInvariant caching u → ((i : ℕ) → u.block i ≡ s.block i)
+pub at_manager-untouched : {w : ℕ} {config : Config} {mail : AccessMessages w} {request : ℕ
+    → MessageA w} {s u : State (List ℕ)} {e : End w} → ((i : ℕ) → u.block i ≡ s.block i)
     → IsAtManager config mail request s e → IsAtManager config mail request u e
-at_manager-untouched {caching} {config} {mail} {request} {s} {u} {e} inv blocks is =
-    at_manager-same inv
-    (record {
+at_manager-untouched {s} {u} blocks is =
+    at_manager-same (record {
       recorded_same = λ c i. ap (λ (b : Block (List ℕ)). (b.pair c).recorded) (blocks i);
       quiet_same = λ c i. ap (λ (b : Block (List ℕ)). is_unprobed (b.pair c).probing) (blocks i);
       tracker_same = λ i. ap (λ (b : Block (List ℕ)). b.tracker) (blocks i);
@@ -134,13 +132,10 @@ asked_with c source n i mail m inv closed Free e ok = tt
 asked_with c source n i mail m inv closed (Waits r true src k) e ok = tt
 asked_with {w} {caching} c source n i mail {s} m inv closed (Waits r false src k) e ok = elim (cases_eq r c) [
   | inl client ↦ elim (cases_eq src source) [
-    | inl number ↦
-        absurd (let used : s.uses r src ≡ InService n = waits-used n r src false k inv e in
+    | inl number ↦ absurd (let used : s.uses r src ≡ InService n = waits-used n r src false k inv e in
         let no : SourceFree ≡ InService n = sym closed ∙ ap₂ s.uses (sym client) (sym number) ∙ used in cc)
-    | inr other ↦
-        rw client (ap (λ (f : ℕ → Message w). f src) (set-same c (set source i (mail.request c)) mail.request)
-        ∙ set-other source src i (mail.request c) other
-        ∙ ap (λ j. mail.request j src) (sym client) ∙ ok)
+    | inr other ↦ rw client (ap (λ (f : ℕ → Message w). f src) (set-same c (set source i (mail.request c)) mail.request)
+        ∙ set-other source src i (mail.request c) other ∙ ap (λ j. mail.request j src) (sym client) ∙ ok)
   ]
   | inr other ↦ ap (λ (f : ℕ → Message w). f src) (set-other c r (set source i (mail.request c)) mail.request other)
       ∙ ok
@@ -149,15 +144,12 @@ asked_with c source n i mail m inv closed (GrantSent q d k) e ok = tt
 asked_with c source n i mail m inv closed (GrantTaken q) e ok = tt
 
 at_manager-access : {w : ℕ} {caching : ℕ → Bool} (config : Config) (c source : ℕ) (m : MessageA w) (h : AbstractState w)
-    (e : End w) → IsInvariant caching h.state
-    → h.state.uses c source ≡ SourceFree → IsInvariant caching (access_asked c source h.state)
-    → IsManagerOf config h e → IsManagerOf config (asked c (Op.Access (Message.A m)) (Reply.Started source) h) e
-at_manager-access {w} {caching} config c source m h e inv closed after is =
-    let now = at_manager-untouched after
-    (λ i. refl) is in
+    (e : End w) → IsInvariant caching h.state → h.state.uses c source ≡ SourceFree → IsManagerOf config h e
+    → IsManagerOf config (asked c (Op.Access (Message.A m)) (Reply.Started source) h) e
+at_manager-access {w} {caching} config c source m h e inv closed is =
+    let now = at_manager-untouched (λ i. refl) is in
     record {
-      managed = now.managed;
-      served = now.served;
+      traced = now.traced;
       served_with = λ n. asked_with c source n (access source m) h.mail (h.request n) inv closed
           (h.state.block n).service refl (is.served_with n);
       manager_kept = now.manager_kept;
@@ -169,28 +161,19 @@ at_manager-access {w} {caching} config c source m h e inv closed after is =
 pub at_manager-asked : {w : ℕ} {caching : ℕ → Bool} (config : Config) (c : ℕ) (o : Op w) (r : Reply)
     (h : AbstractState w) (e : End w) → IsInvariant caching h.state
     → IsAskable caching c o r h → IsManagerOf config h e → IsManagerOf config (asked c o r h) e
-at_manager-asked {w} {caching} config c o r h e inv may is = go o r may (asked-kept c o r h inv may)
-  where
-    go : (o : Op w) (r : Reply) → IsAskable caching c o r h → IsInvariant caching (asked c o r h).state
-        → IsManagerOf config (asked c o r h) e
-    go (Op.Store address size value) Reply.Stored may after =
-        let bytes = copy_stored address size value ((h.state.block (block_at address)).copy c) in
-        at_manager-unseen (block_at address)
-        after (λ i. refl)
-        (same-stored c bytes (h.state.block (block_at address))) is
-    go (Op.Acquire n g) (Reply.Started source) may after =
-        at_manager-unseen n after (λ i. refl) (same-acquiring c source false g ((h.state.block n).waiting c)
-        (h.state.block n)) is
-    go (Op.AcquireWhole n bytes) (Reply.Started source) may after =
-        let g = whole_grow ((h.state.block n).pair c).held in
-        at_manager-unseen n
-        after (λ i. refl)
-        (same-acquiring c source true g bytes (h.state.block n)) is
-    go (Op.Release n p) (Reply.Started source) may after =
-        at_manager-unseen n after (λ i. refl) (same-releasing c source p (h.state.block n)) is
-    go (Op.Access (Message.A m)) (Reply.Started source) may after = at_manager-access config c source m h e inv
-        may after is
-    go o r may after = is
+at_manager-asked config c (Op.Store address size value) Reply.Stored h e inv may is =
+    let bytes = copy_stored address size value ((h.state.block (block_at address)).copy c) in
+    at_manager-unseen (block_at address) (λ i. refl) (same-stored c bytes (h.state.block (block_at address))) is
+at_manager-asked config c (Op.Acquire n g) (Reply.Started source) h e inv may is =
+    at_manager-unseen n (λ i. refl) (same-acquiring c source false g ((h.state.block n).waiting c) (h.state.block n)) is
+at_manager-asked config c (Op.AcquireWhole n bytes) (Reply.Started source) h e inv may is =
+    let g = whole_grow ((h.state.block n).pair c).held in
+    at_manager-unseen n (λ i. refl) (same-acquiring c source true g bytes (h.state.block n)) is
+at_manager-asked config c (Op.Release n p) (Reply.Started source) h e inv may is =
+    at_manager-unseen n (λ i. refl) (same-releasing c source p (h.state.block n)) is
+at_manager-asked config c (Op.Access (Message.A m)) (Reply.Started source) h e inv may is =
+    at_manager-access config c source m h e inv may is
+at_manager-asked config c o r h e inv may is = is
 
 -- ---- a client takes a message
 
@@ -205,37 +188,30 @@ is_to_clients _ = false
 -- what is kept of the manager's end stays as a client takes a message
 pub at_manager-client_taken : {w : ℕ} {caching : ℕ → Bool} (config : Config) (tracker c : ℕ) (kind : Kind) (n : ℕ)
     (rest : List Packet) (h : AbstractState w) (e : End w) → is_to_clients kind ≡ true → IsInvariant caching h.state
-    → on kind (h.state.link c) ≡ packet kind n ∷ rest
-    → IsInvariant caching (kind_taken config tracker c kind n rest h).state → IsManagerOf config h e
+    → on kind (h.state.link c) ≡ packet kind n ∷ rest → IsManagerOf config h e
     → IsManagerOf config (kind_taken config tracker c kind n rest h) e
-at_manager-client_taken config tracker c Request n rest h e kind inv first after is = absurd cc
-at_manager-client_taken config tracker c Acquire n rest h e kind inv first after is = absurd cc
-at_manager-client_taken config tracker c ProbeAck n rest h e kind inv first after is = absurd cc
-at_manager-client_taken config tracker c Release n rest h e kind inv first after is = absurd cc
-at_manager-client_taken config tracker c GrantAck n rest h e kind inv first after is = absurd cc
-at_manager-client_taken {caching} config tracker c Probe n rest h e kind inv first after is =
+at_manager-client_taken config tracker c Request n rest h e kind inv first is = absurd cc
+at_manager-client_taken config tracker c Acquire n rest h e kind inv first is = absurd cc
+at_manager-client_taken config tracker c ProbeAck n rest h e kind inv first is = absurd cc
+at_manager-client_taken config tracker c Release n rest h e kind inv first is = absurd cc
+at_manager-client_taken config tracker c GrantAck n rest h e kind inv first is = absurd cc
+at_manager-client_taken config tracker c Probe n rest h e kind inv first is =
     let k = cap_sent ((h.state.block n).pair c).probing in
     let sent = sent-is ((h.state.block n).pair c).probing (holds-first Probe (h.state.link c).b rest (packet Probe n)
     (λ i. shown Probe c (h.state.block i)) first refl (inv.transfers c Probe refl)) in
-    at_manager-unseen n
-    after (λ i. refl) (same-probed c k k (h.state.block n) sent) is
-at_manager-client_taken {caching} config tracker c Answer n rest h e kind inv first after is =
-    at_manager-untouched after (λ i. refl) is
-at_manager-client_taken {caching} config tracker c ReleaseAck n rest h e kind inv first after is =
-    at_manager-unseen n after (λ i. refl) (same-let_go c (h.state.block n)) is
-at_manager-client_taken {w} {caching} config tracker c Grant n rest h e kind inv first after is =
-    go (h.state.block n).service refl after
+    at_manager-unseen n (λ i. refl) (same-probed c k k (h.state.block n) sent) is
+at_manager-client_taken config tracker c Answer n rest h e kind inv first is = at_manager-untouched (λ i. refl) is
+at_manager-client_taken config tracker c ReleaseAck n rest h e kind inv first is =
+    at_manager-unseen n (λ i. refl) (same-let_go c (h.state.block n)) is
+at_manager-client_taken {w} config tracker c Grant n rest h e kind inv first is = go (h.state.block n).service refl
   where
     go : (service : Service) → (h.state.block n).service ≡ service
-        → IsInvariant caching (taken_by_client c n service rest h).state
         → IsManagerOf config (taken_by_client c n service rest h) e
-    go (GrantSent q d k) f kept =
+    go (GrantSent q d k) f =
         let seen : is_granting (view (GrantSent q d k) c) ≡ true =
         rw f at (holds-first Grant (h.state.link c).d rest (packet Grant n) (λ i. shown Grant c (h.state.block i))
         first refl (inv.transfers c Grant refl)) in
         let same : c ≡ q = eqb-true c q (granting-own (c == q) d k seen) in
         let whole = is_whole ((h.state.block n).pair c).acquiring in
-        at_manager-unseen n
-        kept
-        (λ i. refl) (same-taken c whole d k k (h.state.block n) (f ∙ rw same refl)) is
-    go service f kept = is
+        at_manager-unseen n (λ i. refl) (same-taken c whole d k k (h.state.block n) (f ∙ rw same refl)) is
+    go service f = is

@@ -1,8 +1,8 @@
 -- Steps of the whole that the manager doesn't see: an event of a client that there isn't, a client that is asked, and a
 -- delivery to a client.
-use Rattle.tl_coherence.proofs.manager.Imports.{Beat, Link, Channel, Message, unfinished, Config, AbstractState}
-use Rattle.tl_coherence.proofs.manager.Imports.{IsInvariant, Log, packet, is_on, on, System, Kind, Request, Acquire}
-use Rattle.tl_coherence.proofs.manager.Imports.{Probe, ProbeAck, Release, Answer, Grant, ReleaseAck, GrantAck, Packet}
+use Rattle.tl_coherence.proofs.manager.Imports.{Beat, Link, Channel, Message, unfinished, Config, AbstractState, Log}
+use Rattle.tl_coherence.proofs.manager.Imports.{packet, is_on, on, System, Kind, Request, Acquire, Probe, ProbeAck}
+use Rattle.tl_coherence.proofs.manager.Imports.{Release, Answer, Grant, ReleaseAck, GrantAck, Packet}
 use Rattle.tl_coherence.proofs.manager.Imports.{SimulationRelation, is_caching}
 use Rattle.std.proofs.Common.{◌≡◌, subst, ℕ, Bool, true, false, ◌&&◌, List, [], ◌∷◌, Option, Some, None, refl, sym, ◌∙◌}
 use Rattle.std.proofs.Common.{ap}
@@ -51,8 +51,7 @@ at_manager-ask {w} {config} {log} h {sys} c o terms is there may =
     (sym (stepped-asked config c o sys terms there))
     (subst (IsManagerOf config (follow.asked c o a.reply h))
     (sym (manager-with_messages (handed_by c a.message) (with_client c a.after sys)))
-    (at_manager-asked config c o a.reply h sys.manager is.invariant may
-    (at_manager-matched is)))
+    (at_manager-asked config c o a.reply h sys.manager is.invariant may (at_manager-matched is)))
 
 -- ---- a delivery to a client
 
@@ -106,19 +105,16 @@ on-channel ch k l e = absurd cc
 pub at_manager-to_client : {w : ℕ} {config : Config} {log : Log w} (h : AbstractState w) {sys : System w} (link : Link)
     (ch : Channel) (terms : client.EndConfig) → SimulationRelation config log h.mail h.request h.state sys
     → terms_at config link.0 ≡ Some terms → is_to_client ch ≡ true
-    → IsInvariant (is_caching config) (abstract_step config (Deliver link ch) sys h).state
     → IsManagerOf config (abstract_step config (Deliver link ch) sys h)
     (stepped config (Deliver link ch) sys).after.manager
-at_manager-to_client {w} {config} {log} h {sys} link ch terms is there up kept =
-    let go : (b : Bool) → IsInvariant (is_caching config) (if b then packet_taken config (next_tracker sys) c
-    (packets_on ch (h.state.link c)) h else h).state
-    → IsManagerOf config (if b then packet_taken config (next_tracker sys) c (packets_on ch (h.state.link c)) h else
-    h) sys.manager = elim [ true ↦ λ inv. taken (packets_on ch (h.state.link c)) refl inv | false ↦ λ inv. known ]
-    in
+at_manager-to_client {w} {config} {log} h {sys} link ch terms is there up =
+    let go : (b : Bool) → IsManagerOf config (if b then packet_taken config (next_tracker sys) c
+    (packets_on ch (h.state.link c)) h else h) sys.manager =
+    elim [ true ↦ taken (packets_on ch (h.state.link c)) refl | false ↦ known ] in
     subst (IsManagerOf config (abstract_step config (Deliver link ch) sys h))
     (sym (manager-to-client config link ch sys terms there up))
     (go (is_moving (stepped config (Deliver link ch) sys).outcome && is_last (sys.channels c ch)
-    (unfinished ch (receiver ch c sys))) kept)
+    (unfinished ch (receiver ch c sys))))
   where
     c : ℕ
     c = link.0
@@ -127,13 +123,12 @@ at_manager-to_client {w} {config} {log} h {sys} link ch terms is there up kept =
     known = at_manager-matched is
 
     taken : (xs : List Packet) → packets_on ch (h.state.link c) ≡ xs
-        → IsInvariant (is_caching config) (packet_taken config (next_tracker sys) c xs h).state
         → IsManagerOf config (packet_taken config (next_tracker sys) c xs h) sys.manager
-    taken [] e inv = known
-    taken (y ∷ ys) e inv =
+    taken [] e = known
+    taken (y ∷ ys) e =
         let here : is_on ch y.kind ≡ false → ⊥ =
         λ off. first_counts y ys (rw e at (is.invariant.own_kinds c ch y.kind y.number off)) in
         let first : on y.kind (h.state.link c) ≡ packet y.kind y.number ∷ ys =
         on-channel ch y.kind (h.state.link c) (true_from_ne_false (is_on ch y.kind) here) ∙ e in
         at_manager-client_taken config (next_tracker sys) c y.kind y.number ys h sys.manager
-        (to_clients ch y.kind up here) is.invariant first inv known
+        (to_clients ch y.kind up here) is.invariant first known

@@ -37,8 +37,7 @@ free-last {w} {config} {request} {s} {sys} {c} {k} {m} is comes last moves =
     ends-coming comes ∙ rw last (is_last k (suc k) (omega arith)) in
     unserved-free (block_at m.address) is.managed
     (or_parts (is_in_service (block_at m.address) (services sys.manager.trace))
-    (nat_le config.trackers (length (services sys.manager.trace)))
-    (rw ended at moves)).0
+    (nat_le config.trackers (length (services sys.manager.trace))) (rw ended at moves)).0
 
 pub untracked-next : {w : ℕ} {config : Config} {log : Log w} {mail : AccessMessages w} {request : ℕ → MessageA w}
     {s : State (List ℕ)} {sys : System w}
@@ -50,30 +49,30 @@ serving-for : {w : ℕ} (service : Service) (n : ℕ) (m : MessageA w) → IsFor
 serving-for (Waits r false source k) n m for = (for.0, for.3)
 serving-for service n m for = tt
 
-pub serving-matched : {w : ℕ} (config : Config) (log : Log w) (mail : AccessMessages w) (request : ℕ → MessageA w)
-    (s : State (List ℕ)) (sys : System w)
+pub serving-matched : {w : ℕ} {config : Config} {log : Log w} {mail : AccessMessages w} {request : ℕ → MessageA w}
+    {s : State (List ℕ)} {sys : System w}
     → SimulationRelation config log mail request s sys → (n : ℕ) → IsServing (s.block n).service (request n)
-serving-matched config log mail request s sys is n =
+serving-matched {request} {s} is n =
     serving-for (s.block n).service n (request n) (is.served.requests n)
 
 -- the invariant is kept
-pub invariant-taken : {w : ℕ} (config : Config) (log : Log w) (h : AbstractState w) (sys : System w) (c : ℕ) (k : Kind)
+pub invariant-taken : {w : ℕ} {config : Config} {log : Log w} (h : AbstractState w) {sys : System w} (c : ℕ) (k : Kind)
     (i : ℕ) (rest : List Packet) → SimulationRelation config log h.mail h.request h.state sys
     → on k (h.state.link c) ≡ packet k i ∷ rest → IsReady (next_tracker sys) c k i h
     → IsInvariant (is_caching config) (kind_taken config (next_tracker sys) c k i rest h).state
-invariant-taken config log h sys c k i rest is first ready =
-    kind_taken-kept (is_caching config) config (next_tracker sys) c k i rest h is.invariant (plain-past config)
-    (λ n. (is.sized n).truth) (serving-matched config log h.mail h.request h.state sys is) first ready
+invariant-taken {config} {log} h {sys} c k i rest is first ready =
+    kind_taken-kept config (next_tracker sys) c k i rest h is.invariant (plain-past config)
+    (λ n. (is.sized n).truth) (serving-matched is) first ready
 
 -- ---- who is probed
 
 -- somebody is probed, as the manager's record says, where the protocol says so
-pub probed-some : {w : ℕ} (config : Config) (log : Log w) (mail : AccessMessages w) (request : ℕ → MessageA w)
-    (s : State (List ℕ)) (sys : System w) (c k n : ℕ) (own : Bool) (j : Cap) (m : MessageA w)
+pub probed-some : {w : ℕ} {config : Config} {log : Log w} {mail : AccessMessages w} {request : ℕ → MessageA w}
+    {s : State (List ℕ)} {sys : System w} (c k n : ℕ) (own : Bool) (j : Cap) (m : MessageA w)
     → SimulationRelation config log mail request s sys → is_acquire m.opcode ≡ own → block_at m.address ≡ n
     → is_nobody (probed config (service_for c m sys.manager.trace) j (with_beat c m k sys.manager.trace))
     ≡ not (some_below (length config.clients.items) (λ d. is_probed c own j ((s.block n).pair d).recorded d))
-probed-some {w} config log mail request s sys c k n own j m is kind block =
+probed-some {w} {config} {s} {sys} c k n own j m is kind block =
     nobody-same config (λ d. holders.is_above j (recorded d (block_at m.address) (with_beat c m k sys.manager.trace))
     && not (is_spared (service_for c m sys.manager.trace) d)) (λ d. is_probed c own j ((s.block n).pair d).recorded d)
     (λ d. rw (
@@ -81,11 +80,9 @@ probed-some {w} config log mail request s sys c k n own j m is kind block =
       recorded-beat c k m sys.manager.trace d n,
       is.managed.recorded_is d n,
       kind,
-      same_above j
-          ((s.block n).pair d).recorded,
+      same_above j ((s.block n).pair d).recorded,
       swapped c d,
-    ) (and_comm (is_above j ((s.block n).pair d).recorded)
-    (not (own && (d == c)))))
+    ) (and_comm (is_above j ((s.block n).pair d).recorded) (not (own && (d == c)))))
 
 copies_so : (p : Perm) → holders.has_copy p ≡ not (same_perm p Perm.None)
 copies_so Perm.None = refl
@@ -118,14 +115,14 @@ beyond-none {config} n is d past =
 -- ---- what is done
 
 -- nobody is probed: the request is performed
-pub reaction-performed : {w : ℕ} (config : Config) (log : Log w) (mail : AccessMessages w) (request : ℕ → MessageA w)
-    (s : State (List ℕ)) (sys : System w) (c k n : ℕ) (own : Bool) (m : MessageA w)
+pub reaction-performed : {w : ℕ} {config : Config} {log : Log w} {mail : AccessMessages w} {request : ℕ → MessageA w}
+    {s : State (List ℕ)} {sys : System w} (c k n : ℕ) (own : Bool) (m : MessageA w)
     → SimulationRelation config log mail request s sys → IsComing config c k m sys.manager
     → beats_of (Message.A m) ≡ suc k → is_acquire m.opcode ≡ own → block_at m.address ≡ n
     → probes_some (length config.clients.items) c own (cap_probed m.opcode m.param) (s.block n).pair ≡ false
     → reaction config (link_of c) (Beat.A (a_beat_of m k)) sys.manager
     ≡ performed config (service_for c m sys.manager.trace) (with_beat c m k sys.manager.trace) sys.manager.memory
-reaction-performed {w} config log mail request s sys c k n own m is comes last kind block none =
+reaction-performed {w} {config} {log} {mail} {request} {s} {sys} c k n own m is comes last kind block none =
     go (cap_probed m.opcode m.param) refl
   where
     e : End w
@@ -137,7 +134,7 @@ reaction-performed {w} config log mail request s sys c k n own m is comes last k
         (served-last comes last) f
     go (Some j) f =
         let nobody : is_nobody (probed config (service_for c m e.trace) j (with_beat c m k e.trace)) ≡ true =
-        probed-some config log mail request s sys c k n own j m is kind block ∙ ap not (rw f at none) in
+        probed-some c k n own j m is kind block ∙ ap not (rw f at none) in
         reaction-unprobed config (link_of c) (a_beat_of m k) (service_for c m e.trace) j e
         (served-last comes last) f
         (no-clients (probed config (service_for c m e.trace) j (with_beat c m k e.trace)) nobody)
@@ -158,6 +155,5 @@ somebody-probed {w} {config} {log} {mail} {request} {s} {sys} c k n own m is kin
     go (Some j) f = (
       j,
       f,
-      probed-some config log mail request s sys c k n own j m is kind block
-          ∙ ap not (rw f at some),
+      probed-some c k n own j m is kind block ∙ ap not (rw f at some),
     )

@@ -88,8 +88,7 @@ opened-still {w} c source mail mail' s s' (InService n) o request answer acquire
 opened-still {w} c source mail mail' s s' Replied o request answer acquire h = (
   h.0,
   subst (λ (m : Message w). IsAccess source m (Some h.0) o) (sym request) h.1,
-  subst
-      (λ (m : Message w). Answers m h.0 (mail'.answer c source)) (sym request)
+  subst (λ (m : Message w). Answers m h.0 (mail'.answer c source)) (sym request)
       (subst (λ (x : Message w). Answers (mail.request c source) h.0 x) (sym answer) h.2),
 )
 opened-still {w} c source mail mail' s s' (Acquires n) o request answer acquire h = h ∙ rw (acquire.0, acquire.1) refl
@@ -157,10 +156,8 @@ beside-used {w} {c} {source} {u} {mail} {mail'} {s} {s'} {m} {m'} is h = record 
   memory = is.memory;
   requests = λ d i. elim (place-cases c source d i) [
     | inl same ↦ rw (same.0, same.1) (moved_opened c source mail' s' u (s'.uses c source) (m'.opened c Requests source)
-        (m'.opened c Requests source)
-        (is.uses c source ∙ set_at-same c source u s.uses) refl is.here)
-    | inr else_ ↦
-        moved_opened d i mail' s' (s.uses d i) (s'.uses d i) (m.opened d Requests i) (m'.opened d Requests i)
+        (m'.opened c Requests source) (is.uses c source ∙ set_at-same c source u s.uses) refl is.here)
+    | inr else_ ↦ moved_opened d i mail' s' (s.uses d i) (s'.uses d i) (m.opened d Requests i) (m'.opened d Requests i)
         (is.uses d i ∙ set_at-there u s.uses else_) (is.there d i else_)
         (opened-still d i mail mail' s s' (s.uses d i) (m.opened d Requests i) (is.requests d i else_)
         (answer_as (s.uses d i) (mail.answer d i) (mail'.answer d i) (is.answers d i else_)) (is.acquires d i else_)

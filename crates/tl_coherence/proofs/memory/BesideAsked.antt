@@ -154,8 +154,7 @@ beside-access_asked {w} c source a {mail} {s} {m} h =
       here = (
         a,
         set_at-same c source (access source a) mail.request,
-        open-here c Requests source
-            (Some (record { asked = Op.Access (Message.A a); answer = None })) m,
+        open-here c Requests source (Some (record { asked = Op.Access (Message.A a); answer = None })) m,
       );
       there = λ d i else_. open-there c Requests source
           (Some (record { asked = Op.Access (Message.A a); answer = None })) m d i else_;
@@ -181,8 +180,7 @@ beside-block_stored {w} c address size value {mail} {s} {m} inv sized word trunk
       opened = λ d pool i. refl;
       acquires = λ d i. (
         set-part (λ (b : Block (List ℕ)). (b.pair d).acquiring) n new s.block refl i,
-        set-part
-            (λ (b : Block (List ℕ)). b.waiting d) n new s.block refl i,
+        set-part (λ (b : Block (List ℕ)). b.waiting d) n new s.block refl i,
       );
     }) h
   where
@@ -210,20 +208,20 @@ beside-block_stored {w} c address size value {mail} {s} {m} inv sized word trunk
     bytes i (inr other) = rw (set-other n i new s.block other) (block-unstored address size value i (s.block i).truth
         m.memory (word_room address size word) other (h.memory i))
 
-pub beside-asked : {w : ℕ} (caching : ℕ → Bool) (c : ℕ) (o : Op w) (r : Reply) (h : AbstractState w) (m : Machine w)
+pub beside-asked : {w : ℕ} {caching : ℕ → Bool} (c : ℕ) (o : Op w) (r : Reply) (h : AbstractState w) {m : Machine w}
     → IsInvariant caching h.state
     → ((n : ℕ) → AreSized (h.state.block n)) → IsReply o r → IsAskable caching c o r h → IsSizedAsk c o r h
     → MemoryRelation h.mail h.state m → MemoryRelation (asked c o r h).mail (asked c o r h).state (after_reply c o r m)
-beside-asked caching c (Op.Store address size value) Reply.Stored h m inv sized is may word b =
+beside-asked c (Op.Store address size value) Reply.Stored h inv sized is may word b =
     beside-block_stored c address size value inv (sized (block_at address)) word.0 word.1 b
-beside-asked caching c (Op.Acquire n g) (Reply.Started source) h m inv sized is may word b =
+beside-asked c (Op.Acquire n g) (Reply.Started source) h inv sized is may word b =
     beside-acquire_asked c n source false g ((h.state.block n).waiting c) (Op.Acquire n g) inv may.2 refl b
-beside-asked caching c (Op.AcquireWhole n bytes) (Reply.Started source) h m inv sized is may word b =
+beside-asked c (Op.AcquireWhole n bytes) (Reply.Started source) h inv sized is may word b =
     beside-acquire_asked c n source true (whole_grow ((h.state.block n).pair c).held) bytes
     (Op.AcquireWhole n bytes) inv may.2 refl b
-beside-asked caching c (Op.Release n p) (Reply.Started source) h m inv sized is may word b =
+beside-asked c (Op.Release n p) (Reply.Started source) h inv sized is may word b =
     beside-release_asked c n source p b
-beside-asked caching c (Op.Access (Message.A a)) (Reply.Started source) h m inv sized is may word b =
+beside-asked c (Op.Access (Message.A a)) (Reply.Started source) h inv sized is may word b =
     beside-access_asked c source a b
-beside-asked caching c o (Reply.Started source) h m inv sized is may word b = absurd is
-beside-asked caching c o r h m inv sized is may word b = b
+beside-asked c o (Reply.Started source) h inv sized is may word b = absurd is
+beside-asked c o r h inv sized is may word b = b

@@ -1,5 +1,5 @@
 -- The one-memory machine beside the protocol, after each message that is taken.
-use Rattle.tl_coherence.proofs.memory.Imports.{Message, MessageA, Config, Cap, IsBlock, effect, block_at, cap_probed}
+use Rattle.tl_coherence.proofs.memory.Imports.{Message, MessageA, Config, Cap, effect, block_at, cap_probed}
 use Rattle.tl_coherence.proofs.memory.Imports.{MemoryRelation, AbstractState, some_below, bytes_at, performs, Machine}
 use Rattle.tl_coherence.proofs.memory.Imports.{ClientBlock, AcquireOpen, Block, State, is_probed, performing}
 use Rattle.tl_coherence.proofs.memory.Imports.{AccessMessages, set_at}
@@ -51,10 +51,9 @@ accesses_by config c _ i h = []
 -- ---- one block changes, and no source
 
 pub beside_block : {w : ℕ} (n : ℕ) (new : Block (List ℕ)) {mail : AccessMessages w} {s : State (List ℕ)}
-    (s' : State (List ℕ))
-    {m : Machine w} → ((i : ℕ) → s'.block i ≡ set n new s.block i)
-    → ((d i : ℕ) → s'.uses d i ≡ s.uses d i) → ((d i : ℕ) → s'.lets d i ≡ s.lets d i)
-    → new.truth ≡ (s.block n).truth → ((d : ℕ) → (new.pair d).acquiring ≡ ((s.block n).pair d).acquiring)
+    (s' : State (List ℕ)) {m : Machine w} → ((i : ℕ) → s'.block i ≡ set n new s.block i)
+    → ((d i : ℕ) → s'.uses d i ≡ s.uses d i) → ((d i : ℕ) → s'.lets d i ≡ s.lets d i) → new.truth ≡ (s.block n).truth
+    → ((d : ℕ) → (new.pair d).acquiring ≡ ((s.block n).pair d).acquiring)
     → ((d : ℕ) → new.waiting d ≡ (s.block n).waiting d) → MemoryRelation mail s m → MemoryRelation mail s' m
 beside_block {w} n new {mail} {s} s' {m} blocks uses lets truth acquiring waiting h = beside-still (record {
   memory = λ i. rw (ap (λ (b : Block (List ℕ)). b.truth) (blocks i) ∙ set-part (λ (b : Block (List ℕ)). b.truth) n new
@@ -85,10 +84,9 @@ served_acquiring r own k pair d =
 granted_acquiring : (c q : ℕ) (r : Report) (k : Cap) (pair : ℕ → ClientBlock) (d : ℕ)
     → (granted_pair c q r k pair d).acquiring ≡ (pair d).acquiring
 granted_acquiring c q r k pair d = elim (cases_eq d q) [
-  | inl same ↦ ap (λ (j : ℕ). (granted_pair c q r k pair j).acquiring) same
-      ∙ ap (λ (p : ClientBlock). p.acquiring)
-      (set-same q (after_grant_sent k (pair q)) (set c (after_report r (pair c)) pair))
-      ∙ sym (ap (λ (j : ℕ). (pair j).acquiring) same)
+  | inl same ↦ ap (λ (j : ℕ). (granted_pair c q r k pair j).acquiring) same ∙ ap (λ (p : ClientBlock). p.acquiring)
+      (set-same q (after_grant_sent k (pair q)) (set c (after_report r (pair c)) pair)) ∙ sym
+      (ap (λ (j : ℕ). (pair j).acquiring) same)
   | inr other ↦ ap (λ (p : ClientBlock). p.acquiring)
       (set-other q d (after_grant_sent k (pair q)) (set c (after_report r (pair c)) pair) other) ∙ same_acquiring c
       (after_report r (pair c)) pair refl d
@@ -116,8 +114,7 @@ beside_served {w} {c} {source} {x} tracker k rest {mail} {s} {m} is h =
           (λ j. (
             set-part (λ (b : Block (List ℕ)). (b.pair d).acquiring) n new s.block
                 (served_acquiring c false k (s.block n).pair d) j,
-            set-part (λ (b : Block (List ℕ)). b.waiting d) n new
-                s.block refl j,
+            set-part (λ (b : Block (List ℕ)). b.waiting d) n new s.block refl j,
           ));
     }) h
 
@@ -139,8 +136,7 @@ beside_answered {w} {config} {c} {source} {x} rest {mail} {s} {m} is same h =
     (λ d i. refl) (λ d i. refl)
     (λ d i. (
       set-part (λ (b : Block (List ℕ)). (b.pair d).acquiring) n new s.block refl i,
-      set-part
-          (λ (b : Block (List ℕ)). b.waiting d) n new s.block refl i,
+      set-part (λ (b : Block (List ℕ)). b.waiting d) n new s.block refl i,
     )) h
   where
     n : ℕ
@@ -192,9 +188,8 @@ beside-acquire {w} clients p c n (AcquireOpen whole g) tracker rest h {m} beside
     let either : (y : Bool) (s t : State (List ℕ)) → MemoryRelation h.mail s m → MemoryRelation h.mail t m
     → MemoryRelation h.mail (if y then s else t) m = elim [ true ↦ λ s t f g. f | false ↦ λ s t f g. g ] in
     let b : Block (List ℕ) = h.state.block n in
-    either _ _ _ (beside_block n (served_block c true (b.source c) tracker _ b) _ (λ i. refl)
-    (λ d i. refl) (λ d i. refl) refl
-    (λ d. served_acquiring c true _ b.pair d) (λ d. refl) beside)
+    either _ _ _ (beside_block n (served_block c true (b.source c) tracker _ b) _ (λ i. refl) (λ d i. refl)
+    (λ d i. refl) refl (λ d. served_acquiring c true _ b.pair d) (λ d. refl) beside)
     (beside_block n (granted_at_once c tracker _ _ b) _ (λ i. refl) (λ d i. refl) (λ d i. refl) refl
     (λ d. same_acquiring c (after_grant_sent _ (b.pair c)) b.pair refl d) (λ d. refl) beside)
 
@@ -207,8 +202,7 @@ IsWaiting config n (Waits q false source k) h m = IsPerformed config q source (h
 IsWaiting config n _ h m = ⊤
 
 beside_ended : {w : ℕ} {caching : ℕ → Bool} {config : Config} (c : ℕ) {q : ℕ} (n : ℕ) {source : ℕ} (r : Report)
-    (k : Cap)
-    (rest : List Packet) (h : AbstractState w) {m : Machine w} → IsInvariant caching h.state
+    (k : Cap) (rest : List Packet) (h : AbstractState w) {m : Machine w} → IsInvariant caching h.state
     → (h.state.block n).service ≡ Waits q false source k → ((h.state.block n).pair c).probing ≡ ProbeAnswered r
     → ((d : ℕ) → (d ≡ c → ⊥) → is_unprobed ((h.state.block n).pair d).probing ≡ true)
     → IsPerformed config q source (h.request n) h.mail h.state m → block_at (h.request n).address ≡ n

@@ -99,8 +99,7 @@ request-accesses {w} {config} {log} h {sys} {c} {source} {k} is asked comes last
         → accesses_answered done ≡ (c, source) ∷ []
     answered none = cc (
       handed-answered is asked comes last none,
-      accesses-answer c m
-          (answer_of (Message.A m) (effect (Message.A m) (bytes_at n b.memory)).1),
+      accesses-answer c m (answer_of (Message.A m) (effect (Message.A m) (bytes_at n b.memory)).1),
       asked.source_is,
     )
 
@@ -110,8 +109,7 @@ request-accesses {w} {config} {log} h {sys} {c} {source} {k} is asked comes last
     accesses true (Some j) f g =
         let some : some_below clients (λ d. is_probed c false j (b.pair d).recorded d) ≡ true = rw g at f in
         ap (λ (d : Reaction w). accesses_answered d.handed) (reaction-probing config c k n j m sys.manager comes last
-        refl g
-        (probed-some config log h.mail h.request h.state sys c k n false j m is asked.access refl ∙ ap not some))
+        refl g (probed-some c k n false j m is asked.access refl ∙ ap not some))
         ∙ accesses-probes w n j (probed config (service_for c m sys.manager.trace) j
         (with_beat c m k sys.manager.trace))
     accesses false o f g = answered f
@@ -165,8 +163,7 @@ beside-request_taken {w} {config} {log} h {sys} {c} {source} {k} rest {machine} 
     (performing (accesses_answered done) machine)) (sym asked.is_it)
     (subst (λ (l : List (ℕ × ℕ)). MemoryRelation (request_taken clients c source (Message.A m) tracker rest h).mail
     (request_taken clients c source (Message.A m) tracker rest h).state (performing l machine))
-    (sym (request-accesses h is asked comes last))
-    (beside-request tracker rest h is.invariant (plain-past config)
+    (sym (request-accesses h is asked comes last)) (beside-request tracker rest h is.invariant (plain-past config)
     performed_so beside))
   where
     clients : ℕ
@@ -174,13 +171,13 @@ beside-request_taken {w} {config} {log} h {sys} {c} {source} {k} rest {machine} 
 
 -- ---- an Acquire
 
-pub acquire-accesses : {w : ℕ} (config : Config) (log : Log w) (h : AbstractState w) (sys : System w) (c n k : ℕ)
+pub acquire-accesses : {w : ℕ} {config : Config} {log : Log w} (h : AbstractState w) {sys : System w} {c n : ℕ} (k : ℕ)
     → SimulationRelation config log h.mail h.request h.state sys → (asked : IsWanted w c n h.state)
     → IsComing config c k (acquire_wanted c n h.state asked) sys.manager
     → beats_of (Message.A (acquire_wanted c n h.state asked)) ≡ suc k
     → accesses_answered (reaction config (link_of c) (Beat.A (a_beat_of (acquire_wanted c n h.state asked) k))
     sys.manager).handed ≡ []
-acquire-accesses {w} config log h sys c n k is asked comes last =
+acquire-accesses {w} {config} {log} h {sys} {c} {n} k is asked comes last =
     none (some_below clients (λ d. is_probed c true j (b.pair d).recorded d)) refl
   where
     b : Block (List ℕ)
@@ -202,18 +199,13 @@ acquire-accesses {w} config log h sys c n k is asked comes last =
         → accesses_answered (reaction config (link_of c) (Beat.A (a_beat_of m k)) sys.manager).handed ≡ []
     none true f = cc (
       reaction-probing config c k n j m sys.manager comes last (same_block n) caps
-          (probed-some config log h.mail h.request h.state sys c k n true j m is (acquires-so asked.whole)
-          (same_block n)
-          ∙ ap not f),
-      accesses-probes w n j (probed config (service_for c m sys.manager.trace) j
-          (with_beat c m k sys.manager.trace)),
+          (probed-some c k n true j m is (acquires-so asked.whole) (same_block n) ∙ ap not f),
+      accesses-probes w n j (probed config (service_for c m sys.manager.trace) j (with_beat c m k sys.manager.trace)),
     )
     none false f = cc (
-      reaction-performed config log h.mail h.request h.state sys c k n true m is comes last
-          (acquires-so asked.whole) (same_block n) (rw caps f),
-      performed-acquire config
-          (service_for c m sys.manager.trace) (with_beat c m k sys.manager.trace) sys.manager.memory
-          (acquires-so asked.whole),
+      reaction-performed c k n true m is comes last (acquires-so asked.whole) (same_block n) (rw caps f),
+      performed-acquire config (service_for c m sys.manager.trace) (with_beat c m k sys.manager.trace)
+          sys.manager.memory (acquires-so asked.whole),
       accesses-grant config c (service_for c m sys.manager.trace)
           (with_beat c m k sys.manager.trace) sys.manager.memory,
     )
@@ -228,6 +220,6 @@ pub beside-acquire_taken : {w : ℕ} {config : Config} {log : Log w} (h : Abstra
     (reaction config (link_of c) (Beat.A (a_beat_of (acquire_wanted c n h.state asked) k)) sys.manager).handed) machine)
 unfolding performing
 beside-acquire_taken {w} {config} {log} h {sys} {c} {n} {k} rest {machine} is asked comes last beside =
-    rw (acquire-accesses config log h sys c n k is asked comes last)
+    rw (acquire-accesses h k is asked comes last)
     (beside-acquire (length config.clients.items) config.profile c n ((h.state.block n).pair c).acquiring
     (next_tracker sys) rest h beside)

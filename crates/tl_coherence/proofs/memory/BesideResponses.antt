@@ -1,8 +1,7 @@
 -- The one memory stays beside the protocol where a client takes a response.
 use Rattle.tl_coherence.proofs.memory.Imports.{Cap, IsBlock, Op, MemoryRelation, Machine, Open, Requests, Releases}
 use Rattle.tl_coherence.proofs.memory.Imports.{with_open, with_memory, memory_after, after_end, AcquireOpen, Block}
-use Rattle.tl_coherence.proofs.memory.Imports.{State, SourceState, Replied, Acquires, AccessMessages}
-use Rattle.tl_coherence.proofs.memory.Imports.{Message}
+use Rattle.tl_coherence.proofs.memory.Imports.{State, SourceState, Replied, Acquires, AccessMessages, Message}
 use Rattle.std.proofs.Common.{◌≡◌, subst, ℕ, Bool, true, false, ◌&&◌, List, Option, Some, None, refl, sym, ◌∙◌, ap, ◌⊎◌}
 use Rattle.std.proofs.Common.{inl, inr}
 use Rattle.std.{specs.Prelude.◌==◌, proofs.lemmas.Bool.cases_eq, proofs.lemmas.Bool.ne_eqb, proofs.Math.Bool.and-false}

@@ -23,8 +23,8 @@ use Rattle.tl_coherence.specs.{protocol.Tokens.is_sent, refinement.PacketMessage
 use Rattle.tl_coherence.specs.{refinement.SimulationRelation.IsRequest}
 use Rattle.tl_coherence.specs.protocol.Phase.{View, ProbePhase, NoProbe, ProbeAnswered, ok, same_cap, is_unprobed}
 use Rattle.tl_coherence.specs.protocol.Protocol.{Waits, view, written}
-use Rattle.tl_coherence.proofs.memory.Beside.{IsSameAcquire, set_at-there, open-here, open-there}
-use Rattle.tl_coherence.proofs.memory.Beside.{open-releases, performing-one, beside-used}
+use Rattle.tl_coherence.proofs.memory.Beside.{IsSameAcquire, set_at-there, open-here, open-there, open-releases}
+use Rattle.tl_coherence.proofs.memory.Beside.{performing-one, beside-used}
 use Rattle.tl_coherence.proofs.{queues.Facts.is_other, protocol.RequestsKept.some-none, queues.Perms.nothing-above}
 use Rattle.tl_coherence.proofs.{queues.Perms.not_out, queues.Tokens.set_at-same}
 use Rattle.tl_coherence.proofs.memory.OneMemory.{blocks-performed, reply-performed, effect-sourced}
@@ -142,8 +142,7 @@ pub beside-performed : {w : ℕ} {config : Config} {c source : ℕ} {a : Message
     → (s'.block (block_at a.address)).truth ≡ performs a (s.block (block_at a.address)).truth
     → ((d i : ℕ) → s'.uses d i ≡ set_at c source Replied s.uses d i) → ((d i : ℕ) → s'.lets d i ≡ s.lets d i)
     → ((d n : ℕ) → (((s'.block n).pair d).acquiring ≡ ((s.block n).pair d).acquiring)
-    × ((s'.block n).waiting d ≡ (s.block n).waiting d))
-    → MemoryRelation mail s m
+    × ((s'.block n).waiting d ≡ (s.block n).waiting d)) → MemoryRelation mail s m
     → MemoryRelation (record { request = mail.request; answer = set_at c source (answers a bytes) mail.answer }) s'
     (performing ((c, source) ∷ []) m)
 beside-performed {w} {config} {c} {source} {a} bytes {mail} {s} s' {m} is same_reply others changed uses lets acquires
@@ -159,8 +158,7 @@ beside-performed {w} {config} {c} {source} {a} bytes {mail} {s} s' {m} is same_r
     let reply_is : (effect (Message.A is.opened.0) m.memory).1 ≡ (effect (Message.A a) (bytes_at n bytes)).1 =
     cc (
       effect_is,
-      reply-performed (level_of config c) a m.memory (s.block n).truth is.width is.sent.1 (h.memory n)
-          is.long,
+      reply-performed (level_of config c) a m.memory (s.block n).truth is.width is.sent.1 (h.memory n) is.long,
       same_reply m.memory (h.memory n),
     ) in
     let reaches : IsReach a (effect (Message.A is.opened.0) m.memory).1 =
@@ -176,8 +174,7 @@ beside-performed {w} {config} {c} {source} {a} bytes {mail} {s} s' {m} is same_r
         (
           is.opened.0,
           is.opened.1,
-          open-here c Requests source (Some now)
-              (with_memory (effect (Message.A is.opened.0) m.memory).0 m),
+          open-here c Requests source (Some now) (with_memory (effect (Message.A is.opened.0) m.memory).0 m),
         ),
         subst (λ (x : Message w). Answers x (effect (Message.A is.opened.0) m.memory).1
             (set_at c source (answers a bytes) mail.answer c source))

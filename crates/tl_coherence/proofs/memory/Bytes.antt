@@ -1,8 +1,8 @@
 -- The one memory has bytes, and so have the operations that are open and their answers.
 use Rattle.tl_coherence.proofs.memory.Imports.{OpA, Message, MessageA, Config, Memory, effect, block_at, Op, Reply, Log}
 use Rattle.tl_coherence.proofs.memory.Imports.{Machine, Open, Pool, Requests, after_end, after_reply, memory_after}
-use Rattle.tl_coherence.proofs.memory.Imports.{same_pool, with_memory, with_open, accesses_answered}
-use Rattle.tl_coherence.proofs.memory.Imports.{performing, one_memory_after}
+use Rattle.tl_coherence.proofs.memory.Imports.{same_pool, with_memory, with_open, accesses_answered, performing}
+use Rattle.tl_coherence.proofs.memory.Imports.{one_memory_after}
 use Rattle.std.proofs.Common.{◌≡◌, ℕ, zero, suc, ◌+◌, ◌-◌, ◌/◌, ◌%◌, ◌^◌, ◌<◌, Bool, true, false, List, [], ◌∷◌, Option}
 use Rattle.std.proofs.Common.{Some, None, length, refl, inl, inr, lit<}
 use Rattle.std.specs.Prelude.{◌==◌, ◌&&◌, if◌then◌else◌, slice_get, slice_index, unwrap_or}
@@ -115,9 +115,9 @@ pub record IsRangedMachine {w : ℕ} (m : Machine w) : Type 0 where
 first-ranged : {w : ℕ} → IsRangedMachine (first {w = w})
 first-ranged = record { memory = λ address. lit< tt; opened = λ c pool source. tt }
 
-opened-ranged : {w : ℕ} (client : ℕ) (at : Pool) (n : ℕ) (o : Option (Open w)) (f : Memory) (m : Machine w) → HasBytes f
+opened-ranged : {w : ℕ} (client : ℕ) (at : Pool) (n : ℕ) (o : Option (Open w)) (f : Memory) {m : Machine w} → HasBytes f
     → IsRangedOpen o → IsRangedMachine m → IsRangedMachine (with_open client at n o (with_memory f m))
-opened-ranged {w} client at n o f m bytes is was =
+opened-ranged {w} client at n o f {m} bytes is was =
     let go : (c : ℕ) (pool : Pool) (source : ℕ) (b : Bool) → IsRangedOpen (if b then o else m.opened c pool source) =
     λ c pool source. elim [ true ↦ is | false ↦ was.opened c pool source ] in
     record {
@@ -129,7 +129,7 @@ started-ranged : {w : ℕ} (client : ℕ) (o : Op w) (n : ℕ) {m : Machine w} �
     → IsRangedMachine (with_open client (pool_of_op o) n (Some (record { asked = o; answer = None })) m)
 started-ranged client o n {m} is was =
     opened-ranged client (pool_of_op o) n (Some (record { asked = o; answer = None }))
-    m.memory m was.memory (is, tt) was
+    m.memory was.memory (is, tt) was
 
 reply-ranged : {w : ℕ} (client : ℕ) (o : Op w) (r : Reply) {m : Machine w} → IsRangedOp o → IsRangedMachine m
     → IsRangedMachine (after_reply client o r m)
@@ -157,17 +157,17 @@ stored-ranged (Op.AcquireWhole k bytes) {f} is are =
     (byte-at bytes (address % 64) is) (are address)
 stored-ranged o is are = are
 
-end-ranged : {w : ℕ} (client : ℕ) (at : Pool) (n : ℕ) (o : Option (Open w)) (m : Machine w) → IsRangedOpen o
+end-ranged : {w : ℕ} (client : ℕ) (at : Pool) (n : ℕ) (o : Option (Open w)) {m : Machine w} → IsRangedOpen o
     → IsRangedMachine m → IsRangedMachine (after_end client at n o m)
-end-ranged client at n None m is was = was
-end-ranged client at n (Some o) m is was = opened-ranged client at n None (memory_after o.asked m.memory) m
+end-ranged client at n None is was = was
+end-ranged client at n (Some o) {m} is was = opened-ranged client at n None (memory_after o.asked m.memory)
     (stored-ranged o.asked is.0 was.memory) tt was
 
 moved-ranged : {w : ℕ} (e : Event w) (o : Outcome w) {m : Machine w} → IsRanged e → IsRangedMachine m
     → IsRangedMachine (moved e o m)
 moved-ranged (Ask client i) (Outcome.Replied r) {m} is was = reply-ranged client i r is was
 moved-ranged (Deliver link ch) (Outcome.Done x n f) {m} is was =
-    end-ranged link.0 (pool_of f) n (m.opened link.0 (pool_of f) n) m (was.opened link.0 (pool_of f) n) was
+    end-ranged link.0 (pool_of f) n (m.opened link.0 (pool_of f) n) (was.opened link.0 (pool_of f) n) was
 moved-ranged e o is was = was
 
 op-ranged : {w : ℕ} (client n : ℕ) (o : Op w) (r : Option memory.AccessResult) {m : Machine w} → IsRangedOp o
@@ -175,7 +175,7 @@ op-ranged : {w : ℕ} (client n : ℕ) (o : Op w) (r : Option memory.AccessResul
 op-ranged client n (Op.Access x) None {m} is was =
     let e = effect-bytes x is was.memory in
     opened-ranged client Requests n (Some (record { asked = Op.Access x; answer = Some (effect x m.memory).1 }))
-    (effect x m.memory).0 m e.0 (is, e.1) was
+    (effect x m.memory).0 e.0 (is, e.1) was
 op-ranged client n o r is was = was
 
 one-ranged : {w : ℕ} (client n : ℕ) {m : Machine w} (o : Option (Open w)) → IsRangedOpen o → IsRangedMachine m

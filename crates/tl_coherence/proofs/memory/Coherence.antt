@@ -130,8 +130,7 @@ opened-started {w} config (x ∷ log) c pool source =
     cc (
       performing_opened (accesses_answered (stepped config x.0 (system_after config log)).handed)
           (moved x.0 x.1 (one_memory_after config log)) c pool source,
-      moved_opened x.0 x.1 (one_memory_after config log) c
-          pool source,
+      moved_opened x.0 x.1 (one_memory_after config log) c pool source,
       opened-started config log c pool source,
     )
 

@@ -45,10 +45,8 @@ blocks-performed {w} o m f truth width access lawful blank long is =
     let apart : (n i : ℕ) → i < 64 → (n ≡ block_at m.address → ⊥) → (64 * n + i) / 64 ≢ m.address / 64 =
     λ n i lt ne e. ne (omega (arith, lt, e)) in (
       block-of-bytes (effect (A m) f).0 (block_at m.address) (performs m (truth (block_at m.address)))
-          (performed-block o m f width lawful
-          ∙ ap (performs m) (bytes-of-block f (block_at m.address) (truth (block_at m.address))
-          (is (block_at m.address))
-          long)),
+          (performed-block o m f width lawful ∙ ap (performs m)
+          (bytes-of-block f (block_at m.address) (truth (block_at m.address)) (is (block_at m.address)) long)),
       λ n ne i lt. elsewhere o m f (64 * n + i) width access lawful blank (apart n i lt ne) ∙ is n i lt,
     )
 

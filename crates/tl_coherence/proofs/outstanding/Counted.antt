@@ -42,16 +42,14 @@ counted-balance {log} event o is before = record {
     is.requests,
     before.requests_are,
     number-next starts_request event o log,
-    number-next
-        (λ e p. ends_request p) event o log,
+    number-next (λ e p. ends_request p) event o log,
   );
   releases_are = omega (
     arith,
     is.releases,
     before.releases_are,
     number-next starts_release event o log,
-    number-next
-        (λ e p. ends_release p) event o log,
+    number-next (λ e p. ends_release p) event o log,
   );
 }
 
@@ -62,7 +60,7 @@ pub counted-next : {w : ℕ} {config : Config} {log : Log w} (h : AbstractState 
     (abstract_step config event (system_after config log) h).state
 counted-next {config} {log} h event width matched before =
     counted-balance event (stepped config event (system_after config log)).outcome
-    (counted-followed config log h width matched event) before
+    (counted-followed h width matched event) before
 
 -- what is outstanding is what is open
 pub requests-open : {w : ℕ} {X : Type 0} (config : Config) (log : Log w) (s : State X) → AreCounted config log s

@@ -1,14 +1,13 @@
 -- A delivery is next exactly while something is outstanding.
 use Rattle.tl_coherence.proofs.outstanding.Imports.{IsWidth, Beat, Channel, MessageA, Config, EndConfig, outstanding}
 use Rattle.tl_coherence.proofs.outstanding.Imports.{Log, system_after, next_delivery, is_used, is_let, open_requests}
-use Rattle.tl_coherence.proofs.outstanding.Imports.{open_releases, State, SourceState, SourceFree}
-use Rattle.tl_coherence.proofs.outstanding.Imports.{terms_at, Packet, one_if, SimulationRelation}
+use Rattle.tl_coherence.proofs.outstanding.Imports.{open_releases, State, SourceState, SourceFree, terms_at, Packet}
+use Rattle.tl_coherence.proofs.outstanding.Imports.{one_if, SimulationRelation}
 use Rattle.std.proofs.Common.{◌≡◌, ℕ, zero, suc, ◌+◌, ◌<◌, Bool, true, false, List, [], ◌∷◌, length, refl, sym, ◌∙◌, ap}
 use Rattle.std.proofs.Common.{◌⊎◌, inl, inr, arith, Option, Some, None}
 use Rattle.std.{specs.Prelude.◌==◌, specs.Prelude.is_none, proofs.lemmas.Bool.cases_eq, proofs.lemmas.Bool.eqb-true}
 use Rattle.tl_beat.specs.declared.beat.Link.{Link}
-use Rattle.tl_coherence.specs.{statement.Coherent.IsCoherent, bound.Rank.total}
-use Rattle.tl_coherence.specs.{statement.OneMemory.one_memory_after}
+use Rattle.tl_coherence.specs.{statement.Coherent.IsCoherent, bound.Rank.total, statement.OneMemory.one_memory_after}
 use Rattle.tl_coherence.specs.{refinement.PacketMessages.AccessMessages}
 use Rattle.tl_coherence.proofs.{simulation.Bounded.matched-bounded, protocol.TokenNames.AreBounded}
 use Rattle.tl_coherence.proofs.{outstanding.Counted.AreCounted, outstanding.Counted.outstanding-open}
@@ -58,17 +57,16 @@ none-counted config {s} closed no_acks =
     (λ i lt. ap (λ (o : Option ℕ). one_if (is_let o)) (closed.lets c i))) in
     omega (arith, requests, releases)
 
-module _ {w : ℕ} (config : Config) (log : Log w) (mail : AccessMessages w) (request : ℕ → MessageA w)
-    (s : State (List ℕ)) (matched : SimulationRelation config log mail request s (system_after config log))
+module _ {w : ℕ} {config : Config} {log : Log w} {mail : AccessMessages w} {request : ℕ → MessageA w}
+    {s : State (List ℕ)} (matched : SimulationRelation config log mail request s (system_after config log))
     (width : IsWidth w) (none : open_requests config s + open_releases config s ≡ 0) where
   -- the two sums of one client
   of_client : (c : ℕ) → c < clients_in config
       → (total (sources_in config c) (λ i. one_if (is_used (s.uses c i))) + length (s.link c).e ≡ 0)
       × (total (sources_in config c) (λ i. one_if (is_let (s.lets c i))) ≡ 0)
   of_client c few = (
-    total-none (clients_in config)
-        (λ d. total (sources_in config d) (λ i. one_if (is_used (s.uses d i))) + length (s.link d).e)
-        (omega (arith, none)) c few,
+    total-none (clients_in config) (λ d. total (sources_in config d) (λ i. one_if (is_used (s.uses d i))) + length
+        (s.link d).e) (omega (arith, none)) c few,
     total-none (clients_in config)
         (λ d. total (sources_in config d) (λ i. one_if (is_let (s.lets d i)))) (omega (arith, none)) c few,
   )
@@ -116,14 +114,14 @@ module _ {w : ℕ} (config : Config) (log : Log w) (mail : AccessMessages w) (re
       use_is c source (Some terms) at = closed_use c source terms at
 
       let_is : (c source : ℕ) (o : Option EndConfig) → terms_at config c ≡ o → s.lets c source ≡ None
-      let_is c source None at = strangers.no_let config log mail request s matched width c at source
+      let_is c source None at = strangers.no_let matched width c at source
       let_is c source (Some terms) at = closed_let c source terms at
 
   pub no-acks-counted : (c : ℕ) → (s.link c).e ≡ []
   no-acks-counted c = go (terms_at config c) refl
     where
       go : (o : Option EndConfig) → terms_at config c ≡ o → (s.link c).e ≡ []
-      go None at = strangers.no_tokens config log mail request s matched width c at Channel.E
+      go None at = strangers.no_tokens matched width c at Channel.E
       go (Some terms) at = no_ack c terms at
 
 -- A delivery is next exactly while something is outstanding.
@@ -146,15 +144,13 @@ next-while-outstanding {w} {config} {log} {mail} {request} {s} matched coherent 
     go : (o : Option (Link × Channel)) → next_delivery config (system_after config log) ≡ o → (b : Bool)
         → (outstanding log == 0) ≡ b → is_none o ≡ b
     go None e false f =
-        let bare = bare-when-standing config log mail request s matched coherent trackers firsts e width in
-        let none = none-counted config (closed-when-standing config log mail request s matched coherent trackers
-        firsts width e) bare.silent.e in
+        let bare = bare-when-standing matched coherent trackers firsts e width in
+        let none = none-counted config (closed-when-standing matched coherent trackers firsts width e) bare.silent.e in
         absurd (let yes = zero_is (outstanding log) (sum ∙ none) in let both : true ≡ false = sym yes ∙ f in cc)
     go (Some d) e true f =
         let none : open_requests config s + open_releases config s ≡ 0 = sym sum ∙ eqb-true (outstanding log) 0 f in
-        let stands = standing-when-closed config log mail request s matched coherent trackers firsts
-        (closed-when-counted config log mail request s matched width none)
-        (no-acks-counted config log mail request s matched width none) in
+        let stands = standing-when-closed matched coherent trackers firsts (closed-when-counted matched width none)
+        (no-acks-counted matched width none) in
         absurd (let both : Some d ≡ None = sym e ∙ stands in cc)
     go o e b f = refl
 

@@ -40,12 +40,12 @@ none_served (s ∷ ss) none = absurd (let both : Some s ≡ None = sym (found_fi
 few_test : (n : ℕ) → 0 < n → nat_le n 0 ≡ false
 few_test n lt = grind (arith, nat_tests, lt)
 
-module _ {w : ℕ} (config : Config) (log : Log w) (mail : AccessMessages w) (request : ℕ → MessageA w)
-    (s : State (List ℕ)) (matched : SimulationRelation config log mail request s (system_after config log))
+module _ {w : ℕ} {config : Config} {log : Log w} {mail : AccessMessages w} {request : ℕ → MessageA w}
+    {s : State (List ℕ)} (matched : SimulationRelation config log mail request s (system_after config log))
     (coherent : IsCoherent (system_after config log) log (one_memory_after config log)) (trackers : 0 < config.trackers)
     (firsts : (c : ℕ) (terms : EndConfig) (ch : Channel) (x : Beat w) (rest : List (Beat w))
-    → terms_at config c ≡ Some terms
-    → (system_after config log).channels c ch ≡ x ∷ rest → IsFirst config terms c ch x (system_after config log)) where
+    → terms_at config c ≡ Some terms → (system_after config log).channels c ch ≡ x ∷ rest
+    → IsFirst config terms c ch x (system_after config log)) where
   -- a channel without a beat has no message
   no_message : (c : ℕ) (ch : Channel) → (system_after config log).channels c ch ≡ [] → packets_on ch (s.link c) ≡ []
   no_message c ch none = no_tokens (message_of mail s c) (packets_on ch (s.link c))
@@ -74,8 +74,7 @@ module _ {w : ℕ} (config : Config) (log : Log w) (mail : AccessMessages w) (re
     moving : (c : ℕ) (terms : EndConfig) (ch : Channel) (x : Beat w) (rest : List (Beat w))
         → terms_at config c ≡ Some terms → (system_after config log).channels c ch ≡ x ∷ rest → Moves config log c x
     moving c terms ch x rest is e =
-        (exact config log mail request s matched coherent c terms is ch
-        (λ y more f. firsts c terms ch y more is f)).moves x rest e
+        (exact matched coherent c terms is ch (λ y more f. firsts c terms ch y more is f)).moves x rest e
 
     empty_e : (c : ℕ) (terms : EndConfig) → terms_at config c ≡ Some terms
         → (system_after config log).channels c Channel.E ≡ []
@@ -141,7 +140,7 @@ module _ {w : ℕ} (config : Config) (log : Log w) (mail : AccessMessages w) (re
         go : (x : Beat w) → IsFirst config terms c Channel.B x (system_after config log) → Moves config log c x
             → is_movable config c Channel.B (system_after config log) ≡ true
         go (Beat.B y) first m = true_from_ne_false _ (λ still.
-            let p = started-releasing config log mail request s matched coherent c (block_at y.address) (m.0 still) in
+            let p = started-releasing matched coherent c (block_at y.address) (m.0 still) in
             absurd (let both : true ≡ false = sym p ∙ none_releasing c (block_at y.address) terms is in cc))
         go x first m = absurd (let on = first.on in cc)
 
@@ -152,7 +151,7 @@ module _ {w : ℕ} (config : Config) (log : Log w) (mail : AccessMessages w) (re
       by_client ch empties c = go (terms_at config c) refl
         where
           go : (o : Option EndConfig) → terms_at config c ≡ o → packets_on ch (s.link c) ≡ []
-          go None is = strangers.no_tokens config log mail request s matched width c is ch
+          go None is = strangers.no_tokens matched width c is ch
           go (Some terms) is = no_message c ch (empties c terms is)
 
       silent : IsSilent s
@@ -186,14 +185,14 @@ module _ {w : ℕ} (config : Config) (log : Log w) (mail : AccessMessages w) (re
 
   -- where no delivery is next, nothing is open
   pub closed-when-standing : IsWidth w → next_delivery config (system_after config log) ≡ None → IsClosed s
-  closed-when-standing width none = closed-when_bare _ s matched.invariant (bare-when-standing none width)
+  closed-when-standing width none = closed-when_bare matched.invariant (bare-when-standing none width)
 
   -- where nothing is open, and no GrantAck is on its way, no delivery is next
   pub standing-when-closed : IsClosed s → ((c : ℕ) → (s.link c).e ≡ [])
       → next_delivery config (system_after config log) ≡ None
   standing-when-closed closed no_acks = no-next config (system_after config log)
       (λ c ch. empty-still config (system_after config log) c ch
-      (no_beat c ch (bare_on ch c (bare-when-closed _ s matched.invariant closed no_acks))))
+      (no_beat c ch (bare_on ch c (bare-when-closed matched.invariant closed no_acks))))
     where
       bare_on : (ch : Channel) (c : ℕ) → IsBare s → packets_on ch (s.link c) ≡ []
       bare_on Channel.A c bare = bare.a c

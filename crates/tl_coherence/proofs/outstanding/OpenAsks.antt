@@ -37,8 +37,7 @@ module _ {X : Type 0} (config : Config) (s : State X) where
           was,
           a,
           requests-split config s,
-          requests-split config
-              (access_asked c source s),
+          requests-split config (access_asked c source s),
         );
         releases = refl;
       }
@@ -58,8 +57,7 @@ module _ {X : Type 0} (config : Config) (s : State X) where
           was,
           a,
           requests-split config s,
-          requests-split config
-              (acquire_asked c n source whole g bytes s),
+          requests-split config (acquire_asked c n source whole g bytes s),
         );
         releases = refl;
       }

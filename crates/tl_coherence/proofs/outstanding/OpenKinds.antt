@@ -5,8 +5,8 @@ use Rattle.tl_coherence.proofs.outstanding.Imports.{Message, MessageA, Config, b
 use Rattle.tl_coherence.proofs.outstanding.Imports.{is_let, State, SourceState, SourceFree, Asked, Acquires, packet}
 use Rattle.tl_coherence.proofs.outstanding.Imports.{System, Request, Acquire, Release, ReleaseAck, Packet, one_if}
 use Rattle.tl_coherence.proofs.outstanding.Imports.{SimulationRelation, is_caching}
-use Rattle.std.proofs.Common.{◌≡◌, subst, ℕ, suc, ◌<◌, Bool, true, false, not, ◌&&◌, List, [], ◌∷◌, ◌++◌, length}
-use Rattle.std.proofs.Common.{refl, sym, ◌∙◌, ap, arith, Option, Some, None}
+use Rattle.std.proofs.Common.{◌≡◌, subst, ℕ, suc, ◌<◌, Bool, true, false, not, ◌&&◌, List, [], ◌∷◌, ◌++◌, length, refl}
+use Rattle.std.proofs.Common.{sym, ◌∙◌, ap, arith, Option, Some, None}
 use Rattle.std.{specs.Prelude.◌==◌, specs.Prelude.if◌then◌else◌, proofs.lemmas.List.length-append}
 use Rattle.tl_params.{specs.declared.param.Cap.Cap, specs.declared.param.Prune.Prune}
 use Rattle.tl_params.{specs.declared.param.Report.Report, specs.declared.profile.Profile.Profile}
@@ -130,8 +130,7 @@ module _ {X : Type 0} (config : Config) (s : State X) where
           was,
           a,
           requests-split config s,
-          requests-split config
-              (answer_taken c source rest s),
+          requests-split config (answer_taken c source rest s),
         );
         releases = refl;
       }
@@ -153,8 +152,7 @@ module _ {X : Type 0} (config : Config) (s : State X) where
           a,
           more,
           requests-split config s,
-          requests-split config
-              (grant_taken c n whole d k rest s),
+          requests-split config (grant_taken c n whole d k rest s),
         );
         releases = refl;
       }
@@ -235,26 +233,26 @@ module _ {w : ℕ} (config : Config) (h : AbstractState w) where
   granted-kind clients p c q n r NoAcquire rest = unchanged config h.state
   granted-kind clients p c q n r (AcquireOpen whole g) rest = report-grants config h.state c q n r _ _ rest
 
-  last-kind : (caching : ℕ → Bool) (clients : ℕ) (p : Profile) (c n : ℕ) (r : Report) (service : Service)
+  last-kind : {caching : ℕ → Bool} (clients : ℕ) (p : Profile) (c n : ℕ) (r : Report) (service : Service)
       (rest : List Packet) → IsInvariant caching h.state
       → (h.state.block n).service ≡ service → Stays (last_taken clients p c n r service rest h)
-  last-kind caching clients p c n r (Waits q true source k) rest inv e =
+  last-kind clients p c n r (Waits q true source k) rest inv e =
       granted-kind clients p c q n r ((h.state.block n).pair q).acquiring rest
-  last-kind caching clients p c n r (Waits q false source k) rest inv e =
+  last-kind clients p c n r (Waits q false source k) rest inv e =
       let with : serves_with q source (h.state.block n) ≡ true = rw (e, same_number q, same_number source) refl in
       report-answers config h.state c q n source r (follow.performs (h.request n)) rest
       (serves_of-is n (h.state.uses q source) (inv.named.serves q source n ∙ with))
-  last-kind caching clients p c n r service rest inv e = unchanged config h.state
+  last-kind clients p c n r service rest inv e = unchanged config h.state
 
-  ack-kind : (caching : ℕ → Bool) (clients : ℕ) (p : Profile) (c n : ℕ) (r : Report) (rest : List Packet)
+  ack-kind : {caching : ℕ → Bool} (clients : ℕ) (p : Profile) (c n : ℕ) (r : Report) (rest : List Packet)
       → IsInvariant caching h.state → Stays (ack_taken clients p c n r rest h)
-  ack-kind caching clients p c n r rest inv =
+  ack-kind {caching} clients p c n r rest inv =
       go (some_below clients (λ i. not (i == c) && not (is_unprobed ((h.state.block n).pair i).probing)))
     where
       go : (x : Bool) → Stays (if x then with_state (report_taken c n r rest h.state) h else last_taken clients p c n r
           (h.state.block n).service rest h)
       go true = report-taken config h.state c n r rest
-      go false = last-kind caching clients p c n r (h.state.block n).service rest inv refl
+      go false = last-kind clients p c n r (h.state.block n).service rest inv refl
 
 -- What is open, after the first token of a channel of a client's link is taken.
 pub balance-kind : {w : ℕ} {config : Config} {log : Log w} (tracker : ℕ) {c : ℕ} (k : Kind) (i : ℕ) (rest : List Packet)
@@ -272,7 +270,7 @@ balance-kind {config} tracker {c} Acquire n rest h is few own first =
     acquire-kind config h (clients_in config) config.profile c n tracker ((h.state.block n).pair c).acquiring rest
 balance-kind {config} tracker {c} Probe n rest h is few own first = probe-taken config h.state c n _ rest
 balance-kind {config} tracker {c} ProbeAck n rest h is few own first =
-    ack-kind config h (is_caching config) (clients_in config) config.profile c n
+    ack-kind config h (clients_in config) config.profile c n
     (report_told ((h.state.block n).pair c).probing) rest is.invariant
 balance-kind {config} tracker {c} Release n rest h is few own first = release-taken config h.state c n _ rest
 balance-kind {config} tracker {c} Answer source rest h is few own first =

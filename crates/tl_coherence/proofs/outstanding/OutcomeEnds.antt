@@ -105,8 +105,7 @@ first-probe {w} {c} h {sys} {x} {queue} first = go first.kind first.own first.ne
         (message_of_kind k h.mail h.state c first.number) (map (message_of h.mail h.state c) first.rest) queue
         → (channel_of x ≡ Channel.B) × ((is_ending k ≡ false) × (is_letting_go k ≡ false))
     go Probe own next = (
-      ap (λ (z : Beat w). channel_of z) next.beat_is
-          ∙ probe_on_b w c first.number next.k (h.state.block first.number),
+      ap (λ (z : Beat w). channel_of z) next.beat_is ∙ probe_on_b w c first.number next.k (h.state.block first.number),
       (refl, refl),
     )
     go k own next = absurd cc

@@ -44,7 +44,7 @@ pub use Rattle.tl_coherence.proofs.outstanding.OutcomeEnds.{first-moved}
 
 -- ---- one event
 
-module _ {w : ℕ} (config : Config) (log : Log w) (h : AbstractState w) (width : IsWidth w)
+module _ {w : ℕ} {config : Config} {log : Log w} (h : AbstractState w) (width : IsWidth w)
     (matched : SimulationRelation config log h.mail h.request h.state (system_after config log)) where
   -- what this event, with this outcome, starts and ends is what is opened and closed
   abbrev pub IsCounted : Event w → Outcome w → AbstractState w → Type 0
@@ -55,9 +55,9 @@ module _ {w : ℕ} (config : Config) (log : Log w) (h : AbstractState w) (width 
   bounds c = matched-bounded config log h.mail h.request h.state (system_after config log) matched c
       (sources-own config log c width)
 
-  counted-as : (link : Link) (ch : Channel) (o : Outcome w) (h' : AbstractState w) (ends lets : Bool) → Ends o ends lets
+  counted-as : (link : Link) (ch : Channel) (o : Outcome w) (h' : AbstractState w) {ends lets : Bool} → Ends o ends lets
       → IsBalance config h.state h'.state false ends false lets → IsCounted (Deliver link ch) o h'
-  counted-as link ch o h' ends lets e b = record {
+  counted-as link ch o h' e b = record {
     requests = ap (λ (x : Bool). open_requests config h'.state + one_if x) e.0 ∙ b.requests;
     releases = ap (λ (x : Bool). open_releases config h'.state + one_if x) e.1 ∙ b.releases;
   }
@@ -71,10 +71,10 @@ module _ {w : ℕ} (config : Config) (log : Log w) (h : AbstractState w) (width 
       → (b ≡ true → Ends o (is_ending k) (is_letting_go k)) → (b ≡ false → Ends o false false)
       → IsCounted (Deliver link ch) o (if b then kind_taken config tracker link.0 k i rest h else h)
   counted-either link ch o tracker k i rest true few first last part =
-      counted-as link ch o (kind_taken config tracker link.0 k i rest h) (is_ending k) (is_letting_go k) (last refl)
+      counted-as link ch o (kind_taken config tracker link.0 k i rest h) (last refl)
       (balance-kind tracker k i rest h matched few (bounds link.0) first)
   counted-either link ch o tracker k i rest false few first last part =
-      counted-as link ch o h false false (part refl) unopened
+      counted-as link ch o h (part refl) unopened
 
   -- ---- what the manager takes
 
@@ -106,18 +106,16 @@ module _ {w : ℕ} (config : Config) (log : Log w) (h : AbstractState w) (width 
       (abstract_step config (Deliver link ch) (system_after config log) h))
       (sym (ap (λ (y : Step w). y.outcome) at.step_is))
       (subst (λ (z : AbstractState w). IsCounted (Deliver link ch) (Outcome.Moved x) z) (sym at.follows)
-      (counted-either link ch (Outcome.Moved x) (next_tracker (system_after config log)) at.first.kind at.first.number
-      at.first.rest
-      (completes x (unfinished ch (receiver ch link.0 (system_after config log))))
-      (client_below config link.0 terms known)
-      (on_same ch at.first.kind (h.state.link link.0) at.first.own ∙ at.first.tokens)
-      (λ last. (ends.0 ∙ sym kinds.0, ends.1 ∙ sym kinds.1))
+      (counted-either link ch (Outcome.Moved x) (next_tracker (system_after config log)) at.first.kind
+      at.first.number at.first.rest (completes x (unfinished ch (receiver ch link.0 (system_after config log))))
+      (client_below config link.0 terms known) (on_same ch at.first.kind (h.state.link link.0) at.first.own
+      ∙ at.first.tokens) (λ last. (ends.0 ∙ sym kinds.0, ends.1 ∙ sym kinds.1))
       (λ part. (ends.0 ∙ part_apart ch link.0 x queue at.first part, ends.1))))
 
   -- ---- what a client takes
 
   -- the first token of the channel, and what its message ends
-  counted-client : (link : Link) (ch : Channel) (terms : EndConfig) (x : Beat w) (queue : List (Beat w))
+  counted-client : (link : Link) {ch : Channel} {terms : EndConfig} {x : Beat w} {queue : List (Beat w)}
       → terms_at config link.0 ≡ Some terms → (system_after config log).channels link.0 ch ≡ x ∷ queue
       → is_moving (stepped config (Deliver link ch) (system_after config log)).outcome ≡ true
       → (first : IsFirst ch link.0 h.mail h.state (system_after config log) x queue)
@@ -130,7 +128,7 @@ module _ {w : ℕ} (config : Config) (log : Log w) (h : AbstractState w) (width 
       → Ends (outcome_of x v) false false))
       → IsCounted (Deliver link ch) (stepped config (Deliver link ch) (system_after config log)).outcome
       (abstract_step config (Deliver link ch) (system_after config log) h)
-  counted-client link ch terms x queue known beats moving first t ends =
+  counted-client link {ch} {terms} {x} {queue} known beats moving first t ends =
       let done : Bool = completes x (unfinished ch (receiver ch link.0 (system_after config log))) in
       let follows : abstract_step config (Deliver link ch) (system_after config log) h
       ≡ (if done then kind_taken config (next_tracker (system_after config log)) link.0 first.kind first.number
@@ -156,7 +154,7 @@ module _ {w : ℕ} (config : Config) (log : Log w) (h : AbstractState w) (width 
       let first = first-token (is_caching config) Channel.B link.0 h.mail h.state (system_after config log) x queue
       width matched.invariant matched.carried beats in
       let probe = first-probe h first in
-      counted-client link Channel.B terms x queue known beats moving first
+      counted-client link known beats moving first
       (client-moves config link Channel.B (system_after config log) terms x queue known beats refl moving)
       (λ v m answer.
       let none = probe-ends x ((system_after config log).clients link.0) v m probe.0 answer in
@@ -204,7 +202,7 @@ module _ {w : ℕ} (config : Config) (log : Log w) (h : AbstractState w) (width 
       → is_moving (stepped config (Deliver link Channel.D) (system_after config log)).outcome ≡ true
       → IsCounted (Deliver link Channel.D) (stepped config (Deliver link Channel.D) (system_after config log)).outcome
       (abstract_step config (Deliver link Channel.D) (system_after config log) h)
-  counted-d link terms x queue known beats moving = counted-client link Channel.D terms x queue known beats moving first
+  counted-d link terms x queue known beats moving = counted-client link known beats moving first
       (client-moves config link Channel.D (system_after config log) terms x queue known beats refl moving)
       (kinds first.kind first.tokens first.own first.next)
     where
@@ -250,7 +248,7 @@ module _ {w : ℕ} (config : Config) (log : Log w) (h : AbstractState w) (width 
       → IsCounted (Deliver link ch) (stepped config (Deliver link ch) (system_after config log)).outcome
       (abstract_step config (Deliver link ch) (system_after config log) h)
   counted-delivery link ch false still = rw (followed-still config link ch (system_after config log) h still)
-      (counted-as link ch (stepped config (Deliver link ch) (system_after config log)).outcome h false false
+      (counted-as link ch (stepped config (Deliver link ch) (system_after config log)).outcome h
       (still-ends (stepped config (Deliver link ch) (system_after config log)).outcome still) unopened)
   counted-delivery link ch true moving = go ch (first-moved config link ch (system_after config log) moving) moving
     where

@@ -1,9 +1,8 @@
 -- Whatever happens to a manager and its clients, what is outstanding is what is open, and a delivery is next exactly
 -- while
 -- something is outstanding.
-use Rattle.tl_coherence.proofs.outstanding.Imports.{IsWidth, Config, Outcome, abstract_step, outstanding, Log}
-use Rattle.tl_coherence.proofs.outstanding.Imports.{system_after, next_delivery}
-use Rattle.std.proofs.Common.{◌≡◌, subst, ℕ, ◌<◌, true, [], ◌∷◌, None, length, sym, arith}
+use Rattle.tl_coherence.proofs.outstanding.Imports.{IsWidth, Config, outstanding, Log, system_after, next_delivery}
+use Rattle.std.proofs.Common.{◌≡◌, ℕ, ◌<◌, true, [], ◌∷◌, None, length, arith}
 use Rattle.std.{specs.Prelude.◌==◌, specs.Prelude.is_none, proofs.lemmas.Bool.Decides.nat_tests}
 use Rattle.tl_params.specs.statement.Config.{config_fault, blocks_fit, trackers_fit, all_sources_fit}
 use Rattle.tl_params.specs.statement.Range.{is_from_to}

@@ -13,8 +13,7 @@ use Rattle.std.specs.Prelude.{ℕ, Bool, true, false, not, List, ◌∷◌, ◌=
 use Rattle.std.{proofs.lemmas.Bool.cases_eq, proofs.lemmas.Bool.ne_eqb, proofs.Math.Bool.and-false}
 use Rattle.tl_coherence.specs.protocol.PhaseSteps.{after_release_ack}
 use Rattle.tl_coherence.specs.protocol.Protocol.{let_go_block, release_ack_taken, freed_block, grant_ack_taken}
-use Rattle.tl_coherence.proofs.queues.Moves.{moves_at, event-at, bare-at, names-block, names-set, names-set_at}
-use Rattle.tl_coherence.proofs.queues.Moves.{invariant-moved}
+use Rattle.tl_coherence.proofs.queues.Moves.{event-at, bare-at, names-block, names-set, names-set_at, invariant-moved}
 use Rattle.tl_coherence.proofs.{queues.KindMoves.same_again, protocol.BothParts.is_of-is}
 use Rattle.tl_coherence.proofs.queues.Tokens.{same_number, set-same, set-other, set-part}
 use Rattle.tl_coherence.proofs.queues.PhaseSteps.{release_ack-ok, ack_taken-ok, ack_taken_other-ok}
@@ -75,8 +74,8 @@ release_ack_taken-kept {X} {caching} c n rest {s} inv first acked =
     let new : Block X = let_go_block c (s.block n) in
     let source : ℕ = (s.block n).release_source c in
     let used = is_of-is n (s.lets c source) (inv.named.releases c source n ∙ rw (acked, same_number source) refl) in
-    invariant-moved caching n new (set c here s.link) (moves_at c (let_go_moves n)) (set_at c source None s.lets)
-    s.tracked s inv
+    invariant-moved (set_at c source None s.lets)
+    s.tracked inv
     (event-at (record {
       well = let_go-block c (inv.blocks n) acked;
       moved = moved;
@@ -148,7 +147,7 @@ grant_ack_taken-kept {X} {caching} c n rest {s} inv first taken =
     let own : (ch : Channel) → is_own_move ch (freed_moves n ch) ≡ true = elim [ Channel.A ↦ refl | ch ↦ refl ] in
     let new : Block X = freed_block (s.block n) in
     let used = is_of-is n (s.tracked tracker) (inv.named.trackers tracker n ∙ rw (taken, same_number tracker) refl) in
-    invariant-moved caching n new (set c here s.link) (moves_at c (freed_moves n)) s.lets (set tracker None s.tracked) s
+    invariant-moved s.lets (set tracker None s.tracked)
     inv
     (event-at (record {
       well = freed-block c (inv.blocks n) taken;

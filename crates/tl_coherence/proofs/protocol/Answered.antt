@@ -1,9 +1,9 @@
 -- An access that is answered as it is taken, and an answer that is taken, keep the invariant.
-use Rattle.tl_coherence.proofs.protocol.Imports.{Channel, same_perm, Kind, Request, ProbeAck, Answer, Packet}
-use Rattle.tl_coherence.proofs.protocol.Imports.{Block, State, Link, Asked, Replied, view, packet, shown}
-use Rattle.tl_coherence.proofs.protocol.Imports.{is_transfer, Move, Stays, Pushes, Pops, AreMoved, is_own_move}
-use Rattle.tl_coherence.proofs.protocol.Imports.{channel_for, is_of, acquires_of, serves_of, acquires_with, serves_with}
-use Rattle.tl_coherence.proofs.protocol.Imports.{releases_with, tracks_with, IsWell, IsInvariant, Perm}
+use Rattle.tl_coherence.proofs.protocol.Imports.{Channel, same_perm, Kind, Request, ProbeAck, Answer, Packet, Block}
+use Rattle.tl_coherence.proofs.protocol.Imports.{State, Link, Asked, Replied, view, packet, shown, is_transfer, Move}
+use Rattle.tl_coherence.proofs.protocol.Imports.{Stays, Pushes, Pops, AreMoved, is_own_move, channel_for, is_of}
+use Rattle.tl_coherence.proofs.protocol.Imports.{acquires_of, serves_of, acquires_with, serves_with, releases_with}
+use Rattle.tl_coherence.proofs.protocol.Imports.{tracks_with, IsWell, IsInvariant, Perm}
 use Rattle.std.proofs.Common.{◌≡◌, refl, sym, ◌∙◌, ap, ◌⊎◌, inl, inr}
 use Rattle.std.specs.Prelude.{ℕ, Bool, true, false, List, ◌∷◌}
 use Rattle.tl_coherence.specs.protocol.Protocol.{performed_block, answered_link, access_answered, answer_taken}

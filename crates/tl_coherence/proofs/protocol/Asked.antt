@@ -20,9 +20,8 @@ use Rattle.tl_coherence.proofs.{queues.KindMoves.spares, queues.KindMoves.same_a
 use Rattle.tl_coherence.proofs.queues.Facts.{own_wants, held_at_most, held_out, unserved_calm}
 use Rattle.tl_coherence.proofs.protocol.Blocks.{awaited-same, asked_cap-same, asked_cap-other, own_source-other}
 use Rattle.tl_coherence.proofs.protocol.Blocks.{gentle-same, alone-set, owned-set, outside-set}
-use Rattle.tl_coherence.proofs.queues.Moves.{moves_at, event-at, bare-at, bare-elsewhere, invariant-moved_access}
-use Rattle.tl_coherence.proofs.queues.Moves.{names-kept, names-block, names-set_at, invariant-moved}
-use Rattle.tl_coherence.proofs.queues.Moves.{invariant-moved_use}
+use Rattle.tl_coherence.proofs.queues.Moves.{event-at, bare-at, bare-elsewhere, invariant-moved_access, names-kept}
+use Rattle.tl_coherence.proofs.queues.Moves.{names-block, names-set_at, invariant-moved, invariant-moved_use}
 use Rattle.tl_coherence.proofs.queues.Tokens.{same_number, set-same, set-other, set-part}
 
 -- ---- blocks
@@ -93,9 +92,9 @@ releasing-block {caching} c source r {b} h inside calm kept fits =
       memory = λ none. h.memory (λ d. rw (recorded_same d) at (none d));
     }
 
-pub stored-block : {X : Type 0} (caching : ℕ → Bool) (c : ℕ) (bytes : X) (b : Block X) → IsWell caching b
+pub stored-block : {X : Type 0} {caching : ℕ → Bool} (c : ℕ) (bytes : X) {b : Block X} → IsWell caching b
     → same_perm (b.pair c).held Perm.Trunk ≡ true → IsWell caching (stored_block c bytes b)
-stored-block caching c bytes b h may =
+stored-block c bytes {b} h may =
     let out : is_out (b.pair c) (view b.service c) ≡ true = held_out (b.pair c) (view b.service c) (h.phases c) may in
     let owns = and_left (same_perm (b.pair c).recorded Perm.Trunk) (not (is_granting (view b.service c))) out in
     record {
@@ -231,8 +230,8 @@ release_asked-kept {X} {caching} c n source r {s} inv inside closed calm kept fi
     let old : ℕ → ClientBlock = (s.block n).pair in
     let after : ClientBlock = after_release r (old c) in
     let new : Block X = releasing_block c source r (s.block n) in
-    invariant-moved caching n new (set c here s.link) (moves_at c (release_moves n)) (set_at c source (Some n) s.lets)
-    s.tracked s inv
+    invariant-moved (set_at c source (Some n) s.lets)
+    s.tracked inv
     (event-at (record {
       well = releasing-block c source r (inv.blocks n) inside calm kept fits;
       moved = moved;
@@ -257,12 +256,12 @@ release_asked-kept {X} {caching} c n source r {s} inv inside closed calm kept fi
     })
 
 -- a store
-pub block_stored-kept : {X : Type 0} (caching : ℕ → Bool) (c n : ℕ) (bytes : X) (s : State X) → IsInvariant caching s
+pub block_stored-kept : {X : Type 0} {caching : ℕ → Bool} (c n : ℕ) (bytes : X) {s : State X} → IsInvariant caching s
     → same_perm ((s.block n).pair c).held Perm.Trunk ≡ true → IsInvariant caching (block_stored c n bytes s)
-block_stored-kept {X} caching c n bytes s inv may =
+block_stored-kept {X} {caching} c n bytes {s} inv may =
     let new : Block X = stored_block c bytes (s.block n) in
-    invariant-moved caching n new s.link (λ d ch. Stays) s.lets s.tracked s inv (record {
-      well = stored-block caching c bytes (s.block n) (inv.blocks n) may;
+    invariant-moved {n = n} {b = new} {link = s.link} {moves = (λ d ch. Stays)} s.lets s.tracked inv (record {
+      well = stored-block c bytes (inv.blocks n) may;
       moved = λ d ch. refl;
       own = λ d ch. refl;
       fits = λ d k t. same_again (shown k d (s.block n));

@@ -12,7 +12,7 @@ use Rattle.std.proofs.Common.{◌≡◌, refl, sym, ◌∙◌, ◌⊎◌, inl, i
 use Rattle.std.specs.Prelude.{ℕ, Bool, true, false, not, List, ◌∷◌, Some, None}
 use Rattle.std.proofs.lemmas.Bool.{cases_eq, ne_eqb}
 use Rattle.tl_coherence.specs.protocol.Protocol.{granted_at_once, answered_link, acquire_granted}
-use Rattle.tl_coherence.proofs.queues.Moves.{moves_at, event-at, bare-at, names-block, names-set, invariant-moved}
+use Rattle.tl_coherence.proofs.queues.Moves.{event-at, bare-at, names-block, names-set, invariant-moved}
 use Rattle.tl_coherence.proofs.{queues.KindMoves.same_again, queues.Facts.asked_low, queues.PhaseFacts.quiet_at_rest}
 use Rattle.tl_coherence.proofs.{protocol.Blocks.busy-inside, protocol.Blocks.outside-set, queues.Perms.not_out}
 use Rattle.tl_coherence.proofs.queues.Tokens.{same_number, set-same, set-other, set-part}
@@ -30,8 +30,7 @@ pub record IsGrantable {X : Type 0} (r : ℕ) (whole : Bool) (g : Grow) (gift : 
   pub room : same_cap gift Cap.ToT ≡ true → (d : ℕ) → (d ≡ r → ⊥) → same_perm (b.pair d).recorded Perm.None ≡ true
 
 pub granted_at_once-block : {X : Type 0} {caching : ℕ → Bool} {r : ℕ} (tracker : ℕ) {whole : Bool} {g : Grow}
-    {gift : Cap}
-    {b : Block X} → IsWell caching b → IsGrantable r whole g gift b
+    {gift : Cap} {b : Block X} → IsWell caching b → IsGrantable r whole g gift b
     → IsWell caching (granted_at_once r tracker (is_granted_data whole g (b.pair r).recorded) gift b)
 granted_at_once-block {caching} {r} tracker {whole} {g} {gift} {b} h is =
     let quiet : (d : ℕ) → is_unprobed (b.pair d).probing ≡ true =
@@ -137,8 +136,8 @@ acquire_granted-kept {X} {caching} {r} n tracker {whole} {g} {gift} rest {s} inv
     let old : ℕ → ClientBlock = (s.block n).pair in
     let after : ClientBlock = after_grant_sent gift (old r) in
     let new : Block X = granted_at_once r tracker with_data gift (s.block n) in
-    invariant-moved caching n new (set r here s.link) (moves_at r (once_moves n)) s.lets
-    (set tracker (Some n) s.tracked) s inv
+    invariant-moved s.lets
+    (set tracker (Some n) s.tracked) inv
     (event-at (record {
       well = granted_at_once-block tracker (inv.blocks n) is;
       moved = moved;

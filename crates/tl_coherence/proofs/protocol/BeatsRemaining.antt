@@ -1,8 +1,8 @@
 -- How many beats of a message are left on its channel, before and after each event.
 use Rattle.tl_coherence.proofs.protocol.Imports.{Beat, Channel, beats_of, Move, Stays, Pushes, Pops, IsMoved}
 use Rattle.tl_coherence.proofs.protocol.Imports.{channel_for, State, packet, packets_on, is_on, is_transfer, shown}
-use Rattle.tl_coherence.proofs.protocol.Imports.{AccessMessages, block_message, Kind, Request}
-use Rattle.tl_coherence.proofs.protocol.Imports.{Answer, Packet, one_if, count}
+use Rattle.tl_coherence.proofs.protocol.Imports.{AccessMessages, block_message, Kind, Request, Answer, Packet, one_if}
+use Rattle.tl_coherence.proofs.protocol.Imports.{count}
 use Rattle.std.proofs.Common.{◌≡◌, ℕ, ◌-◌, ◌<◌, ◌≤◌, Bool, true, false, List, [], ◌∷◌, ◌++◌, refl, sym, ap, subst}
 use Rattle.std.proofs.Common.{arith, ◌⊎◌, inl, inr}
 use Rattle.std.{specs.Prelude.length, proofs.lemmas.Bool.cases_eq}
@@ -91,8 +91,8 @@ own_kind : (k : Kind) → is_on (channel_for k) k ≡ true
 own_kind Request = refl
 own_kind k = refl
 
-module _ {w : ℕ} (caching : ℕ → Bool) (n : ℕ) (moves : ℕ → Channel → Move) (mail mail' : AccessMessages w)
-    (s s' : State (List ℕ)) (showing : IsShowing caching n moves mail mail' s s') where
+module _ {w : ℕ} {caching : ℕ → Bool} {n : ℕ} {moves : ℕ → Channel → Move} {mail mail' : AccessMessages w}
+    {s s' : State (List ℕ)} (showing : IsShowing caching n moves mail mail' s s') where
   shows_before : (d : ℕ) (k : Kind) (m : ℕ) → IsHere s d k m → shows_it s d k m ≡ true
   shows_before d k m there = shown_there d (channel_for k) k m showing.before (own_kind k) there
 
@@ -118,10 +118,10 @@ module _ {w : ℕ} (caching : ℕ → Bool) (n : ℕ) (moves : ℕ → Channel �
   message-same d k m before after = transfer_same d k m refl (shows_before d k m before) (shows_after d k m after)
 
   -- as much is left of a token that stays
-  pub left-same : (c : ℕ) (ch : Channel) (rest rest' : ℕ → Channel → List (Beat w))
+  pub left-same : {c : ℕ} {ch : Channel} {rest rest' : ℕ → Channel → List (Beat w)}
       → IsPopped c ch moves rest rest' s s' → (d : ℕ) (k : Kind) (m : ℕ) → IsHere s d k m → IsHere s' d k m
       → beats_left mail' s' rest' d k m ≡ beats_left mail s rest d k m
-  left-same c ch rest rest' popped d k m before after =
+  left-same {c} {ch} {rest} {rest'} popped d k m before after =
       rw (message-same d k m before after) (ap (λ (i : ℕ). beats_of (message_of_kind k mail s d m) - i)
       (go (cases_eq d c) (same_channels (channel_for k) ch)))
     where
@@ -137,4 +137,4 @@ module _ {w : ℕ} (caching : ℕ → Bool) (n : ℕ) (moves : ℕ → Channel �
       go (inr ne) at = apart (λ e f. ne e)
       go (inl e) (inr ne) = apart (λ g f. ne f)
       go (inl e) (inl f) = taken-none k m popped.first _ _ (rest d (channel_for k)) (rest' d (channel_for k))
-          (rw (e, f) popped.tokens) (rw (e, f) popped.none) (once caching s d (channel_for k) showing.before k m) after
+          (rw (e, f) popped.tokens) (rw (e, f) popped.none) (once d (channel_for k) showing.before k m) after

@@ -16,7 +16,7 @@ use Rattle.tl_coherence.proofs.protocol.TokenNames.{tracker_of_service, busy_unl
 
 -- ---- each token is the one of its source, or of its tracker
 
-module _ {X : Type 0} (caching : ℕ → Bool) (s : State X) (c n : ℕ) (inv : IsInvariant caching s) where
+module _ {X : Type 0} {caching : ℕ → Bool} {s : State X} (c n : ℕ) (inv : IsInvariant caching s) where
   pub request_named : is_asked (s.uses c n) ≡ true → s.uses c n ≡ Asked
   request_named e = is_asked-is (s.uses c n) e
 
@@ -79,54 +79,50 @@ module _ {X : Type 0} (caching : ℕ → Bool) (s : State X) (c sources trackers
   asked_token : (x : Packet) → IsThere x (s.link c).a
       → (asked_by (name s c x.kind x.number) (s.uses c (name s c x.kind x.number)) ≡ Some x)
       × (name s c x.kind x.number < sources)
-  asked_token x there = go x.kind refl (kind_there caching s c Channel.A x inv there)
+  asked_token x there = go x.kind refl (kind_there c Channel.A x inv there)
     where
       go : (k : Kind) → x.kind ≡ k → is_on Channel.A k ≡ true
           → (asked_by (name s c k x.number) (s.uses c (name s c k x.number)) ≡ Some x) × (name s c k x.number < sources)
       go Request e on_it =
-          let used = request_named caching s c x.number inv (shown_there c Channel.A Request x.number inv refl
+          let used = request_named c x.number inv (shown_there c Channel.A Request x.number inv refl
           (rw e at there)) in (
             rw used (ap (λ (y : Packet). Some y) (token-is x Request e)),
-            used_below bounds x.number Asked used
-                (λ h. absurd cc),
+            used_below bounds x.number Asked used (λ h. absurd cc),
           )
       go Acquire e on_it =
-          let used = acquire_named caching s c x.number inv (shown_there c Channel.A Acquire x.number inv refl
+          let used = acquire_named c x.number inv (shown_there c Channel.A Acquire x.number inv refl
           (rw e at there)) in (
             rw used (ap (λ (y : Packet). Some y) (token-is x Acquire e)),
-            used_below bounds ((s.block x.number).source c)
-                (Acquires x.number) used (λ h. absurd cc),
+            used_below bounds ((s.block x.number).source c) (Acquires x.number) used (λ h. absurd cc),
           )
       go k e on_it = absurd cc
 
   pub few_on_a : length (s.link c).a ≤ sources
   few_on_a =
       let all = few (λ x. true) (λ x. name s c x.kind x.number) (λ i. asked_by i (s.uses c i)) sources (s.link c).a
-      (once caching s c Channel.A inv) (λ x there pass. asked_token x there) in
+      (once c Channel.A inv) (λ x there pass. asked_token x there) in
       rw (all-pass (s.link c).a) at all
 
   -- what is answered on D, the ReleaseAcks aside
   answered_token : (x : Packet) → IsThere x (s.link c).d → not (same_kind x.kind ReleaseAck) ≡ true
       → (answered_by (name s c x.kind x.number) (s.uses c (name s c x.kind x.number)) ≡ Some x)
       × (name s c x.kind x.number < sources)
-  answered_token x there = go x.kind refl (kind_there caching s c Channel.D x inv there)
+  answered_token x there = go x.kind refl (kind_there c Channel.D x inv there)
     where
       go : (k : Kind) → x.kind ≡ k → is_on Channel.D k ≡ true → not (same_kind k ReleaseAck) ≡ true
           → (answered_by (name s c k x.number) (s.uses c (name s c k x.number)) ≡ Some x)
           × (name s c k x.number < sources)
       go Answer e on_it pass =
-          let used = answer_named caching s c x.number inv (shown_there c Channel.D Answer x.number inv refl
+          let used = answer_named c x.number inv (shown_there c Channel.D Answer x.number inv refl
           (rw e at there)) in (
             rw used (ap (λ (y : Packet). Some y) (token-is x Answer e)),
-            used_below bounds x.number Replied used
-                (λ h. absurd cc),
+            used_below bounds x.number Replied used (λ h. absurd cc),
           )
       go Grant e on_it pass =
-          let used = grant_named caching s c x.number inv (shown_there c Channel.D Grant x.number inv refl
+          let used = grant_named c x.number inv (shown_there c Channel.D Grant x.number inv refl
           (rw e at there)) in (
             rw used (ap (λ (y : Packet). Some y) (token-is x Grant e)),
-            used_below bounds ((s.block x.number).source c)
-                (Acquires x.number) used (λ h. absurd cc),
+            used_below bounds ((s.block x.number).source c) (Acquires x.number) used (λ h. absurd cc),
           )
       go k e on_it pass = absurd cc
 
@@ -135,12 +131,10 @@ module _ {X : Type 0} (caching : ℕ → Bool) (s : State X) (c sources trackers
       → IsThere x (packets_on ch (s.link c)) → is_of_release k ≡ true
       → (of_block k (s.lets c (name s c k x.number)) ≡ Some x) × (name s c k x.number < sources)
   released_token ch x Release e on_it there which =
-      let let_by = release_named caching s c x.number inv (shown_there c ch Release x.number inv on_it
-      (rw e at there)) in
+      let let_by = release_named c x.number inv (shown_there c ch Release x.number inv on_it (rw e at there)) in
       (rw let_by (ap (λ (y : Packet). Some y) (token-is x Release e)), bounds.releases _ x.number let_by)
   released_token ch x ReleaseAck e on_it there which =
-      let let_by = release_ack_named caching s c x.number inv (shown_there c ch ReleaseAck x.number inv on_it
-      (rw e at there)) in
+      let let_by = release_ack_named c x.number inv (shown_there c ch ReleaseAck x.number inv on_it (rw e at there)) in
       (rw let_by (ap (λ (y : Packet). Some y) (token-is x ReleaseAck e)), bounds.releases _ x.number let_by)
   released_token ch x k e on_it there which = absurd cc
 
@@ -156,16 +150,13 @@ module _ {X : Type 0} (caching : ℕ → Bool) (s : State X) (c sources trackers
       → IsThere x (packets_on ch (s.link c)) → is_tracked k ≡ true
       → (of_block k (s.tracked (name s c k x.number)) ≡ Some x) × (name s c k x.number < trackers)
   tracked_token ch x Probe e on_it there which =
-      let by = probe_named caching s c x.number inv (shown_there c ch Probe x.number inv on_it
-      (rw e at there)) in
+      let by = probe_named c x.number inv (shown_there c ch Probe x.number inv on_it (rw e at there)) in
       (rw by (ap (λ (y : Packet). Some y) (token-is x Probe e)), bounds.tracked _ x.number by)
   tracked_token ch x ProbeAck e on_it there which =
-      let by = report_named caching s c x.number inv (shown_there c ch ProbeAck x.number inv on_it
-      (rw e at there)) in
+      let by = report_named c x.number inv (shown_there c ch ProbeAck x.number inv on_it (rw e at there)) in
       (rw by (ap (λ (y : Packet). Some y) (token-is x ProbeAck e)), bounds.tracked _ x.number by)
   tracked_token ch x GrantAck e on_it there which =
-      let by = grant_ack_named caching s c x.number inv (shown_there c ch GrantAck x.number inv on_it
-      (rw e at there)) in
+      let by = grant_ack_named c x.number inv (shown_there c ch GrantAck x.number inv on_it (rw e at there)) in
       (rw by (ap (λ (y : Packet). Some y) (token-is x GrantAck e)), bounds.tracked _ x.number by)
   tracked_token ch x k e on_it there which = absurd cc
 
@@ -178,7 +169,7 @@ module _ {X : Type 0} (caching : ℕ → Bool) (s : State X) (c sources trackers
 
   -- a kind of the channel that isn't the one is the other
   only_kind : (ch : Channel) (x : Packet) → IsThere x (packets_on ch (s.link c)) → is_on ch x.kind ≡ true
-  only_kind ch x there = kind_there caching s c ch x inv there
+  only_kind ch x there = kind_there c ch x inv there
 
   kind_is : (k j : Kind) → same_kind k j ≡ true → k ≡ j
   kind_is Request Request e = refl
@@ -207,34 +198,34 @@ module _ {X : Type 0} (caching : ℕ → Bool) (s : State X) (c sources trackers
   pub few_on_b : length (s.link c).b ≤ trackers
   few_on_b =
       let all = few (λ x. true) (λ x. name s c x.kind x.number) (λ i. of_block Probe (s.tracked i)) trackers
-      (s.link c).b (once caching s c Channel.B inv) (λ x there pass. tracked_there Channel.B Probe x refl refl there
+      (s.link c).b (once c Channel.B inv) (λ x there pass. tracked_there Channel.B Probe x refl refl there
       (probe_alone x.kind (only_kind Channel.B x there))) in
       rw (all-pass (s.link c).b) at all
 
   pub few_on_e : length (s.link c).e ≤ trackers
   few_on_e =
       let all = few (λ x. true) (λ x. name s c x.kind x.number) (λ i. of_block GrantAck (s.tracked i)) trackers
-      (s.link c).e (once caching s c Channel.E inv) (λ x there pass. tracked_there Channel.E GrantAck x refl refl
+      (s.link c).e (once c Channel.E inv) (λ x there pass. tracked_there Channel.E GrantAck x refl refl
       there (ack_alone x.kind (only_kind Channel.E x there))) in
       rw (all-pass (s.link c).e) at all
 
   pub few_on_c : length (s.link c).c ≤ sources + trackers
   few_on_c =
       let releases = few (λ x. same_kind x.kind Release) (λ x. name s c x.kind x.number)
-      (λ i. of_block Release (s.lets c i)) sources (s.link c).c (once caching s c Channel.C inv)
+      (λ i. of_block Release (s.lets c i)) sources (s.link c).c (once c Channel.C inv)
       (λ x there pass. released_there Channel.C Release x refl refl there (kind_is x.kind Release pass)) in
       let reports = few (λ x. not (same_kind x.kind Release)) (λ x. name s c x.kind x.number)
-      (λ i. of_block ProbeAck (s.tracked i)) trackers (s.link c).c (once caching s c Channel.C inv)
+      (λ i. of_block ProbeAck (s.tracked i)) trackers (s.link c).c (once c Channel.C inv)
       (λ x there pass. tracked_there Channel.C ProbeAck x refl refl there
       (report_or_release x.kind (only_kind Channel.C x there) pass)) in
       omega (arith, pass-or-not (λ x. same_kind x.kind Release) (s.link c).c, releases, reports)
 
   pub few_acks_on_d : passing (λ x. same_kind x.kind ReleaseAck) (s.link c).d ≤ sources
   few_acks_on_d = few (λ x. same_kind x.kind ReleaseAck) (λ x. name s c x.kind x.number)
-      (λ i. of_block ReleaseAck (s.lets c i)) sources (s.link c).d (once caching s c Channel.D inv)
+      (λ i. of_block ReleaseAck (s.lets c i)) sources (s.link c).d (once c Channel.D inv)
       (λ x there pass. released_there Channel.D ReleaseAck x refl refl there (kind_is x.kind ReleaseAck pass))
 
   pub few_responses_on_d : passing (λ x. not (same_kind x.kind ReleaseAck)) (s.link c).d ≤ sources
   few_responses_on_d = few (λ x. not (same_kind x.kind ReleaseAck)) (λ x. name s c x.kind x.number)
-      (λ i. answered_by i (s.uses c i)) sources (s.link c).d (once caching s c Channel.D inv)
+      (λ i. answered_by i (s.uses c i)) sources (s.link c).d (once c Channel.D inv)
       (λ x there pass. answered_token x there pass)

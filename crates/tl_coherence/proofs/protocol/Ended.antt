@@ -161,10 +161,10 @@ ended_moved Channel.E false false n source l rest e = refl
 
 -- ---- the whole
 
-pub report_answers-kept : {X : Type 0} (caching : ℕ → Bool) (c q n : ℕ) (r : Report) (f : X → X) (source : ℕ) (k : Cap)
-    (rest : List Packet) (s : State X) → IsInvariant caching s → (s.link c).c ≡ packet ProbeAck n ∷ rest
+pub report_answers-kept : {X : Type 0} {caching : ℕ → Bool} {c q : ℕ} (n : ℕ) {r : Report} {f : X → X} {source : ℕ}
+    {k : Cap} (rest : List Packet) {s : State X} → IsInvariant caching s → (s.link c).c ≡ packet ProbeAck n ∷ rest
     → IsLastOf c q r f source k (s.block n) → IsInvariant caching (report_answers c q n source r f rest s)
-report_answers-kept {X} caching c q n r f source k rest s inv first last =
+report_answers-kept {X} {c} {q} n {r} {f} {source} {k} rest {s} inv first last =
     let never_pushed : (x : Bool) (m : ℕ) → (if x then Pops ProbeAck n else Stays) ≡ Pushes ProbeAck m → ⊥ =
     elim [ true ↦ λ m e. cc | false ↦ λ m e. cc ] in
     let links : ℕ → Link = ended_link c q (packet Answer source) rest s.link in

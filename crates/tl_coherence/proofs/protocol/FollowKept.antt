@@ -92,8 +92,7 @@ ack_taken-kept {w} {caching} clients p c n rest h inv plain first long serving =
           wants = wants;
           fits = gift_fits p whole g (b.pair q).held (is_unheld clients after) fits;
           room = λ top d ne. elim (gift_trunk p whole g (b.pair q).held (is_unheld clients after) fits top) [
-            | inl grows ↦ room-trunk c q r whole g source k (inv.blocks n) waits answered quiet wants grows
-                differ d ne
+            | inl grows ↦ room-trunk c q r whole g source k (inv.blocks n) waits answered quiet wants grows differ d ne
             | inr unheld ↦ unheld_none clients caching after plain (outside-set caching c (after_report r (b.pair c))
                 b.pair inside (inv.blocks n).outside) unheld d
           ];
@@ -121,7 +120,8 @@ ack_taken-kept {w} {caching} clients p c n rest h inv plain first long serving =
         (granted q source k e quiet wants.0 wants.1 wants.2)
     last quiet (Waits q false source k) e =
         let for : IsServing (Waits q false source k) (h.request n) = rw e at serving in
-        report_answers-kept caching c q n r (performs (h.request n)) source k rest h.state inv first (record {
+        report_answers-kept {c = c} {q = q} n {r = r} {f = (performs (h.request n))} {source = source} {k = k} rest inv
+        first (record {
           waits = e;
           answered = answered;
           settled = quiet;
@@ -163,8 +163,7 @@ grant_followed-kept {w} {caching} c n rest h inv first = go b.service refl
     go : (service : Service) → b.service ≡ service → IsInvariant caching (taken_by_client c n service rest h).state
     go Free e = absurd (let no : false ≡ true = rw e at seen in cc)
     go (Waits q o source k) e = absurd (let one : is_granting (view (Waits q o source k) c) ≡ true = rw e at seen in
-        let none =
-        never (o && (c == q)) Own (Other k) refl refl in let no : false ≡ true = sym none ∙ one in cc)
+        let none = never (o && (c == q)) Own (Other k) refl refl in let no : false ≡ true = sym none ∙ one in cc)
     go (GrantTaken q) e = absurd (let one : is_granting (view (GrantTaken q) c) ≡ true = rw e at seen in let none =
         never (c == q) Acknowledging GrantedOther refl refl in let no : false ≡ true = sym none ∙ one in cc)
     go (GrantSent q d k) e =
@@ -189,45 +188,43 @@ IsReady tracker c Acquire n h = ((h.state.block n).service ≡ Free) × (h.state
 IsReady tracker c Probe n h = ((h.state.block n).pair c).letting ≡ NoRelease
 IsReady tracker c _ n h = ⊤
 
-pub kind_taken-kept : {w : ℕ} (caching : ℕ → Bool) (config : Config) (tracker c : ℕ) (k : Kind) (i : ℕ)
+pub kind_taken-kept : {w : ℕ} {caching : ℕ → Bool} (config : Config) (tracker c : ℕ) (k : Kind) (i : ℕ)
     (rest : List Packet) (h : AbstractState w) → IsInvariant caching h.state
     → ((d : ℕ) → length config.clients.items ≤ d → caching d ≡ false) → ((n : ℕ) → length (h.state.block n).truth ≡ 64)
     → ((n : ℕ) → IsServing (h.state.block n).service (h.request n)) → on k (h.state.link c) ≡ packet k i ∷ rest
     → IsReady tracker c k i h → IsInvariant caching (kind_taken config tracker c k i rest h).state
-kind_taken-kept {w} caching config tracker c Request i rest h inv plain long serving first ready =
+kind_taken-kept {w} config tracker c Request i rest h inv plain long serving first ready =
     rw ready.1 (request_taken-kept (length config.clients.items) c i tracker ready.0 rest h inv plain first
     ready.2 (long (block_at ready.0.address)) ready.3 ready.4)
-kind_taken-kept caching config tracker c Acquire n rest h inv plain long serving first ready =
+kind_taken-kept config tracker c Acquire n rest h inv plain long serving first ready =
     acquire_taken-kept (length config.clients.items) config.profile c n tracker rest h inv plain first ready.0 ready.1
-kind_taken-kept caching config tracker c Probe n rest h inv plain long serving first kept =
+kind_taken-kept config tracker c Probe n rest h inv plain long serving first kept =
     let sent = sent-is ((h.state.block n).pair c).probing (holds-first Probe (h.state.link c).b rest (packet Probe n)
     (λ i. shown Probe c (h.state.block i)) first refl (inv.transfers c Probe refl)) in
     probe_taken-kept c n (cap_sent ((h.state.block n).pair c).probing) rest inv first sent kept
-kind_taken-kept caching config tracker c ProbeAck n rest h inv plain long serving first ready =
+kind_taken-kept config tracker c ProbeAck n rest h inv plain long serving first ready =
     ack_taken-kept (length config.clients.items) config.profile c n rest h inv plain first (long n) (serving n)
-kind_taken-kept caching config tracker c Release n rest h inv plain long serving first ready =
+kind_taken-kept config tracker c Release n rest h inv plain long serving first ready =
     let releasing = releasing-is ((h.state.block n).pair c).letting
     (holds-first Release (h.state.link c).c rest (packet Release n) (λ i. shown Release c (h.state.block i)) first refl
     (inv.transfers c Release refl))
     in
     release_taken-kept c n (prune_told ((h.state.block n).pair c).letting) rest inv first releasing
-kind_taken-kept caching config tracker c Answer i rest h inv plain long serving first ready =
+kind_taken-kept config tracker c Answer i rest h inv plain long serving first ready =
     let replied = is_replied-is (h.state.uses c i) (holds-first Answer (h.state.link c).d rest (packet Answer i)
     (λ j. is_replied (h.state.uses c j)) first refl (inv.answers c)) in
     answer_taken-kept c i rest inv first replied
-kind_taken-kept caching config tracker c Grant n rest h inv plain long serving first ready =
+kind_taken-kept config tracker c Grant n rest h inv plain long serving first ready =
     grant_followed-kept c n rest h inv first
-kind_taken-kept caching config tracker c ReleaseAck n rest h inv plain long serving first ready =
+kind_taken-kept config tracker c ReleaseAck n rest h inv plain long serving first ready =
     let acked = acked-is ((h.state.block n).pair c).letting
-    (holds-first ReleaseAck (h.state.link c).d rest (packet ReleaseAck n) (λ i. shown ReleaseAck c (h.state.block i))
-    first refl
-    (inv.transfers c ReleaseAck refl)) in
+    (holds-first ReleaseAck (h.state.link c).d rest (packet ReleaseAck n)
+    (λ i. shown ReleaseAck c (h.state.block i)) first refl (inv.transfers c ReleaseAck refl)) in
     release_ack_taken-kept c n rest inv first acked
-kind_taken-kept caching config tracker c GrantAck n rest h inv plain long serving first ready =
+kind_taken-kept config tracker c GrantAck n rest h inv plain long serving first ready =
     let taken = acknowledging-is (h.state.block n).service c
-    (holds-first GrantAck (h.state.link c).e rest (packet GrantAck n) (λ i. shown GrantAck c (h.state.block i)) first
-    refl
-    (inv.transfers c GrantAck refl)) in
+    (holds-first GrantAck (h.state.link c).e rest (packet GrantAck n) (λ i. shown GrantAck c (h.state.block i))
+    first refl (inv.transfers c GrantAck refl)) in
     grant_ack_taken-kept c n rest inv first taken
 
 -- ---- operations that are asked
@@ -262,8 +259,8 @@ whole_fits p e = refl
 pub asked-kept : {w : ℕ} {caching : ℕ → Bool} (c : ℕ) (o : Op w) (r : Reply) (h : AbstractState w)
     → IsInvariant caching h.state → IsAskable caching c o r h → IsInvariant caching (asked c o r h).state
 asked-kept {caching} c (Op.Store address size value) Reply.Stored h inv may =
-    block_stored-kept caching c (block_at address)
-    (copy_stored address size value ((h.state.block (block_at address)).copy c)) h.state inv may
+    block_stored-kept c (block_at address)
+    (copy_stored address size value ((h.state.block (block_at address)).copy c)) inv may
 asked-kept {caching} c (Op.Acquire n g) (Reply.Started source) h inv is =
     acquire_asked-kept c n source false g ((h.state.block n).waiting c) inv is.0 is.1 is.2 is.3
     (begins_fit g ((h.state.block n).pair c).held is.4)

@@ -227,8 +227,7 @@ room-trunk c q r whole g source k {b} h waits answered settled wants trunk apart
     elim (cases_eq d c) [
       | inl same ↦ rw (same, set-same c (after_report r (b.pair c)) b.pair)
           (low_none k (report_right r) cap_is (reported_within k r (b.pair c) (view b.service c) (h.phases c)
-          (seen c apart)
-          answered))
+          (seen c apart) answered))
       | inr neither ↦ rw (set-other c d (after_report r (b.pair c)) b.pair neither)
           (low_none k (b.pair d).recorded cap_is (spared_within k (b.pair d) (view b.service d) (h.phases d) (seen d ne)
           (quiet-is (b.pair d).probing (settled d neither))))

@@ -97,11 +97,10 @@ report_grants-kept {X} {caching} {c} {q} n {r} {whole} {g} {gift} {source} {k} r
             (packets_on ch (links c))
             (packets_on ch at_c) (moves_of_reporter n c q ch apart) (ap (packets_on ch) links_c) (moved_c ch))
         | inr o ↦ moved_as (granted_moves n c q d ch) Stays (packets_on ch (s.link d)) (packets_on ch (links d))
-            (packets_on ch (s.link d))
-            (moves_of_other n c q d ch o m) (ap (packets_on ch) (links_other d m o)) refl
+            (packets_on ch (s.link d)) (moves_of_other n c q d ch o m) (ap (packets_on ch) (links_other d m o)) refl
       ]
     ] in
-    invariant-moved caching n new links (granted_moves n c q) s.lets s.tracked s inv (record {
+    invariant-moved {n = n} {b = new} {link = links} {moves = (granted_moves n c q)} s.lets s.tracked inv (record {
       well = granted-block (inv.blocks n) last;
       moved = λ d ch. moved d ch;
       own = λ d ch. own d ch;

@@ -173,7 +173,6 @@ ack-due c n rest {s} inv first =
     first refl (inv.transfers c ReleaseAck refl) in
     let live = acked_open ((s.block n).pair c).letting acked in
     is_of-is n (s.lets c ((s.block n).release_source c))
-    (inv.named.releases c ((s.block n).release_source c) n
-    ∙ and_from (not (is_unreleased ((s.block n).pair c).letting))
+    (inv.named.releases c ((s.block n).release_source c) n ∙ and_from (not (is_unreleased ((s.block n).pair c).letting))
     ((s.block n).release_source c == (s.block n).release_source c) live
     (same_number ((s.block n).release_source c)))

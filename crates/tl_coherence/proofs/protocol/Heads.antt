@@ -2,8 +2,8 @@
 use Rattle.tl_coherence.proofs.protocol.Imports.{Beat, Message, MessageA, beats_of, Config, Grow, is_asked, AcquireOpen}
 use Rattle.tl_coherence.proofs.protocol.Imports.{Block, State, Asked, Acquires, packet, shown, is_wanting, is_unserved}
 use Rattle.tl_coherence.proofs.protocol.Imports.{view, AccessMessages, block_message, Request, Acquire, Packet, Channel}
-use Rattle.std.proofs.Common.{◌≡◌, ℕ, ◌-◌, ◌*◌, ◌^◌, ◌<◌, Bool, true, false, List, ◌∷◌, Some, None, refl, sym}
-use Rattle.std.proofs.Common.{◌∙◌, ap, inl, inr, arith}
+use Rattle.std.proofs.Common.{◌≡◌, ℕ, ◌-◌, ◌*◌, ◌^◌, ◌<◌, Bool, true, false, List, ◌∷◌, Some, None, refl, sym, ◌∙◌, ap}
+use Rattle.std.proofs.Common.{inl, inr, arith}
 use Rattle.std.{proofs.lemmas.Option.same_Some, specs.Prelude.map}
 use Rattle.tl_beat.specs.statement.Width.{IsWidth}
 use Rattle.tl_burst.{specs.statement.Burst.a_beat_of, specs.statement.Burst.IsBlankAfter}
@@ -144,8 +144,7 @@ wanted-first {w} {s} c n rest is first =
 narrow : (w : ℕ) → IsWidth w → 2 ^ w - 1 < 2 ^ (w * 1)
 narrow w is = elim is [
   | inl four ↦ rw four (omega arith)
-  | inr more ↦ elim more
-      [ inl eight ↦ rw eight (omega arith) | inr sixteen ↦ rw sixteen (omega arith) ]
+  | inr more ↦ elim more [ inl eight ↦ rw eight (omega arith) | inr sixteen ↦ rw sixteen (omega arith) ]
 ]
 
 acquisition_blank : (w : ℕ) (whole : Bool) (g : Grow) (source n : ℕ) → IsWidth w

@@ -16,8 +16,8 @@ pub use Rattle.tl_coherence.specs.protocol.Invariant.{IsAskedCap, IsInvariant, I
 pub use Rattle.tl_coherence.specs.protocol.Invariant.{cap_asked, is_asked, is_of, is_out, is_replied, releases_with}
 pub use Rattle.tl_coherence.specs.protocol.Invariant.{resting, serves_of, serves_with, tracks_with}
 pub use Rattle.tl_coherence.specs.protocol.Packet.{Acquire, Answer, Grant, GrantAck, Kind, Packet, Probe, ProbeAck}
-pub use Rattle.tl_manager.specs.laws.Pending.{one_if}
 pub use Rattle.tl_coherence.specs.protocol.Packet.{Release, ReleaseAck, Request, set, set_at}
+pub use Rattle.tl_manager.specs.laws.Pending.{one_if}
 unfoldable pub use Rattle.tl_coherence.specs.protocol.Packet.{count}
 pub use Rattle.tl_coherence.specs.protocol.Phase.{Acknowledging, AcquireOpen, AcquirePhase, ClientBlock, GrantedOther}
 pub use Rattle.tl_coherence.specs.protocol.Phase.{Granting, Idle, NoAcquire, NoProbe, NoRelease, Other, Own}
@@ -29,12 +29,9 @@ pub use Rattle.tl_coherence.specs.protocol.PhaseSteps.{after_grant, after_grant_
 pub use Rattle.tl_coherence.specs.protocol.PhaseSteps.{is_granted_data}
 pub use Rattle.tl_coherence.specs.protocol.Protocol.{Acquires, Asked, Block, Free, GrantSent, GrantTaken, InService}
 pub use Rattle.tl_coherence.specs.protocol.Protocol.{Link, Replied, Service, SourceFree, SourceState, State, Waits}
-pub use Rattle.tl_coherence.specs.protocol.Protocol.{granted_block}
+pub use Rattle.tl_coherence.specs.protocol.Protocol.{granted_block, is_on, on, packet, packets_on, taken_block, view}
 pub use Rattle.tl_coherence.specs.protocol.Tokens.{is_acked, is_acknowledging, is_answered, is_granting, is_releasing}
 pub use Rattle.tl_coherence.specs.protocol.Tokens.{is_sent, is_transfer, is_unserved, is_wanting, shown, shows}
-pub use Rattle.tl_coherence.specs.protocol.Protocol.{is_on}
-pub use Rattle.tl_coherence.specs.protocol.Protocol.{on, packet, packets_on}
-pub use Rattle.tl_coherence.specs.protocol.Protocol.{taken_block, view}
 pub use Rattle.tl_coherence.specs.refinement.Move.{AreMoved, IsMoved, Move, Pops, Pushes, Stays, agrees, channel_for}
 pub use Rattle.tl_coherence.specs.refinement.Move.{is_own_move}
 pub use Rattle.tl_coherence.specs.refinement.PacketMessages.{AccessMessages}

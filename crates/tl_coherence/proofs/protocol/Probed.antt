@@ -12,7 +12,7 @@ use Rattle.std.proofs.lemmas.Bool.{cases_eq}
 use Rattle.tl_params.specs.statement.Param.{report_at}
 use Rattle.tl_coherence.specs.protocol.PhaseSteps.{after_probe}
 use Rattle.tl_coherence.specs.protocol.Protocol.{probed_block, probed_link, probe_taken}
-use Rattle.tl_coherence.proofs.queues.Moves.{moves_at, event-at, bare-at, names-kept, invariant-moved}
+use Rattle.tl_coherence.proofs.queues.Moves.{event-at, bare-at, names-kept, invariant-moved}
 use Rattle.tl_coherence.proofs.{queues.KindMoves.same_again, queues.PhaseSteps.probe-ok, protocol.Blocks.awaited_by}
 use Rattle.tl_coherence.proofs.{protocol.Blocks.asked_cap-same}
 use Rattle.tl_coherence.proofs.queues.Tokens.{same_number, set-same, set-other, set-part}
@@ -92,7 +92,7 @@ probe_taken-kept {X} {caching} c n k rest {s} inv first sent kept =
     let number_is : (m : ℕ) → Pushes ProbeAck n ≡ Pushes ProbeAck m → m ≡ n = λ m e. cc in
     let ordered : (m : ℕ) → m ≡ n → count Release m (s.link c).c ≡ 0 =
     λ m e. rw e (inv.transfers c Release refl n ∙ rw kept refl) in
-    invariant-moved caching n new (set c here s.link) (moves_at c (probe_moves n)) s.lets s.tracked s inv
+    invariant-moved s.lets s.tracked inv
     (event-at (record {
       well = probed-block c k (inv.blocks n) sent kept;
       moved = moved;

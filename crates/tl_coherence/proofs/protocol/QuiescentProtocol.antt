@@ -7,8 +7,8 @@ use Rattle.tl_coherence.proofs.protocol.Imports.{Probe, ProbeAck, Release, Answe
 use Rattle.tl_coherence.proofs.protocol.Imports.{one_if, count, Service, Free, Waits, GrantSent, GrantTaken, State}
 use Rattle.tl_coherence.proofs.protocol.Imports.{SourceState, SourceFree, Asked, InService, Replied, Acquires, view, on}
 use Rattle.tl_coherence.proofs.protocol.Imports.{packets_on, is_on, is_transfer, is_wanting, shown, IsInvariant}
-use Rattle.tl_coherence.proofs.protocol.Imports.{acquires_of, serves_of, is_of, is_asked, is_replied}
-use Rattle.tl_coherence.proofs.protocol.Imports.{serves_with, releases_with}
+use Rattle.tl_coherence.proofs.protocol.Imports.{acquires_of, serves_of, is_of, is_asked, is_replied, serves_with}
+use Rattle.tl_coherence.proofs.protocol.Imports.{releases_with}
 use Rattle.std.proofs.Common.{◌≡◌, ℕ, ◌<◌, Bool, true, false, List, [], ◌∷◌, refl, sym, ◌∙◌, arith}
 use Rattle.std.specs.Prelude.{not, ◌==◌, ◌||◌, Option, Some, None}
 use Rattle.tl_coherence.specs.refinement.ManagerRelation.{is_own}
@@ -54,7 +54,7 @@ pub owns_ask : (p : ClientBlock) (v : View) → ok p v ≡ true → is_own v ≡
 unfolding each_phase asks_for_own
 owns_ask p v h = part_bit (is_own v) (is_wanting p.acquiring) (of_phase asks_for_own refl p v h)
 
-module _ {X : Type 0} (caching : ℕ → Bool) (s : State X) (inv : IsInvariant caching s) where
+module _ {X : Type 0} {caching : ℕ → Bool} {s : State X} (inv : IsInvariant caching s) where
   -- a kind that is on no channel is shown nowhere
   not_shown : (c n : ℕ) (k : Kind) → is_transfer k ≡ true → on k (s.link c) ≡ [] → shown k c (s.block n) ≡ true → ⊥
   unfolding count
@@ -145,13 +145,13 @@ module _ {X : Type 0} (caching : ℕ → Bool) (s : State X) (inv : IsInvariant 
   nothing_shown c ch Answer n closed on_it other there =
       not_replied c n (shown_there c ch Answer n inv on_it there) closed
   nothing_shown c ch Acquire n closed on_it other there =
-      no_use c _ n (acquire_named caching s c n inv (shown_there c ch Acquire n inv on_it there)) closed
+      no_use c _ n (acquire_named c n inv (shown_there c ch Acquire n inv on_it there)) closed
   nothing_shown c ch Grant n closed on_it other there =
-      no_use c _ n (grant_named caching s c n inv (shown_there c ch Grant n inv on_it there)) closed
+      no_use c _ n (grant_named c n inv (shown_there c ch Grant n inv on_it there)) closed
   nothing_shown c ch Release n closed on_it other there =
-      no_let c _ n (release_named caching s c n inv (shown_there c ch Release n inv on_it there)) closed
+      no_let c _ n (release_named c n inv (shown_there c ch Release n inv on_it there)) closed
   nothing_shown c ch ReleaseAck n closed on_it other there =
-      no_let c _ n (release_ack_named caching s c n inv (shown_there c ch ReleaseAck n inv on_it there)) closed
+      no_let c _ n (release_ack_named c n inv (shown_there c ch ReleaseAck n inv on_it there)) closed
   nothing_shown c ch Probe n closed on_it other there =
       probed-for c n (not-sent _ (shown_there c ch Probe n inv on_it there)) closed
   nothing_shown c ch ProbeAck n closed on_it other there =
@@ -165,7 +165,7 @@ module _ {X : Type 0} (caching : ℕ → Bool) (s : State X) (inv : IsInvariant 
   nothing_on : (c : ℕ) (ch : Channel) → IsClosed s → ((k : Kind) → is_on ch k ≡ true → is_on Channel.E k ≡ false)
       → packets_on ch (s.link c) ≡ []
   nothing_on c ch closed apart = empty_list (packets_on ch (s.link c)) (λ x there.
-      let on_it = kind_there caching s c ch x inv there in
+      let on_it = kind_there c ch x inv there in
       nothing_shown c ch x.kind x.number closed on_it (apart x.kind on_it) there)
 
   pub bare-when-closed : IsClosed s → ((c : ℕ) → (s.link c).e ≡ []) → IsBare s

@@ -14,7 +14,7 @@ use Rattle.tl_params.specs.statement.Param.{prune_right}
 use Rattle.tl_coherence.specs.protocol.PhaseSteps.{after_release_taken}
 use Rattle.tl_coherence.specs.protocol.Protocol.{written_from, reported_block, report_taken, let_block, let_link}
 use Rattle.tl_coherence.specs.protocol.Protocol.{release_taken}
-use Rattle.tl_coherence.proofs.queues.Moves.{moves_at, event-at, bare-at, names-kept, invariant-moved}
+use Rattle.tl_coherence.proofs.queues.Moves.{event-at, bare-at, names-kept, invariant-moved}
 use Rattle.tl_coherence.proofs.{queues.KindMoves.same_again, queues.PhaseSteps.report-ok}
 use Rattle.tl_coherence.proofs.{queues.PhaseSteps.release_taken-ok, queues.Facts.report_begins}
 use Rattle.tl_coherence.proofs.{queues.Facts.release_begins, protocol.Granted.both_trunk, queues.Perms.not_out}
@@ -167,7 +167,7 @@ report_taken-kept {X} {caching} c n r rest {s} inv first answered w apart missin
     let old : ℕ → ClientBlock = (s.block n).pair in
     let after : ClientBlock = after_report r (old c) in
     let new : Block X = reported_block c r (s.block n) in
-    invariant-moved caching n new (set c here s.link) (moves_at c (report_moves n)) s.lets s.tracked s inv
+    invariant-moved s.lets s.tracked inv
     (event-at (record {
       well = reported-block c r (inv.blocks n) answered w apart missing;
       moved = moved;
@@ -224,7 +224,7 @@ release_taken-kept {X} {caching} c n r rest {s} inv first releasing =
     let old : ℕ → ClientBlock = (s.block n).pair in
     let after : ClientBlock = after_release_taken r (old c) in
     let new : Block X = let_block c r (s.block n) in
-    invariant-moved caching n new (set c here s.link) (moves_at c (let_moves n)) s.lets s.tracked s inv
+    invariant-moved s.lets s.tracked inv
     (event-at (record {
       well = let-block c r (inv.blocks n) releasing (release_first c n rest inv first);
       moved = moved;

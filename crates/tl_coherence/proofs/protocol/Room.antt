@@ -45,8 +45,7 @@ length-carried {w} rest (m ∷ ms) queue (k, lt, r, q) =
       first,
       whole,
       length-append (beats_from m k (beats_of m - k)) (spelled ms),
-      length-append
-          (beats_from m 0 (beats_of m)) (spelled ms),
+      length-append (beats_from m 0 (beats_of m)) (spelled ms),
     )
 
 -- those of light tokens have one beat each
@@ -119,14 +118,14 @@ light_ack ReleaseAck e = refl
 light_ack _ e = absurd cc
 
 -- no channel holds more beats than it is made for
-pub channel-few : {w : ℕ} (caching : ℕ → Bool) (mail : AccessMessages w) (s : State (List ℕ)) (c sources trackers : ℕ)
+pub channel-few : {w : ℕ} {caching : ℕ → Bool} (mail : AccessMessages w) {s : State (List ℕ)} {c sources trackers : ℕ}
     (ch : Channel) (rest queue : List (Beat w)) → IsWidth w → IsInvariant caching s → AreBounded c sources trackers s
     → IsCarried rest (messages_on ch mail s c) queue → length queue ≤ capacity (64 / w) sources trackers ch
-channel-few {w} caching mail s c sources trackers ch rest queue width inv bounds carried = go ch carried
+channel-few {w} {caching} mail {s} {c} {sources} {trackers} ch rest queue width inv bounds carried = go ch carried
   where
     one : (d : Channel) (x : Packet) → IsThere x (packets_on d (s.link c))
         → (is_on d x.kind ≡ true → is_light x.kind ≡ true) → beats_of (message_of mail s c x) ≡ 1
-    one d x there light = light-one mail s c x.kind x.number (light (kind_there caching s c d x inv there))
+    one d x there light = light-one mail s c x.kind x.number (light (kind_there c d x inv there))
 
     go : (d : Channel) → IsCarried rest (messages_on d mail s c) queue
         → length queue ≤ capacity (64 / w) sources trackers d

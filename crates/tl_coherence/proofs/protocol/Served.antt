@@ -280,8 +280,7 @@ pub acquire_served-kept : {X : Type 0} {caching : ℕ → Bool} (r n source trac
 acquire_served-kept {X} {caching} r n source tracker whole g k rest {s} inv first free wants low unused sourced w
     probed =
     let new : Block X = served_block r true source tracker k (s.block n) in
-    invariant-moved caching n new (served_link r true n k rest (s.block n) s.link)
-    (served_moves r true n source k (s.block n).pair) s.lets (set tracker (Some n) s.tracked) s inv
+    invariant-moved s.lets (set tracker (Some n) s.tracked) inv
     (served-event r n source tracker rest inv first free (whole, g, wants, low) sourced w probed)
     (λ d. bare_move (d == r) (is_probed r true k ((s.block n).pair d).recorded d) n)
     (record {
@@ -312,8 +311,7 @@ access_served-kept {X} {caching} r n source tracker k rest {s} inv first free as
     (record {
       acquires = names-set_at acquires_of acquires_with r source (InService n) s.uses n new s.block
           ((rw asked at (inv.named.acquires r source n)) ∙ sym (same_acquires r source tracker false k (s.block n) r
-          source))
-          (λ m ne. rw asked refl) (λ i ne. same_acquires r source tracker false k (s.block n) r i)
+          source)) (λ m ne. rw asked refl) (λ i ne. same_acquires r source tracker false k (s.block n) r i)
           (λ d i ne. same_acquires r source tracker false k (s.block n) d i) inv.named.acquires;
       serves = names-set_at serves_of serves_with r source (InService n) s.uses n new s.block
           (rw (same_number n, same_number r, same_number source) refl)

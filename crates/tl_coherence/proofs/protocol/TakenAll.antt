@@ -11,8 +11,7 @@ use Rattle.std.proofs.Common.{◌≡◌, refl, sym, ◌∙◌}
 use Rattle.std.specs.Prelude.{ℕ, Bool, true, false, List, ◌∷◌, ◌&&◌}
 use Rattle.std.{proofs.lemmas.Bool.ne_eqb, proofs.Math.Bool.and-false}
 use Rattle.tl_coherence.specs.protocol.Protocol.{taken_link, grant_taken}
-use Rattle.tl_coherence.proofs.queues.Moves.{event-at, bare-elsewhere, names-block, names-set_at}
-use Rattle.tl_coherence.proofs.queues.Moves.{invariant-moved_use}
+use Rattle.tl_coherence.proofs.queues.Moves.{event-at, bare-elsewhere, names-block, names-set_at, invariant-moved_use}
 use Rattle.tl_coherence.proofs.{queues.KindMoves.same_again, protocol.Taken.taken-block}
 use Rattle.tl_coherence.proofs.{protocol.BothParts.acquires_of-is}
 use Rattle.tl_coherence.proofs.queues.Tokens.{same_number, set-same, set-other, set-part}

@@ -52,18 +52,18 @@ once_of {s} c ch GrantAck n inv on_it is =
     at_most_one _ (shown GrantAck c (s.block n)) (rw is (inv.transfers c GrantAck refl n))
 
 -- no token stands twice on a channel
-pub once : {X : Type 0} (caching : ℕ → Bool) (s : State X) (c : ℕ) (ch : Channel) → IsInvariant caching s
+pub once : {X : Type 0} {caching : ℕ → Bool} {s : State X} (c : ℕ) (ch : Channel) → IsInvariant caching s
     → (k : Kind) (n : ℕ) → count k n (packets_on ch (s.link c)) ≤ 1
-once caching s c ch inv k n = go (is_on ch k) refl
+once {s} c ch inv k n = go (is_on ch k) refl
   where
     go : (b : Bool) → is_on ch k ≡ b → count k n (packets_on ch (s.link c)) ≤ 1
     go true e = once_of c ch k n inv e (on_same ch k (s.link c) e)
     go false e = let none : count k n (packets_on ch (s.link c)) ≡ 0 = inv.own_kinds c ch k n e in omega (arith, none)
 
 -- a token is of a kind of its channel
-pub kind_there : {X : Type 0} (caching : ℕ → Bool) (s : State X) (c : ℕ) (ch : Channel) (x : Packet)
+pub kind_there : {X : Type 0} {caching : ℕ → Bool} {s : State X} (c : ℕ) (ch : Channel) (x : Packet)
     → IsInvariant caching s → IsThere x (packets_on ch (s.link c)) → is_on ch x.kind ≡ true
-kind_there caching s c ch x inv there =
+kind_there c ch x inv there =
     let go : (b : Bool) → is_on ch x.kind ≡ b → b ≡ true =
     elim [ true ↦ λ e. refl | false ↦ λ e. absurd (not_there _ (inv.own_kinds c ch x.kind x.number e) there) ] in
     go (is_on ch x.kind) refl

@@ -90,8 +90,7 @@ carried-next {w} x rest m ms queue pos (k, lt, r, q) =
           suc k,
           next_lt lt2,
           rw (parts.0, r) refl,
-          parts.1 ∙ ap₂_from (k + 1) (suc k) (n - k - 1) (n - suc k)
-              (omega arith) (omega arith),
+          parts.1 ∙ ap₂_from (k + 1) (suc k) (n - k - 1) (n - suc k) (omega arith) (omega arith),
         ),
       );
       last = λ e.
@@ -100,8 +99,7 @@ carried-next {w} x rest m ms queue pos (k, lt, r, q) =
           none ∙ no_beats m (k + 1) (spelled ms) in (
             rw (parts.0, r, length-begun m k, length-of_beat m k, is_last k n e) refl,
             rw (parts.0, r) (whole e),
-            rw
-                queue_is (carried_rest ms pos),
+            rw queue_is (carried_rest ms pos),
           );
     }
   where

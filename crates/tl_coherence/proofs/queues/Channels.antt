@@ -166,10 +166,10 @@ AreQueued moves mail s before after = (d : ℕ) (ch : Channel)
     (unfinished ch (receiver ch d before)) (unfinished ch (receiver ch d after))
 
 -- the channels carry the messages of the tokens after every event
-pub carried-event : {w : ℕ} (caching : ℕ → Bool) (n : ℕ) (moves : ℕ → Channel → Move) (mail mail' : AccessMessages w)
-    (s s' : State (List ℕ)) (sys sys' : System w) → IsWidth w → IsShowing caching n moves mail mail' s s'
+pub carried-event : {w : ℕ} {caching : ℕ → Bool} {n : ℕ} {moves : ℕ → Channel → Move} {mail mail' : AccessMessages w}
+    {s s' : State (List ℕ)} (sys sys' : System w) → IsWidth w → IsShowing caching n moves mail mail' s s'
     → AreQueued moves mail' s' sys sys' → ChannelRelation mail s sys → ChannelRelation mail' s' sys'
-carried-event caching n moves mail mail' s s' sys sys' width event queued h d ch =
+carried-event {moves} {mail} {mail'} {s} {s'} sys sys' width event queued h d ch =
     carried-moved (moves d ch) (packets_on ch (s.link d)) (packets_on ch (s'.link d)) (message_of mail s d)
     (message_of mail' s' d) (λ k i. message_of mail' s' d (packet k i)) (sys.channels d ch) (sys'.channels d ch)
     (unfinished ch (receiver ch d sys)) (unfinished ch (receiver ch d sys')) width (event.moved d ch) (queued d ch)
@@ -238,11 +238,12 @@ pub record IsHanded {w : ℕ} (pushes : ℕ → Channel → Option (Message w)) 
   pub channels : (d : ℕ) (at : Channel) → sys'.channels d at ≡ behind (pushes d at) (sys.channels d at)
   pub rests : (d : ℕ) (at : Channel) → unfinished at (receiver at d sys') ≡ unfinished at (receiver at d sys)
 
-pub queued-handed : {w : ℕ} (pushes : ℕ → Channel → Option (Message w)) (moves : ℕ → Channel → Move)
-    (mail : AccessMessages w) (s : State (List ℕ)) (sys sys' : System w) → IsHanded pushes sys sys'
+pub queued-handed : {w : ℕ} {pushes : ℕ → Channel → Option (Message w)} (moves : ℕ → Channel → Move)
+    (mail : AccessMessages w) (s : State (List ℕ)) {sys sys' : System w} → IsHanded pushes sys sys'
     → ((d : ℕ) (at : Channel) → Fits false (pushes d at) (moves d at) (λ k i. message_of mail s d (packet k i)))
     → AreQueued moves mail s sys sys'
-queued-handed {w} pushes moves mail s sys sys' is fits d at = queued-with (pushes d at) (moves d at) (sys.channels d at)
+queued-handed {w} {pushes} moves mail s {sys} {sys'} is fits d at =
+    queued-with (pushes d at) (moves d at) (sys.channels d at)
     (sys'.channels d at) (unfinished at (receiver at d sys)) (unfinished at (receiver at d sys'))
     (λ k i. message_of mail s d (packet k i)) (fits d at) (is.channels d at) (is.rests d at)
   where

@@ -35,8 +35,7 @@ own_kind caching s c ch k n rest inv tokens = go (is_on ch k) refl
         absurd (omega (arith, all, one))
 
 nothing_first : {w : ℕ} (x : Beat w) (queue : List (Beat w)) {rest : List (Beat w)} {channel : List (Beat w)}
-    → channel ≡ x ∷ queue
-    → IsCarried rest [] channel → ⊥
+    → channel ≡ x ∷ queue → IsCarried rest [] channel → ⊥
 nothing_first x queue e h = let no : [] ≡ x ∷ queue = sym h.1 ∙ e in cc
 
 same_carried : {w : ℕ} (rest : List (Beat w)) (ms ms' : List (Message w)) (q q' : List (Beat w)) → ms ≡ ms' → q ≡ q'

@@ -18,8 +18,8 @@ unfoldable pub use Rattle.tl_rules.specs.statement.Legality.{beats_from}
 pub use Rattle.tl_client.specs.statement.Endpoint.{EndConfig}
 pub use Rattle.tl_coherence.specs.protocol.Invariant.{IsInvariant, is_asked, is_replied}
 pub use Rattle.tl_coherence.specs.protocol.Packet.{Acquire, Answer, Grant, GrantAck, Kind, Packet, Probe, ProbeAck}
-pub use Rattle.tl_manager.specs.laws.Pending.{one_if}
 pub use Rattle.tl_coherence.specs.protocol.Packet.{Release, ReleaseAck, Request, is, same_kind, set}
+pub use Rattle.tl_manager.specs.laws.Pending.{one_if}
 unfoldable pub use Rattle.tl_coherence.specs.protocol.Packet.{count}
 pub use Rattle.tl_coherence.specs.protocol.Phase.{Acknowledging, AcquireOpen, ClientBlock, GrantedOther, Granting, Idle}
 pub use Rattle.tl_coherence.specs.protocol.Phase.{NoAcquire, NoProbe, Other, Own, ProbeAnswered, ProbePhase}

@@ -219,9 +219,8 @@ rests-manager {w} c ch x queue handed e sys to_manager is heard = rests
     swapped d ne = ne_eqb c d (λ f. ne (sym f))
 
     theirs : (d : ℕ) (at : Channel) → is_to_client at ≡ false → (d ≡ c) ⊎ (d ≡ c → ⊥)
-        → unfinished at (on_link d after.manager.trace) ≡ (if (d == c)
-        && same_channel at ch then grown x (unfinished at (on_link d sys.manager.trace)) else unfinished at
-        (on_link d sys.manager.trace))
+        → unfinished at (on_link d after.manager.trace) ≡ (if (d == c) && same_channel at ch then grown x
+        (unfinished at (on_link d sys.manager.trace)) else unfinished at (on_link d sys.manager.trace))
     theirs d at up (inl same) = rw same (ap (λ (b : manager_end.End w). unfinished at (on_link c b.trace)) manager_is
         ∙ heard c at up ∙ ap (λ (b : Bool). unfinished at (if b then x ∷ on_link c sys.manager.trace else on_link c
         sys.manager.trace)) (same_number c) ∙ grown_history ch at x (on_link c sys.manager.trace) is

@@ -111,13 +111,13 @@ invariant-moved_with {caching} {n} {b} {link} {moves} uses lets tracked {s} inv 
 }
 
 -- by every event that moves no access
-pub invariant-moved : {X : Type 0} (caching : ℕ → Bool) (n : ℕ) (b : Block X) (link : ℕ → Link) (moves : ℕ → Channel
-    → Move) (lets : ℕ → ℕ → Option ℕ) (tracked : ℕ → Option ℕ) (s : State X)
+pub invariant-moved : {X : Type 0} {caching : ℕ → Bool} {n : ℕ} {b : Block X} {link : ℕ → Link} {moves : ℕ → Channel
+    → Move} (lets : ℕ → ℕ → Option ℕ) (tracked : ℕ → Option ℕ) {s : State X}
     → IsInvariant caching s → IsEvent caching n b link moves s
     → ((d : ℕ) → (spares (moves d Channel.A) Request ≡ true) × (spares (moves d Channel.D) Answer ≡ true))
     → AreNamed (record s { block = set n b s.block; link = link; lets = lets; tracked = tracked })
     → IsInvariant caching (record s { block = set n b s.block; link = link; lets = lets; tracked = tracked })
-invariant-moved caching n b link moves lets tracked s inv event bare named =
+invariant-moved {link} {moves} lets tracked {s} inv event bare named =
     invariant-moved_with s.uses lets tracked inv event (λ d. holds-spared Request (moves d Channel.A) (s.link d).a
     (link d).a (λ m. is_asked (s.uses d m)) (event.moved d Channel.A) (bare d).0 (inv.requests d))
     (λ d. holds-spared Answer (moves d Channel.D) (s.link d).d (link d).d (λ m. is_replied (s.uses d m))
@@ -189,8 +189,7 @@ event-at {c} {n} {b} {l} {moves} {s} event = record {
         (packets_on ch (set c l s.link c)) (packets_on ch l)
         (moves-here c moves ch) (ap (packets_on ch) (set-same c l s.link)) (event.moved ch))
     | inr ne ↦ moved_as (moves_at c moves d ch) Stays (packets_on ch (s.link d)) (packets_on ch (set c l s.link d))
-        (packets_on ch (s.link d))
-        (moves-there c d moves ch ne) (ap (packets_on ch) (set-other c d l s.link ne)) refl
+        (packets_on ch (s.link d)) (moves-there c d moves ch ne) (ap (packets_on ch) (set-other c d l s.link ne)) refl
   ];
   own = λ d ch. own ch (d == c);
   fits = λ d k t. elim (cases_eq d c) [
@@ -255,10 +254,9 @@ pub invariant-moved_access : {X : Type 0} {caching : ℕ → Bool} {c source : �
 invariant-moved_access {c} {source} {u} {l} {moves} {s} inv event = record {
   blocks = inv.blocks;
   transfers = λ d k t. elim (cases_eq d c) [
-    | inl same ↦ rw (same, set-same c l s.link) (rw (on_is k l)
-        (holds-spared k (moves (channel_for k)) (packets_on (channel_for k) (s.link c)) (packets_on (channel_for k) l)
-        (λ i. shown k c (s.block i))
-        (event.moved (channel_for k)) (event.spared k t)
+    | inl same ↦ rw (same, set-same c l s.link)
+        (rw (on_is k l) (holds-spared k (moves (channel_for k)) (packets_on (channel_for k) (s.link c))
+        (packets_on (channel_for k) l) (λ i. shown k c (s.block i)) (event.moved (channel_for k)) (event.spared k t)
         (rw (on_is k (s.link c)) at (inv.transfers c k t))))
     | inr other ↦ rw (set-other c d l s.link other) (inv.transfers d k t)
   ];
@@ -295,6 +293,5 @@ invariant-moved_access {c} {source} {u} {l} {moves} {s} inv event = record {
           (packets_on ch (set c l s.link c)) (packets_on ch l)
           (moves-here c moves ch) (ap (packets_on ch) (set-same c l s.link)) (event.moved ch))
       | inr ne ↦ moved_as (moves_at c moves d ch) Stays (packets_on ch (s.link d)) (packets_on ch (set c l s.link d))
-          (packets_on ch (s.link d))
-          (moves-there c d moves ch ne) (ap (packets_on ch) (set-other c d l s.link ne)) refl
+          (packets_on ch (s.link d)) (moves-there c d moves ch ne) (ap (packets_on ch) (set-other c d l s.link ne)) refl
     ]

@@ -57,8 +57,7 @@ each_phase f =
     each_view (λ v. each_probing (λ probing. where_true (ok_first probing v) (λ a.
     each_letting (λ letting. each_acquiring (λ acquiring. where_true (ok_second probing letting acquiring v) (λ b.
     each_perm (λ recorded. each_perm (λ held. where_true (ok_third (pair_of recorded probing letting held acquiring) v)
-    (λ c.
-    f (pair_of recorded probing letting held acquiring) v)))))))))
+    (λ c. f (pair_of recorded probing letting held acquiring) v)))))))))
 
 -- ---- a test that holds of all holds of each
 

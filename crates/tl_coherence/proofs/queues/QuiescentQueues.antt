@@ -1,6 +1,6 @@
 -- Where no delivery is movable, nothing is on a channel; and where nothing is on a channel, none is movable.
 use Rattle.tl_coherence.proofs.queues.Imports.{Channel, Config, EndConfig, System, terms_at}
-use Rattle.std.proofs.Common.{◌≡◌, ℕ, zero, suc, ◌+◌, ◌<◌, ◌≤◌, Bool, true, false, [], refl, subst, inl, inr, arith}
+use Rattle.std.proofs.Common.{◌≡◌, ℕ, zero, suc, ◌+◌, ◌<◌, ◌≤◌, Bool, true, false, [], refl, inl, inr, arith}
 use Rattle.std.specs.Prelude.{if◌then◌else◌, length, Option, Some, None, option_map, slice_get}
 use Rattle.std.{proofs.lemmas.Bool.cases_eq, proofs.lemmas.Option.same_Some, proofs.lemmas.Option.slice_get_within}
 use Rattle.tl_beat.specs.declared.beat.Link.{Link}
@@ -79,10 +79,8 @@ unfolding next_delivery
 no-next config s none = rw (
   first-none config Channel.E 0 (length config.clients.items) s (λ c. none c Channel.E),
   first-none config Channel.D 0 (length config.clients.items) s (λ c. none c Channel.D),
-  first-none config Channel.C 0
-      (length config.clients.items) s (λ c. none c Channel.C),
-  first-none config Channel.B 0 (length config.clients.items)
-      s (λ c. none c Channel.B),
+  first-none config Channel.C 0 (length config.clients.items) s (λ c. none c Channel.C),
+  first-none config Channel.B 0 (length config.clients.items) s (λ c. none c Channel.B),
 ) (first-none config Channel.A 0 (length config.clients.items) s (λ c. none c Channel.A))
 
 -- ---- the delivery that is next is movable

@@ -152,10 +152,10 @@ uncarried Release d b told given =
 uncarried Grant d b told given = given
 uncarried k d b told given = refl
 
-pub none-carried : (caching : ℕ → Bool) (b : Block (List ℕ)) → IsWell caching b
+pub none-carried : {caching : ℕ → Bool} {b : Block (List ℕ)} → IsWell caching b
     → ((d : ℕ) → (same_perm (b.pair d).held Perm.Trunk || same_perm (b.pair d).recorded Perm.None) ≡ true)
     → (k : Kind) (d : ℕ) → carries k d b ≡ false
-none-carried caching b well low k d =
+none-carried {b} well low k d =
     let is : (i : ℕ) → (not (is_told (b.pair i)) && not (is_granting (view b.service i))) ≡ true =
     λ i. untold (b.pair i) (view b.service i) (well.phases i) (low i) in
     uncarried k d b (not-true (is_told (b.pair d))

@@ -143,8 +143,7 @@ unfolding IsOrdered count
 ordered-push_report b [] x none h = (λ e. refl, tt)
 ordered-push_report b (y ∷ xs) x none h = (
   λ e. absurd (let yes : one_if (is Release b y) ≡ 1 = rw e refl in omega (arith, none, yes)),
-  ordered-push_report b
-      xs x (omega (arith, none)) h.1,
+  ordered-push_report b xs x (omega (arith, none)) h.1,
 )
 
 pub ordered-pop : (b : ℕ) (xs rest : List Packet) (x : Packet) → xs ≡ x ∷ rest → IsOrdered b xs → IsOrdered b rest

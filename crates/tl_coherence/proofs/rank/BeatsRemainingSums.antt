@@ -165,9 +165,9 @@ untold p v h none =
 
 -- ---- all
 
-module _ {w : ℕ} (config : Config) (caching : ℕ → Bool) (mail : AccessMessages w) (s : State (List ℕ)) (rest : ℕ
-    → Channel → List (Beat w)) (width : IsWidth w) (inv : IsInvariant caching s)
-    (sourced : (c source : ℕ) → IsSourced config c source (mail.request c source) (s.uses c source)) where
+module _ {w : ℕ} (config : Config) {caching : ℕ → Bool} (mail : AccessMessages w) {s : State (List ℕ)} (rest : ℕ
+    → Channel → List (Beat w)) (width : IsWidth w) (inv : IsInvariant caching s) (sourced : (c source : ℕ)
+    → IsSourced config c source (mail.request c source) (s.uses c source)) where
   pub is-left : IsLeft (64 / w) (beats_left mail s rest) (answer_to mail) s
   unfolding block_message
   is-left = record {

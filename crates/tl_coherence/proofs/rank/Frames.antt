@@ -3,8 +3,9 @@ use Rattle.tl_coherence.proofs.rank.Imports.{Beat, Channel, Config, IsInvariant,
 use Rattle.tl_coherence.proofs.rank.Imports.{ProbeAnswered, Left, pair_weight, probes_weight, acquire_weight}
 use Rattle.tl_coherence.proofs.rank.Imports.{letting_weight, let_weight, State, Asked, InService, Replied, Acquires}
 use Rattle.tl_coherence.proofs.rank.Imports.{view, AccessMessages, Request, Acquire, ProbeAck, Release, Answer, Grant}
+use Rattle.tl_coherence.proofs.rank.Imports.{SourceFree, rank, sources_of, terms_at}
 use Rattle.std.proofs.Common.{◌≡◌, ℕ, ◌+◌, ◌<◌, ◌≤◌, Bool, true, false, List, refl, sym, ◌∙◌, arith, ◌⊎◌, inl, inr}
-use Rattle.std.specs.Prelude.{Option, Some, None}
+use Rattle.std.specs.Prelude.{Option, Some, None, length}
 use Rattle.std.proofs.lemmas.Bool.{cases_eq, and_from}
 use Rattle.tl_coherence.specs.{protocol.Invariant.is_asked, protocol.Invariant.is_replied, refinement.Move.Move}
 use Rattle.tl_coherence.specs.{protocol.Phase.ReleasePhase, protocol.Phase.ReleaseSent, bound.Rank.probing_weight}
@@ -15,6 +16,7 @@ use Rattle.tl_coherence.proofs.{queues.Channels.IsShowing, queues.Phases.and_lef
 use Rattle.tl_coherence.proofs.rank.RankDecreases.{owed_use, owed_use', owed_let, owed_let', clients, use-no-more}
 use Rattle.tl_coherence.proofs.rank.RankDecreases.{probes-no-more}
 use Rattle.tl_coherence.proofs.protocol.BeatsRemaining.{IsHere, IsPopped, beats_left, left-same}
+use Rattle.tl_coherence.specs.protocol.Protocol.{Link}
 
 -- ---- what is shown is there
 
@@ -22,7 +24,7 @@ here_if : (b : Bool) (n : ℕ) → n ≡ one_if b → b ≡ true → 0 < n
 here_if true n e f = omega (arith, e)
 here_if false n e f = absurd cc
 
-module _ {X : Type 0} (caching : ℕ → Bool) (s : State X) (inv : IsInvariant caching s) where
+module _ {X : Type 0} {caching : ℕ → Bool} {s : State X} (inv : IsInvariant caching s) where
   pub request-here : (d i : ℕ) → s.uses d i ≡ Asked → IsHere s d Request i
   request-here d i e = here_if (is_asked (s.uses d i)) _ (inv.requests d i) (rw e refl)
 
@@ -53,21 +55,61 @@ unserved-weight n a g p Own e = absurd cc
 unserved-weight n a g p (Granting d k) e = absurd cc
 unserved-weight n a g p v e = refl
 
+-- ---- what an event leaves as it was
+
+abbrev pub AreAsBefore : {A : Type 0} → (ℕ → ℕ → A) → (ℕ → ℕ → A) → Type 0
+AreAsBefore after before = (d i : ℕ) → after d i ≡ before d i
+
+abbrev pub AreElsewhere : {A : Type 0} → ℕ → ℕ → (ℕ → ℕ → A) → (ℕ → ℕ → A) → Type 0
+AreElsewhere c source after before = (d i : ℕ) → (d ≡ c → i ≡ source → ⊥) → after d i ≡ before d i
+
+-- no link has more GrantAcks
+abbrev pub AreNoMore : (ℕ → Link) → (ℕ → Link) → Type 0
+AreNoMore after before = (d : ℕ) → length (after d).e ≤ length (before d).e
+
+-- ---- what is taken
+
+-- who has something open is a client, with a source of its own
+pub record AreClients {X : Type 0} (config : Config) (s : State X) : Type 0 where
+  pub clients : (d i : ℕ) → (s.uses d i ≡ SourceFree → ⊥) → d < length config.clients.items
+  pub sources : (d i : ℕ) → (s.uses d i ≡ SourceFree → ⊥) → i < sources_of (terms_at config d)
+  pub letters : (d i n : ℕ) → s.lets d i ≡ Some n → d < length config.clients.items
+  pub releases : (d i n : ℕ) → s.lets d i ≡ Some n → i < sources_of (terms_at config d)
+
+-- A message is taken: what it does to block n, how the tokens of each channel move, what was delivered of the messages
+-- that are first on each channel, before and afterwards, and who has something open.
+pub record Taking {w : ℕ} (config : Config) (mail mail' : AccessMessages w) (s s' : State (List ℕ)) : Type 0 where
+  pub caching : ℕ → Bool
+  pub n : ℕ
+  pub moves : ℕ → Channel → Move
+  pub showing : IsShowing caching n moves mail mail' s s'
+  pub c : ℕ
+  pub ch : Channel
+  pub rest : ℕ → Channel → List (Beat w)
+  pub rest' : ℕ → Channel → List (Beat w)
+  pub popped : IsPopped c ch moves rest rest' s s'
+  pub size : ℕ
+  pub answer : ℕ → ℕ → ℕ
+  pub all : AreClients config s
+
 -- ---- a block of which all that counts is as before
 
-module _ {w : ℕ} (config : Config) (caching : ℕ → Bool) (n : ℕ) (moves : ℕ → Channel → Move)
-    (mail mail' : AccessMessages w) (s s' : State (List ℕ)) (showing : IsShowing caching n moves mail mail' s s')
-    (c : ℕ) (ch : Channel) (rest rest' : ℕ → Channel → List (Beat w)) (popped : IsPopped c ch moves rest rest' s s')
-    (size : ℕ) (answer : ℕ → ℕ → ℕ) where
+module _ {w : ℕ} {config : Config} {mail mail' : AccessMessages w} {s s' : State (List ℕ)}
+    (taking : Taking config mail mail' s s') where
+  open taking use {caching, n, moves, showing, c, ch, rest, rest', popped, size, answer, all}
+
   abbrev left : Left
   left = beats_left mail s rest
 
   abbrev left' : Left
   left' = beats_left mail' s' rest'
 
+  -- less is owed afterwards
+  abbrev pub Falls : Type 0
+  Falls = rank config size left' answer s' + 1 ≤ rank config size left answer s
+
   same : (d : ℕ) (k : Kind) (m : ℕ) → IsHere s d k m → IsHere s' d k m → left' d k m ≤ left d k m
-  same d k m before after = let e = left-same caching n moves mail mail' s s' showing c ch rest rest' popped d k m
-      before after in omega (arith, e)
+  same d k m before after = let e = left-same showing popped d k m before after in omega (arith, e)
 
   -- one client whose Probe is as before
   pub pair-stays : (d m : ℕ) → ((s'.block m).pair d).probing ≡ ((s.block m).pair d).probing
@@ -78,8 +120,8 @@ module _ {w : ℕ} (config : Config) (caching : ℕ → Bool) (n : ℕ) (moves :
       go : (x : ProbePhase) → ((s.block m).pair d).probing ≡ x
           → probing_weight size (left' d ProbeAck m) ((s.block m).pair d).recorded x ≤ probing_weight size
           (left d ProbeAck m) ((s.block m).pair d).recorded x
-      go (ProbeAnswered r) e = same d ProbeAck m (report-here caching s showing.before d m (rw e refl))
-          (report-here caching s' showing.after d m (rw (probing, e) refl))
+      go (ProbeAnswered r) e = same d ProbeAck m (report-here showing.before d m (rw e refl))
+          (report-here showing.after d m (rw (probing, e) refl))
       go x e = omega arith
 
   -- an Acquire that is served as before
@@ -99,10 +141,10 @@ module _ {w : ℕ} (config : Config) (caching : ℕ → Bool) (n : ℕ) (moves :
           ≤ acquire_weight size (left d Acquire m) (left d Grant m)
           (probes_weight (clients config size left left' answer answer s s') size left m (s.block m)) v
       go Own e = omega (arith, probes)
-      go (Granting x k) e = let g = same d Grant m (grant-here caching s showing.before d m (rw e refl))
-          (grant-here caching s' showing.after d m (rw (viewed, e) refl)) in omega (arith, g)
-      go v e = let a = same d Acquire m (acquire-here caching s showing.before d m (rw (e, wants) refl))
-          (acquire-here caching s' showing.after d m (rw (viewed, e, acquiring, wants) refl)) in omega (arith, a)
+      go (Granting x k) e = let g = same d Grant m (grant-here showing.before d m (rw e refl))
+          (grant-here showing.after d m (rw (viewed, e) refl)) in omega (arith, g)
+      go v e = let a = same d Acquire m (acquire-here showing.before d m (rw (e, wants) refl))
+          (acquire-here showing.after d m (rw (viewed, e, acquiring, wants) refl)) in omega (arith, a)
 
   -- a Release that is as before
   pub let-stays : (d m : ℕ) → ((s'.block m).pair d).letting ≡ ((s.block m).pair d).letting
@@ -112,8 +154,8 @@ module _ {w : ℕ} (config : Config) (caching : ℕ → Bool) (n : ℕ) (moves :
     where
       go : (x : ReleasePhase) → ((s.block m).pair d).letting ≡ x → letting_weight (left' d Release m) x ≤ letting_weight
           (left d Release m) x
-      go (ReleaseSent r) e = let a = same d Release m (release-here caching s showing.before d m (rw e refl))
-          (release-here caching s' showing.after d m (rw (letting, e) refl)) in omega (arith, a)
+      go (ReleaseSent r) e = let a = same d Release m (release-here showing.before d m (rw e refl))
+          (release-here showing.after d m (rw (letting, e) refl)) in omega (arith, a)
       go x e = omega arith
 
   -- ---- all requests and Releases, given those of the block that changes
@@ -147,9 +189,8 @@ module _ {w : ℕ} (config : Config) (caching : ℕ → Bool) (n : ℕ) (moves :
       (probes_weight number size left m (s.block m)) (view (s.block m).service d)
   unserved-stays d i m e f before after =
       let a = same d Acquire m
-      (acquire-here caching s showing.before d m (and_from _ _ (wants-used showing.before d i m e)
-      before))
-      (acquire-here caching s' showing.after d m (and_from _ _ (wants-used showing.after d i m f) after)) in
+      (acquire-here showing.before d m (and_from _ _ (wants-used showing.before d i m e) before))
+      (acquire-here showing.after d m (and_from _ _ (wants-used showing.after d i m f) after)) in
       rw (
         unserved-weight size (left' d Acquire m) (left' d Grant m) (probes_weight number size left' m (s'.block m))
             (view (s'.block m).service d) after,
@@ -163,10 +204,8 @@ module _ {w : ℕ} (config : Config) (caching : ℕ → Bool) (n : ℕ) (moves :
         i ≤ owed_use config size left left' answer answer s s' d i
     use-stays d i e =
         use-no-more config size left left' answer answer s s' d i (s.uses d i) refl e (omega arith)
-        (λ u. same d Request i (request-here caching s showing.before d i u)
-        (request-here caching s' showing.after d i (e ∙ u)))
-        (λ u. same d Answer i (answer-here caching s showing.before d i u)
-        (answer-here caching s' showing.after d i (e ∙ u)))
+        (λ u. same d Request i (request-here showing.before d i u) (request-here showing.after d i (e ∙ u)))
+        (λ u. same d Answer i (answer-here showing.before d i u) (answer-here showing.after d i (e ∙ u)))
         (λ m u. serve m u (cases_eq m n)) (λ m u. acquire m u (cases_eq m n))
       where
         serve : (m : ℕ) → s.uses d i ≡ InService m → (m ≡ n) ⊎ (m ≡ n → ⊥)

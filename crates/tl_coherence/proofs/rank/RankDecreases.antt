@@ -73,8 +73,7 @@ module _ {X : Type 0} (config : Config) (n : ℕ) (left left' : Left) (answer an
 
   -- what is owed for one request falls
   pub use-falls : (c i : ℕ) → c < clients → i < sources_of (terms_at config c) → IsNoMore
-      → owed_use' c i + 1 ≤ owed_use c i
-      → rank config n left' answer' s' + 1 ≤ rank config n left answer s
+      → owed_use' c i + 1 ≤ owed_use c i → rank config n left' answer' s' + 1 ≤ rank config n left answer s
   use-falls c i lt below is less =
       let uses = total-falls (sources_of (terms_at config c)) i 1 (owed_use c) (owed_use' c) below (λ j h. is.uses c j)
       less in
@@ -130,11 +129,9 @@ module _ {X : Type 0} (config : Config) (n : ℕ) (left left' : Left) (answer an
   pub use-no-more : (c i : ℕ) (u : SourceState) → s.uses c i ≡ u → s'.uses c i ≡ u → answer' c i ≤ answer c i
       → (u ≡ Asked → left' c Request i ≤ left c Request i) → (u ≡ Replied → left' c Answer i ≤ left c Answer i)
       → ((m : ℕ) → u ≡ InService m → probes_weight clients n left' m (s'.block m) ≤ probes_weight clients n left m
-      (s.block m))
-      → ((m : ℕ) → u ≡ Acquires m → acquire_weight n (left' c Acquire m) (left' c Grant m)
-      (probes_weight clients n left' m (s'.block m)) (view (s'.block m).service c)
-      ≤ acquire_weight n (left c Acquire m) (left c Grant m) (probes_weight clients n left m (s.block m))
-      (view (s.block m).service c))
+      (s.block m)) → ((m : ℕ) → u ≡ Acquires m → acquire_weight n (left' c Acquire m) (left' c Grant m)
+      (probes_weight clients n left' m (s'.block m)) (view (s'.block m).service c) ≤ acquire_weight n (left c Acquire m)
+      (left c Grant m) (probes_weight clients n left m (s.block m)) (view (s.block m).service c))
       → owed_use' c i ≤ owed_use c i
   use-no-more c i SourceFree e f ans asks replies serves acquires = rw (e, f) (omega arith)
   use-no-more c i Asked e f ans asks replies serves acquires = let a = asks refl in rw (e, f) (omega (arith, a, ans))

@@ -1,35 +1,25 @@
 -- What is owed falls with each delivery: block by block.
-use Rattle.tl_coherence.proofs.rank.Imports.{Beat, Channel, Config, sources_of, IsInvariant, Own, Granting}
-use Rattle.tl_coherence.proofs.rank.Imports.{Acknowledging, GrantedOther, Left, pair_weight, probes_weight}
-use Rattle.tl_coherence.proofs.rank.Imports.{letting_weight, rank, State, SourceState, SourceFree, InService, Acquires}
-use Rattle.tl_coherence.proofs.rank.Imports.{view, AccessMessages, terms_at, Release}
+use Rattle.tl_coherence.proofs.rank.Frames.{Taking, Falls, AreAsBefore, AreElsewhere, AreNoMore, use-stays, let-all}
+use Rattle.tl_coherence.proofs.rank.Frames.{IsBlockNoMore, acquire-stays, let-stays, pair-stays, wants-used}
+use Rattle.tl_coherence.proofs.rank.Imports.{Config, IsInvariant, Own, Granting, Acknowledging, GrantedOther, Left}
+use Rattle.tl_coherence.proofs.rank.Imports.{pair_weight, probes_weight, letting_weight, State, SourceState, SourceFree}
+use Rattle.tl_coherence.proofs.rank.Imports.{InService, Acquires, view, AccessMessages, Release}
 use Rattle.std.proofs.Common.{◌≡◌, ℕ, ◌+◌, ◌<◌, ◌≤◌, Bool, true, false, List, refl, sym, ◌∙◌, ap, arith, ◌⊎◌, inl, inr}
 use Rattle.std.specs.Prelude.{◌==◌, if◌then◌else◌, Some, length}
 use Rattle.std.proofs.lemmas.Bool.{cases_eq, eqb-true}
 use Rattle.tl_params.specs.declared.param.Cap.{Cap}
-use Rattle.tl_coherence.specs.{protocol.Invariant.serves_of, protocol.Invariant.serves_with, refinement.Move.Move}
-use Rattle.tl_coherence.specs.{protocol.Phase.is_unprobed}
+use Rattle.tl_coherence.specs.{protocol.Invariant.serves_of, protocol.Invariant.serves_with, protocol.Phase.is_unprobed}
 use Rattle.tl_coherence.specs.protocol.Protocol.{Service, Free, Waits, GrantSent, GrantTaken}
-use Rattle.tl_coherence.proofs.{protocol.TokenNames.source_of_acquire, queues.Channels.IsShowing}
-use Rattle.tl_coherence.proofs.{protocol.BeatsRemaining.IsPopped, protocol.BeatsRemaining.beats_left}
+use Rattle.tl_coherence.proofs.{protocol.TokenNames.source_of_acquire, protocol.BeatsRemaining.beats_left}
 use Rattle.tl_coherence.proofs.{queues.Sums.total-le, queues.Tokens.same_number, queues.Facts.is_other}
 use Rattle.tl_coherence.proofs.rank.RankDecreases.{IsNoMore, owed_use, owed_use', owed_let, owed_let', clients}
 use Rattle.tl_coherence.proofs.rank.RankDecreases.{use-falls, let-falls, ack-falls, grant-falls, total-falls}
-use Rattle.tl_coherence.proofs.rank.Frames.{IsBlockNoMore, acquire-stays, use-stays, let-all, let-stays, pair-stays}
-use Rattle.tl_coherence.proofs.rank.Frames.{wants-used}
 use Rattle.tl_coherence.proofs.protocol.QuiescentProtocol.{owns_ask, serves_another}
 
--- who has something open is a client, with a source of its own
-pub record AreClients {X : Type 0} (config : Config) (s : State X) : Type 0 where
-  pub clients : (d i : ℕ) → (s.uses d i ≡ SourceFree → ⊥) → d < length config.clients.items
-  pub sources : (d i : ℕ) → (s.uses d i ≡ SourceFree → ⊥) → i < sources_of (terms_at config d)
-  pub letters : (d i n : ℕ) → s.lets d i ≡ Some n → d < length config.clients.items
-  pub releases : (d i n : ℕ) → s.lets d i ≡ Some n → i < sources_of (terms_at config d)
-
 -- the access for which a block waits
-pub serving-use : {X : Type 0} (caching : ℕ → Bool) (s : State X) (n q source : ℕ) (k : Cap) → IsInvariant caching s
+pub serving-use : {X : Type 0} {caching : ℕ → Bool} {s : State X} (n q source : ℕ) (k : Cap) → IsInvariant caching s
     → (s.block n).service ≡ Waits q false source k → s.uses q source ≡ InService n
-serving-use caching s n q source k inv e =
+serving-use {s} n q source k inv e =
     let is_serving : (u : SourceState) (m : ℕ) → serves_of m u ≡ true → u ≡ InService m =
     elim [ InService j ↦ λ m h. ap InService (sym (eqb-true m j h)) | u ↦ λ m h. absurd cc ] in
     let it : serves_with q source (s.block n) ≡ true = rw (e, same_number q, same_number source) refl in
@@ -49,17 +39,17 @@ asking {caching} {s} n q true source k inv e =
       used = source_of_acquire q n inv (owns_ask ((s.block n).pair q) (view (s.block n).service q)
           ((inv.blocks n).phases q) (rw viewed refl));
     }
-asking {caching} {s} n q false source k inv e = record { at = source; used = serving-use caching s n q source k inv e }
+asking {caching} {s} n q false source k inv e = record { at = source; used = serving-use n q source k inv e }
 
 pub open_use : (own : Bool) (n : ℕ) (u : SourceState) → u ≡ (if own then Acquires n else InService n) → u ≡ SourceFree
     → ⊥
 open_use true n u e f = absurd (let both : Acquires n ≡ SourceFree = sym e ∙ f in cc)
 open_use false n u e f = absurd (let both : InService n ≡ SourceFree = sym e ∙ f in cc)
 
-module _ {w : ℕ} (config : Config) (caching : ℕ → Bool) (n : ℕ) (moves : ℕ → Channel → Move)
-    (mail mail' : AccessMessages w) (s s' : State (List ℕ)) (showing : IsShowing caching n moves mail mail' s s')
-    (c : ℕ) (ch : Channel) (rest rest' : ℕ → Channel → List (Beat w)) (popped : IsPopped c ch moves rest rest' s s')
-    (size : ℕ) (answer : ℕ → ℕ → ℕ) (all : AreClients config s) where
+module _ {w : ℕ} {config : Config} {mail mail' : AccessMessages w} {s s' : State (List ℕ)}
+    (taking : Taking config mail mail' s s') where
+  open taking use {caching, n, moves, showing, c, ch, rest, rest', popped, size, answer, all}
+
   abbrev left : Left
   left = beats_left mail s rest
 
@@ -71,19 +61,16 @@ module _ {w : ℕ} (config : Config) (caching : ℕ → Bool) (n : ℕ) (moves :
 
   -- a Probe or report of the block, which is in service as before, owes one less
   pub service-falls : (q : ℕ) (own : Bool) (source : ℕ) (k : Cap) → (s.block n).service ≡ Waits q own source k
-      → (s'.block n).service ≡ (s.block n).service → ((d i : ℕ) → s'.uses d i ≡ s.uses d i)
-      → ((d i : ℕ) → s'.lets d i ≡ s.lets d i) → ((d : ℕ) → length (s'.link d).e ≤ length (s.link d).e)
-      → ((d : ℕ) → ((s'.block n).pair d).acquiring ≡ ((s.block n).pair d).acquiring)
-      → ((d i : ℕ) → s.lets d i ≡ Some n → letting_weight (left' d Release n) ((s'.block n).pair d).letting
-      ≤ letting_weight (left d Release n) ((s.block n).pair d).letting)
-      → probes_weight number size left' n (s'.block n) + 1 ≤ probes_weight number size left n (s.block n)
-      → rank config size left' answer s' + 1 ≤ rank config size left answer s
+      → (s'.block n).service ≡ (s.block n).service → AreAsBefore s'.uses s.uses → AreAsBefore s'.lets s.lets
+      → AreNoMore s'.link s.link → ((d : ℕ) → ((s'.block n).pair d).acquiring ≡ ((s.block n).pair d).acquiring)
+      → ((d i : ℕ) → s.lets d i ≡ Some n
+      → letting_weight (left' d Release n) ((s'.block n).pair d).letting ≤ letting_weight (left d Release n)
+      ((s.block n).pair d).letting) → probes_weight number size left' n (s'.block n) + 1 ≤ probes_weight number size
+      left n (s.block n) → Falls taking
   service-falls q own source k waits served uses lets acks acquiring letting less =
       let none_more : IsNoMore config size left left' answer answer s s' = record {
-        uses = λ d i. use-stays config caching n moves mail mail' s s' showing c ch rest rest' popped size answer block
-            d i (uses d i);
-        lets = λ d i. let-all config caching n moves mail mail' s s' showing c ch rest rest' popped size answer block d
-            i (lets d i);
+        uses = λ d i. use-stays taking block d i (uses d i);
+        lets = λ d i. let-all taking block d i (lets d i);
         acks = acks;
       } in
       use-falls config size left left' answer answer s s' q who.at (all.clients q who.at (open_use own n _ who.used))
@@ -95,11 +82,10 @@ module _ {w : ℕ} (config : Config) (caching : ℕ → Bool) (n : ℕ) (moves :
       no_more : probes_weight number size left' n (s'.block n) ≤ probes_weight number size left n (s.block n)
       no_more = omega (arith, less)
 
-      block : IsBlockNoMore config caching n moves mail mail' s s' showing c ch rest rest' popped size answer
+      block : IsBlockNoMore taking
       block = record {
         serves = λ d i e f. no_more;
-        acquires = λ d i e f. acquire-stays config caching n moves mail mail' s s' showing c ch rest rest' popped size
-            answer d n
+        acquires = λ d i e f. acquire-stays taking d n
             (wants-used showing.before d i n e) (acquiring d) (ap (λ (x : Service). view x d) served) no_more;
         lets = λ d i e f. letting d i e;
       }
@@ -142,58 +128,51 @@ waited-probing {s} c n inv probed =
 
 -- ---- a Probe is taken, or a report that isn't the last one missing
 
-module _ {w : ℕ} (config : Config) (caching : ℕ → Bool) (n : ℕ) (moves : ℕ → Channel → Move)
-    (mail mail' : AccessMessages w) (s s' : State (List ℕ)) (showing : IsShowing caching n moves mail mail' s s')
-    (c : ℕ) (ch : Channel) (rest rest' : ℕ → Channel → List (Beat w)) (popped : IsPopped c ch moves rest rest' s s')
-    (size : ℕ) (answer : ℕ → ℕ → ℕ) (all : AreClients config s) where
+module _ {w : ℕ} {config : Config} {mail mail' : AccessMessages w} {s s' : State (List ℕ)}
+    (taking : Taking config mail mail' s s') where
+  open taking use {caching, n, moves, showing, c, ch, rest, rest', popped, size, answer, all}
+
   -- one client's pair owes one less, and the others' are as before
   pub pair-falls : c < length config.clients.items → is_unprobed ((s.block n).pair c).probing ≡ false
       → (s'.block n).service ≡ (s.block n).service → ((d : ℕ) → (d ≡ c → ⊥) → (s'.block n).pair d ≡ (s.block n).pair d)
-      → ((s'.block n).pair c).acquiring ≡ ((s.block n).pair c).acquiring → ((s'.block n).pair c).letting
-      ≡ ((s.block n).pair c).letting → ((d i : ℕ) → s'.uses d i ≡ s.uses d i) → ((d i : ℕ) → s'.lets d i ≡ s.lets d i)
-      → ((d : ℕ) → length (s'.link d).e ≤ length (s.link d).e) → pair_weight size (beats_left mail' s' rest') n c
-      ((s'.block n).pair c) + 1 ≤ pair_weight size (beats_left mail s rest) n c ((s.block n).pair c)
-      → rank config size (beats_left mail' s' rest') answer s' + 1 ≤ rank config size (beats_left mail s rest) answer s
+      → ((s'.block n).pair c).acquiring ≡ ((s.block n).pair c).acquiring
+      → ((s'.block n).pair c).letting ≡ ((s.block n).pair c).letting → AreAsBefore s'.uses s.uses
+      → AreAsBefore s'.lets s.lets → AreNoMore s'.link s.link → pair_weight size (beats_left mail' s' rest') n c
+      ((s'.block n).pair c) + 1 ≤ pair_weight size (beats_left mail s rest) n c ((s.block n).pair c) → Falls taking
   pair-falls lt probed served others acquiring letting uses lets acks less =
       let wanted : (d : ℕ) → (d ≡ c) ⊎ (d ≡ c → ⊥) → ((s'.block n).pair d).acquiring ≡ ((s.block n).pair d).acquiring =
       λ d. elim [ inl same ↦ rw same acquiring | inr differs ↦ rw (others d differs) refl ] in
       let let_as : (d : ℕ) → (d ≡ c) ⊎ (d ≡ c → ⊥) → ((s'.block n).pair d).letting ≡ ((s.block n).pair d).letting =
       λ d. elim [ inl same ↦ rw same letting | inr differs ↦ rw (others d differs) refl ] in
       let who : IsWaited (s.block n).service = waited-probing c n showing.before probed in
-      service-falls config caching n moves mail mail' s s' showing c ch rest rest' popped size answer all who.client
+      service-falls taking who.client
       who.own who.source who.cap who.is served uses lets acks
-      (λ d. wanted d (cases_eq d c)) (λ d i e. let-stays config caching n moves mail mail' s s' showing c ch rest rest'
-      popped size answer d n (let_as d (cases_eq d c)))
+      (λ d. wanted d (cases_eq d c)) (λ d i e. let-stays taking d n (let_as d (cases_eq d c)))
       (total-falls (length config.clients.items) c 1 (λ d. pair_weight size (beats_left mail s rest) n d
-      ((s.block n).pair d))
-      (λ d. pair_weight size (beats_left mail' s' rest') n d ((s'.block n).pair d)) lt (λ d h. each d (cases_eq d c))
-      less)
+      ((s.block n).pair d)) (λ d. pair_weight size (beats_left mail' s' rest') n d ((s'.block n).pair d)) lt
+      (λ d h. each d (cases_eq d c)) less)
     where
       each : (d : ℕ) → (d ≡ c) ⊎ (d ≡ c → ⊥) → pair_weight size (beats_left mail' s' rest') n d
           ((s'.block n).pair d) ≤ pair_weight size (beats_left mail s rest) n d ((s.block n).pair d)
       each d (inl same) = rw same (omega (arith, less))
-      each d (inr differs) = pair-stays config caching n moves mail mail' s s' showing c ch rest rest' popped size
-          answer d n (rw (others d differs) refl) (rw (others d differs) refl)
+      each d (inr differs) = pair-stays taking d n (rw (others d differs) refl) (rw (others d differs) refl)
 
   -- ---- any other event
 
   -- a block that is as before owes no more
-  pub block-same : (s'.block n ≡ s.block n) → IsBlockNoMore config caching n moves mail mail' s s' showing c ch rest
-      rest' popped size answer
+  pub block-same : (s'.block n ≡ s.block n) → IsBlockNoMore taking
   block-same same =
       let probes = total-le (length config.clients.items) (λ d. pair_weight size (beats_left mail' s' rest') n d
       ((s'.block n).pair d)) (λ d. pair_weight size (beats_left mail s rest) n d ((s.block n).pair d))
-      (λ d lt. pair-stays config caching n moves mail mail' s s' showing c ch rest rest' popped size answer d n
-      (rw same refl) (rw same refl)) in
+      (λ d lt. pair-stays taking d n (rw same refl) (rw same refl)) in
       record {
         serves = λ d i e f. probes;
-        acquires = λ d i e f. acquire-stays config caching n moves mail mail' s s' showing c ch rest rest' popped size
-            answer d n (wants-used showing.before d i n e) (rw same refl) (rw same refl) probes;
-        lets = λ d i e f. let-stays config caching n moves mail mail' s s' showing c ch rest rest' popped size answer d
-            n (rw same refl);
+        acquires = λ d i e f. acquire-stays taking d n (wants-used showing.before d i n e) (rw same refl) (rw same refl)
+            probes;
+        lets = λ d i e f. let-stays taking d n (rw same refl);
       }
 
-  module _ (block : IsBlockNoMore config caching n moves mail mail' s s' showing c ch rest rest' popped size answer)
+  module _ (block : IsBlockNoMore taking)
     where
       abbrev owed : ℕ → ℕ → ℕ
       owed d i = owed_use config size (beats_left mail s rest) (beats_left mail' s' rest') answer answer s s' d i
@@ -208,78 +187,62 @@ module _ {w : ℕ} (config : Config) (caching : ℕ → Bool) (n : ℕ) (moves :
       due' d i = owed_let' config size (beats_left mail s rest) (beats_left mail' s' rest') answer answer s s' d i
 
       -- where one request's use changes alone, and it owes no more, none does
-      uses-else : (q j : ℕ) → ((d i : ℕ) → (d ≡ q → i ≡ j → ⊥) → s'.uses d i ≡ s.uses d i) → owed' q j ≤ owed q j
-          → (d i : ℕ) → owed' d i ≤ owed d i
+      uses-else : (q j : ℕ) → AreElsewhere q j s'.uses s.uses → owed' q j ≤ owed q j → (d i : ℕ) → owed' d i ≤ owed d i
       uses-else q j unlike here d i = go (cases_eq d q) (cases_eq i j)
         where
           other : (d ≡ q → i ≡ j → ⊥) → owed' d i ≤ owed d i
-          other ne = use-stays config caching n moves mail mail' s s' showing c ch rest rest' popped size answer block d
-              i (unlike d i ne)
+          other ne = use-stays taking block d i (unlike d i ne)
 
           go : (d ≡ q) ⊎ (d ≡ q → ⊥) → (i ≡ j) ⊎ (i ≡ j → ⊥) → owed' d i ≤ owed d i
           go (inl e) (inl f) = rw (e, f) here
           go (inr ne) at = other (λ e f. ne e)
           go (inl e) (inr ne) = other (λ g f. ne f)
 
-      lets-else : (q j : ℕ) → ((d i : ℕ) → (d ≡ q → i ≡ j → ⊥) → s'.lets d i ≡ s.lets d i) → due' q j ≤ due q j
-          → (d i : ℕ) → due' d i ≤ due d i
+      lets-else : (q j : ℕ) → AreElsewhere q j s'.lets s.lets → due' q j ≤ due q j → (d i : ℕ) → due' d i ≤ due d i
       lets-else q j unlike here d i = go (cases_eq d q) (cases_eq i j)
         where
           other : (d ≡ q → i ≡ j → ⊥) → due' d i ≤ due d i
-          other ne = let-all config caching n moves mail mail' s s' showing c ch rest rest' popped size answer block d i
-              (unlike d i ne)
+          other ne = let-all taking block d i (unlike d i ne)
 
           go : (d ≡ q) ⊎ (d ≡ q → ⊥) → (i ≡ j) ⊎ (i ≡ j → ⊥) → due' d i ≤ due d i
           go (inl e) (inl f) = rw (e, f) here
           go (inr ne) at = other (λ e f. ne e)
           go (inl e) (inr ne) = other (λ g f. ne f)
 
-      lets-same : ((d i : ℕ) → s'.lets d i ≡ s.lets d i) → (d i : ℕ) → due' d i ≤ due d i
-      lets-same same d i = let-all config caching n moves mail mail' s s' showing c ch rest rest' popped size answer
-          block d i (same d i)
+      lets-same : AreAsBefore s'.lets s.lets → (d i : ℕ) → due' d i ≤ due d i
+      lets-same same d i = let-all taking block d i (same d i)
 
-      uses-same : ((d i : ℕ) → s'.uses d i ≡ s.uses d i) → (d i : ℕ) → owed' d i ≤ owed d i
-      uses-same same d i = use-stays config caching n moves mail mail' s s' showing c ch rest rest' popped size answer
-          block d i (same d i)
+      uses-same : AreAsBefore s'.uses s.uses → (d i : ℕ) → owed' d i ≤ owed d i
+      uses-same same d i = use-stays taking block d i (same d i)
 
       -- one request owes one less
-      pub request-falls : (q j : ℕ) → (s.uses q j ≡ SourceFree → ⊥)
-          → ((d i : ℕ) → (d ≡ q → i ≡ j → ⊥) → s'.uses d i ≡ s.uses d i) → ((d i : ℕ) → s'.lets d i ≡ s.lets d i)
-          → ((d : ℕ) → length (s'.link d).e ≤ length (s.link d).e) → owed' q j + 1 ≤ owed q j
-          → rank config size (beats_left mail' s' rest') answer s' + 1 ≤ rank config size (beats_left mail s rest)
-          answer s
+      pub request-falls : (q j : ℕ) → (s.uses q j ≡ SourceFree → ⊥) → AreElsewhere q j s'.uses s.uses
+          → AreAsBefore s'.lets s.lets → AreNoMore s'.link s.link → owed' q j + 1 ≤ owed q j → Falls taking
       request-falls q j used unlike lets acks less =
           use-falls config size (beats_left mail s rest) (beats_left mail' s' rest') answer answer s s' q j
           (all.clients q j used) (all.sources q j used)
           (record { uses = uses-else q j unlike (omega (arith, less)); lets = lets-same lets; acks = acks }) less
 
       -- one Release owes one less
-      pub release-falls : (q j m : ℕ) → s.lets q j ≡ Some m → ((d i : ℕ) → s'.uses d i ≡ s.uses d i)
-          → ((d i : ℕ) → (d ≡ q → i ≡ j → ⊥) → s'.lets d i ≡ s.lets d i)
-          → ((d : ℕ) → length (s'.link d).e ≤ length (s.link d).e) → due' q j + 1 ≤ due q j
-          → rank config size (beats_left mail' s' rest') answer s' + 1 ≤ rank config size (beats_left mail s rest)
-          answer s
+      pub release-falls : (q j m : ℕ) → s.lets q j ≡ Some m → AreAsBefore s'.uses s.uses
+          → AreElsewhere q j s'.lets s.lets → AreNoMore s'.link s.link → due' q j + 1 ≤ due q j → Falls taking
       release-falls q j m is uses unlike acks less =
           let-falls config size (beats_left mail s rest) (beats_left mail' s' rest') answer answer s s' q j
           (all.letters q j m is) (all.releases q j m is)
           (record { uses = uses-same uses; lets = lets-else q j unlike (omega (arith, less)); acks = acks }) less
 
       -- a GrantAck is taken
-      pub acknowledged-falls : (q : ℕ) → q < length config.clients.items → ((d i : ℕ) → s'.uses d i ≡ s.uses d i)
-          → ((d i : ℕ) → s'.lets d i ≡ s.lets d i) → ((d : ℕ) → length (s'.link d).e ≤ length (s.link d).e)
-          → length (s'.link q).e + 1 ≤ length (s.link q).e → rank config size (beats_left mail' s' rest') answer s' + 1
-          ≤ rank config size (beats_left mail s rest) answer s
+      pub acknowledged-falls : (q : ℕ) → q < length config.clients.items → AreAsBefore s'.uses s.uses
+          → AreAsBefore s'.lets s.lets → AreNoMore s'.link s.link
+          → length (s'.link q).e + 1 ≤ length (s.link q).e → Falls taking
       acknowledged-falls q lt uses lets acks less =
           ack-falls config size (beats_left mail s rest) (beats_left mail' s' rest') answer answer s s' q lt
           (record { uses = uses-same uses; lets = lets-same lets; acks = acks }) less
 
       -- a Grant is taken
-      pub granted-falls : (q j : ℕ) → (s.uses q j ≡ SourceFree → ⊥)
-          → ((d i : ℕ) → (d ≡ q → i ≡ j → ⊥) → s'.uses d i ≡ s.uses d i) → ((d i : ℕ) → s'.lets d i ≡ s.lets d i)
-          → ((d : ℕ) → (d ≡ q → ⊥) → length (s'.link d).e ≤ length (s.link d).e)
-          → length (s'.link q).e ≡ length (s.link q).e + 1 → owed' q j + 2 ≤ owed q j
-          → rank config size (beats_left mail' s' rest') answer s' + 1 ≤ rank config size (beats_left mail s rest)
-          answer s
+      pub granted-falls : (q j : ℕ) → (s.uses q j ≡ SourceFree → ⊥) → AreElsewhere q j s'.uses s.uses
+          → AreAsBefore s'.lets s.lets → ((d : ℕ) → (d ≡ q → ⊥) → length (s'.link d).e ≤ length (s.link d).e)
+          → length (s'.link q).e ≡ length (s.link q).e + 1 → owed' q j + 2 ≤ owed q j → Falls taking
       granted-falls q j used unlike lets acks more less =
           grant-falls config size (beats_left mail s rest) (beats_left mail' s' rest') answer answer s s' q j
           (all.clients q j used) (all.sources q j used)

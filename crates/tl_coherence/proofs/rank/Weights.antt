@@ -82,9 +82,8 @@ heavy-pair n left recorded (ProbeSent k) le some =
     go (same_perm recorded Perm.Trunk)
 heavy-pair n left recorded (ProbeAnswered r) le some = omega (arith, le)
 
-module _ {X : Type 0} (caching : ℕ → Bool) (s : State X) (inv : IsInvariant caching s) (n : ℕ) (left : Left) (answer : ℕ
-    → ℕ → ℕ) (is : IsLeft n left answer s)
-    (some : 1 ≤ n) (few : n ≤ 16) (clients : ℕ) (sixteen : clients ≤ 16) where
+module _ {X : Type 0} {caching : ℕ → Bool} {s : State X} (inv : IsInvariant caching s) (n : ℕ) (left : Left) (answer : ℕ
+    → ℕ → ℕ) (is : IsLeft n left answer s) (some : 1 ≤ n) (few : n ≤ 16) (clients : ℕ) (sixteen : clients ≤ 16) where
   -- the writer is probed
   writes_probed : ℕ → ℕ → Bool
   writes_probed m d = not (is_unprobed ((s.block m).pair d).probing) && same_perm ((s.block m).pair d).recorded

@@ -151,8 +151,7 @@ good-handed config (x ∷ handed) width each = (
     sound = each.0.beats i lt;
     lanes = lanes_are (beat_of x.1 i) (typed-beat x.1 i width each.0.filled lt);
   }),
-  good-handed config
-      handed width each.1,
+  good-handed config handed width each.1,
 )
 
 -- ---- the terms of a client
@@ -209,17 +208,17 @@ fit_store : {w : ℕ} (blocks address size value : ℕ) (p : Perm) (e : Endpoint
 fit_store blocks address size value Perm.None e = tt
 fit_store blocks address size value p e = tt
 
-fit_done : {w : ℕ} (terms : EndConfig) (op : Op w) (e : Endpoint w) → NotBusy terms op e → IsTypedOp op
+fit_done : {w : ℕ} {terms : EndConfig} (op : Op w) {e : Endpoint w} → NotBusy terms op e → IsTypedOp op
     → ((n : ℕ) → length (copy_at e n) ≡ 64) → IsFitIfAny terms.blocks (done terms op e).message
-fit_done terms (Op.Load address size) e free typed copies =
+fit_done {terms} (Op.Load address size) {e} free typed copies =
     fit_load terms.blocks address size (held_at e (block_at address)) e
-fit_done terms (Op.Store address size value) e free typed copies =
+fit_done {terms} (Op.Store address size value) {e} free typed copies =
     fit_store terms.blocks address size value (held_at e (block_at address)) e
-fit_done terms (Op.Acquire n g) e free typed copies =
+fit_done {terms} (Op.Acquire n g) free typed copies =
     record { long = refl; ours = tt; inside = rw (same_block n) (first_false (nat_le terms.blocks n) _ free.b5) }
-fit_done terms (Op.AcquireWhole n bytes) e free typed copies =
+fit_done {terms} (Op.AcquireWhole n bytes) free typed copies =
     record { long = refl; ours = tt; inside = rw (same_block n) (first_false (nat_le terms.blocks n) _ free.b5) }
-fit_done {w} terms (Op.Release n p) e free typed copies =
+fit_done {w} {terms} (Op.Release n p) {e} free typed copies =
     let s = source_or_0 (free_release terms e.past) in
     let one = copied_release w p s n (copy_at e n) (copies n) in
     record {
@@ -227,17 +226,17 @@ fit_done {w} terms (Op.Release n p) e free typed copies =
       ours = one.1;
       inside = release_inside w terms.blocks p s n (copy_at e n) (first_false (nat_le terms.blocks n) _ free.b5);
     }
-fit_done terms (Op.Access (Message.A m)) e free typed copies =
+fit_done {terms} (Op.Access (Message.A m)) free typed copies =
     record { long = typed; ours = tt; inside = first_false (nat_le terms.blocks (block_at m.address)) _ free.b5 }
-fit_done terms (Op.Access (Message.B m)) e free typed copies = tt
-fit_done terms (Op.Access (Message.C m)) e free typed copies = tt
-fit_done terms (Op.Access (Message.D m)) e free typed copies = tt
-fit_done terms (Op.Access (Message.E m)) e free typed copies = tt
+fit_done (Op.Access (Message.B m)) free typed copies = tt
+fit_done (Op.Access (Message.C m)) free typed copies = tt
+fit_done (Op.Access (Message.D m)) free typed copies = tt
+fit_done (Op.Access (Message.E m)) free typed copies = tt
 
 pub fit-asked : {w : ℕ} (terms : EndConfig) (op : Op w) (e : Endpoint w) → IsTypedOp op
     → ((n : ℕ) → length (copy_at e n) ≡ 64) → IsFitIfAny terms.blocks (asked terms op e).message
 fit-asked terms op e typed copies = asked-cases terms op e (λ o. IsFitIfAny terms.blocks o.message) (λ busy. tt)
-    (λ free. fit_done terms op e free typed copies)
+    (λ free. fit_done op free typed copies)
 
 -- ---- what is delivered to a client
 

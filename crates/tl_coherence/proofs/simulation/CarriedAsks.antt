@@ -34,16 +34,17 @@ new_there k c n new block m e = ap (block_message k c n) (set-same n new block) 
 
 -- ---- a client is asked
 
-pub access_asked-carried : {w : ℕ} (caching : ℕ → Bool) (c source : ℕ) (m : Message w) (mail : AccessMessages w)
-    (s : State (List ℕ)) (sys sys' : System w) → IsWidth w → IsInvariant caching s
+pub access_asked-carried : {w : ℕ} {caching : ℕ → Bool} (c source : ℕ) (m : Message w) (mail : AccessMessages w)
+    {s : State (List ℕ)} {sys sys' : System w} → IsWidth w → IsInvariant caching s
     → IsInvariant caching (access_asked c source s) → s.uses c source ≡ SourceFree → channel_of_message m ≡ Channel.A
     → IsHanded (pushes_at c (pushes_of (Some m))) sys sys' → ChannelRelation mail s sys
     → ChannelRelation (record { request = set_at c source m mail.request; answer = mail.answer })
     (access_asked c source s) sys'
-access_asked-carried {w} caching c source m mail s sys sys' width inv inv' closed chan handed h =
+access_asked-carried {w} {caching} c source m mail {s} {sys} {sys'} width inv inv' closed chan handed h =
     let moved : AreMoved (access_moves source) (s.link c) (with_a (packet Request source) (s.link c)) =
     elim [ Channel.A ↦ refl | _ ↦ refl ] in
-    carried-event caching 0 (moves_at c (access_moves source)) mail mail' s s' sys sys' width (record {
+    carried-event {caching = caching} {n = 0} {moves = (moves_at c (access_moves source))} {mail = mail} {mail' = mail'}
+    {s = s} {s' = s'} sys sys' width (record {
       before = inv;
       after = inv';
       moved = moved-at c (access_moves source) (with_a (packet Request source) (s.link c)) s.link moved;
@@ -52,7 +53,7 @@ access_asked-carried {w} caching c source m mail s sys sys' width inv inv' close
       requests = λ d i e f. requests d i e (cases_eq d c) (cases_eq i source);
       answers = λ d i e f. refl;
     })
-    (queued-handed (pushes_at c (pushes_of (Some m))) (moves_at c (access_moves source)) mail' s' sys sys' handed
+    (queued-handed (moves_at c (access_moves source)) mail' s' handed
     (fits-handed c (pushes_of (Some m)) (access_moves source) (λ d k i. message_of mail' s' d (packet k i))
     (λ at. fits_pushed false m Channel.A at (access_moves source at) (λ k i. message_of mail' s' c (packet k i)) chan
     (fits at))))
@@ -76,14 +77,15 @@ access_asked-carried {w} caching c source m mail s sys sys' width inv inv' close
     fits Channel.A = cc (set-same c (set source m (mail.request c)) mail.request, set-same source m (mail.request c))
     fits at = tt
 
-pub acquire_asked-carried : {w : ℕ} (caching : ℕ → Bool) (c n source : ℕ) (whole : Bool) (g : Grow) (bytes : List ℕ)
-    (m : Message w) (mail : AccessMessages w) (s : State (List ℕ)) (sys sys' : System w) → IsWidth w
+pub acquire_asked-carried : {w : ℕ} {caching : ℕ → Bool} (c n source : ℕ) (whole : Bool) (g : Grow) (bytes : List ℕ)
+    (m : Message w) (mail : AccessMessages w) {s : State (List ℕ)} {sys sys' : System w} → IsWidth w
     → IsInvariant caching s → IsInvariant caching (acquire_asked c n source whole g bytes s)
     → ((s.block n).pair c).acquiring ≡ NoAcquire → channel_of_message m ≡ Channel.A
     → block_message Acquire c n (acquiring_block c source whole g bytes (s.block n)) ≡ m
     → IsHanded (pushes_at c (pushes_of (Some m))) sys sys' → ChannelRelation mail s sys
     → ChannelRelation mail (acquire_asked c n source whole g bytes s) sys'
-acquire_asked-carried {w} caching c n source whole g bytes m mail s sys sys' width inv inv' calm chan is handed h =
+acquire_asked-carried {w} {caching} c n source whole g bytes m mail {s} {sys} {sys'} width inv inv' calm chan is handed
+    h =
     let new : Block (List ℕ) = acquiring_block c source whole g bytes (s.block n) in
     let s' : State (List ℕ) = acquire_asked c n source whole g bytes s in
     let moved : AreMoved (acquire_moves n) (s.link c) (with_a (packet Acquire n) (s.link c)) =
@@ -91,22 +93,21 @@ acquire_asked-carried {w} caching c n source whole g bytes m mail s sys sys' wid
     let fits : (at : Channel) → Fits false (only_on Channel.A m at) (acquire_moves n at)
     (λ k i. message_of mail s' c (packet k i)) =
     elim [ Channel.A ↦ new_there Acquire c n new s.block m is | at ↦ tt ] in
-    carried-event caching n (moves_at c (acquire_moves n)) mail mail s s' sys sys' width
+    carried-event sys sys' width
     (showing-block n new (moves_at c (acquire_moves n)) mail mail inv inv'
     (moved-at c (acquire_moves n) (with_a (packet Acquire n) (s.link c)) s.link moved) (λ i. refl)
     (λ d. alike-acquiring c source whole g bytes (inv.blocks n) calm d) (λ d i e f. refl) (λ d i e f. refl))
-    (queued-handed (pushes_at c (pushes_of (Some m))) (moves_at c (acquire_moves n)) mail s' sys sys' handed
-    (fits-handed c (pushes_of (Some m)) (acquire_moves n) (λ d k i. message_of mail s' d (packet k i))
-    (λ at. fits_pushed false m Channel.A at (acquire_moves n at) (λ k i. message_of mail s' c (packet k i)) chan
-    (fits at)))) h
+    (queued-handed (moves_at c (acquire_moves n)) mail s' handed (fits-handed c (pushes_of (Some m)) (acquire_moves n)
+    (λ d k i. message_of mail s' d (packet k i)) (λ at. fits_pushed false m Channel.A at (acquire_moves n at)
+    (λ k i. message_of mail s' c (packet k i)) chan (fits at)))) h
 
-pub release_asked-carried : {w : ℕ} (caching : ℕ → Bool) (c n source : ℕ) (r : Prune) (m : Message w)
-    (mail : AccessMessages w) (s : State (List ℕ)) (sys sys' : System w) → IsWidth w → IsInvariant caching s
+pub release_asked-carried : {w : ℕ} {caching : ℕ → Bool} (c n source : ℕ) (r : Prune) (m : Message w)
+    (mail : AccessMessages w) {s : State (List ℕ)} {sys sys' : System w} → IsWidth w → IsInvariant caching s
     → IsInvariant caching (release_asked c n source r s) → ((s.block n).pair c).letting ≡ NoRelease
     → channel_of_message m ≡ Channel.C → block_message Release c n (releasing_block c source r (s.block n)) ≡ m
     → IsHanded (pushes_at c (pushes_of (Some m))) sys sys' → ChannelRelation mail s sys
     → ChannelRelation mail (release_asked c n source r s) sys'
-release_asked-carried {w} caching c n source r m mail s sys sys' width inv inv' kept chan is handed h =
+release_asked-carried {w} {caching} c n source r m mail {s} {sys} {sys'} width inv inv' kept chan is handed h =
     let new : Block (List ℕ) = releasing_block c source r (s.block n) in
     let s' : State (List ℕ) = release_asked c n source r s in
     let moved : AreMoved (release_moves n) (s.link c) (with_c (packet Release n) (s.link c)) =
@@ -114,14 +115,13 @@ release_asked-carried {w} caching c n source r m mail s sys sys' width inv inv' 
     let fits : (at : Channel) → Fits false (only_on Channel.C m at) (release_moves n at)
     (λ k i. message_of mail s' c (packet k i)) =
     elim [ Channel.C ↦ new_there Release c n new s.block m is | at ↦ tt ] in
-    carried-event caching n (moves_at c (release_moves n)) mail mail s s' sys sys' width
+    carried-event sys sys' width
     (showing-block n new (moves_at c (release_moves n)) mail mail inv inv'
     (moved-at c (release_moves n) (with_c (packet Release n) (s.link c)) s.link moved) (λ i. refl)
     (λ d. alike-releasing c source r (s.block n) kept d) (λ d i e f. refl) (λ d i e f. refl))
-    (queued-handed (pushes_at c (pushes_of (Some m))) (moves_at c (release_moves n)) mail s' sys sys' handed
-    (fits-handed c (pushes_of (Some m)) (release_moves n) (λ d k i. message_of mail s' d (packet k i))
-    (λ at. fits_pushed false m Channel.C at (release_moves n at) (λ k i. message_of mail s' c (packet k i)) chan
-    (fits at)))) h
+    (queued-handed (moves_at c (release_moves n)) mail s' handed (fits-handed c (pushes_of (Some m)) (release_moves n)
+    (λ d k i. message_of mail s' d (packet k i)) (λ at. fits_pushed false m Channel.C at (release_moves n at)
+    (λ k i. message_of mail s' c (packet k i)) chan (fits at)))) h
 
 -- nothing is handed out
 abbrev still_moves : ℕ → Channel → Move
@@ -131,11 +131,12 @@ no_push : {w : ℕ} (b : Bool) (render : Kind → ℕ → Message w) → Fits fa
 no_push true render = tt
 no_push false render = tt
 
-pub nothing_asked-carried : {w : ℕ} (caching : ℕ → Bool) (c : ℕ) (mail : AccessMessages w) (s : State (List ℕ))
-    (sys sys' : System w) → IsWidth w → IsInvariant caching s → IsHanded (pushes_at c (pushes_of None)) sys sys'
+pub nothing_asked-carried : {w : ℕ} {caching : ℕ → Bool} (c : ℕ) (mail : AccessMessages w) {s : State (List ℕ)}
+    {sys sys' : System w} → IsWidth w → IsInvariant caching s → IsHanded (pushes_at c (pushes_of None)) sys sys'
     → ChannelRelation mail s sys → ChannelRelation mail s sys'
-nothing_asked-carried {w} caching c mail s sys sys' width inv handed h =
-    carried-event caching 0 still_moves mail mail s s sys sys' width (record {
+nothing_asked-carried {w} {caching} c mail {s} {sys} {sys'} width inv handed h =
+    carried-event {caching = caching} {n = 0} {moves = still_moves} {mail = mail} {mail' = mail} {s = s} {s' = s} sys
+    sys' width (record {
       before = inv;
       after = inv;
       moved = λ d ch. refl;
@@ -144,20 +145,19 @@ nothing_asked-carried {w} caching c mail s sys sys' width inv handed h =
       requests = λ d i e f. refl;
       answers = λ d i e f. refl;
     })
-    (queued-handed (pushes_at c (pushes_of None)) still_moves mail s sys sys' handed
-    (λ d at. no_push (d == c) (λ k i. message_of mail s d (packet k i))))
+    (queued-handed still_moves mail s handed (λ d at. no_push (d == c) (λ k i. message_of mail s d (packet k i))))
     h
 
-pub block_stored-carried : {w : ℕ} (caching : ℕ → Bool) (c n : ℕ) (bytes : List ℕ) (mail : AccessMessages w)
-    (s : State (List ℕ)) (sys sys' : System w) → IsWidth w
+pub block_stored-carried : {w : ℕ} {caching : ℕ → Bool} (c n : ℕ) (bytes : List ℕ) (mail : AccessMessages w)
+    {s : State (List ℕ)} {sys sys' : System w} → IsWidth w
     → IsInvariant caching s → IsInvariant caching (block_stored c n bytes s)
     → ((k : Kind) (d : ℕ) → carries k d (s.block n) ≡ false) → IsHanded (pushes_at c (pushes_of None)) sys sys'
     → ChannelRelation mail s sys → ChannelRelation mail (block_stored c n bytes s) sys'
-block_stored-carried {w} caching c n bytes mail s sys sys' width inv inv' none handed h =
+block_stored-carried {w} {caching} c n bytes mail {s} {sys} {sys'} width inv inv' none handed h =
     let new : Block (List ℕ) = stored_block c bytes (s.block n) in
-    carried-event caching n still_moves mail mail s (block_stored c n bytes s) sys sys' width
+    carried-event sys sys' width
     (showing-block n new still_moves mail mail inv inv' (λ d ch. refl) (λ i. refl)
     (alike-bytes (s.block n) new refl refl refl refl refl (λ k d. inl (none k d))) (λ d i e f. refl) (λ d i e f. refl))
-    (queued-handed (pushes_at c (pushes_of None)) still_moves mail (block_stored c n bytes s) sys sys' handed
+    (queued-handed still_moves mail (block_stored c n bytes s) handed
     (λ d at. no_push (d == c) (λ k i. message_of mail (block_stored c n bytes s) d (packet k i))))
     h

@@ -108,8 +108,7 @@ granted_moved n c q d ch rest link apart first = elim (cases_eq d q) [
     | inl also ↦ rw also (at_reporter ch (granted_link c q n rest link c)
         (set-other q c (record (link q) { d = (link q).d ++ packet Grant n ∷ [] }) (popped_link c rest link) apart
         ∙ set-same c (record (link c) { c = rest }) link))
-    | inr neither ↦
-        at_other ch (granted_link c q n rest link d) other neither
+    | inr neither ↦ at_other ch (granted_link c q n rest link d) other neither
         (set-other q d (record (link q) { d = (link q).d ++ packet Grant n ∷ [] }) (popped_link c rest link)
         other ∙ set-other c d (record (link c) { c = rest }) link neither)
   ]

@@ -5,8 +5,7 @@ use Rattle.tl_coherence.proofs.simulation.Imports.{EndConfig, Deliver, is_moving
 use Rattle.tl_coherence.proofs.simulation.Imports.{receiver, State, packet, on, packets_on, AccessMessages, stepped}
 use Rattle.tl_coherence.proofs.simulation.Imports.{stepped_at, System, terms_at, Kind, Packet, SimulationRelation}
 use Rattle.tl_coherence.proofs.simulation.Imports.{is_caching}
-use Rattle.std.proofs.Common.{◌≡◌, subst, ℕ, Bool, true, false, ◌&&◌, List, [], ◌∷◌, Option, Some, None, refl, sym, ◌∙◌}
-use Rattle.std.proofs.Common.{ap}
+use Rattle.std.proofs.Common.{◌≡◌, ℕ, Bool, true, false, ◌&&◌, List, [], ◌∷◌, Option, Some, None, refl, sym, ◌∙◌, ap}
 use Rattle.std.specs.Prelude.{if◌then◌else◌}
 use Rattle.tl_burst.specs.statement.Part.{completes}
 use Rattle.tl_client.specs.statement.Ask as ask

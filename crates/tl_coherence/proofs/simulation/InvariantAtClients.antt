@@ -44,8 +44,7 @@ probe_ready {w} {config} {log} {mail} {request} {s} {sys} link n rest {x} {queue
         → is_unreleased ((s.block n).pair link.0).letting ≡ b → ((s.block n).pair link.0).letting ≡ NoRelease
     stands terms at true kept = kept-letting ((s.block n).pair link.0).letting (ap not kept)
     stands terms at false waits =
-        let probed = probe-delivered terms (next_tracker sys) link.0 n rest
-        width h at beats first next in
+        let probed = probe-delivered terms (next_tracker sys) link.0 n rest width h at beats first next in
         let step : is_moving (stepped config (Deliver link Channel.B) sys).outcome ≡ false =
         ap (λ (i : Step w). is_moving i.outcome) (stepped-to-client config link Channel.B sys terms x queue at beats
         refl) ∙ ap (λ (o : Offered w). is_moving (client_took link.0 Channel.B x queue o sys).outcome)

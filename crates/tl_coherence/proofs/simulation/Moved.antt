@@ -129,8 +129,7 @@ offered-passes {w} config link ch x e handed is =
     → manager_offer.offered_as j config link x e
     ≡ (
       manager_offer.Sent (manager_reaction.reaction config link x e).handed,
-      manager_offer.taken link x
-          (manager_reaction.reaction config link x e) e,
+      manager_offer.taken link x (manager_reaction.reaction config link x e) e,
     ) =
     elim [ manager_offer.Passes ↦ λ h. refl | j ↦ λ h. absurd cc ] in
     go (manager_offer.judged config link ch x e) is
@@ -141,8 +140,7 @@ pub record IsTakenByManager {w : ℕ} (config : Config) (link : Link) (ch : Chan
   pub takes : manager_offer.offered config link ch x sys.manager
       ≡ (
         manager_offer.Sent (manager_reaction.reaction config link x sys.manager).handed,
-        manager_offer.taken link x
-            (manager_reaction.reaction config link x sys.manager) sys.manager,
+        manager_offer.taken link x (manager_reaction.reaction config link x sys.manager) sys.manager,
       )
   pub step_is : step ≡ handing (Outcome.Moved x) (manager_reaction.reaction config link x sys.manager).handed
       (with_manager (manager_offer.taken link x (manager_reaction.reaction config link x sys.manager) sys.manager)

@@ -1,7 +1,6 @@
 -- Each client's open sources are its own, in every world; and so no channel holds more than it is made for.
 use Rattle.tl_coherence.proofs.simulation.Imports.{IsWidth, Channel, MessageA, Config, pending, EndConfig, Log}
 use Rattle.tl_coherence.proofs.simulation.Imports.{system_after, State, AccessMessages, terms_at, SimulationRelation}
-use Rattle.tl_coherence.proofs.simulation.Imports.{is_caching}
 use Rattle.std.proofs.Common.{◌≡◌, ℕ, ◌/◌, ◌≤◌, true, List, refl}
 use Rattle.std.specs.Prelude.{Option, Some, None, length}
 use Rattle.tl_params.specs.declared.key.Key.{Key}
@@ -74,6 +73,6 @@ pub channels-few : {w : ℕ} {config : Config} {log : Log w} {mail : AccessMessa
     → (c : ℕ) (ch : Channel) → length ((system_after config log).channels c ch) ≤ capacity (64 / w)
     (sources_of (terms_at config c)) config.trackers ch
 channels-few {w} {config} {log} {mail} {request} {s} width matched c ch =
-    channel-few (is_caching config) mail s c (sources_of (terms_at config c)) config.trackers ch _ _ width
+    channel-few mail ch _ _ width
     matched.invariant (matched-bounded config log mail request s (system_after config log) matched c
     (sources-own config log c width)) (matched.carried c ch)

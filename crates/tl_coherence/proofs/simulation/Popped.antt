@@ -12,7 +12,7 @@ use Rattle.tl_burst.proofs.Begun.{length-begun}
 use Rattle.tl_coherence.specs.refinement.Move.{Pushes, Pops, IsMoved, AreMoved, channel_for}
 use Rattle.tl_coherence.specs.{refinement.PacketMessages.message_of_kind, protocol.Packet.is}
 use Rattle.tl_coherence.proofs.{simulation.Bounded.matched-bounded, queues.Channels.Fits}
-use Rattle.tl_coherence.proofs.{queues.Channels.same_channel-is, queues.FirstToken.IsFirst, rank.RankParts.AreClients}
+use Rattle.tl_coherence.proofs.{queues.Channels.same_channel-is, queues.FirstToken.IsFirst, rank.Frames.AreClients}
 use Rattle.tl_coherence.proofs.{simulation.Owned.sources-own, queues.Rendered.same_kind_again}
 use Rattle.tl_coherence.proofs.{queues.QuiescentQueues.client_below, simulation.Strangers.no_use}
 use Rattle.tl_coherence.proofs.{simulation.Strangers.no_let, queues.Tokens.same_number, queues.Steps.same_channel-refl}
@@ -78,9 +78,9 @@ popped-received {w} c ch pushes moves render s s' sys sys' received fits moved =
 
 -- ---- who has something open
 
-module _ {w : ℕ} (config : Config) (log : Log w) (mail : AccessMessages w) (request : ℕ → MessageA w)
-    (s : State (List ℕ))
-    (matched : SimulationRelation config log mail request s (system_after config log)) (width : IsWidth w) where
+module _ {w : ℕ} {config : Config} {log : Log w} {mail : AccessMessages w} {request : ℕ → MessageA w}
+    {s : State (List ℕ)} (matched : SimulationRelation config log mail request s (system_after config log))
+    (width : IsWidth w) where
   pub are-clients : AreClients config s
   are-clients = record {
     clients = λ d i used. user d i (terms_at config d) refl used;
@@ -93,13 +93,13 @@ module _ {w : ℕ} (config : Config) (log : Log w) (mail : AccessMessages w) (re
     where
       user : (d i : ℕ) (o : Option EndConfig) → terms_at config d ≡ o → (s.uses d i ≡ SourceFree → ⊥)
           → d < length config.clients.items
-      user d i None is used = absurd (used (no_use config log mail request s matched width d is i))
+      user d i None is used = absurd (used (no_use matched width d is i))
       user d i (Some terms) is used = client_below config d terms is
 
       letter : (d i n : ℕ) (o : Option EndConfig) → terms_at config d ≡ o → s.lets d i ≡ Some n
           → d < length config.clients.items
       letter d i n None is e =
-          absurd (let none : s.lets d i ≡ None = no_let config log mail request s matched width d is i in let both =
+          absurd (let none : s.lets d i ≡ None = no_let matched width d is i in let both =
           sym e ∙ none in cc)
       letter d i n (Some terms) is e = client_below config d terms is
 

@@ -105,7 +105,7 @@ strangers-kind_taken {w} {caching} config tracker c ProbeAck i rest h terms inv 
     → AreStrange config (if b then s else t).state.uses = elim [ true ↦ λ s t f g. f | false ↦ λ s t f g. g ] in
     either _ _ _ before (strange_last config _ config.profile c i _ (h.state.block i).service rest h
     (λ q source j e f. absurd (let g : InService i ≡ SourceFree =
-    sym (serving-use caching h.state i q source j inv e) ∙ f in cc)) before)
+    sym (serving-use i q source j inv e) ∙ f in cc)) before)
 strangers-kind_taken config tracker c Release i rest h terms inv known before = before
 strangers-kind_taken config tracker c Answer i rest h terms inv known before =
     strange_closed config c i h.state.uses before

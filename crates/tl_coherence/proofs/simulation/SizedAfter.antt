@@ -37,9 +37,8 @@ sized_block n {new} block here before = λ i. set-each (λ j b. AreSized b) n ne
 
 -- where no more bytes wait than before
 sized_same : {old : Block (List ℕ)} (new : Block (List ℕ)) → length new.truth ≡ 64
-    → ((c : ℕ) → new.waiting c ≡ old.waiting c)
-    → ((c : ℕ) → is_whole (new.pair c).acquiring ≡ true → is_whole (old.pair c).acquiring ≡ true) → AreSized old
-    → AreSized new
+    → ((c : ℕ) → new.waiting c ≡ old.waiting c) → ((c : ℕ) → is_whole (new.pair c).acquiring ≡ true
+    → is_whole (old.pair c).acquiring ≡ true) → AreSized old → AreSized new
 sized_same new long waiting storing h =
     record { truth = long; waiting = λ c e. ap length (waiting c) ∙ h.waiting c (storing c e) }
 

@@ -121,8 +121,7 @@ good-after {w} {config} {log} {mail} {request} {s} {sys} width h event typed =
         λ e f. subst (λ (n : ℕ). IsFitAnswer n (offer.offered terms ch x (sys.clients c)).answer) e f in
         let same = (level-terms config c terms known).1 in
         fitted same (offered-cases terms ch x (sys.clients c) (λ o. IsFitAnswer terms.blocks o.answer) (λ rule. tt) tt
-        (λ passed. fit-taken terms.blocks x (sys.clients c) passed.inside
-        (copy-long h c)))
+        (λ passed. fit-taken terms.blocks x (sys.clients c) passed.inside (copy-long h c)))
 
     delivered_good : (c : ℕ) (ch : Channel) (terms : client.EndConfig) (beats : List (Beat w))
         → sys.channels c ch ≡ beats → terms_at config c ≡ Some terms

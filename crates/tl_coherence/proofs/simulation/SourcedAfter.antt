@@ -116,7 +116,7 @@ sourced-kind_taken {w} {caching} config tracker c ProbeAck i rest h inv first be
     → AreSourced config t.mail.request t.state.uses → AreSourced config (if b then s else t).mail.request
     (if b then s else t).state.uses = elim [ true ↦ λ s t f g. f | false ↦ λ s t f g. g ] in
     either _ _ _ before (sourced_last config _ config.profile c i _ (h.state.block i).service rest h
-    (λ q source k e. serving-use caching h.state i q source k inv e) before)
+    (λ q source k e. serving-use i q source k inv e) before)
 sourced-kind_taken config tracker c Release i rest h inv first before = before
 sourced-kind_taken config tracker c Answer i rest h inv first before =
     sourced_set config h.mail.request c i SourceFree h.state.uses tt before
@@ -160,8 +160,7 @@ sourced-asked {w} config c (Op.Access (Message.A m)) (Reply.Started source) h as
   | inl same ↦ elim (cases_eq i source) [
     | inl also ↦ rw (same, also)
         (now _ _ (ap (λ (f : ℕ → Message w). f source) (set-same c (set source (access source m) (h.mail.request c))
-        h.mail.request)
-        ∙ set-same source (access source m) (h.mail.request c))
+        h.mail.request) ∙ set-same source (access source m) (h.mail.request c))
         (ap (λ (f : ℕ → SourceState). f source) (set-same c (set source Asked (h.state.uses c)) h.state.uses) ∙ set-same
         source Asked (h.state.uses c)))
     | inr other ↦ rw (same, same_number c, ne_eqb i source other) (before c i)

@@ -45,14 +45,13 @@ acknowledged_to (GrantSent q d k) c e =
 acknowledged_to (GrantTaken q) c e =
     let go : (b : Bool) → (c == q) ≡ b → is_acknowledging (if b then Acknowledging else GrantedOther) ≡ true
     → Some q ≡ Some c = elim [
-      | true ↦ λ same f. ap (λ (i : ℕ). Some i)
-          (sym (eqb-true c q same))
+      | true ↦ λ same f. ap (λ (i : ℕ). Some i) (sym (eqb-true c q same))
       | false ↦ λ differs f. absurd cc
     ] in
     go (c == q) refl e
 
-module _ {w : ℕ} (config : Config) (log : Log w) (mail : AccessMessages w) (request : ℕ → MessageA w)
-    (s : State (List ℕ)) (matched : SimulationRelation config log mail request s (system_after config log))
+module _ {w : ℕ} {config : Config} {log : Log w} {mail : AccessMessages w} {request : ℕ → MessageA w}
+    {s : State (List ℕ)} (matched : SimulationRelation config log mail request s (system_after config log))
     (width : IsWidth w) (c : ℕ) (is : terms_at config c ≡ None) where
   pub no_use : (source : ℕ) → s.uses c source ≡ SourceFree
   no_use source = matched.strangers c source is
@@ -83,22 +82,22 @@ module _ {w : ℕ} (config : Config) (log : Log w) (mail : AccessMessages w) (re
 
   nothing_shown : (ch : Channel) (k : Kind) (n : ℕ) → is_on ch k ≡ true → 0 < count k n (packets_on ch (s.link c)) → ⊥
   nothing_shown ch Request n on_it there =
-      absurd (let e = request_named _ s c n matched.invariant (shown_there c ch Request n matched.invariant on_it
+      absurd (let e = request_named c n matched.invariant (shown_there c ch Request n matched.invariant on_it
       there) in let both : Asked ≡ SourceFree = sym e ∙ no_use n in cc)
   nothing_shown ch Answer n on_it there =
-      absurd (let e = answer_named _ s c n matched.invariant (shown_there c ch Answer n matched.invariant on_it
+      absurd (let e = answer_named c n matched.invariant (shown_there c ch Answer n matched.invariant on_it
       there) in let both = sym e ∙ no_use n in cc)
   nothing_shown ch Acquire n on_it there =
-      absurd (let e = acquire_named _ s c n matched.invariant (shown_there c ch Acquire n matched.invariant on_it
+      absurd (let e = acquire_named c n matched.invariant (shown_there c ch Acquire n matched.invariant on_it
       there) in let both = sym e ∙ no_use _ in cc)
   nothing_shown ch Grant n on_it there =
-      absurd (let e = grant_named _ s c n matched.invariant (shown_there c ch Grant n matched.invariant on_it there)
+      absurd (let e = grant_named c n matched.invariant (shown_there c ch Grant n matched.invariant on_it there)
       in let both = sym e ∙ no_use _ in cc)
   nothing_shown ch Release n on_it there =
-      absurd (let e = release_named _ s c n matched.invariant (shown_there c ch Release n matched.invariant on_it
+      absurd (let e = release_named c n matched.invariant (shown_there c ch Release n matched.invariant on_it
       there) in let both = sym e ∙ no_let _ in cc)
   nothing_shown ch ReleaseAck n on_it there =
-      absurd (let e = release_ack_named _ s c n matched.invariant (shown_there c ch ReleaseAck n matched.invariant
+      absurd (let e = release_ack_named c n matched.invariant (shown_there c ch ReleaseAck n matched.invariant
       on_it there) in let both = sym e ∙ no_let _ in cc)
   nothing_shown ch Probe n on_it there =
       absurd (let it = shown_there c ch Probe n matched.invariant on_it there in
@@ -116,4 +115,4 @@ module _ {w : ℕ} (config : Config) (log : Log w) (mail : AccessMessages w) (re
       let go : (xs : List Packet) → ((x : Packet) → IsThere x xs → ⊥) → xs ≡ [] =
       elim [ [] ↦ λ none. refl | x ∷ xs ↦ λ none. absurd (none x (first-there x xs)) ] in
       go (packets_on ch (s.link c))
-      (λ x there. nothing_shown ch x.kind x.number (kind_there _ s c ch x matched.invariant there) there)
+      (λ x there. nothing_shown ch x.kind x.number (kind_there c ch x matched.invariant there) there)

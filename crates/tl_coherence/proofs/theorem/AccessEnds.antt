@@ -61,8 +61,7 @@ bytes_come {w} o m bytes beats width lawful long burst =
     let room : w * data_beats w m.size ≤ 64 = data_room w m.size width m.small in
     let blank : IsBlankAfter (beats_of (Message.D d)) (Message.D d) = (
       payload-zero (m.address % w) (2 ^ m.size) (w * data_beats w m.size) bytes long carried room,
-      pow_pos
-          (data_beats w m.size),
+      pow_pos (data_beats w m.size),
     ) in
     let whole = payload-d d beats width (payload-long (m.address % w) (2 ^ m.size) bytes long
     (omega (arith, carried, room))) (burst, blank) in
@@ -149,9 +148,8 @@ over {w} {config} {log} c source h is used =
       answer = answers.0;
       reach = answers.1;
       pending_is = request_open source (a_beat_of (sourced source open_.1.0) 0)
-          ((system_after config log).clients c).past
-          ((is.known c).opens source ∙ asked_replied (h.state.uses c source) (h.mail.request c source)
-          (block_message Acquire c (block_used (h.state.uses c source))
+          ((system_after config log).clients c).past ((is.known c).opens source ∙ asked_replied (h.state.uses c source)
+          (h.mail.request c source) (block_message Acquire c (block_used (h.state.uses c source))
           (h.state.block (block_used (h.state.uses c source)))) used ∙ ap first_of open_.1.1);
     }
 
@@ -163,8 +161,7 @@ whole_response : {w : ℕ} {config : Config} {log : Log w} {link : Link} {ch : C
 whole_response {w} end =
     cc (
       end.beat_is,
-      (end.first.next.last (eqb-true (end.first.next.k + 1) _ (sym end.first.next.completes_is
-          ∙ end.last))).1,
+      (end.first.next.last (eqb-true (end.first.next.k + 1) _ (sym end.first.next.completes_is ∙ end.last))).1,
       end.response_is,
     )
 
@@ -192,8 +189,7 @@ ends-answer {w} {config} {log} {link} {ch} {h} {x} {source} {f} width is end e =
     in
     subst (λ (i : Finish). Ends (m.opened c (pool_of i) source) x i) (sym fin)
     (subst (λ (i : ℕ). Ends (m.opened c (pool_of (finish_with (Message.A it.asked) it.reply)) i) x
-    (finish_with (Message.A it.asked) it.reply)) (sym from)
-    (open_ends c n m it.asked it.reply x it.opened))
+    (finish_with (Message.A it.asked) it.reply)) (sym from) (open_ends c n m it.asked it.reply x it.opened))
   where
     c : ℕ
     c = link.0

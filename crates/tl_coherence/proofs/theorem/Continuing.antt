@@ -2,8 +2,8 @@
 use Rattle.tl_coherence.proofs.theorem.Imports.{IsWidth, Beat, Link, Channel, Message, Config, Deliver, AbstractState}
 use Rattle.tl_coherence.proofs.theorem.Imports.{Log, system_after, Machine, one_memory_after, System}
 use Rattle.tl_coherence.proofs.theorem.Imports.{SimulationRelation}
-use Rattle.std.proofs.Common.{◌≡◌, ℕ, Bool, true, false, List, [], ◌∷◌, Option, Some, None, refl, sym, ◌∙◌, ap, subst}
-use Rattle.std.proofs.Common.{◌⊎◌, inl, inr}
+use Rattle.std.proofs.Common.{◌≡◌, ℕ, Bool, true, false, List, [], ◌∷◌, Option, Some, None, refl, ◌∙◌, ap, subst, ◌⊎◌}
+use Rattle.std.proofs.Common.{inl, inr}
 use Rattle.std.{specs.Prelude.All, specs.Prelude.Ok, proofs.lemmas.List.Elements.All-head}
 use Rattle.tl_beat.specs.declared.beat.BeatE.{BeatE}
 use Rattle.tl_burst.specs.statement.Messages.{channel_of}

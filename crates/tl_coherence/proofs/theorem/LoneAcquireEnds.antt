@@ -1,18 +1,16 @@
 -- An Acquire that is started alone brings what it asks for, and an AcquireWhole brings Trunk.
 use Rattle.tl_coherence.proofs.theorem.Imports.{Link, Channel, Config, Grow, Perm, Deliver, AbstractState, Log}
-use Rattle.tl_coherence.proofs.theorem.Imports.{system_after, AcquirePhase, AcquireOpen, SourceState, is_caching}
-use Rattle.std.proofs.Common.{◌≡◌, subst, ℕ, zero, suc, Bool, true, false, List, ◌∷◌, Option, Some, None, refl, sym}
-use Rattle.std.proofs.Common.{◌∙◌, ap}
+use Rattle.tl_coherence.proofs.theorem.Imports.{system_after, AcquirePhase, AcquireOpen, SourceState}
+use Rattle.std.proofs.Common.{◌≡◌, ℕ, zero, suc, Bool, true, false, List, ◌∷◌, Option, Some, None, refl, sym, ◌∙◌, ap}
 use Rattle.tl_params.specs.declared.profile.Profile.{Profile}
 use Rattle.tl_client.{specs.declared.operation.Op.Op, specs.declared.reply.Reply.TheVariants.Started}
 use Rattle.tl_client.{specs.statement.Ask.whole_grow, specs.statement.Endpoint.held_at}
 use Rattle.tl_rules.specs.statement.Conformance.{same_perm}
-use Rattle.tl_coherence.specs.{declared.event.Event.TheVariants.Ask, declared.event.Outcome.Outcome}
-use Rattle.tl_coherence.specs.{declared.event.Outcome.TheVariants.Replied, statement.Headline.IsGiven}
-use Rattle.tl_coherence.specs.{statement.Load.outstanding, statement.Log.IsLog, protocol.Phase.ClientBlock}
-use Rattle.tl_coherence.specs.{protocol.PhaseSteps.after_acquire}
+use Rattle.tl_coherence.specs.{declared.event.Event.TheVariants.Ask, declared.event.Outcome.TheVariants.Replied}
+use Rattle.tl_coherence.specs.{statement.Headline.IsGiven, statement.Load.outstanding, statement.Log.IsLog}
+use Rattle.tl_coherence.specs.{protocol.Phase.ClientBlock, protocol.PhaseSteps.after_acquire}
 use Rattle.tl_coherence.specs.statement.Draining.{LoneAcquire, LoneAcquireWhole, IsDrained, grown_to}
-use Rattle.tl_coherence.specs.refinement.AbstractStep.{asked, abstract_step, abstract_step_by}
+use Rattle.tl_coherence.specs.refinement.AbstractStep.{asked, abstract_step}
 use Rattle.tl_coherence.specs.statement.Movable.{next_delivery, drained, with_delivery}
 use Rattle.tl_coherence.specs.protocol.Protocol.{Block, State, SourceFree, Acquires, acquire_asked, acquiring_block}
 use Rattle.tl_coherence.proofs.{memory.Beside.set_at-there, outstanding.Counted.outstanding-open}
@@ -34,8 +32,7 @@ given_delivering {config} (Some d) {log} given = given-delivering config d.0 d.1
 -- nothing is open where nothing is outstanding
 nothing_open : {w : ℕ} {config : Config} {log : Log w} → IsGiven config log → outstanding log ≡ 0
     → IsClosed (shadow config log).state
-nothing_open {config} {log} given none = closed-when-counted config log (shadow config log).mail
-    (shadow config log).request (shadow config log).state (matched-given config log given) given.width
+nothing_open {config} {log} given none = closed-when-counted (matched-given config log given) given.width
     (sym (outstanding-open (counted config log given.width given.typed given.is_log)) ∙ none)
 
 -- ---- as it starts
@@ -81,11 +78,8 @@ lone_delivered {w} {config} {log} {c} {n} {source} {a} link ch given is =
     let matched = matched-given config log given in
     delivered-cases link ch
     (λ (i : AbstractState w). IsLone config.profile c n source a i.state) given.width matched is
-    (λ x queue d.
-    lone-kind_taken config.profile c n source a (is_caching config) config
-    (next_tracker (system_after config log)) link.0 d.first.kind d.first.number d.first.rest h matched.invariant
-    matched.given
-    (on-first d) is)
+    (λ x queue d. lone-kind_taken config.profile c n source a config (next_tracker (system_after config log)) link.0
+    d.first.kind d.first.number d.first.rest h matched.invariant matched.given (on-first d) is)
 
 lone_next : {w : ℕ} {config : Config} {log : Log w} {c n source : ℕ} {a : AcquirePhase} (o : Option (Link × Channel))
     → IsGiven config log → IsLone config.profile c n source a (shadow config log).state
@@ -124,8 +118,7 @@ alone-drained : {w : ℕ} {config : Config} {log : Log w} {c block source n : �
 alone-drained {w} {config} {log} {c} {block} {source} {n} {op} {a} is drains =
     let start : Log w = (Ask c op, Replied (Started source)) ∷ log in
     let end : Log w = drained config n start in
-    let lone = lone_drained n
-    (record { given = is.given; lone = lone_started is }) in
+    let lone = lone_drained n (record { given = is.given; lone = lone_started is }) in
     let closed = nothing_open lone.given drains.nothing_left in
     ap (grown config.profile a) (((matched-given config end lone.given).known c).held_is block)
     ∙ brought config.profile block a ((shadow config end).state.uses c source)

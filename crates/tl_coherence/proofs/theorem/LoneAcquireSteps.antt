@@ -116,9 +116,9 @@ brings_granted : (p : Profile) (n : ℕ) (a : AcquirePhase) (u : SourceState) (x
 brings_granted p n a u x q e f is = rw e (ap (grown p a) f ∙ is)
 
 module _ (p : Profile) (c n source : ℕ) (a : AcquirePhase) where
-  lone_steady : (s s' : State (List ℕ)) → ((d i : ℕ) → s'.uses d i ≡ s.uses d i)
+  lone_steady : {s : State (List ℕ)} (s' : State (List ℕ)) → ((d i : ℕ) → s'.uses d i ≡ s.uses d i)
       → IsSteady ((s.block n).pair c) ((s'.block n).pair c) → IsLone p c n source a s → IsLone p c n source a s'
-  lone_steady s s' uses same is = record {
+  lone_steady {s} s' uses same is = record {
     others = λ d i else_. uses d i ∙ is.others d i else_;
     brings = brings_steady p n a (s.uses c source) (s'.uses c source) ((s.block n).pair c) ((s'.block n).pair c)
         (uses c source) same is.brings;
@@ -129,8 +129,8 @@ module _ (p : Profile) (c n source : ℕ) (a : AcquirePhase) where
   abbrev IsOwn : State (List ℕ) → ℕ → ℕ → Type 0
   IsOwn s d i = (d ≡ c) × (i ≡ source) × (s.uses d i ≡ Acquires n) × (((s.block n).pair c).acquiring ≡ a)
 
-  lone_use : (s : State (List ℕ)) → IsLone p c n source a s → (d i : ℕ) → (s.uses d i ≡ SourceFree) ⊎ IsOwn s d i
-  lone_use s is d i = elim (place-cases c source d i) [
+  lone_use : {s : State (List ℕ)} → IsLone p c n source a s → (d i : ℕ) → (s.uses d i ≡ SourceFree) ⊎ IsOwn s d i
+  lone_use {s} is d i = elim (place-cases c source d i) [
     | inl same ↦ go (s.uses c source) refl is.brings same.0 same.1
     | inr else_ ↦ inl (is.others d i else_)
   ]
@@ -141,26 +141,26 @@ module _ (p : Profile) (c n source : ℕ) (a : AcquirePhase) where
       go (Acquires m) e b x y = inr (x, y, ap₂ s.uses x y ∙ e ∙ ap Acquires b.0, b.1)
       go u e b x y = absurd b
 
-  no_access : (s : State (List ℕ)) (d i : ℕ) (u : SourceState) → IsLone p c n source a s → s.uses d i ≡ u
+  no_access : {s : State (List ℕ)} (d i : ℕ) (u : SourceState) → IsLone p c n source a s → s.uses d i ≡ u
       → is_access u ≡ true → ⊥
-  no_access s d i u is e access = elim (lone_use s is d i) [
+  no_access {s} d i u is e access = elim (lone_use is d i) [
     | inl none ↦ let no : is_access SourceFree ≡ true = ap is_access (sym none ∙ e) ∙ access in cc
     | inr own ↦ let no : is_access (Acquires n) ≡ true = ap is_access (sym own.2 ∙ e) ∙ access in cc
   ]
 
-  own_acquire : (s : State (List ℕ)) (d i m : ℕ) → IsLone p c n source a s → s.uses d i ≡ Acquires m
+  own_acquire : {s : State (List ℕ)} (d i m : ℕ) → IsLone p c n source a s → s.uses d i ≡ Acquires m
       → IsOwn s d i × (m ≡ n)
-  own_acquire s d i m is e =
+  own_acquire {s} d i m is e =
       let same : (k : ℕ) → Acquires k ≡ Acquires n → k ≡ n = λ k f. cc in
-      elim (lone_use s is d i) [
+      elim (lone_use is d i) [
         | inl none ↦ absurd (let no : SourceFree ≡ Acquires m = sym none ∙ e in cc)
         | inr own ↦ (own, same m (sym e ∙ own.2))
       ]
 
   -- its client isn't probed
-  unprobed : (caching : ℕ → Bool) (s : State (List ℕ)) → IsInvariant caching s → IsLone p c n source a s
+  unprobed : {caching : ℕ → Bool} {s : State (List ℕ)} → IsInvariant caching s → IsLone p c n source a s
       → is_sent ((s.block n).pair c).probing ≡ true → ⊥
-  unprobed caching s inv is sent =
+  unprobed {caching} {s} inv is sent =
       go (s.block n).service refl (serves_another ((s.block n).pair c) (view (s.block n).service c)
       ((inv.blocks n).phases c) (not-sent ((s.block n).pair c).probing sent))
     where
@@ -168,32 +168,32 @@ module _ (p : Profile) (c n source : ℕ) (a : AcquirePhase) where
       go Free e other = absurd cc
       go (GrantSent q d k) e other = granted-unseen (c == q) d k other
       go (GrantTaken q) e other = taken-unseen (c == q) other
-      go (Waits r false i k) e other = no_access s r i (InService n) is (serving-use caching s n r i k inv e) refl
+      go (Waits r false i k) e other = no_access r i (InService n) is (serving-use n r i k inv e) refl
       go (Waits r true i k) e other =
           let never : (b : Bool) → b ≡ true → is_other (if b then Own else Other k) ≡ true → ⊥ =
           elim [ true ↦ λ e f. absurd cc | false ↦ λ e f. absurd cc ] in
           let own : view (s.block n).service r ≡ Own = rw (e, same_number r) refl in
           let wants = owns_ask ((s.block n).pair r) (view (s.block n).service r) ((inv.blocks n).phases r) (rw own refl)
           in
-          let mine = own_acquire s r ((s.block n).source r) n is (source_of_acquire r n inv wants) in
+          let mine = own_acquire r ((s.block n).source r) n is (source_of_acquire r n inv wants) in
           never (c == r) (ap (λ (j : ℕ). c == j) mine.0.0 ∙ same_number c) other
 
   -- ---- messages that are taken
 
-  lone_if : (x : Bool) (s t : State (List ℕ)) → IsLone p c n source a s → IsLone p c n source a t
+  lone_if : (x : Bool) {s t : State (List ℕ)} → IsLone p c n source a s → IsLone p c n source a t
       → IsLone p c n source a (if x then s else t)
-  lone_if true s t f h = f
-  lone_if false s t f h = h
+  lone_if true f h = f
+  lone_if false f h = h
 
-  lone_served : (d m i tracker : ℕ) (k : Cap) (rest : List Packet) (s : State (List ℕ)) → IsLone p c n source a s
+  lone_served : (d m i tracker : ℕ) (k : Cap) (rest : List Packet) {s : State (List ℕ)} → IsLone p c n source a s
       → IsLone p c n source a (acquire_served d m i tracker k rest s)
-  lone_served d m i tracker k rest s is = lone_steady s (acquire_served d m i tracker k rest s) (λ e j. refl)
+  lone_served d m i tracker k rest {s} is = lone_steady (acquire_served d m i tracker k rest s) (λ e j. refl)
       (steady_at m (served_block d true i tracker k (s.block m)) s.block n c
       (λ here. steady_served d true k (s.block m).pair c)) is
 
-  lone_sent : (d m tracker : ℕ) (data_too : Bool) (k : Cap) (rest : List Packet) (s : State (List ℕ))
+  lone_sent : (d m tracker : ℕ) (data_too : Bool) (k : Cap) (rest : List Packet) {s : State (List ℕ)}
       → IsLone p c n source a s → IsLone p c n source a (acquire_granted d m tracker data_too k rest s)
-  lone_sent d m tracker data_too k rest s is = lone_steady s (acquire_granted d m tracker data_too k rest s)
+  lone_sent d m tracker data_too k rest {s} is = lone_steady (acquire_granted d m tracker data_too k rest s)
       (λ e j. refl) (steady_at m (granted_at_once d tracker data_too k (s.block m)) s.block n c
       (λ here. steady_pair d (after_grant_sent k ((s.block m).pair d)) (s.block m).pair (refl, refl) c)) is
 
@@ -207,20 +207,18 @@ module _ (p : Profile) (c n source : ℕ) (a : AcquirePhase) where
       let data_too : Bool = is_granted_data whole j (b.pair d).recorded in
       let given : Cap = gift profile whole j (is_unheld clients b.pair) in
       lone_if (some_below clients (λ e. is_probed d true k (b.pair e).recorded e))
-      (acquire_served d m (b.source d) tracker k rest h.state)
-      (acquire_granted d m tracker data_too given rest h.state)
-      (lone_served d m (b.source d) tracker k rest h.state is) (lone_sent d m tracker data_too given rest h.state is)
+      (lone_served d m (b.source d) tracker k rest is) (lone_sent d m tracker data_too given rest is)
 
-  lone_probe : (caching : ℕ → Bool) (d m : ℕ) (k : Cap) (rest : List Packet) (s : State (List ℕ))
+  lone_probe : {caching : ℕ → Bool} (d m : ℕ) (k : Cap) (rest : List Packet) {s : State (List ℕ)}
       → IsInvariant caching s → is_sent ((s.block m).pair d).probing ≡ true → IsLone p c n source a s
       → IsLone p c n source a (probe_taken d m k rest s)
-  lone_probe caching d m k rest s inv sent is = lone_steady s (probe_taken d m k rest s) (λ e i. refl)
+  lone_probe {caching} d m k rest {s} inv sent is = lone_steady (probe_taken d m k rest s) (λ e i. refl)
       (steady_at m _ s.block n c (λ here. go here (cases_eq c d))) is
     where
       go : n ≡ m → (c ≡ d) ⊎ (c ≡ d → ⊥)
           → IsSteady ((s.block m).pair c) (set d (after_probe k ((s.block m).pair d)) (s.block m).pair c)
       go here (inl same) = absurd
-          (unprobed caching s inv is (ap₂ (λ (i j : ℕ). is_sent ((s.block i).pair j).probing) here same ∙ sent))
+          (unprobed inv is (ap₂ (λ (i j : ℕ). is_sent ((s.block i).pair j).probing) here same ∙ sent))
       go here (inr other) = rw (set-other d c (after_probe k ((s.block m).pair d)) (s.block m).pair other) (refl, refl)
 
   lone_granted : {w : ℕ} (clients : ℕ) (profile : Profile) (d q m : ℕ) (r : Report) (x : AcquirePhase)
@@ -228,7 +226,7 @@ module _ (p : Profile) (c n source : ℕ) (a : AcquirePhase) where
       → IsLone p c n source a h.state → IsLone p c n source a (granted_after clients profile d q m r x rest h).state
   lone_granted clients profile d q m r NoAcquire rest h is = is
   lone_granted clients profile d q m r (AcquireOpen whole j) rest h is =
-      lone_steady h.state _ (λ e i. refl)
+      lone_steady _ (λ e i. refl)
       (steady_at m _ h.state.block n c (λ here. steady_granted d q r _ (h.state.block m).pair c)) is
 
   lone_last : {w : ℕ} (clients : ℕ) (profile : Profile) (d m : ℕ) (r : Report) (v : Service) (rest : List Packet)
@@ -237,13 +235,13 @@ module _ (p : Profile) (c n source : ℕ) (a : AcquirePhase) where
   lone_last clients profile d m r (Waits q true i k) rest h used is =
       lone_granted clients profile d q m r ((h.state.block m).pair q).acquiring rest h is
   lone_last clients profile d m r (Waits q false i k) rest h used is =
-      absurd (no_access h.state q i (InService m) is (used q i k refl) refl)
+      absurd (no_access q i (InService m) is (used q i k refl) refl)
   lone_last clients profile d m r v rest h used is = is
 
-  lone_grant : {w : ℕ} (config : Config) (tracker d m : ℕ) (rest : List Packet) (h : AbstractState w)
+  lone_grant : {w : ℕ} (config : Config) (tracker : ℕ) {d m : ℕ} (rest : List Packet) (h : AbstractState w)
       → AreGiven p h.state → IsGrantDue d m h.state
       → IsLone p c n source a h.state → IsLone p c n source a (kind_taken config tracker d Grant m rest h).state
-  lone_grant {w} config tracker d m rest h given due is =
+  lone_grant {w} config tracker {d} {m} rest h given due is =
       let after : State (List ℕ) = (kind_taken config tracker d Grant m rest h).state in
       let uses_are : (e i : ℕ) → after.uses e i ≡ set_at d src SourceFree h.state.uses e i =
       λ e i. ap (λ (v : Service). (taken_by_client d m v rest h).state.uses e i) due.service in
@@ -266,28 +264,28 @@ module _ (p : Profile) (c n source : ℕ) (a : AcquirePhase) where
       src = (h.state.block m).source d
 
       mine : IsOwn h.state d src × (m ≡ n)
-      mine = own_acquire h.state d src m is due.used
+      mine = own_acquire d src m is due.used
 
       wants : AcquireOpen due.whole due.g ≡ a
       wants = sym due.wants ∙ ap₂ (λ (i j : ℕ). ((h.state.block i).pair j).acquiring) mine.1 mine.0.0 ∙ mine.0.3
 
   -- It stays alone, and keeps what it has brought, whatever message is taken.
-  pub lone-kind_taken : {w : ℕ} (caching : ℕ → Bool) (config : Config) (tracker d : ℕ) (k : Kind) (i : ℕ)
+  pub lone-kind_taken : {w : ℕ} {caching : ℕ → Bool} (config : Config) (tracker d : ℕ) (k : Kind) (i : ℕ)
       (rest : List Packet) (h : AbstractState w)
       → IsInvariant caching h.state → AreGiven p h.state → on k (h.state.link d) ≡ packet k i ∷ rest
       → IsLone p c n source a h.state → IsLone p c n source a (kind_taken config tracker d k i rest h).state
-  lone-kind_taken caching config tracker d Request i rest h inv given first is =
-      absurd (no_access h.state d i Asked is (first-asked d i rest h inv first) refl)
-  lone-kind_taken caching config tracker d Answer i rest h inv given first is =
-      absurd (no_access h.state d i Replied is (is_replied-is (h.state.uses d i)
+  lone-kind_taken config tracker d Request i rest h inv given first is =
+      absurd (no_access d i Asked is (first-asked d i rest h inv first) refl)
+  lone-kind_taken config tracker d Answer i rest h inv given first is =
+      absurd (no_access d i Replied is (is_replied-is (h.state.uses d i)
       (holds-first Answer (h.state.link d).d rest (packet Answer i) (λ j. is_replied (h.state.uses d j)) first refl
       (inv.answers d))) refl)
-  lone-kind_taken caching config tracker d Acquire i rest h inv given first is =
+  lone-kind_taken config tracker d Acquire i rest h inv given first is =
       lone_acquire _ config.profile d i ((h.state.block i).pair d).acquiring tracker rest h is
-  lone-kind_taken caching config tracker d Probe i rest h inv given first is =
-      lone_probe caching d i _ rest h.state inv (holds-first Probe (h.state.link d).b rest (packet Probe i)
+  lone-kind_taken {caching} config tracker d Probe i rest h inv given first is =
+      lone_probe d i _ rest inv (holds-first Probe (h.state.link d).b rest (packet Probe i)
       (λ j. shown Probe d (h.state.block j)) first refl (inv.transfers d Probe refl)) is
-  lone-kind_taken {w} caching config tracker d ProbeAck i rest h inv given first is =
+  lone-kind_taken {w} {caching} config tracker d ProbeAck i rest h inv given first is =
       either (some_below (length config.clients.items) (others_probed d (h.state.block i).pair))
     where
       r : Report
@@ -300,18 +298,17 @@ module _ (p : Profile) (c n source : ℕ) (a : AcquirePhase) where
       last = last_taken (length config.clients.items) config.profile d i r (h.state.block i).service rest h
 
       either : (b : Bool) → IsLone p c n source a (if b then with_state told h else last).state
-      either true = lone_steady h.state told (λ e j. refl)
-          (steady_at i (reported_block d r (h.state.block i)) h.state.block n c
+      either true = lone_steady told (λ e j. refl) (steady_at i (reported_block d r (h.state.block i)) h.state.block n c
           (λ here. steady_pair d (after_report r ((h.state.block i).pair d)) (h.state.block i).pair (refl, refl) c)) is
       either false = lone_last (length config.clients.items) config.profile d i r (h.state.block i).service rest h
-          (λ q j k e. serving-use caching h.state i q j k inv e) is
-  lone-kind_taken caching config tracker d Release i rest h inv given first is =
-      lone_steady h.state _ (λ e j. refl)
+          (λ q j k e. serving-use i q j k inv e) is
+  lone-kind_taken config tracker d Release i rest h inv given first is =
+      lone_steady _ (λ e j. refl)
       (steady_at i _ h.state.block n c (λ here. steady_pair d _ (h.state.block i).pair (refl, refl) c)) is
-  lone-kind_taken caching config tracker d Grant i rest h inv given first is =
-      lone_grant config tracker d i rest h given (grant-due caching d i rest h.state inv first) is
-  lone-kind_taken caching config tracker d ReleaseAck i rest h inv given first is =
-      lone_steady h.state _ (λ e j. refl)
+  lone-kind_taken {caching} config tracker d Grant i rest h inv given first is =
+      lone_grant config tracker rest h given (grant-due caching d i rest h.state inv first) is
+  lone-kind_taken config tracker d ReleaseAck i rest h inv given first is =
+      lone_steady _ (λ e j. refl)
       (steady_at i _ h.state.block n c (λ here. steady_pair d _ (h.state.block i).pair (refl, refl) c)) is
-  lone-kind_taken caching config tracker d GrantAck i rest h inv given first is =
-      lone_steady h.state _ (λ e j. refl) (steady_at i _ h.state.block n c (λ here. (refl, refl))) is
+  lone-kind_taken config tracker d GrantAck i rest h inv given first is =
+      lone_steady _ (λ e j. refl) (steady_at i _ h.state.block n c (λ here. (refl, refl))) is

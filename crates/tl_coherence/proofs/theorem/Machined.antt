@@ -95,13 +95,10 @@ continues-delivered : {w : ℕ} {config : Config} {log : Log w} (link : Link) (c
     → Continues config (Deliver link ch, (stepped config (Deliver link ch) (system_after config log)).outcome) log
 continues-delivered {w} {config} {log} link ch h terms width is known = (
   moved (Deliver link ch) (stepped config (Deliver link ch) (system_after config log)).outcome m,
-  accesses_answered
-      (stepped config (Deliver link ch) (system_after config log)).handed,
-  step_allowed config link ch
-      (stepped config (Deliver link ch) (system_after config log)).outcome m
+  accesses_answered (stepped config (Deliver link ch) (system_after config log)).handed,
+  step_allowed config link ch (stepped config (Deliver link ch) (system_after config log)).outcome m
       (stepped-so config link ch terms (system_after config log) known) (ap is_some known) done,
-  performs-delivered link
-      ch h width is,
+  performs-delivered link ch h width is,
 )
   where
     m : Machine w
@@ -166,8 +163,7 @@ unfolding AllContinue AreTyped
 all_continue config [] width typed logged = tt
 all_continue config (x ∷ log) width typed logged = (
   continues config log x width typed.1 logged,
-  all_continue config log width typed.1
-      (logged_before config x log logged),
+  all_continue config log width typed.1 (logged_before config x log logged),
 )
 
 -- The outcomes are a run of the one-memory machine.

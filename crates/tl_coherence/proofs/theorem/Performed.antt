@@ -52,7 +52,7 @@ same_one a b rest e = (cc, cc)
 nothing_one : (a : ℕ × ℕ) (rest : List (ℕ × ℕ)) → a ∷ rest ≡ [] → ⊥
 nothing_one a rest e = cc
 
-module _ {w : ℕ} (config : Config) (log : Log w) (link : Link) (ch : Channel) (o : Outcome w)
+module _ {w : ℕ} {config : Config} (log : Log w) (link : Link) (ch : Channel) (o : Outcome w)
     (given : IsGiven config ((Deliver link ch, o) ∷ log)) where
   abbrev event : Event w
   event = Deliver link ch
@@ -91,8 +91,7 @@ module _ {w : ℕ} (config : Config) (log : Log w) (link : Link) (ch : Channel) 
         given.is_log.0,
         still,
         one,
-        performing-one q source (Message.A access.0) (one_memory_after config log)
-            access.2,
+        performing-one q source (Message.A access.0) (one_memory_after config log) access.2,
       )
 
   free-after : (q source : ℕ) → accesses ≡ (q, source) ∷ []
@@ -132,7 +131,7 @@ module _ {w : ℕ} (config : Config) (log : Log w) (link : Link) (ch : Channel) 
 
 pub performed_free : {w : ℕ} → PerformedFree w
 performed_free {w} config log link ch o given c source rest x answers asks =
-    let found : (q s : ℕ) → accesses config log link ch o given ≡ (q, s) ∷ []
+    let found : (q s : ℕ) → accesses log link ch o given ≡ (q, s) ∷ []
     → IsAccess s ((shadow config log).mail.request q s) None ((one_memory_after config log).opened q Requests s)
     → moved (Deliver link ch) (stepped config (Deliver link ch) (system_after config log)).outcome
     (one_memory_after config log) ≡ one_memory_after config log → (◌≡◌ {A = ℕ × ℕ} (q, s) (c, source)) × (rest ≡ [])
@@ -140,10 +139,10 @@ performed_free {w} config log link ch o given c source rest x answers asks =
     (trace_of ((Deliver link ch, o) ∷ log)) ≡ true) =
     λ q s one access still same. (
       same.1,
-      λ n. free-after config log link ch o given q s one access still x
+      λ n. free-after log link ch o given q s one access still x
           (ap (λ (a : ℕ × ℕ). request_of a.1 (on_link a.0 (trace_of ((Deliver link ch, o) ∷ log)))) same.0 ∙ asks) n,
     ) in
-    elim (answering-delivered config log link ch (shadow config log) given.width (is config log link ch o given)) [
+    elim (answering-delivered config log link ch (shadow config log) given.width (is log link ch o given)) [
       | inl none ↦ absurd (nothing_one (c, source) rest (sym answers ∙ none))
       | inr one ↦ found one.0 one.1 one.2 one.3 one.4 (same_one (c, source) (one.0, one.1) rest (sym answers ∙ one.2))
     ]

@@ -7,8 +7,7 @@ use Rattle.tl_coherence.proofs.{theorem.Machined.run, outstanding.Progress.count
 pub one_memory : {w : ℕ} → OneMemory w
 one_memory = λ config log given. (
   run config log given.width given.typed given.is_log,
-  λ x typed logged. continues
-      config log x given.width given.typed logged,
+  λ x typed logged. continues config log x given.width given.typed logged,
 )
 
 pub headline : {w : ℕ} → Headline w
@@ -18,7 +17,7 @@ headline = λ config log given.
       run = run config log given.width given.typed given.is_log;
       continues = λ x typed logged. continues config log x given.width given.typed logged;
       coherent = coherent config log given;
-      unrefused = unrefused config log given;
+      unrefused = unrefused given;
       moving = moving config log given;
       balanced = record {
         requests = let same = are.requests_are in omega (arith, same);

@@ -1,23 +1,21 @@
 -- All that holds of a manager and its clients.
 use Rattle.std.proofs.Common.{ℕ}
 use Rattle.tl_coherence.specs.statement.Theorem.{Theorem}
-use Rattle.tl_coherence.proofs.theorem.LoneAcquireEnds.{alone, alone_whole}
-use Rattle.tl_coherence.proofs.flow.Flows.{flows}
-use Rattle.tl_coherence.proofs.flow.FlowTraces.{faultless}
+use Rattle.tl_coherence.proofs.{theorem.LoneAcquireEnds.alone, theorem.LoneAcquireEnds.alone_whole, flow.Flows.flows}
+use Rattle.tl_coherence.proofs.{flow.FlowTraces.faultless, bound.Settling.bound, bound.Settling.drain}
+use Rattle.tl_coherence.proofs.{theorem.Soundness.headline}
 use Rattle.tl_coherence.proofs.links.FromInvariant.{at_most_recorded, carries, channels, grants, stalls}
-use Rattle.tl_coherence.proofs.bound.Settling.{bound, drain}
-use Rattle.tl_coherence.proofs.theorem.Soundness.{headline}
 
 pub whole : (w : ℕ) → Theorem w
 whole w = record {
   headline = λ config log given. headline config log given;
-  carries = λ config log given link ch. carries config log given link ch;
-  flows = λ config log given link l level. flows config log given link l level;
+  carries = λ config log given link ch. carries given link ch;
+  flows = λ config log given link l level. flows given link l level;
   faultless = λ config log given. faultless config log given;
   channels = λ config log given link ch. channels config log given link ch;
-  recorded = λ config log given link block. at_most_recorded config log given link block;
-  stalls = λ config log given link ch client. stalls config log given link ch client;
-  bound = λ config more log given deliveries. bound config more log given deliveries;
+  recorded = λ config log given link block. at_most_recorded given link block;
+  stalls = λ config log given link ch client. stalls given link ch client;
+  bound = λ config more log given deliveries. bound more log given deliveries;
   drain = λ config log given. drain config log given;
   grants = λ config log link ch x source p op given asked. grants config log link ch x source p op given asked;
   alone = λ config log client block source n grow none given drains. alone config log client block source n grow none

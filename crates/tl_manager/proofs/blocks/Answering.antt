@@ -9,13 +9,12 @@ use Rattle.std.proofs.Common.{◌≡◌, ◌≢◌, ℕ, ◌==◌, ◌⊎◌, Bo
 use Rattle.std.proofs.Common.{sym, ap, subst, ◌∙◌, inl, inr}
 use Rattle.std.specs.Prelude.{filter, if◌then◌else◌, unwrap_or}
 use Rattle.std.proofs.lemmas.Bool.{cases_eq, eq-eqb, ne_eqb}
-use Rattle.tl_manager.proofs.pending.Accesses.{answer_kind, granted-still}
-use Rattle.tl_manager.proofs.calls.Events.{performed-access}
-use Rattle.tl_manager.proofs.words_of_clients.Free.{missing_filter}
-use Rattle.tl_manager.proofs.pending.Granted.{IsGrant, granted-elsewhere}
-use Rattle.tl_manager.proofs.pending.Handed.{after_sent, recorded-sent}
+use Rattle.tl_manager.{proofs.pending.Accesses.answer_kind, proofs.pending.Accesses.granted-still}
+use Rattle.tl_manager.{proofs.calls.Events.performed-access, proofs.words_of_clients.Free.missing_filter}
+use Rattle.tl_manager.{proofs.pending.Granted.IsGrant, proofs.pending.Granted.granted-elsewhere}
+use Rattle.tl_manager.{proofs.pending.Handed.after_sent, proofs.pending.Handed.recorded-sent}
+use Rattle.tl_manager.{proofs.pending.Replies.reply-quiet}
 use Rattle.tl_manager.proofs.pending.Performed.{grant_is, answer_is, reply_of, performed-services, performed-serving}
-use Rattle.tl_manager.proofs.pending.Replies.{reply-quiet}
 use Rattle.tl_manager.proofs.services.Trackers.{IsStill, tracked-still, other_block, tracker-ended}
 
 -- ---- the services of other blocks

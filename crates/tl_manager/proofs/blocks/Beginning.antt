@@ -7,29 +7,22 @@ use Rattle.tl_manager.proofs.Imports.{IsSound, IsReady, Service, services, servi
 use Rattle.tl_manager.proofs.Imports.{begun_with, service_with, IsTracked, tracker_at, BlockState, Probing}
 use Rattle.std.proofs.Common.{◌≡◌, ◌≢◌, ℕ, ◌<◌, ◌≤◌, ◌==◌, Bool, true, false, not, ◌&&◌, List, [], ◌∷◌, length, Option}
 use Rattle.std.proofs.Common.{Some, refl, sym, ap, subst, ◌∙◌, arith, inl, inr}
-use Rattle.std.specs.Prelude.{if◌then◌else◌}
-use Rattle.std.specs.Int.{bit_at}
-use Rattle.std.proofs.lemmas.Bool.{cases_lt, lt-ltb}
-use Rattle.tl_beat.specs.declared.beat.Beat.TheVariants as beat
-use Rattle.tl_params.specs.declared.param.Cap.TheVariants as cap
-use Rattle.tl_params.specs.declared.perm.Perm.TheVariants as perm
-use Rattle.tl_manager.proofs.blocks.Answering.{tracker-changed}
-use Rattle.tl_manager.proofs.words_of_clients.Clients.{among-where}
+use Rattle.std.{specs.Prelude.if◌then◌else◌, specs.Int.bit_at, proofs.lemmas.Bool.cases_lt, proofs.lemmas.Bool.lt-ltb}
+use Rattle.tl_beat.specs.declared.beat.Beat.{Beat}
+use Rattle.tl_manager.{proofs.blocks.Answering.tracker-changed, proofs.words_of_clients.Clients.among-where}
+use Rattle.tl_manager.{proofs.pending.Probing.missing-else_b, proofs.blocks.Recording.recorded-past}
+use Rattle.tl_manager.{proofs.services.Trackers.tracked-still, proofs.services.Trackers.other_block}
 use Rattle.tl_manager.proofs.pending.Probed.{probes-keep, granted-probes, missing-probed}
 use Rattle.tl_manager.proofs.pending.Probes.{probes-within, probes-beyond, services-probes}
-use Rattle.tl_manager.proofs.pending.Probing.{missing-else_b}
-use Rattle.tl_manager.proofs.blocks.Recording.{recorded-past}
-use Rattle.tl_manager.proofs.services.Trackers.{tracked-still, other_block}
 use Rattle.tl_manager.proofs.words_of_clients.Words.{IsWord, word-nobody, word-clients}
 
 -- whom a request probes with a cap
 abbrev pub is_probed : {w : ℕ} → Service w → Cap → Trace w → ℕ → Bool
 is_probed s c t client = is_above c (recorded client (block_at s.request.address) t) && not (is_spared s client)
 
-none-above : (c : Cap) (b : Bool) → (is_above c perm.None && b) ≡ false
-none-above cap.ToT b = refl
-none-above cap.ToB b = refl
-none-above cap.ToN b = refl
+none-above : (c : Cap) (b : Bool) → (is_above c Perm.None && b) ≡ false
+none-above Cap.ToT b = refl
+none-above v b = refl
 
 pub probed-word : {w : ℕ} (config : Config) (number : ℕ) (link : Link) (request : MessageA w) (c : Cap) (word : ℕ)
     (perm_at : ℕ → Perm) (t : Trace w) → Each (IsSound config) t
@@ -60,9 +53,9 @@ probing-some reaction block c (d ∷ ds) memory e = refl
 
 -- ---- after the Probes
 
-unheld-b : {w : ℕ} (k block : ℕ) (c : Cap) (h : History w) → held k (beat.B (probe_beat block c) ∷ h) ≡ held k h
+unheld-b : {w : ℕ} (k block : ℕ) (c : Cap) (h : History w) → held k (Beat.B (probe_beat block c) ∷ h) ≡ held k h
 unfolding held
-unheld-b {w} k block c h = go (ends {w = w} (beat.B (probe_beat block c)) h)
+unheld-b {w} k block c h = go (ends {w = w} (Beat.B (probe_beat block c)) h)
   where
     go : (b : Bool) → (if b then held k h else held k h) ≡ held k h
     go true = refl

@@ -9,15 +9,13 @@ use Rattle.std.proofs.Common.{refl, sym, ap, subst, ◌∙◌, inl, inr}
 use Rattle.std.specs.Prelude.{if◌then◌else◌, unwrap_or}
 use Rattle.std.proofs.lemmas.Bool.{cases_eq, eqb-true, eq-eqb, ne_eqb}
 use Rattle.tl_params.specs.statement.Param.{cap_right}
-use Rattle.tl_manager.specs.code.Granting.{grant_of}
+use Rattle.tl_manager.{specs.code.Granting.grant_of, proofs.calls.Events.performed-acquire}
+use Rattle.tl_manager.{proofs.pending.Granted.IsGrant, proofs.pending.Granted.granted-now}
+use Rattle.tl_manager.{proofs.pending.Handed.after_sent, proofs.pending.Handed.recorded-sent}
+use Rattle.tl_manager.{proofs.blocks.Recording.cap-gives, proofs.pending.Replies.asks_for-fields}
 use Rattle.tl_manager.specs.statement.Handing.{grant_with, cap_granted, is_granted_data}
 use Rattle.tl_manager.proofs.blocks.Answering.{tracked-performed, tracker-changed}
-use Rattle.tl_manager.proofs.calls.Events.{performed-acquire}
-use Rattle.tl_manager.proofs.pending.Granted.{IsGrant, granted-now}
-use Rattle.tl_manager.proofs.pending.Handed.{after_sent, recorded-sent}
 use Rattle.tl_manager.proofs.pending.Performed.{grant_is, reply_of, performed-services}
-use Rattle.tl_manager.proofs.blocks.Recording.{cap-gives}
-use Rattle.tl_manager.proofs.pending.Replies.{asks_for-fields}
 
 -- the Grant by its parts
 grant-parts : {w : ℕ} (s : Service w) (c : Cap) (carries : Bool) (memory : Memory) (bytes : Option (List ℕ))

@@ -14,16 +14,10 @@ use Rattle.std.proofs.Common.{None, refl, sym, ◌∙◌, arith}
 use Rattle.std.specs.Prelude.{nat_le, option_map, if◌then◌else◌}
 use Rattle.std.proofs.lemmas.Bool.{eqb-true, eq-eqb, ne_eqb, true≢false}
 use Rattle.tl_beat.specs.statement.Opcode.{a_code}
-use Rattle.tl_beat.specs.declared.beat.Beat.TheVariants as beat
-use Rattle.tl_beat.specs.declared.channel.Channel.TheVariants as channel
-use Rattle.tl_beat.specs.declared.opcode.OpA.TheVariants as a
-use Rattle.tl_rules.proofs.Blocks.{effect_elsewhere}
-use Rattle.tl_rules.proofs.Legal.{access_at_uh}
-use Rattle.tl_manager.specs.laws.Record.{is_of_block}
-use Rattle.tl_manager.proofs.messages.Continued.{whole_request}
-use Rattle.tl_manager.proofs.judging.Judged.{passed}
-use Rattle.tl_manager.proofs.calls.Keeping.{taken_beat, are_served}
-use Rattle.tl_manager.proofs.messages.Requests.{IsWhole, performable}
+use Rattle.tl_rules.{proofs.Blocks.effect_elsewhere, proofs.Legal.access_at_uh}
+use Rattle.tl_manager.{specs.laws.Record.is_of_block, proofs.messages.Continued.whole_request}
+use Rattle.tl_manager.{proofs.judging.Judged.passed, proofs.calls.Keeping.taken_beat, proofs.calls.Keeping.are_served}
+use Rattle.tl_manager.{proofs.messages.Requests.IsWhole, proofs.messages.Requests.performable}
 
 -- the memory has the same byte at the address
 abbrev pub Same : {w : ℕ} → Reaction w → Memory → ℕ → Type 0
@@ -32,14 +26,9 @@ Same d memory address = d.memory address ≡ memory address
 -- ---- requests
 
 pub access_code : (opcode : OpA) → is_acquire opcode ≡ false → a_code opcode < 6
-access_code a.PutFullData e = omega arith
-access_code a.PutPartialData e = omega arith
-access_code a.ArithmeticData e = omega arith
-access_code a.LogicalData e = omega arith
-access_code a.Get e = omega arith
-access_code a.Intent e = omega arith
-access_code a.AcquireBlock e = absurd cc
-access_code a.AcquirePerm e = absurd cc
+access_code OpA.AcquireBlock e = absurd cc
+access_code OpA.AcquirePerm e = absurd cc
+access_code v e = omega arith
 
 effect_same : {w : ℕ} (config : Config) (s : Service w) (o : Option Level) (memory : Memory) (address : ℕ) → IsWidth w
     → is_acquire s.request.opcode ≡ false → IsPerformable config s
@@ -84,8 +73,8 @@ begun_same config (Some c) s t memory address same =
 
 begun_new : {w : ℕ} (config : Config) (link : Link) (x : BeatA w) (beats : List (Beat w)) (tracker : ℕ) (t : Trace w)
     (memory : Memory) (address : ℕ) (fits : Bool) (e : nat_le x.size 6 ≡ fits)
-    → IsWidth w → IsSound config (link, beat.A x) → Each (IsWhole config link x) beats
-    → length beats ≡ burst_length (beat.A x)
+    → IsWidth w → IsSound config (link, Beat.A x) → Each (IsWhole config link x) beats
+    → length beats ≡ burst_length (Beat.A x)
     → block_at address ≢ block_at x.address
     → Same (begun_if_any config (option_map (λ m. record { tracker = tracker; link = link; request = m })
     (request_if x beats fits e)) t memory) memory address
@@ -138,9 +127,8 @@ done_c_same {w} config link x t memory address width each other = go (is_release
     go : (r p : Bool) → Same (if r then record { handed = (link, release_ack x.source) ∷ []; memory = memory } else if p
         then finish config
         (block_at x.address) t memory else nothing memory) memory address
-    go true p = refl
     go false true = settled_same config (block_at x.address) t memory address width each other
-    go false false = refl
+    go v u = refl
 
 -- ---- a beat that is taken
 
@@ -157,22 +145,22 @@ done_same : {w : ℕ} (config : Config) (link : Link) (x : Beat w) (e : End w) (
     else nothing e.memory) e.memory address
 unfolding request_carried
 done_same config link x e address width before passes other false last = refl
-done_same {w} config link (beat.A x) e address width before passes other true last =
-    let long = eqb-true (length (unfinished channel.A (on_link link.0 e.trace)) + 1) (burst_length (beat.A x)) last in
-    begun_new config link x (beat.A x ∷ unfinished channel.A (on_link link.0 e.trace))
+done_same {w} config link (Beat.A x) e address width before passes other true last =
+    let long = eqb-true (length (unfinished Channel.A (on_link link.0 e.trace)) + 1) (burst_length (Beat.A x)) last in
+    begun_new config link x (Beat.A x ∷ unfinished Channel.A (on_link link.0 e.trace))
     (least_untaken (trackers_of (services e.trace)))
-    ((link, beat.A x) ∷ e.trace) e.memory address (nat_le x.size 6) refl width passes.sound
+    ((link, Beat.A x) ∷ e.trace) e.memory address (nat_le x.size 6) refl width passes.sound
     (whole_request config link x e.trace passes.sound before.sound (before.bursts link.0) passes.order)
     (omega (arith, long)) (unlike address (block_at x.address) other)
-done_same config link (beat.B x) e address width before passes other true last = refl
-done_same {w} config link (beat.C x) e address width before passes other true last =
-    let ok = taken_beat config link (beat.C x) e width before passes (are_served config e before) in
-    let beats = beat.C x ∷ unfinished channel.C (on_link link.0 e.trace) in
-    done_c_same config link x ((link, beat.C x) ∷ e.trace) (written x beats e.memory) address width ok.requests
+done_same config link (Beat.B x) e address width before passes other true last = refl
+done_same {w} config link (Beat.C x) e address width before passes other true last =
+    let ok = taken_beat config link (Beat.C x) e width before passes (are_served config e before) in
+    let beats = Beat.C x ∷ unfinished Channel.C (on_link link.0 e.trace) in
+    done_c_same config link x ((link, Beat.C x) ∷ e.trace) (written x beats e.memory) address width ok.requests
     (unlike address (block_at x.address) other)
     ∙ written_same x beats e.memory address (unlike_too address (block_at x.address) other)
-done_same config link (beat.D x) e address width before passes other true last = refl
-done_same config link (beat.E x) e address width before passes other true last = refl
+done_same config link (Beat.D x) e address width before passes other true last = refl
+done_same config link (Beat.E x) e address width before passes other true last = refl
 
 reaction_same : {w : ℕ} (config : Config) (link : Link) (x : Beat w) (e : End w) (address : ℕ) → IsWidth w
     → IsKept config e → IsPassed config link x e.trace
@@ -185,10 +173,9 @@ memory_as : {w : ℕ} (j : Judgement) (config : Config) (link : Link) (ch : Chan
     (address : ℕ) → IsWidth w → IsTyped x → judged config link ch x e ≡ j
     → IsKept config e → is_of_block (block_at address) x ≡ false
     → (offered_as j config link x e).1.memory address ≡ e.memory address
-memory_as (Breaks r) config link ch x e address width typed is before other = refl
-memory_as Waits config link ch x e address width typed is before other = refl
 memory_as Passes config link ch x e address width typed is before other =
     reaction_same config link x e address width before (passed config link ch x e typed is) other
+memory_as v config link ch x e address width typed is before other = refl
 
 pub memory-elsewhere : {w : ℕ} (config : Config) (link : Link) (ch : Channel) (x : Beat w) (e : End w) (address : ℕ)
     → IsWidth w → IsTyped x → IsKept config e
@@ -203,8 +190,7 @@ refused_as : {w : ℕ} (j : Judgement) (config : Config) (link : Link) (x : Beat
     → (offered_as j config link x e).0 ≡ Refused rule
     → (offered_as j config link x e).1 ≡ refused link e
 refused_as (Breaks r) config link x e rule is = refl
-refused_as Waits config link x e rule is = absurd cc
-refused_as Passes config link x e rule is = absurd cc
+refused_as v config link x e rule is = absurd cc
 
 pub refusal-closes : {w : ℕ} (config : Config) (link : Link) (ch : Channel) (x : Beat w) (e : End w) (rule : Rule)
     → (offered config link ch x e).0 ≡ Refused rule
@@ -214,9 +200,8 @@ refusal-closes config link ch x e rule is = refused_as (judged config link ch x 
 
 stalled_as : {w : ℕ} (j : Judgement) (config : Config) (link : Link) (x : Beat w) (e : End w)
     → (offered_as j config link x e).0 ≡ Stalled → (offered_as j config link x e).1 ≡ e
-stalled_as (Breaks r) config link x e is = absurd cc
 stalled_as Waits config link x e is = refl
-stalled_as Passes config link x e is = absurd cc
+stalled_as v config link x e is = absurd cc
 
 pub stall-keeps : {w : ℕ} (config : Config) (link : Link) (ch : Channel) (x : Beat w) (e : End w)
     → (offered config link ch x e).0 ≡ Stalled → (offered config link ch x e).1 ≡ e

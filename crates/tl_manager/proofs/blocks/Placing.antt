@@ -11,50 +11,32 @@ use Rattle.std.proofs.Common.{length, Option, Some, None, refl, sym, subst, ◌�
 use Rattle.std.specs.Prelude.{slice_get, option_map, nat_le, if◌then◌else◌}
 use Rattle.std.proofs.lemmas.Bool.{le-leb, leb-false, leb-true, not-false, and_parts, eqb-true}
 use Rattle.std.proofs.lemmas.Option.{slice_get_within}
-use Rattle.tl_beat.specs.declared.beat.Beat.TheVariants as beat
-use Rattle.tl_beat.specs.declared.channel.Channel.TheVariants as channel
-use Rattle.tl_beat.specs.declared.opcode.OpA.TheVariants as a
-use Rattle.tl_params.specs.declared.config.ClientConfig.{ClientConfig}
-use Rattle.tl_params.specs.statement.Config.{config_fault}
-use Rattle.tl_params.specs.statement.Range.{is_from_to}
-use Rattle.tl_params.specs.declared.config.NewFault.{NewFault}
-use Rattle.tl_params.specs.declared.level.Level.TheVariants as level
+use Rattle.tl_beat.specs.declared.channel.Channel.{Channel}
+use Rattle.tl_params.{specs.declared.config.ClientConfig.ClientConfig, specs.statement.Config.config_fault}
+use Rattle.tl_params.{specs.statement.Range.is_from_to, specs.declared.config.NewFault.NewFault}
 use Rattle.tl_rules.specs.statement.Legality.{first_illegal, beats_from}
-use Rattle.tl_manager.specs.code.Complete.{IsDue}
-use Rattle.tl_manager.specs.code.BlockState.{IsPlaced, IsPlacedIn}
-use Rattle.tl_manager.specs.code.Knows.{IsManager}
-use Rattle.tl_manager.proofs.pending.Acked.{acked-sink}
-use Rattle.tl_manager.proofs.blocks.Completed.{is_served}
-use Rattle.tl_manager.proofs.calls.Events.{services-request}
-use Rattle.tl_manager.proofs.calls.Keeping.{are_served, taken_beat}
-use Rattle.tl_manager.proofs.services.Serving.{some_is}
-use Rattle.tl_manager.proofs.words_of_clients.Masks.{legal-small}
-use Rattle.tl_manager.proofs.pending.Requested.{granting_taken}
+use Rattle.tl_manager.{specs.code.Complete.IsDue, specs.code.BlockState.IsPlaced, specs.code.BlockState.IsPlacedIn}
+use Rattle.tl_manager.{specs.code.Knows.IsManager, proofs.pending.Acked.acked-sink, proofs.blocks.Completed.is_served}
+use Rattle.tl_manager.{proofs.calls.Events.services-request, proofs.calls.Keeping.are_served}
+use Rattle.tl_manager.{proofs.calls.Keeping.taken_beat, proofs.services.Serving.some_is}
+use Rattle.tl_manager.{proofs.words_of_clients.Masks.legal-small, proofs.pending.Requested.granting_taken}
 
-access_of : (opcode : OpA) → is_acquire opcode ≡ false → a_of_level level.UH opcode ≡ true
-access_of a.PutFullData e = refl
-access_of a.PutPartialData e = refl
-access_of a.ArithmeticData e = refl
-access_of a.LogicalData e = refl
-access_of a.Get e = refl
-access_of a.Intent e = refl
-access_of a.AcquireBlock e = absurd cc
-access_of a.AcquirePerm e = absurd cc
+access_of : (opcode : OpA) → is_acquire opcode ≡ false → a_of_level Level.UH opcode ≡ true
+access_of OpA.AcquireBlock e = absurd cc
+access_of OpA.AcquirePerm e = absurd cc
+access_of v e = refl
 
 access_size : (w : ℕ) (l : Level) (opcode : OpA) (size : ℕ) → is_acquire opcode ≡ false → size ≤ 6
-    → a_has_size w l opcode size ≡ true → a_has_size w level.UH opcode size ≡ true
-access_size w l a.PutFullData size e small f = le-leb size 6 small
-access_size w l a.PutPartialData size e small f = le-leb size 6 small
-access_size w l a.ArithmeticData size e small f = f
-access_size w l a.LogicalData size e small f = f
-access_size w l a.Get size e small f = le-leb size 6 small
-access_size w l a.Intent size e small f = le-leb size 6 small
-access_size w l a.AcquireBlock size e small f = absurd cc
-access_size w l a.AcquirePerm size e small f = absurd cc
+    → a_has_size w l opcode size ≡ true → a_has_size w Level.UH opcode size ≡ true
+access_size w l OpA.ArithmeticData size e small f = f
+access_size w l OpA.LogicalData size e small f = f
+access_size w l OpA.AcquireBlock size e small f = absurd cc
+access_size w l OpA.AcquirePerm size e small f = absurd cc
+access_size w l v size e small f = le-leb size 6 small
 
 -- a beat of an access that is legal at some level is legal at the one that has all accesses
 beat-uh : {w : ℕ} (l : Level) (x : BeatA w) → IsWidth w → is_acquire x.opcode ≡ false
-    → illegal l channel.A (beat.A x) ≡ None → illegal level.UH channel.A (beat.A x) ≡ None
+    → illegal l Channel.A (Beat.A x) ≡ None → illegal Level.UH Channel.A (Beat.A x) ≡ None
 beat-uh {w} l x width access e =
     let small = legal-small l x width e in
     let p = both_none (a_control w l x.opcode x.param x.size x.address)
@@ -63,7 +45,7 @@ beat-uh {w} l x width access e =
     let two = next_rule (not (a_has_param x.opcode x.param)) L2 _ one.1 in
     let three = next_rule (not (a_has_size w l x.opcode x.size)) L3 _ two.1 in
     let four = next_rule (not (is_aligned x.address x.size)) L4 None three.1 in
-    illegal_a level.UH x
+    illegal_a Level.UH x
     ∙ rw (
       access_of x.opcode access,
       not-false _ two.0,
@@ -73,13 +55,13 @@ beat-uh {w} l x width access e =
     ) p.1
 
 legal-uh : {w : ℕ} (l : Level) (m : MessageA w) (i n : ℕ) → IsWidth w → is_acquire m.opcode ≡ false
-    → first_illegal l channel.A (beats_from (A m) i n) ≡ None
-    → first_illegal level.UH channel.A (beats_from (A m) i n) ≡ None
+    → first_illegal l Channel.A (beats_from (A m) i n) ≡ None
+    → first_illegal Level.UH Channel.A (beats_from (A m) i n) ≡ None
 unfolding first_illegal beats_from
 legal-uh l m i zero width access e = refl
 legal-uh {w} l m i (suc n) width access e =
-    let p = both_none (illegal l channel.A (beat.A (a_beat_of m i)))
-    (first_illegal l channel.A (beats_from (A m) (i + 1) n)) e in
+    let p = both_none (illegal l Channel.A (Beat.A (a_beat_of m i)))
+    (first_illegal l Channel.A (beats_from (A m) (i + 1) n)) e in
     rw (beat-uh l (a_beat_of m i) width access p.0) (legal-uh l m (i + 1) n width access p.1)
 
 client-within : (config : Config) (client : ℕ) (l : Level) → level_of config client ≡ Some l
@@ -149,13 +131,12 @@ are-placed {w} perm_of state config e clients n width k covered =
   where
     go : (tracker : Tracker w) → IsTracked n tracker e.trace → IsPlacedIn (length state.block_state.blocks.bytes.items)
         clients tracker
-    go Free is = tt
     go (Probing link request missing) is =
         is-placed config (service_with n link request) (length state.block_state.blocks.bytes.items) clients width
         (serving-each (IsPerformable config) (block_at request.address) (services e.trace) (service_with n link request)
         k.kept.requests is.serves) k.size
         covered
-    go (Granted link block) is = tt
+    go v is = tt
 
 -- ---- what is due for a message
 
@@ -186,13 +167,11 @@ is-due {w} config link x message e blocks clients few same covered is =
         let served = is_served number link (a_beat_of m k) m e.trace done.taken.width done.filled done.last done.burst
         refl in
         let more = services-request link (a_beat_of m k) (service_with number link m) e.trace served in
-        let all = (taken_beat config link (beat.A (a_beat_of m k)) e done.taken.width done.taken.before
+        let all = (taken_beat config link (Beat.A (a_beat_of m k)) e done.taken.width done.taken.before
         done.taken.passes (are_served config e done.taken.before)).requests in
         is-placed config (service_with number link m) blocks clients done.taken.width (rw more at all).0 same covered
-    go (B m) k done = absurd (let no = done.taken.passes.theirs in cc)
     go (C m) k done = let lt = leb-false config.blocks (block_at m.address) done.taken.passes.sound.inside in
         omega (arith, lt, same)
-    go (D m) k done = absurd (let no = done.taken.passes.theirs in cc)
     go (E m) k done =
         let taken = granting_taken link.0 m.sink (services e.trace)
         (done.taken.before.sinks link.0 m.sink (acked-sink config.profile (record { sink = m.sink })
@@ -200,6 +179,7 @@ is-due {w} config link x message e blocks clients few same covered is =
         in
         let lt = among-below config.trackers m.sink (trackers_of (services e.trace)) done.taken.before.tracked taken in
         omega (arith, lt, few)
+    go v k done = absurd (let no = done.taken.passes.theirs in cc)
 
 -- so all that a message needs is there
 pub can-complete : {w : ℕ} {M : Type 0} (perm_of : M → ℕ → ℕ → Perm) (blocks_of clients_of : M → ℕ)

@@ -3,23 +3,19 @@ use Rattle.tl_manager.proofs.Imports.{Config, Cap, Perm, cap_code, Trace, held, 
 use Rattle.tl_manager.proofs.Imports.{is_unheld, Each, IsSound}
 use Rattle.std.proofs.Common.{◌≡◌, ℕ, ◌≤◌, ◌==◌, length, refl, ap, ◌∙◌}
 use Rattle.std.specs.Int.{bit_at}
-use Rattle.tl_params.specs.declared.param.Cap.TheVariants as cap
-use Rattle.tl_params.specs.declared.perm.Perm.TheVariants as perm
 use Rattle.tl_params.specs.statement.Param.{cap_right}
-use Rattle.tl_manager.specs.code.Word.{copy_bit}
-use Rattle.tl_manager.proofs.pending.Settled.{silent-past}
-use Rattle.tl_manager.proofs.words_of_clients.Words.{word-nobody}
+use Rattle.tl_manager.{specs.code.Word.copy_bit, proofs.pending.Settled.silent-past}
+use Rattle.tl_manager.{proofs.words_of_clients.Words.word-nobody}
 
 -- past the last client nothing is recorded
 pub recorded-past : {w : ℕ} (config : Config) (block c : ℕ) (t : Trace w) → Each (IsSound config) t
-    → length config.clients.items ≤ c → recorded c block t ≡ perm.None
+    → length config.clients.items ≤ c → recorded c block t ≡ Perm.None
 unfolding held
 recorded-past config block c t sound past = ap (held block) (silent-past config t c sound past)
 
 pub copy-bit : (p : Perm) → copy_bit p ≡ bit_if (has_copy p)
-copy-bit perm.None = refl
-copy-bit perm.Branch = refl
-copy-bit perm.Trunk = refl
+copy-bit Perm.None = refl
+copy-bit v = refl
 
 -- whether a block is unheld is read off the word of its holders
 pub unheld-word : {w : ℕ} (config : Config) (block word : ℕ) (perm_at : ℕ → Perm) (t : Trace w)
@@ -32,6 +28,5 @@ unheld-word config block word perm_at t sound bits records =
     })
 
 pub cap-gives : (c : Cap) → capped (cap_code c) ≡ cap_right c
-cap-gives cap.ToT = refl
-cap-gives cap.ToB = refl
-cap-gives cap.ToN = refl
+cap-gives Cap.ToT = refl
+cap-gives v = refl

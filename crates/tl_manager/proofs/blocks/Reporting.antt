@@ -7,21 +7,17 @@ use Rattle.tl_manager.proofs.Imports.{service_of_block, trackers_of, finish, per
 use Rattle.tl_manager.proofs.Imports.{IsTracked, tracker_at, is_of, BlockState, Tracker, Free, Probing, Granted}
 use Rattle.std.proofs.Common.{◌≡◌, ◌≢◌, ℕ, ◌==◌, Bool, true, false, not, ◌&&◌, List, [], ◌∷◌, Option, Some, None, refl}
 use Rattle.std.proofs.Common.{sym, ap, subst, ◌∙◌}
-use Rattle.std.specs.Prelude.{if◌then◌else◌}
-use Rattle.std.specs.Int.{bit_at}
-use Rattle.std.proofs.lemmas.Bool.{eqb-true, eq-eqb}
-use Rattle.tl_beat.specs.declared.beat.Beat.TheVariants as beat
-use Rattle.tl_manager.specs.code.BlockState.{IsReportedBlockState, IsReport}
-use Rattle.tl_manager.specs.code.Tracked.{AreMissing, IsProbing}
-use Rattle.tl_manager.proofs.blocks.Answering.{tracker-changed}
-use Rattle.tl_manager.proofs.pending.Afterwards.{missing-taken}
-use Rattle.tl_manager.proofs.pending.Probing.{services-c, missing-else_c}
-use Rattle.tl_manager.proofs.pending.Replied.{block_served}
+use Rattle.std.{specs.Prelude.if◌then◌else◌, specs.Int.bit_at, proofs.lemmas.Bool.eqb-true, proofs.lemmas.Bool.eq-eqb}
+use Rattle.tl_beat.specs.declared.beat.Beat.{Beat}
+use Rattle.tl_manager.{specs.code.BlockState.IsReportedBlockState, specs.code.BlockState.IsReport}
+use Rattle.tl_manager.{specs.code.Tracked.AreMissing, specs.code.Tracked.IsProbing}
+use Rattle.tl_manager.{proofs.blocks.Answering.tracker-changed, proofs.pending.Afterwards.missing-taken}
+use Rattle.tl_manager.{proofs.pending.Probing.services-c, proofs.pending.Probing.missing-else_c}
+use Rattle.tl_manager.{proofs.pending.Replied.block_served, proofs.pending.Settled.silent-past}
+use Rattle.tl_manager.{proofs.services.Trackers.tracked-still, proofs.services.Trackers.other_block}
+use Rattle.tl_manager.{proofs.words_of_clients.Words.word-nobody}
 use Rattle.tl_manager.proofs.services.Serving.{some_is, tracker_among, one_tracker}
-use Rattle.tl_manager.proofs.pending.Settled.{silent-past}
 use Rattle.tl_manager.proofs.pending.SteadyReports.{granted_c, report-service, report-ready}
-use Rattle.tl_manager.proofs.services.Trackers.{tracked-still, other_block}
-use Rattle.tl_manager.proofs.words_of_clients.Words.{word-nobody}
 
 -- ---- the service that a ProbeAck is for
 
@@ -59,9 +55,9 @@ unserved-block {w} block at t apart tracked none = go (service_of_block block (s
 pub missing-reported : {w : ℕ} (config : Config) (link : Link) (block : ℕ) (x : BeatC w) (e : End w) (word left : ℕ)
     → IsReport config link block x e → AreMissing word block e.trace
     → ((c : ℕ) → bit_at left c ≡ bit_if ((bit_at word c == 1) && not (link.0 == c)))
-    → AreMissing left block ((link, beat.C x) ∷ e.trace)
+    → AreMissing left block ((link, Beat.C x) ∷ e.trace)
 missing-reported {w} config link block x e word left is before bits c =
-    bits c ∙ go (link.0 == c) refl ∙ ap bit_if (sym (missing-taken c block link (beat.C x) e.trace refl))
+    bits c ∙ go (link.0 == c) refl ∙ ap bit_if (sym (missing-taken c block link (Beat.C x) e.trace refl))
   where
     kept : (b : Bool) → bit_if ((bit_if b == 1) && true) ≡ bit_if b
     kept true = refl
@@ -73,23 +69,23 @@ missing-reported {w} config link block x e word left is before bits c =
 
     go : (here : Bool) → (link.0 == c) ≡ here
         → bit_if ((bit_at word c == 1) && not here) ≡ bit_if
-        (if here && (ends (beat.C x) (on_link c e.trace) && (is_probe_ack x.opcode && (block_at x.address == block)))
+        (if here && (ends (Beat.C x) (on_link c e.trace) && (is_probe_ack x.opcode && (block_at x.address == block)))
         then false
         else is_missing c block e.trace)
     go true f =
-        let last : ends (beat.C x) (on_link c e.trace) ≡ true = subst (λ i. ends (beat.C x) (on_link i e.trace) ≡ true)
+        let last : ends (Beat.C x) (on_link c e.trace) ≡ true = subst (λ i. ends (Beat.C x) (on_link i e.trace) ≡ true)
         (eqb-true link.0 c f) is.last in
         rw (last, is.kind, eq-eqb (block_at x.address) block is.of_block) (none (bit_at word c == 1))
     go false f = ap (λ n. bit_if ((n == 1) && true)) (before c) ∙ kept (is_missing c block e.trace)
 
 pub missing-word : {w : ℕ} (config : Config) (link : Link) (block : ℕ) (x : BeatC w) (e : End w) (left : ℕ)
-    → IsReport config link block x e → AreMissing left block ((link, beat.C x) ∷ e.trace)
-    → (left == 0) ≡ is_settled config block ((link, beat.C x) ∷ e.trace)
+    → IsReport config link block x e → AreMissing left block ((link, Beat.C x) ∷ e.trace)
+    → (left == 0) ≡ is_settled config block ((link, Beat.C x) ∷ e.trace)
 unfolding pending
 missing-word {w} config link block x e left is bits =
-    word-nobody config left (λ c. is_missing c block ((link, beat.C x) ∷ e.trace)) (record {
+    word-nobody config left (λ c. is_missing c block ((link, Beat.C x) ∷ e.trace)) (record {
       bits = bits;
-      past = λ c past. ap (pending (ProbeOf block)) (silent-past config ((link, beat.C x) ∷ e.trace) c
+      past = λ c past. ap (pending (ProbeOf block)) (silent-past config ((link, Beat.C x) ∷ e.trace) c
           (is.taken.passes.sound, is.taken.before.sound) past);
     })
 
@@ -134,9 +130,9 @@ report-granted config n asking link block granted x e is ok here =
 others-reported : {w : ℕ} (config : Config) (link : Link) (block : ℕ) (x : BeatC w) (e : End w) (s : Service w) (n : ℕ)
     (tracker : Tracker w) → IsReport config link block x e
     → service_of_block block (services e.trace) ≡ Some s → n ≢ s.tracker
-    → IsTracked n tracker e.trace → IsTracked n tracker ((link, beat.C x) ∷ e.trace)
+    → IsTracked n tracker e.trace → IsTracked n tracker ((link, Beat.C x) ∷ e.trace)
 others-reported {w} config link block x e s n tracker is serves other ok =
-    tracked-still n tracker e.trace ((link, beat.C x) ∷ e.trace)
+    tracked-still n tracker e.trace ((link, Beat.C x) ∷ e.trace)
     (λ free. ap (λ (ss : List (Service w)). is_one_of n (trackers_of ss)) (services-c link x e.trace) ∙ free)
     (λ k v f at.
     let apart = other_block block k s v (services e.trace) serves f (λ g. other (sym at ∙ g)) in
@@ -155,8 +151,8 @@ pub block_state-reported : {w : ℕ} {D : Type 0} (perm_of : D → ℕ → ℕ �
     (request : MessageA w) (block : ℕ) (x : BeatC w) (e : End w) (memory : Memory)
     → IsReport config link block x e → service_of_block block (services e.trace) ≡ Some
     (service_with number asking request)
-    → IsReportedBlockState perm_of config block_state e.trace ((link, beat.C x) ∷ e.trace) memory
-    → IsBlockStateWithout number perm_of config block_state ((link, beat.C x) ∷ e.trace) memory
+    → IsReportedBlockState perm_of config block_state e.trace ((link, Beat.C x) ∷ e.trace) memory
+    → IsBlockStateWithout number perm_of config block_state ((link, Beat.C x) ∷ e.trace) memory
 block_state-reported perm_of config block_state number asking link request block x e memory is serves ok = record {
   profile = ok.profile;
   count = ok.count;
@@ -171,30 +167,30 @@ pub done-settled : {w : ℕ} {D : Type 0} (perm_of : D → ℕ → ℕ → Perm)
     (handed : Handed w) (number : ℕ) (asking link : Link)
     (request : MessageA w) (block : ℕ) (x : BeatC w) (e : End w) (memory : Memory)
     → IsReport config link block x e → service_of_block block (services e.trace) ≡ Some
-    (service_with number asking request) → is_settled config block ((link, beat.C x) ∷ e.trace) ≡ true
-    → IsDone perm_of config block_state handed ((link, beat.C x) ∷ e.trace)
-    (performed config (service_with number asking request) ((link, beat.C x) ∷ e.trace) memory)
-    → IsDone perm_of config block_state handed ((link, beat.C x) ∷ e.trace)
-    (finish config block ((link, beat.C x) ∷ e.trace) memory)
+    (service_with number asking request) → is_settled config block ((link, Beat.C x) ∷ e.trace) ≡ true
+    → IsDone perm_of config block_state handed ((link, Beat.C x) ∷ e.trace)
+    (performed config (service_with number asking request) ((link, Beat.C x) ∷ e.trace) memory)
+    → IsDone perm_of config block_state handed ((link, Beat.C x) ∷ e.trace)
+    (finish config block ((link, Beat.C x) ∷ e.trace) memory)
 done-settled {w} perm_of config block_state handed number asking link request block x e memory is serves all done =
-    subst (λ (d : Reaction w). IsDone perm_of config block_state handed ((link, beat.C x) ∷ e.trace) d)
-    (sym (settled-as config block ((link, beat.C x) ∷ e.trace) memory true (Some (service_with number asking request))
+    subst (λ (d : Reaction w). IsDone perm_of config block_state handed ((link, Beat.C x) ∷ e.trace) d)
+    (sym (settled-as config block ((link, Beat.C x) ∷ e.trace) memory true (Some (service_with number asking request))
     all (ap (service_of_block block) (services-c link x e.trace) ∙ serves))) done
 
 pub ready-settled : {w : ℕ} (config : Config) (number : ℕ) (asking link : Link) (request : MessageA w) (block : ℕ)
     (x : BeatC w) (e : End w) → IsReport config link block x e
     → block_at request.address ≡ block
     → service_of_block block (services e.trace) ≡ Some (service_with number asking request)
-    → is_settled config block ((link, beat.C x) ∷ e.trace) ≡ true
-    → IsReadyAt config number asking request ((link, beat.C x) ∷ e.trace)
+    → is_settled config block ((link, Beat.C x) ∷ e.trace) ≡ true
+    → IsReadyAt config number asking request ((link, Beat.C x) ∷ e.trace)
 ready-settled config number asking link request block x e is same serves all = record {
-  ready = subst (λ k. IsReady config k (service_with number asking request) ((link, beat.C x) ∷ e.trace))
+  ready = subst (λ k. IsReady config k (service_with number asking request) ((link, Beat.C x) ∷ e.trace))
       (is.of_block ∙ sym same)
       (report-ready config link x (service_with number asking request) e is.taken is.kind
-      (subst (λ k. service_of_block k (services ((link, beat.C x) ∷ e.trace)) ≡ Some
+      (subst (λ k. service_of_block k (services ((link, Beat.C x) ∷ e.trace)) ≡ Some
       (service_with number asking request)) (sym is.of_block)
       (ap (service_of_block block) (services-c link x e.trace) ∙ serves))
-      (subst (λ k. is_settled config k ((link, beat.C x) ∷ e.trace) ≡ true) (sym is.of_block) all));
+      (subst (λ k. is_settled config k ((link, Beat.C x) ∷ e.trace) ≡ true) (sym is.of_block) all));
   sound = (is.taken.passes.sound, is.taken.before.sound);
 }
 
@@ -209,10 +205,10 @@ pub done-waiting : {w : ℕ} {D : Type 0} (perm_of : D → ℕ → ℕ → Perm)
     → IsReport config link block x e → block_at request.address ≡ block
     → service_of_block block (services e.trace) ≡ Some (service_with number asking request)
     → is_granted e.trace (service_with number asking request) ≡ false
-    → AreMissing left block ((link, beat.C x) ∷ e.trace) → is_settled config block ((link, beat.C x) ∷ e.trace) ≡ false
-    → IsReportedBlockState perm_of config old e.trace ((link, beat.C x) ∷ e.trace) memory
-    → IsDone perm_of config new [] ((link, beat.C x) ∷ e.trace)
-    (finish config block ((link, beat.C x) ∷ e.trace) memory)
+    → AreMissing left block ((link, Beat.C x) ∷ e.trace) → is_settled config block ((link, Beat.C x) ∷ e.trace) ≡ false
+    → IsReportedBlockState perm_of config old e.trace ((link, Beat.C x) ∷ e.trace) memory
+    → IsDone perm_of config new [] ((link, Beat.C x) ∷ e.trace)
+    (finish config block ((link, Beat.C x) ∷ e.trace) memory)
 unfolding with_handed
 done-waiting {w} {D} perm_of config old new number asking link request left block x e memory profile directory blocks
     count trackers is same serves unanswered bits more ok =
@@ -232,7 +228,7 @@ done-waiting {w} {D} perm_of config old new number asking link request left bloc
     )
   where
     u : Trace w
-    u = (link, beat.C x) ∷ e.trace
+    u = (link, Beat.C x) ∷ e.trace
 
     probing : IsTracked number (Probing asking request left) u
     probing = record {

@@ -6,10 +6,8 @@ use Rattle.tl_manager.proofs.Imports.{is_awaited, HasFields, IsBegun, IsReportin
 use Rattle.tl_manager.proofs.Imports.{IsAccounted, Service, services, service_of_block}
 use Rattle.std.proofs.Common.{◌≡◌, ℕ, ◌==◌, true, false, not, ◌&&◌, ◌||◌, List, [], ◌∷◌, Option, Some, None, refl, sym}
 use Rattle.std.proofs.Common.{ap, subst, ◌∙◌}
-use Rattle.tl_beat.specs.declared.beat.Beat.TheVariants as beat
-use Rattle.tl_beat.specs.declared.channel.Channel.TheVariants as channel
-use Rattle.tl_manager.proofs.words_of_clients.Clients.{where-same}
-use Rattle.tl_manager.proofs.words_of_clients.Counts.{counted-kept}
+use Rattle.tl_beat.specs.declared.channel.Channel.{Channel}
+use Rattle.tl_manager.{proofs.words_of_clients.Clients.where-same, proofs.words_of_clients.Counts.counted-kept}
 
 -- the traces say the same of the block, where less may be missing
 pub record IsSame {w : ℕ} (k : ℕ) (t u : Trace w) : Type 0 where
@@ -98,49 +96,42 @@ handled-quiet k t u same probes ok = record {
 pub record KeepsRequests {w : ℕ} (t u : Trace w) : Type 0 where
   pub serves : services u ≡ services t
   pub granted : (s : Service w) → is_granted u s ≡ is_granted t s
-  pub bursts : (c : ℕ) → unfinished channel.A (on_link c u) ≡ unfinished channel.A (on_link c t)
+  pub bursts : (c : ℕ) → unfinished Channel.A (on_link c u) ≡ unfinished Channel.A (on_link c t)
   pub sources : (c q : ℕ) → pending (RequestSource q) (on_link c u) ≡ pending (RequestSource q) (on_link c t)
   pub requests : (c q : ℕ) → request_of q (on_link c u) ≡ request_of q (on_link c t)
 
 begun-same : {w : ℕ} (t u : History w) (burst : List (Beat w)) → ((q : ℕ) → request_of q u ≡ request_of q t)
     → IsBegun t burst → IsBegun u burst
 begun-same t u [] same ok = tt
-begun-same t u (beat.A x ∷ burst) same ok =
+begun-same t u (Beat.A x ∷ burst) same ok =
     (ok.0, subst (HasFields x.opcode x.param x.size x.source x.address) (sym (same x.source)) ok.1)
-begun-same t u (beat.B x ∷ burst) same ok = absurd ok
-begun-same t u (beat.C x ∷ burst) same ok = absurd ok
-begun-same t u (beat.D x ∷ burst) same ok = absurd ok
-begun-same t u (beat.E x ∷ burst) same ok = absurd ok
+begun-same t u v same ok = absurd ok
 
-pub begun-kept : {w : ℕ} (t u : Trace w) (c : ℕ) → unfinished channel.A (on_link c u) ≡ unfinished channel.A
+pub begun-kept : {w : ℕ} (t u : Trace w) (c : ℕ) → unfinished Channel.A (on_link c u) ≡ unfinished Channel.A
     (on_link c t)
     → ((q : ℕ) → request_of q (on_link c u) ≡ request_of q (on_link c t)) → IsAccounted t
-    → IsBegun (on_link c u) (unfinished channel.A (on_link c u))
+    → IsBegun (on_link c u) (unfinished Channel.A (on_link c u))
 begun-kept t u c bursts requests ok =
     subst (IsBegun (on_link c u)) (sym bursts)
-    (begun-same (on_link c t) (on_link c u) (unfinished channel.A (on_link c t)) requests (ok.begun c))
+    (begun-same (on_link c t) (on_link c u) (unfinished Channel.A (on_link c t)) requests (ok.begun c))
 
 -- a report that is unfinished
 reporting-same : {w : ℕ} (t u : History w) (burst : List (Beat w))
     → ((k : ℕ) → pending (ProbeOf k) t ≡ true → pending (ProbeOf k) u ≡ true) → IsReporting t burst
     → IsReporting u burst
-reporting-same t u [] still ok = tt
-reporting-same t u (beat.A x ∷ burst) still ok = tt
-reporting-same t u (beat.B x ∷ burst) still ok = tt
-reporting-same t u (beat.C x ∷ burst) still ok = λ e. still (block_at x.address) (ok e)
-reporting-same t u (beat.D x ∷ burst) still ok = tt
-reporting-same t u (beat.E x ∷ burst) still ok = tt
+reporting-same t u (Beat.C x ∷ burst) still ok = λ e. still (block_at x.address) (ok e)
+reporting-same t u v still ok = tt
 
-pub reports-kept : {w : ℕ} (t u : Trace w) (c : ℕ) → unfinished channel.C (on_link c u) ≡ unfinished channel.C
+pub reports-kept : {w : ℕ} (t u : Trace w) (c : ℕ) → unfinished Channel.C (on_link c u) ≡ unfinished Channel.C
     (on_link c t)
     → ((k : ℕ) → pending (ProbeOf k) (on_link c t) ≡ true → pending (ProbeOf k) (on_link c u) ≡ true) → IsAccounted t
-    → IsReporting (on_link c u) (unfinished channel.C (on_link c u))
+    → IsReporting (on_link c u) (unfinished Channel.C (on_link c u))
 reports-kept t u c bursts still ok =
     subst (IsReporting (on_link c u)) (sym bursts)
-    (reporting-same (on_link c t) (on_link c u) (unfinished channel.C (on_link c t)) still (ok.reports c))
+    (reporting-same (on_link c t) (on_link c u) (unfinished Channel.C (on_link c t)) still (ok.reports c))
 
 pub accounted-kept : {w : ℕ} (t u : Trace w) → KeepsRequests t u
-    → ((c : ℕ) → IsReporting (on_link c u) (unfinished channel.C (on_link c u))) → ((k : ℕ) → IsHandled k u)
+    → ((c : ℕ) → IsReporting (on_link c u) (unfinished Channel.C (on_link c u))) → ((k : ℕ) → IsHandled k u)
     → IsAccounted t
     → IsAccounted u
 accounted-kept t u same reports handled ok = record {

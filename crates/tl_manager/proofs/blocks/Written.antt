@@ -2,8 +2,7 @@
 use Rattle.tl_manager.proofs.Imports.{Memory, bytes_from, with_block}
 use Rattle.std.proofs.Common.{◌≡◌, ℕ, suc, ◌+◌, ◌*◌, ◌/◌, ◌%◌, ◌<◌, List, [], ◌∷◌, length, refl, sym, ◌∙◌, ap, ap₂}
 use Rattle.std.proofs.Common.{arith}
-use Rattle.std.specs.Prelude.{slice_index}
-use Rattle.std.proofs.lemmas.Bool.{eq-eqb}
+use Rattle.std.{specs.Prelude.slice_index, proofs.lemmas.Bool.eq-eqb}
 
 pub bytes_are : (f : Memory) (x : ℕ) (bytes : List ℕ) → ((i : ℕ) → i < length bytes → f (x + i) ≡ slice_index bytes i)
     → bytes_from f x (length bytes) ≡ bytes

@@ -9,15 +9,12 @@ use Rattle.std.proofs.Common.{inl, inr}
 use Rattle.std.specs.Prelude.{slice_get, slice_set, if◌then◌else◌}
 use Rattle.std.proofs.lemmas.Bool.{cases_eq, eq-eqb, ne_eqb}
 use Rattle.std.proofs.lemmas.List.{length-set}
-use Rattle.tl_beat.specs.declared.channel.Channel.TheVariants as channel
 use Rattle.tl_burst.specs.statement.Part.{completes}
-use Rattle.tl_manager.specs.code.BurstFor.{burst_for, burst_with}
-use Rattle.tl_manager.proofs.messages.Continued.{bursts-handed}
-use Rattle.tl_manager.proofs.calls.Reactions.{reaction_handable}
-use Rattle.tl_manager.proofs.judging.Judging.{burst-is}
-use Rattle.tl_manager.proofs.calls.Keeping.{is_taken, kept-taken}
+use Rattle.tl_manager.{specs.code.BurstFor.burst_for, specs.code.BurstFor.burst_with}
+use Rattle.tl_manager.{proofs.messages.Continued.bursts-handed, proofs.calls.Reactions.reaction_handable}
+use Rattle.tl_manager.{proofs.judging.Judging.burst-is, proofs.calls.Keeping.is_taken, proofs.calls.Keeping.kept-taken}
+use Rattle.tl_manager.{proofs.judging.Refusing.set-other, proofs.judging.Refusing.set-here}
 use Rattle.tl_manager.proofs.pending.LinkHistories.{own_beat, other_beat}
-use Rattle.tl_manager.proofs.judging.Refusing.{set-other, set-here}
 
 burst-with : {w : ℕ} (ch : Channel) (x : Beat w) (h : History w) → burst_with ch x (unfinished ch h) ≡ unfinished ch
     (x ∷ h)
@@ -50,7 +47,7 @@ pub knows-taken : {w : ℕ} {M : Type 0} (perm_of : M → ℕ → ℕ → Perm) 
     → IsPassed config link x e.trace → new.link_states.items ≡ slice_set old.link_states.items link.0 after
     → slice_get old.link_states.items link.0 ≡ Some before
     → after.level ≡ before.level → after.closed ≡ before.closed
-    → after.requests ≡ burst_with channel.A x before.requests → after.reports ≡ burst_with channel.C x before.reports
+    → after.requests ≡ burst_with Channel.A x before.requests → after.reports ≡ burst_with Channel.C x before.reports
     → length new.block_state.blocks.bytes.items ≡ length old.block_state.blocks.bytes.items
     → IsBlockState perm_of config new.block_state (with_handed (reaction config link x e).handed ((link, x) ∷ e.trace))
     (reaction config link x e).memory → Knows perm_of old config e
@@ -71,10 +68,10 @@ knows-taken {w} perm_of old new config link before after x e width ok link_state
               level = here.level ∙ ap Some (sym level);
               closed = closed ∙ here.closed;
               carried = record {
-                requests = requests ∙ ap (burst_with channel.A x) here.carried.requests ∙ burst-own config channel.A
+                requests = requests ∙ ap (burst_with Channel.A x) here.carried.requests ∙ burst-own config Channel.A
                     link x
                     e refl width ok k.kept.sound;
-                reports = reports ∙ ap (burst_with channel.C x) here.carried.reports ∙ burst-own config channel.C link x
+                reports = reports ∙ ap (burst_with Channel.C x) here.carried.reports ∙ burst-own config Channel.C link x
                     e
                     refl width ok k.kept.sound;
               };
@@ -87,9 +84,9 @@ knows-taken {w} perm_of old new config link before after x e width ok link_state
               level = there.level;
               closed = there.closed;
               carried = record {
-                requests = there.carried.requests ∙ burst-other config channel.A client link x e away refl width ok
+                requests = there.carried.requests ∙ burst-other config Channel.A client link x e away refl width ok
                     k.kept.sound;
-                reports = there.carried.reports ∙ burst-other config channel.C client link x e away refl width ok
+                reports = there.carried.reports ∙ burst-other config Channel.C client link x e away refl width ok
                     k.kept.sound;
               };
             }

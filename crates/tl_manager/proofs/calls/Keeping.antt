@@ -13,26 +13,20 @@ use Rattle.std.proofs.Common.{List, [], ◌∷◌, ◌++◌, length, map, Some, 
 use Rattle.std.specs.Prelude.{nat_le, filter, option_map, is_some, if◌then◌else◌}
 use Rattle.std.proofs.lemmas.Bool.{or_parts, leb-false, eqb-true, cases_eq, ne_eqb}
 use Rattle.std.proofs.lemmas.List.{length-map}
-use Rattle.tl_beat.specs.declared.beat.Beat.TheVariants as beat
-use Rattle.tl_beat.specs.declared.channel.Channel.TheVariants as channel
 use Rattle.tl_burst.specs.statement.Burst.{IsBlankAfter}
-use Rattle.tl_rules.proofs.Legal.{legal_from_beats}
+use Rattle.tl_rules.{proofs.Legal.legal_from_beats, proofs.Sent.same_channel}
 use Rattle.tl_manager.proofs.words_of_clients.Lists.{each_filter, each_weaker}
-use Rattle.tl_manager.proofs.messages.Sound.{leveled}
-use Rattle.tl_manager.specs.code.Kept.{IsClean, IsAnswerLawful}
+use Rattle.tl_manager.{proofs.messages.Sound.leveled, specs.code.Kept.IsClean, specs.code.Kept.IsAnswerLawful}
+use Rattle.tl_manager.{proofs.judging.Judged.passed, proofs.messages.Requests.IsWhole}
+use Rattle.tl_manager.{proofs.messages.Requests.performable, specs.laws.Record.granted_by_all}
+use Rattle.tl_manager.{specs.laws.Record.recorded_after, proofs.pending.Answered.answered-reaction}
+use Rattle.tl_manager.{proofs.services.Grants.reaction_granted, proofs.pending.Steady.steady-reaction}
+use Rattle.tl_manager.{proofs.messages.Lawful.IsHandable}
 use Rattle.tl_manager.proofs.calls.Reactions.{reaction_handable, handed_sound}
 use Rattle.tl_manager.proofs.words_of_clients.Free.{apart_filter, each_map_filter, least_free-is_free, least_free-le}
 use Rattle.tl_manager.proofs.pending.Handed.{whole-handed, whole-taken, recorded-taken, recorded-handed}
 use Rattle.tl_manager.proofs.messages.Continued.{whole_request, of_one-taken, bursts-handed}
-use Rattle.tl_manager.proofs.judging.Judged.{passed}
-use Rattle.tl_manager.proofs.messages.Requests.{IsWhole, performable}
-use Rattle.tl_manager.specs.laws.Record.{granted_by_all, recorded_after}
-use Rattle.tl_manager.proofs.pending.Answered.{answered-reaction}
-use Rattle.tl_manager.proofs.services.Grants.{reaction_granted}
-use Rattle.tl_rules.proofs.Sent.{same_channel}
-use Rattle.tl_manager.proofs.pending.Steady.{steady-reaction}
 use Rattle.tl_manager.proofs.pending.Sinks.{is_request, tracked-taken, tracked-handed}
-use Rattle.tl_manager.proofs.messages.Lawful.{IsHandable}
 
 -- what holds of the requests in service
 pub record AreServed {w : ℕ} (config : Config) (ss : List (Service w)) : Type 0 where
@@ -89,7 +83,7 @@ unserved {w} block (s ∷ ss) e = go (block_at s.request.address == block) (eqb_
 
 served_new : {w : ℕ} (config : Config) (link : Link) (x : BeatA w) (beats : List (Beat w)) (ss : List (Service w))
     (fits : Bool) (e : nat_le x.size 6 ≡ fits) → IsWidth w
-    → IsSound config (link, beat.A x) → Each (IsWhole config link x) beats → length beats ≡ burst_length (beat.A x)
+    → IsSound config (link, Beat.A x) → Each (IsWhole config link x) beats → length beats ≡ burst_length (Beat.A x)
     → is_in_service (block_at x.address) ss ≡ false → length ss < config.trackers → AreServed config ss
     → AreServed config (with_service
     (option_map (λ m. record { tracker = least_untaken (trackers_of ss); link = link; request = m })
@@ -110,26 +104,26 @@ served_new config link x beats ss true e width sound whole long unused room ok =
     }
 
 taken_request : {w : ℕ} (config : Config) (link : Link) (x : BeatA w) (t : Trace w) → IsWidth w
-    → IsSound config (link, beat.A x)
-    → Each (IsWhole config link x) (beat.A x ∷ unfinished channel.A (on_link link.0 t))
-    → must_wait config link (beat.A x) t ≡ false → AreServed config (services t)
-    → AreServed config (services ((link, beat.A x) ∷ t))
+    → IsSound config (link, Beat.A x)
+    → Each (IsWhole config link x) (Beat.A x ∷ unfinished Channel.A (on_link link.0 t))
+    → must_wait config link (Beat.A x) t ≡ false → AreServed config (services t)
+    → AreServed config (services ((link, Beat.A x) ∷ t))
 unfolding services request_carried
-taken_request {w} config link x t width sound whole waits ok = go (ends (beat.A x) (on_link link.0 t)) refl waits
+taken_request {w} config link x t width sound whole waits ok = go (ends (Beat.A x) (on_link link.0 t)) refl waits
   where
     burst : List (Beat w)
-    burst = unfinished channel.A (on_link link.0 t)
+    burst = unfinished Channel.A (on_link link.0 t)
 
-    go : (b : Bool) → (length burst + 1 == burst_length (beat.A x)) ≡ b
+    go : (b : Bool) → (length burst + 1 == burst_length (Beat.A x)) ≡ b
         → (b && (is_in_service (block_at x.address) (services t) || nat_le config.trackers (length (services t))))
         ≡ false
-        → AreServed config (if b then services_after (link, beat.A x) burst (services t) else services t)
+        → AreServed config (if b then services_after (link, Beat.A x) burst (services t) else services t)
     go false last e = ok
     go true last e =
         let p = or_parts (is_in_service (block_at x.address) (services t))
         (nat_le config.trackers (length (services t))) e in
-        let long = eqb-true (length burst + 1) (burst_length (beat.A x)) last in
-        served_new config link x (beat.A x ∷ burst) (services t) (nat_le x.size 6) refl width sound whole
+        let long = eqb-true (length burst + 1) (burst_length (Beat.A x)) last in
+        served_new config link x (Beat.A x ∷ burst) (services t) (nat_le x.size 6) refl width sound whole
         (omega (arith, long)) p.0 (leb-false config.trackers (length (services t)) p.1) ok
 
 -- ---- any other beat ends services at most
@@ -137,35 +131,33 @@ taken_request {w} config link x t width sound whole waits ok = go (ends (beat.A 
 other_beat : {w : ℕ} (config : Config) (x : Link × Beat w) (t : Trace w) → is_request x.1 ≡ false
     → AreServed config (services t) → AreServed config (services (x ∷ t))
 unfolding services
-other_beat config (link, beat.A x) t other ok = absurd cc
-other_beat config (link, beat.B x) t other ok = filtered config (λ s. not (is_ended_by (link, beat.B x) s)) (services t)
-    (ends (beat.B x) (on_link link.0 t)) ok
-other_beat config (link, beat.C x) t other ok = filtered config (λ s. not (is_ended_by (link, beat.C x) s)) (services t)
-    (ends (beat.C x) (on_link link.0 t)) ok
-other_beat config (link, beat.D x) t other ok = filtered config (λ s. not (is_ended_by (link, beat.D x) s)) (services t)
-    (ends (beat.D x) (on_link link.0 t)) ok
-other_beat config (link, beat.E x) t other ok = filtered config (λ s. not (is_ended_by (link, beat.E x) s)) (services t)
-    (ends (beat.E x) (on_link link.0 t)) ok
+other_beat config (link, Beat.A x) t other ok = absurd cc
+other_beat config (link, Beat.B x) t other ok = filtered config (λ s. not (is_ended_by (link, Beat.B x) s)) (services t)
+    (ends (Beat.B x) (on_link link.0 t)) ok
+other_beat config (link, Beat.C x) t other ok = filtered config (λ s. not (is_ended_by (link, Beat.C x) s)) (services t)
+    (ends (Beat.C x) (on_link link.0 t)) ok
+other_beat config (link, Beat.D x) t other ok = filtered config (λ s. not (is_ended_by (link, Beat.D x) s)) (services t)
+    (ends (Beat.D x) (on_link link.0 t)) ok
+other_beat config (link, Beat.E x) t other ok = filtered config (λ s. not (is_ended_by (link, Beat.E x) s)) (services t)
+    (ends (Beat.E x) (on_link link.0 t)) ok
 
 -- a client's beat that passes
 pub taken_beat : {w : ℕ} (config : Config) (link : Link) (x : Beat w) (e : End w) → IsWidth w → IsKept config e
     → IsPassed config link x e.trace → AreServed config (services e.trace)
     → AreServed config (services ((link, x) ∷ e.trace))
-taken_beat config link (beat.A x) e width before passes ok =
+taken_beat config link (Beat.A x) e width before passes ok =
     taken_request config link x e.trace width passes.sound
     (whole_request config link x e.trace passes.sound before.sound (before.bursts link.0) passes.order) passes.waits
     ok
-taken_beat config link (beat.B x) e width before passes ok = other_beat config (link, beat.B x) e.trace refl ok
-taken_beat config link (beat.C x) e width before passes ok = other_beat config (link, beat.C x) e.trace refl ok
-taken_beat config link (beat.D x) e width before passes ok = other_beat config (link, beat.D x) e.trace refl ok
-taken_beat config link (beat.E x) e width before passes ok = other_beat config (link, beat.E x) e.trace refl ok
+taken_beat config link (Beat.B x) e width before passes ok = other_beat config (link, Beat.B x) e.trace refl ok
+taken_beat config link (Beat.C x) e width before passes ok = other_beat config (link, Beat.C x) e.trace refl ok
+taken_beat config link (Beat.D x) e width before passes ok = other_beat config (link, Beat.D x) e.trace refl ok
+taken_beat config link (Beat.E x) e width before passes ok = other_beat config (link, Beat.E x) e.trace refl ok
 
 our_beat : {w : ℕ} (m : Message w) (i : ℕ) → is_from_client (beat_of m 0) ≡ false → is_request (beat_of m i) ≡ false
-our_beat (A m) i ours = absurd cc
 our_beat (B m) i ours = refl
-our_beat (C m) i ours = absurd cc
 our_beat (D m) i ours = refl
-our_beat (E m) i ours = absurd cc
+our_beat v i ours = absurd cc
 
 burst_served : {w : ℕ} (config : Config) (link : Link) (m : Message w) (n : ℕ) (t : Trace w)
     → is_from_client (beat_of m 0) ≡ false → AreServed config (services t)
@@ -221,7 +213,7 @@ kept-taken config link x e width ok before =
           (ok.sound, before.sound);
       whole = λ client. whole-handed config client (reaction config link x e).handed ((link, x) ∷ e.trace) width
           handable (complete client);
-      bursts = λ client. rw (bursts-handed config channel.A client (reaction config link x e).handed
+      bursts = λ client. rw (bursts-handed config Channel.A client (reaction config link x e).handed
           ((link, x) ∷ e.trace) refl handable)
           (of_one-taken config client link x e.trace ok.theirs ok.order before.bursts);
       requests = after.requests;
@@ -306,8 +298,6 @@ recorded_as : {w : ℕ} (j : Judgement) (config : Config) (link : Link) (ch : Ch
     → IsKept config e
     → recorded client block (offered_as j config link x e).1.trace ≡ recorded_after (offered_as j config link x e).0
     (link, x) e.trace client block
-recorded_as (Breaks r) config link ch x e client block width typed is before = refl
-recorded_as Waits config link ch x e client block width typed is before = refl
 recorded_as Passes config link ch x e client block width typed is before =
     let ok = passed config link ch x e typed is in
     let handable = reaction_handable config link x e width ok.sound before.sound in
@@ -315,6 +305,7 @@ recorded_as Passes config link ch x e client block width typed is before =
     (whole-taken client link x e.trace ok.theirs (before.whole client))
     ∙ ap (granted_by_all (reaction config link x e).handed ((link, x) ∷ e.trace) client block)
     (recorded-taken client link block x e.trace ok.theirs)
+recorded_as v config link ch x e client block width typed is before = refl
 
 pub recorded-offered : {w : ℕ} (config : Config) (link : Link) (ch : Channel) (x : Beat w) (e : End w)
     (client block : ℕ) → IsWidth w → IsTyped x → IsKept config e
@@ -346,14 +337,13 @@ lawful_message {w} config x width ok =
 lawful_as : {w : ℕ} (j : Judgement) (config : Config) (link : Link) (ch : Channel) (x : Beat w) (e : End w) → IsWidth w
     → IsTyped x → judged config link ch x e ≡ j → IsKept config e
     → IsAnswerLawful config (offered_as j config link x e).0
-lawful_as (Breaks r) config link ch x e width typed is before = tt
-lawful_as Waits config link ch x e width typed is before = tt
 lawful_as Passes config link ch x e width typed is before =
     let ok = passed config link ch x e typed is in
     each_weaker (IsHandable config) (λ y. (illegal_message_at (level_of config y.0.0) y.1 ≡ None) × IsClean y.1
     × HasBlock y.1
     × IsBlankAfter (beats_of y.1) y.1) (reaction config link x e).handed (λ y h. lawful_message config y width h)
     (reaction_handable config link x e width ok.sound before.sound)
+lawful_as v config link ch x e width typed is before = tt
 
 pub lawful : {w : ℕ} (config : Config) (link : Link) (ch : Channel) (x : Beat w) (e : End w) → IsWidth w → IsTyped x
     → IsKept config e → IsAnswerLawful config (offered config link ch x e).0

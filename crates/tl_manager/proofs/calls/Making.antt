@@ -2,13 +2,9 @@
 use Rattle.tl_manager.proofs.Imports.{Config, Perm, unfinished, on_link, held, AreBlocks, Knows, services, fresh}
 use Rattle.tl_manager.proofs.Imports.{tracker_at, IsTracked, IsLinkState, ManagerState, Tracker, Free, LinkState}
 use Rattle.std.proofs.Common.{◌≡◌, ℕ, zero, suc, List, [], ◌∷◌, length, map, Some, None, refl, ap, ◌∙◌}
-use Rattle.std.specs.Prelude.{slice_get, option_map}
-use Rattle.std.proofs.lemmas.List.{length-map}
-use Rattle.tl_params.specs.declared.config.ClientConfig.{ClientConfig}
-use Rattle.tl_params.specs.declared.perm.Perm.TheVariants as perm
-use Rattle.tl_params.specs.statement.Config.{config_fault}
-use Rattle.tl_manager.specs.code.Fresh.{fresh_link_state}
-use Rattle.tl_manager.proofs.calls.Keeping.{fresh-kept}
+use Rattle.std.{specs.Prelude.slice_get, specs.Prelude.option_map, proofs.lemmas.List.length-map}
+use Rattle.tl_params.{specs.declared.config.ClientConfig.ClientConfig, specs.statement.Config.config_fault}
+use Rattle.tl_manager.{specs.code.Fresh.fresh_link_state, proofs.calls.Keeping.fresh-kept}
 
 mapped : {X Y : Type 0} (f : X → Y) (xs : List X) (i : ℕ) (y : Y) → slice_get (map f xs) i ≡ Some y
     → (x : X) × (slice_get xs i ≡ Some x) × (y ≡ f x)
@@ -39,7 +35,7 @@ pub knows-fresh : {w : ℕ} {M : Type 0} (perm_of : M → ℕ → ℕ → Perm) 
     → state.link_states.items ≡ map (λ (c : ClientConfig). fresh_link_state c.level) config.clients.items
     → state.block_state.profile ≡ config.profile → state.block_state.trackers.count ≡ config.trackers
     → ((n : ℕ) → tracker_at state.block_state.trackers n ≡ Free)
-    → ((block client : ℕ) → perm_of state.block_state.directory block client ≡ perm.None)
+    → ((block client : ℕ) → perm_of state.block_state.directory block client ≡ Perm.None)
     → length state.block_state.blocks.bytes.items ≡ config.blocks
     → AreBlocks state.block_state.blocks.bytes.items (λ address. 0) → Knows perm_of state config fresh
 unfolding held on_link

@@ -1,37 +1,28 @@
 -- A beat that goes on with its message, and doesn't complete it, passes, and nothing is handed out for it.
-use Rattle.tl_manager.proofs.Imports.{IsWidth, Beat, Link, Channel, Config, Perm}
-use Rattle.tl_manager.proofs.Imports.{is_outside, is_spoiled, on_link, broken_in_order, ends, illegal, Trace, IsTyped}
-use Rattle.tl_manager.proofs.Imports.{Knows, reaction, End, Sent, Passes, is_from_client, must_wait, judged}
-use Rattle.tl_manager.proofs.Imports.{taken, offered_as, offered, IsLinkState, IsBlockState, ManagerState, LinkState}
-use Rattle.tl_manager.proofs.Imports.{BlockState, with_handed, Each, IsSound, channel_of, unfinished}
+use Rattle.tl_manager.proofs.Imports.{IsWidth, Beat, Link, Channel, Config, Perm, is_outside, is_spoiled, on_link}
+use Rattle.tl_manager.proofs.Imports.{broken_in_order, ends, illegal, Trace, IsTyped, Knows, reaction, End, Sent}
+use Rattle.tl_manager.proofs.Imports.{Passes, is_from_client, must_wait, judged, taken, offered_as, offered}
+use Rattle.tl_manager.proofs.Imports.{IsLinkState, IsBlockState, ManagerState, LinkState, BlockState, with_handed, Each}
+use Rattle.tl_manager.proofs.Imports.{IsSound, channel_of, unfinished}
 use Rattle.std.proofs.Common.{◌≡◌, ℕ, Bool, true, false, List, [], ◌∷◌, length, Some, None, refl, sym, ap, ◌∙◌, subst}
-use Rattle.std.specs.Bool.{OnTrue, OnFalse}
-use Rattle.std.specs.Prelude.{slice_get, slice_set}
+use Rattle.std.{specs.Bool.OnTrue, specs.Bool.OnFalse, specs.Prelude.slice_get, specs.Prelude.slice_set}
 use Rattle.tl_beat.specs.declared.beat.Beat.TheVariants.{A, B, C, D, E}
-use Rattle.tl_beat.specs.declared.channel.Channel.TheVariants as channel
 use Rattle.tl_burst.specs.statement.Part.{is_middle, part_of}
 use Rattle.tl_burst.proofs.Begun.{GoesOn, middle-goes_on}
 use Rattle.tl_manager.specs.code.BurstFor.{burst_for, burst_more, burst_with}
-use Rattle.tl_manager.specs.code.Knows.{IsManager}
-use Rattle.tl_manager.specs.code.Lawful.{IsLawfulSoFar}
-use Rattle.tl_manager.specs.statement.Offer.{unlawful}
-use Rattle.tl_manager.proofs.blocks.Completed.{done-part}
-use Rattle.tl_manager.proofs.calls.Carrying.{last-is, knows-taken}
-use Rattle.tl_manager.proofs.calls.Offered.{manager-after}
-use Rattle.tl_manager.proofs.judging.Judged.{judged-passes, passed}
-use Rattle.tl_manager.proofs.judging.Judging.{burst-is, level-open}
-use Rattle.tl_manager.proofs.messages.Later.{inside-middle, lawful-so_far}
-use Rattle.tl_manager.proofs.messages.Sound.{sound_on_link}
-use Rattle.tl_manager.proofs.words_of_clients.Lists.{each_weaker}
-use Rattle.tl_manager.proofs.words_of_clients.Masks.{each_unfinished}
+use Rattle.tl_manager.{specs.code.Knows.IsManager, specs.code.Lawful.IsLawfulSoFar, specs.statement.Offer.unlawful}
+use Rattle.tl_manager.{proofs.blocks.Completed.done-part, proofs.calls.Carrying.last-is}
+use Rattle.tl_manager.{proofs.calls.Carrying.knows-taken, proofs.calls.Offered.manager-after}
+use Rattle.tl_manager.{proofs.judging.Judged.judged-passes, proofs.judging.Judged.passed}
+use Rattle.tl_manager.{proofs.judging.Judging.burst-is, proofs.judging.Judging.level-open}
+use Rattle.tl_manager.{proofs.messages.Later.inside-middle, proofs.messages.Later.lawful-so_far}
+use Rattle.tl_manager.{proofs.messages.Sound.sound_on_link, proofs.words_of_clients.Lists.each_weaker}
+use Rattle.tl_manager.{proofs.words_of_clients.Masks.each_unfinished}
 
 free : {w : ℕ} (config : Config) (link : Link) (x : Beat w) (t : Trace w) → ends x (on_link link.0 t) ≡ false
     → must_wait config link x t ≡ false
 free config link (A x) t more = rw more refl
-free config link (B x) t more = refl
-free config link (C x) t more = refl
-free config link (D x) t more = refl
-free config link (E x) t more = refl
+free config link v t more = refl
 
 -- what a link says of the beat
 pub record IsMiddle {w : ℕ} (ch : Channel) (link_state : LinkState w) (x : Beat w) : Type 0 where
@@ -59,20 +50,14 @@ passes-middle {w} config link ch link_state x e sound is middle =
     (free config link x e.trace here.leaves_more) inside middle.clean
 
 requests-more : {w : ℕ} (x : Beat w) (requests reports : List (Beat w)) → GoesOn x (burst_for requests reports x)
-    → burst_more channel.A x requests ≡ burst_with channel.A x requests
+    → burst_more Channel.A x requests ≡ burst_with Channel.A x requests
 requests-more (A x) requests reports goes = rw (goes.leaves_more) refl
-requests-more (B x) requests reports goes = refl
-requests-more (C x) requests reports goes = refl
-requests-more (D x) requests reports goes = refl
-requests-more (E x) requests reports goes = refl
+requests-more v requests reports goes = refl
 
 reports-more : {w : ℕ} (x : Beat w) (requests reports : List (Beat w)) → GoesOn x (burst_for requests reports x)
-    → burst_more channel.C x reports ≡ burst_with channel.C x reports
-reports-more (A x) requests reports goes = refl
-reports-more (B x) requests reports goes = refl
+    → burst_more Channel.C x reports ≡ burst_with Channel.C x reports
 reports-more (C x) requests reports goes = rw (goes.leaves_more) refl
-reports-more (D x) requests reports goes = refl
-reports-more (E x) requests reports goes = refl
+reports-more v requests reports goes = refl
 
 -- what becomes of the end by such a beat
 abbrev pub Follows : {w : ℕ} {M : Type 0} → (M → ℕ → ℕ → Perm) → ManagerState w M → ManagerState w M → Config → Link
@@ -86,8 +71,8 @@ pub follows-middle : {w : ℕ} {M : Type 0} (perm_of : M → ℕ → ℕ → Per
     → IsMiddle ch before x → new.link_states.items ≡ slice_set old.link_states.items link.0 after
     → slice_get old.link_states.items link.0 ≡ Some before
     → after.level ≡ before.level → after.closed ≡ before.closed
-    → after.requests ≡ burst_more channel.A x before.requests
-    → after.reports ≡ burst_more channel.C x before.reports → new.block_state ≡ old.block_state
+    → after.requests ≡ burst_more Channel.A x before.requests
+    → after.reports ≡ burst_more Channel.C x before.reports → new.block_state ≡ old.block_state
     → Knows perm_of old config e → Follows perm_of old new config link ch x e
 follows-middle {w} {M} perm_of old new config link ch before after x e width typed middle link_states found level
     closed requests reports same k =
@@ -119,8 +104,8 @@ pub follows-any : {w : ℕ} {M : Type 0} (perm_of : M → ℕ → ℕ → Perm) 
     → OnTrue b (before.closed ≡ false) → OnTrue b (IsLawfulSoFar before → illegal before.level ch x ≡ None)
     → OnTrue b (is_spoiled x ≡ false)
     → OnTrue b (is_middle (part_of x (burst_for before.requests before.reports x)) ≡ true)
-    → OnTrue b (after.requests ≡ burst_more channel.A x before.requests)
-    → OnTrue b (after.reports ≡ burst_more channel.C x before.reports)
+    → OnTrue b (after.requests ≡ burst_more Channel.A x before.requests)
+    → OnTrue b (after.reports ≡ burst_more Channel.C x before.reports)
     → after.level ≡ before.level → after.closed ≡ before.closed
     → new.link_states.items ≡ slice_set old.link_states.items link.0 after
     → slice_get old.link_states.items link.0 ≡ Some before → new.block_state ≡ old.block_state

@@ -3,9 +3,7 @@ use Rattle.tl_manager.proofs.Imports.{Beat, Link, Channel, Config, Perm, Rule, a
 use Rattle.tl_manager.proofs.Imports.{Judgement, Breaks, Waits, Passes, Refused, Stalled, Sent, judged, refused, taken}
 use Rattle.tl_manager.proofs.Imports.{offered_as, offered, ManagerState}
 use Rattle.std.proofs.Common.{◌≡◌, ℕ, Ok, Err, refl, arith}
-use Rattle.tl_manager.specs.code.Knows.{IsManager}
-use Rattle.tl_manager.specs.declared.manager.admission.Admission.{Admission}
-use Rattle.tl_manager.specs.declared.manager.admission.Admission.TheVariants as admission
+use Rattle.tl_manager.{specs.code.Knows.IsManager, specs.declared.manager.admission.Admission.Admission}
 
 pub offered-broken : {w : ℕ} (config : Config) (link : Link) (ch : Channel) (x : Beat w) (e : End w) (rule : Rule)
     → Err rule ≡ admission_of (judged config link ch x e)
@@ -15,35 +13,32 @@ offered-broken {w} config link ch x e rule is = go (judged config link ch x e) i
   where
     go : (j : Judgement) → Err rule ≡ admission_of j → offered_as j config link x e ≡ (Refused rule, refused link e)
     go (Breaks r) f = let same : r ≡ rule = cc in rw same refl
-    go Waits f = absurd cc
-    go Passes f = absurd cc
+    go v f = absurd cc
 
 pub offered-waits : {w : ℕ} (config : Config) (link : Link) (ch : Channel) (x : Beat w) (e : End w) (a : Admission)
-    → a ≡ admission.Waits → Ok a ≡ admission_of (judged config link ch x e)
+    → a ≡ Admission.Waits → Ok a ≡ admission_of (judged config link ch x e)
     → offered config link ch x e ≡ (Stalled, e)
 unfolding offered
 offered-waits {w} config link ch x e a waits is = go (judged config link ch x e) (rw waits at is)
   where
-    go : (j : Judgement) → Ok admission.Waits ≡ admission_of j → offered_as j config link x e ≡ (Stalled, e)
-    go (Breaks r) f = absurd cc
+    go : (j : Judgement) → Ok Admission.Waits ≡ admission_of j → offered_as j config link x e ≡ (Stalled, e)
     go Waits f = refl
-    go Passes f = absurd cc
+    go v f = absurd cc
 
 pub offered-passes : {w : ℕ} (config : Config) (link : Link) (ch : Channel) (x : Beat w) (e : End w) (a : Admission)
-    → a ≡ admission.Passes → Ok a ≡ admission_of (judged config link ch x e)
+    → a ≡ Admission.Passes → Ok a ≡ admission_of (judged config link ch x e)
     → offered config link ch x e ≡ (Sent (reaction config link x e).handed, taken link x (reaction config link x e) e)
 unfolding offered
 offered-passes {w} config link ch x e a passes is = go (judged config link ch x e) (rw passes at is)
   where
-    go : (j : Judgement) → Ok admission.Passes ≡ admission_of j
+    go : (j : Judgement) → Ok Admission.Passes ≡ admission_of j
         → offered_as j config link x e ≡ (
           Sent (reaction config link x e).handed,
           taken link x
               (reaction config link x e) e,
         )
-    go (Breaks r) f = absurd cc
-    go Waits f = absurd cc
     go Passes f = refl
+    go v f = absurd cc
 
 -- ---- it knows some end
 

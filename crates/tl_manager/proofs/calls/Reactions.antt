@@ -12,13 +12,9 @@ use Rattle.std.proofs.Common.{◌≡◌, ℕ, zero, suc, ◌%◌, ◌^◌, ◌<�
 use Rattle.std.proofs.Common.{◌∷◌, ◌++◌, length, map, Option, Some, None, refl, ap, ◌∙◌, arith}
 use Rattle.std.specs.Prelude.{nat_le, option_map, if◌then◌else◌}
 use Rattle.std.proofs.lemmas.Bool.{and_parts, eqb-true, not-false}
-use Rattle.tl_beat.specs.declared.beat.Beat.TheVariants as beat
-use Rattle.tl_params.specs.declared.level.Level.TheVariants as level
-use Rattle.tl_params.specs.declared.param.Cap.TheVariants as cap
-use Rattle.tl_params.specs.declared.perm.Perm.TheVariants as perm
+use Rattle.tl_params.specs.declared.level.Level.{Level}
 use Rattle.tl_manager.proofs.messages.Lawful.{IsHandable, access_handable, acquire_level, grant_handable}
-use Rattle.tl_manager.proofs.messages.Lawful.{release_handable}
-use Rattle.tl_manager.proofs.messages.Lawful.{probe_handable}
+use Rattle.tl_manager.proofs.messages.Lawful.{release_handable, probe_handable}
 use Rattle.tl_manager.proofs.words_of_clients.Lists.{each_append, each_map, each_client, each_weaker}
 use Rattle.tl_manager.proofs.messages.Sound.{IsServable, servable_new, servable, holder_level, leveled, past_l1}
 use Rattle.tl_manager.proofs.messages.Sound.{transfers_level}
@@ -79,17 +75,15 @@ performed_found config block (s ∷ ss) t memory width each =
 -- ---- Probes
 
 above_none : (c : Cap) (p : Perm) → is_above c p ≡ true → has_copy p ≡ true
-above_none cap.ToN p e = e
-above_none cap.ToB perm.Trunk e = refl
-above_none cap.ToB perm.Branch e = absurd cc
-above_none cap.ToB perm.None e = absurd cc
-above_none cap.ToT p e = absurd cc
+above_none Cap.ToN p e = e
+above_none Cap.ToB Perm.Trunk e = refl
+above_none v u e = absurd cc
 
 probed_level : {w : ℕ} (config : Config) (s : Service w) (c : Cap) (t : Trace w) → Each (IsSound config) t
-    → Each (λ client. level_of config client ≡ Some level.C) (probed config s c t)
+    → Each (λ client. level_of config client ≡ Some Level.C) (probed config s c t)
 probed_level {w} config s c t sound =
     each_weaker (λ client. (is_above c (recorded client (block_at s.request.address) t) && not (is_spared s client))
-    ≡ true) (λ client. level_of config client ≡ Some level.C)
+    ≡ true) (λ client. level_of config client ≡ Some Level.C)
     (probed config s c t)
     (λ client e. holder_level config client (block_at s.request.address) t sound
     (above_none c (recorded client (block_at s.request.address) t)
@@ -99,11 +93,11 @@ probed_level {w} config s c t sound =
 
 probing_handable : {w : ℕ} (config : Config) (d : Reaction w) (block : ℕ) (c : Cap) (clients : List ℕ) (memory : Memory)
     → IsWidth w → nat_le config.blocks block ≡ false → AllHandable config d
-    → Each (λ client. level_of config client ≡ Some level.C) clients
+    → Each (λ client. level_of config client ≡ Some Level.C) clients
     → AllHandable config (probing_or d block c clients memory)
 probing_handable config d block c [] memory width inside at_once each = at_once
 probing_handable {w} config d block c (client ∷ clients) memory width inside at_once each =
-    each_map (λ n. level_of config n ≡ Some level.C) (IsHandable config)
+    each_map (λ n. level_of config n ≡ Some Level.C) (IsHandable config)
     (λ n. (record { 0 = n }, probe_of_block block c)) (client ∷ clients)
     (λ n e. probe_handable config n block c width e inside) each
 
@@ -120,7 +114,7 @@ begun_handable config (Some c) s t memory width ok sound =
 
 begun_new : {w : ℕ} (config : Config) (link : Link) (x : BeatA w) (beats : List (Beat w)) (tracker : ℕ) (t : Trace w)
     (memory : Memory) (fits : Bool) (e : nat_le x.size 6 ≡ fits) → IsWidth w
-    → IsSound config (link, beat.A x) → Each (IsSound config) t
+    → IsSound config (link, Beat.A x) → Each (IsSound config) t
     → AllHandable config (begun_if_any config (option_map (λ m. record { tracker = tracker; link = link; request = m })
     (request_if x beats fits e)) t memory)
 begun_new config link x beats tracker t memory false e width ok sound = tt
@@ -137,13 +131,13 @@ settled_handable {w} config block t memory width sound = go (is_settled config b
     go false = tt
 
 done_c_handable : {w : ℕ} (config : Config) (link : Link) (x : BeatC w) (t : Trace w) (memory : Memory) → IsWidth w
-    → IsSound config (link, beat.C x) → Each (IsSound config) t
+    → IsSound config (link, Beat.C x) → Each (IsSound config) t
     → AllHandable config (completed_c config link x t memory)
 done_c_handable {w} config link x t memory width ok sound =
-    let l = leveled (level_of config link.0) (beat.C x) ok.lawful in
-    go (is_release x.opcode) (is_probe_ack x.opcode) (l.1 ∙ ap Some (transfers_level l.0 (past_l1 l.0 (beat.C x) l.2)))
+    let l = leveled (level_of config link.0) (Beat.C x) ok.lawful in
+    go (is_release x.opcode) (is_probe_ack x.opcode) (l.1 ∙ ap Some (transfers_level l.0 (past_l1 l.0 (Beat.C x) l.2)))
   where
-    go : (r p : Bool) → level_of config link.0 ≡ Some level.C
+    go : (r p : Bool) → level_of config link.0 ≡ Some Level.C
         → AllHandable config (if r then record { handed = (link, release_ack x.source) ∷ []; memory = memory } else if p
         then finish config
         (block_at x.address) t memory else nothing memory)
@@ -155,14 +149,12 @@ done_handable : {w : ℕ} (config : Config) (link : Link) (x : Beat w) (burst : 
     (memory : Memory) → IsWidth w → IsSound config (link, x) → Each (IsSound config) t
     → AllHandable config (completed config link x burst t memory)
 unfolding request_carried
-done_handable config link (beat.A x) burst t memory width ok sound =
-    begun_new config link x (beat.A x ∷ burst) (least_untaken (trackers_of (services t))) ((link, beat.A x) ∷ t) memory
+done_handable config link (Beat.A x) burst t memory width ok sound =
+    begun_new config link x (Beat.A x ∷ burst) (least_untaken (trackers_of (services t))) ((link, Beat.A x) ∷ t) memory
     (nat_le x.size 6) refl width ok (ok, sound)
-done_handable config link (beat.B x) burst t memory width ok sound = tt
-done_handable config link (beat.C x) burst t memory width ok sound =
-    done_c_handable config link x ((link, beat.C x) ∷ t) (written x (beat.C x ∷ burst) memory) width ok (ok, sound)
-done_handable config link (beat.D x) burst t memory width ok sound = tt
-done_handable config link (beat.E x) burst t memory width ok sound = tt
+done_handable config link (Beat.C x) burst t memory width ok sound =
+    done_c_handable config link x ((link, Beat.C x) ∷ t) (written x (Beat.C x ∷ burst) memory) width ok (ok, sound)
+done_handable config link v burst t memory width ok sound = tt
 
 -- the messages handed out at a sound beat
 pub reaction_handable : {w : ℕ} (config : Config) (link : Link) (x : Beat w) (e : End w) → IsWidth w

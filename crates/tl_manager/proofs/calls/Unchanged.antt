@@ -1,11 +1,7 @@
 -- A vector of which an element was written as it was is as it was.
 use Rattle.std.proofs.Common.{◌≡◌, ℕ, Bool, true, false, List, ap, ◌∙◌}
-use Rattle.std.specs.Bool.{OnFalse}
-use Rattle.std.specs.Prelude.{slice_index_or, slice_set}
-use Rattle.std.specs.Vec.{with_item}
-use Rattle.std.proofs.lemmas.List.{set-get_or}
-use Rattle.std.specs.Global.{Vec}
-use Rattle.std.specs.formers.vec.Vec.{holding_along}
+use Rattle.std.{specs.Bool.OnFalse, specs.Prelude.slice_index_or, specs.Prelude.slice_set, specs.Vec.with_item}
+use Rattle.std.{proofs.lemmas.List.set-get_or, specs.Global.Vec, specs.formers.vec.Vec.holding_along}
 
 set-read : {X : Type 0} (xs : List X) (i : ℕ) (x y : X) → x ≡ slice_index_or xs i x → y ≡ x → slice_set xs i y ≡ xs
 set-read xs i x y read same = ap (slice_set xs i) (same ∙ read) ∙ set-get_or xs i x

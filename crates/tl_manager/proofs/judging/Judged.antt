@@ -7,7 +7,6 @@ use Rattle.tl_manager.proofs.Imports.{offered_as, offered, IsPassed}
 use Rattle.std.proofs.Common.{◌≡◌, ℕ, Bool, true, false, Option, Some, None, refl, ap}
 use Rattle.std.specs.Prelude.{if◌then◌else◌}
 use Rattle.tl_beat.specs.declared.beat.Beat.TheVariants.{A, B, C, D, E}
-use Rattle.tl_beat.specs.declared.channel.Channel.TheVariants as channel
 use Rattle.tl_manager.specs.statement.Offer.{waits_or, unlawful, before_stall, judged_on}
 
 past_rule : (o : Option Rule) (rest : Judgement) → breaks_or o rest ≡ Passes → (o ≡ None) × (rest ≡ Passes)
@@ -24,11 +23,11 @@ from_client false o e = absurd cc
 
 -- the channel is the beat's own
 own_channel : {w : ℕ} (l : Level) (ch : Channel) (x : Beat w) → breaks_l1 l ch x ≡ false → ch ≡ channel_of x
-own_channel l channel.A (A x) e = refl
-own_channel l channel.B (B x) e = refl
-own_channel l channel.C (C x) e = refl
-own_channel l channel.D (D x) e = refl
-own_channel l channel.E (E x) e = refl
+own_channel l Channel.A (A x) e = refl
+own_channel l Channel.B (B x) e = refl
+own_channel l Channel.C (C x) e = refl
+own_channel l Channel.D (D x) e = refl
+own_channel l Channel.E (E x) e = refl
 own_channel l ch x e = absurd cc
 
 legal_at_own : {w : ℕ} (l : Level) (ch : Channel) (x : Beat w) → illegal l ch x ≡ None

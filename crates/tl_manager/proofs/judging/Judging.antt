@@ -8,32 +8,28 @@ use Rattle.std.proofs.Common.{◌≡◌, ℕ, ◌<◌, Bool, true, false, not, c
 use Rattle.std.proofs.Common.{None, Ok, Err, refl, sym, ap}
 use Rattle.std.specs.Prelude.{Result, OnOk, nat_le, is_some, IfSome}
 use Rattle.tl_beat.specs.declared.beat.Beat.TheVariants.{A, B, C, D, E}
-use Rattle.tl_burst.specs.declared.part.Broken.{Broken}
-use Rattle.tl_burst.specs.declared.part.Broken.TheVariants as broken
-use Rattle.tl_burst.specs.declared.part.Part.{Part}
+use Rattle.tl_burst.{specs.declared.part.Broken.Broken, specs.declared.part.Part.Part}
 use Rattle.tl_burst.specs.declared.part.Part.TheVariants.{First, Middle, Last, Only}
 use Rattle.tl_burst.specs.statement.Part.{completes, place, part_of}
-use Rattle.tl_manager.specs.code.Admission.{judged_by, judged_in_order}
-use Rattle.tl_manager.specs.code.BurstFor.{burst_for}
+use Rattle.tl_manager.{specs.code.Admission.judged_by, specs.code.Admission.judged_in_order}
+use Rattle.tl_manager.{specs.code.BurstFor.burst_for, specs.code.LinkState.IsCarried}
+use Rattle.tl_manager.{proofs.pending.LinkHistories.none-on_e}
 use Rattle.tl_params.specs.statement.Refusal.{ok_unless}
 use Rattle.tl_manager.proofs.services.Busy.{unserved-among, all-taken, one-free}
 use Rattle.tl_manager.specs.code.PartIs.{IsPartOf, is_first_part, is_last_part}
-use Rattle.tl_manager.specs.code.LinkState.{IsCarried}
-use Rattle.tl_manager.proofs.pending.LinkHistories.{none-on_e}
 
 -- the burst that a client's beat is of
 pub burst-is : {w : ℕ} (link_state : LinkState w) (client : ℕ) (x : Beat w) (t : Trace w) → is_from_client x ≡ true
     → IsCarried link_state client t
     → burst_for link_state.requests link_state.reports x ≡ unfinished (channel_of x) (on_link client t)
 burst-is link_state client (A x) t theirs is = is.requests
-burst-is link_state client (B x) t theirs is = absurd cc
 burst-is link_state client (C x) t theirs is = is.reports
-burst-is link_state client (D x) t theirs is = absurd cc
 burst-is link_state client (E x) t theirs is = sym (none-on_e (on_link client t))
+burst-is link_state client v t theirs is = absurd cc
 
 -- ---- parts
 
-place-parts : (b c d : Bool) (part : Part) → Ok part ≡ cond b (Err broken.S1) (Ok (place c d))
+place-parts : (b c d : Bool) (part : Part) → Ok part ≡ cond b (Err Broken.S1) (Ok (place c d))
     → (b ≡ false) × (is_first_part part ≡ c) × (is_last_part part ≡ d)
 place-parts true c d part e = absurd cc
 place-parts false true true part e = let is : part ≡ Only = cc in rw is (refl, refl, refl)
@@ -59,7 +55,7 @@ breaks-first : {w : ℕ} (x : Beat w) (burst : List (Beat w)) (b : Broken) → E
 breaks-first x [] b e = absurd cc
 breaks-first {w} x (y ∷ ys) b e = (refl, go (breaks_burst x (y ∷ ys)) e)
   where
-    go : (d : Bool) → Err b ≡ cond d (Err broken.S1) (Ok (place false (completes x (y ∷ ys)))) → d ≡ true
+    go : (d : Bool) → Err b ≡ cond d (Err Broken.S1) (Ok (place false (completes x (y ∷ ys)))) → d ≡ true
     go true i = refl
     go false i = absurd cc
 

@@ -3,19 +3,16 @@ use Rattle.tl_manager.proofs.Imports.{Beat, Link, Channel, Config, Perm, admissi
 use Rattle.tl_manager.proofs.Imports.{Breaks, Waits, Passes, judged, refused, IsLinkState, ManagerState, LinkState}
 use Rattle.std.proofs.Common.{◌≡◌, ◌≢◌, ℕ, zero, suc, ◌≤◌, ◌==◌, true, false, List, [], ◌∷◌, length, Some, refl, sym}
 use Rattle.std.proofs.Common.{ap, ◌∙◌, arith, inl, inr}
-use Rattle.std.specs.Prelude.{slice_get, slice_set}
-use Rattle.std.proofs.lemmas.Bool.{cases_eq, eq-eqb, ne_eqb}
-use Rattle.std.proofs.lemmas.Option.{slice_get_within}
-use Rattle.std.proofs.lemmas.List.{length-set}
-use Rattle.tl_manager.specs.code.Admission.{is_stall}
-use Rattle.tl_manager.specs.statement.Offer.{is_waiting, stalls}
+use Rattle.std.{specs.Prelude.slice_get, specs.Prelude.slice_set, proofs.lemmas.Bool.cases_eq}
+use Rattle.std.{proofs.lemmas.Bool.eq-eqb, proofs.lemmas.Bool.ne_eqb, proofs.lemmas.Option.slice_get_within}
+use Rattle.std.{proofs.lemmas.List.length-set}
+use Rattle.tl_manager.{specs.code.Admission.is_stall, specs.statement.Offer.is_waiting, specs.statement.Offer.stalls}
 
 -- ---- stalls
 
 stall-is : (j : Judgement) → is_stall (admission_of j) ≡ is_waiting j
 stall-is (Breaks rule) = refl
-stall-is Waits = refl
-stall-is Passes = refl
+stall-is v = refl
 
 pub stalls-judged : {w : ℕ} (config : Config) (link : Link) (ch : Channel) (x : Beat w) (e : End w)
     → is_stall (admission_of (judged config link ch x e)) ≡ stalls config link ch x e
@@ -66,11 +63,9 @@ knows-absent perm_of state config link e k past = record {
 
 pub set-other : {X : Type 0} (xs : List X) (i j : ℕ) (x y : X) → j ≢ i → slice_get (slice_set xs i y) j ≡ Some x
     → slice_get xs j ≡ Some x
-set-other [] i j x y other e = e
 set-other (z ∷ xs) zero zero x y other e = absurd (other refl)
-set-other (z ∷ xs) zero (suc j) x y other e = e
-set-other (z ∷ xs) (suc i) zero x y other e = e
 set-other (z ∷ xs) (suc i) (suc j) x y other e = set-other xs i j x y (λ same. other (ap suc same)) e
+set-other v u z x y other e = e
 
 pub set-here : {X : Type 0} (xs : List X) (i : ℕ) (x y : X) → slice_get (slice_set xs i y) i ≡ Some x → x ≡ y
 set-here [] i x y e = absurd cc

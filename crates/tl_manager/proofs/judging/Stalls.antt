@@ -9,8 +9,7 @@ use Rattle.tl_manager.specs.statement.Offer.{unlawful, before_stall, judged_on, 
 stalled_as : {w : ℕ} (j : Judgement) (config : Config) (link : Link) (x : Beat w) (e : End w)
     → is_waiting j ≡ is_stalled (offered_as j config link x e).0
 stalled_as (Breaks r) config link x e = refl
-stalled_as Waits config link x e = refl
-stalled_as Passes config link x e = refl
+stalled_as v config link x e = refl
 
 pub stalls-answered : {w : ℕ} (config : Config) (link : Link) (ch : Channel) (x : Beat w) (e : End w)
     → stalls config link ch x e ≡ is_stalled (offered config link ch x e).0

@@ -4,11 +4,9 @@ use Rattle.tl_manager.proofs.Imports.{beats-positive, payload_of, masks_carried,
 use Rattle.tl_manager.proofs.Imports.{request_carried}
 use Rattle.std.proofs.Common.{◌≡◌, ℕ, zero, suc, ◌+◌, ◌*◌, ◌/◌, ◌%◌, ◌^◌, ◌<◌, ◌≤◌, ◌==◌, Bool, true, false, List}
 use Rattle.std.proofs.Common.{length, Some, refl, ap, subst, ◌∙◌, arith}
-use Rattle.std.specs.Prelude.{nat_le, if◌then◌else◌}
-use Rattle.std.proofs.Math.Bridge.{le_prop}
-use Rattle.std.proofs.Math.Nat.{mod-eq_of_lt}
-use Rattle.std.proofs.lemmas.Bool.{le-leb, leb-true}
-use Rattle.std.proofs.lemmas.Nat.{mod-pow-add}
+use Rattle.std.{specs.Prelude.nat_le, specs.Prelude.if◌then◌else◌, proofs.Math.Bridge.le_prop}
+use Rattle.std.{proofs.Math.Nat.mod-eq_of_lt, proofs.lemmas.Bool.le-leb, proofs.lemmas.Bool.leb-true}
+use Rattle.std.{proofs.lemmas.Nat.mod-pow-add}
 use Rattle.tl_burst.proofs.Begun.{length-begun}
 use Rattle.tl_rules.proofs.Payload.{payload-a}
 

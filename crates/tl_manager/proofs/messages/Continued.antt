@@ -6,55 +6,43 @@ use Rattle.tl_manager.proofs.Imports.{is_of_clients, Handed, with_handed, Each, 
 use Rattle.tl_manager.proofs.Imports.{unfinished-sent_other}
 use Rattle.std.proofs.Common.{◌≡◌, ℕ, ◌+◌, ◌==◌, Bool, true, false, not, List, [], ◌∷◌, length, None, refl, sym, ap}
 use Rattle.std.proofs.Common.{◌∙◌}
-use Rattle.std.specs.Prelude.{if◌then◌else◌}
-use Rattle.std.proofs.lemmas.Bool.{not-false, eqb-true}
-use Rattle.tl_beat.specs.declared.beat.Beat.TheVariants as beat
-use Rattle.tl_beat.specs.declared.channel.Channel.TheVariants as channel
+use Rattle.std.{specs.Prelude.if◌then◌else◌, proofs.lemmas.Bool.not-false, proofs.lemmas.Bool.eqb-true}
 use Rattle.tl_burst.proofs.ControlFields.{control_a}
-use Rattle.tl_manager.specs.code.Kept.{IsLike, AreOfOne}
+use Rattle.tl_manager.{specs.code.Kept.IsLike, specs.code.Kept.AreOfOne, proofs.messages.Lawful.IsHandable}
+use Rattle.tl_manager.{proofs.words_of_clients.Lists.each_weaker, proofs.words_of_clients.Masks.each_unfinished}
+use Rattle.tl_manager.{proofs.messages.Requests.IsWhole, proofs.messages.Sound.sound_on_link}
 use Rattle.tl_manager.proofs.pending.Handed.{after_sent, own_link, other_link}
-use Rattle.tl_manager.proofs.messages.Lawful.{IsHandable}
-use Rattle.tl_manager.proofs.words_of_clients.Lists.{each_weaker}
-use Rattle.tl_manager.proofs.words_of_clients.Masks.{each_unfinished}
-use Rattle.tl_manager.proofs.messages.Requests.{IsWhole}
-use Rattle.tl_manager.proofs.messages.Sound.{sound_on_link}
 
-like_too : {w : ℕ} (x y : BeatA w) (z : Beat w) → IsLike x (beat.A y) → IsLike y z → IsLike x z
-like_too x y (beat.A z) first like = (like.0 ∙ first.0, like.1 ∙ first.1, like.2 ∙ first.2)
-like_too x y (beat.B z) first like = absurd like
-like_too x y (beat.C z) first like = absurd like
-like_too x y (beat.D z) first like = absurd like
-like_too x y (beat.E z) first like = absurd like
+like_too : {w : ℕ} (x y : BeatA w) (z : Beat w) → IsLike x (Beat.A y) → IsLike y z → IsLike x z
+like_too x y (Beat.A z) first like = (like.0 ∙ first.0, like.1 ∙ first.1, like.2 ∙ first.2)
+like_too x y v first like = absurd like
 
 continues : {w : ℕ} (p : Profile) (x : BeatA w) (t : History w) (burst : List (Beat w)) → AreOfOne burst
-    → (if is_empty burst then broken_order p (beat.A x) t else first_if (breaks_burst (beat.A x) burst) S1 None) ≡ None
+    → (if is_empty burst then broken_order p (Beat.A x) t else first_if (breaks_burst (Beat.A x) burst) S1 None) ≡ None
     → Each (IsLike x) burst
 continues p x t [] ok e = tt
-continues p x t (beat.A y ∷ burst) ok e =
-    let same = not-false (same_control (beat.A x) (beat.A y)) (next_rule (not (same_control (beat.A x) (beat.A y))) S1
+continues p x t (Beat.A y ∷ burst) ok e =
+    let same = not-false (same_control (Beat.A x) (Beat.A y)) (next_rule (not (same_control (Beat.A x) (Beat.A y))) S1
     None e).0 in
     let fields = control_a x y (rw same refl) in
-    let first : IsLike x (beat.A y) = (sym fields.0, sym fields.2, sym fields.4) in
+    let first : IsLike x (Beat.A y) = (sym fields.0, sym fields.2, sym fields.4) in
     (first, each_weaker (IsLike y) (IsLike x) burst (λ z like. like_too x y z first like) ok)
-continues p x t (beat.B y ∷ burst) ok e = absurd ok
-continues p x t (beat.C y ∷ burst) ok e = absurd ok
-continues p x t (beat.D y ∷ burst) ok e = absurd ok
-continues p x t (beat.E y ∷ burst) ok e = absurd ok
+continues p x t v ok e = absurd ok
 
 -- a beat that breaks neither S1 nor the order of messages continues the request that is unfinished
-pub continued : {w : ℕ} (p : Profile) (x : BeatA w) (t : History w) → AreOfOne (unfinished channel.A t)
-    → broken_in_order p (beat.A x) t ≡ None → Each (IsLike x) (unfinished channel.A t)
-continued p x t ok e = continues p x t (unfinished channel.A t) ok e
+pub continued : {w : ℕ} (p : Profile) (x : BeatA w) (t : History w) → AreOfOne (unfinished Channel.A t)
+    → broken_in_order p (Beat.A x) t ≡ None → Each (IsLike x) (unfinished Channel.A t)
+continued p x t ok e = continues p x t (unfinished Channel.A t) ok e
 
 -- the beats of a request, up to one that is taken
 pub whole_request : {w : ℕ} (config : Config) (link : Link) (x : BeatA w) (t : Trace w)
-    → IsSound config (link, beat.A x) → Each (IsSound config) t
-    → AreOfOne (unfinished channel.A (on_link link.0 t)) → broken_in_order config.profile (beat.A x) (on_link link.0 t)
+    → IsSound config (link, Beat.A x) → Each (IsSound config) t
+    → AreOfOne (unfinished Channel.A (on_link link.0 t)) → broken_in_order config.profile (Beat.A x) (on_link link.0 t)
     ≡ None
-    → Each (IsWhole config link x) (beat.A x ∷ unfinished channel.A (on_link link.0 t))
+    → Each (IsWhole config link x) (Beat.A x ∷ unfinished Channel.A (on_link link.0 t))
 whole_request {w} config link x t ok sound bursts order = (
   record { sound = ok; like = (refl, refl, refl) },
-  both (unfinished channel.A (on_link link.0 t)) (each_unfinished (λ y. IsSound config (link, y)) channel.A
+  both (unfinished Channel.A (on_link link.0 t)) (each_unfinished (λ y. IsSound config (link, y)) Channel.A
       (on_link link.0 t)
       (sound_on_link config link.0 t sound)) (continued config.profile x (on_link link.0 t) bursts order),
 )
@@ -67,27 +55,27 @@ whole_request {w} config link x t ok sound bursts order = (
 -- ---- after a beat, and after messages were handed out
 
 more_of_one : {w : ℕ} (p : Profile) (x : Beat w) (t : History w) → is_from_client x ≡ true
-    → broken_in_order p x t ≡ None → AreOfOne (unfinished channel.A t) → AreOfOne (unfinished channel.A (x ∷ t))
+    → broken_in_order p x t ≡ None → AreOfOne (unfinished Channel.A t) → AreOfOne (unfinished Channel.A (x ∷ t))
 unfolding unfinished
-more_of_one {w} p (beat.A x) t theirs order ok = go (length (unfinished channel.A t) + 1 == burst_length (beat.A x))
+more_of_one {w} p (Beat.A x) t theirs order ok = go (length (unfinished Channel.A t) + 1 == burst_length (Beat.A x))
   where
-    go : (last : Bool) → AreOfOne (if last then [] else beat.A x ∷ unfinished channel.A t)
+    go : (last : Bool) → AreOfOne (if last then [] else Beat.A x ∷ unfinished Channel.A t)
     go true = tt
     go false = continued p x t ok order
-more_of_one p (beat.B x) t theirs order ok = absurd cc
-more_of_one p (beat.C x) t theirs order ok = ok
-more_of_one p (beat.D x) t theirs order ok = absurd cc
-more_of_one p (beat.E x) t theirs order ok = ok
+more_of_one p (Beat.B x) t theirs order ok = absurd cc
+more_of_one p (Beat.C x) t theirs order ok = ok
+more_of_one p (Beat.D x) t theirs order ok = absurd cc
+more_of_one p (Beat.E x) t theirs order ok = ok
 
 pub of_one-taken : {w : ℕ} (config : Config) (client : ℕ) (link : Link) (x : Beat w) (t : Trace w)
     → is_from_client x ≡ true → broken_in_order config.profile x (on_link link.0 t) ≡ None
-    → ((n : ℕ) → AreOfOne (unfinished channel.A (on_link n t)))
-    → AreOfOne (unfinished channel.A (on_link client ((link, x) ∷ t)))
+    → ((n : ℕ) → AreOfOne (unfinished Channel.A (on_link n t)))
+    → AreOfOne (unfinished Channel.A (on_link client ((link, x) ∷ t)))
 unfolding on_link
 of_one-taken {w} config client link x t theirs order ok = go (link.0 == client) refl
   where
     go : (b : Bool) → (link.0 == client) ≡ b
-        → AreOfOne (unfinished channel.A (if b then x ∷ on_link client t else on_link client t))
+        → AreOfOne (unfinished Channel.A (if b then x ∷ on_link client t else on_link client t))
     go true e = more_of_one config.profile x (on_link client t) theirs
         (ap (λ n. broken_in_order config.profile x (on_link n t)) (sym (eqb-true link.0 client e)) ∙ order) (ok client)
     go false e = ok client
@@ -98,19 +86,13 @@ ours_elsewhere {w} ch m t theirs ours = unfinished-sent_other ch m t (off ch m t
   where
     off : (ch : Channel) (m : Message w) → is_of_clients ch ≡ true → is_from_client (beat_of m 0) ≡ false
         → on ch (beat_of m 0) ≡ false
-    off ch (A m) theirs ours = absurd cc
-    off channel.A (B m) theirs ours = refl
-    off channel.B (B m) theirs ours = absurd cc
-    off channel.C (B m) theirs ours = refl
-    off channel.D (B m) theirs ours = absurd cc
-    off channel.E (B m) theirs ours = refl
-    off ch (C m) theirs ours = absurd cc
-    off channel.A (D m) theirs ours = refl
-    off channel.B (D m) theirs ours = absurd cc
-    off channel.C (D m) theirs ours = refl
-    off channel.D (D m) theirs ours = absurd cc
-    off channel.E (D m) theirs ours = refl
-    off ch (E m) theirs ours = absurd cc
+    off Channel.A (B m) theirs ours = refl
+    off Channel.C (B m) theirs ours = refl
+    off Channel.E (B m) theirs ours = refl
+    off Channel.A (D m) theirs ours = refl
+    off Channel.C (D m) theirs ours = refl
+    off Channel.E (D m) theirs ours = refl
+    off v u theirs ours = absurd cc
 
 one_handed : {w : ℕ} (ch : Channel) (client : ℕ) (link : Link) (m : Message w) (t : Trace w) → is_of_clients ch ≡ true
     → is_from_client (beat_of m 0) ≡ false

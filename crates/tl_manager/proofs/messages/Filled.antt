@@ -6,8 +6,7 @@ use Rattle.std.specs.Prelude.{replicate, drop}
 use Rattle.std.proofs.lemmas.List.{drop_at, drop_all, length-append, length-replicate, replicate-append-replicate}
 use Rattle.std.proofs.lemmas.List.{append_assoc}
 use Rattle.tl_burst.specs.statement.Burst.{data_beats}
-use Rattle.tl_rules.specs.statement.Effect.{as_payload}
-use Rattle.tl_rules.proofs.Widths.{whole_block}
+use Rattle.tl_rules.{specs.statement.Effect.as_payload, proofs.Widths.whole_block}
 
 pub length-bytes : (memory : Memory) (from n : ℕ) → length (bytes_from memory from n) ≡ n
 unfolding bytes_from

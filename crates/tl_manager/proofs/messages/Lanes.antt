@@ -1,16 +1,12 @@
 -- The masks of the beats of a message that has at least a beat's bytes.
 use Rattle.tl_manager.proofs.Imports.{IsWidth, OpA}
-use Rattle.std.proofs.Common.{◌≡◌, ℕ, ◌-◌, ◌*◌, ◌/◌, ◌%◌, ◌^◌, ◌<◌, ◌≤◌, true, nat_eq, bit_and, refl, sym, ◌∙◌}
-use Rattle.std.proofs.Common.{ap, arith, inl, inr}
-use Rattle.std.proofs.lemmas.Bool.{eqb-true}
-use Rattle.std.specs.Bool.{OnTrue}
-use Rattle.tl_beat.specs.declared.opcode.OpA.TheVariants as a
+use Rattle.std.proofs.Common.{◌≡◌, ℕ, ◌-◌, ◌*◌, ◌/◌, ◌%◌, ◌^◌, ◌<◌, ◌≤◌, true, nat_eq, bit_and, refl, sym, ◌∙◌, ap}
+use Rattle.std.proofs.Common.{arith, inl, inr}
+use Rattle.std.{proofs.lemmas.Bool.eqb-true, specs.Bool.OnTrue}
 use Rattle.tl_burst.specs.statement.Burst.{bit}
 use Rattle.tl_rules.specs.statement.Legality.{a_has_mask, is_full_mask, is_lane}
-use Rattle.tl_rules.proofs.Lanes.{all_lanes}
-use Rattle.tl_rules.proofs.Masks.{part_of_mask, same_mask}
-use Rattle.tl_rules.proofs.Takeable.{if_true}
-use Rattle.tl_rules.proofs.Widths.{width-bounds}
+use Rattle.tl_rules.{proofs.Lanes.all_lanes, proofs.Masks.part_of_mask, proofs.Masks.same_mask, proofs.Takeable.if_true}
+use Rattle.tl_rules.{proofs.Widths.width-bounds}
 
 -- the word whose bits are the lanes of a beat
 abbrev lanes_of : ℕ → ℕ
@@ -33,27 +29,21 @@ lanes-carry w size width small wide address i lt =
 
 pub part-of_lanes : (w size mask : ℕ) → IsWidth w → size ≤ 6 → w ≤ 1 * 2 ^ size % 2 ^ 64 → mask < 2 ^ 16
     → OnTrue (nat_eq (bit_and mask (65535 - lanes_of w)) 0)
-    ((address : ℕ) → a_has_mask w a.PutPartialData size address mask ≡ true)
+    ((address : ℕ) → a_has_mask w OpA.PutPartialData size address mask ≡ true)
 part-of_lanes w size mask width small wide fits =
     let fit : nat_eq (bit_and mask (65535 - lanes_of w)) 0 ≡ true
-    → (address : ℕ) → a_has_mask w a.PutPartialData size address mask ≡ true = λ e address.
+    → (address : ℕ) → a_has_mask w OpA.PutPartialData size address mask ≡ true = λ e address.
     sym (part_of_mask mask (lanes_of w) (is_lane w size address) fits (lanes_small w width).0
     (lanes-carry w size width small wide address)) ∙ e in
     if_true _ _ refl fit
 
-full_for : (w : ℕ) (opcode : OpA) (size address mask : ℕ) → (opcode ≡ a.PutPartialData → ⊥)
+full_for : (w : ℕ) (opcode : OpA) (size address mask : ℕ) → (opcode ≡ OpA.PutPartialData → ⊥)
     → is_full_mask w size address mask ≡ true → a_has_mask w opcode size address mask ≡ true
-full_for w a.PutPartialData size address mask other full = absurd (other refl)
-full_for w a.PutFullData size address mask other full = full
-full_for w a.ArithmeticData size address mask other full = full
-full_for w a.LogicalData size address mask other full = full
-full_for w a.Get size address mask other full = full
-full_for w a.Intent size address mask other full = full
-full_for w a.AcquireBlock size address mask other full = full
-full_for w a.AcquirePerm size address mask other full = full
+full_for w OpA.PutPartialData size address mask other full = absurd (other refl)
+full_for w v size address mask other full = full
 
 pub all-lanes : (w : ℕ) (opcode : OpA) (size mask : ℕ) → IsWidth w → size ≤ 6 → w ≤ 1 * 2 ^ size % 2 ^ 64
-    → mask < 2 ^ 16 → (opcode ≡ a.PutPartialData → ⊥)
+    → mask < 2 ^ 16 → (opcode ≡ OpA.PutPartialData → ⊥)
     → OnTrue (nat_eq mask (lanes_of w)) ((address : ℕ) → a_has_mask w opcode size address mask ≡ true)
 all-lanes w opcode size mask width small wide fits other =
     let fit : nat_eq mask (lanes_of w) ≡ true → (address : ℕ) → a_has_mask w opcode size address mask ≡ true =

@@ -6,18 +6,10 @@ use Rattle.tl_manager.proofs.Imports.{grant_opcode, probe_of_block, IsSound, Has
 use Rattle.tl_manager.proofs.Imports.{is_from_client, level_of}
 use Rattle.std.proofs.Common.{◌≡◌, ℕ, ◌*◌, ◌-◌, ◌/◌, ◌%◌, ◌^◌, ◌<◌, Bool, true, false, ◌&&◌, List, Some, None, refl}
 use Rattle.std.proofs.Common.{◌∙◌, arith, inl, inr}
-use Rattle.std.specs.Prelude.{nat_le, length, if◌then◌else◌}
-use Rattle.std.proofs.Math.Nat.{zero-div}
-use Rattle.std.proofs.lemmas.Bool.{le-leb}
-use Rattle.std.proofs.lemmas.Nat.{pow_pos}
-use Rattle.std.specs.Option.{option_or}
-use Rattle.tl_beat.specs.statement.Opcode.{d_carries_data}
-use Rattle.tl_beat.specs.declared.opcode.OpA.TheVariants as a
-use Rattle.tl_beat.specs.declared.opcode.OpB.TheVariants as b
-use Rattle.tl_beat.specs.declared.opcode.OpD.TheVariants as d
+use Rattle.std.{specs.Prelude.nat_le, specs.Prelude.length, specs.Prelude.if◌then◌else◌, proofs.Math.Nat.zero-div}
+use Rattle.std.{proofs.lemmas.Bool.le-leb, proofs.lemmas.Nat.pow_pos, specs.Option.option_or}
+use Rattle.tl_beat.{specs.statement.Opcode.d_carries_data, specs.declared.opcode.OpB.OpB}
 use Rattle.tl_burst.specs.statement.Burst.{bit, mask_at, data_beats, IsBlankAfter}
-use Rattle.tl_params.specs.declared.level.Level.TheVariants as level
-use Rattle.tl_params.specs.declared.param.Cap.TheVariants as cap
 use Rattle.tl_rules.specs.code.Control.{d_control, d_own, b_control}
 use Rattle.tl_rules.specs.statement.Effect.{access_result, as_payload, byte_count}
 use Rattle.tl_rules.specs.statement.Legality.{access_has_size, d_of_level, d_has_param, d_has_sink, d_has_size}
@@ -70,21 +62,17 @@ d_handable {w} config link l m has_level of_level params sized corrupt denied lo
 -- ---- answers to accesses
 
 answer_params : (opcode : OpD) → is_access_answer opcode ≡ true → (d_has_param opcode 0 && d_has_sink opcode 0) ≡ true
-answer_params d.AccessAck e = refl
-answer_params d.AccessAckData e = refl
-answer_params d.HintAck e = refl
-answer_params d.Grant e = absurd cc
-answer_params d.GrantData e = absurd cc
-answer_params d.ReleaseAck e = absurd cc
+answer_params OpD.AccessAck e = refl
+answer_params OpD.AccessAckData e = refl
+answer_params OpD.HintAck e = refl
+answer_params v e = absurd cc
 
 answer_size : (w : ℕ) (l : Level) (opcode : OpD) (size : ℕ) → is_access_answer opcode ≡ true
     → access_has_size w l size ≡ true → d_has_size w l opcode size ≡ true
-answer_size w l d.AccessAck size e sized = sized
-answer_size w l d.AccessAckData size e sized = sized
-answer_size w l d.HintAck size e sized = sized
-answer_size w l d.Grant size e sized = absurd cc
-answer_size w l d.GrantData size e sized = absurd cc
-answer_size w l d.ReleaseAck size e sized = absurd cc
+answer_size w l OpD.AccessAck size e sized = sized
+answer_size w l OpD.AccessAckData size e sized = sized
+answer_size w l OpD.HintAck size e sized = sized
+answer_size w l v size e sized = absurd cc
 
 answer_handable : {w : ℕ} (config : Config) (link : Link) (l : Level) (opcode : OpD) (payload : List ℕ) (m : MessageA w)
     → level_of config link.0 ≡ Some l → is_access_answer opcode ≡ true
@@ -107,15 +95,13 @@ answer_handable {w} config link l opcode payload m has_level e of_level sized lo
     })
     has_level of_level (answer_params opcode e) (answer_size w l opcode m.size e sized) refl refl long zero
 
-acked : (l : Level) → d_of_level l d.AccessAck ≡ true
-acked level.UL = refl
-acked level.UH = refl
-acked level.C = refl
+acked : (l : Level) → d_of_level l OpD.AccessAck ≡ true
+acked Level.UL = refl
+acked v = refl
 
-acked_with_data : (l : Level) → d_of_level l d.AccessAckData ≡ true
-acked_with_data level.UL = refl
-acked_with_data level.UH = refl
-acked_with_data level.C = refl
+acked_with_data : (l : Level) → d_of_level l OpD.AccessAckData ≡ true
+acked_with_data Level.UL = refl
+acked_with_data v = refl
 
 -- the bytes that an aligned request reaches
 data_handable : {w : ℕ} (config : Config) (link : Link) (l : Level) (m : MessageA w) (memory : Memory) → IsWidth w
@@ -123,7 +109,7 @@ data_handable : {w : ℕ} (config : Config) (link : Link) (l : Level) (m : Messa
     → access_has_size w l m.size ≡ true
     → IsHandable config (
       link,
-      answer_with d.AccessAckData
+      answer_with OpD.AccessAckData
           (as_payload (m.address % w) (bytes_from memory m.address (byte_count m))) m,
     )
 data_handable {w} config link l m memory width aligned has_level sized =
@@ -131,7 +117,7 @@ data_handable {w} config link l m memory width aligned has_level sized =
     let long = length-bytes memory m.address (byte_count m) in
     let carried = room_in_beats w m.size m.address width m.small aligned in
     let room = data_room w m.size width m.small in
-    answer_handable config link l d.AccessAckData
+    answer_handable config link l OpD.AccessAckData
     (as_payload (m.address % w) (bytes_from memory m.address (byte_count m))) m has_level refl (acked_with_data l)
     sized
     (payload-long (m.address % w) (2 ^ m.size) (bytes_from memory m.address (byte_count m)) long
@@ -139,63 +125,60 @@ data_handable {w} config link l m memory width aligned has_level sized =
     (payload-zero (m.address % w) (2 ^ m.size) (w * data_beats w m.size) (bytes_from memory m.address (byte_count m))
     long carried room)
 
-hinted : (l : Level) → a_of_level l a.Intent ≡ true → d_of_level l d.HintAck ≡ true
-hinted level.UL e = absurd cc
-hinted level.UH e = refl
-hinted level.C e = refl
+hinted : (l : Level) → a_of_level l OpA.Intent ≡ true → d_of_level l OpD.HintAck ≡ true
+hinted Level.UL e = absurd cc
+hinted v e = refl
 
 -- an atomic isn't of the level UL
-above_ul : {w : ℕ} (l : Level) (opcode : OpA) (m : MessageA w) → a_of_level level.UL opcode ≡ false
+above_ul : {w : ℕ} (l : Level) (opcode : OpA) (m : MessageA w) → a_of_level Level.UL opcode ≡ false
     → a_of_level l opcode ≡ true → access_has_size w l m.size ≡ true
-above_ul level.UL opcode m not_ul e = absurd cc
-above_ul level.UH opcode m not_ul e = le-leb m.size 6 m.small
-above_ul level.C opcode m not_ul e = le-leb m.size 6 m.small
+above_ul Level.UL opcode m not_ul e = absurd cc
+above_ul v opcode m not_ul e = le-leb m.size 6 m.small
 
 pub access_handable : {w : ℕ} (config : Config) (link : Link) (l : Level) (opcode : OpA) (m : MessageA w)
     (memory : Memory) → IsWidth w → m.address % 2 ^ m.size ≡ 0
     → level_of config link.0 ≡ Some l → is_acquire opcode ≡ false → a_of_level l opcode ≡ true
     → a_has_size w l opcode m.size ≡ true
     → IsHandable config (link, access_answer m (answer_of (A m) (access_result opcode m memory)))
-access_handable config link l a.PutFullData m memory width aligned has_level access of_level sized =
-    answer_handable config link l d.AccessAck _ m has_level refl (acked l) sized refl refl
-access_handable config link l a.PutPartialData m memory width aligned has_level access of_level sized =
-    answer_handable config link l d.AccessAck _ m has_level refl (acked l) sized refl refl
-access_handable config link l a.ArithmeticData m memory width aligned has_level access of_level sized =
-    data_handable config link l m memory width aligned has_level (above_ul l a.ArithmeticData m refl of_level)
-access_handable config link l a.LogicalData m memory width aligned has_level access of_level sized =
-    data_handable config link l m memory width aligned has_level (above_ul l a.LogicalData m refl of_level)
-access_handable config link l a.Get m memory width aligned has_level access of_level sized =
+access_handable config link l OpA.PutFullData m memory width aligned has_level access of_level sized =
+    answer_handable config link l OpD.AccessAck _ m has_level refl (acked l) sized refl refl
+access_handable config link l OpA.PutPartialData m memory width aligned has_level access of_level sized =
+    answer_handable config link l OpD.AccessAck _ m has_level refl (acked l) sized refl refl
+access_handable config link l OpA.ArithmeticData m memory width aligned has_level access of_level sized =
+    data_handable config link l m memory width aligned has_level (above_ul l OpA.ArithmeticData m refl of_level)
+access_handable config link l OpA.LogicalData m memory width aligned has_level access of_level sized =
+    data_handable config link l m memory width aligned has_level (above_ul l OpA.LogicalData m refl of_level)
+access_handable config link l OpA.Get m memory width aligned has_level access of_level sized =
     data_handable config link l m memory width aligned has_level sized
-access_handable config link l a.Intent m memory width aligned has_level access of_level sized =
-    answer_handable config link l d.HintAck _ m has_level refl (hinted l of_level) sized refl refl
-access_handable config link l a.AcquireBlock m memory width aligned has_level access of_level sized = absurd cc
-access_handable config link l a.AcquirePerm m memory width aligned has_level access of_level sized = absurd cc
+access_handable config link l OpA.Intent m memory width aligned has_level access of_level sized =
+    answer_handable config link l OpD.HintAck _ m has_level refl (hinted l of_level) sized refl refl
+access_handable config link l v m memory width aligned has_level access of_level sized = absurd cc
 
 -- ---- answers to transfers
 
-pub acquire_level : (l : Level) (opcode : OpA) → is_acquire opcode ≡ true → a_of_level l opcode ≡ true → l ≡ level.C
-acquire_level level.UL a.AcquireBlock e of_level = absurd cc
-acquire_level level.UL a.AcquirePerm e of_level = absurd cc
-acquire_level level.UH a.AcquireBlock e of_level = absurd cc
-acquire_level level.UH a.AcquirePerm e of_level = absurd cc
-acquire_level level.C opcode e of_level = refl
-acquire_level l a.PutFullData e of_level = absurd cc
-acquire_level l a.PutPartialData e of_level = absurd cc
-acquire_level l a.ArithmeticData e of_level = absurd cc
-acquire_level l a.LogicalData e of_level = absurd cc
-acquire_level l a.Get e of_level = absurd cc
-acquire_level l a.Intent e of_level = absurd cc
+pub acquire_level : (l : Level) (opcode : OpA) → is_acquire opcode ≡ true → a_of_level l opcode ≡ true → l ≡ Level.C
+acquire_level Level.UL OpA.AcquireBlock e of_level = absurd cc
+acquire_level Level.UL OpA.AcquirePerm e of_level = absurd cc
+acquire_level Level.UH OpA.AcquireBlock e of_level = absurd cc
+acquire_level Level.UH OpA.AcquirePerm e of_level = absurd cc
+acquire_level Level.C opcode e of_level = refl
+acquire_level l OpA.PutFullData e of_level = absurd cc
+acquire_level l OpA.PutPartialData e of_level = absurd cc
+acquire_level l OpA.ArithmeticData e of_level = absurd cc
+acquire_level l OpA.LogicalData e of_level = absurd cc
+acquire_level l OpA.Get e of_level = absurd cc
+acquire_level l OpA.Intent e of_level = absurd cc
 
 granted_params : (with_data : Bool) (c : Cap) (sink : ℕ)
     → (d_has_param (grant_opcode with_data) (cap_code c) && d_has_sink (grant_opcode with_data) sink) ≡ true
-granted_params true cap.ToT sink = refl
-granted_params true cap.ToB sink = refl
-granted_params true cap.ToN sink = refl
-granted_params false cap.ToT sink = refl
-granted_params false cap.ToB sink = refl
-granted_params false cap.ToN sink = refl
+granted_params true Cap.ToT sink = refl
+granted_params true Cap.ToB sink = refl
+granted_params true Cap.ToN sink = refl
+granted_params false Cap.ToT sink = refl
+granted_params false Cap.ToB sink = refl
+granted_params false Cap.ToN sink = refl
 
-granted_size : (w : ℕ) (with_data : Bool) → d_has_size w level.C (grant_opcode with_data) 6 ≡ true
+granted_size : (w : ℕ) (with_data : Bool) → d_has_size w Level.C (grant_opcode with_data) 6 ≡ true
 granted_size w true = refl
 granted_size w false = refl
 
@@ -207,16 +190,16 @@ grant_filled w true memory block width = (length-bytes memory (64 * block) 64, b
 grant_filled w false memory block width = (refl, refl)
 
 pub grant_handable : {w : ℕ} (config : Config) (s : Service w) (c : Cap) (with_data : Bool) (memory : Memory)
-    → IsWidth w → level_of config s.link.0 ≡ Some level.C
+    → IsWidth w → level_of config s.link.0 ≡ Some Level.C
     → IsHandable config (s.link, grant_with s c with_data memory)
 grant_handable {w} config s c with_data memory width has_level =
     let filled = grant_filled w with_data memory (block_at s.request.address) width in
-    d_handable config s.link level.C _ has_level refl (granted_params with_data c s.tracker) (granted_size w with_data)
+    d_handable config s.link Level.C _ has_level refl (granted_params with_data c s.tracker) (granted_size w with_data)
     refl refl filled.0 filled.1
 
-pub release_handable : {w : ℕ} (config : Config) (link : Link) (source : ℕ) → level_of config link.0 ≡ Some level.C
+pub release_handable : {w : ℕ} (config : Config) (link : Link) (source : ℕ) → level_of config link.0 ≡ Some Level.C
     → IsHandable {w = w} config (link, release_ack source)
-release_handable config link source has_level = d_handable config link level.C _ has_level refl refl refl refl refl refl
+release_handable config link source has_level = d_handable config link Level.C _ has_level refl refl refl refl refl refl
     refl
 
 -- ---- Probes
@@ -228,13 +211,12 @@ full_mask w address (inr (inl e)) = rw e refl
 full_mask w address (inr (inr e)) = rw e refl
 
 probe_control : (c : Cap) (address : ℕ) → address % 64 ≡ 0
-    → b_control level.C b.ProbeBlock (cap_code c) 6 0 address ≡ None
-probe_control cap.ToT address e = rw e refl
-probe_control cap.ToB address e = rw e refl
-probe_control cap.ToN address e = rw e refl
+    → b_control Level.C OpB.ProbeBlock (cap_code c) 6 0 address ≡ None
+probe_control Cap.ToT address e = rw e refl
+probe_control v address e = rw e refl
 
 pub probe_handable : {w : ℕ} (config : Config) (client block : ℕ) (c : Cap) → IsWidth w
-    → level_of config client ≡ Some level.C
+    → level_of config client ≡ Some Level.C
     → nat_le config.blocks block ≡ false → IsHandable {w = w} config (record { 0 = client }, probe_of_block block c)
 probe_handable {w} config client block c width has_level inside =
     let aligned : 64 * block % 64 ≡ 0 = omega arith in
@@ -244,7 +226,7 @@ probe_handable {w} config client block c width has_level inside =
       beats = λ i lt.
           let first : i ≡ 0 = omega arith in
           rw first (record {
-            lawful = rw has_level (illegal_b level.C _ ∙ rw (
+            lawful = rw has_level (illegal_b Level.C _ ∙ rw (
               probe_control c (64 * block) aligned,
               full_mask w
                   (64 * block) width,

@@ -3,10 +3,8 @@ use Rattle.tl_manager.proofs.Imports.{IsWidth, cap_code, OpD, Message, B, D, Cap
 use Rattle.tl_manager.proofs.Imports.{clients_from}
 use Rattle.std.proofs.Common.{◌≡◌, ℕ, zero, suc, ◌+◌, ◌-◌, ◌*◌, ◌%◌, ◌^◌, ◌≤◌, lit≤, inl, inr, Bool, true, false, List}
 use Rattle.std.proofs.Common.{[], ◌∷◌, ◌++◌, add-one, append-nil, refl, sym, ap, ◌∙◌, arith}
-use Rattle.std.specs.Prelude.{if◌then◌else◌}
-use Rattle.std.proofs.Math.Bridge.{le_prop}
+use Rattle.std.{specs.Prelude.if◌then◌else◌, proofs.Math.Bridge.le_prop}
 use Rattle.tl_beat.specs.declared.opcode.OpB.{OpB}
-use Rattle.tl_beat.specs.declared.opcode.OpB.TheVariants as b
 use Rattle.tl_manager.specs.statement.Handing.{no_payload}
 
 -- a message is its fields, whatever shows that its size is small
@@ -62,10 +60,10 @@ full-mask w (inr (inl e)) = rw e refl
 full-mask w (inr (inr e)) = rw e refl
 
 pub probe-made : {w : ℕ} (block : ℕ) (cap : Cap) (param : ℕ) (h : 6 ≤ 6) → IsWidth w → param ≡ cap_code cap
-    → made_b {w = w} b.ProbeBlock param 6 0 (64 * block) no_payload (1 * 2 ^ w % 18446744073709551616 - 1) 0
+    → made_b {w = w} OpB.ProbeBlock param 6 0 (64 * block) no_payload (1 * 2 ^ w % 18446744073709551616 - 1) 0
     h ≡ probe_of_block block cap
 probe-made {w} block cap param h width is =
-    rw (is, full-mask w width) (same-b b.ProbeBlock (cap_code cap) 6 0 (64 * block) no_payload (2 ^ w - 1) 0 h
+    rw (is, full-mask w width) (same-b OpB.ProbeBlock (cap_code cap) 6 0 (64 * block) no_payload (2 ^ w - 1) 0 h
     (lit≤ tt))
 
 -- ---- Probes to one client more

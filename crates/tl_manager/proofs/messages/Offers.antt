@@ -1,14 +1,10 @@
 -- Beats and messages by their fields, and what a manager answers to a list of beats.
 use Rattle.tl_manager.proofs.Imports.{Beat, Link, Channel, OpA, OpC, OpD, a_carries_data, c_carries_data, Message}
 use Rattle.tl_manager.proofs.Imports.{channel_of, Config, Level, Profile, End, fresh, Sent, offered}
-use Rattle.std.proofs.Common.{◌≡◌, refl, lit≤}
+use Rattle.std.{proofs.Common.◌≡◌, proofs.Common.refl, proofs.Common.lit≤, proofs.lemmas.Bool.leb-true}
 use Rattle.std.specs.Prelude.{ℕ, true, false, List, [], ◌∷◌, ◌-◌, ◌^◌, map, nat_le, replicate, Some, None}
-use Rattle.std.proofs.lemmas.Bool.{leb-true}
 use Rattle.tl_beat.specs.declared.beat.Beat.TheVariants.{A, C, D, E}
-use Rattle.tl_beat.specs.declared.opcode.OpA.TheVariants as a
-use Rattle.tl_beat.specs.declared.opcode.OpB.TheVariants as b
-use Rattle.tl_beat.specs.declared.opcode.OpD.TheVariants as d
-use Rattle.tl_burst.specs.declared.message.Message.TheVariants as message
+use Rattle.tl_beat.specs.declared.opcode.OpB.{OpB}
 use Rattle.tl_manager.specs.statement.Offer.{Reception}
 
 -- a manager of this many blocks and trackers, whose links have these levels
@@ -84,18 +80,18 @@ request_of_data opcode carries param size address mask lanes =
     })
 
 abbrev pub get : {w : ℕ} → ℕ → ℕ → ℕ → Beat w
-get {w} source size address = request a.Get refl 0 size source address (2 ^ w - 1)
+get {w} source size address = request OpA.Get refl 0 size source address (2 ^ w - 1)
 
 abbrev pub acquire : {w : ℕ} → ℕ → ℕ → Beat w
-acquire {w} grow address = request a.AcquireBlock refl grow 6 0 address (2 ^ w - 1)
+acquire {w} grow address = request OpA.AcquireBlock refl grow 6 0 address (2 ^ w - 1)
 
 abbrev pub acquire_whole : {w : ℕ} → ℕ → ℕ → Beat w
-acquire_whole {w} grow address = request a.AcquirePerm refl grow 6 0 address (2 ^ w - 1)
+acquire_whole {w} grow address = request OpA.AcquirePerm refl grow 6 0 address (2 ^ w - 1)
 
 -- a beat of a Put of a block of ones
 abbrev pub put_block : ℕ → Beat 8
 put_block source = A (record {
-  opcode = a.PutFullData;
+  opcode = OpA.PutFullData;
   param = 0;
   size = 6;
   source = source;
@@ -110,7 +106,7 @@ put_block source = A (record {
 -- a Put of 8 bytes whose beat is corrupt
 abbrev pub corrupted : ℕ → Beat 8
 corrupted address = A (record {
-  opcode = a.PutFullData;
+  opcode = OpA.PutFullData;
   param = 0;
   size = 3;
   source = 0;
@@ -124,7 +120,7 @@ corrupted address = A (record {
 
 abbrev pub access_ack : Beat 8
 access_ack = D (record {
-  opcode = d.AccessAck;
+  opcode = OpD.AccessAck;
   param = 0;
   size = 0;
   source = 0;
@@ -178,7 +174,7 @@ said link m = Sent (to link m ∷ [])
 
 abbrev pub on_d : {w : ℕ} → OpD → ℕ → ℕ → ℕ → List ℕ → Message w
 on_d opcode param source sink payload =
-    message.D (record {
+    Message.D (record {
       opcode = opcode;
       param = param;
       size = 6;
@@ -201,7 +197,7 @@ block_from byte = byte ∷ replicate 63 0
 -- the answer to an access of this size
 abbrev pub answer : {w : ℕ} → OpD → (size : ℕ) → nat_le size 6 ≡ true → List ℕ → Message w
 answer opcode size fits payload =
-    message.D (record {
+    Message.D (record {
       opcode = opcode;
       param = 0;
       size = size;
@@ -215,18 +211,18 @@ answer opcode size fits payload =
     })
 
 abbrev pub grant_data : {w : ℕ} → ℕ → ℕ → List ℕ → Message w
-grant_data cap sink payload = on_d d.GrantData cap 0 sink payload
+grant_data cap sink payload = on_d OpD.GrantData cap 0 sink payload
 
 abbrev pub grant : {w : ℕ} → ℕ → ℕ → Message w
-grant cap sink = on_d d.Grant cap 0 sink zeros
+grant cap sink = on_d OpD.Grant cap 0 sink zeros
 
 abbrev pub release_ack : {w : ℕ} → Message w
-release_ack = on_d d.ReleaseAck 0 0 0 zeros
+release_ack = on_d OpD.ReleaseAck 0 0 0 zeros
 
 -- a Probe of block 0
 abbrev pub probe : {w : ℕ} → ℕ → Message w
-probe {w} cap = message.B (record {
-  opcode = b.ProbeBlock;
+probe {w} cap = Message.B (record {
+  opcode = OpB.ProbeBlock;
   param = cap;
   size = 6;
   source = 0;

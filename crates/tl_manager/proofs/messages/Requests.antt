@@ -7,19 +7,14 @@ use Rattle.std.proofs.Common.{◌≡◌, ℕ, suc, ◌+◌, ◌-◌, ◌*◌, �
 use Rattle.std.proofs.Common.{Option, Some, None, refl, sym, ap, ◌∙◌, arith}
 use Rattle.std.specs.Prelude.{nat_le, is_some, IfSome, unwrap_or, replicate, if◌then◌else◌}
 use Rattle.std.proofs.lemmas.List.{drop_at, length-append, length-replicate}
-use Rattle.std.proofs.lemmas.Nat.{pow_pos}
-use Rattle.std.proofs.lemmas.Bool.{leb-true}
-use Rattle.tl_beat.specs.declared.beat.Beat.TheVariants as beat
-use Rattle.tl_beat.specs.declared.channel.Channel.TheVariants as channel
-use Rattle.tl_rules.specs.statement.Admission.{bytes_carried, lanes_of}
-use Rattle.tl_rules.proofs.Checks.{beats_room}
-use Rattle.tl_rules.proofs.Legal.{legal_from_beats}
-use Rattle.tl_manager.specs.code.Kept.{IsLike}
-use Rattle.tl_manager.specs.statement.Request.{mask_of, corrupt_of}
-use Rattle.tl_manager.proofs.messages.Lawful.{no_bit}
-use Rattle.tl_manager.proofs.words_of_clients.Lists.{each_weaker}
+use Rattle.std.{proofs.lemmas.Nat.pow_pos, proofs.lemmas.Bool.leb-true}
+use Rattle.tl_beat.specs.declared.channel.Channel.{Channel}
+use Rattle.tl_rules.{specs.statement.Admission.bytes_carried, specs.statement.Admission.lanes_of}
+use Rattle.tl_rules.{proofs.Checks.beats_room, proofs.Legal.legal_from_beats}
+use Rattle.tl_manager.{specs.code.Kept.IsLike, specs.statement.Request.mask_of, specs.statement.Request.corrupt_of}
+use Rattle.tl_manager.{proofs.messages.Lawful.no_bit, proofs.words_of_clients.Lists.each_weaker}
+use Rattle.tl_manager.{proofs.messages.Sound.leveled}
 use Rattle.tl_manager.proofs.words_of_clients.Masks.{legal-narrow, masks-below, each_mask}
-use Rattle.tl_manager.proofs.messages.Sound.{leveled}
 
 -- the beats of one request, all of which are sound
 pub record IsWhole {w : ℕ} (config : Config) (link : Link) (x : BeatA w) (y : Beat w) : Type 0 where
@@ -30,16 +25,16 @@ pub record IsWhole {w : ℕ} (config : Config) (link : Link) (x : BeatA w) (y : 
 
 lanes_length : {w : ℕ} (x : BeatA w) (y : Beat w) (carries : Bool) → a_carries_data x.opcode ≡ carries → IsLike x y
     → IsTyped y → length (lanes_of y) ≡ (if carries then w else 0)
-lanes_length {w} x (beat.A y) carries e like typed = go y.lanes (y.carries ∙ ap a_carries_data like.0 ∙ e) typed.1
+lanes_length {w} x (Beat.A y) carries e like typed = go y.lanes (y.carries ∙ ap a_carries_data like.0 ∙ e) typed.1
   where
     go : (o : Option (List ℕ)) → is_some o ≡ carries → IfSome o (λ lanes. length lanes ≡ w)
         → length (unwrap_or o []) ≡ (if carries then w else 0)
     go (Some lanes) some long = rw (← some) long
     go None none long = rw (← none) refl
-lanes_length x (beat.B y) carries e like typed = absurd like
-lanes_length x (beat.C y) carries e like typed = absurd like
-lanes_length x (beat.D y) carries e like typed = absurd like
-lanes_length x (beat.E y) carries e like typed = absurd like
+lanes_length x (Beat.B y) carries e like typed = absurd like
+lanes_length x (Beat.C y) carries e like typed = absurd like
+lanes_length x (Beat.D y) carries e like typed = absurd like
+lanes_length x (Beat.E y) carries e like typed = absurd like
 
 bytes_length : {w : ℕ} (beats : List (Beat w)) (n : ℕ) → Each (λ y. length (lanes_of y) ≡ n) beats
     → length (bytes_carried beats) ≡ n * length beats
@@ -87,33 +82,27 @@ payload_filled {w} config link x beats carries e room each =
 
 beat_narrow : {w : ℕ} (config : Config) (link : Link) (x : BeatA w) (y : Beat w) → IsWidth w → IsWhole config link x y
     → mask_of y < 2 ^ w
-beat_narrow config link x (beat.A y) width ok =
-    let l = leveled (level_of config link.0) (beat.A y) ok.sound.lawful in
+beat_narrow config link x (Beat.A y) width ok =
+    let l = leveled (level_of config link.0) (Beat.A y) ok.sound.lawful in
     legal-narrow l.0 y width ok.sound.typed.0 l.2
-beat_narrow config link x (beat.B y) width ok = absurd ok.like
-beat_narrow config link x (beat.C y) width ok = absurd ok.like
-beat_narrow config link x (beat.D y) width ok = absurd ok.like
-beat_narrow config link x (beat.E y) width ok = absurd ok.like
+beat_narrow config link x v width ok = absurd ok.like
 
 beat_own : {w : ℕ} (config : Config) (link : Link) (l : Level) (x : BeatA w) (y : Beat w)
     → level_of config link.0 ≡ Some l → IsWhole config link x y
     → a_own w x.opcode x.size x.address (mask_of y) false ≡ None
-beat_own {w} config link l x (beat.A y) has_level ok =
-    let legal : illegal l channel.A (beat.A y) ≡ None = rw has_level at ok.sound.lawful in
+beat_own {w} config link l x (Beat.A y) has_level ok =
+    let legal : illegal l Channel.A (Beat.A y) ≡ None = rw has_level at ok.sound.lawful in
     let own = (both_none (a_control w l y.opcode y.param y.size y.address)
     (a_own w y.opcode y.size y.address y.mask y.corrupt) (sym (illegal_a l y) ∙ legal)).1 in
     rw (ok.like.0, ok.like.1, ok.like.2, ok.sound.clean) at own
-beat_own config link l x (beat.B y) has_level ok = absurd ok.like
-beat_own config link l x (beat.C y) has_level ok = absurd ok.like
-beat_own config link l x (beat.D y) has_level ok = absurd ok.like
-beat_own config link l x (beat.E y) has_level ok = absurd ok.like
+beat_own config link l x (Beat.B y) has_level ok = absurd ok.like
+beat_own config link l x (Beat.C y) has_level ok = absurd ok.like
+beat_own config link l x (Beat.D y) has_level ok = absurd ok.like
+beat_own config link l x (Beat.E y) has_level ok = absurd ok.like
 
 beat_clean : {w : ℕ} (y : Beat w) → is_spoiled y ≡ false → corrupt_of y ≡ 0
-beat_clean (beat.A y) e = rw e refl
-beat_clean (beat.B y) e = refl
-beat_clean (beat.C y) e = refl
-beat_clean (beat.D y) e = refl
-beat_clean (beat.E y) e = refl
+beat_clean (Beat.A y) e = rw e refl
+beat_clean v e = refl
 
 none_corrupt : {w : ℕ} (beats : List (Beat w)) → Each (λ y. is_spoiled y ≡ false) beats → corrupt_carried beats ≡ 0
 unfolding corrupt_carried
@@ -137,9 +126,9 @@ made_of x beats fits = record {
 
 legal_beat : {w : ℕ} (config : Config) (link : Link) (l : Level) (x : BeatA w) (beats : List (Beat w))
     (fits : nat_le x.size 6 ≡ true) (i : ℕ) → IsWidth w → level_of config link.0 ≡ Some l
-    → illegal l channel.A (beat.A x) ≡ None → Each (IsWhole config link x) beats
+    → illegal l Channel.A (Beat.A x) ≡ None → Each (IsWhole config link x) beats
     → length beats ≡ beats_of (A (made_of x beats fits)) → i < length beats
-    → illegal l channel.A (beat.A (a_beat_of (made_of x beats fits) i)) ≡ None
+    → illegal l Channel.A (Beat.A (a_beat_of (made_of x beats fits) i)) ≡ None
 legal_beat {w} config link l x beats fits i width has_level legal each long lt =
     let control = (both_none (a_control w l x.opcode x.param x.size x.address)
     (a_own w x.opcode x.size x.address x.mask x.corrupt) (sym (illegal_a l x) ∙ legal)).0 in
@@ -156,18 +145,18 @@ legal_beat {w} config link l x beats fits i width has_level legal each long lt =
 
 -- the service of a request that has these beats
 pub performable : {w : ℕ} (config : Config) (link : Link) (x : BeatA w) (beats : List (Beat w)) (tracker : ℕ)
-    (fits : nat_le x.size 6 ≡ true) → IsWidth w → IsSound config (link, beat.A x)
-    → Each (IsWhole config link x) beats → length beats ≡ burst_length (beat.A x)
+    (fits : nat_le x.size 6 ≡ true) → IsWidth w → IsSound config (link, Beat.A x)
+    → Each (IsWhole config link x) beats → length beats ≡ burst_length (Beat.A x)
     → IsPerformable config (record { tracker = tracker; link = link; request = made_of x beats fits })
 performable {w} config link x beats tracker fits width ok each long =
-    let l = leveled (level_of config link.0) (beat.A x) ok.lawful in
+    let l = leveled (level_of config link.0) (Beat.A x) ok.lawful in
     let clean : corrupt_carried beats ≡ 0 =
     none_corrupt beats (each_weaker (IsWhole config link x) (λ y. is_spoiled y ≡ false) beats
     (λ y whole. whole.sound.clean) each) in
     let below = masks-below beats (each_weaker (IsWhole config link x) (λ y. mask_of y < 2 ^ w) beats
     (λ y whole. beat_narrow config link x y width whole) each) in
     record {
-      lawful = rw l.1 (legal_from_beats l.0 channel.A (A (made_of x beats fits))
+      lawful = rw l.1 (legal_from_beats l.0 Channel.A (A (made_of x beats fits))
           (λ i lt. legal_beat config link l.0 x beats fits i width l.1 l.2 each long (rw long lt)));
       blank = (
         payload_blank config link x beats (beats_of (A (made_of x beats fits))) (a_carries_data x.opcode) refl long

@@ -9,8 +9,6 @@ use Rattle.std.proofs.Common.{refl, sym, ap, ◌∙◌}
 use Rattle.std.specs.Prelude.{nat_le, option_map, if◌then◌else◌, unwrap_or}
 use Rattle.std.proofs.lemmas.Bool.{eqb-true}
 use Rattle.tl_beat.specs.declared.beat.Beat.TheVariants.{A, B, C, D, E}
-use Rattle.tl_beat.specs.declared.opcode.OpD.TheVariants as d
-use Rattle.tl_params.specs.declared.level.Level.TheVariants as level
 use Rattle.tl_rules.specs.statement.Legality.{has_transfers, d_of_level}
 use Rattle.tl_manager.proofs.words_of_clients.Lists.{each_filter, each_weaker}
 
@@ -89,21 +87,20 @@ sound_on_link {w} config client (x ∷ t) each = go (x.0.0 == client) refl (soun
     go true e rest = (subst (λ (n : ℕ). IsSound config (record { 0 = n }, x.1)) (eqb-true x.0.0 client e) each.0, rest)
     go false e rest = rest
 
-pub transfers_level : (l : Level) → not (has_transfers l) ≡ false → l ≡ level.C
-transfers_level level.UL e = absurd cc
-transfers_level level.UH e = absurd cc
-transfers_level level.C e = refl
+pub transfers_level : (l : Level) → not (has_transfers l) ≡ false → l ≡ Level.C
+transfers_level Level.C e = refl
+transfers_level v e = absurd cc
 
-grant_level : (l : Level) (opcode : OpD) → is_grant opcode ≡ true → not (d_of_level l opcode) ≡ false → l ≡ level.C
-grant_level level.UL d.Grant e f = absurd cc
-grant_level level.UL d.GrantData e f = absurd cc
-grant_level level.UH d.Grant e f = absurd cc
-grant_level level.UH d.GrantData e f = absurd cc
-grant_level level.C opcode e f = refl
-grant_level l d.AccessAck e f = absurd cc
-grant_level l d.AccessAckData e f = absurd cc
-grant_level l d.HintAck e f = absurd cc
-grant_level l d.ReleaseAck e f = absurd cc
+grant_level : (l : Level) (opcode : OpD) → is_grant opcode ≡ true → not (d_of_level l opcode) ≡ false → l ≡ Level.C
+grant_level Level.UL OpD.Grant e f = absurd cc
+grant_level Level.UL OpD.GrantData e f = absurd cc
+grant_level Level.UH OpD.Grant e f = absurd cc
+grant_level Level.UH OpD.GrantData e f = absurd cc
+grant_level Level.C opcode e f = refl
+grant_level l OpD.AccessAck e f = absurd cc
+grant_level l OpD.AccessAckData e f = absurd cc
+grant_level l OpD.HintAck e f = absurd cc
+grant_level l OpD.ReleaseAck e f = absurd cc
 
 -- the level of a beat that breaks no L rule has its opcode
 pub past_l1 : {w : ℕ} (l : Level) (x : Beat w) → illegal l (channel_of x) x ≡ None
@@ -112,7 +109,7 @@ unfolding illegal
 past_l1 l x e = (next_rule (breaks_l1 l (channel_of x) x) L1 _ e).0
 
 says_level : {w : ℕ} (o : Option Level) (k : ℕ) (x : Beat w) (t : History w) (p : Perm) → illegal_at o x ≡ None
-    → says_held k x t ≡ Some p → o ≡ Some level.C
+    → says_held k x t ≡ Some p → o ≡ Some Level.C
 says_level o k (A x) t p e says = absurd cc
 says_level o k (B x) t p e says = absurd cc
 says_level o k (C x) t p e says =
@@ -129,20 +126,19 @@ says_level o k (E x) t p e says = absurd cc
 
 -- a client that holds anything has a link of the level C
 pub copy_level : {w : ℕ} (o : Option Level) (k : ℕ) (t : History w) → Each (λ x. illegal_at o x ≡ None) t
-    → has_copy (held k t) ≡ true → o ≡ Some level.C
+    → has_copy (held k t) ≡ true → o ≡ Some Level.C
 unfolding held
 copy_level o k [] each copy = absurd cc
 copy_level o k (x ∷ t) each copy = go (ends x t) (says_held k x t) (copy_level o k t each.1) refl copy
   where
-    go : (b : Bool) (said : Option Perm) → (has_copy (held k t) ≡ true → o ≡ Some level.C) → says_held k x t ≡ said
+    go : (b : Bool) (said : Option Perm) → (has_copy (held k t) ≡ true → o ≡ Some Level.C) → says_held k x t ≡ said
         → has_copy (if b then unwrap_or said (held k t) else held k t) ≡ true
-        → o ≡ Some level.C
+        → o ≡ Some Level.C
     go true (Some p) before e f = says_level o k x t p each.0 e
-    go true None before e f = before f
-    go false said before e f = before f
+    go v u before e f = before f
 
 pub holder_level : {w : ℕ} (config : Config) (client block : ℕ) (t : Trace w) → Each (IsSound config) t
-    → has_copy (recorded client block t) ≡ true → level_of config client ≡ Some level.C
+    → has_copy (recorded client block t) ≡ true → level_of config client ≡ Some Level.C
 holder_level config client block t each copy =
     copy_level (level_of config client) block (on_link client t)
     (each_weaker (λ x. IsSound config (record { 0 = client }, x)) (λ x. illegal_at (level_of config client) x ≡ None)

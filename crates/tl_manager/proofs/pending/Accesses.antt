@@ -5,47 +5,38 @@ use Rattle.tl_manager.proofs.Imports.{is_release_ack, pending, never, count_wher
 use Rattle.tl_manager.proofs.Imports.{is_granted_to, IsNamed, IsHandled, IsAccounted, Service, services}
 use Rattle.tl_manager.proofs.Imports.{service_of_block, is_access_answer, is_ended_by}
 use Rattle.std.proofs.Common.{◌≡◌, ℕ, ◌==◌, Bool, true, false, not, ◌&&◌, [], None, refl, sym, ap, subst, ◌∙◌}
-use Rattle.std.specs.Prelude.{filter, if◌then◌else◌}
+use Rattle.std.{specs.Prelude.filter, specs.Prelude.if◌then◌else◌, specs.Cmp.both_ways}
 use Rattle.std.proofs.lemmas.Bool.{eqb-true, eq-eqb, and_parts}
-use Rattle.tl_beat.specs.declared.channel.Channel.TheVariants as channel
-use Rattle.tl_beat.specs.declared.opcode.OpD.TheVariants as d
+use Rattle.tl_beat.specs.declared.channel.Channel.{Channel}
 use Rattle.tl_manager.proofs.words_of_clients.Counts.{count-filter, counted-kept, filter-same, each_both, same_block}
 use Rattle.tl_manager.proofs.words_of_clients.Counts.{serving-without}
-use Rattle.tl_manager.proofs.services.Ended.{services-sent}
-use Rattle.tl_manager.proofs.pending.Handed.{after_sent}
-use Rattle.tl_manager.proofs.pending.Probes.{filter-all}
+use Rattle.tl_manager.{proofs.services.Ended.services-sent, proofs.pending.Handed.after_sent}
+use Rattle.tl_manager.{proofs.pending.Probes.filter-all}
 use Rattle.tl_manager.proofs.pending.Replied.{IsReply, asks-alone, asks_else, block_served, sources-reply}
 use Rattle.tl_manager.proofs.pending.Replies.{reply-quiet, burst-reply, reports-reply, request-reply, probe-reply}
 use Rattle.tl_manager.proofs.pending.Replies.{sink-reply}
 use Rattle.tl_manager.proofs.blocks.Unmoved.{IsSame, handled-same, begun-kept, accounted-kept}
-use Rattle.std.specs.Cmp.{both_ways}
 
 pub answer_kind : (opcode : OpD) → is_access_answer opcode ≡ true → is_grant opcode ≡ false
-answer_kind d.AccessAck e = refl
-answer_kind d.AccessAckData e = refl
-answer_kind d.HintAck e = refl
-answer_kind d.Grant e = absurd cc
-answer_kind d.GrantData e = absurd cc
-answer_kind d.ReleaseAck e = absurd cc
+answer_kind OpD.AccessAck e = refl
+answer_kind OpD.AccessAckData e = refl
+answer_kind OpD.HintAck e = refl
+answer_kind v e = absurd cc
 
 ack_kind : (opcode : OpD) → is_release_ack opcode ≡ true → (is_grant opcode ≡ false) × (is_access_answer opcode ≡ false)
-ack_kind d.AccessAck e = absurd cc
-ack_kind d.AccessAckData e = absurd cc
-ack_kind d.HintAck e = absurd cc
-ack_kind d.Grant e = absurd cc
-ack_kind d.GrantData e = absurd cc
-ack_kind d.ReleaseAck e = (refl, refl)
+ack_kind OpD.ReleaseAck e = (refl, refl)
+ack_kind v e = absurd cc
 
 -- what a message of channel D that is no Grant leaves
 pub granted-still : {w : ℕ} (link : Link) (m : MessageD w) (t : Trace w) (v : Service w) → IsWidth w
-    → unfinished channel.D (on_link link.0 t) ≡ [] → is_grant m.opcode ≡ false
+    → unfinished Channel.D (on_link link.0 t) ≡ [] → is_grant m.opcode ≡ false
     → is_granted (after_sent link (D m) t) v ≡ is_granted t v
 granted-still link m t v width none other =
     ap (λ b. is_acquire v.request.opcode && b) (reply-quiet (GrantSink v.tracker) link m t v.link.0 width none
     (λ e. (rw other refl, refl)))
 
 same-still : {w : ℕ} (link : Link) (m : MessageD w) (t : Trace w) (k : ℕ) → IsWidth w
-    → unfinished channel.D (on_link link.0 t) ≡ [] → is_grant m.opcode ≡ false
+    → unfinished Channel.D (on_link link.0 t) ≡ [] → is_grant m.opcode ≡ false
     → service_of_block k (services (after_sent link (D m) t)) ≡ service_of_block k (services t)
     → IsSame k t (after_sent link (D m) t)
 same-still link m t k width none other serves = record {
@@ -62,7 +53,7 @@ same-still link m t k width none other serves = record {
 -- ---- a ReleaseAck
 
 pub services-release_ack : {w : ℕ} (link : Link) (m : MessageD w) (t : Trace w) → IsWidth w
-    → unfinished channel.D (on_link link.0 t) ≡ [] → is_release_ack m.opcode ≡ true
+    → unfinished Channel.D (on_link link.0 t) ≡ [] → is_release_ack m.opcode ≡ true
     → services (after_sent link (D m) t) ≡ services t
 services-release_ack {w} link m t width none ack =
     services-sent link (D m) t width refl none
@@ -70,7 +61,7 @@ services-release_ack {w} link m t width none ack =
     (λ v. rw ((ack_kind m.opcode ack).1) (ap not (never (v.link.0 == link.0))))
 
 pub accounted-release_ack : {w : ℕ} (link : Link) (m : MessageD w) (t : Trace w) → IsWidth w
-    → unfinished channel.D (on_link link.0 t) ≡ [] → is_release_ack m.opcode ≡ true → IsAccounted t
+    → unfinished Channel.D (on_link link.0 t) ≡ [] → is_release_ack m.opcode ≡ true → IsAccounted t
     → IsAccounted (after_sent link (D m) t)
 accounted-release_ack {w} link m t width none ack ok =
     let other = (ack_kind m.opcode ack).0 in

@@ -9,57 +9,55 @@ use Rattle.std.proofs.Common.{◌≡◌, ℕ, ◌==◌, Bool, true, false, not, 
 use Rattle.std.proofs.Common.{subst, ◌∙◌}
 use Rattle.std.specs.Prelude.{filter, if◌then◌else◌}
 use Rattle.std.proofs.lemmas.Bool.{eqb-true, eq-eqb, and_parts, or_parts, not-false}
-use Rattle.tl_beat.specs.declared.beat.Beat.TheVariants as beat
-use Rattle.tl_beat.specs.declared.channel.Channel.TheVariants as channel
+use Rattle.tl_beat.{specs.declared.beat.Beat.Beat, specs.declared.channel.Channel.Channel}
 use Rattle.tl_params.specs.declared.rule.Rule.TheVariants.{H8}
-use Rattle.tl_rules.specs.statement.Conformance.{comes_in_grant}
-use Rattle.tl_rules.specs.statement.History.{is_sink}
+use Rattle.tl_rules.{specs.statement.Conformance.comes_in_grant, specs.statement.History.is_sink}
 use Rattle.tl_manager.proofs.words_of_clients.Counts.{count-same, count-filter, all-each}
 use Rattle.tl_manager.proofs.pending.LinkHistories.{own_beat, other_beat, beat-keeps, pending-closed, whole-e}
 use Rattle.tl_manager.proofs.services.Serving.{if_passes, serving-filter, some_is}
 use Rattle.tl_manager.proofs.blocks.Unmoved.{IsSame, handled-same, begun-kept, reports-kept}
 
-pub request_of-e : {w : ℕ} (q : ℕ) (x : BeatE) (t : History w) → request_of q (beat.E x ∷ t) ≡ request_of q t
+pub request_of-e : {w : ℕ} (q : ℕ) (x : BeatE) (t : History w) → request_of q (Beat.E x ∷ t) ≡ request_of q t
 unfolding request_of
 request_of-e q x t = refl
 
-pub grant_sink-e : {w : ℕ} (k : ℕ) (x : BeatE) (t : History w) → grant_sink k (beat.E x ∷ t) ≡ grant_sink k t
+pub grant_sink-e : {w : ℕ} (k : ℕ) (x : BeatE) (t : History w) → grant_sink k (Beat.E x ∷ t) ≡ grant_sink k t
 unfolding grant_sink
 grant_sink-e k x t = refl
 
-pub probe_of-e : {w : ℕ} (k : ℕ) (x : BeatE) (t : History w) → probe_of k (beat.E x ∷ t) ≡ probe_of k t
+pub probe_of-e : {w : ℕ} (k : ℕ) (x : BeatE) (t : History w) → probe_of k (Beat.E x ∷ t) ≡ probe_of k t
 unfolding probe_of
 probe_of-e k x t = refl
 
-pub burst-e : {w : ℕ} (x : BeatE) (t : History w) → unfinished channel.A (beat.E x ∷ t) ≡ unfinished channel.A t
+pub burst-e : {w : ℕ} (x : BeatE) (t : History w) → unfinished Channel.A (Beat.E x ∷ t) ≡ unfinished Channel.A t
 unfolding unfinished
 burst-e x t = refl
 
-burst-ec : {w : ℕ} (x : BeatE) (t : History w) → unfinished channel.C (beat.E x ∷ t) ≡ unfinished channel.C t
+burst-ec : {w : ℕ} (x : BeatE) (t : History w) → unfinished Channel.C (Beat.E x ∷ t) ≡ unfinished Channel.C t
 unfolding unfinished
 burst-ec x t = refl
 
 -- a GrantAck that breaks no rule is of a sink whose Grant was handed out
-pub acked-sink : {w : ℕ} (p : Profile) (x : BeatE) (h : History w) → broken_in_order p (beat.E x) h ≡ None
+pub acked-sink : {w : ℕ} (p : Profile) (x : BeatE) (h : History w) → broken_in_order p (Beat.E x) h ≡ None
     → pending (GrantSink x.sink) h ≡ true
 unfolding broken_order
 acked-sink {w} p x h order =
     let first = (whole-e {w = w} x h).0 in
     let rules = rw first at order in
-    let late = (next_rule (not (pending (GrantSink x.sink) h) || comes_in_grant x.sink (unfinished channel.D h)) H8 None
+    let late = (next_rule (not (pending (GrantSink x.sink) h) || comes_in_grant x.sink (unfinished Channel.D h)) H8 None
     rules).0 in
     not-false (pending (GrantSink x.sink) h)
-    (or_parts (not (pending (GrantSink x.sink) h)) (comes_in_grant x.sink (unfinished channel.D h)) late).0
+    (or_parts (not (pending (GrantSink x.sink) h)) (comes_in_grant x.sink (unfinished Channel.D h)) late).0
 
 -- the services after it
 pub services-e : {w : ℕ} (link : Link) (x : BeatE) (t : Trace w)
-    → services ((link, beat.E x) ∷ t) ≡ filter (λ s. not (is_ended_by (link, beat.E x) s)) (services t)
+    → services ((link, Beat.E x) ∷ t) ≡ filter (λ s. not (is_ended_by (link, Beat.E x) s)) (services t)
 unfolding services
 services-e {w} link x t = rw ((whole-e {w = w} x (on_link link.0 t)).1) refl
 
 -- the service that it ends was granted
 ended-granted : {w : ℕ} (link : Link) (x : BeatE) (t : Trace w) (s : Service w)
-    → pending (GrantSink x.sink) (on_link link.0 t) ≡ true → is_ended_by (link, beat.E x) s ≡ true
+    → pending (GrantSink x.sink) (on_link link.0 t) ≡ true → is_ended_by (link, Beat.E x) s ≡ true
     → is_granted t s ≡ true
 ended-granted link x t s pends e =
     let p = and_parts (s.link.0 == link.0) (is_acquire s.request.opcode && (s.tracker == x.sink)) e in
@@ -68,16 +66,16 @@ ended-granted link x t s pends e =
 
 -- and another one is granted as before
 pub granted-left : {w : ℕ} (link : Link) (x : BeatE) (t : Trace w) (s : Service w)
-    → is_ended_by (link, beat.E x) s ≡ false → is_granted ((link, beat.E x) ∷ t) s ≡ is_granted t s
+    → is_ended_by (link, Beat.E x) s ≡ false → is_granted ((link, Beat.E x) ∷ t) s ≡ is_granted t s
 granted-left {w} link x t s e = go (is_acquire s.request.opcode) (link.0 == s.link.0) refl refl
   where
     u : Trace w
-    u = (link, beat.E x) ∷ t
+    u = (link, Beat.E x) ∷ t
 
     apart : (b : Bool) → (x.sink == s.tracker) ≡ b → is_acquire s.request.opcode ≡ true → (link.0 == s.link.0) ≡ true
         → b ≡ false
     apart true f acquires here = absurd (
-        let ended : is_ended_by (link, beat.E x) s ≡ true =
+        let ended : is_ended_by (link, Beat.E x) s ≡ true =
         rw (
           acquires,
           eq-eqb s.link.0 link.0 (sym (eqb-true link.0 s.link.0 here)),
@@ -95,13 +93,13 @@ granted-left {w} link x t s e = go (is_acquire s.request.opcode) (link.0 == s.li
         → (acquires && pending (GrantSink s.tracker) (on_link s.link.0 u)) ≡ (acquires && pending (GrantSink s.tracker)
         (on_link s.link.0 t))
     go false here f g = refl
-    go true false f g = ap (pending (GrantSink s.tracker)) (other_beat s.link.0 link (beat.E x) t g)
+    go true false f g = ap (pending (GrantSink s.tracker)) (other_beat s.link.0 link (Beat.E x) t g)
     go true true f g =
-        ap (pending (GrantSink s.tracker)) (own_beat s.link.0 link (beat.E x) t g) ∙ pending-closed
-        (GrantSink s.tracker) (beat.E x) (on_link s.link.0 t) refl
-        ∙ ap (λ b. if ends {w = w} (beat.E x) (on_link s.link.0 t) && b then false else pending (GrantSink s.tracker)
+        ap (pending (GrantSink s.tracker)) (own_beat s.link.0 link (Beat.E x) t g) ∙ pending-closed
+        (GrantSink s.tracker) (Beat.E x) (on_link s.link.0 t) refl
+        ∙ ap (λ b. if ends {w = w} (Beat.E x) (on_link s.link.0 t) && b then false else pending (GrantSink s.tracker)
         (on_link s.link.0 t)) (apart (x.sink == s.tracker) refl f g)
-        ∙ closes_none (ends {w = w} (beat.E x) (on_link s.link.0 t))
+        ∙ closes_none (ends {w = w} (Beat.E x) (on_link s.link.0 t))
         (pending (GrantSink s.tracker) (on_link s.link.0 t))
 
 -- ---- a block
@@ -110,61 +108,59 @@ granted-left {w} link x t s e = go (is_acquire s.request.opcode) (link.0 == s.li
 ack-kept : {w : ℕ} (link : Link) (x : BeatE) (t : Trace w) (k c : ℕ)
     → ((link.0 == c) ≡ true → pending (GrantAckOf k) (on_link c t) ≡ true
     → is_sink x.sink (grant_sink k (on_link c t)) ≡ false)
-    → pending (GrantAckOf k) (on_link c ((link, beat.E x) ∷ t)) ≡ pending (GrantAckOf k) (on_link c t)
+    → pending (GrantAckOf k) (on_link c ((link, Beat.E x) ∷ t)) ≡ pending (GrantAckOf k) (on_link c t)
 ack-kept {w} link x t k c other = go (link.0 == c) refl
   where
     left : (last closed before : Bool) → (before ≡ true → closed ≡ false)
         → (if last && closed then false else before) ≡ before
     left true true true free = absurd (let no = free refl in cc)
-    left true true false free = refl
-    left true false before free = refl
-    left false closed before free = refl
+    left v u y free = refl
 
-    go : (b : Bool) → (link.0 == c) ≡ b → pending (GrantAckOf k) (on_link c ((link, beat.E x) ∷ t)) ≡ pending
+    go : (b : Bool) → (link.0 == c) ≡ b → pending (GrantAckOf k) (on_link c ((link, Beat.E x) ∷ t)) ≡ pending
         (GrantAckOf k) (on_link c t)
     go true e =
-        ap (pending (GrantAckOf k)) (own_beat c link (beat.E x) t e) ∙ pending-closed (GrantAckOf k) (beat.E x)
+        ap (pending (GrantAckOf k)) (own_beat c link (Beat.E x) t e) ∙ pending-closed (GrantAckOf k) (Beat.E x)
         (on_link c t) refl
-        ∙ left (ends {w = w} (beat.E x) (on_link c t)) (is_sink x.sink (grant_sink k (on_link c t)))
+        ∙ left (ends {w = w} (Beat.E x) (on_link c t)) (is_sink x.sink (grant_sink k (on_link c t)))
         (pending (GrantAckOf k) (on_link c t)) (other e)
-    go false e = ap (pending (GrantAckOf k)) (other_beat c link (beat.E x) t e)
+    go false e = ap (pending (GrantAckOf k)) (other_beat c link (Beat.E x) t e)
 
 same-e : {w : ℕ} (link : Link) (x : BeatE) (t : Trace w) (k : ℕ)
-    → service_of_block k (services ((link, beat.E x) ∷ t)) ≡ service_of_block k (services t)
-    → ((s : Service w) → service_of_block k (services t) ≡ Some s → is_ended_by (link, beat.E x) s ≡ false)
-    → ((c : ℕ) → pending (GrantAckOf k) (on_link c ((link, beat.E x) ∷ t)) ≡ pending (GrantAckOf k) (on_link c t))
-    → IsSame k t ((link, beat.E x) ∷ t)
+    → service_of_block k (services ((link, Beat.E x) ∷ t)) ≡ service_of_block k (services t)
+    → ((s : Service w) → service_of_block k (services t) ≡ Some s → is_ended_by (link, Beat.E x) s ≡ false)
+    → ((c : ℕ) → pending (GrantAckOf k) (on_link c ((link, Beat.E x) ∷ t)) ≡ pending (GrantAckOf k) (on_link c t))
+    → IsSame k t ((link, Beat.E x) ∷ t)
 same-e link x t k serves kept grants = record {
   serves = serves;
   granted = λ s e. granted-left link x t s (kept s e);
-  acquires = λ c. beat-keeps (pending (AcquireOf k)) c link (beat.E x) t
-      (λ h. pending-quiet (AcquireOf k) (beat.E x) h refl refl);
+  acquires = λ c. beat-keeps (pending (AcquireOf k)) c link (Beat.E x) t
+      (λ h. pending-quiet (AcquireOf k) (Beat.E x) h refl refl);
   grants = grants;
-  requests = λ s e f. beat-keeps (request_of s.request.source) s.link.0 link (beat.E x) t
+  requests = λ s e f. beat-keeps (request_of s.request.source) s.link.0 link (Beat.E x) t
       (request_of-e s.request.source x);
-  sinks = λ c. beat-keeps (grant_sink k) c link (beat.E x) t (grant_sink-e k x);
-  probes = λ c e. sym (beat-keeps (pending (ProbeOf k)) c link (beat.E x) t
-      (λ h. pending-quiet (ProbeOf k) (beat.E x) h refl refl)) ∙ e;
-  probe = λ c. beat-keeps (probe_of k) c link (beat.E x) t (probe_of-e k x);
+  sinks = λ c. beat-keeps (grant_sink k) c link (Beat.E x) t (grant_sink-e k x);
+  probes = λ c e. sym (beat-keeps (pending (ProbeOf k)) c link (Beat.E x) t
+      (λ h. pending-quiet (ProbeOf k) (Beat.E x) h refl refl)) ∙ e;
+  probe = λ c. beat-keeps (probe_of k) c link (Beat.E x) t (probe_of-e k x);
 }
 
 handled-e : {w : ℕ} (link : Link) (x : BeatE) (t : Trace w) (k : ℕ) (o : Option (Service w))
     → service_of_block k (services t) ≡ o → pending (GrantSink x.sink) (on_link link.0 t) ≡ true
-    → AreApart (blocks_of (services t)) → IsHandled k t → IsHandled k ((link, beat.E x) ∷ t)
+    → AreApart (blocks_of (services t)) → IsHandled k t → IsHandled k ((link, Beat.E x) ∷ t)
 handled-e {w} link x t k o is pends apart ok = go o is (serving_after ∙ ap (if_passes keeps) is)
   where
     u : Trace w
-    u = (link, beat.E x) ∷ t
+    u = (link, Beat.E x) ∷ t
 
     keeps : Service w → Bool
-    keeps s = not (is_ended_by (link, beat.E x) s)
+    keeps s = not (is_ended_by (link, Beat.E x) s)
 
     serving_after : service_of_block k (services u) ≡ if_passes keeps (service_of_block k (services t))
     serving_after = ap (service_of_block k) (services-e link x t) ∙ serving-filter k keeps (services t) apart
 
     missing : (c : ℕ) → pending (ProbeOf k) (on_link c u) ≡ pending (ProbeOf k) (on_link c t)
-    missing c = beat-keeps (pending (ProbeOf k)) c link (beat.E x) t
-        (λ h. pending-quiet (ProbeOf k) (beat.E x) h refl refl)
+    missing c = beat-keeps (pending (ProbeOf k)) c link (Beat.E x) t
+        (λ h. pending-quiet (ProbeOf k) (Beat.E x) h refl refl)
 
     -- the sink of a Grant of the block that isn't acknowledged
     its_sink : (c : ℕ) (s : Service w) → service_of_block k (services t) ≡ Some s
@@ -177,7 +173,7 @@ handled-e {w} link x t k o is pends apart ok = go o is (serving_after ∙ ap (if
         (here, p.1, ap (λ i. grant_sink k (on_link i t)) (sym here) ∙ named.1 p.1)
 
     sink_apart : (c : ℕ) (s : Service w) → service_of_block k (services t) ≡ Some s
-        → is_ended_by (link, beat.E x) s ≡ false → (link.0 == c) ≡ true → pending (GrantAckOf k) (on_link c t) ≡ true
+        → is_ended_by (link, Beat.E x) s ≡ false → (link.0 == c) ≡ true → pending (GrantAckOf k) (on_link c t) ≡ true
         → is_sink x.sink (grant_sink k (on_link c t)) ≡ false
     sink_apart c s e kept here f =
         let its = its_sink c s e f in
@@ -185,18 +181,18 @@ handled-e {w} link x t k o is pends apart ok = go o is (serving_after ∙ ap (if
       where
         away : (b : Bool) → (s.tracker == x.sink) ≡ b → s.link.0 ≡ c → is_acquire s.request.opcode ≡ true → b ≡ false
         away true g own acquires = absurd (
-            let ended : is_ended_by (link, beat.E x) s ≡ true =
+            let ended : is_ended_by (link, Beat.E x) s ≡ true =
             rw (acquires, eq-eqb s.link.0 link.0 (own ∙ sym (eqb-true link.0 c here)), g) refl in
             cc)
         away false g own acquires = refl
 
-    gone : (s : Service w) → service_of_block k (services t) ≡ Some s → is_ended_by (link, beat.E x) s ≡ true
+    gone : (s : Service w) → service_of_block k (services t) ≡ Some s → is_ended_by (link, Beat.E x) s ≡ true
         → service_of_block k (services u) ≡ None → IsHandled k u
     gone s e ended none =
         let granted = ended-granted link x t s pends ended in
         record {
           acquires = λ c.
-              beat-keeps (pending (AcquireOf k)) c link (beat.E x) t (λ h. pending-quiet (AcquireOf k) (beat.E x) h refl
+              beat-keeps (pending (AcquireOf k)) c link (Beat.E x) t (λ h. pending-quiet (AcquireOf k) (Beat.E x) h refl
               refl) ∙ ok.acquires c ∙ ap (is_acquiring c t) e
               ∙ ap (λ b. is_acquire s.request.opcode && ((s.link.0 == c) && not b)) granted ∙ neither
               (is_acquire s.request.opcode) (s.link.0 == c) ∙ ap (is_acquiring c u) (sym none);
@@ -230,23 +226,23 @@ handled-e {w} link x t k o is pends apart ok = go o is (serving_after ∙ ap (if
             let sink : is_sink x.sink (grant_sink k (on_link c t)) ≡ true =
             ap (λ i. is_sink x.sink (grant_sink k (on_link i t))) (sym own) ∙ ap (is_sink x.sink) (named.1 granted)
             ∙ tracker_is in
-            ap (pending (GrantAckOf k)) (own_beat c link (beat.E x) t f) ∙ pending-closed (GrantAckOf k) (beat.E x)
+            ap (pending (GrantAckOf k)) (own_beat c link (Beat.E x) t f) ∙ pending-closed (GrantAckOf k) (Beat.E x)
             (on_link c t) refl
-            ∙ ap (λ b. if ends {w = w} (beat.E x) (on_link c t) && b then false else pending (GrantAckOf k)
+            ∙ ap (λ b. if ends {w = w} (Beat.E x) (on_link c t) && b then false else pending (GrantAckOf k)
             (on_link c t)) sink
-            ∙ acked (ends {w = w} (beat.E x) (on_link c t)) (pending (GrantAckOf k) (on_link c t))
+            ∙ acked (ends {w = w} (Beat.E x) (on_link c t)) (pending (GrantAckOf k) (on_link c t))
             (whole-e {w = w} x (on_link c t)).1
         closed c false f =
-            ap (pending (GrantAckOf k)) (other_beat c link (beat.E x) t f) ∙ ok.grants c ∙ ap (is_granted_to c t) e
+            ap (pending (GrantAckOf k)) (other_beat c link (Beat.E x) t f) ∙ ok.grants c ∙ ap (is_granted_to c t) e
             ∙ ap (λ i. (i == c) && is_granted t s) link_is ∙ ap (λ b. b && is_granted t s) f
 
-    left : (s : Service w) → service_of_block k (services t) ≡ Some s → (b : Bool) → is_ended_by (link, beat.E x) s ≡ b
+    left : (s : Service w) → service_of_block k (services t) ≡ Some s → (b : Bool) → is_ended_by (link, Beat.E x) s ≡ b
         → service_of_block k (services u) ≡ (if not b then Some s else None) → IsHandled k u
     left s e true ended after = gone s e ended after
     left s e false kept after =
         handled-same k t u
         (same-e link x t k (after ∙ sym e)
-        (λ r f. ap (is_ended_by (link, beat.E x)) (some_is r s (sym f ∙ e)) ∙ kept)
+        (λ r f. ap (is_ended_by (link, Beat.E x)) (some_is r s (sym f ∙ e)) ∙ kept)
         (λ c. ack-kept link x t k c (λ here f. sink_apart c s e kept here f)))
         ok
 
@@ -259,40 +255,39 @@ handled-e {w} link x t k o is pends apart ok = go o is (serving_after ∙ ap (if
         (λ c. ack-kept link x t k c (λ here f. absurd (let no : pending (GrantAckOf k) (on_link c t) ≡ false =
         ok.grants c ∙ ap (is_granted_to c t) e in cc))))
         ok
-    go (Some s) e after = left s e (is_ended_by (link, beat.E x) s) refl after
+    go (Some s) e after = left s e (is_ended_by (link, Beat.E x) s) refl after
 
 -- ---- all links
 
 pub accounted-e : {w : ℕ} (link : Link) (x : BeatE) (t : Trace w) → pending (GrantSink x.sink) (on_link link.0 t) ≡ true
     → AreApart (blocks_of (services t)) → IsAccounted t
-    → IsAccounted ((link, beat.E x) ∷ t)
+    → IsAccounted ((link, Beat.E x) ∷ t)
 accounted-e {w} link x t pends apart ok = record {
   sources = λ c q.
       rw (
-        beat-keeps (unfinished channel.A) c link (beat.E x) t (burst-e x),
-        beat-keeps (pending (RequestSource q)) c link (beat.E x) t (λ h. pending-quiet (RequestSource q) (beat.E x) h
+        beat-keeps (unfinished Channel.A) c link (Beat.E x) t (burst-e x),
+        beat-keeps (pending (RequestSource q)) c link (Beat.E x) t (λ h. pending-quiet (RequestSource q) (Beat.E x) h
             refl refl),
         counted c q,
       )
       (ok.sources c q);
-  begun = λ c. begun-kept t u c (beat-keeps (unfinished channel.A) c link (beat.E x) t (burst-e x))
-      (λ q. beat-keeps (request_of q) c link (beat.E x) t (request_of-e q x)) ok;
+  begun = λ c. begun-kept t u c (beat-keeps (unfinished Channel.A) c link (Beat.E x) t (burst-e x))
+      (λ q. beat-keeps (request_of q) c link (Beat.E x) t (request_of-e q x)) ok;
   reports = λ c.
-      reports-kept t u c (beat-keeps (unfinished channel.C) c link (beat.E x) t (burst-ec x))
-      (λ k e. beat-keeps (pending (ProbeOf k)) c link (beat.E x) t
-      (λ h. pending-quiet (ProbeOf k) (beat.E x) h refl refl) ∙ e) ok;
+      reports-kept t u c (beat-keeps (unfinished Channel.C) c link (Beat.E x) t (burst-ec x))
+      (λ k e. beat-keeps (pending (ProbeOf k)) c link (Beat.E x) t
+      (λ h. pending-quiet (ProbeOf k) (Beat.E x) h refl refl) ∙ e) ok;
   blocks = λ k. handled-e link x t k (service_of_block k (services t)) refl pends apart (ok.blocks k);
 }
   where
     u : Trace w
-    u = (link, beat.E x) ∷ t
+    u = (link, Beat.E x) ∷ t
 
     neither : (a b : Bool) → false ≡ (a && (b && false))
     neither true true = refl
-    neither true false = refl
-    neither false b = refl
+    neither v u = refl
 
-    asks_still : (c q : ℕ) (s : Service w) (b : Bool) → is_ended_by (link, beat.E x) s ≡ b
+    asks_still : (c q : ℕ) (s : Service w) (b : Bool) → is_ended_by (link, Beat.E x) s ≡ b
         → (not b && is_asking c q u s) ≡ is_asking c q t s
     asks_still c q s true e = neither (s.link.0 == c) (s.request.source == q) ∙ ap
         (λ b. (s.link.0 == c) && ((s.request.source == q) && not b)) (sym (ended-granted link x t s pends e))
@@ -302,7 +297,7 @@ accounted-e {w} link x t pends apart ok = record {
     counted : (c q : ℕ) → count_where (is_asking c q u) (services u) ≡ count_where (is_asking c q t) (services t)
     counted c q =
         ap (count_where (is_asking c q u)) (services-e link x t) ∙ count-filter
-        (λ s. not (is_ended_by (link, beat.E x) s)) (is_asking c q u) (services t)
-        ∙ count-same (λ s. not (is_ended_by (link, beat.E x) s) && is_asking c q u s) (is_asking c q t) (services t)
-        (all-each (λ s. (not (is_ended_by (link, beat.E x) s) && is_asking c q u s) ≡ is_asking c q t s) (services t)
-        (λ s. asks_still c q s (is_ended_by (link, beat.E x) s) refl))
+        (λ s. not (is_ended_by (link, Beat.E x) s)) (is_asking c q u) (services t)
+        ∙ count-same (λ s. not (is_ended_by (link, Beat.E x) s) && is_asking c q u s) (is_asking c q t) (services t)
+        (all-each (λ s. (not (is_ended_by (link, Beat.E x) s) && is_asking c q u s) ≡ is_asking c q t s) (services t)
+        (λ s. asks_still c q s (is_ended_by (link, Beat.E x) s) refl))

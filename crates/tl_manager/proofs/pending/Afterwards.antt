@@ -7,17 +7,13 @@ use Rattle.tl_manager.proofs.Imports.{End, Judgement, Breaks, Waits, Passes, is_
 use Rattle.tl_manager.proofs.Imports.{offered, IsWhole}
 use Rattle.std.proofs.Common.{◌≡◌, ℕ, ◌==◌, Bool, true, false, ◌&&◌, [], ◌∷◌, refl, ap, ◌∙◌}
 use Rattle.std.specs.Prelude.{if◌then◌else◌}
-use Rattle.tl_beat.specs.declared.beat.Beat.TheVariants as beat
-use Rattle.tl_beat.specs.declared.channel.Channel.TheVariants as channel
 use Rattle.tl_rules.specs.statement.History.{is_probe}
 use Rattle.tl_manager.specs.laws.After.{with_sent, history_after, taken_after, is_probe_to, missing_with, is_report_of}
 use Rattle.tl_manager.specs.laws.After.{missing_after}
-use Rattle.tl_manager.proofs.calls.Reactions.{reaction_handable}
+use Rattle.tl_manager.{proofs.calls.Reactions.reaction_handable, proofs.judging.Judged.passed}
+use Rattle.tl_manager.{proofs.messages.Lawful.IsHandable, proofs.pending.Replies.reply-quiet}
 use Rattle.tl_manager.proofs.pending.Handed.{after_sent, own_link, other_link, whole-after_sent, whole-taken}
-use Rattle.tl_manager.proofs.judging.Judged.{passed}
-use Rattle.tl_manager.proofs.messages.Lawful.{IsHandable}
 use Rattle.tl_manager.proofs.pending.LinkHistories.{beat-keeps, sent-keeps, pending-closed}
-use Rattle.tl_manager.proofs.pending.Replies.{reply-quiet}
 
 -- ---- the history of a link
 
@@ -45,10 +41,9 @@ link-taken c link x t = refl
 history_as : {w : ℕ} (j : Judgement) (config : Config) (link : Link) (x : Beat w) (e : End w) (c : ℕ)
     → on_link c (offered_as j config link x e).1.trace ≡ history_after (offered_as j config link x e).0 (link, x) c
     (on_link c e.trace)
-history_as (Breaks r) config link x e c = refl
-history_as Waits config link x e c = refl
 history_as Passes config link x e c = link-handed c (reaction config link x e).handed ((link, x) ∷ e.trace) ∙ ap
     (with_sent c (reaction config link x e).handed) (link-taken c link x e.trace)
+history_as v config link x e c = refl
 
 pub history-offered : {w : ℕ} (config : Config) (link : Link) (ch : Channel) (x : Beat w) (e : End w) (c : ℕ)
     → on_link c (offered config link ch x e).1.trace ≡ history_after (offered config link ch x e).0 (link, x) c
@@ -60,17 +55,12 @@ history-offered config link ch x e c = history_as (judged config link ch x e) co
 
 ours_off : {w : ℕ} (ch : Channel) (m : Message w) → is_of_clients ch ≡ true → is_from_client (beat_of m 0) ≡ false
     → on ch (beat_of m 0) ≡ false
-ours_off channel.A (B m) theirs ours = refl
-ours_off channel.C (B m) theirs ours = refl
-ours_off channel.E (B m) theirs ours = refl
-ours_off channel.A (D m) theirs ours = refl
-ours_off channel.C (D m) theirs ours = refl
-ours_off channel.E (D m) theirs ours = refl
-ours_off channel.B m theirs ours = absurd cc
-ours_off channel.D m theirs ours = absurd cc
+ours_off Channel.B m theirs ours = absurd cc
+ours_off Channel.D m theirs ours = absurd cc
 ours_off ch (A m) theirs ours = absurd cc
 ours_off ch (C m) theirs ours = absurd cc
 ours_off ch (E m) theirs ours = absurd cc
+ours_off v u theirs ours = refl
 
 unfinished-handed : {w : ℕ} (config : Config) (c : ℕ) (ch : Channel) (handed : Handed w) (t : Trace w)
     → is_of_clients ch ≡ true → Each (IsHandable config) handed
@@ -87,13 +77,12 @@ unfinished_as : {w : ℕ} (j : Judgement) (config : Config) (link : Link) (ch : 
     → judged config link ch x e ≡ j → IsKept config e → is_of_clients on_ch ≡ true
     → unfinished on_ch (on_link c (offered_as j config link x e).1.trace) ≡ unfinished on_ch
     (taken_after (offered_as j config link x e).0 (link, x) c (on_link c e.trace))
-unfinished_as (Breaks r) config link ch x e c on_ch width typed is before theirs = refl
-unfinished_as Waits config link ch x e c on_ch width typed is before theirs = refl
 unfinished_as Passes config link ch x e c on_ch width typed is before theirs =
     let ok = passed config link ch x e typed is in
     unfinished-handed config c on_ch (reaction config link x e).handed ((link, x) ∷ e.trace) theirs
     (reaction_handable config link x e width ok.sound before.sound)
     ∙ ap (unfinished on_ch) (link-taken c link x e.trace)
+unfinished_as v config link ch x e c on_ch width typed is before theirs = refl
 
 pub unfinished-offered : {w : ℕ} (config : Config) (link : Link) (ch : Channel) (x : Beat w) (e : End w) (c : ℕ)
     (on_ch : Channel) → IsWidth w → IsTyped x → IsKept config e
@@ -136,33 +125,32 @@ missing-handed config c k (x ∷ handed) t width each whole =
 
 pub missing-taken : {w : ℕ} (c k : ℕ) (link : Link) (x : Beat w) (t : Trace w) → is_from_client x ≡ true
     → is_missing c k ((link, x) ∷ t) ≡ (if is_report_of c k (link, x) t then false else is_missing c k t)
-missing-taken c k link (beat.A x) t theirs = beat-keeps (pending (ProbeOf k)) c link (beat.A x) t
-    (λ h. pending-quiet (ProbeOf k) (beat.A x) h refl refl)
-missing-taken c k link (beat.B x) t theirs = absurd cc
-missing-taken {w} c k link (beat.C x) t theirs = ap (pending (ProbeOf k)) (link-taken c link (beat.C x) t) ∙ go
+missing-taken c k link (Beat.A x) t theirs = beat-keeps (pending (ProbeOf k)) c link (Beat.A x) t
+    (λ h. pending-quiet (ProbeOf k) (Beat.A x) h refl refl)
+missing-taken c k link (Beat.B x) t theirs = absurd cc
+missing-taken {w} c k link (Beat.C x) t theirs = ap (pending (ProbeOf k)) (link-taken c link (Beat.C x) t) ∙ go
     (link.0 == c)
   where
-    go : (b : Bool) → pending (ProbeOf k) (if b then beat.C x ∷ on_link c t else on_link c t)
-        ≡ (if b && (ends (beat.C x) (on_link c t) && (is_probe_ack x.opcode && (block_at x.address == k))) then false
+    go : (b : Bool) → pending (ProbeOf k) (if b then Beat.C x ∷ on_link c t else on_link c t)
+        ≡ (if b && (ends (Beat.C x) (on_link c t) && (is_probe_ack x.opcode && (block_at x.address == k))) then false
         else pending (ProbeOf k) (on_link c t))
-    go true = pending-closed (ProbeOf k) (beat.C x) (on_link c t) refl
+    go true = pending-closed (ProbeOf k) (Beat.C x) (on_link c t) refl
     go false = refl
-missing-taken c k link (beat.D x) t theirs = absurd cc
-missing-taken c k link (beat.E x) t theirs = beat-keeps (pending (ProbeOf k)) c link (beat.E x) t
-    (λ h. pending-quiet (ProbeOf k) (beat.E x) h refl refl)
+missing-taken c k link (Beat.D x) t theirs = absurd cc
+missing-taken c k link (Beat.E x) t theirs = beat-keeps (pending (ProbeOf k)) c link (Beat.E x) t
+    (λ h. pending-quiet (ProbeOf k) (Beat.E x) h refl refl)
 
 missing_as : {w : ℕ} (j : Judgement) (config : Config) (link : Link) (ch : Channel) (x : Beat w) (e : End w) (c k : ℕ)
     → IsWidth w → IsTyped x → judged config link ch x e ≡ j → IsKept config e
     → is_missing c k (offered_as j config link x e).1.trace ≡ missing_after (offered_as j config link x e).0 (link, x)
     e.trace c k
-missing_as (Breaks r) config link ch x e c k width typed is before = refl
-missing_as Waits config link ch x e c k width typed is before = refl
 missing_as Passes config link ch x e c k width typed is before =
     let ok = passed config link ch x e typed is in
     missing-handed config c k (reaction config link x e).handed ((link, x) ∷ e.trace) width
     (reaction_handable config link x e width ok.sound before.sound)
     (λ d. whole-taken d link x e.trace ok.theirs (before.whole d))
     ∙ ap (missing_with c k (reaction config link x e).handed) (missing-taken c k link x e.trace ok.theirs)
+missing_as v config link ch x e c k width typed is before = refl
 
 pub missing-offered : {w : ℕ} (config : Config) (link : Link) (ch : Channel) (x : Beat w) (e : End w) (c k : ℕ)
     → IsWidth w → IsTyped x → IsKept config e

@@ -9,20 +9,13 @@ use Rattle.tl_manager.proofs.Imports.{begun_with, begun_if_any, performed_if_any
 use Rattle.tl_manager.proofs.Imports.{reaction, End, is_from_client, IsWhole}
 use Rattle.std.proofs.Common.{◌≡◌, ℕ, ◌+◌, ◌==◌, Bool, true, false, List, [], ◌∷◌, length, map, Option, Some, None}
 use Rattle.std.proofs.Common.{refl, sym, ap, subst, ◌∙◌, lit≤}
-use Rattle.std.specs.Prelude.{if◌then◌else◌}
-use Rattle.std.proofs.lemmas.Bool.{eqb-true, true≢false}
-use Rattle.tl_beat.specs.declared.beat.Beat.TheVariants as beat
-use Rattle.tl_beat.specs.declared.channel.Channel.TheVariants as channel
-use Rattle.tl_beat.specs.declared.opcode.OpD.TheVariants as d
-use Rattle.tl_rules.specs.declared.answer.Answer.TheVariants as answer
-use Rattle.tl_manager.specs.statement.Handing.{no_payload}
-use Rattle.tl_manager.specs.code.Releases.{IsAnswered}
+use Rattle.std.{specs.Prelude.if◌then◌else◌, proofs.lemmas.Bool.eqb-true, proofs.lemmas.Bool.true≢false}
+use Rattle.tl_beat.{specs.declared.channel.Channel.Channel, specs.declared.opcode.OpD.OpD}
+use Rattle.tl_manager.{specs.statement.Handing.no_payload, specs.code.Releases.IsAnswered}
+use Rattle.tl_manager.{proofs.messages.Lawful.IsHandable, proofs.pending.LinkHistories.own_beat}
 use Rattle.tl_manager.proofs.pending.Handed.{after_sent, own_link, other_link, whole-after_sent}
-use Rattle.tl_manager.proofs.messages.Lawful.{IsHandable}
 use Rattle.tl_manager.proofs.pending.Releases.{IsCarried, IsNoAck, answered-a, answered-b, answered-d, answered-e}
-use Rattle.tl_manager.proofs.pending.Releases.{carried}
-use Rattle.tl_manager.proofs.pending.Releases.{not_last, no_release, released}
-use Rattle.tl_manager.proofs.pending.LinkHistories.{own_beat}
+use Rattle.tl_manager.proofs.pending.Releases.{carried, not_last, no_release, released}
 
 -- ---- messages that answer no Release
 
@@ -30,9 +23,8 @@ abbrev NoAcks : {w : ℕ} → Reaction w → Type 0
 NoAcks d = Each (λ y. IsNoAck y.1) d.handed
 
 no_ack_access : {w : ℕ} (m : MessageA w) (kind : Answer) → IsNoAck (access_answer m kind)
-no_ack_access m answer.Ack = refl
-no_ack_access m answer.Hint = refl
-no_ack_access m (answer.Data payload) = refl
+no_ack_access m Answer.Ack = refl
+no_ack_access m v = refl
 
 pub no_ack_grant : (with_data : Bool) → is_release_ack (grant_opcode with_data) ≡ false
 no_ack_grant true = refl
@@ -95,11 +87,9 @@ no_ack_settled {w} config block t memory = go (is_settled config block t)
 
 answered-ours : {w : ℕ} (m : Message w) (t : History w) → IsWidth w → is_from_client (beat_of m 0) ≡ false → IsNoAck m
     → IsWhole t → IsAnswered t → IsAnswered (sent m t)
-answered-ours (A m) t width ours none whole ok = absurd cc
 answered-ours (B m) t width ours none whole ok = answered-b m t width whole.0 ok
-answered-ours (C m) t width ours none whole ok = absurd cc
 answered-ours (D m) t width ours none whole ok = answered-d m t width whole.1 none ok
-answered-ours (E m) t width ours none whole ok = absurd cc
+answered-ours v t width ours none whole ok = absurd cc
 
 answered-sent : {w : ℕ} (client : ℕ) (link : Link) (m : Message w) (t : Trace w) → IsWidth w
     → is_from_client (beat_of m 0) ≡ false → IsNoAck m → IsWhole (on_link client t)
@@ -136,52 +126,52 @@ answered-beat {w} client link x t here ok = go (link.0 == client) refl
 
 on_this_link : {w : ℕ} (config : Config) (client : ℕ) (link : Link) (x : BeatC w) (t : Trace w)
     → (link.0 == client) ≡ true
-    → broken_in_order config.profile (beat.C x) (on_link link.0 t) ≡ None → IsAnswered (on_link client t)
+    → broken_in_order config.profile (Beat.C x) (on_link link.0 t) ≡ None → IsAnswered (on_link client t)
     → IsCarried x (on_link client t)
 on_this_link config client link x t e order ok =
-    carried config.profile x (on_link client t) ok (ap (λ n. broken_in_order config.profile (beat.C x) (on_link n t))
+    carried config.profile x (on_link client t) ok (ap (λ n. broken_in_order config.profile (Beat.C x) (on_link n t))
     (sym (eqb-true link.0 client e)) ∙ order)
 
-grows : {w : ℕ} (x : BeatC w) (t : History w) → (length (unfinished channel.C t) + 1 == burst_length (beat.C x)) ≡ false
-    → unfinished channel.C (beat.C x ∷ t) ≡ beat.C x ∷ unfinished channel.C t
+grows : {w : ℕ} (x : BeatC w) (t : History w) → (length (unfinished Channel.C t) + 1 == burst_length (Beat.C x)) ≡ false
+    → unfinished Channel.C (Beat.C x ∷ t) ≡ Beat.C x ∷ unfinished Channel.C t
 unfolding unfinished
 grows x t e = rw e refl
 
-closes : {w : ℕ} (x : BeatC w) (t : History w) → (length (unfinished channel.C t) + 1 == burst_length (beat.C x)) ≡ true
-    → unfinished channel.C (beat.C x ∷ t) ≡ []
+closes : {w : ℕ} (x : BeatC w) (t : History w) → (length (unfinished Channel.C t) + 1 == burst_length (Beat.C x)) ≡ true
+    → unfinished Channel.C (Beat.C x ∷ t) ≡ []
 unfolding unfinished
 closes x t e = rw e refl
 
 -- the same at the link's own number
 ends_here : {w : ℕ} (client : ℕ) (link : Link) (x : BeatC w) (t : Trace w) (last : Bool) → (link.0 == client) ≡ true
-    → ends (beat.C x) (on_link link.0 t) ≡ last
-    → (length (unfinished channel.C (on_link client t)) + 1 == burst_length (beat.C x)) ≡ last
+    → ends (Beat.C x) (on_link link.0 t) ≡ last
+    → (length (unfinished Channel.C (on_link client t)) + 1 == burst_length (Beat.C x)) ≡ last
 ends_here client link x t last e f =
-    ap (λ n. length (unfinished channel.C (on_link n t)) + 1 == burst_length (beat.C x))
+    ap (λ n. length (unfinished Channel.C (on_link n t)) + 1 == burst_length (Beat.C x))
     (sym (eqb-true link.0 client e)) ∙ f
 
 after_part : {w : ℕ} (config : Config) (client : ℕ) (link : Link) (x : BeatC w) (t : Trace w)
-    → broken_in_order config.profile (beat.C x) (on_link link.0 t) ≡ None
-    → ends (beat.C x) (on_link link.0 t) ≡ false → IsAnswered (on_link client t)
-    → IsAnswered (on_link client ((link, beat.C x) ∷ t))
+    → broken_in_order config.profile (Beat.C x) (on_link link.0 t) ≡ None
+    → ends (Beat.C x) (on_link link.0 t) ≡ false → IsAnswered (on_link client t)
+    → IsAnswered (on_link client ((link, Beat.C x) ∷ t))
 after_part config client link x t order last ok =
-    answered-beat client link (beat.C x) t
+    answered-beat client link (Beat.C x) t
     (λ e before. not_last x (on_link client t) (on_this_link config client link x t e order before)
     (grows x (on_link client t) (ends_here client link x t false e last))) ok
 
 after_report : {w : ℕ} (config : Config) (client : ℕ) (link : Link) (x : BeatC w) (t : Trace w)
-    → broken_in_order config.profile (beat.C x) (on_link link.0 t) ≡ None
-    → ends (beat.C x) (on_link link.0 t) ≡ true → is_release x.opcode ≡ false → IsAnswered (on_link client t)
-    → IsAnswered (on_link client ((link, beat.C x) ∷ t))
+    → broken_in_order config.profile (Beat.C x) (on_link link.0 t) ≡ None
+    → ends (Beat.C x) (on_link link.0 t) ≡ true → is_release x.opcode ≡ false → IsAnswered (on_link client t)
+    → IsAnswered (on_link client ((link, Beat.C x) ∷ t))
 after_report config client link x t order last other ok =
-    answered-beat client link (beat.C x) t
+    answered-beat client link (Beat.C x) t
     (λ e before. no_release x (on_link client t) (on_this_link config client link x t e order before)
     (closes x (on_link client t) (ends_here client link x t true e last)) other) ok
 
 -- the ReleaseAck with this source
 abbrev ack_of : {w : ℕ} → ℕ → MessageD w
 ack_of source = record {
-  opcode = d.ReleaseAck;
+  opcode = OpD.ReleaseAck;
   param = 0;
   size = 6;
   source = source;
@@ -194,46 +184,46 @@ ack_of source = record {
 }
 
 after_release : {w : ℕ} (config : Config) (client : ℕ) (link : Link) (x : BeatC w) (t : Trace w) → IsWidth w
-    → broken_in_order config.profile (beat.C x) (on_link link.0 t) ≡ None
-    → ends (beat.C x) (on_link link.0 t) ≡ true → is_release x.opcode ≡ true
-    → IsWhole (on_link client ((link, beat.C x) ∷ t)) → IsAnswered (on_link client t)
-    → IsAnswered (on_link client (after_sent link (release_ack x.source) ((link, beat.C x) ∷ t)))
+    → broken_in_order config.profile (Beat.C x) (on_link link.0 t) ≡ None
+    → ends (Beat.C x) (on_link link.0 t) ≡ true → is_release x.opcode ≡ true
+    → IsWhole (on_link client ((link, Beat.C x) ∷ t)) → IsAnswered (on_link client t)
+    → IsAnswered (on_link client (after_sent link (release_ack x.source) ((link, Beat.C x) ∷ t)))
 after_release {w} config client link x t width order last release whole ok = go (link.0 == client) refl
   where
     go : (b : Bool) → (link.0 == client) ≡ b
-        → IsAnswered (on_link client (after_sent link (release_ack x.source) ((link, beat.C x) ∷ t)))
+        → IsAnswered (on_link client (after_sent link (release_ack x.source) ((link, Beat.C x) ∷ t)))
     go true e =
-        let here = own_beat client link (beat.C x) t e in
-        subst IsAnswered (sym (own_link client link (release_ack x.source) ((link, beat.C x) ∷ t) e ∙ ap
+        let here = own_beat client link (Beat.C x) t e in
+        subst IsAnswered (sym (own_link client link (release_ack x.source) ((link, Beat.C x) ∷ t) e ∙ ap
         (sent (release_ack x.source)) here))
         (released x (ack_of x.source) (on_link client t) width (on_this_link config client link x t e order ok) release
         (closes x (on_link client t) (ends_here client link x t true e last)) (subst IsWhole here whole).1 refl refl)
     go false e =
-        subst IsAnswered (sym (other_link client link (release_ack x.source) ((link, beat.C x) ∷ t) e))
-        (answered-beat client link (beat.C x) t (λ f before. absurd (true≢false (sym f ∙ e))) ok)
+        subst IsAnswered (sym (other_link client link (release_ack x.source) ((link, Beat.C x) ∷ t) e))
+        (answered-beat client link (Beat.C x) t (λ f before. absurd (true≢false (sym f ∙ e))) ok)
 
 done_c_answered : {w : ℕ} (config : Config) (client : ℕ) (link : Link) (x : BeatC w) (t : Trace w) (memory : Memory)
     → IsWidth w
-    → broken_in_order config.profile (beat.C x) (on_link link.0 t) ≡ None → ends (beat.C x) (on_link link.0 t) ≡ true
-    → Each (IsHandable config) (completed_c config link x ((link, beat.C x) ∷ t) memory).handed
-    → IsWhole (on_link client ((link, beat.C x) ∷ t)) → IsAnswered (on_link client t)
-    → IsAnswered (on_link client (with_handed (completed_c config link x ((link, beat.C x) ∷ t) memory).handed
-    ((link, beat.C x) ∷ t)))
+    → broken_in_order config.profile (Beat.C x) (on_link link.0 t) ≡ None → ends (Beat.C x) (on_link link.0 t) ≡ true
+    → Each (IsHandable config) (completed_c config link x ((link, Beat.C x) ∷ t) memory).handed
+    → IsWhole (on_link client ((link, Beat.C x) ∷ t)) → IsAnswered (on_link client t)
+    → IsAnswered (on_link client (with_handed (completed_c config link x ((link, Beat.C x) ∷ t) memory).handed
+    ((link, Beat.C x) ∷ t)))
 unfolding with_handed
 done_c_answered {w} config client link x t memory width order last handable whole ok =
     go (is_release x.opcode) (is_probe_ack x.opcode) refl handable
   where
     reaction_by : Bool → Bool → Reaction w
     reaction_by r p = if r then record { handed = (link, release_ack x.source) ∷ []; memory = memory } else if p then
-        finish config (block_at x.address) ((link, beat.C x) ∷ t) memory else nothing memory
+        finish config (block_at x.address) ((link, Beat.C x) ∷ t) memory else nothing memory
 
     go : (r p : Bool) → is_release x.opcode ≡ r → Each (IsHandable config) (reaction_by r p).handed
-        → IsAnswered (on_link client (with_handed (reaction_by r p).handed ((link, beat.C x) ∷ t)))
+        → IsAnswered (on_link client (with_handed (reaction_by r p).handed ((link, Beat.C x) ∷ t)))
     go true p release each = after_release config client link x t width order last release whole ok
     go false true other each =
-        answered-handed config client (finish config (block_at x.address) ((link, beat.C x) ∷ t) memory).handed
-        ((link, beat.C x) ∷ t) width each
-        (no_ack_settled config (block_at x.address) ((link, beat.C x) ∷ t) memory) whole
+        answered-handed config client (finish config (block_at x.address) ((link, Beat.C x) ∷ t) memory).handed
+        ((link, Beat.C x) ∷ t) width each
+        (no_ack_settled config (block_at x.address) ((link, Beat.C x) ∷ t) memory) whole
         (after_report config client link x t order last other ok)
     go false false other each = after_report config client link x t order last other ok
 
@@ -251,22 +241,22 @@ done_answered : {w : ℕ} (config : Config) (client : ℕ) (link : Link) (x : Be
     → IsAnswered (on_link client e.trace)
     → IsAnswered (on_link client (with_handed (done_if last config link x e).handed ((link, x) ∷ e.trace)))
 unfolding with_handed
-done_answered config client link (beat.A x) e true width theirs order last each whole ok =
-    answered-handed config client _ ((link, beat.A x) ∷ e.trace) width each
-    (no_ack_new config _ ((link, beat.A x) ∷ e.trace) e.memory) whole
-    (answered-beat client link (beat.A x) e.trace (λ here before. answered-a x (on_link client e.trace) before) ok)
-done_answered config client link (beat.A x) e false width theirs order last each whole ok =
-    answered-beat client link (beat.A x) e.trace (λ here before. answered-a x (on_link client e.trace) before) ok
-done_answered config client link (beat.B x) e last width theirs order is each whole ok = absurd cc
-done_answered config client link (beat.C x) e true width theirs order last each whole ok =
+done_answered config client link (Beat.A x) e true width theirs order last each whole ok =
+    answered-handed config client _ ((link, Beat.A x) ∷ e.trace) width each
+    (no_ack_new config _ ((link, Beat.A x) ∷ e.trace) e.memory) whole
+    (answered-beat client link (Beat.A x) e.trace (λ here before. answered-a x (on_link client e.trace) before) ok)
+done_answered config client link (Beat.A x) e false width theirs order last each whole ok =
+    answered-beat client link (Beat.A x) e.trace (λ here before. answered-a x (on_link client e.trace) before) ok
+done_answered config client link (Beat.B x) e last width theirs order is each whole ok = absurd cc
+done_answered config client link (Beat.C x) e true width theirs order last each whole ok =
     done_c_answered config client link x e.trace _ width order last each whole ok
-done_answered config client link (beat.C x) e false width theirs order last each whole ok =
+done_answered config client link (Beat.C x) e false width theirs order last each whole ok =
     after_part config client link x e.trace order last ok
-done_answered config client link (beat.D x) e last width theirs order is each whole ok = absurd cc
-done_answered config client link (beat.E x) e true width theirs order last each whole ok =
-    answered-beat client link (beat.E x) e.trace (λ here before. answered-e x (on_link client e.trace) before) ok
-done_answered config client link (beat.E x) e false width theirs order last each whole ok =
-    answered-beat client link (beat.E x) e.trace (λ here before. answered-e x (on_link client e.trace) before) ok
+done_answered config client link (Beat.D x) e last width theirs order is each whole ok = absurd cc
+done_answered config client link (Beat.E x) e true width theirs order last each whole ok =
+    answered-beat client link (Beat.E x) e.trace (λ here before. answered-e x (on_link client e.trace) before) ok
+done_answered config client link (Beat.E x) e false width theirs order last each whole ok =
+    answered-beat client link (Beat.E x) e.trace (λ here before. answered-e x (on_link client e.trace) before) ok
 
 pub answered-reaction : {w : ℕ} (config : Config) (client : ℕ) (link : Link) (x : Beat w) (e : End w) → IsWidth w
     → is_from_client x ≡ true

@@ -7,9 +7,7 @@ use Rattle.std.proofs.Common.{◌≡◌, ℕ, ◌+◌, ◌==◌, Bool, true, fal
 use Rattle.std.proofs.Common.{sym, ap, subst, ◌∙◌, arith}
 use Rattle.std.specs.Prelude.{if◌then◌else◌}
 use Rattle.std.proofs.lemmas.Bool.{eqb-true, eq-eqb, not-false}
-use Rattle.tl_beat.specs.declared.beat.Beat.TheVariants as beat
-use Rattle.tl_beat.specs.declared.opcode.OpA.TheVariants as a
-use Rattle.tl_beat.specs.declared.channel.Channel.TheVariants as channel
+use Rattle.tl_beat.specs.declared.channel.Channel.{Channel}
 use Rattle.tl_burst.proofs.ControlFields.{control_a}
 use Rattle.tl_params.specs.declared.rule.Rule.TheVariants.{H1}
 use Rattle.tl_manager.proofs.pending.LinkHistories.{pending-opened}
@@ -20,30 +18,27 @@ use Rattle.tl_manager.proofs.pending.LinkHistories.{pending-opened}
 -- has
 -- the control fields of those before it
 pub data Place {w : ℕ} (x : BeatA w) (t : History w) : Type 0 where
-  First : unfinished channel.A t ≡ [] → pending (RequestSource x.source) t ≡ false → Place x t
-  Later : (y : BeatA w) (burst : List (Beat w)) → unfinished channel.A t ≡ beat.A y ∷ burst
-      → IsBegun t (beat.A y ∷ burst)
+  First : unfinished Channel.A t ≡ [] → pending (RequestSource x.source) t ≡ false → Place x t
+  Later : (y : BeatA w) (burst : List (Beat w)) → unfinished Channel.A t ≡ Beat.A y ∷ burst
+      → IsBegun t (Beat.A y ∷ burst)
       → (x.opcode ≡ y.opcode) × (x.param ≡ y.param) × (x.size ≡ y.size) × (x.source ≡ y.source)
       × (x.address ≡ y.address) → Place x t
 
-pub placed : {w : ℕ} (p : Profile) (x : BeatA w) (t : History w) → broken_in_order p (beat.A x) t ≡ None
-    → IsBegun t (unfinished channel.A t) → Place x t
+pub placed : {w : ℕ} (p : Profile) (x : BeatA w) (t : History w) → broken_in_order p (Beat.A x) t ≡ None
+    → IsBegun t (unfinished Channel.A t) → Place x t
 unfolding broken_order
-placed {w} p x t order begun = go (unfinished channel.A t) refl order begun
+placed {w} p x t order begun = go (unfinished Channel.A t) refl order begun
   where
-    go : (burst : List (Beat w)) → unfinished channel.A t ≡ burst
-        → (if is_empty burst then broken_order p (beat.A x) t else first_if (breaks_burst (beat.A x) burst) S1 None)
+    go : (burst : List (Beat w)) → unfinished Channel.A t ≡ burst
+        → (if is_empty burst then broken_order p (Beat.A x) t else first_if (breaks_burst (Beat.A x) burst) S1 None)
         ≡ None
         → IsBegun t burst → Place x t
     go [] e f ok = First e (next_rule (pending (RequestSource x.source) t) H1 _ f).0
-    go (beat.A y ∷ burst) e f ok =
-        let same = not-false (same_control (beat.A x) (beat.A y)) (next_rule (not (same_control (beat.A x) (beat.A y)))
+    go (Beat.A y ∷ burst) e f ok =
+        let same = not-false (same_control (Beat.A x) (Beat.A y)) (next_rule (not (same_control (Beat.A x) (Beat.A y)))
         S1 None f).0 in
         Later y burst e ok (control_a x y (rw same refl))
-    go (beat.B y ∷ burst) e f ok = absurd ok
-    go (beat.C y ∷ burst) e f ok = absurd ok
-    go (beat.D y ∷ burst) e f ok = absurd ok
-    go (beat.E y ∷ burst) e f ok = absurd ok
+    go v e f ok = absurd ok
 
 -- ---- the request that it is of
 
@@ -56,7 +51,7 @@ fields-same x y (Some z) same ok =
     (ok.0 ∙ sym same.0, ok.1 ∙ sym same.1, ok.2 ∙ sym same.2, ok.3 ∙ sym same.3, ok.4 ∙ sym same.4)
 
 pub fields-now : {w : ℕ} (x : BeatA w) (t : History w) → Place x t
-    → HasFields x.opcode x.param x.size x.source x.address (request_of x.source (beat.A x ∷ t))
+    → HasFields x.opcode x.param x.size x.source x.address (request_of x.source (Beat.A x ∷ t))
 unfolding request_of
 fields-now {w} x t (First none free) = rw (none, eq-eqb x.source x.source refl) (refl, refl, refl, refl, refl)
 fields-now {w} x t (Later y burst is begun same) =
@@ -65,60 +60,57 @@ fields-now {w} x t (Later y burst is begun same) =
 
 -- an Acquire is one beat
 pub acquire_alone : (opcode : OpA) → is_acquire opcode ≡ true → a_carries_data opcode ≡ false
-acquire_alone a.PutFullData e = absurd cc
-acquire_alone a.PutPartialData e = absurd cc
-acquire_alone a.ArithmeticData e = absurd cc
-acquire_alone a.LogicalData e = absurd cc
-acquire_alone a.Get e = refl
-acquire_alone a.Intent e = refl
-acquire_alone a.AcquireBlock e = refl
-acquire_alone a.AcquirePerm e = refl
+acquire_alone OpA.PutFullData e = absurd cc
+acquire_alone OpA.PutPartialData e = absurd cc
+acquire_alone OpA.ArithmeticData e = absurd cc
+acquire_alone OpA.LogicalData e = absurd cc
+acquire_alone v e = refl
 
 pub acquire_first : {w : ℕ} (x : BeatA w) (t : History w) → Place x t → is_acquire x.opcode ≡ true
-    → unfinished channel.A t ≡ []
+    → unfinished Channel.A t ≡ []
 acquire_first x t (First none free) e = none
 acquire_first x t (Later y burst is begun same) e =
     absurd (let no : is_acquire x.opcode ≡ false = ap is_acquire same.0 ∙ begun.0 in cc)
 
 pub acquire_whole : {w : ℕ} (x : BeatA w) (t : History w) → Place x t → is_acquire x.opcode ≡ true
-    → (begins (beat.A x) t ≡ true) × (ends (beat.A x) t ≡ true)
+    → (begins (Beat.A x) t ≡ true) × (ends (Beat.A x) t ≡ true)
 acquire_whole x t place e = rw (acquire_first x t place e, acquire_alone x.opcode e) (refl, refl)
 
 -- ---- the unfinished request
 
-pub unfinished-last : {w : ℕ} (x : BeatA w) (t : History w) → ends (beat.A x) t ≡ true
-    → unfinished channel.A (beat.A x ∷ t) ≡ []
+pub unfinished-last : {w : ℕ} (x : BeatA w) (t : History w) → ends (Beat.A x) t ≡ true
+    → unfinished Channel.A (Beat.A x ∷ t) ≡ []
 unfolding unfinished
 unfinished-last x t e = rw e refl
 
-pub unfinished-more : {w : ℕ} (x : BeatA w) (t : History w) → ends (beat.A x) t ≡ false
-    → unfinished channel.A (beat.A x ∷ t) ≡ beat.A x ∷ unfinished channel.A t
+pub unfinished-more : {w : ℕ} (x : BeatA w) (t : History w) → ends (Beat.A x) t ≡ false
+    → unfinished Channel.A (Beat.A x ∷ t) ≡ Beat.A x ∷ unfinished Channel.A t
 unfolding unfinished
 unfinished-more x t e = rw e refl
 
 pub begun-now : {w : ℕ} (x : BeatA w) (t : History w) → Place x t
-    → IsBegun (beat.A x ∷ t) (unfinished channel.A (beat.A x ∷ t))
-begun-now {w} x t place = go (ends (beat.A x) t) refl
+    → IsBegun (Beat.A x ∷ t) (unfinished Channel.A (Beat.A x ∷ t))
+begun-now {w} x t place = go (ends (Beat.A x) t) refl
   where
-    access : (b : Bool) → is_acquire x.opcode ≡ b → ends (beat.A x) t ≡ false → b ≡ false
-    access true e f = absurd (let whole = acquire_whole x t place e in let last : ends (beat.A x) t ≡ true = whole.1 in
+    access : (b : Bool) → is_acquire x.opcode ≡ b → ends (Beat.A x) t ≡ false → b ≡ false
+    access true e f = absurd (let whole = acquire_whole x t place e in let last : ends (Beat.A x) t ≡ true = whole.1 in
         cc)
     access false e f = refl
 
-    go : (b : Bool) → ends (beat.A x) t ≡ b → IsBegun (beat.A x ∷ t) (unfinished channel.A (beat.A x ∷ t))
-    go true e = subst (IsBegun (beat.A x ∷ t)) (sym (unfinished-last x t e)) tt
-    go false e = subst (IsBegun (beat.A x ∷ t)) (sym (unfinished-more x t e))
+    go : (b : Bool) → ends (Beat.A x) t ≡ b → IsBegun (Beat.A x ∷ t) (unfinished Channel.A (Beat.A x ∷ t))
+    go true e = subst (IsBegun (Beat.A x ∷ t)) (sym (unfinished-last x t e)) tt
+    go false e = subst (IsBegun (Beat.A x ∷ t)) (sym (unfinished-more x t e))
         (access (is_acquire x.opcode) refl e, fields-now x t place)
 
 -- ---- its source
 
 -- with this many services that ask with a source, the beat is one more that does
 pub source-now : {w : ℕ} (x : BeatA w) (t : History w) (q n : ℕ) → Place x t
-    → one_if (comes_in_request q (unfinished channel.A t)) + n ≡ one_if (pending (RequestSource q) t)
-    → one_if (x.source == q) + n ≡ one_if (pending (RequestSource q) (beat.A x ∷ t))
+    → one_if (comes_in_request q (unfinished Channel.A t)) + n ≡ one_if (pending (RequestSource q) t)
+    → one_if (x.source == q) + n ≡ one_if (pending (RequestSource q) (Beat.A x ∷ t))
 source-now {w} x t q n (First none free) before =
     let count : 0 + n ≡ one_if (pending (RequestSource q) t) = rw none at before in
-    rw (pending-opened (RequestSource q) (beat.A x) t refl, none) (go (x.source == q) refl count)
+    rw (pending-opened (RequestSource q) (Beat.A x) t refl, none) (go (x.source == q) refl count)
   where
     go : (b : Bool) → (x.source == q) ≡ b → 0 + n ≡ one_if (pending (RequestSource q) t)
         → one_if b + n ≡ one_if (if b then true else pending (RequestSource q) t)
@@ -129,14 +121,14 @@ source-now {w} x t q n (First none free) before =
         omega (arith, count, none_asks)
     go false e count = count
 source-now {w} x t q n (Later y burst is begun same) before =
-    rw (pending-opened (RequestSource q) (beat.A x) t refl, is, same.3) (rw is at before)
+    rw (pending-opened (RequestSource q) (Beat.A x) t refl, is, same.3) (rw is at before)
 
 -- what comes of the source once the beat is taken
 pub comes-now : {w : ℕ} (x : BeatA w) (t : History w) (q : ℕ)
-    → comes_in_request q (unfinished channel.A (beat.A x ∷ t)) ≡ (not (ends (beat.A x) t) && (x.source == q))
-comes-now {w} x t q = go (ends (beat.A x) t) refl
+    → comes_in_request q (unfinished Channel.A (Beat.A x ∷ t)) ≡ (not (ends (Beat.A x) t) && (x.source == q))
+comes-now {w} x t q = go (ends (Beat.A x) t) refl
   where
-    go : (b : Bool) → ends (beat.A x) t ≡ b
-        → comes_in_request q (unfinished channel.A (beat.A x ∷ t)) ≡ (not b && (x.source == q))
+    go : (b : Bool) → ends (Beat.A x) t ≡ b
+        → comes_in_request q (unfinished Channel.A (Beat.A x ∷ t)) ≡ (not b && (x.source == q))
     go true e = ap (comes_in_request q) (unfinished-last x t e)
     go false e = ap (comes_in_request q) (unfinished-more x t e)

@@ -6,31 +6,25 @@ use Rattle.tl_manager.proofs.Imports.{is_asking, is_acquiring, is_granted_to, Is
 use Rattle.tl_manager.proofs.Imports.{services, service_of_block, is_access_answer, is_ended_by}
 use Rattle.std.proofs.Common.{◌≡◌, ℕ, ◌==◌, Bool, true, false, not, ◌&&◌, List, [], ◌∷◌, Some, refl, sym, ap, subst}
 use Rattle.std.proofs.Common.{◌∙◌}
-use Rattle.std.specs.Prelude.{if◌then◌else◌}
-use Rattle.std.proofs.lemmas.Bool.{eqb-true, eq-eqb}
-use Rattle.tl_beat.specs.declared.channel.Channel.TheVariants as channel
-use Rattle.tl_beat.specs.declared.opcode.OpD.TheVariants as d
+use Rattle.std.{specs.Prelude.if◌then◌else◌, proofs.lemmas.Bool.eqb-true, proofs.lemmas.Bool.eq-eqb}
+use Rattle.tl_beat.specs.declared.channel.Channel.{Channel}
 use Rattle.tl_manager.proofs.words_of_clients.Counts.{count-same, each_both, same_block, same_tracker}
-use Rattle.tl_manager.proofs.services.Ended.{services-sent}
-use Rattle.tl_manager.proofs.pending.Handed.{after_sent, own_link}
-use Rattle.tl_manager.proofs.pending.Probes.{filter-all}
+use Rattle.tl_manager.{proofs.services.Ended.services-sent, proofs.pending.Handed.after_sent}
+use Rattle.tl_manager.{proofs.pending.Handed.own_link, proofs.pending.Probes.filter-all}
+use Rattle.tl_manager.{proofs.services.Serving.some_is, proofs.services.Serving.not_swapped}
 use Rattle.tl_manager.proofs.pending.Replied.{IsReply, asks_else, block_served, sources-reply}
 use Rattle.tl_manager.proofs.pending.Replies.{pending-reply, reply-quiet, burst-reply, reports-reply, request-reply}
 use Rattle.tl_manager.proofs.pending.Replies.{probe-reply, grant_sink-sent, sink-reply, asks_for-fields}
-use Rattle.tl_manager.proofs.services.Serving.{some_is, not_swapped}
 use Rattle.tl_manager.proofs.blocks.Unmoved.{IsSame, handled-same, begun-kept}
 
 grant_kind : (opcode : OpD) → is_grant opcode ≡ true → is_access_answer opcode ≡ false
-grant_kind d.AccessAck e = absurd cc
-grant_kind d.AccessAckData e = absurd cc
-grant_kind d.HintAck e = absurd cc
-grant_kind d.Grant e = refl
-grant_kind d.GrantData e = refl
-grant_kind d.ReleaseAck e = absurd cc
+grant_kind OpD.Grant e = refl
+grant_kind OpD.GrantData e = refl
+grant_kind v e = absurd cc
 
 -- it ends no service
 pub services-grant : {w : ℕ} (link : Link) (m : MessageD w) (t : Trace w) → IsWidth w
-    → unfinished channel.D (on_link link.0 t) ≡ [] → is_grant m.opcode ≡ true
+    → unfinished Channel.D (on_link link.0 t) ≡ [] → is_grant m.opcode ≡ true
     → services (after_sent link (D m) t) ≡ services t
 services-grant {w} link m t width none grant =
     services-sent link (D m) t width refl none
@@ -123,7 +117,7 @@ accounted-grant {w} n s m t is ok = record {
     width : IsWidth w
     width = is.reply.width
 
-    whole : unfinished channel.D (on_link s.link.0 t) ≡ []
+    whole : unfinished Channel.D (on_link s.link.0 t) ≡ []
     whole = is.reply.whole
 
     serves : services u ≡ services t

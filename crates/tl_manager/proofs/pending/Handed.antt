@@ -6,8 +6,7 @@ use Rattle.tl_manager.proofs.Imports.{recorded, Each, granted_by, is_from_client
 use Rattle.std.proofs.Common.{◌≡◌, ℕ, ◌==◌, Bool, true, false, ◌&&◌, ◌||◌, List, [], ◌∷◌, ◌++◌, map, Some, None, refl}
 use Rattle.std.proofs.Common.{ap, ◌∙◌}
 use Rattle.std.specs.Prelude.{if◌then◌else◌, unwrap_or}
-use Rattle.tl_beat.specs.declared.beat.Beat.TheVariants as beat
-use Rattle.tl_beat.specs.declared.channel.Channel.TheVariants as channel
+use Rattle.tl_beat.specs.declared.channel.Channel.{Channel}
 use Rattle.tl_rules.specs.statement.History.{reported}
 use Rattle.tl_manager.specs.laws.Record.{reported_by, granted_by_all}
 use Rattle.tl_manager.proofs.messages.Lawful.{IsHandable}
@@ -51,13 +50,11 @@ other_link client link m t e = beats_on_link client link (burst_of m) t ∙ rw e
 
 whole-sent : {w : ℕ} (m : Message w) (t : History w) → IsWidth w → is_from_client (beat_of m 0) ≡ false → IsWhole t
     → IsWhole (sent m t)
-whole-sent (A m) t width ours ok = absurd cc
 whole-sent (B m) t width ours ok =
-    (unfinished-sent (B m) t ok.0 (beats-positive (B m) width), unfinished-sent_other channel.D (B m) t refl ∙ ok.1)
-whole-sent (C m) t width ours ok = absurd cc
+    (unfinished-sent (B m) t ok.0 (beats-positive (B m) width), unfinished-sent_other Channel.D (B m) t refl ∙ ok.1)
 whole-sent (D m) t width ours ok =
-    (unfinished-sent_other channel.B (D m) t refl ∙ ok.0, unfinished-sent (D m) t ok.1 (beats-positive (D m) width))
-whole-sent (E m) t width ours ok = absurd cc
+    (unfinished-sent_other Channel.B (D m) t refl ∙ ok.0, unfinished-sent (D m) t ok.1 (beats-positive (D m) width))
+whole-sent v t width ours ok = absurd cc
 
 pub whole-after_sent : {w : ℕ} (client : ℕ) (link : Link) (m : Message w) (t : Trace w) → IsWidth w
     → is_from_client (beat_of m 0) ≡ false → IsWhole (on_link client t)
@@ -79,11 +76,9 @@ whole-handed config client (x ∷ handed) t width each ok =
 
 whole-more : {w : ℕ} (x : Beat w) (t : History w) → is_from_client x ≡ true → IsWhole t → IsWhole (x ∷ t)
 unfolding unfinished
-whole-more (beat.A x) t theirs ok = ok
-whole-more (beat.B x) t theirs ok = absurd cc
-whole-more (beat.C x) t theirs ok = ok
-whole-more (beat.D x) t theirs ok = absurd cc
-whole-more (beat.E x) t theirs ok = ok
+whole-more (Beat.B x) t theirs ok = absurd cc
+whole-more (Beat.D x) t theirs ok = absurd cc
+whole-more v t theirs ok = ok
 
 -- a client's beat is none of those messages
 pub whole-taken : {w : ℕ} (client : ℕ) (link : Link) (x : Beat w) (t : Trace w) → is_from_client x ≡ true
@@ -115,40 +110,35 @@ unsaid client link block x t none = go (link.0 == client)
 pub recorded-taken : {w : ℕ} (client : ℕ) (link : Link) (block : ℕ) (x : Beat w) (t : Trace w) → is_from_client x ≡ true
     → recorded client block ((link, x) ∷ t) ≡ unwrap_or (reported_by (link, x) t client block) (recorded client block t)
 unfolding on_link held
-recorded-taken client link block (beat.A x) t theirs = unsaid client link block (beat.A x) t (λ h. refl)
-recorded-taken client link block (beat.B x) t theirs = absurd cc
-recorded-taken client link block (beat.C x) t theirs = go (link.0 == client)
+recorded-taken client link block (Beat.A x) t theirs = unsaid client link block (Beat.A x) t (λ h. refl)
+recorded-taken client link block (Beat.B x) t theirs = absurd cc
+recorded-taken client link block (Beat.C x) t theirs = go (link.0 == client)
   where
-    go : (b : Bool) → held block (if b then beat.C x ∷ on_link client t else on_link client t)
-        ≡ unwrap_or (if b && (ends (beat.C x)
+    go : (b : Bool) → held block (if b then Beat.C x ∷ on_link client t else on_link client t)
+        ≡ unwrap_or (if b && (ends (Beat.C x)
         (on_link client t) && ((is_probe_ack x.opcode || is_release x.opcode) && (block_at x.address == block)))
         then Some
         (reported x.param) else None) (held block (on_link client t))
-    go true = by_cases (ends (beat.C x) (on_link client t))
+    go true = by_cases (ends (Beat.C x) (on_link client t))
         ((is_probe_ack x.opcode || is_release x.opcode) && (block_at x.address == block)) (reported x.param)
         (held block (on_link client t))
     go false = refl
-recorded-taken client link block (beat.D x) t theirs = absurd cc
-recorded-taken client link block (beat.E x) t theirs = unsaid client link block (beat.E x) t (λ h. refl)
+recorded-taken client link block (Beat.D x) t theirs = absurd cc
+recorded-taken client link block (Beat.E x) t theirs = unsaid client link block (Beat.E x) t (λ h. refl)
 
 held-sent : {w : ℕ} (block : ℕ) (m : Message w) (link : Link) (client : ℕ) (t : Trace w) → IsWidth w
     → is_from_client (beat_of m 0) ≡ false → IsWhole (on_link client t) → (link.0 == client) ≡ true
     → held block (sent m (on_link client t)) ≡ unwrap_or (granted_by (link, m) t client block)
     (held block (on_link client t))
-held-sent block (A m) link client t width ours ok e = absurd cc
 held-sent block (B m) link client t width ours ok e = held-sent_unsaid block (B m) (on_link client t) (λ i u. refl)
-held-sent block (C m) link client t width ours ok e = absurd cc
 held-sent block (D m) link client t width ours ok e =
     held-sent_d block m (on_link client t) ok.1 (beats-positive (D m) width) ∙ rw e refl
-held-sent block (E m) link client t width ours ok e = absurd cc
+held-sent block v link client t width ours ok e = absurd cc
 
 granted_elsewhere : {w : ℕ} (block : ℕ) (m : Message w) (link : Link) (client : ℕ) (t : Trace w)
     → (link.0 == client) ≡ false → granted_by (link, m) t client block ≡ None
-granted_elsewhere block (A m) link client t e = refl
-granted_elsewhere block (B m) link client t e = refl
-granted_elsewhere block (C m) link client t e = refl
 granted_elsewhere block (D m) link client t e = rw e refl
-granted_elsewhere block (E m) link client t e = refl
+granted_elsewhere block v link client t e = refl
 
 pub recorded-sent : {w : ℕ} (client block : ℕ) (link : Link) (m : Message w) (t : Trace w) → IsWidth w
     → is_from_client (beat_of m 0) ≡ false → IsWhole (on_link client t)
@@ -163,11 +153,9 @@ recorded-sent {w} client block link m t width ours ok = go (link.0 == client) re
 
 request_of-ours : {w : ℕ} (s : ℕ) (m : Message w) (t : History w) → is_from_client (beat_of m 0) ≡ false
     → request_of s (sent m t) ≡ request_of s t
-request_of-ours s (A m) t ours = absurd cc
 request_of-ours s (B m) t ours = request_of-other s (B m) t (beats_of (B m)) refl
-request_of-ours s (C m) t ours = absurd cc
 request_of-ours s (D m) t ours = request_of-other s (D m) t (beats_of (D m)) refl
-request_of-ours s (E m) t ours = absurd cc
+request_of-ours s v t ours = absurd cc
 
 -- what is handed out is no request
 pub request_of-sent : {w : ℕ} (s client : ℕ) (link : Link) (m : Message w) (t : Trace w)

@@ -3,8 +3,7 @@ use Rattle.tl_manager.proofs.Imports.{Beat, BeatE, Link, Message, History, unfin
 use Rattle.tl_manager.proofs.Imports.{ends, opens, closes, pending}
 use Rattle.std.proofs.Common.{◌≡◌, ℕ, ◌==◌, Bool, true, false, cond, ◌&&◌, [], ◌∷◌, refl, ap, ◌∙◌}
 use Rattle.std.specs.Prelude.{if◌then◌else◌}
-use Rattle.tl_beat.specs.declared.beat.Beat.TheVariants as beat
-use Rattle.tl_beat.specs.declared.channel.Channel.TheVariants as channel
+use Rattle.tl_beat.specs.declared.channel.Channel.{Channel}
 use Rattle.tl_params.specs.declared.key.Key.{Key}
 use Rattle.tl_manager.proofs.pending.Handed.{after_sent, own_link, other_link}
 
@@ -66,15 +65,15 @@ pending-closed k x t o = rw o (go (begins x t))
 
 -- ---- channel E has messages of one beat
 
-pub none-on_e : {w : ℕ} (t : History w) → unfinished channel.E t ≡ []
+pub none-on_e : {w : ℕ} (t : History w) → unfinished Channel.E t ≡ []
 unfolding unfinished
 none-on_e [] = refl
-none-on_e (beat.A x ∷ t) = none-on_e t
-none-on_e (beat.B x ∷ t) = none-on_e t
-none-on_e (beat.C x ∷ t) = none-on_e t
-none-on_e (beat.D x ∷ t) = none-on_e t
-none-on_e (beat.E x ∷ t) = rw (none-on_e t) refl
+none-on_e (Beat.A x ∷ t) = none-on_e t
+none-on_e (Beat.B x ∷ t) = none-on_e t
+none-on_e (Beat.C x ∷ t) = none-on_e t
+none-on_e (Beat.D x ∷ t) = none-on_e t
+none-on_e (Beat.E x ∷ t) = rw (none-on_e t) refl
 
-pub whole-e : {w : ℕ} (x : BeatE) (t : History w) → (begins {w = w} (beat.E x) t ≡ true)
-    × (ends {w = w} (beat.E x) t ≡ true)
+pub whole-e : {w : ℕ} (x : BeatE) (t : History w) → (begins {w = w} (Beat.E x) t ≡ true)
+    × (ends {w = w} (Beat.E x) t ≡ true)
 whole-e x t = rw (none-on_e t) (refl, refl)

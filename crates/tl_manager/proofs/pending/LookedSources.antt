@@ -1,25 +1,20 @@
 -- The request in service with a source on a link is that of a tracker.
-use Rattle.tl_manager.proofs.Imports.{Link, MessageA, unfinished, RequestSource}
-use Rattle.tl_manager.proofs.Imports.{Trace, on_link, comes_in_request, block_at, pending}
-use Rattle.tl_manager.proofs.Imports.{request_of, Each, one_if, count_where, is_granted}
-use Rattle.tl_manager.proofs.Imports.{HasFields, Service, services, service_of_block}
-use Rattle.tl_manager.proofs.Imports.{service_with, IsTracked, tracker_at, Tracker, Free, Probing}
-use Rattle.tl_manager.proofs.Imports.{Granted}
+use Rattle.tl_manager.proofs.Imports.{Link, MessageA, unfinished, RequestSource, Trace, on_link, comes_in_request}
+use Rattle.tl_manager.proofs.Imports.{block_at, pending, request_of, Each, one_if, count_where, is_granted, HasFields}
+use Rattle.tl_manager.proofs.Imports.{Service, services, service_of_block, service_with, IsTracked, tracker_at, Tracker}
+use Rattle.tl_manager.proofs.Imports.{Free, Probing, Granted}
 use Rattle.std.proofs.Common.{◌≡◌, ℕ, ◌+◌, ◌<◌, ◌==◌, Bool, true, false, ◌&&◌, ◌||◌, List, [], ◌∷◌, Option, Some, None}
 use Rattle.std.proofs.Common.{is_some, refl, sym, ap, subst, ◌∙◌, arith}
 use Rattle.std.proofs.lemmas.Bool.{eqb-true, eq-eqb, and_parts}
-use Rattle.tl_beat.specs.declared.channel.Channel.TheVariants as channel
+use Rattle.tl_beat.specs.declared.channel.Channel.{Channel}
 use Rattle.tl_rules.specs.code.Open.{open_request, request_fields}
 use Rattle.tl_manager.specs.laws.Pending
-use Rattle.tl_manager.specs.laws.Pending.{is_any}
-use Rattle.tl_manager.specs.code.Trackers.{IsAsked}
+use Rattle.tl_manager.{specs.laws.Pending.is_any, specs.code.Trackers.IsAsked, specs.code.Tracking.request_in}
+use Rattle.tl_manager.{specs.declared.manager.tracker.Trackers.Trackers, proofs.services.Serving.tracker_among}
+use Rattle.tl_manager.{proofs.services.Serving.one_tracker, proofs.pending.Sources.source-pending}
+use Rattle.tl_manager.{proofs.pending.Sources.served-each, proofs.pending.Looking.AreLooked}
 use Rattle.tl_manager.specs.code.Tracking
-use Rattle.tl_manager.specs.code.Tracking.{request_in}
-use Rattle.tl_manager.specs.declared.manager.tracker.Trackers.{Trackers}
 use Rattle.tl_manager.proofs.words_of_clients.Counts.{one_at_most, count-served}
-use Rattle.tl_manager.proofs.services.Serving.{tracker_among, one_tracker}
-use Rattle.tl_manager.proofs.pending.Sources.{source-pending, served-each}
-use Rattle.tl_manager.proofs.pending.Looking.{AreLooked}
 
 -- ---- sources
 
@@ -36,13 +31,11 @@ unasking {w} trackers client source t are none =
 
     never : (a b : Bool) → (a && (b && false)) ≡ false
     never true true = refl
-    never true false = refl
-    never false b = refl
+    never v u = refl
 
     drop : (a b : Bool) → (a && b) ≡ false → (a && (b && true)) ≡ false
     drop true true e = absurd cc
-    drop true false e = refl
-    drop false b e = refl
+    drop v u e = refl
 
     go : (k : ℕ) (v : Service w) (x : Tracker w) → service_of_block k (services t) ≡ Some v → IsTracked v.tracker x t
         → Tracking.serves_source client source x ≡ false → Pending.is_asking client source t v ≡ false
@@ -86,10 +79,10 @@ asking-served n client source link request t e f g = rw (eq-eqb link.0 client f,
 -- a source is pending where the unfinished request has it, or one is asked with it
 pub source-looked : {w : ℕ} (trackers : Trackers w) (client source : ℕ) (o : Option (MessageA w)) (t : Trace w)
     → AreLooked trackers t → IsAsked trackers client source o
-    → (comes_in_request source (unfinished channel.A (on_link client t)) || is_some o) ≡ pending (RequestSource source)
+    → (comes_in_request source (unfinished Channel.A (on_link client t)) || is_some o) ≡ pending (RequestSource source)
     (on_link client t)
 source-looked {w} trackers client source o t are asked =
-    ap (λ b. comes_in_request source (unfinished channel.A (on_link client t)) || b) (go o asked) ∙ sym
+    ap (λ b. comes_in_request source (unfinished Channel.A (on_link client t)) || b) (go o asked) ∙ sym
     (source-pending client source t are.accounted)
   where
     count_any : (f : Service w → Bool) (vs : List (Service w)) → 0 < count_where f vs → is_any f vs ≡ true
@@ -117,10 +110,10 @@ source-looked {w} trackers client source o t are asked =
 pub request-unasked : {w : ℕ} (trackers : Trackers w) (client source : ℕ) (t : Trace w) → AreLooked trackers t
     → IsAsked trackers client source None → None ≡ open_request source (on_link client t)
 request-unasked {w} trackers client source t are asked =
-    go (comes_in_request source (unfinished channel.A (on_link client t))) refl
+    go (comes_in_request source (unfinished Channel.A (on_link client t))) refl
     (source-looked trackers client source None t are asked)
   where
-    go : (b : Bool) → comes_in_request source (unfinished channel.A (on_link client t)) ≡ b
+    go : (b : Bool) → comes_in_request source (unfinished Channel.A (on_link client t)) ≡ b
         → (b || false) ≡ pending (RequestSource source) (on_link client t)
         → None ≡ open_request source (on_link client t)
     go true e f = rw (sym f, e) refl
@@ -150,7 +143,7 @@ pub request-asked : {w : ℕ} (trackers : Trackers w) (client source : ℕ) (req
 request-asked {w} trackers client source request t are found =
     fields-read request (request_of source (on_link client t)) fields
     ∙ sym (go (pending (RequestSource source) (on_link client t))
-    (comes_in_request source (unfinished channel.A (on_link client t))) refl refl)
+    (comes_in_request source (unfinished Channel.A (on_link client t))) refl refl)
   where
     is : (link : Link) × (service_of_block (block_at request.address) (services t) ≡ Some
         (service_with found.0 link request))
@@ -168,7 +161,7 @@ request-asked {w} trackers client source request t are found =
         (request_of request.source (on_link i t))) is.3 named)
 
     go : (p b : Bool) → pending (RequestSource source) (on_link client t) ≡ p
-        → comes_in_request source (unfinished channel.A (on_link client t)) ≡ b
+        → comes_in_request source (unfinished Channel.A (on_link client t)) ≡ b
         → open_request source (on_link client t) ≡ request_fields (request_of source (on_link client t))
     go true false e f = rw (e, f) refl
     go p true e f =
@@ -177,7 +170,7 @@ request-asked {w} trackers client source request t are found =
         let some = count-served (block_at request.address) (Pending.is_asking client source t) (services t)
         (service_with found.0 is.0 request) is.1
         (asking-served found.0 client source is.0 request t is.2 is.3 is.4) in
-        let here : one_if (comes_in_request source (unfinished channel.A (on_link client t))) ≡ 1 = rw f refl in
+        let here : one_if (comes_in_request source (unfinished Channel.A (on_link client t))) ≡ 1 = rw f refl in
         absurd (omega (arith, total, most, some, here))
     go false false e f =
         let asked = source-looked trackers client source (Some request) t are found in

@@ -1,30 +1,22 @@
 -- What is pending on a link, and which messages are open, read off the trackers.
-use Rattle.tl_manager.proofs.Imports.{Link, MessageA, AcquireOf, GrantSink, GrantAckOf}
-use Rattle.tl_manager.proofs.Imports.{ProbeOf, Trace, on_link, block_at, is_acquire, pending}
-use Rattle.tl_manager.proofs.Imports.{is_one_of, Each, AreApart, blocks_of, is_granted}
-use Rattle.tl_manager.proofs.Imports.{IsAccounted, IsProbed, Service, services, service_of_block}
-use Rattle.tl_manager.proofs.Imports.{trackers_of, service_with, IsTracked, tracker_at, is_of, Tracker, Free, Probing}
-use Rattle.tl_manager.proofs.Imports.{Granted}
-use Rattle.std.proofs.Common.{◌≡◌, ℕ, ◌==◌, Bool, true, false, ◌&&◌, ◌||◌, List, [], ◌∷◌, Some, None}
-use Rattle.std.proofs.Common.{refl, sym, ap, subst, ◌∙◌, inl, inr}
+use Rattle.tl_manager.proofs.Imports.{Link, MessageA, AcquireOf, GrantSink, GrantAckOf, ProbeOf, Trace, on_link}
+use Rattle.tl_manager.proofs.Imports.{block_at, is_acquire, pending, is_one_of, Each, AreApart, blocks_of, is_granted}
+use Rattle.tl_manager.proofs.Imports.{IsAccounted, IsProbed, Service, services, service_of_block, trackers_of}
+use Rattle.tl_manager.proofs.Imports.{service_with, IsTracked, tracker_at, is_of, Tracker, Free, Probing, Granted}
+use Rattle.std.proofs.Common.{◌≡◌, ℕ, ◌==◌, Bool, true, false, ◌&&◌, ◌||◌, List, [], ◌∷◌, Some, None, refl, sym, ap}
+use Rattle.std.proofs.Common.{subst, ◌∙◌, inl, inr}
 use Rattle.std.specs.Prelude.{if◌then◌else◌}
 use Rattle.std.proofs.lemmas.Bool.{eqb-true, eq-eqb, and_parts}
 use Rattle.tl_rules.specs.code.Open.{open_probe}
 use Rattle.tl_manager.specs.statement.Holders
 use Rattle.tl_manager.specs.laws.Pending
-use Rattle.tl_manager.specs.laws.Pending.{is_any}
-use Rattle.tl_manager.specs.code.Probed.{probe_in}
-use Rattle.tl_manager.specs.code.Tracked.{AreMissing}
-use Rattle.tl_manager.specs.code.Trackers.{IsOfBlock}
+use Rattle.tl_manager.{specs.laws.Pending.is_any, specs.code.Probed.probe_in, specs.code.Tracked.AreMissing}
+use Rattle.tl_manager.{specs.code.Trackers.IsOfBlock, specs.code.Tracking.request_in}
+use Rattle.tl_manager.{specs.declared.manager.tracker.Trackers.Trackers, proofs.words_of_clients.Counts.same_tracker}
+use Rattle.tl_manager.{proofs.blocks.Reporting.unserved-block, proofs.services.Serving.some_is}
+use Rattle.tl_manager.{proofs.pending.Sinks.AreTracked, proofs.pending.Sources.sink-pending}
+use Rattle.tl_manager.{proofs.words_of_clients.Words.set-is}
 use Rattle.tl_manager.specs.code.Tracking
-use Rattle.tl_manager.specs.code.Tracking.{request_in}
-use Rattle.tl_manager.specs.declared.manager.tracker.Trackers.{Trackers}
-use Rattle.tl_manager.proofs.words_of_clients.Counts.{same_tracker}
-use Rattle.tl_manager.proofs.blocks.Reporting.{unserved-block}
-use Rattle.tl_manager.proofs.services.Serving.{some_is}
-use Rattle.tl_manager.proofs.pending.Sinks.{AreTracked}
-use Rattle.tl_manager.proofs.pending.Sources.{sink-pending}
-use Rattle.tl_manager.proofs.words_of_clients.Words.{set-is}
 
 -- the trackers after a trace, and what is known of that
 pub record AreLooked {w : ℕ} (trackers : Trackers w) (t : Trace w) : Type 0 where
@@ -70,13 +62,11 @@ acquiring-looked {w} trackers block client tracker t are of = go tracker (looked
   where
     always : (a b : Bool) → (a && b) ≡ (a && (b && true))
     always true true = refl
-    always true false = refl
-    always false b = refl
+    always v u = refl
 
     never : (a b : Bool) → false ≡ (a && (b && false))
     never true true = refl
-    never true false = refl
-    never false b = refl
+    never v u = refl
 
     go : (x : Tracker w) → IsLooked x block t → Tracking.awaits_grant client x ≡ Pending.is_acquiring client t
         (service_of_block block (services t))
@@ -142,14 +132,13 @@ probe-looked {w} trackers block client tracker t are of e = go tracker (looked t
 
     go : (x : Tracker w) → IsLooked x block t → Tracking.awaits_probe_ack client x ≡ true
         → probe_in (request_in x) ≡ open_probe block (on_link client t)
-    go Free is f = absurd cc
-    go (Granted link k) is f = absurd cc
     go (Probing link request missing) is f =
         let probed = (are.accounted.blocks block).probes client pends in
         let same = some_is probed.service (service_with is.0 link request) (sym probed.serves ∙ is.1) in
         let caps = ap (λ (s : Service w). Holders.cap_probed s.request.opcode s.request.param) (sym same) ∙ probed.caps
         in
         rw (pends, probed.probe, caps) refl
+    go v is f = absurd cc
 
 -- ---- sinks
 

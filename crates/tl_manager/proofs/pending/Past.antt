@@ -4,17 +4,13 @@ use Rattle.tl_manager.proofs.Imports.{Perm, on_link, comes_in_request, pending, 
 use Rattle.tl_manager.proofs.Imports.{LinkState}
 use Rattle.std.proofs.Common.{◌≡◌, ℕ, ◌≤◌, Bool, true, false, ◌&&◌, ◌||◌, length, Option, None, refl, sym, ap, ◌∙◌}
 use Rattle.std.specs.Prelude.{is_some}
-use Rattle.tl_params.specs.declared.perm.Perm.TheVariants as perm
 use Rattle.tl_rules.specs.code.Open.{open_probe, has_open_grant}
-use Rattle.tl_manager.specs.code.Probed.{probe_in}
-use Rattle.tl_manager.specs.code.Trackers.{IsOfBlock, IsAsked}
+use Rattle.tl_manager.{specs.code.Probed.probe_in, specs.code.Trackers.IsOfBlock, specs.code.Trackers.IsAsked}
+use Rattle.tl_manager.{specs.code.LinkState.IsLinkPast, proofs.pending.LookedSources.source-looked}
+use Rattle.tl_manager.{proofs.blocks.Outside.recorded-outside}
 use Rattle.tl_manager.specs.code.Tracking.{awaits_grant, awaits_grant_ack, awaits_probe_ack, request_in}
-use Rattle.tl_manager.specs.code.LinkState.{IsLinkPast}
-use Rattle.tl_manager.proofs.pending.Looking.{AreLooked, acquiring-looked, granted-looked}
-use Rattle.tl_manager.proofs.pending.LookedSources.{source-looked}
-use Rattle.tl_manager.proofs.pending.Looking.{missing-looked}
-use Rattle.tl_manager.proofs.pending.Looking.{sink-looked, probe-looked}
-use Rattle.tl_manager.proofs.blocks.Outside.{recorded-outside}
+use Rattle.tl_manager.proofs.pending.Looking.{AreLooked, acquiring-looked, granted-looked, missing-looked, sink-looked}
+use Rattle.tl_manager.proofs.pending.Looking.{probe-looked}
 
 pub looked-past : {w : ℕ} {M : Type 0} (perm_of : M → ℕ → ℕ → Perm) (link : Link) (link_state : LinkState w)
     (block_state : BlockState w M) (t : History w) (p : IsLinkPast perm_of link link_state block_state t)
@@ -29,7 +25,7 @@ looked-past perm_of link link_state block_state t p = record {
 
 pub held-outside : {w : ℕ} {M : Type 0} (perm_of : M → ℕ → ℕ → Perm) (link : Link) (link_state : LinkState w)
     (block_state : BlockState w M) (t : History w) (block : ℕ) → IsLinkPast perm_of link link_state block_state t
-    → length block_state.blocks.bytes.items ≤ block → perm.None ≡ held block t
+    → length block_state.blocks.bytes.items ≤ block → Perm.None ≡ held block t
 held-outside perm_of link link_state block_state t block p past =
     sym (ap (held block) p.past ∙ recorded-outside p.config link.0 block p.end.trace p.kept.sound (rw p.size at past))
 

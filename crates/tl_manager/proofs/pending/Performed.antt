@@ -5,17 +5,12 @@ use Rattle.tl_manager.proofs.Imports.{performed, grant, grant_opcode, access_ans
 use Rattle.tl_manager.proofs.Imports.{IsSteady, Service, services, service_of_block, is_access_answer, IsReady}
 use Rattle.std.proofs.Common.{◌≡◌, ℕ, ◌==◌, Bool, true, false, not, ◌&&◌, ◌||◌, [], ◌∷◌, None, refl, sym, ap, subst}
 use Rattle.std.proofs.Common.{◌∙◌}
-use Rattle.std.specs.Prelude.{filter, if◌then◌else◌}
-use Rattle.std.proofs.lemmas.Bool.{eqb-true}
-use Rattle.tl_rules.specs.declared.answer.Answer.TheVariants as answer
-use Rattle.tl_manager.specs.statement.Handing.{is_granted_data}
+use Rattle.std.{specs.Prelude.filter, specs.Prelude.if◌then◌else◌, proofs.lemmas.Bool.eqb-true}
+use Rattle.tl_manager.{specs.statement.Handing.is_granted_data, proofs.words_of_clients.Counts.serving-without}
+use Rattle.tl_manager.{proofs.pending.Handed.after_sent, proofs.pending.Replied.IsReply}
+use Rattle.tl_manager.{proofs.pending.Replies.reply-quiet, proofs.blocks.Unmoved.awaited-same}
 use Rattle.tl_manager.proofs.pending.Accesses.{answer_kind, granted-still, services-answer, accounted-answer}
-use Rattle.tl_manager.proofs.words_of_clients.Counts.{serving-without}
 use Rattle.tl_manager.proofs.pending.Granted.{IsGrant, granted-now, granted-elsewhere, services-grant, accounted-grant}
-use Rattle.tl_manager.proofs.pending.Handed.{after_sent}
-use Rattle.tl_manager.proofs.pending.Replied.{IsReply}
-use Rattle.tl_manager.proofs.pending.Replies.{reply-quiet}
-use Rattle.tl_manager.proofs.blocks.Unmoved.{awaited-same}
 
 -- ---- the answers
 
@@ -36,9 +31,8 @@ grant_is config s t memory =
 pub answer_is : {w : ℕ} (r : MessageA w) (kind : Answer)
     → (m : MessageD w) × (access_answer r kind ≡ D m) × (is_access_answer m.opcode ≡ true)
     × (is_release_ack m.opcode ≡ false) × (m.source ≡ r.source)
-answer_is r answer.Ack = (_, refl, refl, refl, refl)
-answer_is r answer.Hint = (_, refl, refl, refl, refl)
-answer_is r (answer.Data payload) = (_, refl, refl, refl, refl)
+answer_is r Answer.Ack = (_, refl, refl, refl, refl)
+answer_is r v = (_, refl, refl, refl, refl)
 
 -- ---- a request that may be performed
 

@@ -7,34 +7,32 @@ use Rattle.std.proofs.Common.{◌≡◌, ℕ, ◌<◌, ◌==◌, Bool, true, fal
 use Rattle.std.proofs.Common.{refl, sym, ap, subst, ◌∙◌, arith}
 use Rattle.std.specs.Prelude.{if◌then◌else◌}
 use Rattle.std.proofs.lemmas.Bool.{eqb-true, eq-eqb, and_parts, ltb-true}
-use Rattle.tl_beat.specs.declared.beat.Beat.TheVariants as beat
-use Rattle.tl_beat.specs.declared.channel.Channel.TheVariants as channel
+use Rattle.tl_beat.{specs.declared.beat.Beat.Beat, specs.declared.channel.Channel.Channel}
 use Rattle.tl_manager.proofs.words_of_clients.Clients.{among-where, nobody-where}
-use Rattle.tl_manager.proofs.pending.LinkHistories.{beat-keeps}
+use Rattle.tl_manager.{proofs.pending.LinkHistories.beat-keeps, proofs.pending.Probes.probes-within}
+use Rattle.tl_manager.{proofs.pending.Probes.services-probes, proofs.blocks.Unmoved.awaited-same}
 use Rattle.tl_manager.proofs.words_of_clients.Lists.{each_client, each_weaker}
-use Rattle.tl_manager.proofs.pending.Probes.{probes-within, services-probes}
 use Rattle.tl_manager.proofs.pending.Probing.{missing-own_b, missing-else_b, accounted-probes}
-use Rattle.tl_manager.proofs.blocks.Unmoved.{awaited-same}
 
 -- what a Probe leaves on each link, several leave
 pub probes-keep : {w : ℕ} {A : Type 0} (value : History w → A) (c n : ℕ) (k : Cap) (clients : List ℕ) (t : Trace w)
-    → ((h : History w) → value (beat.B (probe_beat n k) ∷ h) ≡ value h)
+    → ((h : History w) → value (Beat.B (probe_beat n k) ∷ h) ≡ value h)
     → value (on_link c (with_handed (probes n k clients) t)) ≡ value (on_link c t)
 unfolding with_handed
 probes-keep value c n k [] t same = refl
 probes-keep value c n k (d ∷ clients) t same =
-    probes-keep value c n k clients ((record { 0 = d }, beat.B (probe_beat n k)) ∷ t) same ∙ beat-keeps value c
-    (record { 0 = d }) (beat.B (probe_beat n k)) t same
+    probes-keep value c n k clients ((record { 0 = d }, Beat.B (probe_beat n k)) ∷ t) same ∙ beat-keeps value c
+    (record { 0 = d }) (Beat.B (probe_beat n k)) t same
 
 pub granted-probes : {w : ℕ} (n : ℕ) (k : Cap) (clients : List ℕ) (t : Trace w) (s : Service w)
     → is_granted (with_handed (probes n k clients) t) s ≡ is_granted t s
 granted-probes n k clients t s =
     ap (λ b. is_acquire s.request.opcode && b) (probes-keep (pending (GrantSink s.tracker)) s.link.0 n k clients t
-    (λ h. pending-quiet (GrantSink s.tracker) (beat.B (probe_beat n k)) h refl refl))
+    (λ h. pending-quiet (GrantSink s.tracker) (Beat.B (probe_beat n k)) h refl refl))
 
 -- a client that is probed has its ProbeAck missing
 pub missing-probed : {w : ℕ} (config : Config) (n : ℕ) (s : Service w) (k : Cap) (t : Trace w) (d : ℕ)
-    → unfinished channel.B (on_link d t) ≡ [] → is_one_of d (probed config s k t) ≡ true
+    → unfinished Channel.B (on_link d t) ≡ [] → is_one_of d (probed config s k t) ≡ true
     → (d < length config.clients.items)
     × (pending (ProbeOf n) (on_link d (with_handed (probes n k (probed config s k t)) t)) ≡ true)
 missing-probed {w} config n s k t d none among =
@@ -49,7 +47,7 @@ missing-probed {w} config n s k t d none among =
     test : ℕ → Bool
     test c = is_above k (recorded c (block_at s.request.address) t) && not (is_spared s c)
 
-    go : (b : Bool) → b ≡ true → pending (ProbeOf n) (if b then beat.B (probe_beat n k) ∷ on_link d t else on_link d t)
+    go : (b : Bool) → b ≡ true → pending (ProbeOf n) (if b then Beat.B (probe_beat n k) ∷ on_link d t else on_link d t)
         ≡ true
     go true e = missing-own_b n k (on_link d t) none
     go false e = absurd cc

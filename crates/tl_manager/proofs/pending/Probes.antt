@@ -5,8 +5,7 @@ use Rattle.std.proofs.Common.{◌≡◌, ℕ, zero, suc, ◌+◌, ◌<◌, ◌�
 use Rattle.std.proofs.Common.{ap, ◌⊎◌, inl, inr, arith}
 use Rattle.std.specs.Prelude.{if◌then◌else◌, map, filter}
 use Rattle.std.proofs.lemmas.Bool.{cases_eq, eq-eqb, ne_eqb}
-use Rattle.tl_beat.specs.declared.beat.Beat.TheVariants as beat
-use Rattle.tl_beat.specs.declared.beat.BeatB.{BeatB}
+use Rattle.tl_beat.{specs.declared.beat.Beat.Beat, specs.declared.beat.BeatB.BeatB}
 use Rattle.tl_burst.specs.declared.message.MessageB.{MessageB}
 use Rattle.tl_manager.proofs.pending.Handed.{after_sent, own_link, other_link}
 
@@ -105,13 +104,13 @@ filter-all test [] all = refl
 filter-all test (x ∷ xs) all = rw (all x, filter-all test xs all) refl
 
 -- a beat of channel B ends no service
-pub services-b : {w : ℕ} (link : Link) (x : BeatB w) (t : Trace w) → services ((link, beat.B x) ∷ t) ≡ services t
+pub services-b : {w : ℕ} (link : Link) (x : BeatB w) (t : Trace w) → services ((link, Beat.B x) ∷ t) ≡ services t
 unfolding services
-services-b {w} link x t = go (ends (beat.B x) (on_link link.0 t))
+services-b {w} link x t = go (ends (Beat.B x) (on_link link.0 t))
   where
-    go : (b : Bool) → (if b then filter (λ (s : Service w). not (is_ended_by (link, beat.B x) s)) (services t) else
+    go : (b : Bool) → (if b then filter (λ (s : Service w). not (is_ended_by (link, Beat.B x) s)) (services t) else
         services t) ≡ services t
-    go true = filter-all (λ (s : Service w). not (is_ended_by (link, beat.B x) s)) (services t) (λ s. refl)
+    go true = filter-all (λ (s : Service w). not (is_ended_by (link, Beat.B x) s)) (services t) (λ s. refl)
     go false = refl
 
 services-begun_b : {w : ℕ} (link : Link) (m : MessageB w) (n : ℕ) (t : Trace w)

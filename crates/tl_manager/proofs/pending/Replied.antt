@@ -5,17 +5,14 @@ use Rattle.tl_manager.proofs.Imports.{one_if, count_where, is_granted, is_asking
 use Rattle.tl_manager.proofs.Imports.{service_of_block, trackers_of}
 use Rattle.std.proofs.Common.{◌≡◌, ℕ, ◌+◌, ◌==◌, Bool, true, false, not, ◌&&◌, List, [], ◌∷◌, Some, refl, sym, ap, ap₂}
 use Rattle.std.proofs.Common.{◌∙◌, arith}
-use Rattle.std.specs.Prelude.{if◌then◌else◌}
-use Rattle.std.proofs.lemmas.Bool.{eqb-true, and_parts}
-use Rattle.tl_beat.specs.declared.channel.Channel.TheVariants as channel
+use Rattle.std.{specs.Prelude.if◌then◌else◌, proofs.lemmas.Bool.eqb-true, proofs.lemmas.Bool.and_parts}
+use Rattle.tl_beat.specs.declared.channel.Channel.{Channel}
 use Rattle.tl_rules.proofs.Handed.{after_whole}
-use Rattle.tl_manager.proofs.pending.Accepted.{asks}
+use Rattle.tl_manager.{proofs.pending.Accepted.asks, proofs.pending.Handed.after_sent}
+use Rattle.tl_manager.{proofs.words_of_clients.Lists.each_weaker, proofs.pending.Replies.pending-reply}
+use Rattle.tl_manager.{proofs.pending.Replies.burst-reply, proofs.services.Serving.some_is}
 use Rattle.tl_manager.proofs.words_of_clients.Counts.{count-same, count-none, count-served, one_at_most, same_block}
 use Rattle.tl_manager.proofs.words_of_clients.Counts.{only_one}
-use Rattle.tl_manager.proofs.pending.Handed.{after_sent}
-use Rattle.tl_manager.proofs.words_of_clients.Lists.{each_weaker}
-use Rattle.tl_manager.proofs.pending.Replies.{pending-reply, burst-reply}
-use Rattle.tl_manager.proofs.services.Serving.{some_is}
 
 -- the answer of the service of a block: nothing of the block is missing, and no Grant was handed out
 pub record IsReply {w : ℕ} (n : ℕ) (s : Service w) (m : MessageD w) (t : Trace w) : Type 0 where
@@ -25,7 +22,7 @@ pub record IsReply {w : ℕ} (n : ℕ) (s : Service w) (m : MessageD w) (t : Tra
   pub source : m.source ≡ s.request.source
   pub answers : is_release_ack m.opcode ≡ false
   pub settled : (c : ℕ) → pending (ProbeOf n) (on_link c t) ≡ false
-  pub whole : unfinished channel.D (on_link s.link.0 t) ≡ []
+  pub whole : unfinished Channel.D (on_link s.link.0 t) ≡ []
   pub blocks_apart : AreApart (blocks_of (services t))
   pub trackers_apart : AreApart (trackers_of (services t))
 
@@ -42,7 +39,7 @@ asks-alone n s m t is ok =
 
 -- no unfinished request has its source
 no_burst : {w : ℕ} (n : ℕ) (s : Service w) (m : MessageD w) (t : Trace w) → IsReply n s m t → IsAccounted t
-    → one_if (comes_in_request s.request.source (unfinished channel.A (on_link s.link.0 t))) ≡ 0
+    → one_if (comes_in_request s.request.source (unfinished Channel.A (on_link s.link.0 t))) ≡ 0
 no_burst n s m t is ok =
     let total = ok.sources s.link.0 s.request.source in
     let most = one_at_most (pending (RequestSource s.request.source) (on_link s.link.0 t)) in
@@ -105,8 +102,7 @@ others-left {w} n c q s m t is other =
   where
     neither : (a b d : Bool) → (a && b) ≡ false → false ≡ (a && (b && d))
     neither true true d e = absurd cc
-    neither true false d e = refl
-    neither false b d e = refl
+    neither v u d e = refl
 
     still : (v : Service w) (b : Bool) → (block_at v.request.address == n) ≡ b
         → ((block_at v.request.address == n) ≡ true → v ≡ s) → (not b && is_asking c q t v) ≡ is_asking c q t v
@@ -125,29 +121,28 @@ source-reply n c q s m t is =
     go : (a b before : Bool) → (if a then after_whole false (true && b) before else before)
         ≡ (if a && b then false else before)
     go true true before = refl
-    go true false before = refl
-    go false b before = refl
+    go v u before = refl
 
 pub sources-reply : {w : ℕ} (n c q : ℕ) (s : Service w) (m : MessageD w) (t : Trace w) → IsReply n s m t → IsAccounted t
     → count_where (is_asking c q (after_sent s.link (D m) t)) (services (after_sent s.link (D m) t)) ≡ count_where
     (asks_else n c q t) (services t)
-    → one_if (comes_in_request q (unfinished channel.A (on_link c (after_sent s.link (D m) t)))) + count_where
+    → one_if (comes_in_request q (unfinished Channel.A (on_link c (after_sent s.link (D m) t)))) + count_where
     (is_asking c q (after_sent s.link (D m) t))
     (services (after_sent s.link (D m) t)) ≡ one_if (pending (RequestSource q) (on_link c (after_sent s.link (D m) t)))
 sources-reply {w} n c q s m t is ok left = rw (burst-reply s.link m t c, left, source-reply n c q s m t is)
     (go ((s.link.0 == c) && (s.request.source == q)) refl)
   where
     go : (b : Bool) → ((s.link.0 == c) && (s.request.source == q)) ≡ b
-        → one_if (comes_in_request q (unfinished channel.A (on_link c t))) + count_where (asks_else n c q t)
+        → one_if (comes_in_request q (unfinished Channel.A (on_link c t))) + count_where (asks_else n c q t)
         (services t) ≡ one_if (if b then false else pending (RequestSource q) (on_link c t))
-    go false e = ap (λ i. one_if (comes_in_request q (unfinished channel.A (on_link c t))) + i)
+    go false e = ap (λ i. one_if (comes_in_request q (unfinished Channel.A (on_link c t))) + i)
         (others-left n c q s m t is e) ∙ ok.sources c q
     go true e =
         let p = and_parts (s.link.0 == c) (s.request.source == q) e in
         let link = eqb-true s.link.0 c p.0 in
         let source = eqb-true s.request.source q p.1 in
-        let none : one_if (comes_in_request q (unfinished channel.A (on_link c t))) ≡ 0 =
-        ap₂ (λ i j. one_if (comes_in_request j (unfinished channel.A (on_link i t)))) (sym link) (sym source) ∙ no_burst
+        let none : one_if (comes_in_request q (unfinished Channel.A (on_link c t))) ≡ 0 =
+        ap₂ (λ i j. one_if (comes_in_request j (unfinished Channel.A (on_link i t)))) (sym link) (sym source) ∙ no_burst
         n s m t is ok in
         let gone : count_where (asks_else n c q t) (services t) ≡ 0 =
         ap₂ (λ i j. count_where (asks_else n i j t) (services t)) (sym link) (sym source) ∙ none-left n s m t is ok

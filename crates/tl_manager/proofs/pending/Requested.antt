@@ -10,111 +10,108 @@ use Rattle.std.proofs.Common.{◌≡◌, ℕ, ◌+◌, ◌==◌, Bool, true, fal
 use Rattle.std.proofs.Common.{refl, sym, ap, subst, ◌∙◌, arith, inl, inr}
 use Rattle.std.specs.Prelude.{nat_le, option_map, is_some}
 use Rattle.std.proofs.lemmas.Bool.{eqb-true, eq-eqb, or_cases, and_parts}
-use Rattle.tl_beat.specs.declared.beat.Beat.TheVariants as beat
-use Rattle.tl_beat.specs.declared.channel.Channel.TheVariants as channel
-use Rattle.tl_manager.proofs.pending.Accepted.{granted_a, same-else}
-use Rattle.tl_manager.proofs.words_of_clients.Counts.{counted-kept}
+use Rattle.tl_beat.specs.declared.channel.Channel.{Channel}
+use Rattle.tl_manager.{proofs.pending.Accepted.granted_a, proofs.pending.Accepted.same-else}
+use Rattle.tl_manager.{proofs.words_of_clients.Counts.counted-kept, proofs.services.Ended.services-part}
+use Rattle.tl_manager.{proofs.calls.Events.services-request, proofs.words_of_clients.Free.least_free-is_free}
+use Rattle.tl_manager.{proofs.messages.Requests.made_of, proofs.pending.Sinks.AreTracked}
+use Rattle.tl_manager.{proofs.pending.Sinks.grants_by, proofs.blocks.Unmoved.handled-same}
+use Rattle.tl_manager.{proofs.blocks.Unmoved.reports-kept}
 use Rattle.tl_manager.proofs.pending.Asked.{Place, fields-now, acquire_whole, begun-now, source-now, comes-now}
-use Rattle.tl_manager.proofs.services.Ended.{services-part}
-use Rattle.tl_manager.proofs.calls.Events.{services-request}
-use Rattle.tl_manager.proofs.words_of_clients.Free.{least_free-is_free}
 use Rattle.tl_manager.proofs.pending.LinkHistories.{own_beat, other_beat, beat-keeps, pending-opened}
-use Rattle.tl_manager.proofs.messages.Requests.{made_of}
-use Rattle.tl_manager.proofs.pending.Sinks.{AreTracked, grants_by}
-use Rattle.tl_manager.proofs.blocks.Unmoved.{handled-same, reports-kept}
 
 -- ---- sources and bursts
 
 -- the burst of each link
 begun-all : {w : ℕ} (link : Link) (x : BeatA w) (t : Trace w) (c : ℕ) → Place x (on_link link.0 t) → IsAccounted t
-    → IsBegun (on_link c ((link, beat.A x) ∷ t)) (unfinished channel.A (on_link c ((link, beat.A x) ∷ t)))
+    → IsBegun (on_link c ((link, Beat.A x) ∷ t)) (unfinished Channel.A (on_link c ((link, Beat.A x) ∷ t)))
 begun-all {w} link x t c place ok = go (link.0 == c) refl
   where
     IsOk : History w → Type 0
-    IsOk h = IsBegun h (unfinished channel.A h)
+    IsOk h = IsBegun h (unfinished Channel.A h)
 
-    go : (b : Bool) → (link.0 == c) ≡ b → IsOk (on_link c ((link, beat.A x) ∷ t))
-    go true e = subst IsOk (sym (own_beat c link (beat.A x) t e))
+    go : (b : Bool) → (link.0 == c) ≡ b → IsOk (on_link c ((link, Beat.A x) ∷ t))
+    go true e = subst IsOk (sym (own_beat c link (Beat.A x) t e))
         (begun-now x (on_link c t) (subst (λ (i : ℕ). Place x (on_link i t)) (eqb-true link.0 c e) place))
-    go false e = subst IsOk (sym (other_beat c link (beat.A x) t e)) (ok.begun c)
+    go false e = subst IsOk (sym (other_beat c link (Beat.A x) t e)) (ok.begun c)
 
-burst_c : {w : ℕ} (x : BeatA w) (h : History w) → unfinished channel.C (beat.A x ∷ h) ≡ unfinished channel.C h
+burst_c : {w : ℕ} (x : BeatA w) (h : History w) → unfinished Channel.C (Beat.A x ∷ h) ≡ unfinished Channel.C h
 unfolding unfinished
 burst_c x h = refl
 
 reports-all : {w : ℕ} (link : Link) (x : BeatA w) (t : Trace w) (c : ℕ) → IsAccounted t
-    → IsReporting (on_link c ((link, beat.A x) ∷ t)) (unfinished channel.C (on_link c ((link, beat.A x) ∷ t)))
+    → IsReporting (on_link c ((link, Beat.A x) ∷ t)) (unfinished Channel.C (on_link c ((link, Beat.A x) ∷ t)))
 reports-all link x t c ok =
-    reports-kept t ((link, beat.A x) ∷ t) c (beat-keeps (unfinished channel.C) c link (beat.A x) t (burst_c x))
-    (λ k e. beat-keeps (pending (ProbeOf k)) c link (beat.A x) t (λ h. pending-quiet (ProbeOf k) (beat.A x) h refl refl)
+    reports-kept t ((link, Beat.A x) ∷ t) c (beat-keeps (unfinished Channel.C) c link (Beat.A x) t (burst_c x))
+    (λ k e. beat-keeps (pending (ProbeOf k)) c link (Beat.A x) t (λ h. pending-quiet (ProbeOf k) (Beat.A x) h refl refl)
     ∙ e) ok
 
 -- how many services ask with a source afterwards, where the new one does
 abbrev Counts : {w : ℕ} → Link → BeatA w → Trace w → ℕ → ℕ → Type 0
 Counts link x t c q =
-    count_where (is_asking c q ((link, beat.A x) ∷ t)) (services ((link, beat.A x) ∷ t))
-    ≡ one_if ((link.0 == c) && (ends (beat.A x) (on_link link.0 t) && (x.source == q))) + count_where (is_asking c q t)
+    count_where (is_asking c q ((link, Beat.A x) ∷ t)) (services ((link, Beat.A x) ∷ t))
+    ≡ one_if ((link.0 == c) && (ends (Beat.A x) (on_link link.0 t) && (x.source == q))) + count_where (is_asking c q t)
     (services t)
 
 sources-all : {w : ℕ} (link : Link) (x : BeatA w) (t : Trace w) (c q : ℕ) → Place x (on_link link.0 t) → IsAccounted t
     → Counts link x t c q
-    → one_if (comes_in_request q (unfinished channel.A (on_link c ((link, beat.A x) ∷ t)))) + count_where
-    (is_asking c q ((link, beat.A x) ∷ t))
-    (services ((link, beat.A x) ∷ t)) ≡ one_if (pending (RequestSource q) (on_link c ((link, beat.A x) ∷ t)))
+    → one_if (comes_in_request q (unfinished Channel.A (on_link c ((link, Beat.A x) ∷ t)))) + count_where
+    (is_asking c q ((link, Beat.A x) ∷ t))
+    (services ((link, Beat.A x) ∷ t)) ≡ one_if (pending (RequestSource q) (on_link c ((link, Beat.A x) ∷ t)))
 sources-all {w} link x t c q place ok counts = go (link.0 == c) refl counts
   where
     before : ℕ
     before = count_where (is_asking c q t) (services t)
 
     after : ℕ
-    after = count_where (is_asking c q ((link, beat.A x) ∷ t)) (services ((link, beat.A x) ∷ t))
+    after = count_where (is_asking c q ((link, Beat.A x) ∷ t)) (services ((link, Beat.A x) ∷ t))
 
     Holds : History w → ℕ → Type 0
-    Holds h n = one_if (comes_in_request q (unfinished channel.A h)) + n ≡ one_if (pending (RequestSource q) h)
+    Holds h n = one_if (comes_in_request q (unfinished Channel.A h)) + n ≡ one_if (pending (RequestSource q) h)
 
     split : (last mine : Bool) → one_if (not last && mine) + (one_if (last && mine) + before) ≡ one_if mine + before
     split true mine = omega arith
     split false mine = omega arith
 
-    at_own : link.0 ≡ c → after ≡ one_if (ends (beat.A x) (on_link link.0 t) && (x.source == q)) + before
-        → Holds (beat.A x ∷ on_link c t) after
+    at_own : link.0 ≡ c → after ≡ one_if (ends (Beat.A x) (on_link link.0 t) && (x.source == q)) + before
+        → Holds (Beat.A x ∷ on_link c t) after
     at_own same n =
         let here : Place x (on_link c t) = subst (λ (i : ℕ). Place x (on_link i t)) same place in
-        let many : after ≡ one_if (ends (beat.A x) (on_link c t) && (x.source == q)) + before =
-        n ∙ ap (λ i. one_if (ends (beat.A x) (on_link i t) && (x.source == q)) + before) same in
-        rw (comes-now x (on_link c t) q, many) (split (ends (beat.A x) (on_link c t)) (x.source == q) ∙ source-now x
+        let many : after ≡ one_if (ends (Beat.A x) (on_link c t) && (x.source == q)) + before =
+        n ∙ ap (λ i. one_if (ends (Beat.A x) (on_link i t) && (x.source == q)) + before) same in
+        rw (comes-now x (on_link c t) q, many) (split (ends (Beat.A x) (on_link c t)) (x.source == q) ∙ source-now x
         (on_link c t) q before here (ok.sources c q))
 
-    go : (b : Bool) → (link.0 == c) ≡ b → after ≡ one_if (b && (ends (beat.A x) (on_link link.0 t) && (x.source == q)))
-        + before → Holds (on_link c ((link, beat.A x) ∷ t)) after
-    go true e n = subst (λ (h : History w). Holds h after) (sym (own_beat c link (beat.A x) t e))
+    go : (b : Bool) → (link.0 == c) ≡ b → after ≡ one_if (b && (ends (Beat.A x) (on_link link.0 t) && (x.source == q)))
+        + before → Holds (on_link c ((link, Beat.A x) ∷ t)) after
+    go true e n = subst (λ (h : History w). Holds h after) (sym (own_beat c link (Beat.A x) t e))
         (at_own (eqb-true link.0 c e) n)
     go false e n =
         let same : after ≡ before = omega (arith, n) in
-        subst (λ (h : History w). Holds h after) (sym (other_beat c link (beat.A x) t e)) (rw same (ok.sources c q))
+        subst (λ (h : History w). Holds h after) (sym (other_beat c link (Beat.A x) t e)) (rw same (ok.sources c q))
 
 -- ---- a beat that isn't the last
 
-no_acquire : {w : ℕ} (x : BeatA w) (h : History w) (k : ℕ) → Place x h → ends (beat.A x) h ≡ false
-    → pending (AcquireOf k) (beat.A x ∷ h) ≡ pending (AcquireOf k) h
+no_acquire : {w : ℕ} (x : BeatA w) (h : History w) (k : ℕ) → Place x h → ends (Beat.A x) h ≡ false
+    → pending (AcquireOf k) (Beat.A x ∷ h) ≡ pending (AcquireOf k) h
 no_acquire {w} x h k place part = go (is_acquire x.opcode) refl
   where
-    go : (b : Bool) → is_acquire x.opcode ≡ b → pending (AcquireOf k) (beat.A x ∷ h) ≡ pending (AcquireOf k) h
+    go : (b : Bool) → is_acquire x.opcode ≡ b → pending (AcquireOf k) (Beat.A x ∷ h) ≡ pending (AcquireOf k) h
     go true e = absurd (let last = (acquire_whole x h place e).1 in cc)
-    go false e = pending-quiet (AcquireOf k) (beat.A x) h (rw e refl) refl
+    go false e = pending-quiet (AcquireOf k) (Beat.A x) h (rw e refl) refl
 
 pub accounted-part : {w : ℕ} (link : Link) (x : BeatA w) (t : Trace w) → Place x (on_link link.0 t)
-    → ends (beat.A x) (on_link link.0 t) ≡ false → IsAccounted t → IsAccounted ((link, beat.A x) ∷ t)
+    → ends (Beat.A x) (on_link link.0 t) ≡ false → IsAccounted t → IsAccounted ((link, Beat.A x) ∷ t)
 accounted-part {w} link x t place part ok = record {
   sources = λ c q. sources-all link x t c q place ok (counted c q);
   begun = λ c. begun-all link x t c place ok;
   reports = λ c. reports-all link x t c ok;
-  blocks = λ k. handled-same k t ((link, beat.A x) ∷ t) (same-else link x t k place ok (ap (service_of_block k) still)
+  blocks = λ k. handled-same k t ((link, Beat.A x) ∷ t) (same-else link x t k place ok (ap (service_of_block k) still)
       (no_acquire x (on_link link.0 t) k place part)) (ok.blocks k);
 }
   where
-    still : services ((link, beat.A x) ∷ t) ≡ services t
-    still = services-part (link, beat.A x) t part
+    still : services ((link, Beat.A x) ∷ t) ≡ services t
+    still = services-part (link, Beat.A x) t part
 
     none : (b c : Bool) (n : ℕ) → n ≡ one_if (b && (false && c)) + n
     none true c n = omega arith
@@ -122,7 +119,7 @@ accounted-part {w} link x t place part ok = record {
 
     counted : (c q : ℕ) → Counts link x t c q
     counted c q =
-        ap (count_where (is_asking c q ((link, beat.A x) ∷ t))) still ∙ counted-kept t ((link, beat.A x) ∷ t) c q
+        ap (count_where (is_asking c q ((link, Beat.A x) ∷ t))) still ∙ counted-kept t ((link, Beat.A x) ∷ t) c q
         (services t) (λ s. granted_a link x t s)
         ∙ rw part (none (link.0 == c) (x.source == q) (count_where (is_asking c q t) (services t)))
 
@@ -134,10 +131,10 @@ service_made link x t fits = record {
   tracker = least_untaken (trackers_of (services t));
   link = link;
   request =
-      made_of x (beat.A x ∷ unfinished channel.A (on_link link.0 t)) fits;
+      made_of x (Beat.A x ∷ unfinished Channel.A (on_link link.0 t)) fits;
 }
 
-pub made : {w : ℕ} (link : Link) (x : BeatA w) (t : Trace w) → ends (beat.A x) (on_link link.0 t) ≡ true
+pub made : {w : ℕ} (link : Link) (x : BeatA w) (t : Trace w) → ends (Beat.A x) (on_link link.0 t) ≡ true
     → nat_le x.size 6 ≡ true
     → (fits : nat_le x.size 6 ≡ true) × IsServed link x (service_made link x t fits) t
 unfolding request_carried
@@ -145,7 +142,7 @@ made {w} link x t last small = let found = go (nat_le x.size 6) refl small in
     (found.0, record { last = last; made = found.1 })
   where
     beats : List (Beat w)
-    beats = beat.A x ∷ unfinished channel.A (on_link link.0 t)
+    beats = Beat.A x ∷ unfinished Channel.A (on_link link.0 t)
 
     with_tracker : MessageA w → Service w
     with_tracker m = record { tracker = least_untaken (trackers_of (services t)); link = link; request = m }
@@ -182,7 +179,7 @@ free_tracker {w} c n t tracked free = go (pending (GrantSink n) (on_link c t)) r
     go false e = refl
 
 pub new_ungranted : {w : ℕ} (link : Link) (x : BeatA w) (t : Trace w) (fits : nat_le x.size 6 ≡ true) → AreTracked t
-    → is_granted ((link, beat.A x) ∷ t) (service_made link x t fits) ≡ false
+    → is_granted ((link, Beat.A x) ∷ t) (service_made link x t fits) ≡ false
 new_ungranted link x t fits tracked =
     granted_a link x t (service_made link x t fits)
     ∙ rw (free_tracker link.0 (least_untaken (trackers_of (services t))) t tracked
@@ -196,15 +193,15 @@ unserved (Some s) e = absurd cc
 new_handled : {w : ℕ} (link : Link) (x : BeatA w) (t : Trace w) (s : Service w) → Place x (on_link link.0 t)
     → IsHandled (block_at x.address) t
     → service_of_block (block_at x.address) (services t) ≡ None
-    → services ((link, beat.A x) ∷ t) ≡ s ∷ services t → s.link.0 ≡ link.0 → s.request.opcode ≡ x.opcode
+    → services ((link, Beat.A x) ∷ t) ≡ s ∷ services t → s.link.0 ≡ link.0 → s.request.opcode ≡ x.opcode
     → block_at s.request.address ≡ block_at x.address
     → HasFields s.request.opcode s.request.param s.request.size s.request.source s.request.address
-    (request_of s.request.source (beat.A x ∷ on_link link.0 t))
-    → is_granted ((link, beat.A x) ∷ t) s ≡ false → IsHandled (block_at x.address) ((link, beat.A x) ∷ t)
+    (request_of s.request.source (Beat.A x ∷ on_link link.0 t))
+    → is_granted ((link, Beat.A x) ∷ t) s ≡ false → IsHandled (block_at x.address) ((link, Beat.A x) ∷ t)
 new_handled {w} link x t s place ok none more from opcode block fields free = record {
   acquires = λ c. acquires_at c (link.0 == c) refl ∙ ap (is_acquiring c u) (sym served);
-  grants = λ c. beat-keeps (pending (GrantAckOf k)) c link (beat.A x) t
-      (λ h. pending-quiet (GrantAckOf k) (beat.A x) h refl refl) ∙ ok.grants c
+  grants = λ c. beat-keeps (pending (GrantAckOf k)) c link (Beat.A x) t
+      (λ h. pending-quiet (GrantAckOf k) (Beat.A x) h refl refl) ∙ ok.grants c
       ∙ ap (is_granted_to c t) none ∙ sym (ap (λ b. (s.link.0 == c) && b) free ∙ never (s.link.0 == c)) ∙ ap
       (is_granted_to c u) (sym served);
   named = subst (IsNamed k u) (sym served) (
@@ -214,8 +211,8 @@ new_handled {w} link x t s place ok none more from opcode block fields free = re
   );
   probes = λ c e.
       let before = ok.probes c
-      (sym (beat-keeps (pending (ProbeOf k)) c link (beat.A x) t
-      (λ h. pending-quiet (ProbeOf k) (beat.A x) h refl refl)) ∙ e) in
+      (sym (beat-keeps (pending (ProbeOf k)) c link (Beat.A x) t
+      (λ h. pending-quiet (ProbeOf k) (Beat.A x) h refl refl)) ∙ e) in
       absurd (let found : Some before.service ≡ None = sym before.serves ∙ none in cc);
 }
   where
@@ -223,7 +220,7 @@ new_handled {w} link x t s place ok none more from opcode block fields free = re
     k = block_at x.address
 
     u : Trace w
-    u = (link, beat.A x) ∷ t
+    u = (link, Beat.A x) ∷ t
 
     served : service_of_block k (services u) ≡ Some s
     served = ap (service_of_block k) more ∙ rw (eq-eqb (block_at s.request.address) (block_at x.address) block) refl
@@ -233,19 +230,19 @@ new_handled {w} link x t s place ok none more from opcode block fields free = re
     named_here =
         subst (λ (h : History w). HasFields s.request.opcode s.request.param s.request.size s.request.source
         s.request.address (request_of s.request.source h))
-        (sym (own_beat s.link.0 link (beat.A x) t (eq-eqb link.0 s.link.0 (sym from)) ∙ ap (λ i. beat.A x ∷ on_link i t)
+        (sym (own_beat s.link.0 link (Beat.A x) t (eq-eqb link.0 s.link.0 (sym from)) ∙ ap (λ i. Beat.A x ∷ on_link i t)
         from)) fields
 
     opened : (b : Bool) (h : History w) → Place x h → is_acquire x.opcode ≡ b → pending (AcquireOf k) h ≡ false
-        → pending (AcquireOf k) (beat.A x ∷ h) ≡ b
-    opened true h here e before = pending-opened (AcquireOf k) (beat.A x) h refl ∙ rw
+        → pending (AcquireOf k) (Beat.A x ∷ h) ≡ b
+    opened true h here e before = pending-opened (AcquireOf k) (Beat.A x) h refl ∙ rw
         ((acquire_whole x h here e).0, e, eq-eqb k k refl) refl
-    opened false h here e before = pending-quiet (AcquireOf k) (beat.A x) h (rw e refl) refl ∙ before
+    opened false h here e before = pending-quiet (AcquireOf k) (Beat.A x) h (rw e refl) refl ∙ before
 
     acquires_at : (c : ℕ) (b : Bool) → (link.0 == c) ≡ b → pending (AcquireOf k) (on_link c u) ≡ is_acquiring c u
         (Some s)
     acquires_at c true e =
-        ap (pending (AcquireOf k)) (own_beat c link (beat.A x) t e)
+        ap (pending (AcquireOf k)) (own_beat c link (Beat.A x) t e)
         ∙ opened (is_acquire x.opcode) (on_link c t) (subst (λ (i : ℕ). Place x (on_link i t)) (eqb-true link.0 c e)
         place) refl (ok.acquires c ∙ ap (is_acquiring c t) none)
         ∙ sym (ap (λ b. is_acquire s.request.opcode && ((s.link.0 == c) && not b)) free ∙ rw (opcode, from, e)
@@ -255,18 +252,18 @@ new_handled {w} link x t s place ok none more from opcode block fields free = re
         only true = refl
         only false = refl
     acquires_at c false e =
-        ap (pending (AcquireOf k)) (other_beat c link (beat.A x) t e) ∙ ok.acquires c ∙ ap (is_acquiring c t) none ∙ sym
+        ap (pending (AcquireOf k)) (other_beat c link (Beat.A x) t e) ∙ ok.acquires c ∙ ap (is_acquiring c t) none ∙ sym
         (rw (from, e) (never (is_acquire s.request.opcode)))
 
 opens_else : {w : ℕ} (x : BeatA w) (h : History w) (k : ℕ) → (block_at x.address == k) ≡ false
-    → pending (AcquireOf k) (beat.A x ∷ h) ≡ pending (AcquireOf k) h
-opens_else x h k other = pending-quiet (AcquireOf k) (beat.A x) h (rw other (never (is_acquire x.opcode))) refl
+    → pending (AcquireOf k) (Beat.A x ∷ h) ≡ pending (AcquireOf k) h
+opens_else x h k other = pending-quiet (AcquireOf k) (Beat.A x) h (rw other (never (is_acquire x.opcode))) refl
 
 pub accounted-last : {w : ℕ} (link : Link) (x : BeatA w) (t : Trace w) (fits : nat_le x.size 6 ≡ true)
     → Place x (on_link link.0 t) → AreTracked t
     → is_in_service (block_at x.address) (services t) ≡ false → IsServed link x (service_made link x t fits) t
     → IsAccounted t
-    → IsAccounted ((link, beat.A x) ∷ t)
+    → IsAccounted ((link, Beat.A x) ∷ t)
 accounted-last {w} link x t fits place tracked unused is ok = record {
   sources = λ c q. sources-all link x t c q place ok (counted c q);
   begun = λ c. begun-all link x t c place ok;
@@ -278,7 +275,7 @@ accounted-last {w} link x t fits place tracked unused is ok = record {
     s = service_made link x t fits
 
     u : Trace w
-    u = (link, beat.A x) ∷ t
+    u = (link, Beat.A x) ∷ t
 
     more : services u ≡ s ∷ services t
     more = services-request link x s t is
@@ -288,8 +285,7 @@ accounted-last {w} link x t fits place tracked unused is ok = record {
 
     asked : (b c : Bool) → (b && (c && not (is_granted u s))) ≡ (b && (true && c))
     asked true true = ap not free
-    asked true false = refl
-    asked false c = refl
+    asked v u = refl
 
     counted : (c q : ℕ) → Counts link x t c q
     counted c q =

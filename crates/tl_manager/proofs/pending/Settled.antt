@@ -2,11 +2,8 @@
 use Rattle.tl_manager.proofs.Imports.{Beat, History, Config, ProbeOf, Level, Trace, on_link, pending, is_missing}
 use Rattle.tl_manager.proofs.Imports.{is_settled, Each, IsSound, illegal_at, level_of}
 use Rattle.std.proofs.Common.{◌≡◌, ℕ, ◌≤◌, true, false, [], ◌∷◌, length, Option, Some, None, refl, ap, inl, inr}
-use Rattle.std.specs.Prelude.{option_map}
-use Rattle.std.proofs.lemmas.Bool.{cases_lt}
-use Rattle.std.proofs.lemmas.Option.{slice_get_past}
-use Rattle.tl_manager.proofs.words_of_clients.Clients.{nobody-where}
-use Rattle.tl_manager.proofs.messages.Sound.{sound_on_link}
+use Rattle.std.{specs.Prelude.option_map, proofs.lemmas.Bool.cases_lt, proofs.lemmas.Option.slice_get_past}
+use Rattle.tl_manager.{proofs.words_of_clients.Clients.nobody-where, proofs.messages.Sound.sound_on_link}
 
 -- past the last link there is no beat
 no_level : (config : Config) (c : ℕ) → length config.clients.items ≤ c → level_of config c ≡ None

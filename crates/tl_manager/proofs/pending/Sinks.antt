@@ -9,10 +9,8 @@ use Rattle.std.proofs.Common.{◌≡◌, ℕ, zero, suc, ◌==◌, Bool, true, f
 use Rattle.std.proofs.Common.{map, Option, Some, None, refl, sym, ap, subst, ◌∙◌, inl, inr}
 use Rattle.std.specs.Prelude.{filter, if◌then◌else◌, ⊤}
 use Rattle.std.proofs.lemmas.Bool.{or_cases, and_parts, eqb-true, eq-eqb, ne_eqb, true≢false}
-use Rattle.tl_beat.specs.declared.beat.Beat.TheVariants as beat
 use Rattle.tl_manager.proofs.pending.Handed.{after_sent, own_link, other_link, whole-after_sent}
-use Rattle.tl_manager.proofs.messages.Lawful.{IsHandable}
-use Rattle.tl_manager.proofs.words_of_clients.Lists.{each_weaker}
+use Rattle.tl_manager.{proofs.messages.Lawful.IsHandable, proofs.words_of_clients.Lists.each_weaker}
 use Rattle.tl_rules.proofs.Tables.{neither}
 
 -- the Acquire of this client that has this tracker
@@ -42,7 +40,7 @@ kept_by {w} client sink test (s ∷ ss) keeps e = elim (or_cases (grants_by clie
 
 -- any other beat than a request's
 abbrev pub is_request : {w : ℕ} → Beat w → Bool
-is_request (beat.A x) = true
+is_request (Beat.A x) = true
 is_request _ = false
 
 goes_on : {w : ℕ} (client sink : ℕ) (x : Link × Beat w) (ss : List (Service w)) (last : Bool)
@@ -57,15 +55,15 @@ granting-beat : {w : ℕ} (client sink : ℕ) (x : Link × Beat w) (t : Trace w)
     → ((s : Service w) → grants_by client sink s ≡ true → is_ended_by x s ≡ false)
     → is_granting client sink (services t) ≡ true → is_granting client sink (services (x ∷ t)) ≡ true
 unfolding services
-granting-beat client sink (link, beat.A x) t other keeps e = absurd cc
-granting-beat client sink (link, beat.B x) t other keeps e =
-    goes_on client sink (link, beat.B x) (services t) (ends (beat.B x) (on_link link.0 t)) keeps e
-granting-beat client sink (link, beat.C x) t other keeps e =
-    goes_on client sink (link, beat.C x) (services t) (ends (beat.C x) (on_link link.0 t)) keeps e
-granting-beat client sink (link, beat.D x) t other keeps e =
-    goes_on client sink (link, beat.D x) (services t) (ends (beat.D x) (on_link link.0 t)) keeps e
-granting-beat client sink (link, beat.E x) t other keeps e =
-    goes_on client sink (link, beat.E x) (services t) (ends (beat.E x) (on_link link.0 t)) keeps e
+granting-beat client sink (link, Beat.A x) t other keeps e = absurd cc
+granting-beat client sink (link, Beat.B x) t other keeps e =
+    goes_on client sink (link, Beat.B x) (services t) (ends (Beat.B x) (on_link link.0 t)) keeps e
+granting-beat client sink (link, Beat.C x) t other keeps e =
+    goes_on client sink (link, Beat.C x) (services t) (ends (Beat.C x) (on_link link.0 t)) keeps e
+granting-beat client sink (link, Beat.D x) t other keeps e =
+    goes_on client sink (link, Beat.D x) (services t) (ends (Beat.D x) (on_link link.0 t)) keeps e
+granting-beat client sink (link, Beat.E x) t other keeps e =
+    goes_on client sink (link, Beat.E x) (services t) (ends (Beat.E x) (on_link link.0 t)) keeps e
 
 -- one more service
 more_granting : {w : ℕ} (client sink : ℕ) (o : Option (Service w)) (ss : List (Service w))
@@ -78,12 +76,12 @@ more_granting {w} client sink (Some s) ss e = go (grants_by client sink s)
     go false = e
 
 granting-request : {w : ℕ} (client sink : ℕ) (link : Link) (x : BeatA w) (t : Trace w)
-    → is_granting client sink (services t) ≡ true → is_granting client sink (services ((link, beat.A x) ∷ t)) ≡ true
+    → is_granting client sink (services t) ≡ true → is_granting client sink (services ((link, Beat.A x) ∷ t)) ≡ true
 unfolding services
-granting-request {w} client sink link x t e = go (ends (beat.A x) (on_link link.0 t))
+granting-request {w} client sink link x t e = go (ends (Beat.A x) (on_link link.0 t))
   where
     go : (b : Bool) → is_granting client sink
-        (if b then services_after (link, beat.A x) (unfinished (channel_of (beat.A x)) (on_link link.0 t)) (services t)
+        (if b then services_after (link, Beat.A x) (unfinished (channel_of (Beat.A x)) (on_link link.0 t)) (services t)
         else services t) ≡ true
     go true = more_granting client sink _ (services t) e
     go false = e
@@ -105,15 +103,13 @@ ours_go_on : {w : ℕ} (client sink : ℕ) (link : Link) (m : Message w) (n : �
     → is_from_client (beat_of m 0) ≡ false → is_granting client sink (services t) ≡ true
     → is_granting client sink (services (map (λ b. (link, b)) (begun m n) ++ t)) ≡ true
 ours_go_on client sink link m zero t ours e = e
-ours_go_on client sink link (A m) (suc n) t ours e = absurd cc
 ours_go_on client sink link (B m) (suc n) t ours e =
     granting-beat client sink (link, beat_of (B m) n) (map (λ b. (link, b)) (begun (B m) n) ++ t) refl (λ s by. refl)
     (ours_go_on client sink link (B m) n t ours e)
-ours_go_on client sink link (C m) (suc n) t ours e = absurd cc
 ours_go_on client sink link (D m) (suc n) t ours e =
     granting-beat client sink (link, beat_of (D m) n) (map (λ b. (link, b)) (begun (D m) n) ++ t) refl
     (λ s by. not_answered client sink link m n s by) (ours_go_on client sink link (D m) n t ours e)
-ours_go_on client sink link (E m) (suc n) t ours e = absurd cc
+ours_go_on client sink link v (suc n) t ours e = absurd cc
 
 -- ---- what is pending after a client's beat
 
@@ -124,11 +120,8 @@ AreTracked t = (client sink : ℕ) → pending (GrantSink sink) (on_link client 
 still : (first last closed before : Bool) → (if first && false then true else if last && closed then false else before)
     ≡ true → (before ≡ true) × ((last && closed) ≡ false)
 still true true true before e = absurd cc
-still true true false before e = (e, refl)
-still true false closed before e = (e, refl)
 still false true true before e = absurd cc
-still false true false before e = (e, refl)
-still false false closed before e = (e, refl)
+still v u y before e = (e, refl)
 
 -- a beat that moves no sink
 pending_before : {w : ℕ} (client sink : ℕ) (link : Link) (x : Beat w) (t : Trace w)
@@ -142,26 +135,26 @@ pending_before {w} client sink link x t same = go (link.0 == client)
     go true = same (on_link client t)
     go false = refl
 
-moves_none_a : {w : ℕ} (sink : ℕ) (x : BeatA w) (h : History w) → pending (GrantSink sink) (beat.A x ∷ h) ≡ pending
+moves_none_a : {w : ℕ} (sink : ℕ) (x : BeatA w) (h : History w) → pending (GrantSink sink) (Beat.A x ∷ h) ≡ pending
     (GrantSink sink) h
 unfolding pending
-moves_none_a sink x h = neither (begins (beat.A x) h) (ends (beat.A x) h) (pending (GrantSink sink) h)
+moves_none_a sink x h = neither (begins (Beat.A x) h) (ends (Beat.A x) h) (pending (GrantSink sink) h)
 
-moves_none_c : {w : ℕ} (sink : ℕ) (x : BeatC w) (h : History w) → pending (GrantSink sink) (beat.C x ∷ h) ≡ pending
+moves_none_c : {w : ℕ} (sink : ℕ) (x : BeatC w) (h : History w) → pending (GrantSink sink) (Beat.C x ∷ h) ≡ pending
     (GrantSink sink) h
 unfolding pending
-moves_none_c sink x h = neither (begins (beat.C x) h) (ends (beat.C x) h) (pending (GrantSink sink) h)
+moves_none_c sink x h = neither (begins (Beat.C x) h) (ends (Beat.C x) h) (pending (GrantSink sink) h)
 
-after_ack : {w : ℕ} (sink : ℕ) (x : BeatE) (h : History w) → pending (GrantSink sink) (beat.E x ∷ h) ≡ true
+after_ack : {w : ℕ} (sink : ℕ) (x : BeatE) (h : History w) → pending (GrantSink sink) (Beat.E x ∷ h) ≡ true
     → (pending (GrantSink sink) h ≡ true)
-    × ((ends {w = w} (beat.E x) h && (x.sink == sink)) ≡ false)
+    × ((ends {w = w} (Beat.E x) h && (x.sink == sink)) ≡ false)
 unfolding pending
-after_ack {w} sink x h e = still (begins {w = w} (beat.E x) h) (ends {w = w} (beat.E x) h) (x.sink == sink)
+after_ack {w} sink x h e = still (begins {w = w} (Beat.E x) h) (ends {w = w} (Beat.E x) h) (x.sink == sink)
     (pending (GrantSink sink) h) e
 
 -- a GrantAck of another link, and of another sink, leaves the service
 other_link_ack : {w : ℕ} (client sink : ℕ) (link : Link) (x : BeatE) (s : Service w) → (link.0 == client) ≡ false
-    → grants_by client sink s ≡ true → is_ended_by (link, beat.E x) s ≡ false
+    → grants_by client sink s ≡ true → is_ended_by (link, Beat.E x) s ≡ false
 other_link_ack client sink link x s other by =
     let mine = (and_parts (s.link.0 == client) (s.tracker == sink) (and_parts (is_acquire s.request.opcode) _ by).1).0
     in
@@ -171,7 +164,7 @@ other_link_ack client sink link x s other by =
     rw away refl
 
 other_sink_ack : {w : ℕ} (client sink : ℕ) (link : Link) (x : BeatE) (s : Service w) → (x.sink == sink) ≡ false
-    → grants_by client sink s ≡ true → is_ended_by (link, beat.E x) s ≡ false
+    → grants_by client sink s ≡ true → is_ended_by (link, Beat.E x) s ≡ false
 other_sink_ack client sink link x s other by =
     let mine = (and_parts (s.link.0 == client) (s.tracker == sink) (and_parts (is_acquire s.request.opcode) _ by).1).1
     in
@@ -182,52 +175,50 @@ other_sink_ack client sink link x s other by =
   where
     two : (a b : Bool) → (a && (b && false)) ≡ false
     two true true = refl
-    two true false = refl
-    two false b = refl
+    two v u = refl
 
 own_ack : {w : ℕ} (sink : ℕ) (link : Link) (x : BeatE) (t : Trace w) → AreTracked t
-    → pending (GrantSink sink) (beat.E x ∷ on_link link.0 t) ≡ true
-    → is_granting link.0 sink (services ((link, beat.E x) ∷ t)) ≡ true
+    → pending (GrantSink sink) (Beat.E x ∷ on_link link.0 t) ≡ true
+    → is_granting link.0 sink (services ((link, Beat.E x) ∷ t)) ≡ true
 unfolding services
 own_ack {w} sink link x t tracked e =
     let p = after_ack sink x (on_link link.0 t) e in
-    go (ends {w = w} (beat.E x) (on_link link.0 t)) p.1 (tracked link.0 sink p.0)
+    go (ends {w = w} (Beat.E x) (on_link link.0 t)) p.1 (tracked link.0 sink p.0)
   where
     go : (b : Bool) → (b && (x.sink == sink)) ≡ false → is_granting link.0 sink (services t) ≡ true
-        → is_granting link.0 sink (if b then filter (λ s. not (is_ended_by (link, beat.E x) s)) (services t) else
+        → is_granting link.0 sink (if b then filter (λ s. not (is_ended_by (link, Beat.E x) s)) (services t) else
         services t) ≡ true
-    go true other before = kept_by link.0 sink (λ s. not (is_ended_by (link, beat.E x) s)) (services t)
+    go true other before = kept_by link.0 sink (λ s. not (is_ended_by (link, Beat.E x) s)) (services t)
         (λ s by. rw (other_sink_ack link.0 sink link x s other by) refl) before
     go false other before = before
 
 taken_ack : {w : ℕ} (client sink : ℕ) (link : Link) (x : BeatE) (t : Trace w) → AreTracked t
-    → pending (GrantSink sink) (on_link client ((link, beat.E x) ∷ t)) ≡ true
-    → is_granting client sink (services ((link, beat.E x) ∷ t)) ≡ true
+    → pending (GrantSink sink) (on_link client ((link, Beat.E x) ∷ t)) ≡ true
+    → is_granting client sink (services ((link, Beat.E x) ∷ t)) ≡ true
 unfolding on_link
 taken_ack {w} client sink link x t tracked e = go (link.0 == client) refl e
   where
     go : (b : Bool) → (link.0 == client) ≡ b
-        → pending (GrantSink sink) (if b then beat.E x ∷ on_link client t else on_link client t) ≡ true
-        → is_granting client sink (services ((link, beat.E x) ∷ t)) ≡ true
+        → pending (GrantSink sink) (if b then Beat.E x ∷ on_link client t else on_link client t) ≡ true
+        → is_granting client sink (services ((link, Beat.E x) ∷ t)) ≡ true
     go true here f =
         let same = eqb-true link.0 client here in
-        subst (λ (n : ℕ). is_granting n sink (services ((link, beat.E x) ∷ t)) ≡ true) same
-        (own_ack sink link x t tracked (ap (λ n. pending (GrantSink sink) (beat.E x ∷ on_link n t)) same ∙ f))
-    go false other f = granting-beat client sink (link, beat.E x) t refl
+        subst (λ (n : ℕ). is_granting n sink (services ((link, Beat.E x) ∷ t)) ≡ true) same
+        (own_ack sink link x t tracked (ap (λ n. pending (GrantSink sink) (Beat.E x ∷ on_link n t)) same ∙ f))
+    go false other f = granting-beat client sink (link, Beat.E x) t refl
         (λ s by. other_link_ack client sink link x s other by) (tracked client sink f)
 
 -- each pending sink is still tracked after a client's beat
 pub tracked-taken : {w : ℕ} (link : Link) (x : Beat w) (t : Trace w) → is_from_client x ≡ true → AreTracked t
     → AreTracked ((link, x) ∷ t)
-tracked-taken link (beat.A x) t theirs tracked =
+tracked-taken link (Beat.A x) t theirs tracked =
     λ client sink e. granting-request client sink link x t
-    (tracked client sink (sym (pending_before client sink link (beat.A x) t (λ h. moves_none_a sink x h)) ∙ e))
-tracked-taken link (beat.B x) t theirs tracked = absurd cc
-tracked-taken link (beat.C x) t theirs tracked =
-    λ client sink e. granting-beat client sink (link, beat.C x) t refl (λ s by. refl)
-    (tracked client sink (sym (pending_before client sink link (beat.C x) t (λ h. moves_none_c sink x h)) ∙ e))
-tracked-taken link (beat.D x) t theirs tracked = absurd cc
-tracked-taken link (beat.E x) t theirs tracked = λ client sink e. taken_ack client sink link x t tracked e
+    (tracked client sink (sym (pending_before client sink link (Beat.A x) t (λ h. moves_none_a sink x h)) ∙ e))
+tracked-taken link (Beat.C x) t theirs tracked =
+    λ client sink e. granting-beat client sink (link, Beat.C x) t refl (λ s by. refl)
+    (tracked client sink (sym (pending_before client sink link (Beat.C x) t (λ h. moves_none_c sink x h)) ∙ e))
+tracked-taken link (Beat.E x) t theirs tracked = λ client sink e. taken_ack client sink link x t tracked e
+tracked-taken link v t theirs tracked = absurd cc
 
 -- ---- after messages were handed out
 
@@ -254,8 +245,7 @@ sent_sink {w} link (D m) sink t width ours ok granted tracked e =
         → is_granting link.0 sink (services t) ≡ true
     go true true has same f = subst (λ (n : ℕ). is_granting link.0 n (services t) ≡ true) (eqb-true m.sink sink same)
         (has refl)
-    go true false has same f = tracked link.0 sink f
-    go false c has same f = tracked link.0 sink f
+    go v u has same f = tracked link.0 sink f
 sent_sink link (E m) sink t width ours ok granted tracked e = absurd cc
 
 tracked-sent : {w : ℕ} (link : Link) (m : Message w) (t : Trace w) → IsWidth w → is_from_client (beat_of m 0) ≡ false

@@ -5,7 +5,7 @@ use Rattle.tl_manager.proofs.Imports.{is_granted, is_asking, IsAccounted, Servic
 use Rattle.std.proofs.Common.{◌≡◌, ℕ, ◌+◌, ◌<◌, ◌==◌, Bool, true, false, ◌&&◌, ◌||◌, List, [], ◌∷◌, Some, None, refl}
 use Rattle.std.proofs.Common.{sym, ap, ◌∙◌, arith, inl, inr}
 use Rattle.std.proofs.lemmas.Bool.{eqb-true, eq-eqb, and_parts, or_parts, or_cases}
-use Rattle.tl_beat.specs.declared.channel.Channel.TheVariants as channel
+use Rattle.tl_beat.specs.declared.channel.Channel.{Channel}
 use Rattle.tl_manager.specs.laws.Pending.{is_any, is_granted_with}
 use Rattle.tl_manager.proofs.services.Serving.{none_of_block}
 use Rattle.tl_manager.proofs.pending.Sinks.{AreTracked, grants_by}
@@ -31,21 +31,19 @@ count-any {X} test (x ∷ xs) e = go (test x) e (λ f. count-any test xs f)
 
 -- a source is pending exactly where the unfinished request has it, or one in service that isn't answered
 pub source-pending : {w : ℕ} (c q : ℕ) (t : Trace w) → IsAccounted t
-    → pending (RequestSource q) (on_link c t) ≡ (comes_in_request q (unfinished channel.A (on_link c t)) || is_any
+    → pending (RequestSource q) (on_link c t) ≡ (comes_in_request q (unfinished Channel.A (on_link c t)) || is_any
     (is_asking c q t) (services t))
 source-pending {w} c q t ok =
-    go (comes_in_request q (unfinished channel.A (on_link c t))) (is_any (is_asking c q t) (services t))
+    go (comes_in_request q (unfinished Channel.A (on_link c t))) (is_any (is_asking c q t) (services t))
     (pending (RequestSource q) (on_link c t)) refl (ok.sources c q)
   where
     go : (a b p : Bool) → is_any (is_asking c q t) (services t) ≡ b
         → one_if a + count_where (is_asking c q t) (services t) ≡ one_if p → p ≡ (a || b)
-    go true b true e f = refl
     go true b false e f = absurd (omega (arith, f))
-    go false true true e f = refl
     go false true false e f = let some = count-any (is_asking c q t) (services t) e in absurd (omega (arith, f, some))
     go false false true e f = let none = any-count (is_asking c q t) (services t) false e refl in
         absurd (omega (arith, f, none))
-    go false false false e f = refl
+    go v u y e f = refl
 
 -- ---- the services by their blocks
 
@@ -104,8 +102,7 @@ sink-pending {w} c sink t tracked = go (pending (GrantSink sink) (on_link c t)) 
             let no : pending (GrantSink s.tracker) (on_link s.link.0 t) ≡ false =
             rw (eqb-true s.link.0 c f, eqb-true s.tracker sink g) e in
             ap (λ d. is_acquire s.request.opcode && d) no ∙ never (is_acquire s.request.opcode)
-        away true false f g = refl
-        away false b f g = refl
+        away v u f g = refl
 
     go : (b : Bool) → pending (GrantSink sink) (on_link c t) ≡ b → b ≡ is_any (is_granted_with c sink t) (services t)
     go true e = sym (found (services t) (tracked c sink e) e)

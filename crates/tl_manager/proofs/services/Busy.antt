@@ -4,13 +4,11 @@ use Rattle.tl_manager.proofs.Imports.{trackers_of, least_untaken, service_with, 
 use Rattle.tl_manager.proofs.Imports.{Free, Probing, Granted}
 use Rattle.std.proofs.Common.{◌≡◌, ℕ, zero, suc, ◌+◌, ◌<◌, ◌≤◌, ◌==◌, ◌⊎◌, Bool, true, false, List, [], ◌∷◌, length}
 use Rattle.std.proofs.Common.{refl, sym, ap, subst, arith, inl, inr}
-use Rattle.std.specs.Prelude.{if◌then◌else◌, nat_le, is_some}
+use Rattle.std.{specs.Prelude.if◌then◌else◌, specs.Prelude.nat_le, specs.Prelude.is_some, proofs.lemmas.List.length-map}
 use Rattle.std.proofs.lemmas.Bool.{cases_eq, eqb-true, eq-eqb, ne_eqb, or_parts, le-leb, lt-leb}
-use Rattle.std.proofs.lemmas.List.{length-map}
-use Rattle.tl_manager.specs.statement.Service.{free_from}
-use Rattle.tl_manager.proofs.words_of_clients.Free.{as_many, without}
-use Rattle.tl_manager.proofs.blocks.Reporting.{unserved-block}
-use Rattle.tl_manager.proofs.services.Serving.{tracker_among}
+use Rattle.tl_manager.{specs.statement.Service.free_from, proofs.words_of_clients.Free.as_many}
+use Rattle.tl_manager.{proofs.words_of_clients.Free.without, proofs.blocks.Reporting.unserved-block}
+use Rattle.tl_manager.{proofs.services.Serving.tracker_among}
 
 -- ---- no more numbers than fit
 
@@ -114,8 +112,7 @@ taken-among n (Granted link block) t is e = tracker_among block (services t) (se
 pub free-among : {w : ℕ} (n : ℕ) (tracker : Tracker w) (t : Trace w) → IsTracked n tracker t → is_free tracker ≡ true
     → is_one_of n (trackers_of (services t)) ≡ false
 free-among n Free t is e = is
-free-among n (Probing link request missing) t is e = absurd cc
-free-among n (Granted link block) t is e = absurd cc
+free-among n v t is e = absurd cc
 
 pub unserved-among : {w : ℕ} (block : ℕ) (at : ℕ → Tracker w) (t : Trace w) → AreApart (trackers_of (services t))
     → ((n : ℕ) → IsTracked n (at n) t) → ((n : ℕ) → is_of block (at n) ≡ false)

@@ -5,16 +5,13 @@ use Rattle.tl_manager.proofs.Imports.{with_handed, Each, IsTyped, IsKept, Servic
 use Rattle.tl_manager.proofs.Imports.{Judgement, Breaks, Waits, Passes, is_from_client, judged, offered_as, offered}
 use Rattle.tl_manager.proofs.Imports.{IsWhole}
 use Rattle.std.proofs.Common.{◌≡◌, ℕ, zero, suc, ◌<◌, true, false, not, [], ◌∷◌, ◌++◌, refl, sym, ◌∙◌, ap, arith}
-use Rattle.std.specs.Prelude.{map}
-use Rattle.std.proofs.lemmas.Bool.{eq-eqb}
-use Rattle.tl_beat.specs.declared.channel.Channel.TheVariants as channel
+use Rattle.std.{specs.Prelude.map, proofs.lemmas.Bool.eq-eqb}
 use Rattle.tl_rules.proofs.Sent.{ends-at, not_last, is_last}
 use Rattle.tl_manager.specs.laws.After.{without_answered, without_all, services_left}
-use Rattle.tl_manager.proofs.calls.Reactions.{reaction_handable}
+use Rattle.tl_manager.{proofs.calls.Reactions.reaction_handable, proofs.judging.Judged.passed}
+use Rattle.tl_manager.{proofs.messages.Lawful.IsHandable, proofs.pending.Probes.filter-all}
+use Rattle.tl_manager.{proofs.pending.Probes.services-sent_b}
 use Rattle.tl_manager.proofs.pending.Handed.{after_sent, beats_on_link, whole-after_sent, whole-taken}
-use Rattle.tl_manager.proofs.judging.Judged.{passed}
-use Rattle.tl_manager.proofs.messages.Lawful.{IsHandable}
-use Rattle.tl_manager.proofs.pending.Probes.{filter-all, services-sent_b}
 
 -- ---- beats of channel D
 
@@ -36,7 +33,7 @@ unfolding services
 services-last_d link m i t e = rw e refl
 
 before_last : {w : ℕ} (link : Link) (m : MessageD w) (n : ℕ) (t : Trace w)
-    → unfinished channel.D (on_link link.0 t) ≡ [] → n < beats_of (D m)
+    → unfinished Channel.D (on_link link.0 t) ≡ [] → n < beats_of (D m)
     → services (map (λ b. (link, b)) (begun (D m) n) ++ t) ≡ services t
 before_last link m zero t none lt = refl
 before_last {w} link m (suc n) t none lt =
@@ -45,7 +42,7 @@ before_last {w} link m (suc n) t none lt =
     (omega (arith, lt)) ∙ not_last n (beats_of (D m)) (omega (arith, lt)))
     ∙ before_last link m n t none (omega (arith, lt))
 
-at_last : {w : ℕ} (link : Link) (m : MessageD w) (n : ℕ) (t : Trace w) → unfinished channel.D (on_link link.0 t) ≡ []
+at_last : {w : ℕ} (link : Link) (m : MessageD w) (n : ℕ) (t : Trace w) → unfinished Channel.D (on_link link.0 t) ≡ []
     → 0 < n → n ≡ beats_of (D m)
     → services (map (λ b. (link, b)) (begun (D m) n) ++ t) ≡ without_answered (link, D m) (services t)
 at_last link m zero t none pos e = absurd (omega (arith, pos))
@@ -59,7 +56,7 @@ at_last {w} link m (suc n) t none pos e =
 
 -- the services after one
 pub services-sent : {w : ℕ} (link : Link) (m : Message w) (t : Trace w) → IsWidth w
-    → is_from_client (beat_of m 0) ≡ false → unfinished channel.D (on_link link.0 t) ≡ []
+    → is_from_client (beat_of m 0) ≡ false → unfinished Channel.D (on_link link.0 t) ≡ []
     → services (after_sent link m t) ≡ without_answered (link, m) (services t)
 services-sent link (A m) t width ours none = absurd cc
 services-sent {w} link (B m) t width ours none =
@@ -86,13 +83,12 @@ services_as : {w : ℕ} (j : Judgement) (config : Config) (link : Link) (ch : Ch
     → IsWidth w → IsTyped x → judged config link ch x e ≡ j → IsKept config e
     → services (offered_as j config link x e).1.trace ≡ services_left (offered_as j config link x e).0 (link, x)
     e.trace
-services_as (Breaks r) config link ch x e width typed is before = refl
-services_as Waits config link ch x e width typed is before = refl
 services_as Passes config link ch x e width typed is before =
     let ok = passed config link ch x e typed is in
     services-handed config (reaction config link x e).handed ((link, x) ∷ e.trace) width
     (reaction_handable config link x e width ok.sound before.sound)
     (λ client. whole-taken client link x e.trace ok.theirs (before.whole client))
+services_as v config link ch x e width typed is before = refl
 
 pub services-offered : {w : ℕ} (config : Config) (link : Link) (ch : Channel) (x : Beat w) (e : End w) → IsWidth w
     → IsTyped x → IsKept config e

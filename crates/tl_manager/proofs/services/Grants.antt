@@ -7,13 +7,9 @@ use Rattle.tl_manager.proofs.Imports.{request_if, request_carried, Service, with
 use Rattle.tl_manager.proofs.Imports.{services, service_of_block, probing_or, begun_with, begun_if_any}
 use Rattle.tl_manager.proofs.Imports.{performed_if_any, finish, written, completed_c, completed, reaction, End}
 use Rattle.std.proofs.Common.{◌≡◌, ℕ, ◌==◌, Bool, true, false, cond, ◌||◌, List, [], ◌∷◌, map, Option, Some, None, refl}
-use Rattle.std.specs.Prelude.{nat_le, option_map, if◌then◌else◌}
-use Rattle.std.proofs.lemmas.Bool.{eq-eqb}
-use Rattle.tl_beat.specs.declared.beat.Beat.TheVariants as beat
-use Rattle.tl_rules.specs.declared.answer.Answer.TheVariants as answer
-use Rattle.tl_manager.proofs.words_of_clients.Lists.{each_weaker}
-use Rattle.tl_manager.proofs.messages.Requests.{made_of}
-use Rattle.tl_manager.proofs.pending.Sinks.{grants_by, IsGranted}
+use Rattle.std.{specs.Prelude.nat_le, specs.Prelude.option_map, specs.Prelude.if◌then◌else◌, proofs.lemmas.Bool.eq-eqb}
+use Rattle.tl_manager.{proofs.words_of_clients.Lists.each_weaker, proofs.messages.Requests.made_of}
+use Rattle.tl_manager.{proofs.pending.Sinks.grants_by, proofs.pending.Sinks.IsGranted}
 
 -- all Grants handed out are so
 abbrev AllGranted : {w : ℕ} → List (Service w) → Reaction w → Type 0
@@ -45,9 +41,8 @@ all_among (s ∷ ss) = (
 
 no_grant : {w : ℕ} (ss : List (Service w)) (link : Link) (m : MessageA w) (kind : Answer)
     → IsGranted ss (link, access_answer m kind)
-no_grant ss link m answer.Ack = λ e. absurd cc
-no_grant ss link m answer.Hint = λ e. absurd cc
-no_grant ss link m (answer.Data payload) = λ e. absurd cc
+no_grant ss link m Answer.Ack = λ e. absurd cc
+no_grant ss link m v = λ e. absurd cc
 
 performed_granted : {w : ℕ} (config : Config) (s : Service w) (t : Trace w) (memory : Memory) (ss : List (Service w))
     → IsAmong ss s → AllGranted ss (performed config s t memory)
@@ -137,17 +132,17 @@ done_granted : {w : ℕ} (config : Config) (link : Link) (x : Beat w) (e : End w
     nothing e.memory)
 unfolding request_carried services
 done_granted config link x e false last = tt
-done_granted {w} config link (beat.A x) e true last =
-    let burst : List (Beat w) = unfinished (channel_of (beat.A x)) (on_link link.0 e.trace) in
-    begun_new config link x (beat.A x ∷ burst) (least_untaken (trackers_of (services e.trace)))
-    ((link, beat.A x) ∷ e.trace) e.memory (services e.trace)
-    (services ((link, beat.A x) ∷ e.trace)) (nat_le x.size 6) refl (rw last refl)
-done_granted config link (beat.B x) e true last = tt
-done_granted config link (beat.C x) e true last =
-    done_c_granted config link x ((link, beat.C x) ∷ e.trace)
-    (written x (beat.C x ∷ unfinished (channel_of (beat.C x)) (on_link link.0 e.trace)) e.memory)
-done_granted config link (beat.D x) e true last = tt
-done_granted config link (beat.E x) e true last = tt
+done_granted {w} config link (Beat.A x) e true last =
+    let burst : List (Beat w) = unfinished (channel_of (Beat.A x)) (on_link link.0 e.trace) in
+    begun_new config link x (Beat.A x ∷ burst) (least_untaken (trackers_of (services e.trace)))
+    ((link, Beat.A x) ∷ e.trace) e.memory (services e.trace)
+    (services ((link, Beat.A x) ∷ e.trace)) (nat_le x.size 6) refl (rw last refl)
+done_granted config link (Beat.B x) e true last = tt
+done_granted config link (Beat.C x) e true last =
+    done_c_granted config link x ((link, Beat.C x) ∷ e.trace)
+    (written x (Beat.C x ∷ unfinished (channel_of (Beat.C x)) (on_link link.0 e.trace)) e.memory)
+done_granted config link (Beat.D x) e true last = tt
+done_granted config link (Beat.E x) e true last = tt
 
 pub reaction_granted : {w : ℕ} (config : Config) (link : Link) (x : Beat w) (e : End w)
     → Each (IsGranted (services ((link, x) ∷ e.trace))) (reaction config link x e).handed

@@ -5,9 +5,8 @@ use Rattle.tl_manager.proofs.Imports.{Tracker, Free, Probing, Granted}
 use Rattle.std.proofs.Common.{◌≡◌, ◌≢◌, ℕ, ◌==◌, Bool, true, false, not, List, [], ◌∷◌, Some, refl, sym, ap, ◌∙◌}
 use Rattle.std.specs.Prelude.{filter, if◌then◌else◌}
 use Rattle.std.proofs.lemmas.Bool.{eqb-true, eq-eqb, ne_eqb}
-use Rattle.tl_manager.proofs.words_of_clients.Counts.{same_tracker}
-use Rattle.tl_manager.proofs.pending.Replied.{block-of}
-use Rattle.tl_manager.proofs.services.Serving.{some_is}
+use Rattle.tl_manager.{proofs.words_of_clients.Counts.same_tracker, proofs.pending.Replied.block-of}
+use Rattle.tl_manager.{proofs.services.Serving.some_is}
 
 -- a service that is as it was
 pub record IsStill {w : ℕ} (k : ℕ) (s : Service w) (t u : Trace w) : Type 0 where

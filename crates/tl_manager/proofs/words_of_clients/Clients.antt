@@ -5,10 +5,8 @@ use Rattle.std.proofs.Common.{◌≡◌, ℕ, zero, suc, ◌+◌, ◌<◌, ◌�
 use Rattle.std.proofs.Common.{ltb, refl, sym, ◌∙◌, inl, inr, arith, ◌⊎◌}
 use Rattle.std.specs.Prelude.{◌==◌, if◌then◌else◌, ◌↔◌}
 use Rattle.std.proofs.lemmas.Bool.{cases_eq, cases_lt, eq-eqb, ne_eqb, lt-ltb, le-ltb, ltb-true}
-use Rattle.tl_params.specs.declared.perm.Perm.TheVariants as perm
-use Rattle.tl_manager.specs.statement.Holders.{clients_where}
-use Rattle.tl_manager.specs.code.Kept.{IsRising}
-use Rattle.tl_manager.proofs.words_of_clients.Lists.{each_weaker}
+use Rattle.tl_manager.{specs.statement.Holders.clients_where, specs.code.Kept.IsRising}
+use Rattle.tl_manager.{proofs.words_of_clients.Lists.each_weaker}
 
 -- ---- who is among them
 
@@ -126,13 +124,12 @@ nobody-where config test = (
     fails c true e none = none (ltb-true c (length config.clients.items) e)
     fails c false e none = refl
 
-no_copy : (p : Perm) → has_copy p ≡ false → p ≡ perm.None
-no_copy perm.None e = refl
-no_copy perm.Branch e = absurd cc
-no_copy perm.Trunk e = absurd cc
+no_copy : (p : Perm) → has_copy p ≡ false → p ≡ Perm.None
+no_copy Perm.None e = refl
+no_copy v e = absurd cc
 
 pub unheld-where : {w : ℕ} (config : Config) (block : ℕ) (t : Trace w)
-    → (is_unheld config block t ≡ true) ↔ ((c : ℕ) → c < length config.clients.items → recorded c block t ≡ perm.None)
+    → (is_unheld config block t ≡ true) ↔ ((c : ℕ) → c < length config.clients.items → recorded c block t ≡ Perm.None)
 unheld-where config block t =
     let both = nobody-where config (λ c. has_copy (recorded c block t)) in
     (λ e c lt. no_copy (recorded c block t) (both.0 e c lt), λ none. both.1 (λ c lt. rw (none c lt) refl))

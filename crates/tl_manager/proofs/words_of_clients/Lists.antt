@@ -1,8 +1,7 @@
 -- Lists of which each element has a property.
 use Rattle.std.proofs.Common.{◌≡◌, ℕ, zero, suc, ◌+◌, Bool, true, false, cond, List, [], ◌∷◌, ◌++◌, map, refl}
 use Rattle.std.specs.Prelude.{filter}
-use Rattle.tl_manager.specs.statement.Holders.{clients_from}
-use Rattle.tl_manager.specs.code.Kept.{Each}
+use Rattle.tl_manager.{specs.statement.Holders.clients_from, specs.code.Kept.Each}
 
 pub each_filter : {X : Type 0} (P : X → Type 0) (test : X → Bool) (xs : List X) → Each P xs → Each P (filter test xs)
 each_filter P test [] each = tt

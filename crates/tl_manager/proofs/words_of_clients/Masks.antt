@@ -7,15 +7,11 @@ use Rattle.std.proofs.Common.{length, None, refl, sym, ◌∙◌, arith, inl, in
 use Rattle.std.specs.Prelude.{if◌then◌else◌}
 use Rattle.std.proofs.lemmas.Bool.{cases_eq, or_cases, eqb-true, not-false}
 use Rattle.std.proofs.lemmas.Nat.{mul-add-lt, pow-add, shl_whole}
-use Rattle.tl_burst.specs.statement.Burst.{mask_at}
-use Rattle.tl_burst.proofs.Bits.{mask_here, mask_earlier}
+use Rattle.tl_burst.{specs.statement.Burst.mask_at, proofs.Bits.mask_here, proofs.Bits.mask_earlier}
 use Rattle.tl_beat.specs.declared.beat.Beat.TheVariants.{A}
-use Rattle.tl_beat.specs.declared.channel.Channel.TheVariants as channel
-use Rattle.tl_beat.specs.declared.opcode.OpA.TheVariants as a
 use Rattle.tl_params.specs.declared.rule.Rule.TheVariants.{L5}
-use Rattle.tl_rules.specs.statement.Legality.{a_has_mask}
-use Rattle.tl_rules.proofs.Takeable.{full_mask-narrow, part_mask-narrow}
-use Rattle.tl_rules.proofs.Sizes.{access-small}
+use Rattle.tl_rules.{specs.statement.Legality.a_has_mask, proofs.Takeable.full_mask-narrow}
+use Rattle.tl_rules.{proofs.Takeable.part_mask-narrow, proofs.Sizes.access-small}
 use Rattle.tl_manager.specs.statement.Request.{mask_of}
 
 -- ---- the sizes that the rules let through
@@ -30,38 +26,23 @@ atomic_small size e = elim (or_cases (size == 2) ((size == 3) || false) e) [
 ]
 
 pub request_small : (w size : ℕ) (l : Level) (opcode : OpA) → IsWidth w → a_has_size w l opcode size ≡ true → size ≤ 6
-request_small w size l a.PutFullData width e = access-small w size l width e
-request_small w size l a.PutPartialData width e = access-small w size l width e
-request_small w size l a.ArithmeticData width e = atomic_small size e
-request_small w size l a.LogicalData width e = atomic_small size e
-request_small w size l a.Get width e = access-small w size l width e
-request_small w size l a.Intent width e = access-small w size l width e
-request_small w size l a.AcquireBlock width e = let h = eqb-true size 6 e in omega (arith, h)
-request_small w size l a.AcquirePerm width e = let h = eqb-true size 6 e in omega (arith, h)
+request_small w size l OpA.ArithmeticData width e = atomic_small size e
+request_small w size l OpA.LogicalData width e = atomic_small size e
+request_small w size l OpA.AcquireBlock width e = let h = eqb-true size 6 e in omega (arith, h)
+request_small w size l OpA.AcquirePerm width e = let h = eqb-true size 6 e in omega (arith, h)
+request_small w size l v width e = access-small w size l width e
 
 -- ---- masks
 
 mask_narrow : (w size address mask : ℕ) (opcode : OpA) → IsWidth w → size ≤ 6 → mask < 2 ^ 16
     → is_aligned address size ≡ true → a_has_mask w opcode size address mask ≡ true → mask < 2 ^ w
-mask_narrow w size address mask a.PutFullData width small typed aligned e =
-    full_mask-narrow w size address mask width small typed aligned e
-mask_narrow w size address mask a.PutPartialData width small typed aligned e =
+mask_narrow w size address mask OpA.PutPartialData width small typed aligned e =
     part_mask-narrow w size address mask width small typed aligned e
-mask_narrow w size address mask a.ArithmeticData width small typed aligned e =
-    full_mask-narrow w size address mask width small typed aligned e
-mask_narrow w size address mask a.LogicalData width small typed aligned e =
-    full_mask-narrow w size address mask width small typed aligned e
-mask_narrow w size address mask a.Get width small typed aligned e =
-    full_mask-narrow w size address mask width small typed aligned e
-mask_narrow w size address mask a.Intent width small typed aligned e =
-    full_mask-narrow w size address mask width small typed aligned e
-mask_narrow w size address mask a.AcquireBlock width small typed aligned e =
-    full_mask-narrow w size address mask width small typed aligned e
-mask_narrow w size address mask a.AcquirePerm width small typed aligned e =
+mask_narrow w size address mask v width small typed aligned e =
     full_mask-narrow w size address mask width small typed aligned e
 
 -- a request's beat that breaks no L rule
-pub legal-narrow : {w : ℕ} (l : Level) (x : BeatA w) → IsWidth w → x.mask < 2 ^ 16 → illegal l channel.A (A x) ≡ None
+pub legal-narrow : {w : ℕ} (l : Level) (x : BeatA w) → IsWidth w → x.mask < 2 ^ 16 → illegal l Channel.A (A x) ≡ None
     → x.mask < 2 ^ w
 legal-narrow {w} l x width typed e =
     let p = both_none (a_control w l x.opcode x.param x.size x.address)
@@ -74,7 +55,7 @@ legal-narrow {w} l x width typed e =
     mask_narrow w x.size x.address x.mask x.opcode width (request_small w x.size l x.opcode width (not-false _ three.0))
     typed (not-false _ four.0) (not-false _ five.0)
 
-pub legal-small : {w : ℕ} (l : Level) (x : BeatA w) → IsWidth w → illegal l channel.A (A x) ≡ None → x.size ≤ 6
+pub legal-small : {w : ℕ} (l : Level) (x : BeatA w) → IsWidth w → illegal l Channel.A (A x) ≡ None → x.size ≤ 6
 legal-small {w} l x width e =
     let p = both_none (a_control w l x.opcode x.param x.size x.address)
     (a_own w x.opcode x.size x.address x.mask x.corrupt) (sym (illegal_a l x) ∙ e) in

@@ -8,8 +8,7 @@ use Rattle.std.proofs.lemmas.Nat.Bits.{bit_at_clear_other, bit_at_above, bit_at_
 use Rattle.std.proofs.lemmas.Nat.Bits.{same_from_bits}
 use Rattle.tl_params.specs.declared.perm.Perm.{Perm}
 use Rattle.tl_params.specs.declared.perm.Perm.TheVariants.{None, Branch, Trunk}
-use Rattle.tl_manager.specs.code.Bit.{bit_if}
-use Rattle.tl_manager.specs.code.Bits.{perm_in}
+use Rattle.tl_manager.{specs.code.Bit.bit_if, specs.code.Bits.perm_in}
 use Rattle.tl_manager.specs.code.Word.{trunk_bit, branch_bit, copy_bit}
 
 and_below : (n m i : ℕ) → bit_at n i ≡ 0 → bit_at (bit_and n m) i ≡ bit_at n i
@@ -40,9 +39,7 @@ bits-of zero zero a b e = (refl, refl)
 bits-of zero (suc zero) a b e = (refl, refl)
 bits-of (suc zero) zero a b e = (refl, refl)
 bits-of (suc zero) (suc zero) a b e = absurd (omega (arith, e))
-bits-of zero (suc (suc s)) a b e = absurd (omega arith)
-bits-of (suc zero) (suc (suc s)) a b e = absurd (omega arith)
-bits-of (suc (suc o)) s a b e = absurd (omega arith)
+bits-of v u a b e = absurd (omega arith)
 
 pub holders-bit : (owners sharers i : ℕ) → bit_and owners sharers ≡ 0
     → bit_at (bit_or owners sharers) i ≡ copy_bit (perm_in owners sharers i)
@@ -52,8 +49,7 @@ holders-bit owners sharers i apart =
 
 pub min-bits : (p : Perm) → min (trunk_bit p) (branch_bit p) ≡ 0
 min-bits None = refl
-min-bits Branch = refl
-min-bits Trunk = refl
+min-bits v = refl
 
 -- words stay apart when a client's permission is recorded
 pub apart_with : (owners sharers owners' sharers' client : ℕ) (p : Perm) → bit_and owners sharers ≡ 0

@@ -2,10 +2,9 @@
 use Rattle.tl_manager.proofs.Imports.{Config, bit_if, clients_from, is_nobody}
 use Rattle.std.proofs.Common.{◌≡◌, ℕ, zero, suc, ◌+◌, ◌≤◌, ◌==◌, Bool, true, false, List, ◌∷◌, length, refl, sym, ap}
 use Rattle.std.proofs.Common.{◌∙◌, arith, inl, inr}
-use Rattle.std.specs.Prelude.{if◌then◌else◌}
-use Rattle.std.specs.Int.{bit_at}
+use Rattle.std.{specs.Prelude.if◌then◌else◌, specs.Int.bit_at, proofs.lemmas.Nat.Bits.bit_at-zero}
+use Rattle.std.{proofs.lemmas.Nat.Bits.same_from_bits}
 use Rattle.std.proofs.lemmas.Bool.{cases_lt, eq-eqb, eqb-true}
-use Rattle.std.proofs.lemmas.Nat.Bits.{bit_at-zero, same_from_bits}
 use Rattle.tl_manager.specs.statement.Holders.{clients_where}
 use Rattle.tl_manager.proofs.words_of_clients.Clients.{nobody-where, where-same}
 

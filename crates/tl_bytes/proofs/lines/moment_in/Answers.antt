@@ -15,9 +15,8 @@ loop-telling-preserved c = elim c.else-telling-place.branch [
   | else-telling-place-via-then-telling-place+else-same_value w ↦
       sym (line-not c.args.place c.args.byte c.args.told.now c.loop-telling.telling-index _
       c.loop-telling-test.true (sym w.same_value.ensures ∙ w.if-same_value.false)) ∙ c.loop-telling.invariant
-  | else-telling-place-via-else-telling-place w ↦
-      sym (line-elsewhere c.args.place c.args.byte c.args.told.now c.loop-telling.telling-index _
-      c.loop-telling-test.true w.if-telling-place.false) ∙ c.loop-telling.invariant
+  | else-telling-place-via-else-telling-place w ↦ sym (line-elsewhere c.args.place c.args.byte c.args.told.now
+      c.loop-telling.telling-index _ c.loop-telling-test.true w.if-telling-place.false) ∙ c.loop-telling.invariant
 ]
 
 pub returns : goal.returns

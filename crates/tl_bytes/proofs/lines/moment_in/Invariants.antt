@@ -1,6 +1,5 @@
 use Rattle.std.proofs.Common.{◌≡◌, drop}
-use Rattle.tl_bytes.specs.statement.Known.{tellings_at}
-use Rattle.tl_bytes.specs.statement.Lines.{told_moment}
+use Rattle.tl_bytes.{specs.statement.Known.tellings_at, specs.statement.Lines.told_moment}
 use Rattle.tl_bytes.proofs.lines.moment_in.Given as goal
 
 abbrev pub invariant-loop-telling : goal.invariant-loop-telling

@@ -15,9 +15,8 @@ loop-telling-preserved c = elim c.else-telling-place.branch [
   | else-telling-place-via-then-telling-place+else-could_be w ↦
       sym (seen-not c.args.place c.args.byte c.args.told.now c.loop-telling.telling-index _
       c.loop-telling-test.true (sym w.could_be.ensures ∙ w.if-could_be.false)) ∙ c.loop-telling.invariant
-  | else-telling-place-via-else-telling-place w ↦
-      sym (seen-elsewhere c.args.place c.args.byte c.args.told.now c.loop-telling.telling-index _
-      c.loop-telling-test.true w.if-telling-place.false) ∙ c.loop-telling.invariant
+  | else-telling-place-via-else-telling-place w ↦ sym (seen-elsewhere c.args.place c.args.byte c.args.told.now
+      c.loop-telling.telling-index _ c.loop-telling-test.true w.if-telling-place.false) ∙ c.loop-telling.invariant
 ]
 
 pub returns : goal.returns

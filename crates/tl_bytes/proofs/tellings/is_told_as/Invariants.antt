@@ -1,6 +1,5 @@
 use Rattle.std.proofs.Common.{◌≡◌, drop}
-use Rattle.tl_bytes.specs.statement.Bytes.{told_as}
-use Rattle.tl_bytes.specs.statement.Known.{tellings_at}
+use Rattle.tl_bytes.{specs.statement.Bytes.told_as, specs.statement.Known.tellings_at}
 use Rattle.tl_bytes.proofs.tellings.is_told_as.Given as goal
 
 abbrev pub invariant-loop-telling : goal.invariant-loop-telling

@@ -1,9 +1,7 @@
 use Rattle.std.proofs.Common.{refl}
 use Rattle.tl_burst.specs.declared.message.Message.TheVariants.{B, D}
-use Rattle.tl_burst.proofs.Splitting.{beats-positive}
-use Rattle.tl_burst.specs.statement.Burst.{beats_of}
-use Rattle.tl_rules.proofs.Sent.{request_of-other}
-use Rattle.tl_rules.proofs.Handed.{pending-sent_b, pending-sent_d}
+use Rattle.tl_burst.{proofs.Splitting.beats-positive, specs.statement.Burst.beats_of}
+use Rattle.tl_rules.{proofs.Sent.request_of-other, proofs.Handed.pending-sent_b, proofs.Handed.pending-sent_d}
 use Rattle.tl_manager.proofs.law.hands_out_whole.Goals as goal
 
 pub returns-clause-probe : goal.returns-clause-probe

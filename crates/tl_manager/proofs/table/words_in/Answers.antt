@@ -1,9 +1,7 @@
 use Rattle.std.proofs.Common.{◌∙◌, ap, arith, add-one, sym, inl, inr, rules, List}
-use Rattle.std.proofs.lemmas.Bool.{cases_eq}
-use Rattle.std.proofs.lemmas.List.{take_all}
+use Rattle.std.{proofs.lemmas.Bool.cases_eq, proofs.lemmas.List.take_all}
 use Rattle.tl_params.specs.declared.perm.Perm.{Perm}
-use Rattle.tl_manager.specs.code.Table.{entry}
-use Rattle.tl_manager.proofs.words_of_clients.WordBits.{no_bits}
+use Rattle.tl_manager.{specs.code.Table.entry, proofs.words_of_clients.WordBits.no_bits}
 use Rattle.tl_manager.proofs.blocks.Entries.{entry-take_same, entry-take_other}
 use Rattle.tl_manager.proofs.table.words_in.Goals as goal
 

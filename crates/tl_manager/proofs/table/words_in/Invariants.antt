@@ -1,7 +1,5 @@
-use Rattle.std.proofs.Common.{◌≡◌, ℕ, take}
-use Rattle.std.specs.Prelude.{bit_and}
-use Rattle.tl_manager.specs.code.Bits.{perm_in}
-use Rattle.tl_manager.specs.code.Table.{entry}
+use Rattle.std.{proofs.Common.◌≡◌, proofs.Common.ℕ, proofs.Common.take, specs.Prelude.bit_and}
+use Rattle.tl_manager.{specs.code.Bits.perm_in, specs.code.Table.entry}
 use Rattle.tl_manager.proofs.table.words_in.Given as goal
 
 abbrev pub invariant-loop-client : goal.invariant-loop-client

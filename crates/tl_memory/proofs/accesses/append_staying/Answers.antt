@@ -14,8 +14,7 @@ loop-access-init g c = (
 pub loop-access-preserved : goal.loop-access-preserved
 loop-access-preserved g c = elim c.if-stays.branch [
   | then-stays+in_ok-copy+in_ok-push w ↦
-      let pushed : c.if-stays.copies.items ≡ c.loop-access.copies.items ++ w.in_ok-copy.field-0 ∷ [] =
-      search rules in
+      let pushed : c.if-stays.copies.items ≡ c.loop-access.copies.items ++ w.in_ok-copy.field-0 ∷ [] = search rules in
       let so_far = c.loop-access.invariant in (
         so_far.0 ++ w.in_ok-copy.field-0 ∷ [],
         pushed ∙ ap (λ l. l ++ w.in_ok-copy.field-0 ∷ []) so_far.1
@@ -28,9 +27,8 @@ loop-access-preserved g c = elim c.if-stays.branch [
       let so_far = c.loop-access.invariant in (
         so_far.0,
         ap (λ v. v.items) w.copies-is ∙ so_far.1,
-        copied-left c.args.gone c.loop-access.access-index c.args.accesses.now
-            so_far.0 c.access-item.result so_far.2 c.access-item.is c.loop-access-test.true
-            (sym c.stays.ensures ∙ w.if-stays.false),
+        copied-left c.args.gone c.loop-access.access-index c.args.accesses.now so_far.0 c.access-item.result so_far.2
+            c.access-item.is c.loop-access-test.true (sym c.stays.ensures ∙ w.if-stays.false),
       )
 ]
 

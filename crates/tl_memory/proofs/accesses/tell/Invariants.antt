@@ -1,5 +1,4 @@
-use Rattle.tl_memory.specs.code.Writers.{IsRenewed, told_by}
-use Rattle.tl_memory.proofs.Keeping.{IsDone}
+use Rattle.tl_memory.{specs.code.Writers.IsRenewed, specs.code.Writers.told_by, proofs.Keeping.IsDone}
 use Rattle.tl_memory.proofs.accesses.tell.Given as goal
 
 abbrev pub invariant-loop-n : goal.invariant-loop-n

@@ -1,5 +1,4 @@
-use Rattle.tl_memory.specs.code.Writers.{IsRenewed, written_by}
-use Rattle.tl_memory.proofs.Keeping.{IsDone}
+use Rattle.tl_memory.{specs.code.Writers.IsRenewed, specs.code.Writers.written_by, proofs.Keeping.IsDone}
 use Rattle.tl_memory.proofs.accesses.write.Given as goal
 
 abbrev pub invariant-loop-n : goal.invariant-loop-n

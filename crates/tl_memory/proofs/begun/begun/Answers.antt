@@ -1,11 +1,9 @@
 use Rattle.std.proofs.Common.{arith, refl, ◌≡◌, ◌*◌}
 use Rattle.std.specs.Prelude.{find}
-use Rattle.tl_rules.specs.code.Open.{open_request}
-use Rattle.tl_rules.specs.statement.Conformance.{on_link}
+use Rattle.tl_rules.{specs.code.Open.open_request, specs.statement.Conformance.on_link}
 use Rattle.tl_bytes.specs.statement.Bytes.{is_of, pending_accesses}
-use Rattle.tl_memory.specs.declared.expected.Expected.{Expected}
+use Rattle.tl_memory.{specs.declared.expected.Expected.Expected, proofs.BlockAnswers.answered-there}
 use Rattle.tl_memory.proofs.Beginning.{grant-begun, none-begun, read-begun}
-use Rattle.tl_memory.proofs.BlockAnswers.{answered-there}
 use Rattle.tl_memory.proofs.begun.begun.Goals as goal
 
 pub returns-in_ok-granted-in-GrantData : goal.returns-in_ok-granted-in-GrantData
@@ -16,9 +14,8 @@ returns-in_ok-granted-in-GrantData g c = λ n asked t k is here small.
       size = 6;
       bytes = c.in_ok-granted-in-GrantData.field-0;
     } in
-    rw c.in-GrantData.is (grant-begun read n c.args.block
-    (open_request c.args.y.now.source (on_link c.args.link.0 t)) asked t is.asked_is here address refl
-    (c.in_ok-granted-in-GrantData.ensures n c.args.block t k))
+    rw c.in-GrantData.is (grant-begun read n c.args.block (open_request c.args.y.now.source (on_link c.args.link.0 t))
+    asked t is.asked_is here address refl (c.in_ok-granted-in-GrantData.ensures n c.args.block t k))
 
 pub returns-in_ok-read-in-AccessAckData : goal.returns-in_ok-read-in-AccessAckData
 returns-in_ok-read-in-AccessAckData g c = λ n asked t k is here small.
@@ -29,6 +26,5 @@ returns-in_ok-read-in-AccessAckData g c = λ n asked t k is here small.
     (c.in_ok-read-in-AccessAckData.ensures n c.args.block t k to))
 
 pub returns-in_default : goal.returns-in_default
-returns-in_default g c = λ n asked t k is here small.
-    none-begun c.args.y.now.opcode n c.args.link.0 c.args.y.now.source t c.in_default.not-GrantData
-    c.in_default.not-AccessAckData
+returns-in_default g c = λ n asked t k is here small. none-begun c.args.y.now.opcode n c.args.link.0 c.args.y.now.source
+    t c.in_default.not-GrantData c.in_default.not-AccessAckData

@@ -1,14 +1,10 @@
-use Rattle.std.proofs.Common.{refl, ◌<◌, ◌^◌}
-use Rattle.std.proofs.lemmas.Result.{IfOk-weaker}
-use Rattle.tl_rules.specs.code.Open.{open_request}
-use Rattle.tl_rules.specs.statement.Conformance.{on_link}
-use Rattle.tl_memory.proofs.Memories.{begun-by, block-small}
-use Rattle.tl_memory.proofs.Taken.{response-borne}
+use Rattle.std.{proofs.Common.refl, proofs.Common.◌<◌, proofs.Common.◌^◌, proofs.lemmas.Result.IfOk-weaker}
+use Rattle.tl_rules.{specs.code.Open.open_request, specs.statement.Conformance.on_link}
+use Rattle.tl_memory.{proofs.Memories.begun-by, proofs.Memories.block-small, proofs.Taken.response-borne}
 use Rattle.tl_memory.proofs.begun.begun_with.Goals as goal
 
 pub returns-then-count-eq0 : goal.returns-then-count-eq0
-returns-then-count-eq0 g c = IfOk-weaker c.begun.result _ _
-    (λ expected h n t k message legal borne all.
+returns-then-count-eq0 g c = IfOk-weaker c.begun.result _ _ (λ expected h n t k message legal borne all.
     let y = c.in-D.y in
     let link = c.args.link in
     let is = c.in-D.is in

@@ -1,14 +1,12 @@
-use Rattle.std.proofs.Common.{arith, ◌≡◌, ◌/◌}
-use Rattle.std.specs.Prelude.{length}
-use Rattle.std.proofs.lemmas.Result.{IfOk-weaker}
-use Rattle.tl_beat.specs.declared.beat.Beat.TheVariants as beat
+use Rattle.std.{proofs.Common.arith, proofs.Common.◌≡◌, proofs.Common.◌/◌, specs.Prelude.length}
+use Rattle.std.{proofs.lemmas.Result.IfOk-weaker}
+use Rattle.tl_beat.specs.declared.beat.Beat.{Beat}
 use Rattle.tl_memory.proofs.Taken.{none-borne, none-open, response-borne, response-is, same-block, seen-other}
 use Rattle.tl_memory.proofs.Taken.{seen-request}
 use Rattle.tl_memory.proofs.next.after_beat.Goals as goal
 
 pub returns-in-A : goal.returns-in-A
-returns-in-A g c = IfOk-weaker c.after_request.result _ _
-    (λ next h n block free t k m legal asked borne now seen.
+returns-in-A g c = IfOk-weaker c.after_request.result _ _ (λ next h n block free t k m legal asked borne now seen.
     let y = c.in-A.y in
     let is = c.in-A.is in
     rw is (seen-request next free c.args.state.now n block c.args.link y t (rw is at seen)
@@ -16,26 +14,24 @@ returns-in-A g c = IfOk-weaker c.after_request.result _ _
     c.after_request.ensures
 
 pub returns-in-C : goal.returns-in-C
-returns-in-C g c = IfOk-weaker c.after_report.result _ _
-    (λ next h n block free t k m legal asked borne now seen.
+returns-in-C g c = IfOk-weaker c.after_report.result _ _ (λ next h n block free t k m legal asked borne now seen.
     let y = c.in-C.y in
     let is = c.in-C.is in
     let before : c.saturating_sub-before.result ≡ length t = omega (arith, c.saturating_sub-before.ensures, now) in
-    rw is (seen-other next free c.args.state.now n block (c.args.link, beat.C y) t (rw is at seen)
+    rw is (seen-other next free c.args.state.now n block (c.args.link, Beat.C y) t (rw is at seen)
     (λ f e. h n block c.args.link f t k m.c_is (rw is at legal) (same-block (y.address / 64) block (rw is at borne))
     before e)))
     c.after_report.ensures
 
 pub returns-in-Some : goal.returns-in-Some
-returns-in-Some g c = IfOk-weaker c.after_response.result _ _
-    (λ next h n block free t k m legal asked borne now seen.
+returns-in-Some g c = IfOk-weaker c.after_response.result _ _ (λ next h n block free t k m legal asked borne now seen.
     let y = c.in-D.y in
     let is = c.in-D.is in
     let before : c.saturating_sub-before.result ≡ length t = omega (arith, c.saturating_sub-before.ensures, now) in
     let one = response-borne c.args.link.0 y c.args.asked block t (rw is at legal) (rw is at asked) (rw is at borne) in
     let its = response-is c.args.link.0 y c.args.asked c.in-Some.asked one.0 block t c.in-Some.is one.1 (one.2, one.3)
     in
-    rw is (seen-other next free c.args.state.now n block (c.args.link, beat.D y) t (rw is at seen)
+    rw is (seen-other next free c.args.state.now n block (c.args.link, Beat.D y) t (rw is at seen)
     (λ f e. h n block f t k m.d_is its.0 its.1 before e)))
     c.after_response.ensures
 

@@ -1,6 +1,6 @@
 use Rattle.std.proofs.Common.{ap, ap₂, ◌∙◌, ◌||◌}
 use Rattle.std.specs.Prelude.{not}
-use Rattle.tl_beat.specs.declared.channel.Channel.TheVariants as channel
+use Rattle.tl_beat.specs.declared.channel.Channel.{Channel}
 use Rattle.tl_burst.specs.statement.Messages.{unfinished}
 use Rattle.tl_memory.proofs.PassedBy.{none-before, others-pass}
 use Rattle.tl_memory.proofs.passing.passes_by.Goals as goal
@@ -8,23 +8,22 @@ use Rattle.tl_memory.proofs.passing.passes_by.Goals as goal
 pub returns-in-A : goal.returns-in-A
 returns-in-A g c = λ t k few.
     let is = c.in-A.is in
-    let last = c.completes.ensures (unfinished channel.A t) k.a_is (rw is at few) in
+    let last = c.completes.ensures (unfinished Channel.A t) k.a_is (rw is at few) in
     rw is (c.either.ensures ∙ ap₂ (λ a b. not a || not b) c.is_access.ensures (rw is at last))
 
 pub returns-in-C : goal.returns-in-C
 returns-in-C g c = λ t k few.
     let is = c.in-C.is in
-    let last = c.completes-in-C.ensures (unfinished channel.C t) k.c_is (rw is at few) in
+    let last = c.completes-in-C.ensures (unfinished Channel.C t) k.c_is (rw is at few) in
     rw is (ap not (rw is at last))
 
 pub returns-in-D : goal.returns-in-D
 returns-in-D g c = λ t k few.
     let is = c.in-D.is in
-    let burst = unfinished channel.D t in
+    let burst = unfinished Channel.D t in
     let last = c.completes-in-D.ensures burst k.d_is (rw is at few) in
     let first = none-before c.count.result burst (c.count.ensures g.row.W burst k.d_is.bytes_are) in
     rw is (ap not (c.either-in-D.ensures ∙ ap₂ (λ a b. a || b) first (rw is at last)))
 
 pub returns-in_default : goal.returns-in_default
-returns-in_default g c = λ t k few.
-    others-pass c.args.x.now t c.in_default.not-A c.in_default.not-C c.in_default.not-D
+returns-in_default g c = λ t k few. others-pass c.args.x.now t c.in_default.not-A c.in_default.not-C c.in_default.not-D

@@ -17,17 +17,18 @@ loop-access-preserved g c = elim c.if-not-is_of.branch [
       search rules in
       pushed ∙ ap (λ l. l ++ c.access-item.result.writer.write ∷ []) c.loop-access.invariant
       ∙ one_kept (λ x. not (names c.args.link.0 c.args.source x.writer.asked)) (λ x. x.writer.write)
-      c.loop-access.access-index c.args.accesses.now c.access-item.result c.access-item.result c.access-item.is c.loop-access-test.true
+      c.loop-access.access-index c.args.accesses.now c.access-item.result c.access-item.result c.access-item.is
+      c.loop-access-test.true
       (ap not kept)
   | else-not-is_of w ↦
       let own : names c.args.link.0 c.args.source c.access-item.result.writer.asked ≡ true = search rules in
       ap (λ v. v.items) w.writes-is ∙ c.loop-access.invariant
       ∙ one_left (λ x. not (names c.args.link.0 c.args.source x.writer.asked)) (λ x. x.writer.write)
-      c.loop-access.access-index c.args.accesses.now c.access-item.result c.access-item.result c.access-item.is c.loop-access-test.true
+      c.loop-access.access-index c.args.accesses.now c.access-item.result c.access-item.result c.access-item.is
+      c.loop-access-test.true
       (ap not own)
 ]
 
 pub returns : goal.returns
-returns g c = c.loop-access.invariant
-    ∙ ap (writes_but c.args.link.0 c.args.source)
+returns g c = c.loop-access.invariant ∙ ap (writes_but c.args.link.0 c.args.source)
     (take_all c.loop-access.access-index c.args.accesses.now c.loop-access-test.false)

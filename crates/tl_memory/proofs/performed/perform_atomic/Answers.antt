@@ -7,10 +7,9 @@ use Rattle.tl_memory.proofs.performed.perform_atomic.Goals as goal
 
 pub returns-then-is_ok : goal.returns-then-is_ok
 unfolding effect
-returns-then-is_ok g c = λ memory atomic lawful is i lt.
-    same-fields c.args.request.now.opcode c.args.request.now _ memory
-    (64 * (c.args.request.now.address / 64) + i) atomic refl refl refl refl
-    ∙ c.perform.ensures.memory memory is i lt
+returns-then-is_ok g c = λ memory atomic lawful is i lt. same-fields c.args.request.now.opcode c.args.request.now _
+    memory (64 * (c.args.request.now.address / 64) + i) atomic refl refl refl refl ∙ c.perform.ensures.memory memory is
+    i lt
 
 no : false ≡ true → ⊥
 no e = cc

@@ -1,10 +1,8 @@
-use Rattle.std.proofs.Common.{ap, sym, ◌∙◌}
-use Rattle.std.specs.Prelude.{unwrap_or}
+use Rattle.std.{proofs.Common.ap, proofs.Common.sym, proofs.Common.◌∙◌, specs.Prelude.unwrap_or}
 use Rattle.tl_rules.specs.code.Place.{base_of}
-use Rattle.tl_memory.specs.statement.Known.{is_put}
+use Rattle.tl_memory.{specs.statement.Known.is_put, proofs.Atomics.atomic-leaves, proofs.Atomics.atomic-writes}
+use Rattle.tl_memory.{proofs.Puts.put-carries, proofs.Puts.put-leaves}
 use Rattle.tl_bytes.specs.statement.Bytes.{found_memory}
-use Rattle.tl_memory.proofs.Atomics.{atomic-leaves, atomic-writes}
-use Rattle.tl_memory.proofs.Puts.{put-carries, put-leaves}
 use Rattle.tl_memory.proofs.performed.performed.Goals as goal
 
 pub returns-then-is_put : goal.returns-then-is_put

@@ -1,6 +1,5 @@
-use Rattle.std.proofs.Common.{arith, ◌∙◌}
-use Rattle.std.specs.Prelude.{None, Some, slice_index}
-use Rattle.std.proofs.lemmas.List.{length-set}
+use Rattle.std.{proofs.Common.arith, proofs.Common.◌∙◌, specs.Prelude.None, specs.Prelude.Some}
+use Rattle.std.{specs.Prelude.slice_index, proofs.lemmas.List.length-set}
 use Rattle.tl_bytes.proofs.Filled.{one_filled}
 use Rattle.tl_memory.proofs.writer.known.Goals as goal
 

@@ -1,5 +1,4 @@
-use Rattle.std.specs.Prelude.{None}
-use Rattle.std.proofs.lemmas.List.{get_or-replicate}
+use Rattle.std.{specs.Prelude.None, proofs.lemmas.List.get_or-replicate}
 use Rattle.tl_memory.proofs.writer.nothing_known.Goals as goal
 
 pub returns : goal.returns

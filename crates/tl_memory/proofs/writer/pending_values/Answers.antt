@@ -1,7 +1,6 @@
 use Rattle.std.proofs.Common.{ap, sym, ◌∙◌, ◌+◌, ◌*◌, []}
 use Rattle.tl_rules.specs.statement.History.{block_at}
-use Rattle.tl_memory.specs.statement.Known.{is_put}
-use Rattle.tl_memory.proofs.Writing.{other_pending, put_pending}
+use Rattle.tl_memory.{specs.statement.Known.is_put, proofs.Writing.other_pending, proofs.Writing.put_pending}
 use Rattle.tl_memory.proofs.writer.pending_values.Goals as goal
 
 pub returns-then-is_put : goal.returns-then-is_put

@@ -1,5 +1,4 @@
-use Rattle.std.proofs.Common.{rules, ◌∙◌}
-use Rattle.std.proofs.lemmas.Bool.Decides.{nat_tests}
+use Rattle.std.{proofs.Common.rules, proofs.Common.◌∙◌, proofs.lemmas.Bool.Decides.nat_tests}
 use Rattle.tl_schedule.proofs.Decimals.{digit-step, too_great, no_digits, whole_number}
 use Rattle.tl_schedule.proofs.header.digits.Goals as goal
 

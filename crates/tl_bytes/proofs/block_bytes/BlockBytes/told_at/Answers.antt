@@ -8,10 +8,9 @@ returns-then-same_value-clause-kept c =
     (rw c.as_slice.ensures.value at c.last_at-last.ensures) (sym c.same_value.ensures ∙ c.if-same_value.true)
 
 pub returns-then-same_value-clause-told : goal.returns-then-same_value-clause-told
-returns-then-same_value-clause-told c = λ w n block t k small.
-    told-known c.args.self.now n block c.args.place c.args.byte t _ (told-last c.args.self.now c.args.place c.args.byte
-    c.last_at-last.result (rw c.as_slice.ensures.value at c.last_at-last.ensures)
-    (sym c.same_value.ensures ∙ c.if-same_value.true)) k small
+returns-then-same_value-clause-told c = λ w n block t k small. told-known c.args.self.now n block c.args.place
+    c.args.byte t _ (told-last c.args.self.now c.args.place c.args.byte c.last_at-last.result
+    (rw c.as_slice.ensures.value at c.last_at-last.ensures) (sym c.same_value.ensures ∙ c.if-same_value.true)) k small
 
 pub returns-clause-kept : goal.returns-clause-kept
 returns-clause-kept c =

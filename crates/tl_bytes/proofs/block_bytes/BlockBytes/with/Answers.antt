@@ -1,19 +1,17 @@
 use Rattle.std.proofs.Common.{ap, ap₂, refl, ◌∙◌, ◌≡◌, ◌<◌, ℕ}
 use Rattle.std.proofs.lemmas.Result.{IfOk-weaker}
 use Rattle.tl_bytes.specs.code.Tellings.{is_written, outlived, telling_at, written_at}
-use Rattle.tl_bytes.specs.declared.block_bytes.BlockBytes.{BlockBytes}
-use Rattle.tl_bytes.specs.statement.Known.{tellings_of}
+use Rattle.tl_bytes.{specs.declared.block_bytes.BlockBytes.BlockBytes, specs.statement.Known.tellings_of}
 use Rattle.tl_bytes.proofs.Told.{kept-told, written-anywhere, written-is, written-within}
 use Rattle.tl_bytes.proofs.block_bytes.BlockBytes.with.Goals as goal
 use Rattle.tl_bytes.proofs.block_bytes.BlockBytes.with.Goals.{in-Within, in-Anywhere}
 
 pub returns-in-Told : goal.returns-in-Told
 returns-in-Told c = IfOk-weaker c.copy.result _ _
-    (λ b same w n block link y access t k quiet ended found stands now written.
-    written-is c.args.write.now c.args.moment n block c.args.standing b b link y access t refl
-    (λ p lt. rw c.in-Told.is (kept-told (is_written c.args.write.now p) (tellings_of b p)))
-    (same w n block t k) quiet ended found stands now written)
-    c.copy.ensures
+    (λ b same w n block link y access t k quiet ended found stands now written. written-is c.args.write.now
+    c.args.moment n block c.args.standing b b link y access t refl
+    (λ p lt. rw c.in-Told.is (kept-told (is_written c.args.write.now p) (tellings_of b p))) (same w n block t k) quiet
+    ended found stands now written) c.copy.ensures
 
 pub returns : goal.returns
 returns c = λ w n block link y access t k quiet ended found stands now written.
@@ -24,19 +22,15 @@ returns c = λ w n block link y access t k quiet ended found stands now written.
     → telling_at new.latest.items p ≡ written_at old.latest.items c.args.write.now c.args.moment p =
     λ p lt. ap (λ l. telling_at l p) c.in_ok-from_slice.ensures.items ∙ c.latest_with-latest.ensures p lt
     ∙ ap (λ l. written_at l c.args.write.now c.args.moment p) c.as_slice.ensures.value in
-    let earlier : new.earlier.items
-    ≡ outlived old.latest.items old.earlier.items c.args.write.now c.match-standing.since =
-    c.in_ok-outlived.ensures
-    ∙ ap₂ (λ l m. outlived l m c.args.write.now c.match-standing.since) c.as_slice-2.ensures.value
-    c.as_slice-earlier.ensures.value in
+    let earlier : new.earlier.items ≡ outlived old.latest.items old.earlier.items c.args.write.now
+    c.match-standing.since =
+    c.in_ok-outlived.ensures ∙ ap₂ (λ l m. outlived l m c.args.write.now c.match-standing.since)
+    c.as_slice-2.ensures.value c.as_slice-earlier.ensures.value in
     written-is c.args.write.now c.args.moment n block c.args.standing old new link y access t refl
     (λ p lt. elim c.match-standing.branch [
-      | in-Within w ↦
-          rw w.in-Within.is
-          (written-within c.args.write.now c.args.moment w.in-Within.began p old new lt (latest p lt)
+      | in-Within w ↦ rw w.in-Within.is (written-within c.args.write.now c.args.moment w.in-Within.began p old new lt
+          (latest p lt) (rw w.since-is at earlier))
+      | in-Anywhere w ↦ rw w.in-Anywhere.is (written-anywhere c.args.write.now c.args.moment p old new lt (latest p lt)
           (rw w.since-is at earlier))
-      | in-Anywhere w ↦
-          rw w.in-Anywhere.is
-          (written-anywhere c.args.write.now c.args.moment p old new lt (latest p lt) (rw w.since-is at earlier))
     ])
     k quiet ended found stands now written

@@ -34,5 +34,4 @@ returns-in-D-clause-bytes g c = λ burst k.
     (ap lanes_of (sym c.in-D.is)) c.put_data-in-D.ensures.bytes
 
 pub returns-in-E-clause-bytes : goal.returns-in-E-clause-bytes
-returns-in-E-clause-bytes g c = λ burst k.
-    none-brought c.args.self.now c.args.beat.now burst k (rw c.in-E.is refl)
+returns-in-E-clause-bytes g c = λ burst k. none-brought c.args.self.now c.args.beat.now burst k (rw c.in-E.is refl)

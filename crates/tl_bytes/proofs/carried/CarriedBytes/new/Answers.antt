@@ -1,6 +1,4 @@
-use Rattle.std.proofs.Common.{refl}
-use Rattle.std.specs.Prelude.{None}
-use Rattle.std.proofs.lemmas.List.{get_or-replicate}
+use Rattle.std.{proofs.Common.refl, specs.Prelude.None, proofs.lemmas.List.get_or-replicate}
 use Rattle.tl_bytes.specs.statement.Bytes.{carried_byte}
 use Rattle.tl_bytes.proofs.carried.CarriedBytes.new.Goals as goal
 

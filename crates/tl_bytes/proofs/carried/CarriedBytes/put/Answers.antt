@@ -1,6 +1,5 @@
 use Rattle.std.proofs.Common.{rules, arith, ap, refl, sym, ◌∙◌, ◌≡◌, ◌+◌, ◌*◌, ◌%◌, ◌<◌, ℕ, length, get_or, set}
-use Rattle.std.proofs.lemmas.List.{length-set}
-use Rattle.std.proofs.lemmas.Option.{slice_get-get_or}
+use Rattle.std.{proofs.lemmas.List.length-set, proofs.lemmas.Option.slice_get-get_or}
 use Rattle.std.specs.Prelude.{None, Some, slice_get, slice_index_or}
 use Rattle.tl_bytes.proofs.Brought.{is_lane, lane-off, lane-on, whole_beat, width_positive}
 use Rattle.tl_bytes.proofs.Filled.{after, all-done, none-done, one-done}
@@ -68,10 +67,9 @@ loop-lane-preserved g c =
     record {
       same = c.loop-lane.invariant.same;
       long = length-set now place (Some (get_or lanes lane 0)) ∙ c.loop-lane.invariant.long;
-      bytes = λ p lt. ap (λ v. slice_index_or (set now place v) p None) (sym value)
-          ∙ one-done (is_lane w n many) (λ q. slice_get lanes (q % w)) c.args.self.now.bytes None place now within on.0
-          c.loop-lane.invariant.bytes p lt
-          ∙ ap (λ k. after (is_lane w n many) (λ q. slice_get lanes (q % w)) c.args.self.now.bytes None k p)
+      bytes = λ p lt. ap (λ v. slice_index_or (set now place v) p None) (sym value) ∙ one-done (is_lane w n many)
+          (λ q. slice_get lanes (q % w)) c.args.self.now.bytes None place now within on.0 c.loop-lane.invariant.bytes p
+          lt ∙ ap (λ k. after (is_lane w n many) (λ q. slice_get lanes (q % w)) c.args.self.now.bytes None k p)
           (next c.saturating_mul-first.result lane);
     }
   where

@@ -1,7 +1,6 @@
 use Rattle.std.proofs.Common.{◌≡◌, ◌<◌, ◌+◌, ◌%◌, ℕ}
 use Rattle.std.specs.Prelude.{None, slice_get, slice_index_or, length}
-use Rattle.tl_bytes.proofs.Brought.{is_lane}
-use Rattle.tl_bytes.proofs.Filled.{after}
+use Rattle.tl_bytes.{proofs.Brought.is_lane, proofs.Filled.after}
 use Rattle.tl_bytes.proofs.carried.CarriedBytes.put.Given as goal
 
 abbrev pub invariant-loop-lane : goal.invariant-loop-lane

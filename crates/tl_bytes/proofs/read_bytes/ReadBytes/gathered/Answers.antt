@@ -1,8 +1,6 @@
 use Rattle.std.proofs.Common.{ap, ◌∙◌, ◌||◌}
-use Rattle.tl_bytes.specs.code.Tellings.{telling_at}
-use Rattle.tl_bytes.specs.declared.read_bytes.ReadBytes.{ReadBytes}
-use Rattle.tl_bytes.specs.statement.Bytes.{could_be, told_as}
-use Rattle.tl_bytes.specs.statement.Known.{tellings_at}
+use Rattle.tl_bytes.{specs.code.Tellings.telling_at, specs.declared.read_bytes.ReadBytes.ReadBytes}
+use Rattle.tl_bytes.{specs.statement.Bytes.could_be, specs.statement.Bytes.told_as, specs.statement.Known.tellings_at}
 use Rattle.tl_bytes.proofs.Offered.{first-is, gathered-is, told-either}
 use Rattle.tl_bytes.proofs.read_bytes.ReadBytes.gathered.Goals as goal
 

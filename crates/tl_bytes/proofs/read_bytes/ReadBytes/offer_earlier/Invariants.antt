@@ -1,6 +1,5 @@
 use Rattle.std.proofs.Common.{◌≡◌, ◌||◌, ℕ, drop}
-use Rattle.tl_bytes.specs.statement.Bytes.{told_as}
-use Rattle.tl_bytes.specs.statement.Known.{may_bring, tellings_at}
+use Rattle.tl_bytes.{specs.statement.Bytes.told_as, specs.statement.Known.may_bring, specs.statement.Known.tellings_at}
 use Rattle.tl_bytes.proofs.read_bytes.ReadBytes.offer_earlier.Given as goal
 
 abbrev pub invariant-loop-told : goal.invariant-loop-told

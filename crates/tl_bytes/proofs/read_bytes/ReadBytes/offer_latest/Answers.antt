@@ -1,7 +1,5 @@
 use Rattle.std.proofs.Common.{arith, ◌∙◌}
-use Rattle.tl_bytes.specs.code.Tellings.{telling_at}
-use Rattle.tl_bytes.specs.statement.Bytes.{could_be}
-use Rattle.tl_bytes.specs.statement.Known.{may_bring}
+use Rattle.tl_bytes.{specs.code.Tellings.telling_at, specs.statement.Bytes.could_be, specs.statement.Known.may_bring}
 use Rattle.tl_bytes.proofs.Offered.{all-first, none-first, one-offered}
 use Rattle.tl_bytes.proofs.read_bytes.ReadBytes.offer_latest.Goals as goal
 

@@ -1,8 +1,6 @@
 use Rattle.std.proofs.Common.{◌≡◌, ◌<◌, ℕ}
-use Rattle.tl_bytes.specs.code.Tellings.{telling_at}
-use Rattle.tl_bytes.specs.statement.Bytes.{could_be}
-use Rattle.tl_bytes.specs.statement.Known.{may_bring}
-use Rattle.tl_bytes.proofs.Offered.{with_first}
+use Rattle.tl_bytes.{specs.code.Tellings.telling_at, specs.statement.Bytes.could_be, specs.statement.Known.may_bring}
+use Rattle.tl_bytes.{proofs.Offered.with_first}
 use Rattle.tl_bytes.proofs.read_bytes.ReadBytes.offer_latest.Given as goal
 
 abbrev pub invariant-loop-place : goal.invariant-loop-place

@@ -1,6 +1,5 @@
 use Rattle.std.proofs.Common.{◌≡◌, ◌<◌, ◌||◌, ℕ, drop}
-use Rattle.tl_bytes.specs.code.Tellings.{left_as}
-use Rattle.tl_bytes.specs.statement.Known.{may_bring}
+use Rattle.tl_bytes.{specs.code.Tellings.left_as, specs.statement.Known.may_bring}
 use Rattle.tl_bytes.proofs.read_bytes.ReadBytes.offer_writes.Given as goal
 
 abbrev pub invariant-loop-write : goal.invariant-loop-write

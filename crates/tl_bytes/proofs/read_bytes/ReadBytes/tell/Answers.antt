@@ -1,8 +1,7 @@
 use Rattle.std.proofs.Common.{ap, ◌∙◌, ◌||◌}
-use Rattle.tl_bytes.specs.code.Tellings.{telling_at}
-use Rattle.tl_bytes.specs.statement.Bytes.{could_be, told_as}
-use Rattle.tl_bytes.specs.statement.Known.{may_bring, tellings_at}
-use Rattle.tl_bytes.proofs.Offered.{told-either, told-more}
+use Rattle.tl_bytes.{specs.code.Tellings.telling_at, specs.statement.Bytes.could_be, specs.statement.Bytes.told_as}
+use Rattle.tl_bytes.{specs.statement.Known.may_bring, specs.statement.Known.tellings_at, proofs.Offered.told-either}
+use Rattle.tl_bytes.{proofs.Offered.told-more}
 use Rattle.tl_bytes.proofs.read_bytes.ReadBytes.tell.Goals as goal
 
 pub returns : goal.returns

@@ -1,7 +1,6 @@
 use Rattle.std.proofs.Common.{arith, ap, sym, ◌∙◌, ◌||◌, ◌&&◌}
 use Rattle.std.specs.Prelude.{◌==◌}
-use Rattle.tl_bytes.specs.code.Tellings.{leaves}
-use Rattle.tl_bytes.specs.statement.Known.{may_bring}
+use Rattle.tl_bytes.{specs.code.Tellings.leaves, specs.statement.Known.may_bring}
 use Rattle.tl_bytes.proofs.Offered.{all-first, none-first, one-kept, one-offered, unwritten, written-leaves}
 use Rattle.tl_bytes.proofs.read_bytes.ReadBytes.write.Goals as goal
 use Rattle.tl_bytes.proofs.read_bytes.ReadBytes.write.Goals.{then-writes+in_ok-offer, else-writes}
@@ -15,16 +14,13 @@ loop-place-preserved c = λ at v lt.
     let place = c.loop-place.place in
     let now = may_bring c.loop-place.self at v in
     elim c.if-writes.branch [
-      | then-writes+in_ok-offer w ↦
-          ap (λ s. may_bring s at v) w.self-is
-          ∙ one-offered (may_bring c.args.self.now at v) (λ q. leaves q v write) place at now
-          (may_bring w.offer.new.self at v) (c.loop-place.invariant at v lt)
+      | then-writes+in_ok-offer w ↦ ap (λ s. may_bring s at v) w.self-is ∙ one-offered (may_bring c.args.self.now at v)
+          (λ q. leaves q v write) place at now (may_bring w.offer.new.self at v) (c.loop-place.invariant at v lt)
           (w.in_ok-offer.ensures at v ∙ ap (λ b. now || ((place == at) && b))
           (written-leaves write place v w.value.result (sym c.writes.ensures ∙ w.if-writes.true) w.value.ensures))
-      | else-writes w ↦
-          ap (λ s. may_bring s at v) w.self-is
-          ∙ one-kept (may_bring c.args.self.now at v) (λ q. leaves q v write) place at now
-          (c.loop-place.invariant at v lt) (unwritten write place v (sym c.writes.ensures ∙ w.if-writes.false))
+      | else-writes w ↦ ap (λ s. may_bring s at v) w.self-is ∙ one-kept (may_bring c.args.self.now at v)
+          (λ q. leaves q v write) place at now (c.loop-place.invariant at v lt)
+          (unwritten write place v (sym c.writes.ensures ∙ w.if-writes.false))
     ]
 
 pub returns : goal.returns

@@ -1,7 +1,5 @@
 use Rattle.std.proofs.Common.{◌≡◌, ◌<◌, ℕ}
-use Rattle.tl_bytes.specs.code.Tellings.{leaves}
-use Rattle.tl_bytes.specs.statement.Known.{may_bring}
-use Rattle.tl_bytes.proofs.Offered.{with_first}
+use Rattle.tl_bytes.{specs.code.Tellings.leaves, specs.statement.Known.may_bring, proofs.Offered.with_first}
 use Rattle.tl_bytes.proofs.read_bytes.ReadBytes.write.Given as goal
 
 abbrev pub invariant-loop-place : goal.invariant-loop-place

@@ -1,7 +1,6 @@
 use Rattle.std.proofs.Common.{◌≡◌, ◌≤◌, length, ◌==◌}
 use Rattle.std.specs.Int.{bit_at}
-use Rattle.tl_manager.specs.statement.Handing.{probes}
-use Rattle.tl_manager.specs.statement.Holders.{clients_from}
+use Rattle.tl_manager.{specs.statement.Handing.probes, specs.statement.Holders.clients_from}
 use Rattle.tl_manager.proofs.manager.reply.probes.Given as goal
 
 abbrev pub invariant-loop-client : goal.invariant-loop-client

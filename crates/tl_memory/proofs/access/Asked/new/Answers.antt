@@ -1,16 +1,14 @@
 use Rattle.std.proofs.Common.{arith, ap, refl, ◌∙◌, ◌<◌}
-use Rattle.std.specs.Prelude.{unwrap_or, ◌∷◌}
-use Rattle.tl_beat.specs.declared.beat.Beat.TheVariants as beat
-use Rattle.std.specs.Prelude.{length, ◌*◌}
+use Rattle.std.specs.Prelude.{unwrap_or, ◌∷◌, length, ◌*◌}
+use Rattle.tl_beat.specs.declared.beat.Beat.{Beat}
 use Rattle.tl_burst.specs.statement.Burst.{bit}
-use Rattle.tl_bytes.specs.statement.Bytes.{carried_byte}
-use Rattle.tl_bytes.proofs.Brought.{width_positive}
+use Rattle.tl_bytes.{specs.statement.Bytes.carried_byte, proofs.Brought.width_positive}
 use Rattle.tl_memory.proofs.Payloads.{bit_below, known, wide-bytes, wide-length}
 use Rattle.tl_memory.proofs.access.Asked.new.Goals as goal
 
 pub returns : goal.returns
 returns g c = λ older k wide room.
-    let burst = beat.A c.args.x.now ∷ older in
+    let burst = Beat.A c.args.x.now ∷ older in
     record {
       link_is = refl;
       opcode_is = refl;
@@ -31,7 +29,6 @@ returns g c = λ older k wide room.
       masked = λ carries p set. omega (
         arith,
         wide-length burst (wide carries),
-        bit_below c.args.brought.now.mask
-            (g.row.W * length burst) p k.mask_below (ap (λ m. bit m p) k.mask_is ∙ set),
+        bit_below c.args.brought.now.mask (g.row.W * length burst) p k.mask_below (ap (λ m. bit m p) k.mask_is ∙ set),
       );
     }

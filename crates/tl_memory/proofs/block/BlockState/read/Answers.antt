@@ -1,7 +1,6 @@
 use Rattle.std.proofs.Common.{rules, refl, ◌≡◌, find}
 use Rattle.std.specs.Prelude.{None, Some}
-use Rattle.tl_memory.specs.code.Writers.{is_named}
-use Rattle.tl_memory.proofs.Keeping.{finds}
+use Rattle.tl_memory.{specs.code.Writers.is_named, proofs.Keeping.finds}
 use Rattle.tl_memory.proofs.States.{expects-none, expects-some, is-found, none-found}
 use Rattle.tl_memory.proofs.block.BlockState.read.Goals as goal
 

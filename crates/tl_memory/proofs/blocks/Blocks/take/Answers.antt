@@ -1,6 +1,5 @@
 use Rattle.std.proofs.Common.{arith, refl, ◌≡◌, ◌<◌, length, slice_get, Some, true, false}
-use Rattle.std.specs.Vec.{with_item}
-use Rattle.std.proofs.lemmas.Option.{slice_get_read}
+use Rattle.std.{specs.Vec.with_item, proofs.lemmas.Option.slice_get_read}
 use Rattle.tl_memory.proofs.Tables.{blocks-taken}
 use Rattle.tl_memory.proofs.blocks.Blocks.take.Goals as goal
 
@@ -9,8 +8,7 @@ returns-in-Some g c = λ n block x t k at now next passes.
     let b = c.args.self.now in
     let place = c.args.place in
     let old = c.in-Some.state.now in
-    let below : place < length b.states.items =
-    omega (arith, c.in-Some.ensures.variant.0 refl, b.states.ok) in
+    let below : place < length b.states.items = omega (arith, c.in-Some.ensures.variant.0 refl, b.states.ok) in
     let there : slice_get b.states.items place ≡ Some old =
     slice_get_read b.states.items (length b.states.items) place old refl below c.in-Some.ensures.value in
     blocks-taken b

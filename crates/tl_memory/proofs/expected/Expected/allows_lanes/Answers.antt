@@ -1,7 +1,6 @@
 use Rattle.std.proofs.Common.{rules, arith, sym, ◌≡◌, ◌+◌, ◌*◌, ◌/◌}
-use Rattle.tl_beat.specs.declared.beat.Beat.TheVariants as beat
-use Rattle.tl_rules.specs.code.Place.{base_of}
-use Rattle.tl_rules.specs.statement.Admission.{lanes_of}
+use Rattle.tl_beat.specs.declared.beat.Beat.{Beat}
+use Rattle.tl_rules.{specs.code.Place.base_of, specs.statement.Admission.lanes_of}
 use Rattle.tl_memory.specs.code.Expected.{allows}
 use Rattle.tl_memory.proofs.Lanes.{each-passed, no-lanes, open-allows, some-lanes}
 use Rattle.tl_memory.proofs.expected.Expected.allows_lanes.Goals as goal
@@ -10,7 +9,7 @@ pub returns-then-is_open : goal.returns-then-is_open
 returns-then-is_open g c = λ room.
     let e = c.args.self.now in
     sym (each-passed (allows e) (g.row.W * (e.address / g.row.W) + g.row.W * c.args.beats)
-    (lanes_of (beat.D c.args.x.now)) (open-allows e (c.is_open.ensures c.if-is_open.true)))
+    (lanes_of (Beat.D c.args.x.now)) (open-allows e (c.is_open.ensures c.if-is_open.true)))
 
 pub returns-in-None : goal.returns-in-None
 returns-in-None g c = λ room.

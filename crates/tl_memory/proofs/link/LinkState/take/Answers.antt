@@ -1,5 +1,5 @@
 use Rattle.std.proofs.Common.{rules, refl, sym, ◌∙◌, ◌≡◌}
-use Rattle.tl_beat.specs.declared.channel.Channel.TheVariants as channel
+use Rattle.tl_beat.specs.declared.channel.Channel.{Channel}
 use Rattle.tl_burst.specs.statement.Messages.{unfinished}
 use Rattle.tl_rules.specs.statement.Conformance.{on_link}
 use Rattle.tl_memory.proofs.LinkStates.{link-begins, link-goes_on, link-other}
@@ -14,7 +14,7 @@ returns-then-first g c = λ levels p n link t k legal fine first.
     let messages = c.take.ensures f.level p past k.messages_are (legal-on levels p link.0 f.level t f.has_level legal)
     f.fine in
     let zero : c.count-first.result ≡ 0 = search rules in
-    let count = c.count-first.ensures g.row.W (unfinished channel.D past) k.messages_are.d_is.bytes_are in
+    let count = c.count-first.ensures g.row.W (unfinished Channel.D past) k.messages_are.d_is.bytes_are in
     link-begins levels p c.args.self.now (record { messages = c.take.new.self; expected = c.args.begun }) n link x t k
     legal fine messages c.in-D.field-0 c.args.begun c.in-D.is refl (sym count ∙ zero) (first c.in-D.field-0 c.in-D.is)
 
@@ -26,7 +26,7 @@ returns-else-first g c = λ levels p n link t k legal fine first.
     let messages = c.take.ensures f.level p past k.messages_are (legal-on levels p link.0 f.level t f.has_level legal)
     f.fine in
     let some : c.count-first.result ≡ 0 → ⊥ = search rules in
-    let count = c.count-first.ensures g.row.W (unfinished channel.D past) k.messages_are.d_is.bytes_are in
+    let count = c.count-first.ensures g.row.W (unfinished Channel.D past) k.messages_are.d_is.bytes_are in
     link-goes_on levels p c.args.self.now (record { messages = c.take.new.self; expected = c.args.self.now.expected }) n
     link x t k legal fine messages c.in-D.field-0 c.in-D.is refl (λ none. some (count ∙ none))
 

@@ -12,6 +12,5 @@ loop-preserved g = rw g.in_ok-push.ensures.items (
 )
 
 pub returns : goal.returns
-returns g = λ w.
-    links-first _ w g.args.count (omega (arith, g.loop.invariant.0, g.loop-test.false, g.loop.auto.counter-end))
-    g.loop.invariant.1
+returns g = λ w. links-first _ w g.args.count
+    (omega (arith, g.loop.invariant.0, g.loop-test.false, g.loop.auto.counter-end)) g.loop.invariant.1

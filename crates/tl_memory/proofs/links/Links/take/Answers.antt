@@ -1,6 +1,5 @@
 use Rattle.std.proofs.Common.{arith, refl, sym, ap, ◌≡◌, ◌<◌, ◌∙◌, length, slice_get, slice_set, Some, true, false}
-use Rattle.std.specs.Vec.{with_item}
-use Rattle.std.proofs.lemmas.Option.{slice_get_read}
+use Rattle.std.{specs.Vec.with_item, proofs.lemmas.Option.slice_get_read}
 use Rattle.tl_memory.proofs.LinkTables.{link-there, links-taken}
 use Rattle.tl_memory.proofs.links.Links.take.Goals as goal
 
@@ -10,9 +9,8 @@ returns-in-Some g c = λ levels p t k legal fine begun.
     let old = c.in-Some.state.now in
     let below : c.from.result < length items =
     omega (arith, c.in-Some.ensures.variant.0 refl, c.args.self.now.states.ok) in
-    let there : slice_get items c.args.link.0 ≡ Some old =
-    ap (slice_get items) (sym c.from.ensures)
-    ∙ slice_get_read items (length items) c.from.result old refl below c.in-Some.ensures.value in
+    let there : slice_get items c.args.link.0 ≡ Some old = ap (slice_get items) (sym c.from.ensures) ∙ slice_get_read
+    items (length items) c.from.result old refl below c.in-Some.ensures.value in
     links-taken levels p c.args.self.now
     (record { states = with_item c.args.self.now.states c.from.result c.take.new.self }) old
     c.take.new.self (length levels) c.args.link c.args.x.now t

@@ -1,12 +1,10 @@
 use Rattle.std.proofs.Common.{rules, sym, ◌∙◌, ◌≡◌, true, false, length}
-use Rattle.std.specs.Prelude.{None}
-use Rattle.std.proofs.lemmas.Result.{IfOk-weaker}
+use Rattle.std.{specs.Prelude.None, proofs.lemmas.Result.IfOk-weaker}
 use Rattle.tl_burst.specs.statement.Part.{is_small}
 use Rattle.tl_rules.specs.statement.Conformance.{on_link}
-use Rattle.tl_memory.proofs.LinkBeats.{large-breaks}
+use Rattle.tl_memory.{proofs.LinkBeats.large-breaks, proofs.OpenAccesses.is-fine, proofs.OpenAccesses.legal-on}
+use Rattle.tl_memory.{proofs.PassedBy.none-begins, proofs.PassedBy.passed-by}
 use Rattle.tl_memory.proofs.Memories.{is-borne, links-legal, none-expected, nothing-changed}
-use Rattle.tl_memory.proofs.OpenAccesses.{is-fine, legal-on}
-use Rattle.tl_memory.proofs.PassedBy.{none-begins, passed-by}
 use Rattle.tl_memory.proofs.memory.Memory.change.Goals as goal
 
 pub returns-then-not-is_small-clause-change : goal.returns-then-not-is_small-clause-change
@@ -55,9 +53,7 @@ returns-clause-known g c = λ n t k. record {
 }
 
 pub returns-clause-change : goal.returns-clause-change
-returns-clause-change g c = IfOk-weaker c.changed.result _ _
-    (λ change h levels p t k legal fine asked now.
-    h levels p t
+returns-clause-change g c = IfOk-weaker c.changed.result _ _ (λ change h levels p t k legal fine asked now. h levels p t
     (record {
       links_are = k.links_are;
       blocks_are = c.meet.ensures.known (length levels) t k.blocks_are;

@@ -1,11 +1,8 @@
 use Rattle.std.proofs.Common.{rules, sym, ap, ◌∙◌, length}
-use Rattle.std.specs.Prelude.{if◌then◌else◌, Some, None}
-use Rattle.std.proofs.lemmas.Option.{same_Some}
+use Rattle.std.{specs.Prelude.if◌then◌else◌, specs.Prelude.Some, specs.Prelude.None, proofs.lemmas.Option.same_Some}
 use Rattle.tl_rules.specs.statement.Conformance.{on_link}
-use Rattle.tl_memory.proofs.Kept.{place-kept, place-there}
-use Rattle.tl_memory.proofs.LegalBeats.{few-before}
-use Rattle.tl_memory.proofs.Memories.{is-borne, links-legal}
-use Rattle.tl_memory.proofs.Taken.{same-block}
+use Rattle.tl_memory.{proofs.Kept.place-kept, proofs.Kept.place-there, proofs.LegalBeats.few-before}
+use Rattle.tl_memory.{proofs.Memories.is-borne, proofs.Memories.links-legal, proofs.Taken.same-block}
 use Rattle.tl_memory.proofs.memory.Memory.changed.Goals as goal
 
 pub returns : goal.returns

@@ -1,7 +1,6 @@
 use Rattle.std.proofs.Common.{refl, sym, ◌≡◌, ◌∙◌, true, false, length}
 use Rattle.std.specs.Prelude.{is_some, None, Option, Some}
-use Rattle.tl_beat.specs.declared.beat.Beat.{Beat}
-use Rattle.tl_beat.specs.declared.beat.Link.{Link}
+use Rattle.tl_beat.{specs.declared.beat.Beat.Beat, specs.declared.beat.Link.Link}
 use Rattle.tl_memory.proofs.Memories.{all-passed, held-seen, others-passed}
 use Rattle.tl_memory.proofs.Tables.{blocks-passed}
 use Rattle.tl_memory.proofs.memory.Memory.take.Goals as goal

@@ -1,6 +1,5 @@
 use Rattle.std.proofs.Common.{ap, ◌∙◌}
-use Rattle.tl_memory.specs.code.Lines.{told_by}
-use Rattle.tl_memory.proofs.Kept.{told-sound}
+use Rattle.tl_memory.{specs.code.Lines.told_by, proofs.Kept.told-sound}
 use Rattle.tl_memory.proofs.memory.Memory.told_at.Goals as goal
 
 pub returns-in-None-clause-kept : goal.returns-in-None-clause-kept

@@ -1,5 +1,4 @@
-use Rattle.std.proofs.Common.{arith, ◌≡◌}
-use Rattle.std.specs.Prelude.{length}
+use Rattle.std.{proofs.Common.arith, proofs.Common.◌≡◌, specs.Prelude.length}
 use Rattle.tl_memory.proofs.Masks.{none_brought}
 use Rattle.tl_memory.proofs.message.CarriedMessage.clear.Goals as goal
 

@@ -1,5 +1,4 @@
-use Rattle.std.proofs.Common.{refl}
-use Rattle.std.proofs.lemmas.Bool.{eq-eqb, ne_eqb}
+use Rattle.std.{proofs.Common.refl, proofs.lemmas.Bool.eq-eqb, proofs.lemmas.Bool.ne_eqb}
 use Rattle.tl_manager.specs.code.Tracked.{service_with}
 use Rattle.tl_rules.specs.statement.History.{block_at}
 use Rattle.tl_manager.proofs.blocks.Beginning.{probed-word, done-unprobed, done-probed, block_state-probed}

@@ -1,9 +1,7 @@
 use Rattle.std.proofs.Common.{◌∙◌, ap, ◌≡◌, ◌==◌}
-use Rattle.tl_manager.specs.statement.Holders.{is_unheld}
-use Rattle.tl_manager.specs.declared.manager.tracker.Trackers.{Trackers}
+use Rattle.tl_manager.{specs.statement.Holders.is_unheld, specs.declared.manager.tracker.Trackers.Trackers}
+use Rattle.tl_manager.{proofs.blocks.Granting.block_state-granted, proofs.blocks.Recording.unheld-word}
 use Rattle.tl_rules.specs.statement.History.{block_at}
-use Rattle.tl_manager.proofs.blocks.Granting.{block_state-granted}
-use Rattle.tl_manager.proofs.blocks.Recording.{unheld-word}
 use Rattle.tl_manager.proofs.manager.block_state.BlockState.grant.Goals as goal
 
 pub returns-clause-done : goal.returns-clause-done

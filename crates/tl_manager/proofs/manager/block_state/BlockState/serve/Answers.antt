@@ -1,7 +1,6 @@
 use Rattle.std.proofs.Common.{refl}
-use Rattle.tl_manager.specs.code.Outbox.{messages_of}
-use Rattle.tl_manager.specs.code.Trackers.{tracker_at}
-use Rattle.tl_manager.proofs.blocks.Completed.{has-room, done-served}
+use Rattle.tl_manager.{specs.code.Outbox.messages_of, specs.code.Trackers.tracker_at, proofs.blocks.Completed.has-room}
+use Rattle.tl_manager.{proofs.blocks.Completed.done-served}
 use Rattle.tl_manager.proofs.manager.block_state.BlockState.serve.Goals as goal
 
 pub returns-in-None-clause-done : goal.returns-in-None-clause-done

@@ -1,5 +1,4 @@
-use Rattle.std.proofs.Common.{rules, refl}
-use Rattle.std.specs.Prelude.{replicate}
+use Rattle.std.{proofs.Common.rules, proofs.Common.refl, specs.Prelude.replicate}
 use Rattle.tl_manager.proofs.blocks.Blocks.{zero-blocks}
 use Rattle.tl_manager.proofs.manager.blocks.Blocks.new.Goals as goal
 

@@ -1,7 +1,6 @@
 use Rattle.std.proofs.Common.{◌∙◌}
-use Rattle.tl_manager.proofs.pending.Past.{granted-whole}
+use Rattle.tl_manager.proofs.pending.Past.{granted-whole, looked-past}
 use Rattle.tl_manager.proofs.pending.Looking.{sink-looked}
-use Rattle.tl_manager.proofs.pending.Past.{looked-past}
 use Rattle.tl_manager.proofs.manager.link_state.LinkPastPast.has_grant.Goals as goal
 
 pub returns : goal.returns

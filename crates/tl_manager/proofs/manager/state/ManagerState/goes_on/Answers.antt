@@ -1,8 +1,6 @@
 use Rattle.std.proofs.Common.{refl, ◌≡◌, ◌<◌, length, Some, arith}
-use Rattle.std.specs.Prelude.{slice_get}
-use Rattle.std.proofs.lemmas.Option.{slice_get_read}
-use Rattle.tl_manager.proofs.calls.Middle.{follows-any}
-use Rattle.tl_manager.proofs.calls.Unchanged.{unchanged-at}
+use Rattle.std.{specs.Prelude.slice_get, proofs.lemmas.Option.slice_get_read}
+use Rattle.tl_manager.{proofs.calls.Middle.follows-any, proofs.calls.Unchanged.unchanged-at}
 use Rattle.tl_manager.proofs.manager.state.ManagerState.goes_on.Goals as goal
 
 pub returns-clause-passes : goal.returns-clause-passes

@@ -1,7 +1,6 @@
 use Rattle.std.proofs.Common.{refl, sym, ◌∙◌, ap, ◌≡◌, length, Err, Some}
-use Rattle.std.specs.Prelude.{slice_get}
-use Rattle.std.proofs.lemmas.Result.{err_from_is_err_and}
-use Rattle.std.proofs.lemmas.Option.{slice_get_within, slice_get_read}
+use Rattle.std.{specs.Prelude.slice_get, proofs.lemmas.Result.err_from_is_err_and}
+use Rattle.std.{proofs.lemmas.Option.slice_get_within, proofs.lemmas.Option.slice_get_read}
 use Rattle.tl_manager.specs.code.Admission.{admission_of}
 use Rattle.tl_manager.proofs.judging.Judging.{judged-ours, judged-illegal, judged-legal, on-ok}
 use Rattle.tl_manager.proofs.manager.state.ManagerState.judge.Goals as goal

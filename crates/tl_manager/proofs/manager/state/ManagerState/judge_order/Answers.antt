@@ -1,7 +1,6 @@
 use Rattle.std.proofs.Common.{refl, ◌∙◌}
 use Rattle.tl_rules.specs.statement.Conformance.{on_link}
-use Rattle.tl_manager.specs.code.PartIs.{IsPartOf}
-use Rattle.tl_manager.proofs.judging.Judging.{burst-is, breaks-off}
+use Rattle.tl_manager.{specs.code.PartIs.IsPartOf, proofs.judging.Judging.burst-is, proofs.judging.Judging.breaks-off}
 use Rattle.tl_manager.proofs.manager.state.ManagerState.judge_order.Goals as goal
 
 pub returns-in_default : goal.returns-in_default

@@ -1,6 +1,5 @@
 use Rattle.std.proofs.Common.{refl, ◌≡◌, length, arith, Some}
-use Rattle.std.specs.Prelude.{slice_get}
-use Rattle.std.proofs.lemmas.Option.{slice_get_read}
+use Rattle.std.{specs.Prelude.slice_get, proofs.lemmas.Option.slice_get_read}
 use Rattle.tl_manager.proofs.judging.Refusing.{knows-absent, knows-refused}
 use Rattle.tl_manager.proofs.manager.state.ManagerState.refuse.Goals as goal
 

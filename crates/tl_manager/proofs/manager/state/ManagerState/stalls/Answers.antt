@@ -1,7 +1,6 @@
 use Rattle.std.proofs.Common.{ap, sym, ◌∙◌}
-use Rattle.tl_manager.specs.code.Admission.{is_stall}
-use Rattle.tl_manager.proofs.judging.Refusing.{stalls-judged}
-use Rattle.tl_manager.proofs.judging.Stalls.{never-stalled}
+use Rattle.tl_manager.{specs.code.Admission.is_stall, proofs.judging.Refusing.stalls-judged}
+use Rattle.tl_manager.{proofs.judging.Stalls.never-stalled}
 use Rattle.tl_manager.proofs.manager.state.ManagerState.stalls.Goals as goal
 
 pub returns-then-may_wait : goal.returns-then-may_wait

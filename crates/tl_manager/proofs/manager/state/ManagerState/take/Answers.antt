@@ -1,10 +1,8 @@
 use Rattle.std.proofs.Common.{refl, rules, ◌≡◌, length, false, Some}
-use Rattle.std.specs.Prelude.{slice_get}
-use Rattle.std.proofs.lemmas.Option.{slice_get_read}
+use Rattle.std.{specs.Prelude.slice_get, proofs.lemmas.Option.slice_get_read}
 use Rattle.tl_manager.proofs.calls.Carrying.{goes-on, last-is, is-complete, knows-taken}
-use Rattle.tl_manager.proofs.blocks.Completed.{done-part}
-use Rattle.tl_manager.proofs.judging.Judged.{passed}
-use Rattle.tl_manager.proofs.blocks.Placing.{can-complete, limits}
+use Rattle.tl_manager.{proofs.blocks.Completed.done-part, proofs.judging.Judged.passed}
+use Rattle.tl_manager.{proofs.blocks.Placing.can-complete, proofs.blocks.Placing.limits}
 use Rattle.tl_manager.proofs.manager.state.ManagerState.take.Goals as goal
 
 pub take-requires : goal.take-requires

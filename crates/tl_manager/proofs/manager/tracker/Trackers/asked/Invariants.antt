@@ -1,6 +1,5 @@
 use Rattle.std.proofs.Common.{ℕ, ◌≡◌, ◌<◌, false}
-use Rattle.tl_manager.specs.code.Tracking.{serves_source}
-use Rattle.tl_manager.specs.code.Trackers.{tracker_at}
+use Rattle.tl_manager.{specs.code.Tracking.serves_source, specs.code.Trackers.tracker_at}
 use Rattle.tl_manager.proofs.manager.tracker.Trackers.asked.Given as goal
 
 abbrev pub invariant-loop-number : goal.invariant-loop-number

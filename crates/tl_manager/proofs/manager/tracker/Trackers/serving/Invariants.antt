@@ -1,6 +1,5 @@
 use Rattle.std.proofs.Common.{ℕ, ◌≡◌, ◌<◌, false}
-use Rattle.tl_manager.specs.code.Tracking.{is_of}
-use Rattle.tl_manager.specs.code.Trackers.{tracker_at}
+use Rattle.tl_manager.{specs.code.Tracking.is_of, specs.code.Trackers.tracker_at}
 use Rattle.tl_manager.proofs.manager.tracker.Trackers.serving.Given as goal
 
 abbrev pub invariant-loop-number : goal.invariant-loop-number

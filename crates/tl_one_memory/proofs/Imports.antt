@@ -1,0 +1,19 @@
+-- What many files of this folder speak of.
+pub use Rattle.tl_beat.specs.declared.beat.Beat.{Beat}
+pub use Rattle.tl_beat.specs.declared.beat.BeatD.{BeatD}
+pub use Rattle.tl_beat.specs.declared.beat.Link.{Link}
+pub use Rattle.tl_burst.specs.statement.Burst.{reaches}
+unfoldable pub use Rattle.tl_burst.specs.statement.Messages.{unfinished}
+pub use Rattle.tl_bytes.proofs.Finding.{among-filter, same-some}
+pub use Rattle.tl_bytes.proofs.Pending.{IsPending, asked-by_now}
+pub use Rattle.tl_bytes.specs.statement.Bytes.{Access, access_writes, could_be, is_of, pending_value}
+unfoldable pub use Rattle.tl_bytes.specs.statement.Bytes.{before_last, carried_byte, may_be, pending_accesses}
+unfoldable pub use Rattle.tl_bytes.specs.statement.Bytes.{windows_since}
+pub use Rattle.tl_one_memory.specs.statement.Run.{IsAnswer, IsPerformed, IsTaken, Performs, Run, Stores, Takes}
+unfoldable pub use Rattle.tl_one_memory.specs.statement.Run.{IsRun, found_in, memory_in, trace_in}
+pub use Rattle.tl_rules.specs.statement.Conformance.{Trace}
+unfoldable pub use Rattle.tl_rules.specs.statement.Conformance.{on_link}
+pub use Rattle.tl_rules.specs.statement.Effect.{Memory}
+unfoldable pub use Rattle.tl_rules.specs.statement.Effect.{effect}
+pub use Rattle.tl_rules.specs.statement.History.{block_at, is_release_ack}
+unfoldable pub use Rattle.tl_rules.specs.statement.Windows.{is_free}

@@ -5,9 +5,9 @@ use Rattle.tl_caller.proofs.Bounds.{behind}
 use Rattle.tl_caller.proofs.Promises.{bounded}
 use Rattle.tl_caller.proofs.deliveries.deliver_all.Goals as goal
 
-pub returns : goal.returns
+pub returns-clause-bound : goal.returns-clause-bound
 unfolding IsWorld
-returns g c =
+returns-clause-bound g c =
     let (config, log, reached) = c.load-load.ensures.world in
     let (more, is) = behind c.args.deliveries.now c.run.new.outcomes log
     (c.requires.number ∙ sym c.run.ensures.number) c.requires.deliveries in

@@ -2,4 +2,6 @@
 //! world's calls and no law beside them.
 #![tactic(auto)]
 
+pub mod alone;
 pub mod caller;
+pub mod deliveries;

@@ -9,3 +9,4 @@ pub mod Proper
 pub mod Requests
 pub mod Responses
 pub mod Sound
+pub mod Telling

@@ -8,3 +8,4 @@ pub mod Response
 pub mod Sources
 pub mod Table
 pub mod Takes
+pub mod Telling

@@ -23,6 +23,9 @@ use tl_rules::perm::Perm;
 use tl_rules::rule::Rule;
 
 /// A client. It stores no history: a contract speaks of every end of a link that the client represents.
+///
+/// A client needs the calls `ask`, `offer`, `stalls`, `held`, `copy` and `closed` alone. The others are written over
+/// them; a client has bodies of its own for them where they are to be quick.
 pub trait Agent<const W: usize>: Drop {
     /// The client is in the state that this end of its link leads to.
     ghost represents: { Self → Endpoint W → Type 0 };
@@ -41,33 +44,6 @@ pub trait Agent<const W: usize>: Drop {
             represents self.new (asked (terms self.old) operation.entry e).after }
         ensures terms { terms self.new ≡ terms self.old };
 
-    /// Answers an operation as `ask` does, with the message written where it is to stand. One is handed out exactly
-    /// with the answer `Started`; with any other, what stands there is left.
-    fn ask_into(&mut self, operation: &Op<W>, message: &mut Message<W>) -> Reply
-        ensures reply { (e : Endpoint W) → represents self.old e →
-            result ≡ (asked (terms self.old) operation.now e).reply }
-        ensures message { (e : Endpoint W) → represents self.old e →
-            handed result message.new ≡ (asked (terms self.old) operation.now e).message }
-        ensures after { (e : Endpoint W) → represents self.old e →
-            represents self.new (asked (terms self.old) operation.now e).after }
-        ensures terms { terms self.new ≡ terms self.old }
-        ensures left { handed result message.new ≡ None → message.new ≡ message.old };
-
-    /// Answers a Load as `ask` does. It hands out no message, and changes nothing.
-    fn ask_load(&self, address: u32, size: u8) -> Reply
-        ensures { (e : Endpoint W) → represents self.now e →
-            result ≡ (asked (terms self.now) (Load address size) e).reply };
-
-    /// Answers a Store as `ask` does. It hands out no message.
-    fn ask_store(&mut self, address: u32, size: u8, value: u64) -> Reply
-        ensures reply { (e : Endpoint W) → represents self.old e →
-            result ≡ (asked (terms self.old) (Store address size value) e).reply }
-        ensures message { (e : Endpoint W) → represents self.old e →
-            None ≡ (asked (terms self.old) (Store address size value) e).message }
-        ensures after { (e : Endpoint W) → represents self.old e →
-            represents self.new (asked (terms self.old) (Store address size value) e).after }
-        ensures terms { terms self.new ≡ terms self.old };
-
     /// Takes a beat of the channel named, stalls it, or refuses it by the first rule that it breaks.
     /// A beat that is taken may have a message handed out. A refusal closes the link and changes
     /// nothing else; a stall changes nothing.
@@ -80,36 +56,7 @@ pub trait Agent<const W: usize>: Drop {
             result ≡ (offered (terms self.old) channel beat.now e).answer }
         ensures after { (e : Endpoint W) → represents self.old e →
             represents self.new (offered (terms self.old) channel beat.now e).after }
-        ensures terms { terms self.new ≡ terms self.old }
-    {
-        let mut bytes = [0; 64];
-        let answer = self.answer(channel, beat, &mut bytes)?;
-        Ok((answer.verdict(&bytes), answer.message(&bytes)))
-    }
-
-    /// Takes a beat, stalls it or refuses it as `offer` does, and answers in few bytes: those of a copy or of a
-    /// response that belong to the answer are written where they are to stand.
-    fn answer(
-        &mut self,
-        channel: Channel,
-        beat: &Beat<W>,
-        bytes: &mut [u8; 64],
-    ) -> Result<Answer, Rule>
-        ensures answer { (e : Endpoint W) → represents self.old e →
-            told_by result bytes.new ≡ (offered (terms self.old) channel beat.now e).answer }
-        ensures after { (e : Endpoint W) → represents self.old e →
-            represents self.new (offered (terms self.old) channel beat.now e).after }
         ensures terms { terms self.new ≡ terms self.old };
-
-    /// Takes a beat that goes on with a message and doesn't complete it, as `offer` does, where that can be told
-    /// at once: whether it was taken. Otherwise nothing changes, and `offer` says what becomes of the beat.
-    fn goes_on(&mut self, channel: Channel, beat: &Beat<W>) -> bool
-        ensures answer { OnTrue result ((e : Endpoint W) → represents self.old e →
-            Ok (Taken, None) ≡ (offered (terms self.old) channel beat.now e).answer) }
-        ensures after { OnTrue result ((e : Endpoint W) → represents self.old e →
-            represents self.new (offered (terms self.old) channel beat.now e).after) }
-        ensures terms { terms self.new ≡ terms self.old }
-        ensures unchanged { OnFalse result (self.new ≡ self.old) };
 
     /// Whether `offer` of the same would answer `Stalled`.
     fn stalls(&self, channel: Channel, beat: &Beat<W>) -> bool
@@ -127,4 +74,85 @@ pub trait Agent<const W: usize>: Drop {
     /// Whether a beat was refused.
     fn closed(&self) -> bool
         ensures { (e : Endpoint W) → represents self.now e → result ≡ e.closed };
+
+    /// Answers an operation as `ask` does, with the message written where it is to stand. One is handed out exactly
+    /// with the answer `Started`; with any other, what stands there is left.
+    fn ask_into(&mut self, operation: &Op<W>, message: &mut Message<W>) -> Reply
+        ensures reply { (e : Endpoint W) → represents self.old e →
+            result ≡ (asked (terms self.old) operation.now e).reply }
+        ensures message { (e : Endpoint W) → represents self.old e →
+            handed result message.new ≡ (asked (terms self.old) operation.now e).message }
+        ensures after { (e : Endpoint W) → represents self.old e →
+            represents self.new (asked (terms self.old) operation.now e).after }
+        ensures terms { terms self.new ≡ terms self.old }
+        ensures left { handed result message.new ≡ None → message.new ≡ message.old }
+    {
+        let (reply, started) = self.ask(*operation);
+        if reply.hands_out() {
+            *message = started.unwrap_or(*message);
+        }
+        reply
+    }
+
+    /// Answers a Load as `ask` does. It hands out no message.
+    fn ask_load(&mut self, address: u32, size: u8) -> Reply
+        ensures reply { (e : Endpoint W) → represents self.old e →
+            result ≡ (asked (terms self.old) (Load address size) e).reply }
+        ensures message { (e : Endpoint W) → represents self.old e →
+            None ≡ (asked (terms self.old) (Load address size) e).message }
+        ensures after { (e : Endpoint W) → represents self.old e →
+            represents self.new (asked (terms self.old) (Load address size) e).after }
+        ensures terms { terms self.new ≡ terms self.old }
+    {
+        self.ask(Op::Load { address, size }).0
+    }
+
+    /// Answers a Store as `ask` does. It hands out no message.
+    fn ask_store(&mut self, address: u32, size: u8, value: u64) -> Reply
+        ensures reply { (e : Endpoint W) → represents self.old e →
+            result ≡ (asked (terms self.old) (Store address size value) e).reply }
+        ensures message { (e : Endpoint W) → represents self.old e →
+            None ≡ (asked (terms self.old) (Store address size value) e).message }
+        ensures after { (e : Endpoint W) → represents self.old e →
+            represents self.new (asked (terms self.old) (Store address size value) e).after }
+        ensures terms { terms self.new ≡ terms self.old }
+    {
+        self.ask(Op::Store {
+            address,
+            size,
+            value,
+        })
+        .0
+    }
+
+    /// Takes a beat, stalls it or refuses it as `offer` does, and answers in few bytes: those of a copy or of a
+    /// response that belong to the answer are written where they are to stand.
+    fn answer(
+        &mut self,
+        channel: Channel,
+        beat: &Beat<W>,
+        bytes: &mut [u8; 64],
+    ) -> Result<Answer, Rule>
+        ensures answer { (e : Endpoint W) → represents self.old e →
+            told_by result bytes.new ≡ (offered (terms self.old) channel beat.now e).answer }
+        ensures after { (e : Endpoint W) → represents self.old e →
+            represents self.new (offered (terms self.old) channel beat.now e).after }
+        ensures terms { terms self.new ≡ terms self.old }
+    {
+        let (verdict, message) = self.offer(channel, beat)?;
+        Ok(Answer::of(verdict, message, bytes))
+    }
+
+    /// Takes a beat that goes on with a message and doesn't complete it, as `offer` does, where that can be told
+    /// at once: whether it was taken. Otherwise nothing changes, and `offer` says what becomes of the beat.
+    fn goes_on(&mut self, channel: Channel, beat: &Beat<W>) -> bool
+        ensures answer { OnTrue result ((e : Endpoint W) → represents self.old e →
+            Ok (Taken, None) ≡ (offered (terms self.old) channel beat.now e).answer) }
+        ensures after { OnTrue result ((e : Endpoint W) → represents self.old e →
+            represents self.new (offered (terms self.old) channel beat.now e).after) }
+        ensures terms { terms self.new ≡ terms self.old }
+        ensures unchanged { OnFalse result (self.new ≡ self.old) }
+    {
+        false
+    }
 }

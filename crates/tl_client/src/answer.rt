@@ -2,14 +2,17 @@
 
 ghost use Rattle.std.specs.Prelude.{ℕ, List, ◌≡◌, is_some};
 ghost use Rattle.tl_client.specs.statement.Answer.{finish_of_ending, verdict_of, message_of};
+ghost use Rattle.tl_client.specs.statement.Answer.{told, told_by, IsTellable};
+ghost use Rattle.tl_client.specs.code.Telling.{bytes_of, done_by, probed_by, sink_in};
 
 use crate::send::probe_ack;
 use crate::verdict::{Finish, Verdict};
-use tl_beat::opcode::OpB;
-use tl_burst::message::{Message, MessageE};
+use tl_beat::opcode::{OpB, OpC};
+use tl_burst::message::{Message, MessageC, MessageE};
 use tl_rules::key::block_at;
 use tl_rules::param::Report;
 use tl_rules::perm::Perm;
+use tl_rules::rule::Rule;
 
 /// How an operation other than an Acquire ended.
 #[derive(Clone, Copy, Debug, PartialEq, Eq)]
@@ -65,7 +68,80 @@ impl Ending {
     }
 }
 
+/// The answer that stands for a Probe's, of which only this message is known: where it has data, the Probe was a
+/// ProbeBlock of Trunk.
+fn probed<const W: usize>(report: &MessageC<W>) -> Answer
+    ensures { result ≡ probed_by report.now }
+{
+    let (opcode, held) = match report.opcode {
+        OpC::ProbeAckData => (OpB::ProbeBlock, Perm::Trunk),
+        _ => (OpB::ProbePerm, Perm::None),
+    };
+    Answer::Probed {
+        opcode,
+        held,
+        report: Report::from_param(report.param).unwrap_or(Report::NtoN),
+        address: report.address,
+    }
+}
+
+/// The sink of a GrantAck.
+fn sink_in<const W: usize>(message: Option<Message<W>>) -> u8
+    ensures { result ≡ sink_in message.entry }
+{
+    match message {
+        Some(Message::E(ack)) => ack.sink,
+        _ => 0,
+    }
+}
+
+/// The answer for a response that is complete. Only a Grant hands a message out, its GrantAck.
+fn done<const W: usize>(
+    source: u8,
+    finish: Finish,
+    message: Option<Message<W>>,
+    bytes: &mut [u8; 64],
+) -> Answer
+    ensures answer { result ≡ done_by source finish message.entry }
+    ensures bytes { bytes.new ≡ bytes_of finish bytes.old }
+{
+    let ending = match finish {
+        Finish::Ack => Ending::Ack,
+        Finish::Hint => Ending::Hint,
+        Finish::Released => Ending::Released,
+        Finish::Data(size, data) => {
+            *bytes = data;
+            Ending::Data(size)
+        }
+        Finish::Granted(perm) => {
+            let sink = sink_in(message);
+            return Answer::Granted { source, perm, sink };
+        }
+    };
+    Answer::Ended { source, ending }
+}
+
 impl Answer {
+    /// The answer that stands for a verdict and a message, if one does: the bytes that belong to it are written where
+    /// they are to stand.
+    pub fn of<const W: usize>(
+        verdict: Verdict,
+        message: Option<Message<W>>,
+        bytes: &mut [u8; 64],
+    ) -> Answer
+        ensures { IsTellable verdict message.entry → told result bytes.new ≡ (verdict, message.entry) }
+    {
+        match (verdict, message) {
+            (Verdict::Stalled, _) => Answer::Stalled,
+            (Verdict::Taken, Some(Message::C(report))) => {
+                *bytes = report.payload;
+                probed(&report)
+            }
+            (Verdict::Taken, _) => Answer::Taken,
+            (Verdict::Done(source, finish), message) => done(source, finish, message, bytes),
+        }
+    }
+
     /// The verdict that it stands for, with these bytes.
     pub fn verdict(self, bytes: &[u8; 64]) -> Verdict
         ensures { result ≡ verdict_of self bytes.now }
@@ -100,4 +176,15 @@ impl Answer {
             Answer::Granted { sink, .. } => Some(Message::E(MessageE { sink })),
         }
     }
+}
+
+/// The verdict and the message that an answer stands for, with these bytes, or the rule by which a beat is refused.
+pub fn tell<const W: usize>(
+    answer: Result<Answer, Rule>,
+    bytes: &[u8; 64],
+) -> Result<(Verdict, Option<Message<W>>), Rule>
+    ensures { result ≡ told_by answer bytes.now }
+{
+    let answer = answer?;
+    Ok((answer.verdict(bytes), answer.message(bytes)))
 }

@@ -9,6 +9,7 @@ use crate::caching::Caching;
 use crate::operation::Op;
 use crate::plain::Plain;
 use crate::reply::Reply;
+use crate::verdict::Verdict;
 use std::alloc::Global;
 use tl_beat::beat::Beat;
 use tl_beat::channel::Channel;
@@ -78,6 +79,17 @@ impl<const W: usize> Agent<W> for AnyClient<W> {
         }
     }
 
+    fn offer(
+        &mut self,
+        channel: Channel,
+        beat: &Beat<W>,
+    ) -> Result<(Verdict, Option<Message<W>>), Rule> {
+        match self {
+            AnyClient::Caching(client) => client.offer(channel, beat),
+            AnyClient::Plain(client) => client.offer(channel, beat),
+        }
+    }
+
     fn ask_into(&mut self, operation: &Op<W>, message: &mut Message<W>) -> Reply {
         match self {
             AnyClient::Caching(client) => client.ask_into(operation, message),
@@ -85,7 +97,7 @@ impl<const W: usize> Agent<W> for AnyClient<W> {
         }
     }
 
-    fn ask_load(&self, address: u32, size: u8) -> Reply {
+    fn ask_load(&mut self, address: u32, size: u8) -> Reply {
         match self {
             AnyClient::Caching(client) => client.ask_load(address, size),
             AnyClient::Plain(client) => client.ask_load(address, size),

@@ -12,7 +12,7 @@ mod table;
 mod take;
 
 use crate::agent::Agent;
-use crate::answer::Answer;
+use crate::answer::{Answer, tell};
 use crate::check::check_word;
 use crate::operation::Op;
 use crate::order::check_alone;
@@ -20,6 +20,7 @@ use crate::release::Release;
 use crate::reply::Reply;
 use crate::request::Request;
 use crate::sources::Sources;
+use crate::verdict::Verdict;
 use std::alloc::Global;
 use table::Table;
 use tl_beat::beat::Beat;
@@ -114,6 +115,16 @@ impl<const W: usize> Agent<W> for Caching<W> {
         (reply, reply.handed(message))
     }
 
+    fn offer(
+        &mut self,
+        channel: Channel,
+        beat: &Beat<W>,
+    ) -> Result<(Verdict, Option<Message<W>>), Rule> {
+        let mut bytes = [0; 64];
+        let answer = self.answer(channel, beat, &mut bytes);
+        tell(answer, &bytes)
+    }
+
     fn ask_into(&mut self, operation: &Op<W>, message: &mut Message<W>) -> Reply {
         match self.busy(operation) {
             Some(busy) => Reply::Busy(busy),
@@ -121,7 +132,7 @@ impl<const W: usize> Agent<W> for Caching<W> {
         }
     }
 
-    fn ask_load(&self, address: u32, size: u8) -> Reply {
+    fn ask_load(&mut self, address: u32, size: u8) -> Reply {
         match check_word(self.config.level, self.blocks, address, size) {
             Some(busy) => Reply::Busy(busy),
             None => self.load(address, size),

@@ -16,7 +16,7 @@ mod past;
 
 use crate::access::access_in;
 use crate::agent::Agent;
-use crate::answer::Answer;
+use crate::answer::{Answer, tell};
 use crate::busy::Busy;
 use crate::check::check;
 use crate::operation::Op;
@@ -25,6 +25,7 @@ use crate::reply::Reply;
 use crate::request::{Request, start};
 use crate::response::{answer_to, complete, goes_on};
 use crate::sources::Sources;
+use crate::verdict::Verdict;
 use std::alloc::Global;
 use tl_beat::beat::{Beat, BeatD};
 use tl_beat::channel::Channel;
@@ -174,6 +175,16 @@ impl<const W: usize> Agent<W> for Plain<W> {
         (reply, reply.handed(message))
     }
 
+    fn offer(
+        &mut self,
+        channel: Channel,
+        beat: &Beat<W>,
+    ) -> Result<(Verdict, Option<Message<W>>), Rule> {
+        let mut bytes = [0; 64];
+        let answer = self.answer(channel, beat, &mut bytes);
+        tell(answer, &bytes)
+    }
+
     fn ask_into(&mut self, operation: &Op<W>, message: &mut Message<W>) -> Reply {
         if let Some(busy) = check(self.config.level, self.blocks, operation) {
             return Reply::Busy(busy);
@@ -184,7 +195,7 @@ impl<const W: usize> Agent<W> for Plain<W> {
         }
     }
 
-    fn ask_load(&self, _address: u32, _size: u8) -> Reply {
+    fn ask_load(&mut self, _address: u32, _size: u8) -> Reply {
         Reply::Busy(Busy::B4)
     }
 

@@ -156,14 +156,14 @@ fn append_asked(
 #[inline(always)]
 fn play_load<const W: usize>(
     trace: bool,
-    world: &World<W, AnyClient<W>, BitDirectory>,
+    world: &mut World<W, AnyClient<W>, BitDirectory>,
     client: u8,
     address: u32,
     size: u8,
     out: &mut Vec<u8>,
 ) -> Result<(), AllocError>
     requires width { IsWidth W }
-    ensures { OnOk result (Happens trace world.now world.now (Ask client (Load address size)) out.old.items
+    ensures { OnOk result (Happens trace world.old world.new (Ask client (Load address size)) out.old.items
         out.new.items) }
 {
     let answer = world.ask_load(client, address, size);

@@ -9,6 +9,7 @@
 //! beat that is sent is written behind `sends `.
 
 mod client;
+mod counting;
 mod line;
 pub mod made;
 mod manager;

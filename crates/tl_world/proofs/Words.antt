@@ -1,15 +1,13 @@
 -- What becomes of a world where a client is asked for a Load or a Store: no message is handed out.
 use Rattle.std.proofs.Common.{◌≡◌, ◌<◌, ℕ, false, List, ◌∷◌, Option, Some, None, refl, sym, length}
-use Rattle.std.specs.Prelude.{slice_index_or}
 use Rattle.tl_params.specs.declared.config.Config.{Config}
 use Rattle.tl_params.specs.declared.perm.Perm.{Perm}
 use Rattle.tl_client.specs.declared.operation.Op.{Op}
-use Rattle.tl_client.specs.declared.operation.Op.TheVariants.{Load}
 use Rattle.tl_client.specs.declared.reply.Reply.{Reply}
 use Rattle.tl_client.specs.declared.reply.Reply.TheVariants as reply
 use Rattle.tl_client.specs.statement.Ask.{asked}
 use Rattle.tl_client.specs.statement.Endpoint.{EndConfig, Endpoint}
-use Rattle.tl_client.proofs.endpoint.Words.{is_started, load-silent}
+use Rattle.tl_client.proofs.endpoint.Words.{is_started}
 use Rattle.tl_coherence.specs.declared.event.Event.TheVariants.{Ask}
 use Rattle.tl_coherence.specs.declared.event.Outcome.{Outcome}
 use Rattle.tl_coherence.specs.declared.event.Outcome.TheVariants as outcome
@@ -68,21 +66,6 @@ ends-nothing w (Some r) = (refl, refl)
 
 module _ {w : ℕ} {A M : Type 0} (knows : A → Endpoint w → Type 0) (terms : A → EndConfig) (perm_of : M → ℕ → ℕ → Perm)
     (config : Config) where
-  -- a client answers a Load, and stays what it is
-  pub load-asked : (clients : List A) (i address size : ℕ) (r : Reply)
-      → ((e : Endpoint w) (d : A) → knows (slice_index_or clients i d) e
-      → r ≡ (asked (terms (slice_index_or clients i d)) (Load address size) e).reply)
-      → IsAsked knows terms clients clients i (Load address size) (r, None)
-  load-asked clients i address size r is = record {
-    reply = is;
-    message = λ e d k.
-        sym (load-silent (terms (slice_index_or clients i d)) address size e).0.message;
-    after = λ e d k. rw (load-silent (terms (slice_index_or clients i d)) address size e).1 k;
-    same_terms = λ d. refl;
-    others = λ k d other. refl;
-    same_number = refl;
-  }
-
   pub steps-silent : (old new : Network w A M) (s : System w) (i : ℕ) (op : Op w) (r : Reply)
       → Holds knows terms perm_of config old s → i < length old.clients.items
       → IsAsked knows terms old.clients.items new.clients.items i op (r, None) → new.manager ≡ old.manager

@@ -5,7 +5,6 @@ ghost use Rattle.std.specs.Bool.{OnTrue, OnFalse};
 ghost use Rattle.tl_client.specs.declared.verdict.Verdict.TheVariants.{Taken};
 ghost use Rattle.tl_client.specs.declared.operation.Op.TheVariants.{Load, Store};
 ghost use Rattle.tl_client.specs.statement.Answer.{replied, told_by};
-ghost use Rattle.tl_client.specs.statement.Ask.{asked};
 ghost use Rattle.tl_client.specs.statement.Endpoint;
 ghost use Rattle.tl_client.specs.statement.Endpoint.{Endpoint};
 ghost use Rattle.tl_client.specs.statement.Offer;
@@ -36,16 +35,16 @@ pub fn ask_at<const W: usize, A: Agent<W>>(
     clients[i].ask_into(operation, message)
 }
 
-/// Asks one client for a Load.
+/// Asks one client for a Load, and leaves the others.
 pub fn ask_load_at<const W: usize, A: Agent<W>>(
-    clients: &Vec<A>,
+    clients: &mut Vec<A>,
     i: usize,
     address: u32,
     size: u8,
 ) -> Reply
-    requires { i < length clients.now.items }
-    ensures { (e : Endpoint W) (d : A) → A.represents (slice_index_or clients.now.items i d) e →
-        result ≡ (asked (A.terms (slice_index_or clients.now.items i d)) (Load address size) e).reply }
+    requires { i < length clients.old.items }
+    ensures { IsAsked A.represents A.terms clients.old.items clients.new.items i (Load address size)
+        (result, None) }
 {
     clients[i].ask_load(address, size)
 }

@@ -148,16 +148,16 @@ impl<const W: usize, A: Agent<W>, D: Directory> Network<W, A, D> {
     }
 
     /// A client of this number is asked for a Load: its answer, or None where there is no such client.
-    pub fn ask_load(&self, client: u8, address: u32, size: u8) -> Option<Reply>
-        ensures { (config : Config) (s : System W) → Holds A.represents A.terms D.perm_of config self.now s →
+    pub fn ask_load(&mut self, client: u8, address: u32, size: u8) -> Option<Reply>
+        ensures { (config : Config) (s : System W) → Holds A.represents A.terms D.perm_of config self.old s →
             HasRoom config (stepped config (Ask client (Load address size)) s).after →
-            IsStepped A.represents A.terms D.perm_of config self.now self.now (Ask client (Load address size))
+            IsStepped A.represents A.terms D.perm_of config self.old self.new (Ask client (Load address size))
             (answered result) s }
     {
         if usize::from(client) >= self.clients.len() {
             return None;
         }
-        Some(ask_load_at(&self.clients, usize::from(client), address, size))
+        Some(ask_load_at(&mut self.clients, usize::from(client), address, size))
     }
 
     /// A client of this number is asked for a Store: its answer, or None where there is no such client.

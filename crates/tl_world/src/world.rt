@@ -148,14 +148,14 @@ impl<const W: usize, A: Agent<W>, D: Directory> World<W, A, D> {
     }
 
     /// A client is asked for a Load, as by `step`: its answer, or None where there is no such client.
-    pub fn ask_load(&self, client: u8, address: u32, size: u8) -> Option<Reply>
-        ensures world { IsWorld A.represents A.terms D.perm_of self.now }
+    pub fn ask_load(&mut self, client: u8, address: u32, size: u8) -> Option<Reply>
+        ensures world { IsWorld A.represents A.terms D.perm_of self.old }
         ensures reached { (config : Config) (log : Log W) →
-            IsReached A.represents A.terms D.perm_of config self.now log →
-            IsReached A.represents A.terms D.perm_of config self.now
+            IsReached A.represents A.terms D.perm_of config self.old log →
+            IsReached A.represents A.terms D.perm_of config self.new
             ((Ask client (Load address size), answered result) ∷ log) }
         ensures outcome { (config : Config) (log : Log W) →
-            IsReached A.represents A.terms D.perm_of config self.now log →
+            IsReached A.represents A.terms D.perm_of config self.old log →
             answered result ≡ (stepped config (Ask client (Load address size)) (system_after config log)).outcome }
     {
         self.state.network.ask_load(client, address, size)

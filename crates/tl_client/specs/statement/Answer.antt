@@ -1,5 +1,5 @@
 -- What a client's answer of few bytes stands for, with the bytes that belong to it.
-use Rattle.std.specs.Prelude.{ℕ, List, Option, Some, None, Result, Ok, Err}
+use Rattle.std.specs.Prelude.{ℕ, List, ◌≡◌, Option, Some, None, Result, Ok, Err}
 use Rattle.tl_burst.specs.declared.message.Message.{Message}
 use Rattle.tl_params.specs.declared.rule.Rule.{Rule}
 use Rattle.tl_client.specs.declared.answer.Answer.{Answer}
@@ -39,6 +39,10 @@ message_of (answer.Ended source e) bytes = None
 -- the verdict and the message
 abbrev pub told : {w : ℕ} → Answer → List ℕ → Verdict × Option (Message w)
 told a bytes = (verdict_of a bytes, message_of a bytes)
+
+-- an answer of few bytes stands for this verdict and this message
+abbrev pub IsTellable : {w : ℕ} → Verdict → Option (Message w) → Type 0
+IsTellable v m = (a : Answer) × (bytes : List ℕ) × (told a bytes ≡ (v, m))
 
 -- those, or the rule by which a beat is refused
 abbrev pub told_by : {w : ℕ} → Result Answer Rule → List ℕ → Result (Verdict × Option (Message w)) Rule

@@ -2,6 +2,7 @@
 
 ghost use Rattle.tl_beat.specs.statement.Width.{IsWidth};
 
+use crate::play::counting::Counting;
 use crate::play::line::{append_copy, append_perm, append_text, number};
 use crate::play::made::Hires;
 use crate::play::offered::{Offered, append_refused, offered_by};
@@ -161,7 +162,8 @@ fn played<const W: usize, A: Hires<W>>(alloc: Global, trial: Trial) -> Result<Ve
     Ok(text)
 }
 
-/// Plays a trial on a client of its level, by itself and as one of any level: appends what both tell.
+/// Plays a trial on a client of its level, by itself, as one of any level and as one that counts: appends what they
+/// all tell.
 pub fn play_clients<const W: usize>(
     alloc: Global,
     trial: Trial,
@@ -177,8 +179,9 @@ pub fn play_clients<const W: usize>(
         }
         _ => played::<W, Plain<W>>(alloc, trial)?,
     };
+    let counted = played::<W, Counting<W>>(alloc, trial)?;
     out.extend_from_slice(told.as_slice())?;
-    if told.as_slice() != again.as_slice() {
+    if told.as_slice() != again.as_slice() || told.as_slice() != counted.as_slice() {
         append_text("told in two ways\n", out)?;
     }
     Ok(())

@@ -5,6 +5,7 @@ ghost use Rattle.tl_beat.specs.statement.Width.{IsWidth};
 ghost use Rattle.tl_world.specs.code.Agents.{IsHired};
 ghost use Rattle.tl_world.specs.statement.World.{AreReady, IsEmpty};
 
+use crate::play::counting::Counting;
 use std::alloc::{AllocError, Global};
 use tl_client::agent::Agent;
 use tl_client::any::AnyClient;
@@ -41,6 +42,18 @@ impl<const W: usize> Hires<W> for AnyClient<W> {
         profile: Profile,
     ) -> Result<Self, NewFault> {
         AnyClient::new(alloc, config, blocks, profile)
+    }
+}
+
+impl<const W: usize> Hires<W> for Counting<W> {
+    fn hire(
+        alloc: Global,
+        config: ClientConfig,
+        blocks: u16,
+        profile: Profile,
+    ) -> Result<Self, NewFault> {
+        let client = AnyClient::new(alloc, config, blocks, profile)?;
+        Ok(Counting { client, misses: 0 })
     }
 }
 

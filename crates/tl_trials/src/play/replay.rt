@@ -2,6 +2,7 @@
 
 ghost use Rattle.tl_beat.specs.statement.Width.{IsWidth};
 
+use crate::play::counting::Counting;
 use crate::play::line::{append_number, append_text};
 use crate::play::made::{Covers, Hires, hire_all, make_world};
 use crate::play::trial::{Trial, config_of};
@@ -281,6 +282,9 @@ fn tell_all<const W: usize>(
         alloc, trial, depth, told, outcomes, same,
     )?;
     let _ = tell_as_deep::<W, AnyClient<W>, TableDirectory>(
+        alloc, trial, depth, told, outcomes, same,
+    )?;
+    let _ = tell_as_deep::<W, Counting<W>, BitDirectory>(
         alloc, trial, depth, told, outcomes, same,
     )?;
     if all_keep(&config) {

@@ -8,7 +8,7 @@ use Rattle.tl_engine.proofs.play.play_load.Goals as goal
 pub returns : goal.returns
 returns g c =
     let event = Ask c.args.client (Load c.args.address c.args.size) in
-    happened c.args.trace c.args.world.now c.args.world.now event (answered c.ask_load-answer.result) c.args.out.now.items
+    happened c.args.trace c.args.world.now c.ask_load-answer.new.self event (answered c.ask_load-answer.result) c.args.out.now.items
     c.append_asked.new.out.items c.append_asked.result
     (rw (written {w = g.row.W} c.args.trace event c.ask_load-answer.result) c.append_asked.ensures)
     c.ask_load-answer.ensures.outcome c.ask_load-answer.ensures.reached

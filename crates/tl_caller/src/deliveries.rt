@@ -1,0 +1,97 @@
+//! What a caller can promise of deliveries.
+
+ghost use Rattle.std.specs.Prelude.{◌∷◌, ◌++◌, ◌≡◌, ◌≤◌, All, filter, length, true};
+ghost use Rattle.tl_beat.specs.statement.Width.{IsWidth};
+ghost use Rattle.tl_params.specs.declared.config.Config.{Config};
+ghost use Rattle.tl_coherence.specs.declared.event.Event.TheVariants.{Deliver};
+ghost use Rattle.tl_coherence.specs.statement.Draining.{beats_moved, is_delivery, is_moving};
+ghost use Rattle.tl_coherence.specs.statement.Load.{load};
+ghost use Rattle.tl_coherence.specs.statement.Log.{Log, logged};
+ghost use Rattle.tl_world.specs.statement.World.{IsReached};
+ghost use Rattle.tl_caller.specs.Promised.{Delivered};
+
+use tl_beat::beat::Link;
+use tl_beat::channel::Channel;
+use tl_client::agent::Agent;
+use tl_coherence::event::{Event, Outcome};
+use tl_manager::directory::Directory;
+use tl_world::world::World;
+
+/// Makes a delivery, in whatever way the world was reached.
+pub fn deliver_once<const W: usize, A: Agent<W>, D: Directory>(
+    world: &mut World<W, A, D>,
+    link: Link,
+    channel: Channel,
+) -> Outcome<W>
+    ensures { (config : Config) (log : Log W) →
+        IsReached A.represents A.terms D.perm_of config world.old log →
+        Delivered config log link channel result }
+{
+    world.step(Event::Deliver { link, channel })
+}
+
+/// Makes deliveries in one call. The load before is at least the number of those that move a beat.
+pub fn deliver_all<const W: usize, A: Agent<W>, D: Directory>(
+    world: &mut World<W, A, D>,
+    deliveries: &[Event<W>],
+    outcomes: &mut [Outcome<W>],
+) -> u64
+    requires deliveries { All (λ event. is_delivery event ≡ true) deliveries.now }
+    requires number { length deliveries.now ≡ length outcomes.old }
+    ensures load { (config : Config) (log : Log W) →
+        IsReached A.represents A.terms D.perm_of config world.old log → result ≡ load log }
+    ensures happened { (config : Config) (log : Log W) →
+        IsReached A.represents A.terms D.perm_of config world.old log →
+        IsReached A.represents A.terms D.perm_of config world.new (logged deliveries.now outcomes.new log) }
+    ensures bound { length (filter is_moving outcomes.new) ≤ result }
+{
+    let load = world.load();
+    world.run(deliveries, outcomes);
+    load
+}
+
+/// Whether a delivery moved a beat.
+fn is_moving<const W: usize>(outcome: &Outcome<W>) -> bool
+    ensures { result ≡ is_moving outcome.now }
+{
+    matches!(outcome, Outcome::Moved { .. } | Outcome::Done { .. })
+}
+
+/// Makes a delivery: whether it moved a beat.
+fn moves<const W: usize, A: Agent<W>, D: Directory>(
+    world: &mut World<W, A, D>,
+    link: Link,
+    channel: Channel,
+) -> bool
+    requires { IsWidth W }
+    ensures { (config : Config) (log : Log W) →
+        IsReached A.represents A.terms D.perm_of config world.old log →
+        (o : Outcome W) × (result ≡ is_moving o)
+        × IsReached A.represents A.terms D.perm_of config world.new ((Deliver link channel, o) ∷ log) }
+{
+    is_moving(&world.step(Event::Deliver { link, channel }))
+}
+
+/// Makes deliveries one by one: how many of them moved a beat, and the load before, which is at least that.
+pub fn deliver_each<const W: usize, A: Agent<W>, D: Directory>(
+    world: &mut World<W, A, D>,
+    deliveries: &[(Link, Channel)],
+) -> (u64, u64)
+    requires { IsWidth W }
+    ensures load { (config : Config) (log : Log W) →
+        IsReached A.represents A.terms D.perm_of config world.old log → result.1 ≡ load log }
+    ensures moved { (config : Config) (log : Log W) →
+        IsReached A.represents A.terms D.perm_of config world.old log →
+        (more : Log W) × IsReached A.represents A.terms D.perm_of config world.new (more ++ log)
+        × (length more ≡ length deliveries.now) × (result.0 ≡ beats_moved more) }
+    ensures bound { result.0 ≤ result.1 }
+{
+    let load = world.load();
+    let mut moved = 0u64;
+    for (link, channel) in deliveries {
+        if moves(world, *link, *channel) {
+            moved += 1;
+        }
+    }
+    (moved, load)
+}

@@ -1,5 +1,6 @@
 pub mod Chosen
 pub mod Cuts
+pub mod Ledger
 pub mod Recorded
 pub mod Said
 pub mod Spelled

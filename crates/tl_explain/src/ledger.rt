@@ -1,6 +1,8 @@
 //! What is pending at the end of a trace, with the lines that opened it.
 
+ghost use Rattle.std.specs.Prelude.{◌≡◌, true, false};
 ghost use Rattle.tl_beat.specs.statement.Width.{IsWidth};
+ghost use Rattle.tl_explain.specs.code.Ledger.{is_stray, is_stray_in, is_unrecorded};
 
 use crate::bursts::is_small;
 use crate::told::Spelling;
@@ -108,11 +110,9 @@ impl LinkLedger {
     }
 
     /// Notes what a message opens that begins with this beat.
-    fn open<const W: usize>(
-        &mut self,
-        beat: &Beat<W>,
-        opening: Opening,
-    ) -> Result<(), LedgerFault> {
+    fn open<const W: usize>(&mut self, beat: &Beat<W>, opening: Opening) -> Result<(), LedgerFault>
+        ensures { is_unrecorded result ≡ false }
+    {
         match beat {
             Beat::A(x) => self.requests.set(x.source, Some(opening)),
             Beat::B(x) if is_probe(x.opcode) => {
@@ -141,7 +141,8 @@ impl LinkLedger {
         }
     }
 
-    /// Takes the next beat of the link.
+    /// Takes the next beat of the link. It is unrecorded exactly where it has no message's size or doesn't continue
+    /// the burst on its channel. Then nothing changes.
     fn take<const W: usize>(
         &mut self,
         number: u64,
@@ -149,6 +150,8 @@ impl LinkLedger {
         beat: &Beat<W>,
     ) -> Result<(), LedgerFault>
         requires { IsWidth W }
+        ensures unrecorded { is_unrecorded result ≡ is_stray self.old beat.now }
+        ensures left { is_unrecorded result ≡ true → self.new ≡ self.old }
     {
         if !is_small(beat) || !self.bursts.continues(beat) {
             return Err(LedgerFault::Unrecorded);
@@ -220,7 +223,8 @@ impl Ledger {
         })
     }
 
-    /// Takes the next beat of a trace, which stands in the line of this number.
+    /// Takes the next beat of a trace, which stands in the line of this number. It is unrecorded exactly where it is of
+    /// none of the links, has no message's size, or doesn't continue the burst on its channel.
     pub fn take<const W: usize>(
         &mut self,
         number: u64,
@@ -229,6 +233,7 @@ impl Ledger {
         beat: &Beat<W>,
     ) -> Result<(), LedgerFault>
         requires { IsWidth W }
+        ensures { is_unrecorded result ≡ is_stray_in self.old link.0 beat.now }
     {
         match self.links.get_mut(usize::from(link.0)) {
             None => Err(LedgerFault::Unrecorded),

@@ -1,8 +1,9 @@
 //! What a verdict on one beat rests on, from the beats before it.
 
-ghost use Rattle.std.specs.Prelude.{ℕ, ◌≡◌, ◌∷◌, [], OnOk};
+ghost use Rattle.std.specs.Prelude.{ℕ, ◌≡◌, ◌∷◌, [], OnErr, OnOk};
+ghost use Rattle.std.specs.Result.{is_err};
 ghost use Rattle.tl_beat.specs.statement.Width.{IsWidth};
-ghost use Rattle.tl_explain.specs.code.Recorded.{IsRecord};
+ghost use Rattle.tl_explain.specs.code.Recorded.{IsRecord, is_stray};
 ghost use Rattle.tl_explain.specs.statement.Evidence.{next_line};
 ghost use Rattle.tl_rules.specs.statement.Conformance.{Trace};
 
@@ -41,7 +42,9 @@ impl Recorder {
         }
     }
 
-    /// Takes the next beat of a trace, which stands in the line of this number. The subject stays.
+    /// Takes the next beat of a trace, which stands in the line of this number. The subject stays. A beat is unrecorded
+    /// exactly where it is one of the subject's link and has no message's size, or doesn't continue the burst on its
+    /// channel. Then nothing changes.
     pub fn take<const W: usize>(
         &mut self,
         number: u64,
@@ -53,6 +56,8 @@ impl Recorder {
         ensures record { OnOk result ((t : Trace W) → number ≡ next_line t → IsRecord self.old t →
             IsRecord self.new ((link, beat.now) ∷ t)) }
         ensures subject { self.new.subject ≡ self.old.subject }
+        ensures unrecorded { is_err result ≡ is_stray self.old link beat.now }
+        ensures left { OnErr result (self.new ≡ self.old) }
     {
         if link != self.subject.link {
             return Ok(());

@@ -1,5 +1,5 @@
 -- What becomes of a world where a client is asked for a Load or a Store: no message is handed out.
-use Rattle.std.proofs.Common.{◌≡◌, ◌<◌, ℕ, false, List, ◌∷◌, Option, Some, None, refl, sym, length}
+use Rattle.std.proofs.Common.{◌≡◌, ◌<◌, ℕ, false, List, ◌∷◌, Option, Some, None, refl, length}
 use Rattle.tl_params.specs.declared.config.Config.{Config}
 use Rattle.tl_params.specs.declared.perm.Perm.{Perm}
 use Rattle.tl_client.specs.declared.operation.Op.{Op}

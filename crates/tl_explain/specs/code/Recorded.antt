@@ -1,5 +1,5 @@
 -- What a recorder keeps of the beats before the one at fault.
-use Rattle.std.specs.Prelude.{ℕ, Bool, false, ◌&&◌, List, [], ◌∷◌, ◌==◌}
+use Rattle.std.specs.Prelude.{ℕ, Bool, false, not, ◌&&◌, List, [], ◌∷◌, ◌==◌}
 use Rattle.std.specs.Prelude.{◌-◌, ◌≡◌, if◌then◌else◌, length, Option, Some, None}
 use Rattle.tl_beat.specs.declared.beat.Beat.{Beat}
 use Rattle.tl_beat.specs.declared.beat.Beat.TheVariants as beat
@@ -8,7 +8,8 @@ use Rattle.tl_beat.specs.declared.beat.BeatC.{BeatC}
 use Rattle.tl_beat.specs.declared.beat.Link.{Link}
 use Rattle.tl_beat.specs.declared.channel.Channel.{Channel}
 use Rattle.tl_beat.specs.declared.channel.Channel.TheVariants as channel
-use Rattle.tl_burst.specs.statement.Messages.{History, burst_length, unfinished}
+use Rattle.tl_burst.specs.statement.Messages.{History, burst_length, channel_of, unfinished}
+use Rattle.tl_burst.specs.statement.Part.{is_small}
 use Rattle.tl_params.specs.declared.key.Key.{Key}
 use Rattle.tl_params.specs.declared.key.Key.TheVariants.{RequestSource, ReleaseSource, AcquireOf}
 use Rattle.tl_params.specs.declared.key.Key.TheVariants.{ReleaseOf, GrantSink, GrantAckOf, ProbeOf}
@@ -23,7 +24,7 @@ use Rattle.tl_beat.specs.declared.control.Control.TheVariants as control
 use Rattle.tl_explain.specs.declared.turn.Turn.{Turn}
 use Rattle.tl_explain.specs.declared.bursts.Begun.{Begun}
 use Rattle.tl_monitor.specs.declared.bursts.Unfinished.{Unfinished}
-use Rattle.tl_monitor.specs.code.Bursts.{burst_on, IsOf}
+use Rattle.tl_monitor.specs.code.Bursts.{burst_on, continues_burst, IsOf}
 use Rattle.tl_explain.specs.declared.blocks.Blocks.{Blocks}
 use Rattle.tl_explain.specs.declared.turns.Moment.{Moment}
 use Rattle.tl_explain.specs.declared.turns.Subject.{Subject}
@@ -146,3 +147,8 @@ pub record IsRecord {w : ℕ} (r : Recorder) (t : Trace w) : Type 0 where
   pub begun_are : (ch : Channel) → IsBegun (begun_on r ch) r.subject.link.0 ch t
   pub blocks_are : AreBlocks r.blocks (on_link r.subject.link.0 t)
   pub turns_are : AreTurns r.turns r.subject t
+
+-- a beat of the subject's link that no message has there: of no message's size, or not of the burst on its channel
+abbrev pub is_stray : {w : ℕ} → Recorder → Link → Beat w → Bool
+is_stray r link x =
+    (link.0 == r.subject.link.0) && not (is_small x && continues_burst x (burst_on r.bursts (channel_of x)))

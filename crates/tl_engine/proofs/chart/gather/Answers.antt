@@ -6,5 +6,5 @@ judge_input-requires g c = rw c.requires (c.new-lines.ensures c.in_ok-new.ensure
 
 pub returns-clause-ok : goal.returns-clause-ok
 returns-clause-ok g c =
-    let (read, consumed, judged, ended, has) = c.in_ok-status.ensures.ok in
-    (read, consumed, judged, ended, rw c.into_handler.ensures (drawn_at_end _ _ has))
+    let (read, consumed, judged, ended, has, stands) = c.in_ok-status.ensures.ok in
+    (read, consumed, judged, ended, rw c.into_handler.ensures (drawn_at_end _ _ _ has))

@@ -18,6 +18,7 @@ COMMANDS = [
     "decode --width 4 beats.txt",
     "monitor two_caches.trace",
     "monitor rules/H9.trace",
+    "monitor --all 3 three_faults.trace",
     "coherent two_caches.trace",
     "coherent rules/M2.trace",
     "coherent rules/M4.trace",

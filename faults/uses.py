@@ -23,6 +23,7 @@ PROBED_TOLD = """  4: 00 D Grant
   3: 00 B ProbeBlock
 """
 # What the options of `chart` and `random` take.
+LINES_LOOKED_FOR = "a number from 1 to 18446744073709551615, without leading zeros"
 LINES = "the numbers of the first line and of the last, without leading zeros, as 2-80"
 BLOCK = "the number of a block in three digits or in seven, of 0 to 9 and a to f, as 00f"
 NUMBER = "a number from 0 to 18446744073709551615"
@@ -60,6 +61,15 @@ ROWS = [
     ("tltool run --trace=x", 2, "", "error: .."),
     ("tltool run --trace --trace", 2, "", "error: .."),
     ("tltool decode --version", 2, "", "error: unexpected argument '--version' found.."),
+    # words of a search
+    *(
+        (f"tltool {command} --all {word} two_caches.trace", 2, "", f"error: invalid value '{word}' for '--all <N>': {LINES_LOOKED_FOR}\n..")
+        for command in ("monitor", "coherent")
+        for word in ("0", "01", "+1", "one", "1.5", "18446744073709551616")
+    ),
+    ("tltool monitor --all", 2, "", "error: .."),
+    ("tltool monitor --all 1 --all 2", 2, "", "error: .."),
+    ("tltool explain --all 2 two_caches.trace", 2, "", "error: unexpected argument '--all' found.."),
     # words of a chart
     *(
         (f"tltool chart --lines {word} two_caches.trace", 2, "", f"error: invalid value '{word}' for '--lines <A-B>': {LINES}\n..")
@@ -107,6 +117,28 @@ ROWS = [
     ("echo '00 A 4 0 2 00 00000040 000f - 0' | tltool decode --width=16", 0, "00 A Get 0 size=2 source=00 address=00000040 mask=000f data=- corrupt=0\n", ""),
     ("tltool decode <beats.txt | cmp - <(tltool decode beats.txt)", 0, "", ""),
     ("tltool monitor two_caches.trace", 0, "clean 29\n", ""),
+    # all lines at fault; what each is at fault for is what the rules say of the trace without the lines before it that are
+    ("tltool monitor --all 10 three_faults.trace", 1, "line 3 H1\nline 5 F4\nline 7 H2\nfaults 3\n", ""),
+    ("tltool monitor --all 3 three_faults.trace", 1, "line 3 H1\nline 5 F4\nline 7 H2\nfaults 3\n", ""),
+    ("tltool monitor --all 2 three_faults.trace", 1, "line 3 H1\nline 5 F4\nfaults 2\n", ""),
+    ("tltool monitor --all=1 <three_faults.trace", 1, "line 3 H1\nfaults 1\n", ""),
+    ("tltool coherent --all 18446744073709551615 three_faults.trace", 1, "line 3 H1\nline 5 F4\nline 7 H2\nfaults 3\n", ""),
+    ("tltool monitor three_faults.trace", 1, "line 3 H1\n", ""),
+    ("tltool monitor --all 10 two_caches.trace", 0, "clean 29\n", ""),
+    ("tltool coherent --all 10 two_caches.trace", 0, "coherent 29\n", ""),
+    ("tltool coherent --all 10 rules/M1.trace", 1, "line 5 M1\nfaults 1\n", ""),
+    ("tltool monitor --all 10 rules/M1.trace", 0, "clean 4\n", ""),
+    ("tltool monitor --all 10 </dev/null", 1, "line 1 F7\nfaults 1\n", ""),
+    ("tail -n +2 two_caches.trace | tltool monitor --all 10", 1, "line 1 F7\nfaults 1\n", ""),
+    # the beat of a line at fault isn't taken: neither is what answers it
+    ("grep -v ' D 5 ' two_caches.trace | tltool monitor --all 9 | head -n 1", 0, "line 3 H8\n", ""),
+    # a line without LF, and one of more than 256 bytes, are the last
+    ("head -c -1 three_faults.trace | tltool monitor --all 9", 1, "line 3 H1\nline 5 F4\nline 7 H2\nline 8 F1\nfaults 4\n", ""),
+    ("sed '4s/$/ 1/' three_faults.trace | tltool monitor --all 9 | head -n 2", 0, "line 3 H1\nline 4 F1\n", ""),
+    ("sed \"4s/\\$/$(printf '%300s')/\" three_faults.trace | tltool monitor --all 9", 1, "line 3 H1\nline 4 F1\nfaults 2\n", ""),
+    ("tltool monitor --all 10 three_faults.trace >/dev/full", 3, "", "tltool: write failed\n"),
+    ("tltool monitor --all 10 nowhere.trace", 3, "", "tltool: cannot open nowhere.trace\n"),
+    ("tltool monitor --all 10 .", 3, "", "tltool: read failed\n"),
     ("tltool run --trace schedules/a_writer_becomes_a_reader.schedule | tltool monitor", 0, "clean ..", ""),
     ("tltool coherent two_caches.trace", 0, "coherent 29\n", ""),
     ("tltool coherent <two_caches.trace", 0, "coherent 29\n", ""),

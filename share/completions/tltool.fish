@@ -10,6 +10,8 @@ complete -c tltool -n __fish_use_subcommand -f -a help -d 'show the help of a co
 complete -c tltool -s h -l help -d 'show help'
 complete -c tltool -n __fish_use_subcommand -s V -l version -d 'show the version'
 complete -c tltool -n '__fish_seen_subcommand_from decode' -l width -x -a '4 8 16' -d 'bytes of data that a beat carries'
+complete -c tltool -n '__fish_seen_subcommand_from monitor' -l all -x -d 'go on behind up to so many lines at fault'
+complete -c tltool -n '__fish_seen_subcommand_from coherent' -l all -x -d 'go on behind up to so many lines at fault'
 complete -c tltool -n '__fish_seen_subcommand_from chart' -l lines -x -d 'the first line and the last'
 complete -c tltool -n '__fish_seen_subcommand_from chart' -l block -x -d 'the one block'
 complete -c tltool -n '__fish_seen_subcommand_from explain' -l coherent -d 'judge all links of a manager together'

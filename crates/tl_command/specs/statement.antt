@@ -1,3 +1,4 @@
 pub mod ChartWords
 pub mod RandomWords
+pub mod SearchWords
 pub mod Words

@@ -7,5 +7,6 @@ pub mod command;
 mod number;
 pub mod random;
 pub mod random_words;
+pub mod search;
 pub mod task;
 pub mod width_word;

@@ -3,6 +3,7 @@
 use crate::chart::Range;
 use crate::command::Command;
 use crate::random::Options;
+use crate::search::Aim;
 
 /// What the words of the program ask for.
 #[derive(Drop)]
@@ -10,6 +11,11 @@ pub enum Task {
     /// A command over the file of this name, or over standard input.
     Read {
         command: Command,
+        file: Option<String>,
+    },
+    /// The lines at fault of the trace in the file of this name, or on standard input.
+    Search {
+        aim: Aim,
         file: Option<String>,
     },
     /// A chart of the trace in the file of this name, or on standard input.

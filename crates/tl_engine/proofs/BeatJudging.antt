@@ -51,14 +51,18 @@ module _ {w : ℕ} (old : BeatJudge w) (x : Link × Beat w) where
           knows levels p t had,
         )
 
-    pub alone_bad : (rule : Rule)
+    pub alone_bad : (new : Monitor w) (rule : Rule)
         → Wherever (λ levels p t. of_link.Knows m levels p t false)
         (λ levels p t. of_link.fault_of levels p t false x ≡ Some (monitor.Broken rule))
+        → Wherever (λ levels p t. of_link.Knows m levels p t false) (λ levels p t. of_link.Knows new levels p t false)
         → (together : Bool) → Wherever (KnowsBeats together old)
-        (λ levels p t. faults_by together w levels p x t ≡ Some (Breaks rule))
-    alone_bad rule broken true levels p t known = absurd (rw is at known)
-    alone_bad rule broken false levels p t known =
-        ap (option_map Breaks) (broken_by (broken_on_link levels p x t) rule (broken levels p t (rw is at known)))
+        (λ levels p t. JudgesBeat together (OfLinks new) levels p t x (Some (Breaks rule)))
+    alone_bad new rule broken knows true levels p t known = absurd (rw is at known)
+    alone_bad new rule broken knows false levels p t known =
+        let had = rw is at known in (
+          ap (option_map Breaks) (broken_by (broken_on_link levels p x t) rule (broken levels p t had)),
+          knows levels p t had,
+        )
 
   module _ (j : Judge w) (is : old ≡ OfAll j) where
     pub together_good : (new : Judge w)
@@ -75,12 +79,15 @@ module _ {w : ℕ} (old : BeatJudge w) (x : Link × Beat w) where
           knows levels p t had,
         )
 
-    pub together_bad : (breach : Breach)
+    pub together_bad : (new : Judge w) (breach : Breach)
         → Wherever (λ levels p t. of_all.Knows j levels p t false)
         (λ levels p t. of_all.fault_of levels p t false x ≡ Some (judge.Broken breach))
+        → Wherever (λ levels p t. of_all.Knows j levels p t false) (λ levels p t. of_all.Knows new levels p t false)
         → (together : Bool) → Wherever (KnowsBeats together old)
-        (λ levels p t. faults_by together w levels p x t ≡ Some (fault_of_breach breach))
-    together_bad breach broken false levels p t known = absurd (rw is at known)
-    together_bad breach broken true levels p t known =
-        ap (option_map fault_of_breach) (breached_by (broken_together levels p x t) breach
-        (broken levels p t (rw is at known)))
+        (λ levels p t. JudgesBeat together (OfAll new) levels p t x (Some (fault_of_breach breach)))
+    together_bad new breach broken knows false levels p t known = absurd (rw is at known)
+    together_bad new breach broken knows true levels p t known =
+        let had = rw is at known in (
+          ap (option_map fault_of_breach) (breached_by (broken_together levels p x t) breach (broken levels p t had)),
+          knows levels p t had,
+        )

@@ -44,7 +44,7 @@ use Rattle.tl_engine.specs.declared.charting.Charting.{Charting}
 use Rattle.tl_engine.specs.declared.fault.Fault.{Fault}
 use Rattle.tl_engine.specs.declared.fault.Fault.TheVariants.{Header, Line, Rule as Breaks}
 use Rattle.tl_engine.specs.declared.status.Status.{Status}
-use Rattle.tl_engine.specs.declared.status.Status.TheVariants.{Broken}
+use Rattle.tl_engine.specs.declared.status.Status.TheVariants.{Clean, Broken}
 use Rattle.tl_engine.specs.statement.Charted.{Charts, Draws, DrawsAfter, IsCharted, is_broken}
 use Rattle.tl_engine.specs.statement.Fault.{fault_name, fault_text}
 use Rattle.tl_engine.specs.statement.Judged.{Judged, JudgedAfter, JudgedBy, clean_text, faults_of_links}
@@ -286,16 +286,17 @@ unfolding DrawsAfter
 all_drawn c lines text k =
     rw (append-nil lines) at (k.draws [] (drawn_of c.gatherer) c.fault (k.gathers.drawn_is, k.unfaulted))
 
-pub drawn_at_end : (h : ChartLines) (lines : List (List ℕ)) → HasAll KnowsChart EndsChart h lines → EndsChart h lines
+pub drawn_here : (h : ChartLines) (lines : List (List ℕ)) (text : List ℕ) → KnowsChart h lines text → EndsChart h lines
 unfolding Draws
-drawn_at_end h lines (inl has) = has
-drawn_at_end h lines (inr (text, known)) = go h known
-  where
-    go : (h : ChartLines) → KnowsChart h lines text → EndsChart h lines
-    go (Waiting alloc g) k = rw k.0 (nothing_drawn g.window g refl k.2, refl)
-    go (Four c) k = all_drawn c lines text k
-    go (Eight c) k = all_drawn c lines text k
-    go (Sixteen c) k = all_drawn c lines text k
+drawn_here (Waiting alloc g) lines text k = rw k.0 (nothing_drawn g.window g refl k.2, refl)
+drawn_here (Four c) lines text k = all_drawn c lines text k
+drawn_here (Eight c) lines text k = all_drawn c lines text k
+drawn_here (Sixteen c) lines text k = all_drawn c lines text k
+
+pub drawn_at_end : (h : ChartLines) (lines : List (List ℕ)) (status : Status) → HasAll KnowsChart EndsChart h lines status
+    → EndsChart h lines
+drawn_at_end h lines Clean (text, known) = drawn_here h lines text known
+drawn_at_end h lines Broken has = has
 
 -- ---- the verdict
 

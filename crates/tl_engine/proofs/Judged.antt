@@ -72,7 +72,7 @@ header_missing n alloc count was = λ lines before known counted.
 
 -- ---- the line of a beat
 
-said_at_end : (together : Bool) (n : ℕ) → end_by together n ≡ said_by together n
+pub said_at_end : (together : Bool) (n : ℕ) → end_by together n ≡ said_by together n
 unfolding clean_text coherent_text
 said_at_end false n = refl
 said_at_end true n = refl
@@ -131,7 +131,7 @@ watched_beat old new line link beat (Ok None) spells judged = λ together levels
     let (good, knows) = judged together levels p t known in
     (link, beat, spells, good, knows)
 watched_beat old new line link beat (Ok (Some fault)) spells judged = λ together levels p t known.
-    inr (link, beat, spells, judged together levels p t known)
+    inr (link, beat, spells, (judged together levels p t known).0)
 watched_beat old new line link beat (Err e) spells judged = tt
 
 -- what a judge says of a line is what the handler says

@@ -10,7 +10,7 @@ use Rattle.tl_engine.specs.declared.status.Status.TheVariants.{Clean, Broken}
 use Rattle.tl_engine.specs.declared.status.ToolFault.{ToolFault}
 use Rattle.tl_engine.specs.code.Lines.{lines_of}
 use Rattle.tl_engine.specs.code.Progress.{EndsWithin, Feeds, FinishesInput, HasAll, Progress}
-use Rattle.tl_engine.specs.code.Run.{EndsAs}
+use Rattle.tl_engine.specs.code.Run.{EndsAs, Stands}
 
 module _ {H : Type 0} (knows : H → List (List ℕ) → List ℕ → Type 0) (tells : List (List ℕ) → List ℕ → Status → Type 0)
   where
@@ -28,13 +28,14 @@ module _ {H : Type 0} (knows : H → List (List ℕ) → List ℕ → Type 0) (t
           → (read : List ℕ) × Consumes had left read × Progress knows state read was → Consumes left now piece
           → Feeds knows tells state new piece was is Broken → EndsWithin knows ends state new.handler piece was
           → (read : List ℕ) × Consumes had now read × tells (lines_of read) is Broken × EndsAs tells now read is Broken
-          × HasAll knows ends new.handler (lines_of read)
+          × HasAll knows ends new.handler (lines_of read) Broken × Stands ends now read new.handler
       judged_until had left now state new piece was is (read, consumed, p) more feeds has = (
         read ++ piece,
         Consumes-trans had left now read piece consumed more,
         rw append-nil at (feeds read [] p []),
         inl (feeds read [] p),
-        inl (rw append-nil at (has read [] p [])),
+        rw append-nil at (has read [] p []),
+        inl (has read [] p),
       )
 
       -- the end of the input is judged
@@ -42,10 +43,11 @@ module _ {H : Type 0} (knows : H → List (List ℕ) → List ℕ → Type 0) (t
           (chunk was is : List ℕ) → (read : List ℕ) × Consumes had left read × Progress knows state read was
           → count ≡ 0 → Consumes left now (take count chunk) → IsAtEnd now
           → IfOk r (FinishesInput knows tells state was is)
-          → IfOk r (λ _. (read text : List ℕ) → Progress knows state read text
-          → HasAll knows ends state.handler (lines_of read))
+          → IfOk r (λ status. (read text : List ℕ) → Progress knows state read text
+          → HasAll knows ends state.handler (lines_of read) status)
           → IfOk r (λ status. (read : List ℕ) × Consumes had now read × tells (lines_of read) is status
-          × EndsAs tells now read is status × HasAll knows ends state.handler (lines_of read))
+          × EndsAs tells now read is status × HasAll knows ends state.handler (lines_of read) status
+          × Stands ends now read state.handler)
       judged_end (Err fault) had left now state count chunk was is so_far none more end finishes has = tt
       judged_end (Ok Clean) had left now state count chunk was is (read, consumed, p) none more end finishes has = (
         read,
@@ -53,6 +55,7 @@ module _ {H : Type 0} (knows : H → List (List ℕ) → List ℕ → Type 0) (t
         finishes read [] p,
         end,
         has read was p,
+        inr end,
       )
       judged_end (Ok Broken) had left now state count chunk was is (read, consumed, p) none more end finishes has = (
         read,
@@ -60,4 +63,5 @@ module _ {H : Type 0} (knows : H → List (List ℕ) → List ℕ → Type 0) (t
         (finishes read [] p).0,
         inr (end, (finishes read [] p).1),
         has read was p,
+        inr end,
       )

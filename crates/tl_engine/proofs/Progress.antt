@@ -11,7 +11,7 @@ use Rattle.tl_engine.specs.declared.status.Status.{Status}
 use Rattle.tl_engine.specs.declared.status.ToolFault.{ToolFault}
 use Rattle.tl_engine.specs.declared.status.Status.TheVariants.{Clean, Broken}
 use Rattle.tl_engine.specs.statement.Fault.{fault_text}
-use Rattle.tl_engine.specs.code.Judging.{Ends, Finishes}
+use Rattle.tl_engine.specs.code.Judging.{Ends, EndsHere, Finishes}
 use Rattle.tl_engine.specs.code.Lines.{lines_of, LacksLf, IsLine, IsOpen}
 use Rattle.tl_engine.specs.code.Progress.{Progress, StopsAt, CountsLine, EndsWithin, Feeds, FinishesInput, HasAll}
 use Rattle.tl_engine.proofs.InputLines.{lines_of-line, lines_of-begun, lines_of-rest, ends-lacks, open_from}
@@ -269,22 +269,28 @@ module _ {H : Type 0} (knows : H → List (List ℕ) → List ℕ → Type 0) (e
 
   -- at the end of the input
   pub has_open : (r : Result Status ToolFault) (state : Lines H) → (length state.begun.items == 0) ≡ false
+      → IfOk r (λ status. status ≡ Broken)
       → IfOk r (λ _. (line : List ℕ) → IsOpen line → Ends knows ends state.handler state.handler line)
-      → IfOk r (λ _. (read text : List ℕ) → Progress knows state read text
-      → HasAll knows ends state.handler (lines_of read))
-  has_open (Err fault) state some has = tt
-  has_open (Ok status) state some has = λ read text p. inl (
+      → IfOk r (λ status. (read text : List ℕ) → Progress knows state read text
+      → HasAll knows ends state.handler (lines_of read) status)
+  has_open (Err fault) state some broken has = tt
+  has_open (Ok Clean) state some broken has = absurd cc
+  has_open (Ok Broken) state some broken has = λ read text p.
       rw (
         all_lines knows (Has state.handler) state read text p,
         one_rest state.begun.items p.unended
             (not_empty state.begun.items some),
       )
-      (has state.begun.items (inl (ends-lacks state.begun.items p.unended)) p.lines text p.known []))
+      (has state.begun.items (inl (ends-lacks state.begun.items p.unended)) p.lines text p.known [])
 
   pub has_ended : (state : Lines H) → state.begun.items ≡ [] → (read text : List ℕ) → Progress knows state read text
-      → HasAll knows ends state.handler (lines_of read)
-  has_ended state none read text p =
-      inr (text, rw (all_ended knows (Has state.handler) state read text p none) p.known)
+      → HasAll knows ends state.handler (lines_of read) Clean
+  has_ended state none read text p = (text, rw (all_ended knows (Has state.handler) state read text p none) p.known)
+
+  pub has_missed : (state : Lines H) → state.begun.items ≡ [] → EndsHere knows ends state.handler
+      → (read text : List ℕ) → Progress knows state read text → HasAll knows ends state.handler (lines_of read) Broken
+  has_missed state none missed read text p =
+      rw (all_ended knows (Has state.handler) state read text p none) (missed p.lines text p.known)
 
 -- what didn't fit was too long
 pub refused : {A E : Type 0} (r : Result A E) (n : ℕ) → is_err r ≡ true → (n ≤ 256 → IsOk r) → 256 < n

@@ -21,7 +21,7 @@ use Rattle.tl_engine.specs.declared.fault.Fault.{Fault}
 use Rattle.tl_engine.specs.declared.fault.Fault.TheVariants.{MemoryRule as BreaksTogether}
 use Rattle.tl_engine.specs.declared.monitor_lines.MonitorLines.{MonitorLines}
 use Rattle.tl_engine.specs.declared.status.Status.{Status}
-use Rattle.tl_engine.specs.declared.status.Status.TheVariants.{Broken}
+use Rattle.tl_engine.specs.declared.status.Status.TheVariants.{Clean, Broken}
 use Rattle.tl_engine.specs.declared.testimony.Inquiry.{Inquiry}
 use Rattle.tl_engine.specs.declared.testimony.Testimony.{Testimony}
 use Rattle.tl_engine.specs.statement.Coherent.{JudgedTogether}
@@ -143,10 +143,10 @@ finishes-again h count was is (Some fault) finishes = λ lines before k counted.
 
 -- ---- all lines
 
-pub stood : (h : Testimony) (lines : List (List ℕ)) → HasAll KnowsTestimony EndsTestimony h lines
+pub stood : (h : Testimony) (lines : List (List ℕ)) (status : Status) → HasAll KnowsTestimony EndsTestimony h lines status
     → StandsIn h.inquiry lines
-stood h lines (inl ends) = ends
-stood h lines (inr (text, k)) = k.1.1
+stood h lines Clean (text, k) = k.1.1
+stood h lines Broken ends = ends
 
 -- what was judged again explains the verdict
 pub witnessed : {w : ℕ} (old new : Option (List ℕ)) (i : Inquiry) (good number : ℕ) (rule : MemoryRule)

@@ -40,7 +40,7 @@ impl<const W: usize> BeatJudge<W> {
         }
     }
 
-    /// Judges the next beat. A judge that has found one at fault isn't asked again.
+    /// Judges the next beat, and takes it where it isn't at fault.
     #[inline(always)]
     pub fn push(&mut self, link: Link, beat: &Beat<W>) -> Result<Option<Fault>, AllocError>
         requires { IsWidth W }
@@ -49,12 +49,12 @@ impl<const W: usize> BeatJudge<W> {
             JudgesBeat together self.new levels p t (link, beat.now) fault) }
     {
         match self {
-            BeatJudge::OfLinks(monitor) => match monitor.push(link, beat) {
+            BeatJudge::OfLinks(monitor) => match monitor.try_push(link, beat) {
                 Ok(()) => Ok(None),
                 Err(MonitorFault::Broken(rule)) => Ok(Some(Fault::Rule(rule))),
                 Err(_) => Err(AllocError),
             },
-            BeatJudge::OfAll(judge) => match judge.push(link, beat) {
+            BeatJudge::OfAll(judge) => match judge.try_push(link, beat) {
                 Ok(()) => Ok(None),
                 Err(JudgeFault::Broken(breach)) => Ok(Some(Fault::of_breach(breach))),
                 Err(_) => Err(AllocError),

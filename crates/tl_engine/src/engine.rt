@@ -8,7 +8,7 @@ ghost use Rattle.tl_engine.specs.code.Judging.{IsTotal};
 ghost use Rattle.tl_engine.specs.code.Lines.{lines_of};
 ghost use Rattle.tl_engine.specs.code.Parts.{AppendsPart};
 ghost use Rattle.tl_engine.specs.code.Progress.{FinishesInput, HasAll, Progress};
-ghost use Rattle.tl_engine.specs.code.Run.{EndsAs, FailsAfter, FailsAt, Passes, RunsTo};
+ghost use Rattle.tl_engine.specs.code.Run.{EndsAs, FailsAfter, FailsAt, Passes, RunsTo, Stands};
 ghost use Rattle.tl_engine.specs.declared.status.Status.{Status};
 ghost use Rattle.tl_engine.specs.declared.status.ToolFault.{ToolFault};
 
@@ -102,7 +102,8 @@ pub fn judge_input<H: LineHandler, R: Read>(
     requires { Progress H.knows lines.old [] out.old.items }
     ensures ok { IfOk result (λ status. (read : List ℕ) × Consumes (R.remaining reader.old) (R.remaining reader.new) read
         × H.tells (lines_of read) out.new.items status × EndsAs H.tells (R.remaining reader.new) read out.new.items status
-        × HasAll H.knows H.ends lines.new.handler (lines_of read)) }
+        × HasAll H.knows H.ends lines.new.handler (lines_of read) status
+        × Stands H.ends (R.remaining reader.new) read lines.new.handler) }
     ensures fault { IfErr result (λ fault. fault ≢ ToolFault.Write) }
 {
     let mut chunk = new_chunk(alloc)?;

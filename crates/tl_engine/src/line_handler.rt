@@ -1,7 +1,7 @@
 //! What judges the lines of an input.
 
 ghost use Rattle.std.specs.Prelude.{◌≡◌, ◌++◌, ℕ, List, IfOk, Ok, Some};
-ghost use Rattle.tl_engine.specs.code.Judging.{Ends, Finishes, Judges, Stops};
+ghost use Rattle.tl_engine.specs.code.Judging.{Ends, EndsHere, Finishes, Judges, Stops};
 ghost use Rattle.tl_engine.specs.code.Lines.{IsOpen};
 ghost use Rattle.tl_engine.specs.declared.fault.Fault.{Fault};
 ghost use Rattle.tl_engine.specs.declared.status.Status.{Status};
@@ -33,5 +33,6 @@ pub trait LineHandler: Drop {
     /// Appends what is to be written at the end of an input of this many lines, or answers that a line
     /// is missing there.
     fn finish(&self, count: u64, out: &mut Vec<u8>) -> Result<Option<Fault>, AllocError>
-        ensures { IfOk result (Finishes knows tells self.now count out.old.items out.new.items) };
+        ensures finishes { IfOk result (Finishes knows tells self.now count out.old.items out.new.items) }
+        ensures ends { (fault : Fault) → result ≡ Ok (Some fault) → EndsHere knows ends self.now };
 }

@@ -210,8 +210,8 @@ impl<H: LineHandler> Lines<H> {
     /// Judges the end of the input. A rest without LF is a line too.
     pub fn finish(&self, out: &mut Vec<u8>) -> Result<Status, ToolFault>
         ensures finishes { IfOk result (FinishesInput H.knows H.tells self.now out.old.items out.new.items) }
-        ensures has { IfOk result (λ _. (read text : List ℕ) → Progress H.knows self.now read text →
-            HasAll H.knows H.ends self.now.handler (lines_of read)) }
+        ensures has { IfOk result (λ status. (read text : List ℕ) → Progress H.knows self.now read text →
+            HasAll H.knows H.ends self.now.handler (lines_of read) status) }
         ensures fault { IfErr result (GivesUp (lines_judged self.now)) }
     {
         if !self.begun.is_empty() {

@@ -51,7 +51,7 @@ fn word_by(together: bool) -> &'static str
 
 /// Appends what is said of a trace, where none of so many beats is at fault: `clean N`, or, of all links
 /// together, `coherent N`.
-pub(crate) fn append_end(together: bool, number: u64, out: &mut Vec<u8>) -> Result<(), AllocError>
+pub fn append_end(together: bool, number: u64, out: &mut Vec<u8>) -> Result<(), AllocError>
     ensures { OnOk result (out.new.items ≡ out.old.items ++ end_by together number) }
 {
     let mut digits = Buffer::new();

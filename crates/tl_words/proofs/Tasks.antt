@@ -6,15 +6,16 @@ use Rattle.std.proofs.lemmas.Slice.Eq.{bytes_eq-Decides}
 use Rattle.clap.specs.Words.{Row, Text, first_of, subcommand_of}
 use Rattle.tl_command.specs.declared.random_words.RandomOption.{RandomOption}
 use Rattle.tl_command.specs.declared.task.Task.{Task}
-use Rattle.tl_command.specs.declared.task.Task.TheVariants.{Chart, Draw, Read}
+use Rattle.tl_command.specs.declared.task.Task.TheVariants.{Chart, Draw, Read, Search}
 use Rattle.tl_command.specs.declared.chart.Range.{Range}
+use Rattle.tl_command.specs.declared.search.Aim.{Aim}
 use Rattle.tl_command.specs.statement.ChartWords.{IsRange}
 use Rattle.tl_command.specs.statement.RandomWords.{IsWrong, Words}
 use Rattle.tl_command.proofs.RandomOptions.{wrong_for_all}
 use Rattle.tl_words.specs.declared.words.WordsFault.{WordsFault}
 use Rattle.tl_words.specs.declared.words.WordsFault.TheVariants as fault
 use Rattle.tl_words.specs.Refused.{AsksNothing, IsFaultOf, IsRefusal}
-use Rattle.tl_words.specs.Tool.{IsTaskOf, command_in, command_named, tool_of, words_in}
+use Rattle.tl_words.specs.Tool.{IsAim, IsTaskOf, command_in, command_named, together_named, tool_of, words_in}
 
 -- the same words name the same command
 pub named_alike : (name : Text) {a b c d w x y z : Option Text} → a ≡ w → b ≡ x → c ≡ y → d ≡ z
@@ -39,10 +40,16 @@ pub words_alike : {a b c d e f g h k l m n p q r s : Option Text} → a ≡ k �
     → g ≡ r → h ≡ s → words a b c d e f g h ≡ words k l m n p q r s
 words_alike t u v w x y z o = rw (t, u, v, w, x, y, z, o) refl
 
+-- a command that doesn't search has no aim
+no_search : (name : Text) (word : Option Text) (aim : Aim) → together_named name ≡ None → ¬ IsAim name word aim
+no_search name None aim none is = is
+no_search name (Some word) aim none is = let some = is.0 in absurd cc
+
 -- a word that stands for nothing asks for nothing
 pub no_draw : (rows : List Row) (option : RandomOption) → IsWrong (words_in rows) option → (task : Task)
     → ¬ IsTaskOf (codes "random") rows task
 no_draw rows option wrong (Read command file) is = let none = is.0 in absurd cc
+no_draw rows option wrong (Search aim file) is = no_search (codes "random") (first_of (codes "all") rows) aim refl is.0
 no_draw rows option wrong (Chart range file) is = let none = is.0 in absurd cc
 no_draw rows option wrong (Draw options) is = wrong_for_all (words_in rows) option wrong options is.1
 
@@ -55,15 +62,29 @@ range_alike range {a} {b} {x} {y} p q is =
 pub no_chart : (rows : List Row) → ((range : Range) → ¬ IsRange (first_of (codes "lines") rows)
     (first_of (codes "block") rows) range) → (task : Task) → ¬ IsTaskOf (codes "chart") rows task
 no_chart rows wrong (Read command file) is = let none = is.0 in absurd cc
+no_chart rows wrong (Search aim file) is = no_search (codes "chart") (first_of (codes "all") rows) aim refl is.0
 no_chart rows wrong (Chart range file) is = wrong range is.1
 no_chart rows wrong (Draw options) is = let none = is.0 in absurd cc
 
 -- a name that is no command's, and neither `chart` nor `random`, asks for nothing
-pub no_read : (name : Text) (rows : List Row) → command_in name rows ≡ None → bytes_eq name (codes "random") ≡ false
+pub no_read : (name : Text) (rows : List Row) → command_in name rows ≡ None → first_of (codes "all") rows ≡ None
+    → bytes_eq name (codes "random") ≡ false → bytes_eq name (codes "chart") ≡ false → (task : Task)
+    → ¬ IsTaskOf name rows task
+no_read name rows none unsaid other another (Read command file) is = let some = is.0 in absurd cc
+no_read name rows none unsaid other another (Search aim file) is =
+    subst (λ (word : Option Text). IsAim name word aim) unsaid is.0
+no_read name rows none unsaid other another (Chart range file) is = let same = is.0 in absurd cc
+no_read name rows none unsaid other another (Draw options) is = let same = is.0 in absurd cc
+
+-- a word of `--all` that asks a command which doesn't search, or that is no number, asks for nothing
+pub no_aim : (name word : Text) (rows : List Row) → ((aim : Aim) → ¬ IsAim name (Some word) aim)
+    → first_of (codes "all") rows ≡ Some word → bytes_eq name (codes "random") ≡ false
     → bytes_eq name (codes "chart") ≡ false → (task : Task) → ¬ IsTaskOf name rows task
-no_read name rows none other another (Read command file) is = let some = is.0 in absurd cc
-no_read name rows none other another (Chart range file) is = let same = is.0 in absurd cc
-no_read name rows none other another (Draw options) is = let same = is.0 in absurd cc
+no_aim name word rows none said other another (Read command file) is = let unsaid = is.1 in absurd cc
+no_aim name word rows none said other another (Search aim file) is =
+    none aim (subst (λ (w : Option Text). IsAim name w aim) said is.0)
+no_aim name word rows none said other another (Chart range file) is = let same = is.0 in absurd cc
+no_aim name word rows none said other another (Draw options) is = let same = is.0 in absurd cc
 
 module _ (texts : List Text) (name : Text) (rows : List Row) (is : subcommand_of tool_of texts ≡ Some (name, rows))
   where

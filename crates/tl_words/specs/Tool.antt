@@ -6,10 +6,12 @@ use Rattle.clap.specs.declared.builder.action.ArgAction.TheVariants.{SetTrue}
 use Rattle.clap.specs.Words.{App, Row, Rule, Text, first_of, new_app, new_rule, with_rule, with_subcommand}
 use Rattle.tl_command.specs.declared.command.Command.{Command}
 use Rattle.tl_command.specs.declared.command.Command.TheVariants.{Coherent, Decode, Explain, Monitor, Run}
+use Rattle.tl_command.specs.declared.search.Aim.{Aim}
 use Rattle.tl_command.specs.declared.task.Task.{Task}
-use Rattle.tl_command.specs.declared.task.Task.TheVariants.{Chart, Draw, Read}
+use Rattle.tl_command.specs.declared.task.Task.TheVariants.{Chart, Draw, Read, Search}
 use Rattle.tl_command.specs.statement.ChartWords.{IsRange}
 use Rattle.tl_command.specs.statement.RandomWords.{AreOptions, Words}
+use Rattle.tl_command.specs.statement.SearchWords.{IsBehind}
 use Rattle.tl_command.specs.statement.Words.{width_named}
 
 -- `--NAME VALUE`
@@ -24,13 +26,17 @@ width_rule = valued_rule (codes "width")
 abbrev pub decode_of : App
 decode_of = with_rule (with_rule (new_app (codes "decode")) width_rule) (new_rule (codes "FILE"))
 
--- `monitor [FILE]`
-abbrev pub monitor_of : App
-monitor_of = with_rule (new_app (codes "monitor")) (new_rule (codes "FILE"))
+-- `--all N`
+abbrev pub all_rule : Rule
+all_rule = valued_rule (codes "all")
 
--- `coherent [FILE]`
+-- `monitor [--all N] [FILE]`
+abbrev pub monitor_of : App
+monitor_of = with_rule (with_rule (new_app (codes "monitor")) all_rule) (new_rule (codes "FILE"))
+
+-- `coherent [--all N] [FILE]`
 abbrev pub coherent_of : App
-coherent_of = with_rule (new_app (codes "coherent")) (new_rule (codes "FILE"))
+coherent_of = with_rule (with_rule (new_app (codes "coherent")) all_rule) (new_rule (codes "FILE"))
 
 -- `--NAME`
 abbrev pub flag_rule : Text → Rule
@@ -133,10 +139,23 @@ words_in rows = record {
   contend = first_of (codes "contend") rows;
 }
 
--- what a subcommand's name and entries ask for: a command over FILE, a chart of it, or a random schedule
+-- the command of this name judges all links together, or each by itself; others don't search
+abbrev pub together_named : Text → Option Bool
+together_named name =
+    if bytes_eq name (codes "monitor") then Some false else if bytes_eq name (codes "coherent") then Some true else None
+
+-- what the word of `--all` says of the command of this name
+abbrev pub IsAim : Text → Option Text → Aim → Type 0
+IsAim name None aim = ⊥
+IsAim name (Some word) aim = (together_named name ≡ Some aim.together) × IsBehind word aim.behind
+
+-- what a subcommand's name and entries ask for: a command over FILE, a search of it, a chart of it, or a random schedule
 abbrev pub IsTaskOf : Text → List Row → Task → Type 0
 IsTaskOf name rows (Read command file) =
-    (command_in name rows ≡ Some command) × (option_map string_bytes file ≡ file_in rows)
+    (command_in name rows ≡ Some command) × (first_of (codes "all") rows ≡ None)
+    × (option_map string_bytes file ≡ file_in rows)
+IsTaskOf name rows (Search aim file) =
+    IsAim name (first_of (codes "all") rows) aim × (option_map string_bytes file ≡ file_in rows)
 IsTaskOf name rows (Chart range file) =
     (bytes_eq name (codes "chart") ≡ true)
     × IsRange (first_of (codes "lines") rows) (first_of (codes "block") rows) range

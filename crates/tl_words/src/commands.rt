@@ -36,27 +36,33 @@ pub fn decode<'a>(alloc: Global) -> Result<clap::Command<'a>, AllocError>
         .arg(file)
 }
 
-fn monitor<'a>(alloc: Global) -> Result<clap::Command<'a>, AllocError>
+/// `tltool monitor`.
+pub fn monitor<'a>(alloc: Global) -> Result<clap::Command<'a>, AllocError>
     ensures app { IfOk result (λ c. app_of c ≡ monitor_of) }
     ensures local { IfOk result (λ c. (out-Command c).has_globals ≡ false) }
 {
+    let all = valued(alloc, "all", "N", help::ALL);
     let file = Arg::new(alloc, "FILE").help(FILE_HELP);
     clap::Command::new(alloc, "monitor")
         .about("Judges a recorded trace: writes `clean N`, N its beats, or the first line at fault")
         .after_help(help::TRACE)
+        .arg(all)?
         .arg(file)
 }
 
-fn coherent<'a>(alloc: Global) -> Result<clap::Command<'a>, AllocError>
+/// `tltool coherent`.
+pub fn coherent<'a>(alloc: Global) -> Result<clap::Command<'a>, AllocError>
     ensures app { IfOk result (λ c. app_of c ≡ coherent_of) }
     ensures local { IfOk result (λ c. (out-Command c).has_globals ≡ false) }
 {
+    let all = valued(alloc, "all", "N", help::ALL);
     let file = Arg::new(alloc, "FILE").help(FILE_HELP);
     clap::Command::new(alloc, "coherent")
         .about(
             "Judges a trace of all links of a manager together: writes `coherent N`, or the first line at fault",
         )
         .after_help(help::TOGETHER)
+        .arg(all)?
         .arg(file)
 }
 

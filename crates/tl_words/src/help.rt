@@ -185,6 +185,10 @@ pub const TOGETHER: &str = outcomes_of_all_links!(
     "\n  tltool run --trace schedules/a_writer_becomes_a_reader.schedule | tltool coherent",
 );
 
+/// What help says of `--all`.
+pub const ALL: &str =
+    "Go on behind a line at fault, whose beat isn't taken, up to N such lines; `faults N` says how many were found";
+
 /// What help says of `--coherent`.
 pub const COHERENT: &str = "Judge all links of a manager together, as `coherent` does";
 

@@ -1,23 +1,24 @@
-//! Reads the program's words: `tltool decode [--width 4|8|16] [FILE]`, `tltool monitor [FILE]`,
-//! `tltool coherent [FILE]`, `tltool explain [--coherent] FILE`, `tltool chart [--lines A-B] [--block BBB] [FILE]`,
+//! Reads the program's words: `tltool decode [--width 4|8|16] [FILE]`, `tltool monitor [--all N] [FILE]`,
+//! `tltool coherent [--all N] [FILE]`, `tltool explain [--coherent] FILE`, `tltool chart [--lines A-B] [--block BBB] [FILE]`,
 //! `tltool run [--trace] [FILE]`, `tltool random --seed N` with its options, and those that ask for help or the
 //! version.
 
 ghost use Rattle.std.specs.Prelude.{◌≡◌, IfOk, IfErr, true, false, List, Some, bytes_eq, codes, map, option_map};
 ghost use Rattle.std.specs.String.{string_bytes};
-ghost use Rattle.clap.specs.Words.{Row, Text, found_of, is_simple_and_free};
+ghost use Rattle.clap.specs.Words.{Row, Text, first_of, found_of, is_simple_and_free};
 ghost use Rattle.clap.specs.Words.{kind_of, rows_of, subcommand_of};
 ghost use Rattle.tl_words.specs.Refused.{IsFaultOf, IsRefusal, status_of_usage, usage_status, words_fault};
 ghost use Rattle.tl_command.specs.statement.RandomWords.{words_of};
-ghost use Rattle.tl_words.specs.Tool.{IsTaskOf, command_named, flag_named, tool_of, words_in};
+ghost use Rattle.tl_words.specs.Tool.{IsTaskOf, command_named, flag_named, together_named, tool_of, words_in};
 
-use crate::commands::{chart, decode, explain, random, tool};
+use crate::commands::{chart, coherent, decode, explain, monitor, random, tool};
 use clap::ArgMatches;
 use clap::error::ErrorKind;
 use std::alloc::{AllocError, Global};
 use tl_command::chart::{ChartOption, range_named};
 use tl_command::command::Command;
 use tl_command::random_words::{RandomOption, RandomWords, options_named};
+use tl_command::search::{ALL_WANTED, Aim, behind_named};
 use tl_command::task::Task;
 use tl_command::width_word::width_named;
 
@@ -241,6 +242,61 @@ fn draw_chart(alloc: Global, found: &ArgMatches) -> Result<Task, WordsFault>
     }
 }
 
+/// The command that searches: all links together, or each by itself.
+fn searching<'a>(alloc: Global, together: bool) -> Result<clap::Command<'a>, AllocError> {
+    if together {
+        coherent(alloc)?.bin_name("tltool coherent")
+    } else {
+        monitor(alloc)?.bin_name("tltool monitor")
+    }
+}
+
+/// The error of a word of `--all` that is no number of lines.
+fn wrong_number(alloc: Global, together: bool, word: &str) -> Result<clap::Error, AllocError>
+    ensures { IfOk result (λ error. status_of_usage error ≡ 2) }
+{
+    let message = format!(in alloc; "invalid value '{word}' for '--all <N>': {ALL_WANTED}")?;
+    let mut command = searching(alloc, together)?;
+    command.error(ErrorKind::InvalidValue, message.as_str())
+}
+
+/// Whether the command of this name judges all links together, or each by itself; others don't search.
+fn together_named(name: &str) -> Option<bool>
+    ensures { result ≡ together_named name.now }
+{
+    match name {
+        "monitor" => Some(false),
+        "coherent" => Some(true),
+        _ => None,
+    }
+}
+
+/// The search that the word of `--all` asks for.
+fn search(
+    alloc: Global,
+    name: &str,
+    word: &str,
+    name_of_file: Option<&str>,
+) -> Result<Task, WordsFault>
+    ensures read { IfOk result (λ task. (rows : List Row) → first_of (codes "all") rows ≡ Some word.now →
+        first_of (codes "FILE") rows ≡ option_map (λ s. s.now) name_of_file.entry → IsTaskOf name.now rows task) }
+    ensures wrong { IfErr result (λ fault. (rows : List Row) → first_of (codes "all") rows ≡ Some word.now →
+        bytes_eq name.now (codes "random") ≡ false → bytes_eq name.now (codes "chart") ≡ false →
+        IsFaultOf name.now rows fault) }
+{
+    let Some(together) = together_named(name) else {
+        return Err(WordsFault::Usage(wrong_width(alloc, None)?));
+    };
+    let Some(behind) = behind_named(word) else {
+        return Err(WordsFault::Usage(wrong_number(alloc, together, word)?));
+    };
+    let file = copied(alloc, name_of_file)?;
+    Ok(Task::Search {
+        aim: Aim { together, behind },
+        file,
+    })
+}
+
 /// What the entries of a command ask for that reads.
 fn read(alloc: Global, name: &str, found: &ArgMatches) -> Result<Task, WordsFault>
     requires random { bytes_eq name.now (codes "random") ≡ false }
@@ -252,6 +308,9 @@ fn read(alloc: Global, name: &str, found: &ArgMatches) -> Result<Task, WordsFaul
     let trace = found.get_str("trace");
     let coherent = found.get_str("coherent");
     let name_of_file = found.get_str("FILE");
+    if let Some(word) = found.get_str("all") {
+        return search(alloc, name, word, name_of_file);
+    }
     let Some(command) = command_named(name, width, trace, coherent, name_of_file) else {
         return Err(WordsFault::Usage(wrong_words(alloc, name, width)?));
     };

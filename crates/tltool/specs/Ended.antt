@@ -4,6 +4,7 @@ use Rattle.std.specs.Io.KnownBytes.{Appends}
 use Rattle.tl_chart.specs.declared.window.Window.{Window}
 use Rattle.tl_command.specs.declared.command.Command.{Command}
 use Rattle.tl_command.specs.declared.random.Options.{Options}
+use Rattle.tl_command.specs.declared.search.Aim.{Aim}
 use Rattle.tl_params.specs.statement.Header.{width_of}
 use Rattle.tl_words.specs.declared.words.WordsFault.{WordsFault}
 use Rattle.tl_words.specs.declared.words.WordsFault.TheVariants as words
@@ -21,6 +22,9 @@ use Rattle.tl_engine.specs.statement.Told.{text_so_far, text_told}
 use Rattle.tl_engine.specs.statement.Unexplained.{GivesUpExplaining, Reaches}
 use Rattle.tl_engine.specs.statement.Width.{bytes_of}
 use Rattle.tl_random.specs.statement.Random.{WritesPart, WritesSchedule}
+use Rattle.tl_report.specs.declared.findings.Finding.{Finding}
+use Rattle.tl_report.specs.statement.Found.{most_of}
+use Rattle.tl_report.specs.statement.Said.{GivesUpSearching, Searches, all_text, status_of}
 
 -- The status is that of an outcome which the command has over what was read and written.
 abbrev pub EndsAs : Command → Option (List ℕ) → Option (List ℕ) → Option (List ℕ) → Option (List ℕ) → ℕ → Type 0
@@ -63,6 +67,15 @@ EndsCharted win had left held holds status =
     (outcome : Result Status ToolFault) × (status ≡ exit_status outcome)
     × IfOk outcome (λ judged. (chart : List ℕ) × Charts win had left judged chart × Appends held holds chart)
     × IfErr outcome (GivesUpCharting win had left held holds)
+
+-- The status is that of an outcome which a search has over what was read and written.
+abbrev pub EndsFound : Aim → Option (List ℕ) → Option (List ℕ) → Option (List ℕ) → Option (List ℕ) → ℕ → Type 0
+EndsFound aim had left held holds status =
+    (outcome : Result Status ToolFault) × (status ≡ exit_status outcome)
+    × IfOk outcome (λ judged. (found : List Finding) × (beats : ℕ)
+    × Searches aim.together (most_of aim) had left found beats
+    × Appends held holds (all_text aim.together found beats) × (judged ≡ status_of found))
+    × IfErr outcome (GivesUpSearching aim.together (most_of aim) had left held holds)
 
 -- The words give no command: the status is that of the usage, or of a writer that failed, or of want of memory.
 abbrev pub IsRefused : WordsFault → ℕ → Type 0

@@ -3,7 +3,7 @@
 
 ghost use Rattle.std.specs.Prelude.{◌≡◌, IfOk, OnOk, OnErr, Err};
 ghost use Rattle.tl_engine.specs.statement.Exit.{exit_status};
-ghost use Rattle.tltool.specs.Ended.{EndsAs, EndsCharted, EndsDrawn, EndsExplained, EndsOver, IsRefused};
+ghost use Rattle.tltool.specs.Ended.{EndsAs, EndsCharted, EndsDrawn, EndsExplained, EndsFound, EndsOver, IsRefused};
 ghost use Rattle.tltool.specs.Ended.{explain_status};
 
 use std::fs::File;
@@ -12,6 +12,7 @@ use std::process::ExitCode;
 use std::{env, fs, io};
 use tl_command::chart::Range;
 use tl_command::random::Options;
+use tl_command::search::Aim;
 use tl_command::task::Task;
 use tl_engine::chart::{Window, chart_input, window_of};
 use tl_engine::command::Command;
@@ -22,6 +23,7 @@ use tl_engine::output::{write_all, write_changed, write_once, write_open_fault};
 use tl_engine::status::{Status, ToolFault, exit_of};
 use tl_engine::tool::run_tool;
 use tl_random::schedule::write_schedule;
+use tl_report::find::find_all;
 use tl_words::words::{WordsFault, invocation, usage_status};
 
 /// The exit status of a run, whose fault is told on standard error.
@@ -215,10 +217,31 @@ fn chart(rt: &HostRuntime, range: Range, name: Option<String>) -> u8 {
     }
 }
 
+/// Writes what is found in what a reader gives.
+fn find_over<R: Read, W: Write>(rt: &HostRuntime, aim: Aim, input: &mut R, output: &mut W) -> u8
+    ensures { EndsFound aim (R.remaining input.old) (R.remaining input.new) (W.contents output.old)
+        (W.contents output.new) result }
+{
+    told(rt, find_all(rt.alloc(), aim, input, output))
+}
+
+/// Finds the lines at fault of the trace on standard input, or in the file of this name.
+fn find(rt: &HostRuntime, aim: Aim, name: Option<String>) -> u8 {
+    let mut output = io::writer(rt);
+    match name {
+        None => find_over(rt, aim, &mut rt.reader(), &mut output),
+        Some(name) => match fs::open(rt, name.as_str()) {
+            Ok(mut file) => find_over(rt, aim, &mut file, &mut output),
+            Err(_) => unopened(rt, name.as_str()),
+        },
+    }
+}
+
 /// Does what the words of the program ask for.
 fn run(rt: &HostRuntime, task: Task) -> u8 {
     match task {
         Task::Read { command, file } => read(rt, command, file),
+        Task::Search { aim, file } => find(rt, aim, file),
         Task::Chart { range, file } => chart(rt, range, file),
         Task::Draw { options } => draw(rt, &options, &mut io::writer(rt)),
     }

@@ -27,6 +27,10 @@ Ends knows ends old new line =
     (lines : List (List ℕ)) (text : List ℕ) → knows old lines text → (more : List (List ℕ))
     → ends new (lines ++ line ∷ more)
 
+-- what a handler has where a line is missing behind these
+abbrev pub EndsHere : {H : Type 0} → (H → List (List ℕ) → List ℕ → Type 0) → (H → List (List ℕ) → Type 0) → H → Type 0
+EndsHere knows ends handler = (lines : List (List ℕ)) (text : List ℕ) → knows handler lines text → ends handler lines
+
 -- what `handler` answered for a line
 abbrev pub Judges : {H : Type 0} → (H → List (List ℕ) → List ℕ → Type 0) → (List (List ℕ) → List ℕ → Status → Type 0)
     → H → H → List ℕ → List ℕ → List ℕ → Option Fault → Type 0

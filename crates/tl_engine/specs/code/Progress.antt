@@ -106,5 +106,6 @@ EndsWithin knows ends old new piece was =
 
 -- A handler has been given these lines: it knows them all, or has what it has where one is at fault.
 abbrev pub HasAll : {H : Type 0} → (H → List (List ℕ) → List ℕ → Type 0) → (H → List (List ℕ) → Type 0) → H
-    → List (List ℕ) → Type 0
-HasAll knows ends handler lines = ends handler lines ⊎ ((text : List ℕ) × knows handler lines text)
+    → List (List ℕ) → Status → Type 0
+HasAll knows ends handler lines Clean = (text : List ℕ) × knows handler lines text
+HasAll knows ends handler lines Broken = ends handler lines

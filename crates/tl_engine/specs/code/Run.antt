@@ -31,6 +31,10 @@ EndsAs tells left read text Clean = IsAtEnd left
 EndsAs tells left read text Broken =
     ((more : List ℕ) → tells (lines_of (read ++ more)) text Broken) ⊎ (IsAtEnd left × StopsAtRest read text)
 
+-- what a handler has where a line is at fault stands whatever follows it, or the input is at its end
+abbrev pub Stands : {H : Type 0} → (H → List (List ℕ) → Type 0) → Option (List ℕ) → List ℕ → H → Type 0
+Stands ends left read handler = ((more : List ℕ) → ends handler (lines_of (read ++ more))) ⊎ IsAtEnd left
+
 -- a run wrote the text of what it had read
 abbrev pub RunsTo : (List (List ℕ) → List ℕ → Status → Type 0) → Option (List ℕ) → Option (List ℕ) → Option (List ℕ)
     → Option (List ℕ) → Status → Type 0

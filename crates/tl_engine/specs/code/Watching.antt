@@ -55,12 +55,13 @@ KnowsBeats true (OfAll judge) levels p t = of_all.Knows judge levels p t false
 KnowsBeats _ _ levels p t = ⊥
 
 -- what the judge says of a beat behind a trace: it isn't at fault, and the judge knows the longer trace, or
--- it is at fault for this
+-- it is at fault for this, and the judge knows the trace as before
 abbrev pub JudgesBeat : {w : ℕ} → Bool → BeatJudge w → List Level → Profile → Trace w → Link × Beat w → Option Fault
     → Type 0
 JudgesBeat {w} together new levels p t x None =
     (faults_by together w levels p x t ≡ None) × KnowsBeats together new levels p (x ∷ t)
-JudgesBeat {w} together new levels p t x (Some fault) = faults_by together w levels p x t ≡ Some fault
+JudgesBeat {w} together new levels p t x (Some fault) =
+    (faults_by together w levels p x t ≡ Some fault) × KnowsBeats together new levels p t
 
 -- what a judge that knows a trace says of the next line: the line spells a beat that isn't at fault, and the
 -- judge knows the longer trace, or the line is at fault

@@ -4,23 +4,27 @@ use Rattle.tl_engine.proofs.beat_judge.BeatJudge.push.Goals as goal
 
 pub returns-in-Ok : goal.returns-in-Ok
 returns-in-Ok g c =
-    alone_good _ (c.args.link, c.args.beat.now) c.in-OfLinks.monitor c.in-OfLinks.is c.push.new.self
+    alone_good _ (c.args.link, c.args.beat.now) c.in-OfLinks.monitor c.in-OfLinks.is c.try_push.new.self
     (λ levels p t. c.in-Ok.ensures.answer levels p t false) (λ levels p t. c.in-Ok.ensures.knows levels p t false)
 
 pub returns-in-Err-Broken : goal.returns-in-Err-Broken
 returns-in-Err-Broken g c =
-    alone_bad _ (c.args.link, c.args.beat.now) c.in-OfLinks.monitor c.in-OfLinks.is c.in-Err-Broken.rule
+    alone_bad _ (c.args.link, c.args.beat.now) c.in-OfLinks.monitor c.in-OfLinks.is c.try_push.new.self
+    c.in-Err-Broken.rule
     (λ levels p t known. rw c.in-Err-Broken.field-0-is at (c.in-Err-Broken.ensures.answer levels p t false known))
+    (λ levels p t. c.in-Err-Broken.ensures.knows levels p t false)
 
-pub returns-in-Ok-push : goal.returns-in-Ok-push
-returns-in-Ok-push g c =
-    together_good _ (c.args.link, c.args.beat.now) c.in-OfAll.judge c.in-OfAll.is c.push-in-OfAll.new.self
-    (λ levels p t. c.in-Ok-push.ensures.answer levels p t false)
-    (λ levels p t. c.in-Ok-push.ensures.knows levels p t false)
+pub returns-in-Ok-try_push : goal.returns-in-Ok-try_push
+returns-in-Ok-try_push g c =
+    together_good _ (c.args.link, c.args.beat.now) c.in-OfAll.judge c.in-OfAll.is c.try_push-in-OfAll.new.self
+    (λ levels p t. c.in-Ok-try_push.ensures.answer levels p t false)
+    (λ levels p t. c.in-Ok-try_push.ensures.knows levels p t false)
 
-pub returns-in-Err-Broken-push : goal.returns-in-Err-Broken-push
-returns-in-Err-Broken-push g c =
+pub returns-in-Err-Broken-try_push : goal.returns-in-Err-Broken-try_push
+returns-in-Err-Broken-try_push g c =
     rw c.of_breach.ensures
-    (together_bad _ (c.args.link, c.args.beat.now) c.in-OfAll.judge c.in-OfAll.is c.in-Err-Broken-push.breach
+    (together_bad _ (c.args.link, c.args.beat.now) c.in-OfAll.judge c.in-OfAll.is c.try_push-in-OfAll.new.self
+    c.in-Err-Broken-try_push.breach
     (λ levels p t known.
-    rw c.in-Err-Broken-push.field-0-is at (c.in-Err-Broken-push.ensures.answer levels p t false known)))
+    rw c.in-Err-Broken-try_push.field-0-is at (c.in-Err-Broken-try_push.ensures.answer levels p t false known))
+    (λ levels p t. c.in-Err-Broken-try_push.ensures.knows levels p t false))

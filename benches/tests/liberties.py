@@ -1,0 +1,89 @@
+"""Liberties: for each a shortest trace that it alone makes lawful, and the nearest that stays at fault."""
+
+from harness import python_module, test, want
+
+DATA = "00" * 8
+ACQUIRE_NTOB = "00 A 6 0 6 00 00000000 ff - 0"
+ACQUIRE_PERM_NTOT = "00 A 7 1 6 00 00000000 ff - 0"
+GRANT_TOT = "00 D 4 0 6 00 00 0 - 0"
+GET = "00 A 4 0 3 00 00000000 ff - 0"
+PUT_BEGUN = f"00 A 0 0 4 00 00000000 ff {DATA} 0"
+PUT = f"00 A 0 0 3 00 00000000 ff {DATA} 0"
+GRANT_DATA_BEGUN = f"00 D 5 1 6 00 00 0 {DATA} 0"
+PUT_ANSWERED = "00 D 0 0 4 00 00 0 - 0"
+HELD = [ACQUIRE_PERM_NTOT, GRANT_TOT]
+PROBED = [*HELD, "00 E 00", "00 B 6 2 6 00 00000000 ff - 0"]
+
+# Liberty, trace, and the rule that its last beat breaks where the liberty isn't there.
+ALLOWED = [
+    ("IDS", ["00 B 6 2 6 05 00000000 ff - 0"], "L2"),
+    ("SINKS", [GET, f"00 D 1 0 3 00 07 0 {DATA} 0"], "L2"),
+    ("WRITER", [ACQUIRE_NTOB, f"00 D 5 0 6 00 00 0 {DATA} 0"], "H6"),
+    ("EARLY", [PUT_BEGUN, PUT_ANSWERED], "H2"),
+    ("EARLY", [ACQUIRE_NTOB, GRANT_DATA_BEGUN, "00 E 00"], "H8"),
+    ("DROPS", [*HELD, "00 A 6 0 6 01 00000000 ff - 0"], "H5"),
+    ("DROPS", [*PROBED, "00 C 4 5 6 00 00000000 - 0"], "H12"),
+    ("REPORTS", ["00 C 6 5 6 00 00000000 - 0"], "L2"),
+    ("DENIED", [ACQUIRE_NTOB, "00 D 4 1 6 00 00 1 - 0"], "L6"),
+    ("UNCORRUPT", [GET, f"00 D 1 0 3 00 00 1 {DATA} 0"], "L6"),
+]
+
+# What stays at fault under all liberties, or under all but some.
+AT_FAULT = [
+    (["00 B 6 2 6 05 00000000 ff - 0", "00 C 4 5 6 00 00000000 - 0"], "H10", []),
+    ([GET, f"00 D 1 1 3 00 07 0 {DATA} 0"], "L2", []),
+    (["00 A 7 0 6 00 00000000 ff - 0", GRANT_TOT], "H6", []),
+    ([PUT_BEGUN, PUT_ANSWERED, PUT_ANSWERED], "H2", []),
+    ([ACQUIRE_NTOB, GRANT_DATA_BEGUN, "00 E 01"], "H8", []),
+    ([ACQUIRE_NTOB, "00 E 00"], "H8", []),
+    ([*HELD, "00 A 6 2 6 01 00000000 ff - 0"], "H5", []),
+    ([*HELD, "00 C 6 1 6 00 00000000 - 0", "00 A 6 0 6 01 00000000 ff - 0"], "H4", []),
+    ([*PROBED, "00 C 4 2 6 00 00000000 - 0"], "H12", []),
+    ([*PROBED, "00 C 4 4 6 00 00000000 - 0"], "H12", []),
+    (["00 C 6 4 6 00 00000000 - 0"], "H13", []),
+    ([*HELD, "00 E 00", "00 C 6 5 6 00 00000000 - 0"], "H13", ["DROPS"]),
+    ([ACQUIRE_NTOB, f"00 D 5 1 6 00 00 1 {DATA} 0"], "L6", []),
+    ([PUT, "00 D 0 0 3 00 00 1 - 1"], "L6", []),
+]
+
+
+def first_fault(module, liberties, lines):
+    """The rule that the last beat of a trace breaks, or none; the beats before it break none."""
+    with module.Monitor([module.Level.C], liberties=liberties) as monitor:
+        for line in lines[:-1]:
+            want(monitor.push_line(f"{line}\n".encode()).code == module.Code.OK, f"{lines}: {line} is at fault")
+        return monitor.push_line(f"{lines[-1]}\n".encode()).rule
+
+
+@test
+def each_liberty_alone_makes_its_traces_lawful():
+    module = python_module()
+    every = module.Liberty.STANDARD | module.Liberty.UNCORRUPT
+    for name, lines, rule in ALLOWED:
+        own = module.Liberty[name]
+        want(first_fault(module, own, lines) == "", f"{name}: {lines}")
+        want(first_fault(module, every, lines) == "", f"all: {lines}")
+        told = first_fault(module, every & ~own, lines)
+        want(told == rule, f"all but {name}: {told}, wanted {rule}: {lines}")
+
+
+@test
+def what_no_liberty_allows_stays_at_fault():
+    module = python_module()
+    every = module.Liberty.STANDARD | module.Liberty.UNCORRUPT
+    for lines, rule, without in AT_FAULT:
+        liberties = every
+        for name in without:
+            liberties &= ~module.Liberty[name]
+        told = first_fault(module, liberties, lines)
+        want(told == rule, f"{told}, wanted {rule}: {lines}")
+
+
+@test
+def liberties_of_a_profile_are_the_profile():
+    module = python_module()
+    for profile, liberties in ((1, 0), (2, module.Liberty.WRITER)):
+        for _, lines, rule in ALLOWED:
+            with module.Monitor([module.Level.C], profile=profile) as monitor:
+                told = [monitor.push_line(f"{line}\n".encode()).rule for line in lines][-1]
+            want(told == first_fault(module, liberties, lines), f"profile {profile}: {told}: {lines}")

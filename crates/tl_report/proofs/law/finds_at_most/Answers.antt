@@ -1,0 +1,6 @@
+use Rattle.tl_engine.specs.code.Watching.{faults_by}
+use Rattle.tl_report.proofs.Verdict.{at_most}
+use Rattle.tl_report.proofs.law.finds_at_most.Goals as goal
+
+pub returns : goal.returns
+returns c = λ together. at_most (faults_by together)

@@ -1,0 +1,62 @@
+-- The text of what is found in a trace.
+use Rattle.std.specs.Prelude.{◌≡◌, ◌⊎◌, ◌++◌, ℕ, Bool, List, [], ◌∷◌, length, codes, Option}
+use Rattle.std.specs.Fmt.{decimal}
+use Rattle.std.specs.List.{flat_map}
+use Rattle.std.specs.Io.KnownBytes.{Consumes, IsAtEnd}
+use Rattle.tl_engine.specs.code.Lines.{lines_of}
+use Rattle.tl_engine.specs.code.Parts.{AppendsShort}
+use Rattle.tl_engine.specs.code.Watching.{faults_by, said_by}
+use Rattle.tl_engine.specs.declared.status.Status.{Status}
+use Rattle.tl_engine.specs.declared.status.Status.TheVariants.{Clean, Broken}
+use Rattle.tl_engine.specs.declared.status.ToolFault.{ToolFault}
+use Rattle.tl_engine.specs.declared.status.ToolFault.TheVariants.{Write}
+use Rattle.tl_engine.specs.statement.Fault.{fault_text}
+use Rattle.tl_report.specs.declared.findings.Finding.{Finding}
+use Rattle.tl_report.specs.statement.Found.{Finds}
+
+-- `line N X`
+abbrev pub finding_text : Finding → List ℕ
+finding_text x = fault_text x.line x.fault
+
+-- the same for each line at fault
+abbrev pub faults_text : List Finding → List ℕ
+faults_text found = flat_map finding_text found
+
+-- `faults N`: N lines at fault are reported
+unfoldable pub count_text : ℕ → List ℕ
+count_text n = codes "faults " ++ decimal n ++ codes "\n"
+
+-- each line at fault, and how many they are; or, where none is, what is said of the number of beats, of all links
+-- together or of each by itself
+abbrev pub all_text : Bool → List Finding → ℕ → List ℕ
+all_text together [] beats = said_by together beats
+all_text together found beats = faults_text found ++ count_text (length found)
+
+-- the first line at fault; or, where none is, what is said of the number of beats
+abbrev pub first_by : (ℕ → List ℕ) → List Finding → ℕ → List ℕ
+first_by said [] beats = said beats
+first_by said (x ∷ found) beats = finding_text x
+
+abbrev pub first_text : Bool → List Finding → ℕ → List ℕ
+first_text together = first_by (said_by together)
+
+-- a line is at fault
+abbrev pub status_of : List Finding → Status
+status_of [] = Clean
+status_of found = Broken
+
+-- What was read, to its end or so that nothing that follows changes it, has these lines at fault, at most so many, and
+-- so many beats are taken.
+abbrev pub Searches : Bool → ℕ → Option (List ℕ) → Option (List ℕ) → List Finding → ℕ → Type 0
+Searches together most had left found beats =
+    (read : List ℕ) × Consumes had left read × Finds (faults_by together) most (lines_of read) found beats
+    × (((more : List ℕ) → Finds (faults_by together) most (lines_of (read ++ more)) found beats) ⊎ IsAtEnd left)
+
+-- A search was given up for this. But for `Write` nothing was written. `Write`: the search came to its end, and some of
+-- the text is left to be written.
+abbrev pub GivesUpSearching : Bool → ℕ → Option (List ℕ) → Option (List ℕ) → Option (List ℕ) → Option (List ℕ)
+    → ToolFault → Type 0
+GivesUpSearching together most had left held holds Write =
+    (found : List Finding) × (beats : ℕ) × Searches together most had left found beats
+    × AppendsShort held holds (all_text together found beats)
+GivesUpSearching together most had left held holds fault = holds ≡ held

@@ -1,0 +1,62 @@
+//! Searches a recorded trace for its lines at fault.
+
+ghost use Rattle.std.specs.Prelude.{◌≡◌, ◌≢◌, ℕ, List, IfErr, IfOk};
+ghost use Rattle.std.specs.Io.KnownBytes.{Appends};
+ghost use Rattle.tl_engine.specs.declared.status.ToolFault.{ToolFault};
+ghost use Rattle.tl_report.specs.declared.findings.Finding.{Finding};
+ghost use Rattle.tl_report.specs.statement.Found.{most_of};
+ghost use Rattle.tl_report.specs.statement.Said.{GivesUpSearching, Searches, all_text, status_of};
+
+use crate::findings::Findings;
+use crate::say::{append_all, status_of};
+use crate::search_lines::SearchLines;
+use std::alloc::Global;
+use std::io::{Read, Write};
+use tl_command::search::Aim;
+use tl_engine::engine::judge_input;
+use tl_engine::lines::Lines;
+use tl_engine::output::write_all;
+use tl_engine::status::{Status, ToolFault};
+
+/// What is found in what a reader gives, up to its end or to the last line that is looked for. A line of more than 256
+/// bytes is the last that is read.
+pub fn search<R: Read>(alloc: Global, aim: Aim, reader: &mut R) -> Result<Findings, ToolFault>
+    ensures ok { IfOk result (λ f. Searches aim.together (most_of aim) (R.remaining reader.old) (R.remaining reader.new)
+        f.faults.items f.beats) }
+    ensures fault { IfErr result (λ fault. fault ≢ ToolFault.Write) }
+{
+    let mut lines = Lines::new(SearchLines::Waiting(alloc, aim));
+    let mut said = Vec::new(alloc);
+    let status = judge_input(alloc, &mut lines, reader, &mut said)?;
+    let lines = lines.into_handler();
+    if !lines.aim().is(&aim) {
+        return Err(ToolFault::Memory);
+    }
+    Ok(lines.into_findings(status)?)
+}
+
+/// Writes `line N X` for each line of a trace that is at fault, up to so many, and then `faults N`, how many they are;
+/// or, where none is, what `monitor` or `coherent` writes. The beat of a line at fault isn't taken: those behind it are
+/// judged after the beats that were.
+///
+/// Nothing is written before the search has come to its end: `Write` alone comes behind that, where some of the text is
+/// left.
+pub fn find_all<R: Read, W: Write>(
+    alloc: Global,
+    aim: Aim,
+    reader: &mut R,
+    writer: &mut W,
+) -> Result<Status, ToolFault>
+    ensures ok { IfOk result (λ status. (found : List Finding) × (beats : ℕ)
+        × Searches aim.together (most_of aim) (R.remaining reader.old) (R.remaining reader.new) found beats
+        × Appends (W.contents writer.old) (W.contents writer.new) (all_text aim.together found beats)
+        × (status ≡ status_of found)) }
+    ensures fault { IfErr result (GivesUpSearching aim.together (most_of aim) (R.remaining reader.old)
+        (R.remaining reader.new) (W.contents writer.old) (W.contents writer.new)) }
+{
+    let findings = search(alloc, aim, reader)?;
+    let mut text = Vec::new(alloc);
+    append_all(aim.together, &findings, &mut text)?;
+    write_all(writer, &text)?;
+    Ok(status_of(&findings))
+}

@@ -1,0 +1,137 @@
+//! Judges the lines of a trace, and notes those at fault, whose beats aren't taken.
+
+ghost use Rattle.std.specs.Prelude.{◌≡◌, ℕ, List, IfOk};
+ghost use Rattle.tl_beat.specs.declared.beat.Beat.{Beat};
+ghost use Rattle.tl_beat.specs.statement.Line.{Spells};
+ghost use Rattle.tl_beat.specs.statement.Width.{IsWidth};
+ghost use Rattle.tl_engine.specs.declared.status.Status.{Status};
+ghost use Rattle.tl_report.specs.code.Searching.{EndsWith, IsBegun, IsElsewhereSame, JudgesLine, Notes, SearchesLine};
+ghost use Rattle.tl_report.specs.statement.Found.{is_open};
+
+use crate::findings::{Finding, Findings};
+use std::alloc::{AllocError, Global};
+use tl_beat::beat::{Beat, Link};
+use tl_beat::fault::LineFault;
+use tl_beat::read::read_line;
+use tl_command::search::Aim;
+use tl_engine::beat_judge::BeatJudge;
+use tl_engine::fault::Fault;
+use tl_engine::header::Header;
+use tl_engine::status::Status;
+
+/// A judge of the links of a trace, and what is found in it.
+#[derive(Drop)]
+pub struct Search<const W: usize> {
+    pub aim: Aim,
+    judge: BeatJudge<W>,
+    findings: Findings,
+    /// How many lines were read, the header among them.
+    lines: u64,
+    /// Whether the line that was read last ends the search, and is noted.
+    over: bool,
+}
+
+/// Whether a line has no LF at its end, or more than 256 bytes.
+fn is_open(line: &[u8]) -> bool
+    ensures { result ≡ is_open line.now }
+{
+    !line.ends_with(b"\n") || line.len() > 256
+}
+
+impl<const W: usize> Search<W> {
+    /// Begins behind a header.
+    pub fn new(alloc: Global, aim: Aim, header: &Header) -> Result<Self, AllocError>
+        requires { IsWidth W }
+        ensures { IfOk result (λ search. IsBegun search aim header.now.levels.items header.now.profile) }
+    {
+        Ok(Search {
+            aim,
+            judge: BeatJudge::new(alloc, aim.together, header)?,
+            findings: Findings {
+                faults: Vec::new(alloc),
+                beats: 0,
+            },
+            lines: 1,
+            over: false,
+        })
+    }
+
+    /// Judges a beat, and takes it where it isn't at fault.
+    fn take(&mut self, link: Link, beat: &Beat<W>) -> Result<Option<Fault>, AllocError>
+        requires { IsWidth W }
+        ensures judges { IfOk result (λ fault. (line : List ℕ) → Spells line link beat.now →
+            JudgesLine self.old self.new line fault) }
+        ensures same { IfOk result (λ _. IsElsewhereSame self.old self.new) }
+    {
+        let next = self.findings.beats.checked_add(1).ok_or(AllocError)?;
+        match self.judge.push(link, beat)? {
+            None => {
+                self.findings.beats = next;
+                Ok(None)
+            }
+            Some(fault) => Ok(Some(fault)),
+        }
+    }
+
+    /// Judges the line of a beat, and takes the beat where the line isn't at fault.
+    fn judge(&mut self, line: &[u8]) -> Result<Option<Fault>, AllocError>
+        requires { IsWidth W }
+        ensures judges { IfOk result (JudgesLine self.old self.new line.now) }
+        ensures same { IfOk result (λ _. IsElsewhereSame self.old self.new) }
+    {
+        match read_line(line) {
+            Ok((link, beat)) => self.take(link, &beat),
+            Err(fault) => Ok(Some(Fault::Line(fault))),
+        }
+    }
+
+    /// Notes a line at fault: whether more are looked for behind it.
+    fn note(&mut self, line: &[u8], number: u64, fault: Fault) -> Result<bool, AllocError>
+        ensures { IfOk result (Notes self.old self.new line.now number fault) }
+    {
+        self.findings.faults.push(Finding {
+            line: number,
+            fault,
+        })?;
+        self.over = is_open(line) || self.findings.faults.len() as u64 > self.aim.behind;
+        Ok(!self.over)
+    }
+
+    /// Judges the line of the next beat, and notes it where it is at fault. Answers the fault where it ends the search.
+    #[inline(never)]
+    pub fn read(&mut self, line: &[u8]) -> Result<Option<Fault>, AllocError>
+        requires { IsWidth W }
+        ensures { IfOk result (SearchesLine self.old self.new line.now) }
+    {
+        let number = self.lines.checked_add(1).ok_or(AllocError)?;
+        match self.judge(line)? {
+            None => {
+                self.lines = number;
+                Ok(None)
+            }
+            Some(fault) => {
+                self.lines = number;
+                if self.note(line, number, fault)? {
+                    Ok(None)
+                } else {
+                    Ok(Some(fault))
+                }
+            }
+        }
+    }
+
+    /// What was found, at the end of the input or at a line that ends the search.
+    pub fn into_findings(self, status: Status) -> Result<Findings, AllocError>
+        ensures { IfOk result (EndsWith status self.entry.over self.entry.findings self.entry.lines) }
+    {
+        let line = self.lines.checked_add(1).ok_or(AllocError)?;
+        let mut findings = self.findings;
+        if status == Status::Broken && !self.over {
+            findings.faults.push(Finding {
+                line,
+                fault: Fault::Line(LineFault::F1),
+            })?;
+        }
+        Ok(findings)
+    }
+}

@@ -9,6 +9,7 @@ mod devices;
 mod events;
 mod headers;
 mod large;
+mod liberties;
 mod monitors;
 mod outcomes;
 mod params;

@@ -38,12 +38,11 @@ public:
 
   /// A monitor of links that have these liberties (the sum of enum tl_liberty).
   static Monitor under(const std::vector<std::uint8_t> &levels, std::uint8_t liberties, std::uint8_t width = 8) {
-    Monitor monitor;
-    tl_answer answer =
-        tl_monitor_new_under(&monitor.handle, levels.data(), levels.size(), width, liberties);
+    tl_monitor made = {};
+    tl_answer answer = tl_monitor_new_under(&made, levels.data(), levels.size(), width, liberties);
     if (answer.code == TL_NO_MEMORY) throw std::bad_alloc();
     if (answer.code != TL_OK) throw std::invalid_argument("hefrudyl: levels or width");
-    return monitor;
+    return Monitor(made, Made());
   }
 
   Monitor(Monitor &&other) noexcept : handle(other.handle) { other.handle = {}; }
@@ -69,7 +68,8 @@ public:
   tl_answer entries(std::uint8_t link, std::uint64_t &count) { return tl_monitor_entries(&handle, link, &count); }
 
 private:
-  Monitor() = default;
+  struct Made {};
+  Monitor(tl_monitor made, Made) : handle(made) {}
   tl_monitor handle = {};
 };
 

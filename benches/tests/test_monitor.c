@@ -85,6 +85,8 @@ static void handles(void) {
   want(tl_monitor_new(&monitor, levels, 0, 8, 1).code == TL_BAD_ARGUMENT, "no links");
   want(tl_monitor_new(&monitor, levels, 17, 8, 1).code == TL_BAD_ARGUMENT, "17 links");
   want(tl_monitor_new(&monitor, levels, 1, 32, 1).code == TL_BAD_ARGUMENT, "a width of 32");
+  want(tl_monitor_new_under(&monitor, levels, 0, 8, TL_STANDARD).code == TL_BAD_ARGUMENT, "no links, liberties");
+  want(tl_monitor_new_under(&monitor, levels, 1, 32, TL_STANDARD).code == TL_BAD_ARGUMENT, "a width of 32, liberties");
   want(tl_monitor_new(&monitor, levels, 1, 8, 3).code == TL_BAD_ARGUMENT, "profile 3");
   levels[1] = 3;
   want(tl_monitor_new(&monitor, levels, 2, 8, 1).code == TL_BAD_ARGUMENT, "level 3");

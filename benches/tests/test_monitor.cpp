@@ -18,6 +18,9 @@ int main() {
     right = false;
   } catch (const std::invalid_argument &) {
   }
+  hefrudyl::Monitor liberal = hefrudyl::Monitor::under({TL_C}, TL_EARLY);
+  for (const char *line : {"00 A 6 0 6 00 00000000 ff - 0\n", "00 D 5 1 6 00 00 0 0000000000000000 0\n", "00 E 00\n"})
+    right = right && liberal.push_line(line).code == TL_OK;
   hefrudyl::Judge unmoved({TL_C, TL_C});
   hefrudyl::Judge judge(std::move(unmoved));
   right = right && unmoved.push(0, acknowledge).code == TL_BAD_ARGUMENT;

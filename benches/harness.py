@@ -81,9 +81,18 @@ def icarus(name, top, sources, *flags):
     return built
 
 
+def over_library(cpp):
+    """What Verilator wants for these sources of C++ over the library."""
+    return files(cpp) + [LIBRARY, "-CFLAGS", "-I" + os.path.join(HERE, "include")]
+
+
+# What the checkers stand on.
+DPI = over_library(["sv/tl_checker_dpi.cpp"])
+
+
 def with_library(name, sources, cpp, *flags):
     """The example with the checkers that the flags choose, and what else stands on the library."""
-    extra = files(cpp) + [LIBRARY, "-CFLAGS", "-I" + os.path.join(HERE, "include")]
+    extra = over_library(cpp)
     sources = SV + ["sv/tl_manager_checker.sv", "sv/tl_link_checker.sv"] + sources + EXAMPLE
     return verilator(name, "bench_recorded", sources, *flags, *extra)
 

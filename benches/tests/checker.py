@@ -3,7 +3,7 @@
 import subprocess
 
 from harness import (
-    SV, HOME_BUGS, BUGS, test, want, run, path, files, verilator, icarus, checked, recorded, together, judged, beat_lines,
+    DPI, SV, HOME_BUGS, BUGS, test, want, run, path, files, verilator, icarus, checked, recorded, together, judged, beat_lines,
 )
 
 
@@ -42,6 +42,20 @@ def the_checker_of_all_links_stops_at_the_beat_that_breaks_a_rule_of_memory():
 def a_checker_may_count_in_place_of_stopping():
     told = run([checked(1), "+seed=1", "+cycles=20000", "+bug=4"])
     want("breaks S1" in told and "faults: 1" in told and "agree" in told, told)
+
+
+@test
+def the_checker_of_a_link_takes_liberties():
+    top = "test_liberties"
+    sources = ["sv/tl_pkg.sv", "sv/tl_manager_checker.sv", "sv/tl_link_checker.sv", "tests/test_liberties.sv"]
+    told = run([verilator(top, top, sources, *DPI)])
+    want("link 0 breaks H8: channel E" in told and "faults: 1 without liberties, 0 with them" in told, told)
+    bench = path("unjudged.sv")
+    with open(bench, "w") as text:
+        text.write("module unjudged; tl_manager_checker #(.LIBERTIES(8)) r (); endmodule\n")
+    refused = run(["verilator", "--lint-only", "-Wno-PINMISSING", "-Wno-WIDTH", "--top-module", "unjudged",
+                   *files(sources[:2]), bench], status=None)
+    want("take no LIBERTIES" in refused, refused)
 
 
 @test

@@ -1,5 +1,6 @@
 """What the tests of the benches share: how simulations, programs and the library are built and run."""
 
+import glob
 import os
 import re
 import subprocess
@@ -71,7 +72,8 @@ def files(names):
 def verilator(name, top, sources, *flags):
     """Builds a simulation where a source is newer than it, and gives its path."""
     built = os.path.join(path(name), "V" + top)
-    newest = max(os.path.getmtime(source) for source in files(sources) + [os.path.abspath(__file__)])
+    included = glob.glob(os.path.join(HERE, "sv/*.svh"))
+    newest = max(os.path.getmtime(source) for source in files(sources) + included + [os.path.abspath(__file__)])
     if not os.path.exists(built) or os.path.getmtime(built) < newest:
         run(["verilator", "--binary", "--timing", "-O3", "-Wno-WIDTH", INCLUDES, "--top-module", top, "-Mdir", path(name),
              "-CFLAGS", "-O2"] + list(flags) + files(sources))

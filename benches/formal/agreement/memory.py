@@ -97,5 +97,5 @@ def prepared(tool, count):
 def differing(said, text, modules, include, folder):
     found = {}
     for width, traces_of in text.items():
-        found |= replayed(traces_of, modules, include, folder, W=width, N=LINKS, BYTES=1)
+        found |= replayed("".join(traces_of), modules, include, folder, W=width, N=LINKS, BYTES=1)
     return otherwise(said, found, ("M2", "M3"))

@@ -126,6 +126,17 @@ def a_shared_port_is_recorded_as_a_link_for_each_client():
             want(judged(path("ports"), judging) == verdict, f"{name}: {judged(path('ports'), judging)}")
 
 
+@test
+def each_client_of_a_shared_port_owes_its_own_answers():
+    # both are probed for one block, and the second answers
+    script = ["B 0 6 2 6 0 c0 edge 1", "B 0 6 2 6 8 c0 edge 1", "C 0 4 5 6 8 c0 edge 1", "edge 100"]
+    flags = [*SHARED_FLAGS, f"-DPARAMETERS={SHARED},.TIMEOUT(20)"]
+    for name, command, aborted in simulations("shared_patient", *flags):
+        told = played(command, script, status=aborted)
+        want("235: tl_manager_recorder: link 0 has no answer after 21 cycles:\n"
+             "    opened at 25, in cycle 2, by channel B opcode 6 param 2 size 6 source 00 " in told, f"{name}: {told}")
+
+
 # A beat of no client: a source between those of two clients, and a GrantAck of a sink that wasn't granted.
 STRAYS = [
     ("A 0 4 0 3 4 40", "A opcode 4 param 0 size 3 source 04 sink 00 address 00000040", "ff A 4 0 3 04 00000040 ff - 0"),

@@ -130,7 +130,7 @@ def a_shared_port_is_recorded_as_a_link_for_each_client():
 def each_client_of_a_shared_port_owes_its_own_answers():
     # both are probed for one block, and the second answers
     script = ["B 0 6 2 6 0 c0 edge 1", "B 0 6 2 6 8 c0 edge 1", "C 0 4 5 6 8 c0 edge 1", "edge 100"]
-    flags = [*SHARED_FLAGS, f"-DPARAMETERS={SHARED},.TIMEOUT(20)"]
+    flags = [f"{flag},.TIMEOUT(20)" if "PARAMETERS" in flag else flag for flag in SHARED_FLAGS]
     for name, command, aborted in simulations("shared_patient", *flags):
         told = played(command, script, status=aborted)
         want("235: tl_manager_recorder: link 0 has no answer after 21 cycles:\n"

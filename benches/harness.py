@@ -1,5 +1,6 @@
 """What the tests of the benches share: how simulations, programs and the library are built and run."""
 
+import glob
 import os
 import re
 import subprocess
@@ -11,7 +12,10 @@ OUT = os.path.join(HERE, "out")
 TLTOOL = os.environ.get("TLTOOL", os.path.join(ROOT, "crates/tltool/out/tltool"))
 LIBRARY = os.path.join(OUT, "libhefrudyl.a")
 
-SV = ["sv/tl_pkg.sv", "sv/tl_manager_recorder.sv", "sv/tl_link_recorder.sv"]
+WATCH = ["sv/tl_pkg.sv", "sv/tl_unknown.sv", "sv/tl_pending.sv", "sv/tl_port_watch.sv"]
+SV = WATCH + ["sv/tl_manager_recorder.sv", "sv/tl_link_recorder.sv"]
+CHECKERS = ["sv/tl_manager_checker.sv", "sv/tl_link_checker.sv"]
+INCLUDES = "-I" + os.path.join(HERE, "sv")
 EXAMPLE = ["example/tl_cache.sv", "example/tl_home.sv", "example/tl_device.sv", "example/bench_recorded.sv"]
 
 # Each bug of example/tl_home.sv, and the rule of memory that finds it.
@@ -68,16 +72,17 @@ def files(names):
 def verilator(name, top, sources, *flags):
     """Builds a simulation where a source is newer than it, and gives its path."""
     built = os.path.join(path(name), "V" + top)
-    newest = max(os.path.getmtime(source) for source in files(sources) + [os.path.abspath(__file__)])
+    included = glob.glob(os.path.join(HERE, "sv/*.svh"))
+    newest = max(os.path.getmtime(source) for source in files(sources) + included + [os.path.abspath(__file__)])
     if not os.path.exists(built) or os.path.getmtime(built) < newest:
-        run(["verilator", "--binary", "--timing", "-O3", "-Wno-WIDTH", "--top-module", top, "-Mdir", path(name),
+        run(["verilator", "--binary", "--timing", "-O3", "-Wno-WIDTH", INCLUDES, "--top-module", top, "-Mdir", path(name),
              "-CFLAGS", "-O2"] + list(flags) + files(sources))
     return built
 
 
 def icarus(name, top, sources, *flags):
     built = path(name)
-    run(["iverilog", "-g2012", "-s", top, "-o", built] + list(flags) + files(sources))
+    run(["iverilog", "-g2012", INCLUDES, "-s", top, "-o", built] + list(flags) + files(sources))
     return built
 
 
@@ -93,7 +98,7 @@ DPI = over_library(["sv/tl_checker_dpi.cpp"])
 def with_library(name, sources, cpp, *flags):
     """The example with the checkers that the flags choose, and what else stands on the library."""
     extra = over_library(cpp)
-    sources = SV + ["sv/tl_manager_checker.sv", "sv/tl_link_checker.sv"] + sources + EXAMPLE
+    sources = SV + CHECKERS + sources + EXAMPLE
     return verilator(name, "bench_recorded", sources, *flags, *extra)
 
 
@@ -107,12 +112,12 @@ def together():
     return with_library("together", [], ["sv/tl_checker_dpi.cpp"], "-DTOGETHER", "-DCOUNT=0")
 
 
-def proved(width=8, checkers="CHECKED"):
+def proved(width=8, checkers="CHECKED", base=0):
     """The example under the proved manager, with a proved client in place of the second cache, and a checker on each
     link, or one of all links."""
-    return with_library(f"proved{width}{checkers}", ["sv/tl_proved_manager.sv", "sv/tl_proved_client.sv"],
+    return with_library(f"proved{width}{checkers}{base:x}", ["sv/tl_proved_manager.sv", "sv/tl_proved_client.sv"],
                         ["sv/tl_checker_dpi.cpp", "sv/tl_agents_dpi.cpp"], "-DPROVED", f"-D{checkers}", "-DCOUNT=0",
-                        f"-DWIDTH={width}")
+                        f"-DWIDTH={width}", f"-DBASE=32'h{base:08x}")
 
 
 def recorded():

@@ -54,4 +54,7 @@ extern "C" const char *tl_checker_rule(int rule) {
   return name.c_str();
 }
 
+// Before a simulation is aborted: what its files have of it, the traces too, is written.
+extern "C" void tl_checker_flush() { std::fflush(nullptr); }
+
 extern "C" void tl_checker_close(void *checker) { delete static_cast<Checker *>(checker); }

@@ -3,7 +3,8 @@
 import subprocess
 
 from harness import (
-    DPI, SV, HOME_BUGS, BUGS, test, want, run, path, files, verilator, icarus, checked, recorded, together, judged, beat_lines,
+    CHECKERS, DPI, INCLUDES, SV, WATCH, HOME_BUGS, BUGS, test, want, run, path, files, verilator, icarus, checked, recorded,
+    together, judged, beat_lines,
 )
 
 
@@ -39,6 +40,17 @@ def the_checker_of_all_links_stops_at_the_beat_that_breaks_a_rule_of_memory():
 
 
 @test
+def the_trace_beside_a_checker_that_stops_is_whole():
+    for bug, (rule, _) in BUGS.items():
+        if rule is None:
+            continue
+        run([recorded(), "+seed=1", "+cycles=20000", f"+bug={bug}", f"+trace={path('whole')}"])
+        run([checked(), "+seed=1", "+cycles=20000", f"+bug={bug}", f"+trace={path('stopped')}"], status=-6)
+        verdict = judged(path("stopped"))
+        want(verdict == judged(path("whole")) and verdict.endswith(f" {rule}"), f"bug {bug}: {verdict}")
+
+
+@test
 def a_checker_may_count_in_place_of_stopping():
     told = run([checked(1), "+seed=1", "+cycles=20000", "+bug=4"])
     want("breaks S1" in told and "faults: 1" in told and "agree" in told, told)
@@ -47,31 +59,65 @@ def a_checker_may_count_in_place_of_stopping():
 @test
 def the_checker_of_a_link_takes_liberties():
     top = "test_liberties"
-    sources = ["sv/tl_pkg.sv", "sv/tl_manager_checker.sv", "sv/tl_link_checker.sv", "tests/test_liberties.sv"]
+    sources = WATCH + CHECKERS + ["tests/test_liberties.sv"]
     told = run([verilator(top, top, sources, *DPI)])
     want("link 0 breaks H8: channel E" in told and "faults: 1 without liberties, 0 with them" in told, told)
-    bench = path("unjudged.sv")
+
+
+# What doesn't fit, by module: a parameter, and the name that says what is wanted.
+RECORDER_LIMITS = [
+    ("LINK(16)", "tl_links_are_0_to_15"), ("W(32)", "tl_W_is_4_8_or_16"), ("SOURCE_BITS(9)", "tl_SOURCE_BITS_is_1_to_8"),
+    ("SINK_BITS(9)", "tl_SINK_BITS_is_1_to_8"), ("ADDRESS_BITS(36)", "tl_ADDRESS_BITS_is_1_to_32"),
+    ("TIMEOUT(-1)", "tl_TIMEOUT_is_0_or_more"),
+]
+SHARED_LIMITS = [
+    ("N(17)", "tl_N_is_1_to_16"), ("CLIENTS(17)", "tl_CLIENTS_is_0_to_16"), ("FIRST(15), .N(2)", "tl_links_are_0_to_15"),
+    # a port that there isn't, sources backwards, beyond the width, and of two clients
+    *((f"CLIENTS(2), {words}", "tl_sources_of_CLIENTS_are_apart_and_of_a_port") for words in (
+        ".CLIENT_PORTS(8'h10), .FIRST_SOURCES(16'h0400), .LAST_SOURCES(16'h0703)",
+        ".FIRST_SOURCES(16'h0704), .LAST_SOURCES(16'h0803)",
+        ".SOURCE_BITS(3), .FIRST_SOURCES(16'h0400), .LAST_SOURCES(16'h0803)",
+        ".FIRST_SOURCES(16'h0300), .LAST_SOURCES(16'h0703)")),
+]
+CHECKER_LIMITS = [
+    ("LIBERTIES(8)", "tl_rules_between_links_take_no_LIBERTIES"), ("LIBERTIES(256), .TOGETHER(0)", "tl_LIBERTIES_is_0_to_255"),
+    ("PROFILE(3)", "tl_PROFILE_is_1_or_2"), ("LEVELS(4'b1110)", "tl_LEVELS_are_0_1_or_2"), ("W(5)", "tl_W_is_4_8_or_16"),
+]
+AGENT_LIMITS = [
+    ("BLOCKS(1025)", "tl_BLOCKS_is_1_to_1024"), ("SOURCES(9)", "tl_SOURCES_is_1_to_8"), ("PROFILE(0)", "tl_PROFILE_is_1_or_2"),
+    ("W(64)", "tl_W_is_4_8_or_16"), ("SOURCE_BITS(0)", "tl_SOURCE_BITS_is_1_to_8"), ("BASE(32)", "tl_BASE_is_a_multiple_of_64"),
+    ("BASE(32'hffff_fc40)", "tl_BASE_leaves_room_for_BLOCKS_in_32_bits"),
+]
+LIMITS = {
+    "tl_link_recorder": RECORDER_LIMITS, "tl_manager_recorder": SHARED_LIMITS, "tl_manager_checker": CHECKER_LIMITS,
+    "tl_link_checker": [("LEVEL(3)", "tl_LEVELS_are_0_1_or_2"), *RECORDER_LIMITS[1:]],
+    "tl_proved_manager": [*AGENT_LIMITS, ("N(17)", "tl_N_is_1_to_16"), ("TRACKERS(9)", "tl_TRACKERS_is_1_to_8"),
+                          ("LEVELS(3)", "tl_LEVELS_are_0_1_or_2")],
+    "tl_proved_client": [*AGENT_LIMITS, ("SOURCES(5)", "tl_SOURCES_is_1_to_8_and_fits_SOURCE_BITS")],
+}
+LINT = ["verilator", "--lint-only", "--timing", "-Wno-PINMISSING", "-Wno-WIDTH", INCLUDES, "--top-module", "refused"]
+ELABORATE = ["iverilog", "-g2012", INCLUDES, "-s", "refused", "-o", "/dev/null"]
+
+
+def elaborated(command, module, parameter):
+    """What a simulator says of an instance."""
+    bench = path("refused.sv")
     with open(bench, "w") as text:
-        text.write("module unjudged; tl_manager_checker #(.LIBERTIES(8)) r (); endmodule\n")
-    refused = run(["verilator", "--lint-only", "-Wno-PINMISSING", "-Wno-WIDTH", "--top-module", "unjudged",
-                   *files(sources[:2]), bench], status=None)
-    want("take no LIBERTIES" in refused, refused)
+        text.write(f"module refused; {module} #(.{parameter}) r (); endmodule\n")
+    sources = SV if "recorder" in module else WATCH + CHECKERS if "checker" in module else ["sv/tl_pkg.sv", f"sv/{module}.sv"]
+    return subprocess.run([*command, *files(sources), bench], stdout=subprocess.PIPE, stderr=subprocess.STDOUT, text=True)
 
 
 @test
-def what_a_trace_cannot_hold_is_refused_at_elaboration():
-    bench = path("refused.sv")
-    for parameter, name in (("LINK(16)", "tl_links_are_0_to_15"), ("W(32)", "tl_W_is_4_8_or_16"),
-                            ("SOURCE_BITS(9)", "tl_SOURCE_BITS_is_1_to_8"),
-                            ("SINK_BITS(9)", "tl_SINK_BITS_is_1_to_8"),
-                            ("ADDRESS_BITS(36)", "tl_ADDRESS_BITS_is_1_to_32")):
-        with open(bench, "w") as text:
-            text.write(f"module refused; tl_link_recorder #(.{parameter}) r (); endmodule\n")
-        sources = files(SV) + [bench]
-        for command in (["verilator", "--lint-only", "-Wno-PINMISSING", "-Wno-WIDTH", "--top-module", "refused"],
-                        ["iverilog", "-g2012", "-s", "refused", "-o", "/dev/null"]):
-            refused = subprocess.run(command + sources, stdout=subprocess.PIPE, stderr=subprocess.STDOUT, text=True)
-            want(refused.returncode != 0 and name in refused.stdout, f"{command[0]} takes {parameter}: {refused.stdout}")
+def what_does_not_fit_is_refused_at_elaboration():
+    for module, limits in LIMITS.items():
+        # Icarus knows no DPI
+        for command in (LINT, ELABORATE) if "recorder" in module else (LINT,):
+            taken = elaborated(command, module, "W(8)")
+            want(taken.returncode == 0, f"{command[0]} refuses {module}: {taken.stdout}")
+            for parameter, name in limits:
+                refused = elaborated(command, module, parameter)
+                want(refused.returncode != 0 and name in refused.stdout, f"{command[0]} takes {module} {parameter}: {refused.stdout}")
 
 
 @test

@@ -5,7 +5,7 @@ import os
 import re
 import sys
 
-from harness import HERE, HOME_BUGS, TLTOOL, icarus, path, test, want, run
+from harness import HERE, HOME_BUGS, TLTOOL, WATCH, icarus, path, test, want, run
 
 FORMAL = os.path.join(HERE, "formal")
 PATIENCE = 1800  # seconds of wall time, on a machine that does much else
@@ -74,8 +74,8 @@ NEEDED = {"early": "H8", "drops": "H12", "ids": "L2"}
 def the_trace_of_a_cache_as_rockets_is_clean_under_three_liberties():
     sys.path.insert(0, os.path.join(FORMAL, "agreement"))
     import agree
-    built = icarus("early_bench", "early_bench", ["sv/tl_pkg.sv", "sv/tl_manager_recorder.sv", "example/tl_home.sv",
-                                                  "formal/other/early_cache.sv", "formal/other/early_bench.sv"])
+    built = icarus("early_bench", "early_bench", WATCH + [
+        "sv/tl_manager_recorder.sv", "example/tl_home.sv", "formal/other/early_cache.sv", "formal/other/early_bench.sv"])
     trace = path("early.trace")
     run(["vvp", "-n", built, f"+trace={trace}", "+cycles=8000"])
     for free in (set(NEEDED), *(set(NEEDED) - {it} for it in NEEDED)):

@@ -4,7 +4,7 @@ import os
 import re
 import subprocess
 
-from harness import ROOT, test, want, path
+from harness import CHECKERS, INCLUDES, ROOT, SV, files, path, test, want
 
 INSTANCE = re.compile(r"^    ((tl_\w+) #\(.*\) \w+ \(.*\);)$", re.M)
 HEAD = re.compile(r"^module (\w+)( #\(.*?\n\) \(\n.*?\n\);)", re.M | re.S)
@@ -23,9 +23,10 @@ def the_instances_of_the_page_fit_the_modules():
         # A module with the same ports, whose signals so have the names that `.*` asks for.
         with open(around, "w") as out:
             out.write(f"module around{head}\n{instance}\nendmodule\n")
-        files = [os.path.join(folder, f"{it}.sv") for it in ("tl_pkg", "tl_manager_recorder", "tl_manager_checker")]
-        files += [it for it in [os.path.join(folder, f"{module}.sv")] if it not in files]
+        sources = files(SV + CHECKERS)
+        own = os.path.join(folder, f"{module}.sv")
         told = subprocess.run(
-            ["verilator", "--lint-only", "--timing", "-Wno-WIDTH", "-Wno-MULTITOP", "--top-module", "around", *files, around],
+            ["verilator", "--lint-only", "--timing", "-Wno-WIDTH", "-Wno-MULTITOP", INCLUDES, "--top-module", "around",
+             *sources, *([own] if own not in sources else []), around],
             stdout=subprocess.PIPE, stderr=subprocess.STDOUT, text=True)
         want(told.returncode == 0, f"{instance}: {told.stdout}")

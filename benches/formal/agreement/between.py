@@ -40,7 +40,7 @@ def packed(beat, first, last):
 
 
 def rows(lines, width):
-    """The beats of a trace as together.sv reads them, and the blocks and accesses that they name."""
+    """The beats of a trace as manager.sv reads them but for their data, and the blocks and accesses that they name."""
     left, text, blocks, accesses = {}, [], set(), set()
     for number, line in enumerate(lines[1:], 2):
         link, beat = read_beat(line)
@@ -70,30 +70,41 @@ def traces(tool, count):
 
 
 def prepared(tool, count):
-    """What is said of each trace, its line and its rule, and what together.sv reads of them."""
+    """What is said of each trace, its line and its rule, and what manager.sv reads of them."""
     said, text = [], []
     for number, lines in enumerate(traces(tool, count)):
         told = subprocess.run([tool, "coherent"], input="\n".join(lines) + "\n", stdout=subprocess.PIPE, text=True).stdout.split()
         line, rule = (int(told[1]), told[2]) if told[0] == "line" else (len(lines) + 1, None)
         said.append((line, rule))
         beats, blocks, accesses = rows(lines[:line], read_header(lines[0])[0])
+        beats = beats.replace("\n", " 0\n")  # no data
         for block in blocks:
-            text += [f"T {number:x} {block:x} {source:x} {link:x}\n{beats}" for source, link in sorted(accesses)]
+            text += [f"T {number:x} {block << 6:x} 0 {source:x} {link:x}\n{beats}" for source, link in sorted(accesses)]
     return said, "".join(text)
 
 
-def differing(said, text, modules, include, folder):
-    """Where the module says something else. Where another rule is broken first, it may say nothing before that line."""
-    program, data = folder / "together.vvp", folder / "beats"
-    subprocess.run(["iverilog", "-g2012", f"-I{include}", "-s", "together", "-o", program, include / "agreement/together.sv", *modules],
+def replayed(text, modules, include, folder, **parameters):
+    """The first line and rule that manager.sv says of each trace."""
+    program, data = folder / "manager.vvp", folder / "beats"
+    subprocess.run(["iverilog", "-g2012", f"-I{include}", "-s", "manager", "-o", program,
+                    *(f"-Pmanager.{name}={value}" for name, value in parameters.items()), include / "agreement/manager.sv", *modules],
                    check=True, stderr=subprocess.DEVNULL)
     data.write_text(text)
     found = {}
     for row in subprocess.run(["vvp", program, f"+beats={data}"], check=True, stdout=subprocess.PIPE, text=True).stdout.splitlines():
         number, line, rule = row.split()
         found[int(number)] = min(found.get(int(number), (int(line), rule)), (int(line), rule))
+    return found
+
+
+def otherwise(said, found, rules):
+    """Where something else is said. Where another rule is broken first, the module may say nothing before that line."""
     return [f"world {number}: said {it}, the module {found.get(number)}" for number, it in enumerate(said)
-            if (found.get(number) != it if it[1] in ("M1", "M4") else found.get(number, it)[0] < it[0])]
+            if (found.get(number) != it if it[1] in rules else found.get(number, it)[0] < it[0])]
+
+
+def differing(said, text, modules, include, folder):
+    return otherwise(said, replayed(text, modules, include, folder, N=4), ("M1", "M4"))
 
 
 def by_rule(said):

@@ -6,7 +6,7 @@ import random
 import re
 import subprocess
 
-from between import rows
+from between import otherwise, replayed, rows
 from reference import WITH_DATA, name_of
 from traces import read_beat, read_header
 from wrong import DIRECTED_MEMORY
@@ -76,7 +76,7 @@ def with_data(text, lines, width):
 
 
 def prepared(tool, count):
-    """What is said of each trace, its line and its rule, and by width what memory.sv reads of them: all bytes of the beat at
+    """What is said of each trace, its line and its rule, and by width what manager.sv reads of them: all bytes of the beat at
     fault are tracked, and some of other beats."""
     rng = random.Random(count)
     said, text = [], collections.defaultdict(list)
@@ -95,16 +95,7 @@ def prepared(tool, count):
 
 
 def differing(said, text, modules, include, folder):
-    """Where the module says something else. Where another rule is broken first, it may say nothing before that line."""
     found = {}
     for width, traces_of in text.items():
-        program, data = folder / f"memory{width}.vvp", folder / "beats"
-        subprocess.run(["iverilog", "-g2012", f"-I{include}", "-s", "memory", "-o", program, f"-Pmemory.W={width}", f"-Pmemory.N={LINKS}",
-                        include / "agreement/memory.sv", *modules], check=True, stderr=subprocess.DEVNULL)
-        data.write_text("".join(traces_of))
-        told = subprocess.run(["vvp", program, f"+beats={data}"], check=True, stdout=subprocess.PIPE, text=True).stdout
-        for row in told.splitlines():
-            number, line, rule = row.split()
-            found[int(number)] = min(found.get(int(number), (int(line), rule)), (int(line), rule))
-    return [f"world {number}: said {it}, the module {found.get(number)}" for number, it in enumerate(said)
-            if (found.get(number) != it if it[1] in ("M2", "M3") else found.get(number, it)[0] < it[0])]
+        found |= replayed("".join(traces_of), modules, include, folder, W=width, N=LINKS, BYTES=1)
+    return otherwise(said, found, ("M2", "M3"))

@@ -217,7 +217,7 @@ class Top:
         yield f'    $fwrite(fd, "tltrace {profile} {levels}\\n", {sizes["width"]});'
         yield "  end"
         yield (f"  tl_manager_recorder #(.N({design.links}), .W({sizes['width']}), .SOURCE_BITS({sizes['source_bits']}), "
-               f".SINK_BITS({sizes['sink_bits']}), .ADDRESS_BITS({sizes['address_bits']})) recorder (.clk, .rst_n, .fd, {', '.join(joined)});")
+               f".SINK_BITS({sizes['sink_bits']}), .ADDRESS_BITS({sizes['address_bits']}), .UNKNOWN(0)) recorder (.clk, .rst_n, .fd, {', '.join(joined)});")
         yield "`endif"
 
 

@@ -36,7 +36,7 @@ def written(top, folder, cex, name, recorder, modules, tool):
     (folder / "witness.sv").write_text(bench(top, frames_of(folder, cex)))
     program, trace, waves = folder / "witness.vvp", folder / f"{name}.trace", folder / f"{name}.vcd"
     sources = [folder / "witness.sv", folder / "tl_formal_top.sv", *top.design.files, *recorder, *sorted(modules.glob("tl_*.sv"))]
-    built = subprocess.run(["iverilog", "-g2012", "-DREPLAY", f"-I{modules}", "-s", "tl_formal_witness", "-o", program,
+    built = subprocess.run(["iverilog", "-g2012", "-DREPLAY", f"-I{modules}", f"-I{recorder[0].parent}", "-s", "tl_formal_witness", "-o", program,
                             *dict.fromkeys(map(str, sources))], stdout=subprocess.PIPE, stderr=subprocess.STDOUT, text=True)
     if built.returncode:
         raise Unreadable(f"Icarus can't build the counterexample's simulation: {built.stdout[-600:]}")

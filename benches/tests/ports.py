@@ -1,0 +1,198 @@
+"""What a recorder sees at a port that a trace doesn't tell: a simulation that is aborted, a second reset, what is never answered,
+clients that share a port, and times."""
+
+import os
+
+from harness import DPI, SV, test, want, run, path, verilator, icarus, judged, beat_lines
+
+TOP = "test_ports"
+SOURCES = SV + [f"tests/{TOP}.sv"]
+
+# A block that is acquired to write and then to read again on the script's port: an AcquirePerm, its Grant and GrantAck.
+ACQUIRE = "A 0 7 1 6 {source:x} {address:x} edge 1"
+GRANT = "D 0 4 0 6 {source:x} {sink:x} edge 1"
+GRANT_ACK = "E 0 {sink:x} edge 1"
+HELD = [ACQUIRE, GRANT, GRANT_ACK]
+
+
+def filled(lines, source=0, sink=0, address=0):
+    return [line.format(source=source, sink=sink, address=address) for line in lines]
+
+
+def simulations(name, *flags):
+    """The bench in both simulators, with what a $fatal ends it with."""
+    return (("Verilator", [verilator(f"ports_{name}", TOP, SOURCES, *flags)], -6),
+            ("Icarus", ["vvp", "-n", icarus(f"ports_{name}.vvp", TOP, SOURCES, *flags)], 1))
+
+
+def played(command, script, *words, status=0):
+    """What a run of the script tells; its trace is `ports`."""
+    with open(path("script"), "w") as text:
+        text.write("\n".join(script) + "\n")
+    return run([*command, f"+script={path('script')}", f"+trace={path('ports')}", *words], status=status)
+
+
+@test
+def the_trace_is_whole_where_the_bench_stops():
+    for name, command, aborted in simulations("plain"):
+        played(command, [*filled(HELD), "A 0 6 0 6 1 40 edge 1", "fatal"], status=aborted)
+        want(beat_lines("ports") == ["tltrace 2 8 C", "00 A 7 1 6 00 00000000 ff - 0", "00 D 4 0 6 00 00 0 - 0", "00 E 00",
+                                     "00 A 6 0 6 01 00000040 ff - 0"], f"{name}: {beat_lines('ports')}")
+        want(judged(path("ports")) == "clean 4", f"{name}: {judged(path('ports'))}")
+
+
+@test
+def a_second_reset_is_another_trace_or_refused():
+    twice = [*filled(HELD), "reset", *filled(HELD)]
+    for name, command, aborted in simulations("plain"):
+        told = played(command, twice, status=aborted)
+        want("tl_manager_recorder: a beat after a second reset" in told, f"{name}: {told}")
+        want(judged(path("ports"), "coherent") == "coherent 3", f"{name}: {judged(path('ports'), 'coherent')}")
+        told = played(command, twice, "+anew")
+        for trace in ("ports", "ports2"):
+            want(judged(path(trace), "coherent") == "coherent 3", f"{name}, {trace}: {judged(path(trace), 'coherent')}")
+        # a reset before the first beat, and one behind the last, are no second one
+        played(command, ["reset", *filled(HELD), "reset", "edge 5"])
+        want(judged(path("ports")) == "clean 3", f"{name}: {judged(path('ports'))}")
+
+
+@test
+def each_line_has_its_time():
+    for name, command, _ in simulations("plain"):
+        played(command, ["A 0 7 1 6 0 0 edge 3", "D 0 4 0 6 0 0 E 0 0 edge 1"], f"+times={path('times')}")
+        want(beat_lines("times") == ["25", "55", "55"], f"{name}: {beat_lines('times')}")
+
+
+# Each with what opens it, what answers it in its last line, and the channel of the beat that opened it.
+OWED = [
+    (["A 0 4 0 3 5 40 edge 1"], ["D 0 1 0 3 5 0 edge 1"], "A opcode 4 param 0 size 3 source 05 sink 00 address 00000040"),
+    (["A 0 0 0 4 5 40 edge 1", "A 0 0 0 4 5 40 edge 1"], ["D 0 0 0 4 5 0 edge 1"],
+     "A opcode 0 param 0 size 4 source 05 sink 00 address 00000040"),
+    (filled([ACQUIRE]), filled([GRANT, GRANT_ACK]), "A opcode 7 param 1 size 6 source 00 sink 00 address 00000000"),
+    (filled([ACQUIRE, GRANT], sink=3), ["E 0 3 edge 1"], "D opcode 4 param 0 size 6 source 00 sink 03 address 00000000"),
+    (["C 0 6 5 6 2 80 edge 1"], ["D 0 6 0 6 2 0 edge 1"], "C opcode 6 param 5 size 6 source 02 sink 00 address 00000080"),
+    (["B 0 6 2 6 0 c0 edge 1"], ["C 0 4 5 6 0 c0 edge 1"], "B opcode 6 param 2 size 6 source 00 sink 00 address 000000c0"),
+    # a response that stops in its middle
+    (["A 0 4 0 6 5 40 edge 1", *["D 0 1 0 6 5 0 edge 1"] * 7], ["D 0 1 0 6 5 0 edge 1"],
+     "A opcode 4 param 0 size 6 source 05 sink 00 address 00000040"),
+]
+
+
+@test
+def what_is_never_answered_is_told_with_the_beat_that_opened_it():
+    flags = ["-DPARAMETERS=.SOURCE_BITS(SOURCE_BITS),.TIMEOUT(20)"]
+    for name, command, aborted in simulations("patient", *flags):
+        for opening, answer, beat in OWED:
+            begun = len(opening) if "D 0 4" in opening[-1] else 1  # the edge of the beat that opened it, from 1 on
+            told = played(command, [*opening, "edge 100"], status=aborted)
+            time = 15 + 10 * begun
+            want(f"{time + 210}: tl_manager_recorder: link 0 has no answer after 21 cycles:\n"
+                 f"    opened at {time}, in cycle {begun + 1}, by channel {beat}\n" in told, f"{name}: {told}")
+            # what is answered in time is told by nobody
+            told = played(command, [*opening, f"edge {20 - len(opening) - len(answer):x}", *answer, "edge 100"])
+            want("no answer" not in told, f"{name}: {told}")
+
+
+@test
+def what_is_pending_at_the_end_is_listed():
+    flags = ["-DPARAMETERS=.SOURCE_BITS(SOURCE_BITS),.TIMEOUT(20)"]
+    for name, command, _ in simulations("patient", *flags):
+        told = played(command, [*OWED[4][0], "edge 2"])
+        want("link 0 has no answer at the end:\n    opened at 25, in cycle 2, by channel " + OWED[4][2] in told, f"{name}: {told}")
+
+
+# Two clients on port 0, with sources 0 to 3 and 8 to b, and one on port 1 with sources 0 to f.
+SHARED = (".SOURCE_BITS(SOURCE_BITS),.CLIENTS(3),.CLIENT_PORTS(12'h100),.FIRST_SOURCES({8'd0,8'd8,8'd0}),"
+          ".LAST_SOURCES({8'd15,8'd11,8'd3})")
+SHARED_FLAGS = ["-DN=2", f"-DPARAMETERS={SHARED}", '-DHEADER="tltrace 2 8 C C C"', "-DLEVELS=6'b10_10_10"]
+
+# The first client has a block and gives it to the second, while that of port 1 has another.
+SHARED_RUN = ["A 0 7 1 6 3 0 edge 1", "D 0 4 0 6 3 1 E 0 1 edge 1", "B 0 6 2 6 0 0 edge 1", "C 0 4 1 6 0 0 edge 1",
+              "A 0 7 1 6 b 0 A 1 7 1 6 b 40 edge 1", "D 0 4 0 6 b 2 D 1 4 0 6 b 3 edge 1", "E 0 2 E 1 3 edge 1",
+              "C 0 6 1 6 9 0 edge 1", "D 0 6 0 6 9 0 edge 1"]
+
+
+@test
+def a_shared_port_is_recorded_as_a_link_for_each_client():
+    for name, command, _ in simulations("shared", *SHARED_FLAGS):
+        played(command, SHARED_RUN)
+        want(beat_lines("ports") == [
+            "tltrace 2 8 C C C",
+            "00 A 7 1 6 03 00000000 ff - 0", "00 D 4 0 6 03 01 0 - 0", "00 E 01", "00 B 6 2 6 00 00000000 ff - 0",
+            "00 C 4 1 6 00 00000000 - 0", "01 A 7 1 6 0b 00000000 ff - 0", "02 A 7 1 6 0b 00000040 ff - 0",
+            "01 D 4 0 6 0b 02 0 - 0", "02 D 4 0 6 0b 03 0 - 0", "01 E 02", "02 E 03", "01 C 6 1 6 09 00000000 - 0",
+            "01 D 6 0 6 09 00 0 - 0"], f"{name}: {beat_lines('ports')}")
+        for judging, verdict in (("monitor", "clean 13"), ("coherent", "coherent 13")):
+            want(judged(path("ports"), judging) == verdict, f"{name}: {judged(path('ports'), judging)}")
+
+
+@test
+def each_client_of_a_shared_port_owes_its_own_answers():
+    # both are probed for one block, and the second answers
+    script = ["B 0 6 2 6 0 c0 edge 1", "B 0 6 2 6 8 c0 edge 1", "C 0 4 5 6 8 c0 edge 1", "edge 100"]
+    flags = [f"{flag},.TIMEOUT(20)" if "PARAMETERS" in flag else flag for flag in SHARED_FLAGS]
+    for name, command, aborted in simulations("shared_patient", *flags):
+        told = played(command, script, status=aborted)
+        want("235: tl_manager_recorder: link 0 has no answer after 21 cycles:\n"
+             "    opened at 25, in cycle 2, by channel B opcode 6 param 2 size 6 source 00 " in told, f"{name}: {told}")
+
+
+# A beat of no client: a source between those of two clients, and a GrantAck of a sink that wasn't granted.
+STRAYS = [
+    ("A 0 4 0 3 4 40", "A opcode 4 param 0 size 3 source 04 sink 00 address 00000040", "ff A 4 0 3 04 00000040 ff - 0"),
+    ("B 0 6 2 6 7 40", "B opcode 6 param 2 size 6 source 07 sink 00 address 00000040", "ff B 6 2 6 07 00000040 ff - 0"),
+    ("C 0 4 5 6 c 40", "C opcode 4 param 5 size 6 source 0c sink 00 address 00000040", "ff C 4 5 6 0c 00000040 - 0"),
+    ("D 0 6 0 6 c 0", "D opcode 6 param 0 size 6 source 0c sink 00 address 00000000", "ff D 6 0 6 0c 00 0 - 0"),
+    ("E 0 5", "E opcode 0 param 0 size 0 source 00 sink 05 address 00000000", "ff E 05"),
+]
+
+
+@test
+def a_beat_of_no_client_is_told_and_written():
+    for name, command, aborted in simulations("shared", *SHARED_FLAGS):
+        for beat, shown, line in STRAYS:
+            told = played(command, [beat, "edge 2"], status=aborted)
+            want(f"25: tl_manager_recorder: port 0: a beat of no client in cycle 2: channel {shown}\n" in told, f"{name}: {told}")
+            want(beat_lines("ports")[1:] == [line], f"{name}: {beat_lines('ports')}")
+            want(judged(path("ports")).startswith("line 2 "), f"{name}: {judged(path('ports'))}")
+
+
+# ---- the checkers at the same ports. They judge by the library, which Verilator alone can call.
+
+def checked_ports(name, *flags):
+    sources = SOURCES[:-1] + ["sv/tl_manager_checker.sv", SOURCES[-1]]
+    return [verilator(f"ports_checked_{name}", TOP, sources, "-DCHECKER", *flags, *DPI)]
+
+
+@test
+def a_checker_judges_anew_behind_a_reset():
+    # the block that link 0 had before the reset is granted to link 1 behind it, and the source and sink are new ones
+    script = [*filled(HELD), "reset", "A 1 7 1 6 0 0 edge 1", "D 1 4 0 6 0 0 edge 1", "E 1 0 edge 1"]
+    flags = ["-DN=2", '-DHEADER="tltrace 2 8 C C"', "-DLEVELS=4'b10_10"]
+    told = played(checked_ports("two", *flags), script, "+anew")
+    want("breaks" not in told, told)
+    told = played(checked_ports("two", *flags), [line for line in script if line != "reset"], status=-6)
+    want("tl_manager_checker: link 1 breaks M1: channel D " in told, told)
+    # the trace has the beat at fault, in the last line
+    want(judged(path("ports"), "coherent") == f"line {len(beat_lines('ports'))} M1", judged(path("ports"), "coherent"))
+
+
+@test
+def a_checker_tells_what_is_never_answered():
+    flags = ["-DPARAMETERS=.SOURCE_BITS(SOURCE_BITS),.TIMEOUT(20)"]
+    opening, _, beat = OWED[2]
+    told = played(checked_ports("patient", *flags), [*opening, "edge 100"], status=-6)
+    want("235: tl_manager_checker: link 0 has no answer after 21 cycles:\n"
+         f"    opened at 25, in cycle 2, by channel {beat}\n" in told, told)
+
+
+@test
+def the_checker_of_a_shared_port_judges_a_link_for_each_client():
+    command = checked_ports("shared", *SHARED_FLAGS)
+    want("breaks" not in played(command, SHARED_RUN), "the clients of a port are taken for one")
+    # the second client is granted what the first one of its port has
+    told = played(command, [*SHARED_RUN[:2], "A 0 7 1 6 b 0 edge 1", "D 0 4 0 6 b 2 edge 1"], status=-6)
+    want("tl_manager_checker: link 1 breaks M1: channel D opcode 4 param 0 size 6 source 0b" in told, told)
+    for beat, shown, _ in STRAYS:
+        told = played(command, [beat, "edge 2"], status=-6)
+        want(f"tl_manager_checker: port 0: a beat of no client in cycle 2: channel {shown}\n" in told, told)

@@ -1,0 +1,10 @@
+pub mod Bursts
+pub mod Forgiving
+pub mod Grants
+pub mod Held
+pub mod Implied
+pub mod Imports
+pub mod Lawful
+pub mod Legal
+pub mod Ordered
+pub mod Releases

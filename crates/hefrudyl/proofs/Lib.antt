@@ -1,2 +1,3 @@
 pub mod Boxed
 pub mod Called
+pub mod Refused

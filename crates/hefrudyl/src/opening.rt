@@ -2,7 +2,7 @@
 
 ghost use Rattle.std.specs.Prelude.{◌≡◌, ◌≤◌, map, length, IfOk};
 ghost use Rattle.tl_beat.specs.statement.Width.{IsWidth};
-ghost use Rattle.hefrudyl.specs.statement.Opened.{may_open, may_open_under, Makes, MakesUnder};
+ghost use Rattle.hefrudyl.specs.statement.Opened.{may_open, may_open_under, new_answer, Makes, MakesUnder};
 ghost use Rattle.tl_pictures.specs.statement.Codes.{level_at};
 ghost use Rattle.hefrudyl.specs.statement.ClientOpened.{may_open_client, MakesClient};
 ghost use Rattle.hefrudyl.specs.statement.ManagerOpened.{may_open_manager, MakesManager};
@@ -95,6 +95,16 @@ pub fn make_judge<const W: usize>(
     }
 }
 
+/// The answer where a client or a manager can't be made for this reason.
+fn answer_of(fault: NewFault) -> Answer
+    ensures { result ≡ new_answer fault }
+{
+    match fault {
+        NewFault::Memory => Answer::NO_MEMORY,
+        _ => Answer::BAD,
+    }
+}
+
 /// A level of 0 to 2, 1 to 1,024 blocks, 1 to 8 sources, a width of 4, 8 or 16 and a profile of 1 or 2.
 pub fn may_open_client(level: u8, blocks: u16, sources: u8, width: u8, profile: u8) -> bool
     ensures { result ≡ may_open_client level blocks sources width profile }
@@ -125,8 +135,7 @@ pub fn make_client<const W: usize>(
     };
     match ClientPort::new(alloc, config, blocks, profile_of(profile)) {
         Ok(port) => Ok(port),
-        Err(NewFault::Memory) => Err(Answer::NO_MEMORY),
-        Err(_) => Err(Answer::BAD),
+        Err(fault) => Err(answer_of(fault)),
     }
 }
 
@@ -167,7 +176,6 @@ pub fn make_manager<const W: usize>(
     let config = config_of(links, blocks, trackers, profile);
     match ManagerPort::new(alloc, &config) {
         Ok(port) => Ok(port),
-        Err(NewFault::Memory) => Err(Answer::NO_MEMORY),
-        Err(_) => Err(Answer::BAD),
+        Err(fault) => Err(answer_of(fault)),
     }
 }

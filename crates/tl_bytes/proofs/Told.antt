@@ -14,7 +14,7 @@ use Rattle.tl_bytes.specs.code.Tellings.{displaced, is_displaced, is_written, ou
 use Rattle.tl_bytes.specs.code.Tellings.{written_at}
 use Rattle.tl_bytes.specs.declared.standing.Standing.{Standing}
 use Rattle.tl_bytes.specs.statement.Bytes.{access_writes, after_write, could_be, ends_request, is_of, same_value, tells}
-use Rattle.tl_bytes.specs.statement.Bytes.{told_too, value_written}
+use Rattle.tl_bytes.specs.statement.Bytes.{told_too, value_left}
 use Rattle.tl_bytes.specs.statement.Known.{AreCarried, IsWrite, standing_of}
 
 -- ---- the list of tellings, place by place
@@ -189,10 +189,11 @@ by_standing Standing.Told now before = before
 by_standing (Standing.Within began) now before = told_too now (filter (λ e. nat_le began e.moment) before)
 by_standing Standing.Anywhere now before = told_too now before
 
-by-standing : {w : ℕ} (n block : ℕ) (access : Access w) (now : Telling) (t : Trace w) (before : List Telling)
-    → after_write n block access now t before ≡ by_standing (standing_of n block access t) now before
-by-standing n block access now t before =
-    by (is_free n None Perm.Trunk block t) (windows_since n block access.asked t == 1)
+by-standing : {w : ℕ} (n block : ℕ) (access : Access w) (denied : Bool) (now : Telling) (t : Trace w)
+    (before : List Telling)
+    → after_write n block access denied now t before ≡ by_standing (standing_of n block access denied t) now before
+by-standing n block access denied now t before =
+    by (is_free n None Perm.Trunk block t) ((windows_since n block access.asked t == 1) && not denied)
     (nat_lt (last_window n block t) (last_told block t)) (window_began n block access.asked t)
   where
     by : (free one told : Bool) (began : ℕ)
@@ -209,9 +210,9 @@ may_be-written : {w : ℕ} (n block p : ℕ) (link : Link) (y : BeatD w) (access
     → tells block (Beat.D y) (on_link link.0 t) ≡ false → ends_request y (on_link link.0 t) ≡ true
     → find (is_of link.0 y.source) (pending_accesses t) ≡ Some access
     → may_be n (64 * block + p) ((link, Beat.D y) ∷ t) ≡ (if access_writes (64 * block + p) access then by_standing
-    (standing_of n block access t)
+    (standing_of n block access y.denied t)
     (record {
-      value = value_written access (Beat.D y ∷ unfinished Channel.D (on_link link.0 t)) (64 * block + p);
+      value = value_left access.request.opcode access (Beat.D y ∷ unfinished Channel.D (on_link link.0 t)) (64 * block + p);
       moment = length t;
     }) (may_be n (64 * block + p) t)
     else may_be n (64 * block + p) t)
@@ -219,8 +220,8 @@ unfolding may_be
 may_be-written n block p link y access t lt quiet ended found =
     rw (block-of block p lt, quiet, ended, found, block-of block p lt)
     (ap (λ l. if access_writes (64 * block + p) access then l else may_be n (64 * block + p) t)
-    (by-standing n block access (record {
-      value = value_written access (Beat.D y ∷ unfinished Channel.D (on_link link.0 t)) (64 * block + p);
+    (by-standing n block access y.denied (record {
+      value = value_left access.request.opcode access (Beat.D y ∷ unfinished Channel.D (on_link link.0 t)) (64 * block + p);
       moment = length t;
     }) t (may_be n (64 * block + p) t)))
 
@@ -244,7 +245,7 @@ pub written-is : {w : ℕ} (write : Write) (moment n block : ℕ) (s : Standing)
     p ≡ (if is_written write p then by_standing s (record { value = value_at write p; moment = moment })
     (tellings_of old p) else tellings_of old p)) → KnowsBlock old n block t
     → tells block (Beat.D y) (on_link link.0 t) ≡ false → ends_request y (on_link link.0 t) ≡ true
-    → find (is_of link.0 y.source) (pending_accesses t) ≡ Some access → s ≡ standing_of n block access t
+    → find (is_of link.0 y.source) (pending_accesses t) ≡ Some access → s ≡ standing_of n block access y.denied t
     → moment ≡ length t → IsWrite write block access (Beat.D y ∷ unfinished Channel.D (on_link link.0 t))
     → KnowsBlock new n block ((link, Beat.D y) ∷ t)
 unfolding last_told
@@ -252,8 +253,8 @@ written-is write moment n block s old new link y access t last items k quiet end
     record {
       bytes_are = λ p lt. items p lt
           ∙ rw (stands, now, k.bytes_are p lt) (where_written (is_written write p) (value_at write p)
-          (value_written access (Beat.D y ∷ unfinished Channel.D (on_link link.0 t)) (64 * block + p))
-          (standing_of n block access t) (length t) (may_be n (64 * block + p) t) (written p lt).1
+          (value_left access.request.opcode access (Beat.D y ∷ unfinished Channel.D (on_link link.0 t)) (64 * block + p))
+          (standing_of n block access y.denied t) (length t) (may_be n (64 * block + p) t) (written p lt).1
           ∙ rw ((written p lt).0) (sym (may_be-written n block p link y access t lt quiet ended found)));
       last_is = rw (last, quiet) k.last_is;
     }

@@ -1,3 +1,4 @@
 pub mod Bytes
 pub mod Known
 pub mod Lines
+pub mod Shown

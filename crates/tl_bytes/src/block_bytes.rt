@@ -79,15 +79,15 @@ impl BlockBytes {
         self.may_be(place, byte) || is_left_as(writes, place, byte)
     }
 
-    /// How an access to the block, which is answered and had these windows, stands to what was told of it.
-    pub fn standing(&self, windows: &WritingWindows) -> Standing
+    /// How an access to the block, which is answered, or denied, and had these windows, stands to what was told of it.
+    pub fn standing(&self, windows: &WritingWindows, denied: bool) -> Standing
         ensures { (w n block : ℕ) (access : Access w) (t : Trace w) →
             KnowsBlock self.now n block t → KnowsWindows windows.now n block access.asked t →
-            result ≡ standing_of n block access t }
+            result ≡ standing_of n block access denied t }
     {
         if windows.is_open {
             return match windows.count {
-                WindowCount::One => Standing::Within(windows.began),
+                WindowCount::One if !denied => Standing::Within(windows.began),
                 _ => Standing::Anywhere,
             };
         }
@@ -126,7 +126,7 @@ impl BlockBytes {
             tells block (beat.D y) (on_link link.0 t) ≡ false →
             ends_request y (on_link link.0 t) ≡ true →
             find (is_of link.0 y.source) (pending_accesses t) ≡ Some access →
-            standing ≡ standing_of n block access t → moment ≡ length t →
+            standing ≡ standing_of n block access y.denied t → moment ≡ length t →
             IsWrite write.now block access (beat.D y ∷ unfinished channel.D (on_link link.0 t)) →
             KnowsBlock b n block ((link, beat.D y) ∷ t)) }
     {

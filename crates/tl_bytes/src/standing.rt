@@ -7,6 +7,6 @@ pub enum Standing {
     Within(u64),
     /// It was performed before the block was told last, and is in that.
     Told,
-    /// It was performed before what was told last, or after.
+    /// It was performed before what was told last, or after, or not at all.
     Anywhere,
 }

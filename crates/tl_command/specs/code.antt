@@ -1,2 +1,3 @@
 pub mod ChartReading
 pub mod ClientReading
+pub mod LibertyReading

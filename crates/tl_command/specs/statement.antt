@@ -1,4 +1,5 @@
 pub mod ChartWords
+pub mod LibertyWords
 pub mod RandomWords
 pub mod SearchWords
 pub mod Words

@@ -4,6 +4,7 @@
 pub mod chart;
 mod clients;
 pub mod command;
+pub mod liberties;
 mod number;
 pub mod random;
 pub mod random_words;

@@ -3,7 +3,7 @@
 use crate::chart::Range;
 use crate::command::Command;
 use crate::random::Options;
-use crate::search::Aim;
+use crate::search::{Aim, Inquiry};
 
 /// What the words of the program ask for.
 #[derive(Drop)]
@@ -17,6 +17,14 @@ pub enum Task {
     Search {
         aim: Aim,
         file: Option<String>,
+    },
+    /// The judgement of the trace in the file of this name, or on standard input, and files of these names with its report,
+    /// in JSON and as JUnit has it.
+    Report {
+        inquiry: Inquiry,
+        file: Option<String>,
+        report: Option<String>,
+        junit: Option<String>,
     },
     /// A chart of the trace in the file of this name, or on standard input.
     Chart {

@@ -4,13 +4,14 @@ use Rattle.tl_concord.proofs.Imports.{grants, held, request_of, is_free, leaves,
 use Rattle.tl_concord.proofs.Imports.{and_left, and_right}
 use Rattle.std.proofs.Common.{◌≡◌, ℕ, zero, suc, Bool, true, false, not, ◌&&◌, ◌||◌, List, [], ◌∷◌, length, refl, sym}
 use Rattle.std.proofs.Common.{◌∙◌, ap, inl, inr}
-use Rattle.std.specs.Prelude.{if◌then◌else◌, Option, Some, None, unwrap_or, ◌==◌}
+use Rattle.std.specs.Prelude.{if◌then◌else◌, Option, Some, None, is_some, unwrap_or, ◌==◌}
 use Rattle.std.proofs.lemmas.Bool.{and_from, cases_eq, eq-eqb}
 use Rattle.tl_beat.{specs.declared.channel.Channel.Channel, specs.declared.opcode.OpA.OpA}
 use Rattle.tl_params.specs.declared.key.Key.TheVariants.{RequestSource}
 use Rattle.tl_rules.{specs.code.Open.open_request, specs.code.Open.request_fields, specs.declared.past.Request.Request}
 use Rattle.tl_rules.{specs.statement.Windows.has_window, specs.statement.Windows.needs}
-use Rattle.tl_rules.specs.statement.Conformance.{Trace, comes_in_request}
+use Rattle.tl_bytes.specs.statement.Shown.{had_window, shows}
+use Rattle.tl_rules.specs.statement.Conformance.{Trace, comes_in_request, same_perm}
 use Rattle.tl_rules.specs.statement.History.{begins, capped, is_grant, pending}
 use Rattle.tl_monitor.specs.statement.Granting.{coming, given_by, granted}
 use Rattle.tl_coherence.specs.declared.event.Event.TheVariants.{Ask, Deliver}
@@ -65,6 +66,25 @@ nothing-coming : {w : ℕ} (block : ℕ) (past : History w) (beats : List (Beat 
 nothing-coming block past (Beat.D x ∷ older) off = rw (off x older refl) refl
 nothing-coming block past v off = refl
 
+-- where its block was free, an access could be performed
+window-had : {w : ℕ} (n link source : ℕ) (given : Perm) (block : ℕ) (t : Trace w)
+    → has_window n link source given block t ≡ true → had_window n link source given block t ≡ true
+unfolding has_window had_window
+window-had n link source given block [] e = absurd cc
+window-had n link source given block (x ∷ t) e =
+    go (is_some (open_request source (on_link link (x ∷ t)))) (is_free n None given block (x ∷ t))
+    (same_perm given Perm.Branch && shows block x.1 (on_link x.0.0 t))
+    (window-had n link source given block t) e
+  where
+    go : (o f s : Bool)
+        → (has_window n link source given block t ≡ true → had_window n link source given block t ≡ true)
+        → (o && (f || has_window n link source given block t)) ≡ true
+        → (o && ((f || s) || had_window n link source given block t)) ≡ true
+    go true true s before e = refl
+    go true false true before e = refl
+    go true false false before e = before e
+    go false f s before e = absurd cc
+
 module _ {w : ℕ} (n link : ℕ) (y : BeatD w) (t : Trace w) (begun : begins (Beat.D y) (on_link link t) ≡ true) where
   abbrev past : History w
   past = on_link link t
@@ -107,9 +127,10 @@ module _ {w : ℕ} (n link : ℕ) (y : BeatD w) (t : Trace w) (begun : begins (B
           × (r.block ≡ block_at x.address)
       request = opened is_open (request_of y.source past) r e
 
-      windowed : has_window n link y.source (needs r.opcode) r.block t ≡ true
-      windowed = same-window r.opcode request.0.opcode r.block (block_at request.0.address) request.2 request.3
-          (timely n request.0 begun (answers-too y.opcode ack) request.1)
+      windowed : had_window n link y.source (needs r.opcode) r.block t ≡ true
+      windowed = window-had n link y.source (needs r.opcode) r.block t
+          (same-window r.opcode request.0.opcode r.block (block_at request.0.address) request.2 request.3
+          (timely n request.0 begun (answers-too y.opcode ack) request.1))
 
   response-quiet : IsGivenAlone link (Beat.D y) t → IsAnsweredInTime link (Beat.D y) t → IsResponse link y t
       → broken_response n link y t ≡ None

@@ -36,7 +36,7 @@ use Rattle.tl_engine.specs.code.Judging.{Ends, Finishes, Judges, Stops}
 use Rattle.tl_engine.specs.code.Lines.{IsOpen, lines_of}
 use Rattle.tl_engine.specs.code.Progress.{HasAll}
 use Rattle.tl_engine.specs.code.Run.{EndsAs}
-use Rattle.tl_engine.specs.code.Watching.{KnowsTrace, end_by}
+use Rattle.tl_engine.specs.code.Watching.{KnowsBeats, KnowsTrace, end_by}
 use Rattle.tl_engine.specs.declared.beat_judge.BeatJudge.TheVariants.{OfLinks}
 use Rattle.tl_engine.specs.declared.charting.ChartLines.{ChartLines}
 use Rattle.tl_engine.specs.declared.charting.ChartLines.TheVariants.{Waiting, Four, Eight, Sixteen}
@@ -52,7 +52,8 @@ use Rattle.tl_engine.specs.statement.Trace.{SpellsHeader}
 use Rattle.tl_engine.specs.statement.Width.{bytes_of}
 use Rattle.tl_together.proofs.Noted.{in_levels}
 use Rattle.tl_engine.proofs.Decoded.{open_fault}
-use Rattle.tl_engine.proofs.Judged.{beat_bad, beats_end, unread}
+use Rattle.tl_engine.proofs.Judged.{beats_end, unread}
+use Rattle.tl_engine.proofs.JudgedTraces.{bad_line}
 use Rattle.tl_engine.proofs.ChartedBeats.{begins_within}
 
 -- ---- a line that is read
@@ -62,7 +63,7 @@ abbrev judged_in : {w : ℕ} {c : Charting w} {lines : List (List ℕ)} {text : 
     → KnowsTrace false (OfLinks c.monitor) lines text
 judged_in k = record {
   levels = k.levels;
-  profile = k.profile;
+  may = k.profile;
   trace = k.trace;
   known = k.known;
   counted = k.counted;
@@ -145,7 +146,8 @@ module _ {w : ℕ} (old : Charting w) (mid : Monitor w) (link : Link) (x : Beat 
         inr (link, x, Breaks rule, spells, on_links, drawn_so k.trace (next ∙ k.number) k.gathers),
       )) in (
         subst (λ (f : Fault). Judged (lines ++ line ∷ more) (before ++ (was ++ fault_text (length lines + 1) f)) Broken)
-            (sym fault_is) (beat_bad false (OfLinks old.monitor) lines before was line (Breaks rule) (judged_in k)
+            (sym fault_is) (bad_line SpellsHeader faults_of_links clean_text
+            (KnowsBeats false (OfLinks old.monitor)) lines before was line (Breaks rule) (judged_in k)
             (inr (link, x, spells, on_links)) more),
         subst (λ (g : Gatherer). Draws g.window (lines ++ line ∷ more) (drawn_of g) new.fault) (sym gatherer) drawn_here,
       )
@@ -155,7 +157,7 @@ pub reads_none : {w : ℕ} (c : Charting w) (line : List ℕ) (fault : LineFault
     → GathersLine c c line (Some (Line fault))
 unfolding DrawsAfter
 reads_none c line fault is = λ lines before was k more. (
-  beat_bad false (OfLinks c.monitor) lines before was line (Line fault) (judged_in k) (inl (fault, is, refl)) more,
+  bad_line SpellsHeader faults_of_links clean_text (KnowsBeats false (OfLinks c.monitor)) lines before was line (Line fault) (judged_in k) (inl (fault, is, refl)) more,
   k.draws (line ∷ more) (drawn_of c.gatherer) c.fault (inr (k.gathers.drawn_is, inl (fault, is, k.unfaulted))),
 )
 

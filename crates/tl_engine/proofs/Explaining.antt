@@ -42,29 +42,37 @@ pub broken_by : (found : Option Rule) (rule : Rule) → Err rule ≡ ok_unless f
 broken_by None rule is = absurd cc
 broken_by (Some other) rule is = cc
 
--- a beat that a line spells was named, which breaks a rule by itself
-pub named : {w : ℕ} (number : ℕ) (rule : Rule) (line : List ℕ) (link : Link) (x : Beat w) (level : Option Level)
-    (was front reasons grounds : List ℕ) → Spells line link x → broken_alone level x ≡ Some rule → was ≡ []
-    → front ≡ was ++ front_text rule number link x → reasons ≡ front ++ grounds → IsNamed number rule reasons
-named {w} number rule line link x level was front reasons grounds spells breaks none first text = (
-  w,
-  line,
-  link,
-  x,
-  level,
-  grounds,
-  spells,
-  breaks,
-  behind was front reasons grounds (front_text rule number link x) none first text,
-)
+-- the beat of the line at fault was named, which breaks a rule by itself
+pub named : {w : ℕ} (old new : Option (List ℕ)) (r : Replay w) (good number : ℕ) (rule : Rule) (link : Link) (x : Beat w)
+    (level : Option Level) (was front reasons grounds : List ℕ)
+    → (read : List ℕ) × Consumes old new read × HasReachedIn r read → r.good ≡ good → Spells (spelled r.line) link x
+    → broken_alone level x ≡ Some rule → number ≡ good + 1 → was ≡ []
+    → front ≡ was ++ front_text rule number link x → reasons ≡ front ++ grounds
+    → IsNamed old new (good + 1) rule reasons
+named {w} old new r good number rule link x level was front reasons grounds (read, consumed, at) is_good spells breaks
+    is_number none first text =
+    record {
+      read = read;
+      consumed = consumed;
+      before = at.before;
+      line = spelled r.line;
+      stands = at.stands;
+      number = omega (arith, is_good, at.good_is, at.recorded.counted);
+      bytes = w;
+      link = link;
+      beat = x;
+      spells = spells;
+      level = level;
+      breaks = breaks;
+      grounds = grounds;
+      begins = subst (λ (n : ℕ). reasons ≡ front_text rule n link x ++ grounds) is_number
+          (behind was front reasons grounds (front_text rule number link x) none first text);
+    }
 
-pub of_legality : (old new : Option (List ℕ)) (n number : ℕ) (rule : Rule) (reasons : List ℕ) → number ≡ n
-    → not (is_of_order rule) ≡ true → IsNamed number rule reasons → ExplainsFault old new n reasons (Breaks rule)
-of_legality old new n number rule reasons same legality is = (
-  λ order. let no : false ≡ true = rw order at legality in absurd cc,
-  λ _. subst (λ (k : ℕ). IsNamed k rule reasons)
-      same is,
-)
+pub of_legality : (old new : Option (List ℕ)) (n : ℕ) (rule : Rule) (reasons : List ℕ) → not (is_of_order rule) ≡ true
+    → IsNamed old new n rule reasons → ExplainsFault old new n reasons (Breaks rule)
+of_legality old new n rule reasons legality is =
+    (λ order. let no : false ≡ true = rw order at legality in absurd cc, λ _. is)
 
 pub of_order : (old new : Option (List ℕ)) (n : ℕ) (rule : Rule) (reasons : List ℕ) → not (is_of_order rule) ≡ false
     → IsExplained old new n rule reasons → ExplainsFault old new n reasons (Breaks rule)

@@ -2,33 +2,35 @@
 use Rattle.std.proofs.Common.{◌≡◌, ◌≤◌, ℕ, zero, suc, List, [], ◌∷◌, ◌++◌, length, refl, ap, sym, ◌∙◌, arith}
 use Rattle.std.proofs.Common.{append_assoc, inl, inr}
 use Rattle.std.specs.Prelude.{◌⊎◌, IfSome, Option, Some, None, option_and_then}
+use Rattle.arrayvec.specs.ArrayVec.{ArrayVec}
 use Rattle.tl_params.specs.declared.header.Version.{Version}
 use Rattle.tl_params.specs.declared.level.Level.{Level}
 use Rattle.tl_params.specs.declared.profile.Profile.{Profile}
 use Rattle.tl_params.specs.declared.width.Width.{Width}
 use Rattle.tl_params.specs.statement.Header.{level_text, profile_of, version_text, width_of}
-use Rattle.tl_params.specs.code.HeaderReading.{after_word, level_at, onto, version_at}
+use Rattle.tl_params.specs.code.HeaderReading.{GivesAll, after_word, level_at, onto, version_at}
 use Rattle.tl_params.proofs.Headers.{after_taken, is_end-taken, level_again, level_taken, more_levels, version_again}
 use Rattle.tl_params.proofs.Headers.{version_taken}
 use Rattle.tl_params.proofs.Options.{some_pair}
 use Rattle.tl_params.proofs.UpTo.{all-so, up_to-end, up_to-step}
 use Rattle.tl_engine.specs.declared.header.Header.{Header}
-use Rattle.tl_engine.specs.statement.Trace.{IsHeader, SpellsHeader, header_line, levels_text, trace_word}
+use Rattle.tl_engine.specs.statement.Trace.{AreLevels, IsHeader, SpellsHeader, SpellsLevels, header_line, levels_text}
+use Rattle.tl_engine.specs.statement.Trace.{trace_word}
 use Rattle.tl_engine.specs.code.TraceReading.{GivesHeader, header_at, levels_at, named_at, some_levels}
 
 -- ---- what was read was spelled so
 
--- the bytes spell these levels and a line feed
-abbrev SpellsLevels : List ℕ → List Level → Type 0
-SpellsLevels bytes levels = bytes ≡ levels_text levels ++ 10 ∷ []
+-- the bytes are those of these levels and a line feed
+abbrev AreLevelsOf : List ℕ → List Level → Type 0
+AreLevelsOf bytes levels = bytes ≡ levels_text levels ++ 10 ∷ []
 
 one_level_more : (bytes rest : List ℕ) (l : Level) (levels : List Level) → level_at bytes ≡ Some (l, rest)
-    → SpellsLevels rest levels → SpellsLevels bytes (l ∷ levels)
+    → AreLevelsOf rest levels → AreLevelsOf bytes (l ∷ levels)
 one_level_more bytes rest l levels is others = rw (level_taken bytes rest l is, others) (simp append_assoc)
 
-levels_taken : (n : ℕ) (bytes : List ℕ) (levels : List Level) → levels_at n bytes ≡ Some levels
-    → SpellsLevels bytes levels × (length levels ≤ n)
-levels_taken n bytes levels e = all-so level_at SpellsLevels is_end-taken one_level_more n bytes levels e
+pub levels_taken : (n : ℕ) (bytes : List ℕ) (levels : List Level) → levels_at n bytes ≡ Some levels
+    → AreLevelsOf bytes levels × (length levels ≤ n)
+levels_taken n bytes levels e = all-so level_at AreLevelsOf is_end-taken one_level_more n bytes levels e
 
 spelled_line : (line bytes rest : List ℕ) (version : Version) (levels : List Level) → line ≡ trace_word ++ bytes
     → bytes ≡ version_text version ++ rest → rest ≡ levels_text levels ++ 10 ∷ []
@@ -68,7 +70,7 @@ header_taken line width p levels e = at_word (after_word trace_word line) refl e
 
 -- ---- what was spelled is read
 
-levels_again : (n : ℕ) (levels : List Level) → length levels ≤ n → levels_at n (levels_text levels ++ 10 ∷ []) ≡ Some
+pub levels_again : (n : ℕ) (levels : List Level) → length levels ≤ n → levels_at n (levels_text levels ++ 10 ∷ []) ≡ Some
     levels
 levels_again n [] few = up_to-end level_at n (10 ∷ []) refl
 levels_again zero (l ∷ levels) few = absurd (omega arith)
@@ -98,7 +100,21 @@ header_again line width p (l ∷ levels) h =
     (10 ∷ [])) in
     rw text (named_again h.version l levels h.so_many.1 ∙ rw (h.of_width, h.of_profile) refl)
 
--- ---- what the reader says
+-- ---- what the readers say
+
+pub levels_spelled : (r : Option (ArrayVec Level)) (bytes : List ℕ) → GivesAll r (levels_at 16 bytes)
+    → IfSome r (λ levels. SpellsLevels bytes levels.items)
+levels_spelled None bytes gives = tt
+levels_spelled (Some read) bytes gives = levels_taken 16 bytes read.items gives
+
+pub levels_read : (r : Option (ArrayVec Level)) (bytes : List ℕ) → GivesAll r (levels_at 16 bytes)
+    → (levels : List Level) → SpellsLevels bytes levels → AreLevels r levels
+levels_read None bytes gives levels (text, few) =
+    let some = ap (levels_at 16) text ∙ levels_again 16 levels few in
+    absurd cc
+levels_read (Some read) bytes gives levels (text, few) =
+    let same : Some read.items ≡ Some levels = sym gives ∙ ap (levels_at 16) text ∙ levels_again 16 levels few in
+    cc
 
 pub read_spelled : (r : Option Header) (line : List ℕ) → GivesHeader r (header_at line)
     → IfSome r (λ header. SpellsHeader line header.width header.profile header.levels.items)

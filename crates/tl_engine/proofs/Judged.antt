@@ -1,5 +1,5 @@
 -- What a trace is judged, line by line.
-use Rattle.std.proofs.Common.{◌≡◌, ◌≤◌, ℕ, ◌+◌, ◌*◌, ◌-◌, List, [], ◌∷◌, ◌++◌, length, true, false, refl, arith}
+use Rattle.std.proofs.Common.{◌≡◌, ◌≤◌, ℕ, ◌+◌, ◌*◌, ◌-◌, List, [], ◌∷◌, ◌++◌, length, true, false, refl, ap, ◌∙◌, arith}
 use Rattle.std.proofs.Common.{append_assoc, length-append, inl, inr}
 use Rattle.std.specs.declared.alloc.Global.{Global}
 use Rattle.std.specs.Prelude.{◌⊎◌, Bool, IfOk, IsTrue, Option, Some, None, Result, Ok, Err}
@@ -37,38 +37,25 @@ use Rattle.tl_engine.specs.code.Watching.{end_by, faults_by, is_together, said_b
 use Rattle.tl_engine.specs.statement.Width.{bytes_of}
 use Rattle.tl_engine.proofs.Decoded.{judged_line, open_fault}
 use Rattle.tl_engine.proofs.Headers.{header_or_none}
+use Rattle.tl_engine.proofs.JudgedTraces.{all_judged, bad_line, good_beat, header_unread, header_unseen, judged_behind}
+use Rattle.tl_engine.proofs.JudgedTraces.{judged_whole}
 use Rattle.tl_beat.proofs.SpelledLines.{ends_with_byte-line}
 
 -- ---- the header
-
--- the first line spells a header
-pub header_good : (n : ℕ) (line : List ℕ) (wide : Width) (p : Profile) (levels : List Level)
-    (judge : BeatJudge (bytes_of wide)) → SpellsHeader line wide p levels
-    → KnowsBeats (is_together n) judge levels p [] → KnowsTrace (is_together n) judge (line ∷ []) []
-unfolding JudgedBy
-header_good n line wide p levels judge spells known = record {
-  levels = levels;
-  profile = p;
-  trace = [];
-  known = known;
-  counted = refl;
-  before = λ more rest status judged. inl (wide, p, levels, spells, judged);
-}
 
 -- the first line spells none
 pub header_bad : (n : ℕ) (alloc : Global) (line was : List ℕ)
     → ((width : Width) (p : Profile) (levels : List Level) → ¬ SpellsHeader line width p levels)
     → Stops (KnowsLines {n = n}) (JudgedSo (is_together n)) (Waiting alloc) line was was Header
-unfolding JudgedBy
 header_bad n alloc line was none = λ lines before known more.
-    rw (← append_assoc before was (fault_text (length lines + 1) Header), known.0, known.1) (inr (none, refl, refl))
+    header_unread SpellsHeader (faults_by (is_together n)) (said_by (is_together n)) line before was lines none known.0
+    known.1 more
 
 -- the first line isn't there
 pub header_missing : (n : ℕ) (alloc : Global) (count : ℕ) (was : List ℕ)
     → Finishes (KnowsLines {n = n}) (JudgedSo (is_together n)) (Waiting alloc) count was was (Some Header)
-unfolding JudgedBy
 header_missing n alloc count was = λ lines before known counted.
-    rw (← append_assoc before was (fault_text (length lines + 1) Header), known.0, known.1) (refl, refl)
+    header_unseen SpellsHeader (faults_by (is_together n)) (said_by (is_together n)) before was lines known.0 known.1
 
 -- ---- the line of a beat
 
@@ -77,49 +64,13 @@ unfolding clean_text coherent_text
 said_at_end false n = refl
 said_at_end true n = refl
 
-module _ {w : ℕ} (together : Bool) where
-  pub beat_good : (old new : BeatJudge w) (lines : List (List ℕ)) (text line : List ℕ)
-      (k : KnowsTrace together old lines text) (link : Link) (beat : Beat w) → Spells line link beat
-      → faults_by together w k.levels k.profile (link, beat) k.trace ≡ None
-      → KnowsBeats together new k.levels k.profile ((link, beat) ∷ k.trace)
-      → KnowsTrace together new (lines ++ line ∷ []) text
-  unfolding JudgedAfter
-  beat_good old new lines text line k link beat spells good known = record {
-    levels = k.levels;
-    profile = k.profile;
-    trace = (link, beat) ∷ k.trace;
-    known = known;
-    counted = omega (arith, k.counted, length-append lines (line ∷ []));
-    before = λ more rest status judged. rw (append_assoc lines (line ∷ []) more)
-        (k.before (line ∷ more) rest status (inl (link, beat, spells, good, judged)));
-  }
-
-  pub beat_bad : (judge : BeatJudge w) (lines : List (List ℕ)) (before was line : List ℕ) (fault : Fault)
-      (k : KnowsTrace together judge lines (before ++ was))
-      → IsAtFault (faults_by together) k.levels k.profile k.trace line fault
-      → (more : List (List ℕ))
-      → JudgedSo together (lines ++ line ∷ more) (before ++ (was ++ fault_text (length lines + 1) fault)) Broken
-  unfolding JudgedAfter
-  beat_bad judge lines before was line fault k is more =
-      let number : length lines + 1 ≡ length k.trace + 2 = omega (arith, k.counted) in
-      rw (← append_assoc before was (fault_text (length lines + 1) fault), number)
-      (k.before (line ∷ more) _ Broken (inr (fault, is, refl, refl)))
-
-  -- the end of the input
-  pub beats_end : (judge : BeatJudge w) (count : ℕ) (lines : List (List ℕ)) (before was is : List ℕ)
-      → is ≡ was ++ end_by together (count - 1) → KnowsTrace together judge lines (before ++ was)
-      → count ≡ length lines → JudgedSo together lines (before ++ is) Clean
-  unfolding JudgedAfter
-  beats_end judge count lines before was is says k counted =
-      let number : count - 1 ≡ length k.trace = omega (arith, k.counted) in
-      rw (
-        says,
-        number,
-        said_at_end together (length k.trace),
-        ← append_assoc before was
-            (said_by together (length k.trace)),
-      )
-      (rw append-nil at (k.before [] (said_by together (length k.trace)) Clean (refl, refl)))
+-- the end of the input
+pub beats_end : {w : ℕ} (together : Bool) (judge : BeatJudge w) (count : ℕ) (lines : List (List ℕ)) (before was is : List ℕ)
+    → is ≡ was ++ end_by together (count - 1) → KnowsTrace together judge lines (before ++ was)
+    → count ≡ length lines → JudgedSo together lines (before ++ is) Clean
+beats_end together judge count lines before was is says k counted =
+    all_judged SpellsHeader (faults_by together) (said_by together) (KnowsBeats together judge) lines count before was is
+    (says ∙ ap (λ (x : List ℕ). was ++ x) (said_at_end together (count - 1))) k counted
 
 -- the line spells a beat, and the judge says of the line what it does of the beat
 pub watched_beat : {w : ℕ} {E : Type 0} (old new : BeatJudge w) (line : List ℕ) (link : Link) (beat : Beat w)
@@ -145,12 +96,14 @@ module _ {w : ℕ} (n : ℕ) (wrap : BeatJudge w → MonitorLines n)
       → Judges KnowsLines (JudgedSo (is_together n)) (wrap old) (wrap new) line was was answer
   judges old new line was None watches = λ lines before known.
       let k = into old lines (before ++ was) known in
-      let (link, beat, spells, good, knows) = watches k.levels k.profile k.trace k.known in
+      let (link, beat, spells, good, knows) = watches k.levels k.may k.trace k.known in
       out new (lines ++ line ∷ []) (before ++ was)
-      (beat_good (is_together n) old new lines (before ++ was) line k link beat spells good knows)
+      (good_beat SpellsHeader (faults_by (is_together n)) (said_by (is_together n)) (KnowsBeats (is_together n) old) lines
+      (KnowsBeats (is_together n) new) (before ++ was) line k link beat spells good knows)
   judges old new line was (Some fault) watches = λ lines before known.
       let k = into old lines (before ++ was) known in
-      beat_bad (is_together n) old lines before was line fault k (watches k.levels k.profile k.trace k.known)
+      bad_line SpellsHeader (faults_by (is_together n)) (said_by (is_together n)) (KnowsBeats (is_together n) old) lines
+      before was line fault k (watches k.levels k.may k.trace k.known)
 
   pub watched : {E : Type 0} (old new : BeatJudge w) (line was : List ℕ) (r : Result (Option Fault) E)
       → IfOk r (λ answer. (together : Bool) → Watches together old new line answer)
@@ -166,7 +119,8 @@ pub unread : {w : ℕ} (together : Bool) (judge : BeatJudge w) (lines : List (Li
     → (more : List (List ℕ))
     → JudgedSo together (lines ++ line ∷ more) (before ++ (said ++ fault_text (length lines + 1) (Line F1))) Broken
 unread {w} together judge lines before said line k is =
-    beat_bad together judge lines before said line (Line F1) k (inl (F1, open_fault w line is, refl))
+    bad_line SpellsHeader (faults_by together) (said_by together) (KnowsBeats together judge) lines before said line
+    (Line F1) k (inl (F1, open_fault w line is, refl))
 
 pub beat_open : (n : ℕ) (monitor_lines : MonitorLines n) → ((alloc : Global) → monitor_lines ≡ Waiting alloc → ⊥)
     → (line said : List ℕ) → IsOpen line
@@ -193,7 +147,7 @@ all_clean n (Sixteen judge) read count was is says = λ lines before k counted.
 
 -- ---- a header's line ends in LF, and is short
 
-levels-short : (levels : List Level) → length (levels_text levels) ≤ 3 * length levels
+pub levels-short : (levels : List Level) → length (levels_text levels) ≤ 3 * length levels
 levels-short [] = omega arith
 levels-short (l ∷ levels) =
     omega (arith, length-append (level_text l) (levels_text levels), level-short l, levels-short levels)
@@ -228,74 +182,18 @@ header_open n alloc line said is = header_bad n alloc line said (open_line line 
 
 -- ---- each trace has a text
 
--- the line spells a beat that isn't at fault, or it is at fault
-abbrev GoodOrBad : (w : ℕ) → Faults → List Level → Profile → Trace w → List ℕ → Type 0
-GoodOrBad w faults levels p t line =
-    ((link : Link) × (beat : Beat w) × Spells line link beat × (faults w levels p (link, beat) t ≡ None))
-    ⊎ ((fault : Fault) × IsAtFault faults levels p t line fault)
-
-good_width : (wide : Width) → IsTrue (is_width (bytes_of wide))
-good_width width.Four = refl
-good_width width.Eight = refl
-good_width width.Sixteen = refl
-
-module _ (faults : Faults) (said : ℕ → List ℕ) where
-  fault_or_good : (w : ℕ) → IsTrue (is_width w) → (levels : List Level) (p : Profile) (t : Trace w) (line : List ℕ)
-      → GoodOrBad w faults levels p t line
-  fault_or_good w width levels p t line = go (judged_line w width line)
-    where
-      go : ((link : Link) × (beat : Beat w) × Spells line link beat)
-          ⊎ ((fault : LineFault) × (line_fault w line ≡ Some fault)) → GoodOrBad w faults levels p t line
-      go (inl (link, beat, spells)) = at_beat (faults w levels p (link, beat) t) refl
-        where
-          at_beat : (o : Option Fault) → faults w levels p (link, beat) t ≡ o → GoodOrBad w faults levels p t line
-          at_beat None is = inl (link, beat, spells, is)
-          at_beat (Some fault) is = inr (fault, inr (link, beat, spells, is))
-      go (inr (fault, is)) = inr (Line fault, inl (fault, is, refl))
-
-  judged_after : (w : ℕ) → IsTrue (is_width w) → (levels : List Level) (p : Profile) (t : Trace w)
-      (lines : List (List ℕ)) → (text : List ℕ) × (status : Status)
-      × JudgedAfter faults said levels p t lines text status
-  unfolding JudgedAfter
-  judged_after w width levels p t [] = (said (length t), Clean, (refl, refl))
-  judged_after w width levels p t (line ∷ lines) =
-      go (fault_or_good w width levels p t line) (λ link beat. judged_after w width levels p ((link, beat) ∷ t) lines)
-    where
-      go : GoodOrBad w faults levels p t line
-          → ((link : Link) (beat : Beat w) → (text : List ℕ) × (status : Status)
-          × JudgedAfter faults said levels p ((link, beat) ∷ t) lines text status)
-          → (text : List ℕ) × (status : Status) × JudgedAfter faults said levels p t (line ∷ lines) text status
-      go (inl (link, beat, spells, good)) more =
-          let (text, status, judged) = more link beat in
-          (text, status, inl (link, beat, spells, good, judged))
-      go (inr (fault, is)) more = (fault_text (length t + 2) fault, Broken, inr (fault, is, refl, refl))
-
-  pub judged_whole : (lines : List (List ℕ)) → (text : List ℕ) × (status : Status) × JudgedBy faults said lines text
-      status
-  unfolding JudgedBy
-  judged_whole [] = (fault_text 1 Header, Broken, (refl, refl))
-  judged_whole (line ∷ lines) = go (header_or_none line)
-    where
-      go : ((wide : Width) × (p : Profile) × (levels : List Level) × SpellsHeader line wide p levels)
-          ⊎ ((wide : Width) (p : Profile) (levels : List Level) → ¬ SpellsHeader line wide p levels)
-          → (text : List ℕ) × (status : Status) × JudgedBy faults said (line ∷ lines) text status
-      go (inl (wide, p, levels, spells)) =
-          let (text, status, judged) = judged_after (bytes_of wide) (good_width wide) levels p [] lines in
-          (text, status, inl (wide, p, levels, spells, judged))
-      go (inr none) = (fault_text 1 Header, Broken, inr (none, refl, refl))
-
 judged_more : (n w : ℕ) → IsTrue (is_width w) → (judge : BeatJudge w) (lines : List (List ℕ)) (text : List ℕ)
     → KnowsTrace (is_together n) judge lines text
     → (more : List (List ℕ)) → (rest : List ℕ) × (status : Status)
     × JudgedSo (is_together n) (lines ++ more) (text ++ rest) status
 judged_more n w width judge lines text k more =
-    let (rest, status, judged) =
-    judged_after (faults_by (is_together n)) (said_by (is_together n)) w width k.levels k.profile k.trace more in
-    (rest, status, k.before more rest status judged)
+    judged_behind SpellsHeader (faults_by (is_together n)) (said_by (is_together n)) (KnowsBeats (is_together n) judge)
+    width lines text k more
 
 pub judged_total : (n : ℕ) → IsTotal (KnowsLines {n = n}) (JudgedSo (is_together n))
 judged_total n (Waiting alloc) lines text known more =
-    rw (known.0, known.1) (judged_whole (faults_by (is_together n)) (said_by (is_together n)) more)
+    rw (known.0, known.1)
+    (judged_whole SpellsHeader (faults_by (is_together n)) (said_by (is_together n)) header_or_none more)
 judged_total n (Four judge) lines text k more = judged_more n 4 refl judge lines text k more
 judged_total n (Eight judge) lines text k more = judged_more n 8 refl judge lines text k more
 judged_total n (Sixteen judge) lines text k more = judged_more n 16 refl judge lines text k more

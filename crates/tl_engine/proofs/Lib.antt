@@ -1,5 +1,6 @@
 pub mod ChartedBeats
 pub mod ChartedLines
+pub mod Examining
 pub mod Explaining
 pub mod FirstLine
 pub mod GivenUp
@@ -14,6 +15,7 @@ pub mod Decoded
 pub mod Answered
 pub mod Headers
 pub mod Judged
+pub mod JudgedTraces
 pub mod OneText
 pub mod ShortHeaders
 pub mod Played
@@ -22,10 +24,12 @@ pub mod Playing
 pub mod SaidLines
 pub mod SoFar
 pub mod Writable
+pub mod Hearing
 pub mod Testifying
 mod Told
 mod TraceClean
 mod TraceCoherent
 pub mod TraceQuiet
+pub mod Tracing
 mod Unended
 pub mod Unexplained

@@ -21,6 +21,7 @@ use Rattle.tl_engine.specs.declared.status.Status.{Status}
 use Rattle.tl_engine.specs.statement.Decoded.{Decodes}
 use Rattle.tl_engine.specs.statement.Fault.{fault_text}
 use Rattle.tl_engine.specs.statement.Judged.{Faults, IsAtFault, JudgedAfter, JudgedBy}
+use Rattle.tl_engine.specs.statement.Trace.{SpellsHeader}
 use Rattle.tl_engine.specs.statement.Width.{bytes_of}
 use Rattle.tl_engine.proofs.Headers.{one_header}
 
@@ -29,7 +30,7 @@ abbrev pub AreOne : List ℕ → List ℕ → Status → Status → Type 0
 AreOne text other status another = (text ≡ other) × (status ≡ another)
 
 -- a line that spells a beat is no line at fault
-spells_or_fails : {w : ℕ} (line : List ℕ) (link : Link) (beat : Beat w) (fault : LineFault) → IsWidth w
+pub spells_or_fails : {w : ℕ} (line : List ℕ) (link : Link) (beat : Beat w) (fault : LineFault) → IsWidth w
     → Spells line link beat → line_fault w line ≡ Some fault → ⊥
 spells_or_fails {w} line link beat fault width spells fails =
     let read : reading w line ≡ _ = reading-spelled line link beat width spells in
@@ -37,10 +38,10 @@ spells_or_fails {w} line link beat fault width spells fails =
     absurd cc
 
 -- the beat on its link
-abbrev at : {w : ℕ} → Link → Beat w → Link × Beat w
+abbrev pub at : {w : ℕ} → Link → Beat w → Link × Beat w
 at link beat = (link, beat)
 
-same_beat : {w : ℕ} (line : List ℕ) (k l : Link) (b d : Beat w) → IsWidth w → Spells line k b → Spells line l d
+pub same_beat : {w : ℕ} (line : List ℕ) (k l : Link) (b d : Beat w) → IsWidth w → Spells line k b → Spells line l d
     → at k b ≡ at l d
 same_beat line k l b d width s t =
     let (links, beats) = one-beat line k l b d width s t in
@@ -115,7 +116,8 @@ abbrev Named : Type 0
 Named = (Width × Profile) × List Level
 
 pub judged_once : (faults : Faults) (said : ℕ → List ℕ) (lines : List (List ℕ)) (text other : List ℕ)
-    (status another : Status) → JudgedBy faults said lines text status → JudgedBy faults said lines other another
+    (status another : Status) → JudgedBy SpellsHeader faults said lines text status
+    → JudgedBy SpellsHeader faults said lines other another
     → AreOne text other status another
 unfolding JudgedBy
 judged_once faults said [] text other status another d e = (d.0 ∙ sym e.0, d.1 ∙ sym e.1)

@@ -1,183 +1,337 @@
 -- Lines that are judged again, and heard, up to the line at fault.
-use Rattle.std.proofs.Common.{◌≡◌, ◌⊎◌, ℕ, ◌+◌, List, [], ◌∷◌, ◌++◌, length, true, refl, sym, ap, ◌∙◌, arith}
-use Rattle.std.proofs.Common.{append_assoc, length-append, inl, inr, subst, Option, Some, None}
+use Rattle.std.proofs.Common.{◌≡◌, ◌≢◌, ◌<◌, ℕ, ◌+◌, Bool, true, false, List, [], ◌∷◌, ◌++◌, length, refl, sym, ap, ◌∙◌}
+use Rattle.std.proofs.Common.{arith, append_assoc, length-append, inl, inr, subst, Option, Some, None}
+use Rattle.std.specs.Prelude.{IfSome, OnOk, Result, Ok, Err, is_ok}
 use Rattle.std.specs.Io.KnownBytes.{Consumes}
+use Rattle.std.proofs.lemmas.Bool.{cases_Bool, lt-ltb}
+use Rattle.std.proofs.lemmas.Option.{same_Some}
 use Rattle.tl_beat.specs.declared.beat.Beat.{Beat}
+use Rattle.tl_beat.specs.declared.beat.BeatD.{BeatD}
 use Rattle.tl_beat.specs.declared.beat.Link.{Link}
 use Rattle.tl_beat.specs.statement.Line.{Spells}
+use Rattle.tl_beat.specs.statement.Width.{IsWidth}
+use Rattle.tl_memory.specs.code.Elsewhere.{block_asked}
+use Rattle.tl_monitor.specs.statement.Knows.{request_on}
 use Rattle.tl_params.specs.declared.level.Level.{Level}
 use Rattle.tl_params.specs.declared.profile.Profile.{Profile}
-use Rattle.tl_rules.specs.statement.Conformance.{Trace}
+use Rattle.tl_params.specs.declared.width.Width.{Width}
+use Rattle.tl_rules.specs.code.Open.{open_request}
+use Rattle.tl_rules.specs.declared.past.Request.{Request}
+use Rattle.tl_rules.specs.statement.Conformance.{Trace, broken_on_link, on_link}
+use Rattle.tl_rules.specs.statement.History.{capped}
 use Rattle.tl_explain.specs.code.Spelled.{spelled}
 use Rattle.tl_explain.specs.declared.told.Spelling.{Spelling}
+use Rattle.tl_explain.specs.statement.Evidence.{next_line}
+use Rattle.tl_together.proofs.Noted.{in_levels}
+use Rattle.tl_together.specs.declared.breach.Breach.TheVariants.{OfMemory}
 use Rattle.tl_together.specs.declared.breach.MemoryRule.{MemoryRule}
+use Rattle.tl_together.specs.declared.breach.MemoryRule.TheVariants.{M1, M2, M3, M4}
+use Rattle.tl_together.specs.declared.judge.Judge.{Judge}
+use Rattle.tl_together.specs.statement.Coherence.{broken_memory, broken_together}
+use Rattle.tl_together.specs.statement.Knows as of_all
+use Rattle.tl_witness.specs.code.Witness.{KnowsWitness}
+use Rattle.tl_witness.specs.declared.witness.Witness.{Witness}
+use Rattle.tl_witness.specs.statement.Grounds.{access_grounds, access_text, conflicts_text, grant_grounds, grounds_text}
+use Rattle.tl_witness.specs.statement.Strays.{bytes_text}
 use Rattle.tl_engine.specs.code.Judging.{Ends, Finishes, Judges, Stops}
 use Rattle.tl_engine.specs.code.Lines.{lines_of}
 use Rattle.tl_engine.specs.code.Progress.{HasAll}
-use Rattle.tl_engine.specs.code.Testifying.{EndsTestimony, HearsLine, KnowsInquiry, KnowsTestimony, StandsIn}
-use Rattle.tl_engine.specs.code.Watching.{KnowsBeats, KnowsLines, KnowsTrace}
+use Rattle.tl_engine.specs.code.Testifying.{Concludes, EndsTestimony, HasHeard, HasTold, Hears, HearsHeader, HearsLine}
+use Rattle.tl_engine.specs.code.Testifying.{IsSameInquiry, KnowsInquiry, KnowsRecord, KnowsTestimony, RecordsBeat}
+use Rattle.tl_engine.specs.code.Testifying.{StillKnows, TellsBeat, TellsFault, TellsRecorded, TellsResponse}
+use Rattle.tl_engine.specs.code.Tracing.{KnowsSpelled, KnowsTraced, WatchesLine}
+use Rattle.tl_engine.specs.code.Watching.{KnowsBeats, KnowsLines, KnowsTrace, Watches}
 use Rattle.tl_engine.specs.declared.beat_judge.BeatJudge.{BeatJudge}
+use Rattle.tl_engine.specs.declared.beat_judge.BeatJudge.TheVariants.{OfAll}
 use Rattle.tl_engine.specs.declared.fault.Fault.{Fault}
-use Rattle.tl_engine.specs.declared.fault.Fault.TheVariants.{MemoryRule as BreaksTogether}
+use Rattle.tl_engine.specs.declared.fault.Fault.TheVariants.{Line, MemoryRule as BreaksTogether}
 use Rattle.tl_engine.specs.declared.monitor_lines.MonitorLines.{MonitorLines}
+use Rattle.tl_engine.specs.declared.monitor_lines.MonitorLines.TheVariants.{Waiting, Four, Eight, Sixteen}
 use Rattle.tl_engine.specs.declared.status.Status.{Status}
 use Rattle.tl_engine.specs.declared.status.Status.TheVariants.{Clean, Broken}
 use Rattle.tl_engine.specs.declared.testimony.Inquiry.{Inquiry}
 use Rattle.tl_engine.specs.declared.testimony.Testimony.{Testimony}
-use Rattle.tl_engine.specs.statement.Coherent.{JudgedTogether}
-use Rattle.tl_engine.specs.statement.Explained.{IsWitnessed, memory_front_text}
+use Rattle.tl_engine.specs.statement.Coherent.{JudgedTogether, fault_of_breach, faults_together}
+use Rattle.tl_engine.specs.statement.Explained.{IsWitnessed, SpellsTrace, memory_front_text}
 use Rattle.tl_engine.specs.statement.Fault.{fault_text}
-
--- ---- one line
-
--- it isn't that at fault
-pub unheard : (old new : Inquiry) (line : List ℕ) → new.count ≡ old.count → new.good ≡ old.good → new.line ≡ old.line
-    → new.reached ≡ old.reached → HearsLine old new line
-unheard old new line count good is reached = record {
-  count_is = count;
-  good_is = good;
-  line_is = is;
-  reached_is = λ now. inl (sym reached ∙ now);
-}
-
--- it is
-pub heard-fault : (old new : Inquiry) (line : List ℕ) → new.count ≡ old.count → new.good ≡ old.good
-    → new.line ≡ old.line → line ≡ spelled old.line → old.count ≡ old.good → HearsLine old new line
-heard-fault old new line count good is same at = record {
-  count_is = count;
-  good_is = good;
-  line_is = is;
-  reached_is = λ now. inr (same, at);
-}
-
--- what stands among these lines stands among more of them
-pub stands-more : (i : Inquiry) (lines more : List (List ℕ)) → StandsIn i lines → StandsIn i (lines ++ more)
-stands-more i lines more stands = λ now.
-    let (before, behind, is, good) = stands now in (
-      before,
-      behind ++ more,
-      ap (λ (all : List (List ℕ)). all ++ more) is ∙ append_assoc before (spelled i.line ∷ behind) more,
-      good,
-    )
-
--- a line was heard, and is counted
-pub heard : (old mid new : Inquiry) (line : List ℕ) (number : ℕ) → HearsLine old mid line → number ≡ old.count + 1
-    → new.count ≡ number → new.good ≡ mid.good → new.line ≡ mid.line → new.reached ≡ mid.reached
-    → (lines : List (List ℕ)) → KnowsInquiry old lines → KnowsInquiry new (lines ++ line ∷ [])
-heard old mid new line number h next count good is reached lines k =
-    (omega (arith, next, count, k.0, length-append lines (line ∷ [])), stands)
-  where
-    same_line : new.line ≡ old.line
-    same_line = is ∙ h.line_is
-
-    go : (old.reached ≡ true) ⊎ ((line ≡ spelled old.line) × (old.count ≡ old.good))
-        → (before : List (List ℕ)) × (behind : List (List ℕ))
-        × (lines ++ line ∷ [] ≡ before ++ spelled new.line ∷ behind) × (new.good ≡ length before)
-    go (inl before) =
-        let (front, behind, stood, many) = stands-more old lines (line ∷ []) k.1 before in (
-          front,
-          behind,
-          stood ∙ ap (λ (s : Spelling). front ++ spelled s ∷ behind) (sym same_line),
-          good ∙ h.good_is ∙ many,
-        )
-    go (inr (same, at)) = (
-      lines,
-      [],
-      ap (λ (l : List ℕ). lines ++ l ∷ []) (same ∙ ap spelled (sym same_line)),
-      good ∙ h.good_is ∙ sym at ∙ k.0,
-    )
-
-    stands : StandsIn new (lines ++ line ∷ [])
-    stands now = go (h.reached_is (sym reached ∙ now))
+use Rattle.tl_engine.specs.statement.Judged.{IsAtFault}
+use Rattle.tl_engine.specs.statement.Trace.{SpellsHeader}
+use Rattle.tl_engine.proofs.OneText.{same_beat}
+use Rattle.tl_engine.proofs.Tracing.{broken-memory, spelled-alone, spelled-count, spells-more}
+use Rattle.tl_engine.proofs.Hearing.{same-both, same-record}
 
 -- ---- what judges them
 
-pub still-lines : {w : ℕ} (old new : BeatJudge w)
-    → ((levels : List Level) (p : Profile) (t : Trace w) → KnowsBeats true old levels p t
-    → KnowsBeats true new levels p t)
-    → (lines : List (List ℕ)) (text : List ℕ) → KnowsTrace true old lines text → KnowsTrace true new lines text
-still-lines old new still lines text k = record {
+still-trace : {w : ℕ} (old new : BeatJudge w) → StillKnows old new → (lines : List (List ℕ)) (text : List ℕ)
+    → KnowsTrace true old lines text → KnowsTrace true new lines text
+still-trace old new still lines text k = record {
   levels = k.levels;
-  profile = k.profile;
+  may = k.may;
   trace = k.trace;
-  known = still k.levels k.profile k.trace k.known;
+  known = still k.levels k.may k.trace k.known;
   counted = k.counted;
   before = k.before;
 }
 
-abbrev pub Lines : MonitorLines 1 → List (List ℕ) → List ℕ → Type 0
-Lines h lines text = KnowsLines h lines text
+still-lines : (old new : MonitorLines 1) (i j : Inquiry) (number : ℕ) (line : List ℕ) (told : Bool)
+    → Hears old new i j number line told → (lines : List (List ℕ)) (text : List ℕ) → KnowsLines old lines text
+    → KnowsLines new lines text
+still-lines (Waiting alloc) new i j number line told heard lines text k =
+    subst (λ (m : MonitorLines 1). KnowsLines m lines text) (sym heard.0) k
+still-lines (Four old) (Four new) i j number line told heard lines text k =
+    still-trace old new heard.0 lines text k
+still-lines (Eight old) (Eight new) i j number line told heard lines text k =
+    still-trace old new heard.0 lines text k
+still-lines (Sixteen old) (Sixteen new) i j number line told heard lines text k =
+    still-trace old new heard.0 lines text k
+still-lines v u i j number line told never lines text k = absurd never
 
-module _ (old new : Testimony) (mid : MonitorLines 1) (line : List ℕ)
-    (still : (lines : List (List ℕ)) (text : List ℕ) → KnowsLines old.monitor_lines lines text
-    → KnowsLines mid lines text)
-    (hears : (lines : List (List ℕ)) → KnowsInquiry old.inquiry lines
-    → KnowsInquiry new.inquiry (lines ++ line ∷ [])) where
-  pub judged-again : (was is : List ℕ) (fault : Option Fault)
-      → Judges Lines JudgedTogether mid new.monitor_lines line was is fault
-      → Judges KnowsTestimony JudgedTogether old new line was is fault
-  judged-again was is None judges = λ lines before k.
-      (judges lines before (still lines (before ++ was) k.0), hears lines k.1)
-  judged-again was is (Some fault) judges = λ lines before k more.
-      judges lines before (still lines (before ++ was) k.0) more
+-- ---- a line without a fault
 
-  pub ended-again : Ends KnowsTestimony EndsTestimony old new line
-  ended-again = λ lines text k more.
-      subst (StandsIn new.inquiry) (append_assoc lines (line ∷ []) more)
-      (stands-more new.inquiry (lines ++ line ∷ []) more (hears lines k.1).1)
+-- the header
+first-heard : {w : ℕ} (judge : BeatJudge w) (i j k : Inquiry) (line : List ℕ) → i.witness ≡ None
+    → HearsHeader i j line → k.witness ≡ j.witness → k.block ≡ j.block → KnowsSpelled true judge (line ∷ [])
+    → HasHeard judge k (line ∷ [])
+first-heard {w} judge i j k line none heard witness block traced =
+    let alone = spelled-alone line traced.levels traced.profile traced.trace traced.spelled in
+    record {
+      traced = traced;
+      recorded = subst (λ (t : Trace w). KnowsRecord k (length traced.levels) t) (sym alone.0)
+          (same-record j k (length traced.levels) [] witness block
+          (heard.recorded none w alone.1.0 traced.profile traced.levels alone.1.1));
+    }
+
+header-heard : (new : MonitorLines 1) (i j k : Inquiry) (line : List ℕ) → i.witness ≡ None → HearsHeader i j line
+    → k.witness ≡ j.witness → k.block ≡ j.block → KnowsTraced new (line ∷ []) → KnowsInquiry new k (line ∷ [])
+header-heard (Waiting alloc) i j k line none heard witness block traced = absurd cc
+header-heard (Four judge) i j k line none heard witness block traced =
+    first-heard judge i j k line none heard witness block traced
+header-heard (Eight judge) i j k line none heard witness block traced =
+    first-heard judge i j k line none heard witness block traced
+header-heard (Sixteen judge) i j k line none heard witness block traced =
+    first-heard judge i j k line none heard witness block traced
+
+-- and a beat
+next-heard : {w : ℕ} (old mid new : BeatJudge w) (i j k : Inquiry) (number : ℕ) (line : List ℕ) (told : Bool)
+    (lines : List (List ℕ)) → HasHeard old i lines → StillKnows old mid → HearsLine i j old number line told
+    → number ≡ length lines + 1 → Watches true mid new line None → k.witness ≡ j.witness → k.block ≡ j.block
+    → HasHeard new k (lines ++ line ∷ [])
+next-heard old mid new i j k number line told lines h still heard counted watches witness block =
+    let s = h.traced in
+    let (link, x, spells, good, knows) = watches s.levels s.profile s.trace (still s.levels s.profile s.trace s.known) in
+    record {
+      traced = record {
+        levels = s.levels;
+        profile = s.profile;
+        trace = (link, x) ∷ s.trace;
+        known = knows;
+        spelled = spells-more lines line s.levels s.profile s.trace link x s.spelled spells;
+      };
+      recorded = same-record j k (length s.levels) ((link, x) ∷ s.trace) witness block
+          (heard.recorded (length s.levels) s.trace link x spells
+          (omega (arith, counted, spelled-count lines s.levels s.profile s.trace s.spelled)) h.recorded);
+    }
+
+line-heard : (old mid new : MonitorLines 1) (i j k : Inquiry) (number : ℕ) (line : List ℕ) (told : Bool)
+    (lines : List (List ℕ)) → KnowsInquiry old i lines → Hears old mid i j number line told
+    → number ≡ length lines + 1 → WatchesLine mid new line None → k.witness ≡ j.witness → k.block ≡ j.block
+    → KnowsInquiry new k (lines ++ line ∷ [])
+line-heard (Waiting alloc) mid new i j k number line told lines h heard counted watches witness block =
+    let begun : KnowsTraced new (line ∷ []) = rw heard.0 at watches in
+    rw h.0 (header-heard new i j k line h.1 heard.2 witness block begun)
+line-heard (Four old) (Four mid) (Four new) i j k number line told lines h heard counted watches witness block =
+    next-heard old mid new i j k number line told lines h heard.0 heard.1 counted watches witness block
+line-heard (Eight old) (Eight mid) (Eight new) i j k number line told lines h heard counted watches witness block =
+    next-heard old mid new i j k number line told lines h heard.0 heard.1 counted watches witness block
+line-heard (Sixteen old) (Sixteen mid) (Sixteen new) i j k number line told lines h heard counted watches witness
+    block =
+    next-heard old mid new i j k number line told lines h heard.0 heard.1 counted watches witness block
+line-heard (Four old) (Four mid) z i j k number line told lines h heard counted watches witness block = absurd watches
+line-heard (Eight old) (Eight mid) z i j k number line told lines h heard counted watches witness block = absurd watches
+line-heard (Sixteen old) (Sixteen mid) z i j k number line told lines h heard counted watches witness block =
+    absurd watches
+line-heard v u z i j k number line told lines h heard counted watches witness block = absurd heard
+
+-- ---- the line at fault
+
+told-at : {w : ℕ} (old mid new : BeatJudge w) (i j k : Inquiry) (number : ℕ) (line : List ℕ) (fault : Fault)
+    (lines more : List (List ℕ)) → HasHeard old i lines → StillKnows old mid → HearsLine i j old number line true
+    → number ≡ length lines + 1 → Watches true mid new line (Some fault) → IsSameInquiry j k
+    → k.reasons ≡ j.reasons → fault ≡ BreaksTogether j.rule → HasTold k (lines ++ line ∷ more)
+told-at {w} old mid new i j k number line fault lines more h still heard counted watches same reasons is =
+    go (watches s.levels s.profile s.trace (still s.levels s.profile s.trace s.known))
+  where
+    s : KnowsSpelled true old lines
+    s = h.traced
+
+    tells : TellsFault i j old number line
+    tells = heard.tells refl
+
+    kept : IsSameInquiry i k
+    kept = same-both i j k heard.same same
+
+    line_is : line ≡ spelled k.line
+    line_is = tells.is_line ∙ ap spelled (sym kept.line_is)
+
+    number_is : number ≡ k.good + 1
+    number_is = tells.is_next ∙ ap (λ n. n + 1) (sym kept.good_is)
+
+    told : (link : Link) (x : Beat w) → Spells line link x
+        → faults_together w s.levels s.profile (link, x) s.trace ≡ Some (BreaksTogether i.rule)
+        → (y : BeatD w) × (x ≡ Beat.D y) × (j.reasons.items ≡ memory_front_text i.rule number link x
+        ++ grounds_text i.rule (length s.levels) link.0 y s.trace) → HasTold k (lines ++ line ∷ more)
+    told link x spells at (y, of_d, text) = record {
+      before = lines;
+      behind = more;
+      stands = ap (λ (l : List ℕ). lines ++ l ∷ more) line_is;
+      good_is = omega (arith, number_is, counted);
+      bytes = w;
+      levels = s.levels;
+      profile = s.profile;
+      trace = s.trace;
+      spells_trace = s.spelled;
+      link = link;
+      response = y;
+      spells = rw line_is at (rw of_d at spells);
+      breaks = rw kept.rule_is (broken-memory (broken_on_link s.levels s.profile (link, Beat.D y) s.trace)
+          (broken_memory (length s.levels) link.0 (Beat.D y) s.trace) i.rule (rw of_d at at)).1;
+      says = rw (kept.rule_is, ← number_is) (ap (λ v. v.items) reasons ∙ rw of_d at text);
+    }
+
+    go : IsAtFault faults_together s.levels s.profile s.trace line fault → HasTold k (lines ++ line ∷ more)
+    go (inl (of_line, never, other)) = absurd (let bad : Line of_line ≡ BreaksTogether j.rule = sym other ∙ is in cc)
+    go (inr (link, x, spells, at)) =
+        let so : faults_together w s.levels s.profile (link, x) s.trace ≡ Some (BreaksTogether i.rule) =
+        at ∙ ap Some is ∙ ap (λ (r : MemoryRule). Some (BreaksTogether r)) heard.same.rule_is in
+        let fine = (broken-memory (broken_on_link s.levels s.profile (link, x) s.trace)
+        (broken_memory (length s.levels) link.0 x s.trace) i.rule so).0 in
+        told link x spells so (tells.tells s.levels s.profile s.trace link x s.known h.recorded spells fine)
+
+line-told : (old mid new : MonitorLines 1) (i j k : Inquiry) (number : ℕ) (line : List ℕ) (told : Bool) (fault : Fault)
+    (lines more : List (List ℕ)) → KnowsInquiry old i lines → Hears old mid i j number line told
+    → number ≡ length lines + 1 → WatchesLine mid new line (Some fault) → IsSameInquiry j k → k.reasons ≡ j.reasons
+    → told ≡ true → fault ≡ BreaksTogether j.rule → HasTold k (lines ++ line ∷ more)
+line-told (Waiting alloc) mid new i j k number line told fault lines more h heard counted watches same reasons came is =
+    absurd (let never : true ≡ false = sym came ∙ heard.1 in cc)
+line-told (Four old) (Four mid) (Four new) i j k number line told fault lines more h heard counted watches same reasons
+    came is =
+    told-at old mid new i j k number line fault lines more h heard.0 (rw came at heard.1) counted watches same reasons is
+line-told (Eight old) (Eight mid) (Eight new) i j k number line told fault lines more h heard counted watches same
+    reasons came is =
+    told-at old mid new i j k number line fault lines more h heard.0 (rw came at heard.1) counted watches same reasons is
+line-told (Sixteen old) (Sixteen mid) (Sixteen new) i j k number line told fault lines more h heard counted watches same
+    reasons came is =
+    told-at old mid new i j k number line fault lines more h heard.0 (rw came at heard.1) counted watches same reasons is
+line-told (Four old) (Four mid) z i j k number line told fault lines more h heard counted watches same reasons came is =
+    absurd watches
+line-told (Eight old) (Eight mid) z i j k number line told fault lines more h heard counted watches same reasons came
+    is = absurd watches
+line-told (Sixteen old) (Sixteen mid) z i j k number line told fault lines more h heard counted watches same reasons
+    came is = absurd watches
+line-told v u z i j k number line told fault lines more h heard counted watches same reasons came is = absurd heard
+
+-- ---- one line
+
+module _ (old new : Testimony) (mid : MonitorLines 1) (j : Inquiry) (number : ℕ) (line : List ℕ) (told : Bool)
+    (next : number ≡ old.inquiry.count + 1) (hears : Hears old.monitor_lines mid old.inquiry j number line told) where
+  pub judged-again : (was : List ℕ) (fault : Option Fault) → Concludes j new.inquiry number told fault
+      → Judges KnowsLines JudgedTogether mid new.monitor_lines line was was fault
+      → WatchesLine mid new.monitor_lines line fault
+      → Judges KnowsTestimony JudgedTogether old new line was was fault
+  judged-again was None concludes judges watches = λ lines before k. record {
+    judged = judges lines before (still-lines old.monitor_lines mid old.inquiry j number line told hears lines
+        (before ++ was) k.judged);
+    heard = line-heard old.monitor_lines mid new.monitor_lines old.inquiry j new.inquiry number line told lines k.heard
+        hears (omega (arith, next, k.counted)) watches concludes.witness_is concludes.same.block_is;
+    counted = omega (arith, concludes.count_is, next, k.counted, length-append lines (line ∷ []));
+    unreached = elim (cases_Bool new.inquiry.reached) [
+      | inl came ↦ absurd (let never = (concludes.reached_is came).1 in cc)
+      | inr never ↦ never
+    ];
+  }
+  judged-again was (Some fault) concludes judges watches = λ lines before k more.
+      judges lines before (still-lines old.monitor_lines mid old.inquiry j number line told hears lines
+      (before ++ was) k.judged) more
+
+  pub ended-again : (fault : Fault) → Concludes j new.inquiry number told (Some fault)
+      → WatchesLine mid new.monitor_lines line (Some fault) → Ends KnowsTestimony EndsTestimony old new line
+  ended-again fault concludes watches = λ lines text k more reached.
+      let (came, is) = concludes.reached_is reached in
+      line-told old.monitor_lines mid new.monitor_lines old.inquiry j new.inquiry number line told fault lines more
+      k.heard hears (omega (arith, next, k.counted)) watches concludes.same concludes.reasons_are came
+      (same_Some fault (BreaksTogether j.rule) is)
 
 -- an open line, or the end
 pub stops-again : (h : Testimony) (line was is : List ℕ) (fault : Fault)
-    → Stops Lines JudgedTogether h.monitor_lines line was is fault
+    → Stops KnowsLines JudgedTogether h.monitor_lines line was is fault
     → Stops KnowsTestimony JudgedTogether h line was is fault
-stops-again h line was is fault stops = λ lines before k more. stops lines before k.0 more
+stops-again h line was is fault stops = λ lines before k more. stops lines before k.judged more
+
+unreached-told : (h : Testimony) (lines all : List (List ℕ)) (text : List ℕ) → KnowsTestimony h lines text
+    → EndsTestimony h all
+unreached-told h lines all text k = λ reached. absurd (let never : true ≡ false = sym reached ∙ k.unreached in cc)
 
 pub ends-open : (h : Testimony) (line : List ℕ) → Ends KnowsTestimony EndsTestimony h h line
-ends-open h line = λ lines text k more. stands-more h.inquiry lines (line ∷ more) k.1.1
+ends-open h line = λ lines text k more. unreached-told h lines (lines ++ line ∷ more) text k
+
+pub ends-here : (h : Testimony) (lines : List (List ℕ)) (text : List ℕ) → KnowsTestimony h lines text
+    → EndsTestimony h lines
+ends-here h lines text k = unreached-told h lines lines text k
 
 pub finishes-again : (h : Testimony) (count : ℕ) (was is : List ℕ) (fault : Option Fault)
-    → Finishes Lines JudgedTogether h.monitor_lines count was is fault
+    → Finishes KnowsLines JudgedTogether h.monitor_lines count was is fault
     → Finishes KnowsTestimony JudgedTogether h count was is fault
-finishes-again h count was is None finishes = λ lines before k counted. finishes lines before k.0 counted
-finishes-again h count was is (Some fault) finishes = λ lines before k counted. finishes lines before k.0 counted
+finishes-again h count was is None finishes = λ lines before k counted. finishes lines before k.judged counted
+finishes-again h count was is (Some fault) finishes = λ lines before k counted. finishes lines before k.judged counted
 
 -- ---- all lines
 
+-- nothing was heard
+pub fresh-testimony : (h : Testimony) → KnowsLines h.monitor_lines [] [] → KnowsInquiry h.monitor_lines h.inquiry []
+    → h.inquiry.count ≡ 0 → h.inquiry.reached ≡ false → KnowsTestimony h [] []
+fresh-testimony h judged heard count unreached = record {
+  judged = judged;
+  heard = heard;
+  counted = count;
+  unreached = unreached;
+}
+
 pub stood : (h : Testimony) (lines : List (List ℕ)) (status : Status) → HasAll KnowsTestimony EndsTestimony h lines status
-    → StandsIn h.inquiry lines
-stood h lines Clean (text, k) = k.1.1
+    → EndsTestimony h lines
+stood h lines Clean (text, k) = unreached-told h lines lines text k
 stood h lines Broken ends = ends
 
 -- what was judged again explains the verdict
-pub witnessed : {w : ℕ} (old new : Option (List ℕ)) (i : Inquiry) (good number : ℕ) (rule : MemoryRule)
-    (verdict : List ℕ) (status : Status) (link : Link) (x : Beat w) (was front reasons grounds : List ℕ)
+pub witnessed : (old new : Option (List ℕ)) (i : Inquiry) (good number : ℕ) (rule : MemoryRule) (verdict : List ℕ)
+    (status : Status) (was reasons : List ℕ)
     → (read : List ℕ) × Consumes old new read × JudgedTogether (lines_of read) verdict status
-    × StandsIn i (lines_of read)
+    × (i.reached ≡ true → HasTold i (lines_of read))
     → (status ≡ Broken) × (verdict ≡ fault_text number (BreaksTogether rule)) → i.reached ≡ true → i.good ≡ good
-    → number ≡ good + 1 → Spells (spelled i.line) link x → was ≡ []
-    → front ≡ was ++ memory_front_text rule number link x → reasons ≡ front ++ grounds
+    → i.rule ≡ rule → number ≡ good + 1 → was ≡ [] → reasons ≡ was ++ i.reasons.items
     → IsWitnessed old new (good + 1) rule reasons
-witnessed {w} old new i good number rule verdict status link x was front reasons grounds
-    (read, consumed, judged, stands)
-    said reached is_good is_number spells none first text =
-    let (before, behind, is, many) = stands reached in
+witnessed old new i good number rule verdict status was reasons (read, consumed, judged, tells) said reached is_good
+    is_rule is_number none text =
+    let h = tells reached in
     let so : JudgedTogether (lines_of read) (fault_text number (BreaksTogether rule)) Broken =
     rw (said.0, said.1) at judged in
-    let begins : reasons ≡ memory_front_text rule number link x ++ grounds = rw (text, first, none) refl in
     record {
       read = read;
       consumed = consumed;
       judged = subst (λ (n : ℕ). JudgedTogether (lines_of read) (fault_text n (BreaksTogether rule)) Broken) is_number
           so;
-      before = before;
+      before = h.before;
       line = spelled i.line;
-      behind = behind;
-      stands = is;
-      number = omega (arith, many, is_good);
-      bytes = w;
-      link = link;
-      beat = x;
-      spells = spells;
-      grounds = grounds;
-      begins = subst (λ (n : ℕ). reasons ≡ memory_front_text rule n link x ++ grounds) is_number begins;
+      behind = h.behind;
+      stands = h.stands;
+      number = omega (arith, h.good_is, is_good);
+      bytes = h.bytes;
+      levels = h.levels;
+      profile = h.profile;
+      trace = h.trace;
+      spelled = h.spells_trace;
+      link = h.link;
+      response = h.response;
+      spells = h.spells;
+      breaks = rw is_rule at h.breaks;
+      says = text ∙ ap (λ (front : List ℕ). front ++ i.reasons.items) none ∙ rw (is_rule, is_good) at h.says;
     }

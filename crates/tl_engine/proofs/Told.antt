@@ -10,7 +10,9 @@ use Rattle.tl_engine.specs.statement.Judged.{clean_text, faults_of_links}
 use Rattle.tl_engine.specs.statement.Told.{text_told}
 use Rattle.tl_engine.specs.statement.Width.{bytes_of}
 use Rattle.tl_engine.proofs.Decoded.{decodes, judged_line}
-use Rattle.tl_engine.proofs.Judged.{judged_whole}
+use Rattle.tl_engine.proofs.Headers.{header_or_none}
+use Rattle.tl_engine.proofs.JudgedTraces.{judged_whole}
+use Rattle.tl_engine.specs.statement.Trace.{SpellsHeader}
 use Rattle.tl_engine.proofs.OneText.{AreOne, decodes_once, is_width_of, judged_once}
 use Rattle.tl_engine.proofs.PlayedOnce.{played-once}
 use Rattle.tl_engine.proofs.Playing.{played-whole}
@@ -29,7 +31,7 @@ pub always-told : (command : Command) (lines : List (List ℕ)) → (text : List
 always-told (Decode Four) = decodes 4 1 (judged_line 4 refl)
 always-told (Decode Eight) = decodes 8 1 (judged_line 8 refl)
 always-told (Decode Sixteen) = decodes 16 1 (judged_line 16 refl)
-always-told Monitor = judged_whole faults_of_links clean_text
-always-told (Explain together) = judged_whole (faults_by together) (said_by together)
-always-told Coherent = judged_whole faults_together coherent_text
+always-told Monitor = judged_whole SpellsHeader faults_of_links clean_text header_or_none
+always-told (Explain together) = judged_whole SpellsHeader (faults_by together) (said_by together) header_or_none
+always-told Coherent = judged_whole SpellsHeader faults_together coherent_text header_or_none
 always-told (Run trace) = played-whole trace

@@ -286,7 +286,7 @@ module _ (faults : Faults) (said : ℕ → List ℕ) (quiet : AreQuiet faults) w
 
   -- no fault is found in the trace
   abbrev IsQuiet : List ℕ → Type 0
-  IsQuiet trace = (n : ℕ) × (length (lines_of trace) ≡ n + 1) × JudgedBy faults said (lines_of trace) (said n) Clean
+  IsQuiet trace = (n : ℕ) × (length (lines_of trace) ≡ n + 1) × JudgedBy SpellsHeader faults said (lines_of trace) (said n) Clean
 
   -- the verdict counts the lines
   clean-says : {w : ℕ} (levels : List Level) (p : Profile) (t : Trace w) (lines : List (List ℕ)) (text : List ℕ)

@@ -2,9 +2,10 @@
 use Rattle.std.proofs.Common.{◌≡◌, ◌≢◌, ℕ, List, refl, inl, inr}
 use Rattle.std.specs.Prelude.{Bool, Result, Ok, Err, IfErr, IfOk, OnErr, Option}
 use Rattle.std.specs.Io.KnownBytes.{Consumes}
+use Rattle.tl_engine.specs.code.Examining.{KnowsExaminer}
 use Rattle.tl_engine.specs.code.GivenUp.{GivesUpFor, IsKnown}
 use Rattle.tl_engine.specs.code.Run.{FailsAt, RunsTo}
-use Rattle.tl_engine.specs.code.Watching.{JudgedSo, KnowsLines, is_together}
+use Rattle.tl_engine.specs.code.Watching.{JudgedSo, is_together}
 use Rattle.tl_engine.specs.declared.examiner.Examiner.{Examiner}
 use Rattle.tl_engine.specs.declared.explain_fault.ExplainFault.TheVariants.{Tool}
 use Rattle.tl_engine.specs.declared.status.Status.{Status}
@@ -15,7 +16,7 @@ use Rattle.tl_engine.proofs.SoFar.{judged_so_far}
 
 -- what is known of the lines that were judged
 abbrev pub Knows : (n : ℕ) → Examiner n → List (List ℕ) → List ℕ → Type 0
-Knows n e lines text = KnowsLines e.monitor_lines lines text
+Knows n e lines text = KnowsExaminer e lines text
 
 abbrev IsReadFault : Result Status ToolFault → Type 0
 IsReadFault outcome = outcome ≡ Err Read
@@ -31,7 +32,7 @@ unread : (n : ℕ) (had left held holds : Option (List ℕ))
     → GivesUpFor (IsKnown (Knows n)) (JudgedSo (is_together n)) had left held holds Read
     → IsUnjudged (is_together n) had left (Tool Read)
 unread n had left held holds (read, consumed, inl (text, appended, (e, known))) =
-    (read, consumed, inl (text, judged_so_far n e.monitor_lines _ text known))
+    (read, consumed, inl (text, judged_so_far n e.monitor_lines _ text known.judged))
 unread n had left held holds (read, consumed, inr out) = (read, consumed, inr out)
 
 -- the first reading was given up, of which a writer into memory fails for want of it

@@ -1,4 +1,5 @@
 pub mod Charting
+pub mod Examining
 pub mod Explaining
 pub mod GivenUp
 pub mod Judging
@@ -11,4 +12,5 @@ pub mod Run
 pub mod Testifying
 pub mod PlayableWorld
 pub mod TraceReading
+pub mod Tracing
 pub mod Watching

@@ -1,7 +1,8 @@
 //! Judges the beats of a trace in turn.
 
-ghost use Rattle.std.specs.Prelude.{Bool, false, [], List, IfOk};
+ghost use Rattle.std.specs.Prelude.{◌≡◌, Bool, false, [], List, IfOk};
 ghost use Rattle.tl_beat.specs.statement.Width.{IsWidth};
+ghost use Rattle.tl_monitor.specs.statement.Knows.{request_on};
 ghost use Rattle.tl_params.specs.declared.level.Level.{Level};
 ghost use Rattle.tl_params.specs.declared.profile.Profile.{Profile};
 ghost use Rattle.tl_rules.specs.statement.Conformance.{Trace};
@@ -62,8 +63,11 @@ impl<const W: usize> BeatJudge<W> {
         }
     }
 
-    /// The request with this source that is pending and complete on a link.
-    pub fn request(&self, link: Link, source: u8) -> Option<Request> {
+    /// The request with this source that is pending and complete on a link; none on a link without a level.
+    pub fn request(&self, link: Link, source: u8) -> Option<Request>
+        ensures { (together : Bool) (levels : List Level) (p : Profile) (t : Trace W) →
+            KnowsBeats together self.now levels p t → result ≡ request_on levels link source t }
+    {
         match self {
             BeatJudge::OfLinks(monitor) => monitor.request(link, source),
             BeatJudge::OfAll(judge) => judge.request(link, source),

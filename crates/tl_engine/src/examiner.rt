@@ -1,9 +1,16 @@
 //! Judges a recorded trace, and notes what an explanation of its first fault starts from.
 
-ghost use Rattle.std.specs.Prelude.{◌≡◌, [], IfErr, IfOk, true, ⊤};
+ghost use Rattle.std.specs.Prelude.{◌≡◌, ◌<◌, [], Bool, IfErr, IfOk, List, None, Some, length, option_map, true};
 ghost use Rattle.tl_beat.specs.statement.Width.{IsWidth};
 ghost use Rattle.tl_engine.specs.code.Explaining.{IsVerdict, fault_of};
-ghost use Rattle.tl_engine.specs.code.Watching.{JudgedSo, KnowsLines, is_together};
+ghost use Rattle.tl_engine.specs.code.Examining.{KnowsExaminer};
+ghost use Rattle.tl_engine.specs.code.Tracing as tracing;
+ghost use Rattle.tl_engine.specs.code.Tracing.{AnswersBlock, AnswersIn, FindsBlock, NotesLine, has_letter_d};
+ghost use Rattle.tl_engine.specs.code.Watching.{JudgedSo, KnowsBeats, is_together};
+ghost use Rattle.tl_memory.specs.code.Taking as taking;
+ghost use Rattle.tl_params.specs.declared.level.Level.{Level};
+ghost use Rattle.tl_params.specs.declared.profile.Profile.{Profile};
+ghost use Rattle.tl_rules.specs.statement.Conformance.{Trace, on_link};
 ghost use Rattle.tl_engine.specs.statement.Unexplained.{IsUnjudged, Reaches};
 
 use crate::beat_judge::BeatJudge;
@@ -15,16 +22,15 @@ use crate::header::{Header, read_header};
 use crate::line_handler::LineHandler;
 use crate::monitor_lines::MonitorLines;
 use crate::status::Status;
+use crate::testimony::block_asked;
 use std::alloc::{AllocError, Global};
 use std::io::Read;
-use tl_beat::beat::Beat;
+use tl_beat::beat::{Beat, Link};
 use tl_beat::fault::LineFault;
 use tl_beat::read::read_line;
 use tl_explain::told::Spelling;
+use tl_rules::past::Request;
 use tl_rules::rule::Rule;
-
-/// Where the channel stands in a line.
-const CHANNEL: usize = 3;
 
 /// What was found in a trace.
 #[derive(Drop)]
@@ -38,35 +44,71 @@ pub struct Found {
     pub block: Option<u32>,
 }
 
-/// The block of the request that a line's beat answers, where it is a beat of channel D.
-fn block_asked<const W: usize>(judge: &BeatJudge<W>, line: &[u8]) -> Option<u32>
-    requires { IsWidth W }
+/// The request that a beat answers, where it is a response to one.
+fn request_answered<const W: usize>(
+    judge: &BeatJudge<W>,
+    link: Link,
+    beat: &Beat<W>,
+) -> Option<Request>
+    ensures { (together : Bool) (levels : List Level) (p : Profile) (t : Trace W) →
+        KnowsBeats together judge.now levels p t → link.0 < length levels →
+        result ≡ taking.request_answered beat.now (on_link link.0 t) }
 {
-    match read_line::<W>(line) {
-        Ok((link, Beat::D(x))) => Some(judge.request(link, x.source)?.block),
+    match beat {
+        Beat::D(x) => judge.request(link, x.source),
         _ => None,
     }
+}
+
+/// The block of the request that a line's beat answers, where it is a response to one.
+fn block_answered_in<const W: usize>(judge: &BeatJudge<W>, line: &[u8]) -> Option<u32>
+    requires { IsWidth W }
+    ensures { (together : Bool) → AnswersIn together judge.now line.now result }
+{
+    match read_line::<W>(line) {
+        Ok((link, beat)) => block_asked(request_answered(judge, link, &beat)),
+        Err(_) => None,
+    }
+}
+
+/// Whether the letter of a line's channel is that of channel D.
+fn is_response(line: &[u8]) -> bool
+    ensures { result ≡ has_letter_d line.now }
+{
+    matches!(line, [_, _, _, b'D', ..])
 }
 
 /// The block of the request that the next line's beat answers.
 fn block_answered<const TOGETHER: usize>(
     monitor_lines: &MonitorLines<TOGETHER>,
     line: &[u8],
-) -> Option<u32> {
-    if line.get(CHANNEL) != Some(&b'D') {
+) -> Option<u32>
+    ensures { AnswersBlock monitor_lines.now line.now result }
+{
+    if !is_response(line) {
         return None;
     }
     match monitor_lines {
         MonitorLines::Waiting(_) => None,
-        MonitorLines::Four(judge) => block_asked(judge, line),
-        MonitorLines::Eight(judge) => block_asked(judge, line),
-        MonitorLines::Sixteen(judge) => block_asked(judge, line),
+        MonitorLines::Four(judge) => block_answered_in(judge, line),
+        MonitorLines::Eight(judge) => block_answered_in(judge, line),
+        MonitorLines::Sixteen(judge) => block_answered_in(judge, line),
     }
+}
+
+/// Whether the explanation of a fault needs the block of the request that the beat answers: of a Grant that breaks H6,
+/// and of what breaks a rule of memory.
+fn needs_block(fault: Fault) -> bool
+    ensures { result ≡ tracing.needs_block fault }
+{
+    matches!(fault, Fault::Rule(Rule::H6) | Fault::MemoryRule(_))
 }
 
 impl Found {
     /// Nothing yet.
-    pub fn new() -> Self {
+    pub fn new() -> Self
+        ensures { result.fault ≡ None }
+    {
         Found {
             good: 0,
             header: None,
@@ -109,7 +151,9 @@ impl Found {
     }
 
     /// Notes a line without a fault.
-    fn note_good(&mut self, line: &[u8]) {
+    fn note_good(&mut self, line: &[u8])
+        ensures { self.new.fault ≡ self.old.fault }
+    {
         if self.good == 0 {
             self.header = read_header(line);
         }
@@ -117,10 +161,23 @@ impl Found {
     }
 
     /// Notes the line at fault, whose beat answers a request of this block.
-    fn note_fault(&mut self, line: &[u8], fault: Fault, block: Option<u32>) {
+    fn note_fault(&mut self, line: &[u8], fault: Fault, block: Option<u32>)
+        ensures fault { option_map (λ noted. noted.0) self.new.fault ≡ Some fault }
+        ensures block { tracing.needs_block fault ≡ true → self.new.block ≡ block }
+    {
         self.fault = Some((fault, Spelling::of(line)));
-        if matches!(fault, Fault::Rule(Rule::H6) | Fault::MemoryRule(_)) {
+        if needs_block(fault) {
             self.block = block;
+        }
+    }
+
+    /// Notes a line, which is at fault for this or isn't, and whose beat answers a request of this block.
+    fn note(&mut self, line: &[u8], fault: Option<Fault>, block: Option<u32>)
+        ensures { NotesLine self.old self.new fault block }
+    {
+        match fault {
+            None => self.note_good(line),
+            Some(fault) => self.note_fault(line, fault, block),
         }
     }
 }
@@ -133,19 +190,20 @@ pub struct Examiner<'a, const TOGETHER: usize> {
 }
 
 impl<const TOGETHER: usize> LineHandler for Examiner<'_, TOGETHER> {
-    ghost knows = { λ e lines text. KnowsLines e.monitor_lines lines text };
+    ghost knows = { KnowsExaminer };
 
     ghost tells = { JudgedSo (is_together TOGETHER) };
 
-    ghost ends = { λ _ _. ⊤ };
+    ghost ends = { λ e lines. FindsBlock e.found.now lines };
 
-    fn handle_line(&mut self, line: &[u8], out: &mut Vec<u8>) -> Result<Option<Fault>, AllocError> {
+    fn handle_line(
+        &mut self,
+        line: &[u8],
+        _out: &mut Vec<u8>,
+    ) -> Result<Option<Fault>, AllocError> {
         let block = block_answered(&self.monitor_lines, line);
-        let fault = self.monitor_lines.handle_line(line, out)?;
-        match fault {
-            None => self.found.note_good(line),
-            Some(fault) => self.found.note_fault(line, fault, block),
-        }
+        let fault = self.monitor_lines.judge_line(line)?;
+        self.found.note(line, fault, block);
         Ok(fault)
     }
 

@@ -2,7 +2,7 @@
 
 ghost use Rattle.std.specs.Prelude.{◌≡◌, ◌≢◌, ◌+◌, ◌++◌, [], ℕ, List, Err, IfErr};
 ghost use Rattle.std.specs.Prelude.{IfOk, IfSome, Ok, OnErr, OnOk, Some, not, true};
-ghost use Rattle.std.specs.Io.KnownBytes.{Appends};
+ghost use Rattle.std.specs.Io.KnownBytes.{Appends, Consumes};
 ghost use Rattle.tl_beat.specs.declared.beat.Beat.{Beat};
 ghost use Rattle.tl_beat.specs.declared.beat.Link.{Link};
 ghost use Rattle.tl_beat.specs.statement.Line.{Spells};
@@ -10,7 +10,7 @@ ghost use Rattle.tl_beat.specs.statement.Width.{IsWidth};
 ghost use Rattle.tl_explain.specs.statement.Reasons.{IsSubject};
 ghost use Rattle.tl_engine.specs.code.Explaining.{ExplainsFound, ExplainsStatus};
 ghost use Rattle.tl_engine.specs.code.Parts.{AppendsShort};
-ghost use Rattle.tl_engine.specs.code.Replaying.{KnowsReplay};
+ghost use Rattle.tl_engine.specs.code.Replaying.{HasReachedIn, KnowsReplay};
 ghost use Rattle.tl_engine.specs.statement.Explained.{Explains, IsExplained, IsNamed};
 ghost use Rattle.tl_engine.specs.statement.Explained.{broken_alone, front_text, is_of_order};
 ghost use Rattle.tl_engine.specs.statement.Unexplained.{GivesUpExplaining, Reaches};
@@ -22,7 +22,7 @@ use crate::explain_fault::ExplainFault;
 use crate::explain_memory::explain_memory;
 use crate::fault::Fault;
 use crate::header::Header;
-use crate::malformed::{explain_header, explain_spelling, fetch};
+use crate::malformed::{explain_header, explain_spelling};
 use crate::output::write_all;
 use crate::replay::{Listing, Replay};
 use crate::reread::read_again;
@@ -116,35 +116,6 @@ fn append_front<const W: usize>(
     append_beat_line::<W>(number, line, out)
 }
 
-/// Explains a beat that breaks a rule by itself.
-fn explain_legality<const W: usize, R: Read>(
-    alloc: Global,
-    reader: &mut R,
-    header: &Header,
-    number: u64,
-    rule: Rule,
-    out: &mut Vec<u8>,
-) -> Result<(), ExplainFault>
-    requires width { IsWidth W }
-    requires empty { out.old.items ≡ [] }
-    ensures ok { OnOk result (IsNamed number rule out.new.items) }
-    ensures fault { IfErr result (λ fault. fault ≢ ExplainFault.Tool ToolFault.Write) }
-{
-    let line = fetch(alloc, reader, number)?;
-    let Ok((link, beat)) = read_line::<W>(&line) else {
-        return Err(ExplainFault::Changed);
-    };
-    let level = level_of(header, link);
-    if !is_illegal(level, rule, &beat) {
-        return Err(ExplainFault::Changed);
-    }
-    let mut grounds = Vec::new(alloc);
-    legal::tell(level, rule, &beat, &mut grounds)?;
-    append_front::<W>(rule, number, &line, out)?;
-    out.extend_from_slice(&grounds)?;
-    Ok(())
-}
-
 /// What a verdict on a beat speaks of; the block is that of the request that a Grant answers.
 fn subject_of<const W: usize>(link: Link, beat: &Beat<W>, block: Option<u32>) -> Subject
     ensures { IsSubject result link beat.now }
@@ -182,6 +153,61 @@ fn start_of<const W: usize>(header: &Header, found: &Found, line: &Spelling) -> 
     })
 }
 
+/// Reads the lines up to the one at fault again, which spells a beat, and records what stands before it.
+fn replayed<const W: usize, R: Read>(
+    alloc: Global,
+    reader: &mut R,
+    header: &Header,
+    found: &Found,
+    line: &Spelling,
+) -> Result<Replay<W>, ExplainFault>
+    requires { IsWidth W }
+    ensures ok { IfOk result (λ replay. (read : List ℕ)
+        × Consumes (R.remaining reader.old) (R.remaining reader.new) read × HasReachedIn replay read) }
+    ensures good { IfOk result (λ replay. replay.good ≡ found.now.good) }
+    ensures fault { IfErr result (λ fault. fault ≢ ExplainFault.Tool ToolFault.Write) }
+{
+    let start = start_of::<W>(header, found, line).ok_or(ExplainFault::Changed)?;
+    let replay = read_again(alloc, reader, start)?.ok_or(ExplainFault::Changed)?;
+    if replay.good != found.good {
+        return Err(ExplainFault::Changed);
+    }
+    Ok(replay)
+}
+
+/// Explains a beat that breaks a rule by itself.
+fn explain_legality<const W: usize, R: Read>(
+    alloc: Global,
+    reader: &mut R,
+    header: &Header,
+    found: &Found,
+    rule: Rule,
+    line: &Spelling,
+    out: &mut Vec<u8>,
+) -> Result<(), ExplainFault>
+    requires width { IsWidth W }
+    requires empty { out.old.items ≡ [] }
+    ensures ok { OnOk result (IsNamed (R.remaining reader.old) (R.remaining reader.new) (found.now.good + 1) rule
+        out.new.items) }
+    ensures fault { IfErr result (λ fault. fault ≢ ExplainFault.Tool ToolFault.Write) }
+{
+    let replay = replayed::<W, R>(alloc, reader, header, found, line)?;
+    let number = number_behind(found.good)?;
+    let line = replay.line.line();
+    let Ok((link, beat)) = read_line::<W>(line) else {
+        return Err(ExplainFault::Changed);
+    };
+    let level = level_of(header, link);
+    if !is_illegal(level, rule, &beat) {
+        return Err(ExplainFault::Changed);
+    }
+    let mut grounds = Vec::new(alloc);
+    legal::tell(level, rule, &beat, &mut grounds)?;
+    append_front::<W>(rule, number, line, out)?;
+    out.extend_from_slice(&grounds)?;
+    Ok(())
+}
+
 /// Explains a beat that breaks a rule of bursts or of the order of messages.
 fn explain_order<const W: usize, R: Read>(
     alloc: Global,
@@ -198,12 +224,8 @@ fn explain_order<const W: usize, R: Read>(
         out.new.items) }
     ensures fault { IfErr result (λ fault. fault ≢ ExplainFault.Tool ToolFault.Write) }
 {
-    let start = start_of::<W>(header, found, line).ok_or(ExplainFault::Changed)?;
-    let replay = read_again(alloc, reader, start)?.ok_or(ExplainFault::Changed)?;
+    let replay = replayed::<W, R>(alloc, reader, header, found, line)?;
     let number = number_behind(found.good)?;
-    if replay.good != found.good {
-        return Err(ExplainFault::Changed);
-    }
     let line = replay.line.line();
     let Ok((_, beat)) = read_line::<W>(line) else {
         return Err(ExplainFault::Changed);
@@ -291,13 +313,13 @@ fn explain_found<const W: usize, R: Read>(
         }
         (Status::Broken, Some((Fault::Rule(rule), line))) => {
             if is_legality(*rule) {
-                explain_legality::<W, R>(alloc, reader, header, number, *rule, out)
+                explain_legality::<W, R>(alloc, reader, header, found, *rule, line, out)
             } else {
                 explain_order::<W, R>(alloc, reader, header, found, *rule, line, out)
             }
         }
         (Status::Broken, Some((Fault::MemoryRule(rule), line))) => {
-            explain_memory::<W, R>(alloc, reader, header, found, *rule, line, out)
+            explain_memory(alloc, reader, found, *rule, line, out)
         }
         (Status::Broken, Some(_)) => Err(ExplainFault::Changed),
     }

@@ -5,7 +5,7 @@ ghost use Rattle.tl_params.specs.declared.level.Level.{Level};
 ghost use Rattle.tl_params.specs.declared.profile.Profile.{Profile};
 ghost use Rattle.tl_params.specs.declared.width.Width.{Width};
 ghost use Rattle.tl_params.specs.code.HeaderReading.{GivesAll};
-ghost use Rattle.tl_engine.specs.statement.Trace.{IsHeader, SpellsHeader, trace_word};
+ghost use Rattle.tl_engine.specs.statement.Trace.{AreLevels, IsHeader, SpellsHeader, SpellsLevels, trace_word};
 ghost use Rattle.tl_engine.specs.code.TraceReading.{GivesHeader, header_at, levels_at};
 
 use arrayvec::ArrayVec;
@@ -38,6 +38,15 @@ fn levels(bytes: &[u8]) -> Option<ArrayVec<Level, MOST_CLIENTS>>
         rest = after;
     }
     Some(levels)
+}
+
+/// The levels up to the LF that ends a line, each behind a space, at most 16; there may be none.
+pub fn read_levels(bytes: &[u8]) -> Option<ArrayVec<Level, MOST_CLIENTS>>
+    // What is read is spelled by the bytes, and whatever they spell is read.
+    ensures spelled { IfSome result (λ levels. SpellsLevels bytes.now levels.items) }
+    ensures every_spelling { (levels : List Level) → SpellsLevels bytes.now levels → AreLevels result levels }
+{
+    levels(bytes)
 }
 
 /// What follows the word at the front of a trace.

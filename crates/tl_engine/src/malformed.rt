@@ -17,11 +17,7 @@ use tl_explain::{heading, spelling};
 const LOOKED_AT: usize = 257;
 
 /// The beginning of the line of this number, from 1 on, with its LF if it stands there.
-pub(crate) fn fetch<R: Read>(
-    alloc: Global,
-    reader: &mut R,
-    number: u64,
-) -> Result<Vec<u8>, ExplainFault>
+fn fetch<R: Read>(alloc: Global, reader: &mut R, number: u64) -> Result<Vec<u8>, ExplainFault>
     ensures fault { IfErr result (λ fault. fault ≢ ExplainFault.Tool ToolFault.Write) }
 {
     let mut chunk = new_chunk(alloc)?;

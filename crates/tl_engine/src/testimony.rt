@@ -1,132 +1,304 @@
-//! Judges the lines of a trace again, all links together, and gathers what a rule of memory rests on at the line at
-//! fault.
+//! Judges the lines of a trace again, all links together, and tells at the line at fault what a rule of memory rests on.
 
-ghost use Rattle.std.specs.Prelude.{◌≡◌, ◌∷◌, ◌++◌, [], List, ℕ, OnOk, true};
+ghost use Rattle.std.specs.Prelude.{◌≡◌, ◌+◌, ◌++◌, Bool, List, IfOk, OnOk, Some, true};
+ghost use Rattle.tl_beat.specs.declared.beat.Beat.{Beat};
+ghost use Rattle.tl_beat.specs.declared.beat.Link.{Link};
+ghost use Rattle.tl_beat.specs.statement.Line.{Spells};
 ghost use Rattle.tl_beat.specs.statement.Width.{IsWidth};
+ghost use Rattle.tl_engine.specs.code.Testifying.{Concludes, EndsTestimony, Hears, HearsHeader, HearsLine};
+ghost use Rattle.tl_engine.specs.code.Testifying.{IsSameInquiry, KnowsTestimony, RecordsBeat, StillKnows, TellsFault};
+ghost use Rattle.tl_engine.specs.code.Testifying.{TellsBeat, TellsRecorded, TellsResponse};
+ghost use Rattle.tl_engine.specs.statement.Coherent.{JudgedTogether};
+ghost use Rattle.tl_engine.specs.statement.Explained.{memory_front_text};
+ghost use Rattle.tl_memory.specs.code.Elsewhere as elsewhere;
 ghost use Rattle.tl_params.specs.declared.level.Level.{Level};
 ghost use Rattle.tl_params.specs.declared.profile.Profile.{Profile};
 ghost use Rattle.tl_rules.specs.statement.Conformance.{Trace};
-ghost use Rattle.tl_engine.specs.code.Testifying.{EndsTestimony, HearsLine, KnowsInquiry, KnowsTestimony};
-ghost use Rattle.tl_engine.specs.code.Watching.{KnowsBeats, KnowsLines};
-ghost use Rattle.tl_engine.specs.statement.Coherent.{JudgedTogether};
+ghost use Rattle.tl_together.specs.statement.Knows.{Knows};
 
 use crate::beat_judge::BeatJudge;
 use crate::fault::Fault;
+use crate::header::read_header;
 use crate::line_handler::LineHandler;
 use crate::monitor_lines::MonitorLines;
-use std::alloc::AllocError;
-use tl_beat::beat::{Beat, Link};
+use std::alloc::{AllocError, Global};
+use tl_beat::beat::{Beat, BeatD, Link};
 use tl_beat::read::read_line;
+use tl_explain::named::append_memory_sentence;
 use tl_explain::told::Spelling;
+use tl_explain::words::append_beat_line;
+use tl_rules::past::Request;
 use tl_together::breach::MemoryRule;
+use tl_together::judge::Judge;
 use tl_witness::grounds::tell;
 use tl_witness::witness::Witness;
+
+/// How many blocks there are: an address has 32 bits.
+const BLOCKS: u32 = 1 << 26;
+
+/// Appends what a rule of memory says, and the beat that breaks it.
+fn append_memory_front<const W: usize>(
+    rule: MemoryRule,
+    number: u64,
+    line: &[u8],
+    out: &mut Vec<u8>,
+) -> Result<(), AllocError>
+    requires { IsWidth W }
+    ensures { OnOk result ((link : Link) (beat : Beat W) → Spells line.now link beat →
+        out.new.items ≡ out.old.items ++ memory_front_text rule number link beat) }
+{
+    out.extend_from_slice(b"  ")?;
+    append_memory_sentence(rule, out)?;
+    append_beat_line::<W>(number, line, out)
+}
+
+/// Appends what a rule of memory rests on at a response that breaks it, where it is recorded what each link holds.
+/// Answers whether it is. What the judge knows stays so.
+fn tell_recorded<const W: usize>(
+    witness: &Option<Witness>,
+    judge: &mut Judge<W>,
+    rule: MemoryRule,
+    link: Link,
+    x: &BeatD<W>,
+    out: &mut Vec<u8>,
+) -> Result<bool, AllocError>
+    requires { IsWidth W }
+    ensures judge { (levels : List Level) (p : Profile) (t : Trace W) (closed : Bool) →
+        Knows judge.old levels p t closed → Knows judge.new levels p t closed }
+    ensures tells { IfOk result (λ told. told ≡ true →
+        TellsRecorded witness.now judge.old rule link x.now out.old.items out.new.items) }
+{
+    let Some(witness) = witness else {
+        return Ok(false);
+    };
+    tell(witness, judge, rule, link, x, out)?;
+    Ok(true)
+}
+
+/// The block of a request, where there is one.
+pub(crate) fn block_asked(asked: Option<Request>) -> Option<u32>
+    ensures { result ≡ elsewhere.block_asked asked }
+{
+    match asked {
+        None => None,
+        Some(asked) => Some(asked.block),
+    }
+}
+
+/// Whether two rules of memory are one.
+pub(crate) fn is_same_rule(one: MemoryRule, other: MemoryRule) -> bool
+    ensures { result ≡ true → one ≡ other }
+{
+    one == other
+}
+
+/// Whether a line is at fault for this rule.
+fn is_breach(fault: Option<Fault>, rule: MemoryRule) -> bool
+    ensures { result ≡ true → fault ≡ Some (Fault.MemoryRule rule) }
+{
+    match fault {
+        Some(Fault::MemoryRule(broken)) => is_same_rule(broken, rule),
+        _ => false,
+    }
+}
 
 /// What is asked of the lines up to the one at fault.
 #[derive(Drop)]
 pub struct Inquiry {
-    pub witness: Witness,
     /// The rule of memory that the line at fault breaks.
     pub rule: MemoryRule,
+    /// The block of the request that its response answers.
+    pub block: u32,
     /// How many lines come before it, the header among them.
     pub good: u64,
     pub line: Spelling,
     /// How many lines have been heard.
     pub count: u64,
-    /// Whether the line at fault was reached, and is what it was.
+    /// What each link holds of the block; nothing before the header, or where a beat couldn't be recorded.
+    pub witness: Option<Witness>,
+    /// Whether the line at fault was reached, and breaks the rule.
     pub reached: bool,
-    /// What its rule rests on.
-    pub grounds: Vec<u8>,
+    /// What is said of it, and what its rule rests on.
+    pub reasons: Vec<u8>,
 }
 
 impl Inquiry {
-    /// Hears the beat of the line at fault, and gathers what its rule rests on.
+    /// Hears the header: begins to record what its links hold of the block, where there is such a block.
+    fn hear_header(&mut self, alloc: Global, line: &[u8]) -> Result<(), AllocError>
+        ensures { OnOk result (HearsHeader self.old self.new line.now) }
+    {
+        let Some(header) = read_header(line) else {
+            return Ok(());
+        };
+        if self.block >= BLOCKS {
+            return Ok(());
+        }
+        let links = header.levels.len() as u8;
+        self.witness = Some(Witness::new(alloc, links, self.block)?);
+        Ok(())
+    }
+
+    /// Takes the beat of a line of this number. Answers whether it could be recorded.
+    fn take_beat<const W: usize>(&mut self, line: &[u8], number: u64) -> bool
+        requires { IsWidth W }
+        ensures same { IsSameInquiry self.old self.new }
+        ensures recorded { result ≡ true → RecordsBeat W self.old self.new number line.now }
+        ensures reasons { self.new.reasons ≡ self.old.reasons }
+    {
+        let Some(witness) = &mut self.witness else {
+            return false;
+        };
+        match read_line::<W>(line) {
+            Ok((link, beat)) => witness.take(number, line, link, &beat).is_ok(),
+            Err(_) => false,
+        }
+    }
+
+    /// Records the beat of a line of this number. Where it can't be recorded, nothing is any more: then it isn't judged
+    /// to be without a fault.
+    fn record<const W: usize>(&mut self, line: &[u8], number: u64)
+        requires { IsWidth W }
+        ensures same { IsSameInquiry self.old self.new }
+        ensures recorded { RecordsBeat W self.old self.new number line.now }
+        ensures reasons { self.new.reasons ≡ self.old.reasons }
+    {
+        if !self.take_beat::<W>(line, number) {
+            self.witness = None;
+        }
+    }
+
+    /// Whether the witness is of the block of this request.
+    fn is_of(&self, asked: Option<Request>) -> bool
+        ensures { result ≡ true → elsewhere.block_asked asked ≡ Some self.now.block }
+    {
+        match asked {
+            None => false,
+            Some(asked) => asked.block == self.block,
+        }
+    }
+
+    /// Tells of the response in the line at fault what the rule says and what it rests on. Answers whether that could
+    /// be told.
+    fn tell_response<const W: usize>(
+        &mut self,
+        judge: &mut Judge<W>,
+        line: &[u8],
+        number: u64,
+        link: Link,
+        x: &BeatD<W>,
+    ) -> Result<bool, AllocError>
+        requires { IsWidth W }
+        ensures same { IsSameInquiry self.old self.new }
+        ensures witness { self.new.witness ≡ self.old.witness }
+        ensures judge { (levels : List Level) (p : Profile) (t : Trace W) (closed : Bool) →
+            Knows judge.old levels p t closed → Knows judge.new levels p t closed }
+        ensures tells { IfOk result (λ told. told ≡ true →
+            TellsResponse self.old self.new judge.old number line.now link x.now) }
+    {
+        if !self.is_of(judge.request(link, x.source)) {
+            return Ok(false);
+        }
+        self.reasons.clear();
+        append_memory_front::<W>(self.rule, number, line, &mut self.reasons)?;
+        tell_recorded(&self.witness, judge, self.rule, link, x, &mut self.reasons)
+    }
+
+    /// Tells of the beat in the line at fault, where it is a response and all links are judged together. Answers whether
+    /// that could be told.
+    fn tell_beat<const W: usize>(
+        &mut self,
+        judge: &mut BeatJudge<W>,
+        line: &[u8],
+        number: u64,
+        link: Link,
+        beat: &Beat<W>,
+    ) -> Result<bool, AllocError>
+        requires { IsWidth W }
+        ensures same { IsSameInquiry self.old self.new }
+        ensures witness { self.new.witness ≡ self.old.witness }
+        ensures judge { StillKnows judge.old judge.new }
+        ensures tells { IfOk result (λ told. told ≡ true →
+            TellsBeat self.old self.new judge.old number line.now link beat.now) }
+    {
+        let Beat::D(x) = beat else {
+            return Ok(false);
+        };
+        match judge {
+            BeatJudge::OfLinks(_) => Ok(false),
+            BeatJudge::OfAll(judge) => self.tell_response(judge, line, number, link, x),
+        }
+    }
+
+    /// Hears a line of this number, where it is the one at fault. Answers whether it is, and was told of.
     fn hear_fault<const W: usize>(
         &mut self,
         judge: &mut BeatJudge<W>,
         line: &[u8],
-        link: Link,
-        beat: &Beat<W>,
-    ) -> Result<(), AllocError>
+        number: u64,
+    ) -> Result<bool, AllocError>
         requires width { IsWidth W }
-        requires at_fault { self.old.count ≡ self.old.good }
-        ensures heard { OnOk result (HearsLine self.old self.new line.now) }
-        ensures judge { (levels : List Level) (p : Profile) (t : Trace W) →
-            KnowsBeats true judge.old levels p t → KnowsBeats true judge.new levels p t }
+        requires counted { number ≡ self.old.count + 1 }
+        ensures same { IsSameInquiry self.old self.new }
+        ensures witness { self.new.witness ≡ self.old.witness }
+        ensures judge { StillKnows judge.old judge.new }
+        ensures tells { IfOk result (λ told. told ≡ true → TellsFault self.old self.new judge.old number line.now) }
     {
-        if line != self.line.line() {
-            return Ok(());
+        if self.count != self.good || line != self.line.line() {
+            return Ok(false);
         }
-        let Beat::D(x) = beat else {
-            return Ok(());
-        };
-        let BeatJudge::OfAll(judge) = judge else {
-            return Ok(());
-        };
-        if tell(&self.witness, judge, self.rule, link, x, &mut self.grounds).is_err() {
-            return Err(AllocError);
+        match read_line::<W>(line) {
+            Ok((link, beat)) => self.tell_beat(judge, line, number, link, &beat),
+            Err(_) => Ok(false),
         }
-        self.reached = true;
-        Ok(())
     }
 
-    /// Hears the line of a beat of this number, before it is judged. That a line can't be recorded isn't noted: none is
-    /// judged to be without a fault then.
-    fn hear<const W: usize>(
+    /// Hears a line of this number behind the header, before it is judged. Answers whether it is the line at fault, and
+    /// was told of.
+    fn hear_beat<const W: usize>(
         &mut self,
         judge: &mut BeatJudge<W>,
         line: &[u8],
         number: u64,
-    ) -> Result<(), AllocError>
-        requires { IsWidth W }
-        ensures heard { OnOk result (HearsLine self.old self.new line.now) }
-        ensures judge { (levels : List Level) (p : Profile) (t : Trace W) →
-            KnowsBeats true judge.old levels p t → KnowsBeats true judge.new levels p t }
+    ) -> Result<bool, AllocError>
+        requires width { IsWidth W }
+        requires counted { number ≡ self.old.count + 1 }
+        ensures heard { IfOk result (HearsLine self.old self.new judge.old number line.now) }
+        ensures judge { StillKnows judge.old judge.new }
     {
-        let Ok((link, beat)) = read_line::<W>(line) else {
-            return Ok(());
-        };
-        if self.count == self.good {
-            return self.hear_fault(judge, line, link, &beat);
-        }
-        let _ = self.witness.take(number, line, link, &beat);
-        Ok(())
+        let told = self.hear_fault(judge, line, number)?;
+        self.record::<W>(line, number);
+        Ok(told)
     }
 
-    /// Hears a line of this number, before it is judged. What the judge knows stays so.
-    fn hear_by(
+    /// Hears a line of this number, before it is judged. Answers whether it is the line at fault, and was told of. What
+    /// the judge knows stays so.
+    fn hear(
         &mut self,
         monitor_lines: &mut MonitorLines<1>,
         line: &[u8],
         number: u64,
-    ) -> Result<(), AllocError>
-        ensures heard { OnOk result (HearsLine self.old self.new line.now) }
-        ensures known { (lines : List (List ℕ)) (text : List ℕ) →
-            KnowsLines monitor_lines.old lines text → KnowsLines monitor_lines.new lines text }
+    ) -> Result<bool, AllocError>
+        requires { number ≡ self.old.count + 1 }
+        ensures { IfOk result (Hears monitor_lines.old monitor_lines.new self.old self.new number line.now) }
     {
         match monitor_lines {
-            MonitorLines::Waiting(_) => Ok(()),
-            MonitorLines::Four(judge) => self.hear(judge, line, number),
-            MonitorLines::Eight(judge) => self.hear(judge, line, number),
-            MonitorLines::Sixteen(judge) => self.hear(judge, line, number),
+            MonitorLines::Waiting(alloc) => {
+                self.hear_header(*alloc, line)?;
+                Ok(false)
+            }
+            MonitorLines::Four(judge) => self.hear_beat(judge, line, number),
+            MonitorLines::Eight(judge) => self.hear_beat(judge, line, number),
+            MonitorLines::Sixteen(judge) => self.hear_beat(judge, line, number),
         }
     }
 
-    /// Hears the next line, before it is judged. What the judge knows stays so.
-    fn hear_line(
-        &mut self,
-        monitor_lines: &mut MonitorLines<1>,
-        line: &[u8],
-    ) -> Result<(), AllocError>
-        ensures heard { OnOk result ((lines : List (List ℕ)) → KnowsInquiry self.old lines →
-            KnowsInquiry self.new (lines ++ line.now ∷ [])) }
-        ensures known { (lines : List (List ℕ)) (text : List ℕ) →
-            KnowsLines monitor_lines.old lines text → KnowsLines monitor_lines.new lines text }
+    /// Counts a line of this number, which is at fault for this or isn't; the line at fault is reached where it was told
+    /// of and breaks the rule.
+    fn conclude(&mut self, number: u64, told: bool, fault: Option<Fault>)
+        ensures { Concludes self.old self.new number told fault }
     {
-        let number = self.count.checked_add(1).ok_or(AllocError)?;
-        self.hear_by(monitor_lines, line, number)?;
         self.count = number;
-        Ok(())
+        self.reached = told && is_breach(fault, self.rule);
     }
 }
 
@@ -144,9 +316,16 @@ impl LineHandler for Testimony {
 
     ghost ends = { EndsTestimony };
 
-    fn handle_line(&mut self, line: &[u8], out: &mut Vec<u8>) -> Result<Option<Fault>, AllocError> {
-        self.inquiry.hear_line(&mut self.monitor_lines, line)?;
-        self.monitor_lines.handle_line(line, out)
+    fn handle_line(
+        &mut self,
+        line: &[u8],
+        _out: &mut Vec<u8>,
+    ) -> Result<Option<Fault>, AllocError> {
+        let number = self.inquiry.count.checked_add(1).ok_or(AllocError)?;
+        let told = self.inquiry.hear(&mut self.monitor_lines, line, number)?;
+        let fault = self.monitor_lines.judge_line(line)?;
+        self.inquiry.conclude(number, told, fault);
+        Ok(fault)
     }
 
     fn open_fault(&self) -> Fault {

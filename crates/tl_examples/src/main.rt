@@ -67,7 +67,7 @@ const TRACES: [&str; 45] = [
 ];
 
 /// The traces whose links are judged together.
-const TOGETHER: [&str; 15] = [
+const TOGETHER: [&str; 20] = [
     "two_caches.trace",
     "wrong_report.trace",
     "rules/M1.trace",
@@ -81,8 +81,13 @@ const TOGETHER: [&str; 15] = [
     "rules/M3.trace",
     "rules/M3_right.trace",
     "rules/M3_later_beat.trace",
+    "rules/M3_denied.trace",
+    "rules/M3_denied_right.trace",
     "rules/M4.trace",
     "rules/M4_right.trace",
+    "rules/M4_shown.trace",
+    "rules/M4_shown_early.trace",
+    "rules/M4_shown_right.trace",
 ];
 
 /// The schedules that are played.

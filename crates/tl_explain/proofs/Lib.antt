@@ -11,4 +11,5 @@ pub mod Plain
 pub mod Rests
 pub mod Room
 pub mod sound
+pub mod Waiting
 pub mod WholeBursts

@@ -5,16 +5,20 @@ ghost use Rattle.tl_beat.specs.declared.beat.Beat.{Beat};
 ghost use Rattle.tl_beat.specs.statement.First.{first_if};
 ghost use Rattle.tl_burst.specs.statement.Messages.{History, breaks_burst, channel_of, unfinished};
 ghost use Rattle.tl_params.specs.declared.key.Key.{Key};
+ghost use Rattle.tl_params.specs.declared.liberties.Liberties.{Liberties};
 ghost use Rattle.tl_params.specs.declared.profile.Profile.{Profile};
 ghost use Rattle.tl_params.specs.declared.rule.Rule.{Rule};
 ghost use Rattle.tl_params.specs.declared.rule.Rule.TheVariants.{S1};
 ghost use Rattle.tl_rules.specs.statement.Conformance.{Trace, broken_in_order, on_link};
 ghost use Rattle.tl_rules.specs.statement.History.{begins, held, pending};
+ghost use Rattle.tl_rules.specs.statement.Liberties.{broken_in_order_under};
+ghost use Rattle.tl_params.specs.statement.Liberties.{liberties_of};
 ghost use Rattle.tl_explain.specs.declared.told.Mention.{Mention};
 ghost use Rattle.tl_explain.specs.statement.Evidence.{is_open, last_closing, last_opening, last_saying, left_of};
 ghost use Rattle.tl_explain.specs.statement.Evidence.{is_opening, is_closing, is_saying};
 ghost use Rattle.tl_explain.specs.declared.reason.Reason.{Reason};
-ghost use Rattle.tl_explain.specs.statement.Reasons.{Breaks, IsEvidence, convicted, first_broken, order_rules};
+ghost use Rattle.tl_explain.specs.statement.Reasons.{Breaks, IsEvidence, convicted, first_broken};
+ghost use Rattle.tl_explain.specs.statement.OrderRules.{BreaksUnder, first_broken_under, order_rules};
 ghost use Rattle.tl_explain.specs.statement.Since.{IsHeldSince, IsLast, IsLastIfAny, IsPendingSince};
 
 /// A key is pending where its last opening isn't followed by a closing.
@@ -74,4 +78,16 @@ pub fn first_rule_broken()
         broken_in_order p x t ≡ first_if (breaks_burst x (unfinished (channel_of x) t)) S1 None }
     ensures itself { (w : ℕ) (p : Profile) (rule : Rule) (x : Beat w) (t : History w) →
         broken_in_order p x t ≡ Some rule → Breaks p rule x t }
+{}
+
+/// The same under any liberties; under those of a profile the first rule that a beat breaks is that of the profile.
+pub fn first_rule_broken_under()
+    ensures message { (w : ℕ) (l : Liberties) (x : Beat w) (t : History w) → begins x t ≡ true →
+        broken_in_order_under l x t ≡ first_broken_under l order_rules x t }
+    ensures burst { (w : ℕ) (l : Liberties) (x : Beat w) (t : History w) → begins x t ≡ false →
+        broken_in_order_under l x t ≡ first_if (breaks_burst x (unfinished (channel_of x) t)) S1 None }
+    ensures itself { (w : ℕ) (l : Liberties) (rule : Rule) (x : Beat w) (t : History w) →
+        broken_in_order_under l x t ≡ Some rule → BreaksUnder l rule x t }
+    ensures profile { (w : ℕ) (p : Profile) (x : Beat w) (t : History w) →
+        first_broken_under (liberties_of p) order_rules x t ≡ first_broken p order_rules x t }
 {}

@@ -1,16 +1,18 @@
 //! What is pending at the end of a trace, with the lines that opened it.
 
-ghost use Rattle.std.specs.Prelude.{◌≡◌, true, false};
+ghost use Rattle.std.specs.Prelude.{◌≡◌, ◌++◌, ◌∷◌, [], List, true, false, length, None, OnOk};
 ghost use Rattle.tl_beat.specs.statement.Width.{IsWidth};
 ghost use Rattle.tl_explain.specs.code.Ledger.{is_stray, is_stray_in, is_unrecorded};
+ghost use Rattle.tl_explain.specs.statement.Pending as order;
+ghost use Rattle.tl_explain.specs.declared.ledger.Pending.{Pending};
+ghost use Rattle.tl_explain.specs.statement.Pending.{IsNext, TellsOldest, TellsOne, TellsPending};
 
 use crate::bursts::is_small;
 use crate::told::Spelling;
 use crate::words::append_beat_line;
+use itoa::Buffer;
 use std::alloc::{AllocError, Global};
 use std::collections::BTreeMap;
-use std::io;
-use std::io::Write;
 use tl_beat::beat::{Beat, Link};
 use tl_monitor::bursts::Bursts;
 use tl_monitor::byte_table::ByteTable;
@@ -18,7 +20,7 @@ use tl_params::key::block_at;
 use tl_rules::kind::{is_grant, is_probe, is_probe_ack, is_release, is_release_ack};
 
 /// What a message that hasn't been answered is.
-#[derive(Clone, Copy, Debug, PartialEq, Eq, PartialOrd, Ord)]
+#[derive(Clone, Copy, Debug, PartialEq, Eq)]
 pub enum Kind {
     Request,
     Release,
@@ -76,7 +78,9 @@ impl From<AllocError> for LedgerFault {
 const TOLD: usize = 20;
 
 /// What a message that is pending waits for.
-fn missing(kind: Kind) -> &'static str {
+fn missing(kind: Kind) -> &'static str
+    ensures { result.now ≡ order.missing kind }
+{
     match kind {
         Kind::Request => "a request without an answer",
         Kind::Release => "a Release without ReleaseAck",
@@ -86,15 +90,95 @@ fn missing(kind: Kind) -> &'static str {
     }
 }
 
-/// Whether one message stands before another; a burst behind what its first beat has opened.
-fn is_before(one: (u64, Kind), other: (u64, Kind)) -> bool {
-    one.0 < other.0 || one.0 == other.0 && one.1 < other.1
+/// The place of a kind among those of one line: a burst stands behind what its first beat has opened.
+fn rank(kind: Kind) -> u8
+    ensures { result ≡ order.rank kind }
+{
+    match kind {
+        Kind::Request => 0,
+        Kind::Release => 1,
+        Kind::Grant => 2,
+        Kind::Probe => 3,
+        Kind::Burst => 4,
+    }
 }
 
 impl Pending {
-    fn place(&self) -> (u64, Kind) {
-        (self.opening.line, self.kind)
+    /// Whether this message stands before another.
+    fn is_before(&self, other: &Pending) -> bool
+        ensures { result ≡ order.is_before self.now other.now }
+    {
+        let (line, behind) = (self.opening.line, other.opening.line);
+        line < behind || line == behind && rank(self.kind) < rank(other.kind)
     }
+
+    /// Whether this message stands behind another, where there is one.
+    fn is_behind(&self, after: &Option<Pending>) -> bool
+        ensures { result ≡ order.is_behind after.now self.now }
+    {
+        match after {
+            None => true,
+            Some(other) => other.is_before(self),
+        }
+    }
+
+    /// The older of two of those that stand behind `after`: `oldest`, where there is one, and this one, where it does.
+    fn or_older(&self, oldest: Option<Pending>, after: &Option<Pending>) -> Option<Pending>
+        ensures { (before : List Pending) → IsNext before after.now oldest →
+            IsNext (before ++ self.now ∷ []) after.now result }
+    {
+        if !self.is_behind(after) {
+            return oldest;
+        }
+        match &oldest {
+            None => Some(*self),
+            Some(other) => {
+                if self.is_before(other) {
+                    Some(*self)
+                } else {
+                    oldest
+                }
+            }
+        }
+    }
+
+    /// Appends what the message waits for, and its line.
+    #[tactic(auto, unfolding(crate::specs::statement::Pending::pending_text))]
+    fn append<const W: usize>(&self, out: &mut Vec<u8>) -> Result<(), AllocError>
+        requires { IsWidth W }
+        ensures { OnOk result (TellsOne W self.now out.old.items out.new.items) }
+    {
+        out.extend_from_slice(b"  ")?;
+        out.extend_from_slice(missing(self.kind).as_bytes())?;
+        out.extend_from_slice(b":\n")?;
+        append_beat_line::<W>(self.opening.line, self.opening.spelling.line(), out)
+    }
+}
+
+/// Appends how many messages are pending.
+#[tactic(auto, unfolding(crate::specs::statement::Pending::pending_heading))]
+fn append_heading(count: u64, out: &mut Vec<u8>) -> Result<(), AllocError>
+    ensures { OnOk result (out.new.items ≡ out.old.items ++ order.pending_heading count) }
+{
+    let mut digits = Buffer::new();
+    out.extend_from_slice(b"  pending at the end: ")?;
+    out.extend_from_slice(digits.format(count).as_bytes())?;
+    out.extend_from_slice(b", the oldest first\n")?;
+    Ok(())
+}
+
+/// Appends how many more there are than those that are told of.
+#[tactic(auto, unfolding(crate::specs::statement::Pending::pending_rest))]
+fn append_rest(count: u64, out: &mut Vec<u8>) -> Result<(), AllocError>
+    ensures { OnOk result (out.new.items ≡ out.old.items ++ order.pending_rest count) }
+{
+    if count <= 20 {
+        return Ok(());
+    }
+    let mut digits = Buffer::new();
+    out.extend_from_slice(b"  and ")?;
+    out.extend_from_slice(digits.format(count - 20).as_bytes())?;
+    out.extend_from_slice(b" more\n")
 }
 
 impl LinkLedger {
@@ -242,52 +326,47 @@ impl Ledger {
     }
 
     /// The oldest message that is pending and stands behind this one.
-    fn next(&self, after: Option<(u64, Kind)>) -> Option<Pending> {
+    fn next(&self, after: &Option<Pending>) -> Option<Pending>
+        ensures { IsNext self.now.pending.items after.now result }
+    {
         let mut oldest: Option<Pending> = None;
-        for pending in &self.pending {
-            let comes = match after {
-                None => true,
-                Some(after) => is_before(after, pending.place()),
-            };
-            let older = match oldest {
-                None => true,
-                Some(other) => is_before(pending.place(), other.place()),
-            };
-            if comes && older {
-                oldest = Some(*pending);
-            }
+        for pending in self.pending.as_slice() {
+            oldest = pending.or_older(oldest, after);
         }
         oldest
     }
 
-    /// Appends what is pending, the oldest first.
-    pub fn tell<const W: usize>(&mut self, out: &mut Vec<u8>) -> io::Result<()>
+    /// Appends the oldest messages that are pending, in their order.
+    fn append_oldest<const W: usize>(&self, out: &mut Vec<u8>) -> Result<(), AllocError>
         requires { IsWidth W }
+        ensures { OnOk result (TellsOldest W self.now.pending.items None 20 out.old.items out.new.items) }
+    {
+        let mut after = None;
+        for _ in 0..TOLD {
+            let Some(pending) = self.next(&after) else {
+                return Ok(());
+            };
+            pending.append::<W>(out)?;
+            after = Some(pending);
+        }
+        Ok(())
+    }
+
+    /// Appends how many messages are pending, the oldest of them, and how many more there are.
+    pub fn tell<const W: usize>(&mut self, out: &mut Vec<u8>) -> Result<(), AllocError>
+        requires { IsWidth W }
+        ensures { OnOk result (TellsPending W self.new.pending.items out.old.items out.new.items) }
     {
         self.pending.clear();
         for link in &self.links {
             link.list(&mut self.pending)?;
         }
-        let count = self.pending.len();
-        if count == 0 {
-            return out.write_all(b"  nothing is pending at the end\n");
+        if self.pending.is_empty() {
+            return out.extend_from_slice(b"  nothing is pending at the end\n");
         }
-        write!(out, "  pending at the end: {count}, the oldest first\n")?;
-        let mut after = None;
-        for _ in 0..TOLD {
-            let Some(pending) = self.next(after) else {
-                return Ok(());
-            };
-            let what = missing(pending.kind);
-            let opening = &pending.opening;
-            write!(out, "  {what}:\n")?;
-            append_beat_line::<W>(opening.line, opening.spelling.line(), out)?;
-            after = Some(pending.place());
-        }
-        let more = count.saturating_sub(TOLD);
-        if more > 0 {
-            write!(out, "  and {more} more\n")?;
-        }
-        Ok(())
+        let count = self.pending.len() as u64;
+        append_heading(count, out)?;
+        self.append_oldest::<W>(out)?;
+        append_rest(count, out)
     }
 }

@@ -126,8 +126,8 @@ fn answer_without_a_window() -> Explanation
 {
     Explanation {
         messages: "AccessAck, AccessAckData",
-        sentence: "all the while since the request was complete a link has held what excludes it: Trunk of the block for a Get, anything of it for a Put or an atomic",
-        basis: "what each link has held of the block since the request was complete",
+        sentence: "all the while since the request was complete a link has held what excludes it: Trunk of the block for a Get, while no report has shown its bytes; anything of it for a Put or an atomic",
+        basis: "what each link has held of the block since the request was complete, and the reports that showed its bytes",
         example: Example {
             wrong: "tltrace 1 C UL\n\
 00 A 7 1 6 00 00000000 ff - 0\n\

@@ -34,7 +34,7 @@ beat-keeps n address link v t before keeps = refl
 in_block : (block p : ℕ) → p < 64 → (64 * block + p) / 64 ≡ block
 in_block block p lt = omega arith
 
-byte-kept : {w : ℕ} (n block p : ℕ) (x : Link × Beat w) (t : Trace w) → p < 64
+pub byte-kept : {w : ℕ} (n block p : ℕ) (x : Link × Beat w) (t : Trace w) → p < 64
     → tells block x.1 (on_link x.0.0 t) ≡ false → KeepsByte (64 * block + p) x.0.0 x.1 t
     → may_be n (64 * block + p) (x ∷ t) ≡ may_be n (64 * block + p) t
 unfolding may_be

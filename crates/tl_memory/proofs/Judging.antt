@@ -29,7 +29,7 @@ module _ {w : ℕ} (levels : List Level) (p : Profile) (n : ℕ) (link : Link) (
   f : IsFine levels p (link, Beat.D x) t
   f = is-fine levels p (link, Beat.D x) t fine
 
-  in_block : w * k + w ≤ 64
+  pub in_block : w * k + w ≤ 64
   in_block =
       room f.level p (Beat.D x) (on_link link.0 t) is (legal-on levels p link.0 f.level t f.has_level legal) f.fine
 
@@ -42,16 +42,16 @@ module _ {w : ℕ} (levels : List Level) (p : Profile) (n : ℕ) (link : Link) (
       (legal-on levels p link.0 f.level t f.has_level legal) f.fine other
 
   true-grant : (expected : Option Expected) (b : Bool) → IsAllowed expected k x b → x.opcode ≡ OpD.GrantData
-      → ExpectsGrant expected n (open_request x.source (on_link link.0 t)) begun → x.corrupt ≡ false
+      → ExpectsGrant expected n (open_request x.source (on_link link.0 t)) begun → (x.corrupt || x.denied) ≡ false
       → b ≡ is_true OpD.GrantData n link.0 x t
   true-grant expected b allowed op e sound =
       let answer = answering (ap is_release_ack op) in
       let opened = open-whole x.source answer.asked (on_link link.0 t) answer.is_open in
       rw opened (allowed.granted n answer.asked begun (rw opened at e) in_block
-      ∙ unspoiled x.corrupt (grants_truly n answer.asked.block k x begun) sound)
+      ∙ unspoiled (x.corrupt || x.denied) (grants_truly n answer.asked.block k x begun) sound)
 
   -- all of the lanes are in the block of the access
-  read_inside : (access : Access w) → x.opcode ≡ OpD.AccessAckData
+  pub read_inside : (access : Access w) → x.opcode ≡ OpD.AccessAckData
       → find (is_of link.0 x.source) (pending_accesses t) ≡ Some access
       → base_of w access.request.address + w * k + w ≤ 64
   read_inside access op pending =
@@ -67,11 +67,11 @@ module _ {w : ℕ} (levels : List Level) (p : Profile) (n : ℕ) (link : Link) (
       omega (arith, inside, here, bytes)
 
   true-read : (expected : Option Expected) (b : Bool) → IsAllowed expected k x b → x.opcode ≡ OpD.AccessAckData
-      → ExpectsRead expected n (find (is_of link.0 x.source) (pending_accesses t)) begun → x.corrupt ≡ false
+      → ExpectsRead expected n (find (is_of link.0 x.source) (pending_accesses t)) begun → (x.corrupt || x.denied) ≡ false
       → b ≡ is_true OpD.AccessAckData n link.0 x t
   true-read expected b allowed op e sound =
       go (find (is_of link.0 x.source) (pending_accesses t)) refl e
-      ∙ unspoiled x.corrupt (reads_truly n (find (is_of link.0 x.source) (pending_accesses t)) k x begun) sound
+      ∙ unspoiled (x.corrupt || x.denied) (reads_truly n (find (is_of link.0 x.source) (pending_accesses t)) k x begun) sound
     where
       go : (o : Option (Access w)) → find (is_of link.0 x.source) (pending_accesses t) ≡ o
           → ExpectsRead expected n o begun → b ≡ reads_truly n o k x begun
@@ -84,7 +84,7 @@ module _ {w : ℕ} (levels : List Level) (p : Profile) (n : ℕ) (link : Link) (
 
   -- a response is true where its bytes are allowed, or it is corrupt, or carries none that are judged
   pub judged-true : (expected : Option Expected) (opcode : OpD) (b : Bool) → opcode ≡ x.opcode
-      → ExpectsResponse expected n link.0 opcode x.source t begun → IsAllowed expected k x b → x.corrupt ≡ false
+      → ExpectsResponse expected n link.0 opcode x.source t begun → IsAllowed expected k x b → (x.corrupt || x.denied) ≡ false
       → is_judged opcode ≡ true → b ≡ is_true opcode n link.0 x t
   judged-true expected OpD.GrantData b op e allowed sound judged = true-grant expected b allowed (sym op) e sound
   judged-true expected OpD.AccessAckData b op e allowed sound judged = true-read expected b allowed (sym op) e sound

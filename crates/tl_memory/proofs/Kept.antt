@@ -1,10 +1,10 @@
 -- What is kept of a link that there is, and of a block that was met.
 use Rattle.tl_memory.proofs.Imports.{Trace, may_be, BlockState, KnowsState}
-use Rattle.std.proofs.Common.{◌≡◌, ◌<◌, ◌+◌, ◌*◌, ℕ, List, length, Option, Some, None, slice_get, refl, sym, ap, subst}
+use Rattle.std.proofs.Common.{◌≡◌, ◌<◌, ◌+◌, ◌*◌, ℕ, List, [], length, Option, Some, None, slice_get, refl, sym, ap, subst}
 use Rattle.std.proofs.Common.{◌∙◌, arith, inl, inr}
-use Rattle.std.{specs.Prelude.IfSome, proofs.lemmas.Option.slice_get_cases}
-use Rattle.tl_bytes.{specs.statement.Known.tellings_of, specs.statement.Lines.told_moment, proofs.ToldLines.told-known}
-use Rattle.tl_memory.{specs.declared.memory.Memory.Memory, specs.statement.Memory.KnowsMemory}
+use Rattle.std.{proofs.lemmas.Option.slice_get_cases}
+use Rattle.tl_bytes.{specs.statement.Lines.told_moment, proofs.ToldLines.told-known}
+use Rattle.tl_memory.{specs.code.Lines.told_by, specs.declared.memory.Memory.Memory, specs.statement.Memory.KnowsMemory}
 use Rattle.tl_memory.specs.statement.Blocks.{KnowsKept, place_in, state_at, state_in}
 
 pub item-there : {X : Type 0} (xs : List X) (i n : ℕ) → length xs ≡ n → i < n → None ≡ slice_get xs i → ⊥
@@ -25,13 +25,20 @@ pub place-kept : {w : ℕ} (m : Memory w) (s : BlockState w) (n block place : �
 place-kept m s n block place t k at there =
     subst (λ o. KnowsKept o n block t) (ap (state_at m.blocks) at ∙ sym there) (k.blocks_are.states_are block)
 
--- what is told of a byte is what it may be, by which beat
-pub told-sound : {w : ℕ} (m : Memory w) (s : BlockState w) (block place v : ℕ) (moment : Option ℕ)
-    → Some s ≡ state_in m.blocks block → moment ≡ told_moment v (tellings_of s.bytes place)
-    → IfSome moment (λ k. (n : ℕ) (t : Trace w) → KnowsMemory m n t → place < 64
-    → told_moment v (may_be n (64 * block + place) t) ≡ Some k)
-told-sound m s block place v None there is = tt
-told-sound m s block place v (Some k) there is = λ n t knows small.
+-- nothing was told of a byte before anything is carried
+told-first : (w n address v : ℕ) → None ≡ told_moment v (may_be {w = w} n address [])
+unfolding may_be told_moment
+told-first w n address v = refl
+
+-- the beat that told what a byte may be, by what is kept of its block
+pub told-exact : {w : ℕ} (m : Memory w) (o : Option (BlockState w)) (block place v : ℕ) (moment : Option ℕ)
+    → o ≡ state_in m.blocks block → moment ≡ told_by o place v → (n : ℕ) (t : Trace w) → KnowsMemory m n t → place < 64
+    → moment ≡ told_moment v (may_be n (64 * block + place) t)
+told-exact {w} m None block place v moment there is n t knows small =
+    let kept : KnowsKept {w = w} None n block t =
+    subst (λ o. KnowsKept o n block t) (sym there) (knows.blocks_are.states_are block) in
+    is ∙ told-first w n (64 * block + place) v ∙ ap (told_moment v) (sym (kept.0 place small))
+told-exact m (Some s) block place v moment there is n t knows small =
     let kept : KnowsState s n block t t =
     subst (λ o. KnowsKept o n block t) (sym there) (knows.blocks_are.states_are block) in
-    sym (told-known s.bytes n block place v t (Some k) is kept.bytes_are small)
+    told-known s.bytes n block place v t moment is kept.bytes_are small

@@ -1,6 +1,6 @@
 -- The lanes of a response's beat, and what the response may bring there.
 use Rattle.tl_memory.proofs.Imports.{BeatD, IsWidth, reaches, base_of, Trace, block_at, base_in_memory, Access}
-use Rattle.tl_memory.proofs.Imports.{may_read, KnowsGrant, may_bring, Expected, Expects, is_to, Beat}
+use Rattle.tl_memory.proofs.Imports.{KnowsGrant, may_bring, Expected, Expects, is_to, Beat}
 use Rattle.std.proofs.Common.{◌≡◌, ℕ, zero, suc, Bool, true, false, not, ◌||◌, ◌+◌, ◌*◌, ◌/◌, ◌%◌, ◌^◌, ◌<◌, ◌≤◌, List}
 use Rattle.std.proofs.Common.{[], ◌∷◌, length, None, Some, refl, sym, ap, ap₂, ◌∙◌, arith, get_or, drop}
 use Rattle.std.{specs.Prelude.◌&&◌, specs.Prelude.nat_le, specs.Prelude.nat_lt, proofs.lemmas.List.at_drop_more}
@@ -8,7 +8,7 @@ use Rattle.std.{proofs.Math.Nat.div-mul-le_self, proofs.Math.Nat.pow-le-pow_righ
 use Rattle.std.proofs.lemmas.Bool.{eqb-true, le-leb, lt-ltb, or_right}
 use Rattle.tl_rules.specs.statement.Admission.{lanes_of}
 use Rattle.tl_bytes.specs.statement.Bytes.{each_from, may_grant}
-use Rattle.tl_memory.specs.code.Expected.{allows}
+use Rattle.tl_memory.{specs.code.Expected.allows, specs.statement.Expecting.may_answer}
 
 -- ---- one lane after another
 
@@ -113,6 +113,15 @@ base-of_block w address block at = ap (λ m. m / w * w) first ∙ zero_over w
     zero_over w = let le = div-mul-le_self 0 w in omega (arith, le)
 
 -- a GrantData may bring what may be granted
+pub granted-byte : {w : ℕ} (e : Expected) (n block p v : ℕ) (t : Trace w) → e.address ≡ 64 * block → e.size ≡ 6
+    → KnowsGrant e.bytes n block t → p < 64 → allows e (64 * block + p) v ≡ may_grant n t (64 * block + p) v
+granted-byte e n block p v t at sized known lt =
+    let inside : (64 * block + p) % 64 ≡ p = omega arith in
+    let from : nat_le (64 * block) (64 * block + p) ≡ true = le-leb (64 * block) (64 * block + p) (omega arith) in
+    let to : nat_lt (64 * block + p) (64 * block + 2 ^ 6) ≡ true =
+    lt-ltb (64 * block + p) (64 * block + 2 ^ 6) (omega (arith, lt)) in
+    rw (at, sized, inside, from, to) (known p v lt)
+
 pub granted-all : (w : ℕ) (e : Expected) (n block k : ℕ) (t : Trace w) (lanes : List ℕ) → IsWidth w
     → e.address ≡ 64 * block → e.size ≡ 6 → KnowsGrant e.bytes n block t → w * k + w ≤ 64 → length lanes ≤ w
     → each_from (allows e) (w * (e.address / w) + w * k) lanes ≡ each_from (may_grant n t) (64 * block + w * k) lanes
@@ -121,7 +130,7 @@ granted-all w e n block k t lanes is at sized known room few =
     ∙ each-same (allows e) (may_grant n t) (64 * block + w * k) lanes (λ j v lt.
     let place : w * k + j < 64 = omega (arith, lt, few, room) in
     let here : 64 * block + w * k + j ≡ 64 * block + (w * k + j) = omega arith in
-    rw here (byte (w * k + j) v place))
+    rw here (granted-byte e n block (w * k + j) v t at sized known place))
   where
     start : w * (e.address / w) ≡ 64 * block
     start =
@@ -129,37 +138,27 @@ granted-all w e n block k t lanes is at sized known room few =
         let whole = base_in_memory w e.address is in
         omega (arith, whole, base, at)
 
-    byte : (p v : ℕ) → p < 64 → allows e (64 * block + p) v ≡ may_grant n t (64 * block + p) v
-    byte p v lt =
-        let inside : (64 * block + p) % 64 ≡ p = omega arith in
-        let from : nat_le (64 * block) (64 * block + p) ≡ true = le-leb (64 * block) (64 * block + p) (omega arith) in
-        let to : nat_lt (64 * block + p) (64 * block + 2 ^ 6) ≡ true =
-        lt-ltb (64 * block + p) (64 * block + 2 ^ 6) (omega (arith, lt)) in
-        rw (at, sized, inside, from, to) (known p v lt)
-
 -- an AccessAckData what its request may bring, and anything where that doesn't reach
+pub read-byte : {w : ℕ} (e : Expected) (n block p v : ℕ) (access : Access w) (t : Trace w)
+    → Expects (Some e) n block (Some access) t → p < 64
+    → allows e (64 * block + p) v ≡ may_answer n access t (64 * block + p) v
+read-byte e n block p v access t known lt =
+    let inside : (64 * block + p) % 64 ≡ p = omega arith in
+    rw (known.0, known.1, inside, known.2 p v lt) refl
+
 pub read-all : {w : ℕ} (e : Expected) (n block k : ℕ) (access : Access w) (t : Trace w) (lanes : List ℕ) → IsWidth w
     → Expects (Some e) n block (Some access) t → is_to block access ≡ true
     → base_of w access.request.address + w * k + w ≤ 64 → length lanes ≤ w
     → each_from (allows e) (w * (e.address / w) + w * k) lanes
-    ≡ each_from (λ address v. not (reaches access.request.address access.request.size address)
-    || may_read n access t address v) (w * (access.request.address / w) + w * k) lanes
+    ≡ each_from (may_answer n access t) (w * (access.request.address / w) + w * k) lanes
 read-all {w} e n block k access t lanes is known to room few =
     ap (λ a. each_from (allows e) (w * (a / w) + w * k) lanes) known.0
-    ∙ each-same (allows e) test (w * (access.request.address / w) + w * k) lanes (λ j v lt.
+    ∙ each-same (allows e) (may_answer n access t) (w * (access.request.address / w) + w * k) lanes (λ j v lt.
     let base = base_of w access.request.address in
     let place : base + w * k + j < 64 = omega (arith, lt, few, room) in
     let here : w * (access.request.address / w) + w * k + j ≡ 64 * block + (base + w * k + j) = omega (arith, start) in
-    rw here (byte (base + w * k + j) v place))
+    rw here (read-byte e n block (base + w * k + j) v access t known place))
   where
-    test : ℕ → ℕ → Bool
-    test address v = not (reaches access.request.address access.request.size address) || may_read n access t address v
-
     start : w * (access.request.address / w) ≡ 64 * block + base_of w access.request.address
     start = base_in_memory w access.request.address is ∙ ap (λ b. 64 * b + base_of w access.request.address)
         (eqb-true (block_at access.request.address) block to)
-
-    byte : (p v : ℕ) → p < 64 → allows e (64 * block + p) v ≡ test (64 * block + p) v
-    byte p v lt =
-        let inside : (64 * block + p) % 64 ≡ p = omega arith in
-        rw (known.0, known.1, inside, known.2 p v lt) refl

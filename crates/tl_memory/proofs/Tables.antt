@@ -9,6 +9,7 @@ use Rattle.std.proofs.lemmas.Bool.{cases_Bool, eq-eqb, eqb-true}
 use Rattle.tl_params.specs.declared.perm.Perm.{Perm}
 use Rattle.tl_memory.{specs.code.Taking.IsNext, specs.code.Taking.put_next, specs.declared.block.NextState.NextState}
 use Rattle.tl_memory.{specs.declared.blocks.Blocks.Blocks, proofs.Bearing.stays, proofs.Elsewhere.elsewhere-kept}
+use Rattle.tl_memory.{proofs.Elsewhere.byte-kept}
 use Rattle.tl_memory.specs.statement.Blocks.{KnowsBlocks, KnowsKept, place_in, state_at, state_in}
 
 -- ---- one state
@@ -44,7 +45,7 @@ blocks-first {w} b n none unmet = record {
     apart = λ block other place e f. absurd (none-some place (sym (nowhere block) ∙ e));
     last_is = λ block place e. absurd (none-some (block, place) (sym unmet ∙ e));
   };
-  states_are = λ block. rw (nowhere block) (λ s new. new);
+  states_are = λ block. rw (nowhere block) (λ place lt. refl, λ s new. new);
   inside = tt;
 }
   where
@@ -54,7 +55,11 @@ blocks-first {w} b n none unmet = record {
 -- a state that is kept of another block, or none
 kept-stays : {w : ℕ} (o : Option (BlockState w)) (n block : ℕ) (x : Link × Beat w) (t : Trace w)
     → PassesBy block x t → KnowsKept o n block t → KnowsKept o n block (x ∷ t)
-kept-stays None n block x t passes known = λ s new. stays s n block x t passes (known s new)
+kept-stays None n block x t passes known = (
+  λ place lt. byte-kept n block place x t lt passes.elsewhere.quiet (passes.elsewhere.keeps place lt)
+      ∙ known.0 place lt,
+  λ s new. stays s n block x t passes (known.1 s new),
+)
 kept-stays (Some s) n block x t passes known = stays s n block x t passes known
 
 some-kept : {w : ℕ} (o : Option (BlockState w)) (s : BlockState w) (n block : ℕ) (t : Trace w) → o ≡ Some s
@@ -136,7 +141,7 @@ blocks-more {w} b new s n block t items places last unmet first k = record {
   };
   states_are = λ other. rw (places other) (elim (cases_Bool (other == block)) [
     | inl here ↦ rw (here, items, found-last b.states.items s, eqb-true other block here)
-        ((rw unmet at (k.states_are block)) s first)
+        ((rw unmet at (k.states_are block)).1 s first)
     | inr apart ↦ rw apart (rw (state-same b new (place_in b other) (λ place e.
         ap (λ l. slice_get l place) items ∙ found-first b.states.items place s (k.table_is.stand other place e)))
         (k.states_are other))

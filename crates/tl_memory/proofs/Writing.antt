@@ -8,7 +8,7 @@ use Rattle.std.proofs.lemmas.List.{take_more}
 use Rattle.std.specs.Prelude.{if◌then◌else◌, filter, is_some, nat_lt, None, Option, Some, ◌==◌}
 use Rattle.std.proofs.lemmas.Bool.{cases_Bool, eq-eqb, lt-ltb}
 use Rattle.tl_bytes.specs.code.Tellings.{is_written, leaves, value_at, left_as}
-use Rattle.tl_bytes.specs.statement.Bytes.{could_be, pending_value, value_written, windows_since}
+use Rattle.tl_bytes.specs.statement.Bytes.{could_be, pending_value, value_left, value_written, windows_since}
 use Rattle.tl_bytes.specs.statement.Known.{count_of, MayWrite, windowed}
 use Rattle.tl_memory.specs.code.Writers.{names, picked, some_window, writes_but, writes_windowed}
 use Rattle.tl_memory.specs.declared.access.Asked.{Asked}
@@ -28,6 +28,19 @@ pub put_pending : {w : ℕ} (op : OpA) (access : Access w) (address : ℕ) → i
 put_pending OpA.PutFullData access address e = refl
 put_pending OpA.PutPartialData access address e = refl
 put_pending v access address e = absurd cc
+
+-- what a Put leaves it may write while it is pending
+pub put_left : {w : ℕ} (op : OpA) (access : Access w) (burst : List (Beat w)) (address : ℕ) → is_put op ≡ true
+    → pending_value op access address ≡ value_left op access burst address
+put_left OpA.PutFullData access burst address e = refl
+put_left OpA.PutPartialData access burst address e = refl
+put_left v access burst address e = absurd cc
+
+pub other_left : {w : ℕ} (op : OpA) (access : Access w) (burst : List (Beat w)) (address : ℕ) → is_put op ≡ false
+    → value_written access burst address ≡ value_left op access burst address
+other_left OpA.PutFullData access burst address e = absurd cc
+other_left OpA.PutPartialData access burst address e = absurd cc
+other_left v access burst address e = refl
 
 pub other_pending : {w : ℕ} (op : OpA) (access : Access w) (address : ℕ) → is_put op ≡ false
     → None ≡ pending_value op access address

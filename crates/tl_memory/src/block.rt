@@ -198,7 +198,7 @@ impl<const W: usize> BlockState<W> {
         if !access.writer.asked.request.opcode.carries_data() {
             return Ok(None);
         }
-        let standing = self.bytes.standing(&access.windows);
+        let standing = self.bytes.standing(&access.windows, y.denied);
         let write = written(&access.writer, &brought.with(&Beat::D(*y)));
         let bytes = self.bytes.with(alloc, &write, standing, moment)?;
         Ok(Some(bytes))

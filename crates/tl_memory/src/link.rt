@@ -116,7 +116,7 @@ impl LinkState {
             ExpectsResponse begun.now n link.0 x.now.opcode x.now.source t t) →
             result ≡ bytes.is_true x.now.opcode n link.0 x.now t }
     {
-        if x.corrupt {
+        if x.corrupt || x.denied {
             return true;
         }
         if !is_judged(x.opcode) {

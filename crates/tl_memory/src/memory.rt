@@ -1,7 +1,7 @@
 //! What is kept of the bytes of memory.
 
 ghost use Rattle.std.specs.Prelude.{ℕ, suc, true, [], ◌∷◌, ◌<◌, ◌≡◌, if◌then◌else◌, List, length, is_some, option_map};
-ghost use Rattle.std.specs.Prelude.{None, Some, IfOk, IfSome, IsTrue, option_copied, ◌+◌, ◌*◌};
+ghost use Rattle.std.specs.Prelude.{None, Some, IfOk, IsTrue, option_copied, ◌+◌, ◌*◌};
 ghost use Rattle.tl_beat.specs.declared.beat.Beat.TheVariants as beat;
 ghost use Rattle.tl_beat.specs.declared.beat.BeatD.{BeatD};
 ghost use Rattle.tl_beat.specs.declared.beat.Link.{Link};
@@ -267,8 +267,8 @@ impl<const W: usize> Memory<W> {
     /// still.
     pub fn told_at(&self, block: u32, place: u8, byte: u8) -> Option<u64>
         ensures kept { result ≡ told_by (state_in self.now.blocks block) place byte }
-        ensures told { IfSome result (λ moment. (n : ℕ) (t : Trace W) → KnowsMemory self.now n t → place < 64 →
-            told_moment byte (bytes.may_be n (64 * block + place) t) ≡ Some moment) }
+        ensures told { (n : ℕ) (t : Trace W) → KnowsMemory self.now n t → place < 64 →
+            result ≡ told_moment byte (bytes.may_be n (64 * block + place) t) }
     {
         match self.blocks.get(block) {
             None => None,

@@ -81,7 +81,8 @@ pub struct Writer<const W: usize> {
     pub write: Write,
 }
 
-/// What an access writes, where this is its answer: where a beat of one of them is corrupt, anything.
+/// What an access leaves, where this is its answer: a Put what it may write while it is pending, an atomic what follows
+/// from the answer. Where a beat of one of them is corrupt, or an atomic is denied, that is anything.
 pub fn written<const W: usize>(writer: &Writer<W>, answer: &CarriedMessage) -> Write
     requires { IsWidth W }
     ensures { (access : Access W) (burst : List (Beat W)) → IsAsked writer.now.asked access →
@@ -89,6 +90,9 @@ pub fn written<const W: usize>(writer: &Writer<W>, answer: &CarriedMessage) -> W
         KnowsMessage answer.now burst → IsLawful access →
         IsWrite result (block_at access.request.address) access burst }
 {
+    if is_put(writer.asked.request.opcode) {
+        return writer.write;
+    }
     Write {
         places: writer.write.places,
         values: values_written(&writer.asked, answer),

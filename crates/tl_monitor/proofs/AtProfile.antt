@@ -1,12 +1,10 @@
 -- What a monitor answers under the liberties of a profile is what the profile has.
-use Rattle.std.proofs.Common.{◌≡◌, ℕ, Bool, true, false, List, ◌∷◌, ◌<◌, ◌^◌, ◌⊎◌, inl, inr, refl, sym, ap, ◌∙◌, arith}
-use Rattle.std.specs.Prelude.{[], None, length, nat_lt, if◌then◌else◌, Result, Ok, Err, ⊤}
-use Rattle.std.specs.List.{sum}
+use Rattle.std.proofs.Common.{◌≡◌, ℕ, Bool, true, false, List, ◌∷◌, ◌^◌, refl, ap, ◌∙◌}
+use Rattle.std.specs.Prelude.{[], None, Result, Ok, Err, ⊤}
 use Rattle.tl_beat.specs.declared.beat.Beat.{Beat}
 use Rattle.tl_beat.specs.declared.beat.Link.{Link}
 use Rattle.tl_burst.specs.statement.Messages.{History, breaks_burst, channel_of, unfinished}
 use Rattle.tl_params.specs.declared.level.Level.{Level}
-use Rattle.tl_params.specs.declared.perm.Perm.{Perm}
 use Rattle.tl_params.specs.declared.profile.Profile.{Profile}
 use Rattle.tl_params.specs.statement.Liberties.{liberties_of}
 use Rattle.tl_rules.specs.statement.Conformance.{Trace, broken_after, on_link}

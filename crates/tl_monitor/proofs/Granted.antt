@@ -1,20 +1,17 @@
 -- What a Grant gives that is on its way, by the tables and by the history of its link.
-use Rattle.std.proofs.Common.{◌≡◌, ℕ, Bool, true, false, not, ◌&&◌, ◌<◌, List, [], ◌∷◌, length, refl, sym, ap, ◌∙◌}
+use Rattle.std.proofs.Common.{◌≡◌, ℕ, Bool, true, false, not, ◌&&◌, ◌<◌, List, ◌∷◌, length, refl, sym, ap, ◌∙◌}
 use Rattle.std.specs.Prelude.{if◌then◌else◌, Option, Some, None, is_some, nat_lt, slice_index_or, unwrap_or}
 use Rattle.tl_beat.specs.declared.beat.Beat.{Beat}
 use Rattle.tl_beat.specs.declared.beat.Beat.TheVariants as beat
 use Rattle.tl_beat.specs.declared.beat.BeatA.{BeatA}
 use Rattle.tl_beat.specs.declared.beat.BeatD.{BeatD}
 use Rattle.tl_beat.specs.declared.channel.Channel.TheVariants as channel
-use Rattle.tl_beat.specs.declared.control.Control.{Control}
 use Rattle.tl_beat.specs.statement.Control.{control_of}
 use Rattle.tl_burst.specs.statement.Messages.{History, unfinished}
 use Rattle.tl_params.specs.declared.key.Key.TheVariants.{RequestSource}
 use Rattle.tl_params.specs.declared.perm.Perm.{Perm}
 use Rattle.tl_rules.specs.code.Open.{request_fields}
-use Rattle.tl_rules.specs.code.Tables.{kept_request}
-use Rattle.tl_rules.specs.declared.past.Request.{Request}
-use Rattle.tl_rules.specs.statement.History.{asks_for, capped, is_grant, pending, request_of, held, grants}
+use Rattle.tl_rules.specs.statement.History.{asks_for, capped, is_grant, pending, request_of, held}
 use Rattle.tl_monitor.specs.code.Bursts.{IsOf}
 use Rattle.tl_monitor.specs.code.Coming.{coming_by, coming_in, given_by_control, is_for}
 use Rattle.tl_monitor.specs.code.Count.{at}

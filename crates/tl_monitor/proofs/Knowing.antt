@@ -228,23 +228,23 @@ fault-answered levels lib beats i x monitor.Closed counted lt is same answer = c
 
 -- ---- links with a level, and without
 
-pub without-level : {w : ℕ} (m : Monitor w) (levels : List Level) (p : Profile) (t : Trace w) (closed : Bool) (link : Link)
-    (i count : ℕ) → Knows m levels p t closed → i ≡ link.0 → count ≡ length m.links.items → count ≤ i
+pub without-level : {w : ℕ} (m : Monitor w) (levels : List Level) (lib : Liberties) (t : Trace w) (closed : Bool) (link : Link)
+    (i count : ℕ) → KnowsUnder m levels lib t closed → i ≡ link.0 → count ≡ length m.links.items → count ≤ i
     → nat_lt link.0 (length levels) ≡ false
-without-level m levels p t closed link i count k own counted none =
-    let e = count-is m levels (liberties_of p) t closed (to-liberties m levels p t closed k) in
+without-level m levels lib t closed link i count k own counted none =
+    let e = count-is m levels lib t closed k in
     le-ltb link.0 (length levels) (omega (arith, e, own, counted, none))
 
-pub with-level : {w : ℕ} (m : Monitor w) (levels : List Level) (p : Profile) (t : Trace w) (closed : Bool) (link : Link)
-    (i : ℕ) → Knows m levels p t closed → i ≡ link.0 → i < length m.links.items
+pub with-level : {w : ℕ} (m : Monitor w) (levels : List Level) (lib : Liberties) (t : Trace w) (closed : Bool) (link : Link)
+    (i : ℕ) → KnowsUnder m levels lib t closed → i ≡ link.0 → i < length m.links.items
     → nat_lt link.0 (length levels) ≡ true
-with-level m levels p t closed link i k own lt =
-    let e = count-is m levels (liberties_of p) t closed (to-liberties m levels p t closed k) in
+with-level m levels lib t closed link i k own lt =
+    let e = count-is m levels lib t closed k in
     lt-ltb link.0 (length levels) (omega (arith, e, own, lt))
 
 -- what is kept of a link, by the number of the link
-pub state-on : {w : ℕ} (m : Monitor w) (levels : List Level) (p : Profile) (t : Trace w) (closed : Bool) (link : Link)
-    (i : ℕ) (monitored : MonitoredLink) → Knows m levels p t closed → i ≡ link.0 → i < length m.links.items
-    → monitored ≡ slice_index_or m.links.items i monitored → Keeps (liberties_of p) monitored.state (on_link link.0 t)
-state-on m levels p t closed link i monitored k own lt is =
-    rw (← own) (link_state-of m levels (liberties_of p) t closed i monitored (to-liberties m levels p t closed k) lt is)
+pub state-on : {w : ℕ} (m : Monitor w) (levels : List Level) (lib : Liberties) (t : Trace w) (closed : Bool) (link : Link)
+    (i : ℕ) (monitored : MonitoredLink) → KnowsUnder m levels lib t closed → i ≡ link.0 → i < length m.links.items
+    → monitored ≡ slice_index_or m.links.items i monitored → Keeps lib monitored.state (on_link link.0 t)
+state-on m levels lib t closed link i monitored k own lt is =
+    rw (← own) (link_state-of m levels lib t closed i monitored k lt is)

@@ -17,7 +17,7 @@ use tl_beat::beat::{Beat, Link};
 use tl_rules::config::MOST_CLIENTS;
 use tl_rules::level::Level;
 use tl_rules::liberties::Liberties;
-use tl_rules::past::Request;
+use tl_rules::past::{Probe, Request};
 use tl_rules::perm::Perm;
 use tl_rules::profile::Profile;
 use tl_rules::rule::Rule;
@@ -41,10 +41,10 @@ pub struct MonitoredLink {
 
 impl<const W: usize> Monitor<W> {
     ghost use Rattle.tl_monitor.specs.statement.Granting.{coming_on, granted_on};
-    ghost use Rattle.tl_monitor.specs.statement.Numbers.{IsMoreUnder, IsMoreWhereRefused, entry_count};
+    ghost use Rattle.tl_monitor.specs.statement.Numbers.{IsMoreUnder, IsMoreWhereRefused, entry_count, entry_count_under};
     ghost use Rattle.tl_monitor.specs.statement.Knows.{Knows, KnowsUnder, IsNew, IsNewUnder, Answers};
     ghost use Rattle.tl_monitor.specs.statement.Knows.{fault_of, fault_under, recorded_after, closed_after, held_on_under};
-    ghost use Rattle.tl_monitor.specs.statement.Knows.{request_on, held_on, begins_on, LeavesOthers, AreEmpty};
+    ghost use Rattle.tl_monitor.specs.statement.Knows.{request_on, probe_on, held_on, begins_on, LeavesOthers, AreEmpty};
 
     /// Links of these levels that have carried nothing.
     fn empty_links(alloc: Global, levels: &[Level]) -> Result<Vec<MonitoredLink>, AllocError>
@@ -205,8 +205,11 @@ impl<const W: usize> Monitor<W> {
 
     /// The request with this source that is pending and complete on a link; none on a link without a level.
     pub fn request(&self, link: Link, source: u8) -> Option<Request>
-        ensures { (levels : List Level) (p : Profile) (t : Trace W) (closed : Bool) →
+        ensures known { (levels : List Level) (p : Profile) (t : Trace W) (closed : Bool) →
             Knows self.now levels p t closed →
+            result ≡ request_on levels link source t }
+        ensures under { (levels : List Level) (l : Liberties) (t : Trace W) (closed : Bool) →
+            KnowsUnder self.now levels l t closed →
             result ≡ request_on levels link source t }
     {
         let n = usize::from(link.0);
@@ -214,6 +217,22 @@ impl<const W: usize> Monitor<W> {
             return None;
         }
         self.links[n].state.open_request::<W>(false, source)
+    }
+
+    /// The Probe of a block that is pending on a link; none on a link without a level.
+    pub fn probe(&self, link: Link, block: u32) -> Option<Probe>
+        ensures known { (levels : List Level) (p : Profile) (t : Trace W) (closed : Bool) →
+            Knows self.now levels p t closed →
+            result ≡ probe_on levels link block t }
+        ensures under { (levels : List Level) (l : Liberties) (t : Trace W) (closed : Bool) →
+            KnowsUnder self.now levels l t closed →
+            result ≡ probe_on levels link block t }
+    {
+        let n = usize::from(link.0);
+        if n >= self.links.len() {
+            return None;
+        }
+        self.links[n].state.probe::<W>(block)
     }
 
     /// What is held of a block on a link; nothing on a link without a level.
@@ -242,8 +261,11 @@ impl<const W: usize> Monitor<W> {
     /// The permission that the unfinished Grant of a block gives on a link, where one has begun that isn't denied;
     /// nothing on a link without a level.
     pub fn coming(&self, link: Link, block: u32) -> Option<Perm>
-        ensures { (levels : List Level) (p : Profile) (t : Trace W) (closed : Bool) →
+        ensures known { (levels : List Level) (p : Profile) (t : Trace W) (closed : Bool) →
             Knows self.now levels p t closed →
+            result ≡ coming_on levels link block t }
+        ensures under { (levels : List Level) (l : Liberties) (t : Trace W) (closed : Bool) →
+            KnowsUnder self.now levels l t closed →
             result ≡ coming_on levels link block t }
     {
         let n = usize::from(link.0);
@@ -254,7 +276,7 @@ impl<const W: usize> Monitor<W> {
     }
 
     /// What is held of a block on a link, a Grant counted from its first beat on; nothing on a link without a
-    /// level.
+    /// level. It is told of a monitor of a profile.
     pub fn granted(&self, link: Link, block: u32) -> Perm
         ensures { (levels : List Level) (p : Profile) (t : Trace W) (closed : Bool) →
             Knows self.now levels p t closed →
@@ -268,8 +290,11 @@ impl<const W: usize> Monitor<W> {
 
     /// Whether a beat begins a message on its link; on a link without a level none does.
     pub fn begins(&self, link: Link, beat: &Beat<W>) -> bool
-        ensures { (levels : List Level) (p : Profile) (t : Trace W) (closed : Bool) →
+        ensures known { (levels : List Level) (p : Profile) (t : Trace W) (closed : Bool) →
             Knows self.now levels p t closed →
+            result ≡ begins_on levels link beat.now t }
+        ensures under { (levels : List Level) (l : Liberties) (t : Trace W) (closed : Bool) →
+            KnowsUnder self.now levels l t closed →
             result ≡ begins_on levels link beat.now t }
     {
         let n = usize::from(link.0);
@@ -280,7 +305,7 @@ impl<const W: usize> Monitor<W> {
     }
 
     /// The block of which a beat may change what is held on its link, where it breaks no rule there; none
-    /// where it changes what is held of no block.
+    /// where it changes what is held of no block. It is told of a monitor of a profile.
     pub fn block_of(&self, link: Link, beat: &Beat<W>) -> Option<u32>
         ensures { (levels : List Level) (p : Profile) (t : Trace W) (closed : Bool) →
             Knows self.now levels p t closed →
@@ -297,9 +322,12 @@ impl<const W: usize> Monitor<W> {
     /// How many keys are pending on a link, and how many blocks aren't held as None; 0 for a link
     /// without a level.
     pub fn entries(&self, link: Link) -> usize
-        ensures { (levels : List Level) (p : Profile) (t : Trace W) (closed : Bool) →
+        ensures known { (levels : List Level) (p : Profile) (t : Trace W) (closed : Bool) →
             Knows self.now levels p t closed →
             result ≡ entry_count levels link t }
+        ensures under { (levels : List Level) (l : Liberties) (t : Trace W) (closed : Bool) →
+            KnowsUnder self.now levels l t closed →
+            result ≡ entry_count_under l levels link t }
     {
         let n = usize::from(link.0);
         if n >= self.links.len() {

@@ -3,7 +3,7 @@
 ghost use Rattle.std.specs.Prelude.{Option, ◌≡◌};
 ghost use Rattle.tl_burst.specs.statement.Messages.{History};
 ghost use Rattle.tl_params.specs.declared.liberties.Liberties.{Liberties};
-ghost use Rattle.tl_rules.specs.code.Open.{open_request_if};
+ghost use Rattle.tl_rules.specs.code.Open.{open_probe, open_request_if};
 ghost use Rattle.tl_monitor.specs.code.Keeps.{Keeps};
 ghost use Rattle.tl_monitor.specs.code.Past.{comes_request, comes_release, comes_grant};
 ghost use Rattle.tl_monitor.specs.declared.bursts.Unfinished.{Unfinished};
@@ -75,6 +75,16 @@ impl LinkState {
             self.requests.get(source)
         }
     }
+
+    /// The Probe of the block, where one is pending.
+    pub fn probe<const W: usize>(&self, block: u32) -> Option<Probe>
+        ensures { (l : Liberties) (t : History W) → Keeps l self.now t → result ≡ open_probe block t }
+    {
+        match self.blocks.get(block).probe {
+            None => None,
+            Some(pending) => Some(pending.probe),
+        }
+    }
 }
 
 /// What is kept of a link that has these liberties.
@@ -119,10 +129,7 @@ impl<'a, const W: usize> PastUnder<W> for KeptUnder<'a> {
     }
 
     fn probe(&self, block: u32) -> Option<Probe> {
-        match self.state.blocks.get(block).probe {
-            None => None,
-            Some(pending) => Some(pending.probe),
-        }
+        self.state.probe::<W>(block)
     }
 
     fn probe_source(&self, block: u32) -> Option<u8> {

@@ -87,8 +87,8 @@ module _ {w : ℕ} (n : ℕ) (first : Memory) (link : Link) (z : BeatD w) (run :
       value = lane-carried z older (place_in p address) j v (answer.found address) at in_lane
           (answer.brings (answered-reads p.request.opcode admitted) address reached (inl (omega (arith, at)))) lane
 
-  read : z.opcode ≡ OpD.AccessAckData → (z.corrupt || is_true_read n link.0 z (trace_in run)) ≡ true
-  read e = or_right z.corrupt _ (go (find (is_of link.0 z.source) (pending_accesses (trace_in run))) refl)
+  read : z.opcode ≡ OpD.AccessAckData → ((z.corrupt || z.denied) || is_true_read n link.0 z (trace_in run)) ≡ true
+  read e = or_right (z.corrupt || z.denied) _ (go (find (is_of link.0 z.source) (pending_accesses (trace_in run))) refl)
     where
       go : (o : Option (Access w)) → find (is_of link.0 z.source) (pending_accesses (trace_in run)) ≡ o
           → reads_truly n o (length older) z (before_last link.0 (length older) (trace_in run)) ≡ true

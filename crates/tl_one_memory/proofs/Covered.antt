@@ -12,14 +12,10 @@ use Rattle.tl_params.specs.declared.perm.Perm.{Perm}
 use Rattle.tl_rules.specs.statement.History.{ends}
 use Rattle.tl_bytes.specs.declared.telling.Telling.{Telling}
 use Rattle.tl_bytes.specs.statement.Bytes.{after_answer, after_beat, after_write, ends_request, is_access, last_told}
-use Rattle.tl_bytes.specs.statement.Bytes.{last_window, same_value, tells, told_too, value_written, window_began}
+use Rattle.tl_bytes.specs.statement.Bytes.{last_window, same_value, tells, told_too, value_left, window_began}
 use Rattle.tl_bytes.proofs.Finding.{Among, among-map, among-or}
 use Rattle.tl_bytes.proofs.Pending.{IsAnsweredNow, pending-after, pending-before}
 use Rattle.tl_one_memory.proofs.Spans.{began_by_now, one-still, windowed-more}
-
--- nobody may write the block by himself
-abbrev pub is_unwritten : {w : ℕ} → ℕ → ℕ → Trace w → Bool
-is_unwritten n address t = is_free n None Perm.Branch (block_at address) t
 
 abbrev pub is_writable : {w : ℕ} → ℕ → ℕ → Trace w → Bool
 is_writable n address t = is_free n None Perm.Trunk (block_at address) t
@@ -51,7 +47,7 @@ pub record IsWrittenNow {w : ℕ} (n address v : ℕ) (done : ℕ → ℕ → Ty
   pub pending : IsPending link source access t
   pub writes : access_writes address access ≡ true
   pub value_is : (burst : List (Beat w)) → Answers link source access burst
-      → could_be v (value_written access burst address) ≡ true
+      → could_be v (value_left access.request.opcode access burst address) ≡ true
   pub pending_is : could_be v (pending_value access.request.opcode access address) ≡ true
   pub free : is_writable n address t ≡ true
 
@@ -71,13 +67,8 @@ pub record IsOrderly {w : ℕ} (n address v : ℕ) (done : ℕ → ℕ → Type 
   pub answers_done : (z : BeatD w) (p : Access w) → y.1 ≡ Beat.D z → ends_request z (on_link y.0.0 t) ≡ true
       → IsPending y.0.0 z.source p t
       → done y.0.0 z.source × Answers y.0.0 z.source p (Beat.D z ∷ unfinished Channel.D (on_link y.0.0 t))
-  -- what is told is so
-  pub tells_value : is_unwritten n address (y ∷ t) ≡ true → tells (block_at address) y.1 (on_link y.0.0 t) ≡ true
-      → could_be v (carried_byte (y.1 ∷ unfinished (channel_of y.1) (on_link y.0.0 t)) (address % 64)) ≡ true
-  -- a window for writing closes with what is told, and so is Trunk given up
+  -- a window for writing closes with what is told
   pub closes_told : is_writable n address t ≡ true → is_writable n address (y ∷ t) ≡ false
-      → tells (block_at address) y.1 (on_link y.0.0 t) ≡ true
-  pub given_up_told : is_unwritten n address t ≡ false → is_unwritten n address (y ∷ t) ≡ true
       → tells (block_at address) y.1 (on_link y.0.0 t) ≡ true
 
 could_be-same : (v : ℕ) (a b : Option ℕ) → could_be v a ≡ true → same_value a b ≡ true → could_be v b ≡ true
@@ -99,7 +90,7 @@ module _ {w : ℕ} (n address v : ℕ) (done : ℕ → ℕ → Type 0) (Answers 
   -- ---- an access is answered
 
   module _ (c s : ℕ) (p : Access w) (performed : done c s) (pending : IsPending c s p t)
-      (writes : access_writes address p ≡ true) (given : Option ℕ) where
+      (writes : access_writes address p ≡ true) (denied : Bool) (given : Option ℕ) where
     abbrev now : Telling
     now = record { value = given; moment = length t }
 
@@ -110,26 +101,27 @@ module _ {w : ℕ} (n address v : ℕ) (done : ℕ → ℕ → Type 0) (Answers 
           late-now,
         )) is
 
-    written-after : (before : List Telling) → Among Told before → Among Told (after_write n block p now t before)
-    written-after before is = go (is_writable n address t) refl (windows_since n block p.asked t == 1) refl
+    written-after : (before : List Telling) → Among Told before → Among Told (after_write n block p denied now t before)
+    written-after before is = go (is_writable n address t) refl (windows_since n block p.asked t == 1) refl (not denied)
         (nat_lt (last_window n block t) (last_told block t))
       where
         go : (free : Bool) → is_writable n address t ≡ free → (one : Bool)
-            → (windows_since n block p.asked t == 1) ≡ one → (told : Bool)
-            → Among Told (if free then if one then told_too now
+            → (windows_since n block p.asked t == 1) ≡ one → (granted told : Bool)
+            → Among Told (if free then if one && granted then told_too now
             (filter (λ e. nat_le (window_began n block p.asked t) e.moment) before) else told_too now before else
             if told then before else told_too now before)
-        go true free true one told =
+        go true free true one true told =
             written-too (filter (λ e. nat_le (window_began n block p.asked t) e.moment) before)
             (among-filter Told (λ e. nat_le (window_began n block p.asked t) e.moment) before
             (λ e late. le-leb (window_began n block p.asked t) e.moment
             (late.1 c s p performed pending writes free (eqb-true (windows_since n block p.asked t) 1 one))) is)
-        go false free one e true = is
-        go v free u one y = written-too before is
+        go false free one e granted true = is
+        go v free u one x y = written-too before is
 
     written-now : (before : List Telling) → could_be v given ≡ true → is_writable n address t ≡ true
-        → Among Told (after_write n block p now t before)
-    written-now before could free = go (is_writable n address t) free (windows_since n block p.asked t == 1)
+        → Among Told (after_write n block p denied now t before)
+    written-now before could free =
+        go (is_writable n address t) free ((windows_since n block p.asked t == 1) && not denied)
       where
         go : (free : Bool) → free ≡ true → (one : Bool)
             → Among Told (if free then if one then told_too now
@@ -181,12 +173,15 @@ module _ {w : ℕ} (n address v : ℕ) (done : ℕ → ℕ → Type 0) (Answers 
         found z e f (Some p) g = go (access_writes address p) refl
           where
             go : (b : Bool) → access_writes address p ≡ b
-                → Among Told (if b then after_write n block p
-                (record { value = value_written p (Beat.D z ∷ unfinished Channel.D past) address; moment = length t }) t
+                → Among Told (if b then after_write n block p z.denied
+                (record {
+                  value = value_left p.request.opcode p (Beat.D z ∷ unfinished Channel.D past) address;
+                  moment = length t;
+                }) t
                 (may_be n address t) else may_be n address t)
             go false i = is
-            go true i = written-after y.0.0 z.source p (orderly.answers_done z p e f g).0 g i
-                (value_written p (Beat.D z ∷ unfinished Channel.D past) address) (may_be n address t) is
+            go true i = written-after y.0.0 z.source p (orderly.answers_done z p e f g).0 g i z.denied
+                (value_left p.request.opcode p (Beat.D z ∷ unfinished Channel.D past) address) (may_be n address t) is
 
         ended : (z : BeatD w) → y.1 ≡ Beat.D z → (b : Bool) → ends_request z past ≡ b
             → Among Told (if b then after_answer n address (find (is_of y.0.0 z.source) (pending_accesses t))
@@ -200,30 +195,27 @@ module _ {w : ℕ} (n address v : ℕ) (done : ℕ → ℕ → Type 0) (Answers 
 
     -- what the access has written that is answered now
     answered-beat : (c s : ℕ) (p : Access w) → done c s → IsPending c s p t → access_writes address p ≡ true
-        → ((burst : List (Beat w)) → Answers c s p burst → could_be v (value_written p burst address) ≡ true)
+        → ((burst : List (Beat w)) → Answers c s p burst → could_be v (value_left p.request.opcode p burst address) ≡ true)
         → is_writable n address t ≡ true → IsAnsweredNow c s y t
         → Among Told (after_beat n address y.0.0 y.1 t (may_be n address t))
     answered-beat c s p performed pending writes value free now =
         rw (now.beat_is, now.completes, here, writes)
-        (written-now c s p performed pending writes (value_written p (Beat.D now.last ∷ unfinished Channel.D past)
+        (written-now c s p performed pending writes now.last.denied
+        (value_left p.request.opcode p (Beat.D now.last ∷ unfinished Channel.D past)
         address) (may_be n address t) (value (Beat.D now.last ∷ unfinished Channel.D past)
         (rw (now.link_is, now.source_is) (orderly.answers_done now.last p now.beat_is now.completes here).1)) free)
       where
         here : find (is_of y.0.0 now.last.source) (pending_accesses t) ≡ Some p
         here = rw (← now.link_is, ← now.source_is) pending
 
-    pub covered-after : (is_unwritten n address t ≡ true → IsCovered n address v done Answers t)
-        → is_unwritten n address (y ∷ t) ≡ true → IsCovered n address v done Answers (y ∷ t)
+    -- where what is told is so, and it was so where nothing is
+    pub covered-after : (tells block y.1 past ≡ true
+        → could_be v (carried_byte (y.1 ∷ unfinished (channel_of y.1) past) (address % 64)) ≡ true)
+        → (tells block y.1 past ≡ false → IsCovered n address v done Answers t)
+        → IsCovered n address v done Answers (y ∷ t)
     unfolding may_be
-    covered-after covered unwritten = go (tells block y.1 past) refl
+    covered-after told_so old = go (tells block y.1 past) refl
       where
-        old : tells block y.1 past ≡ false → IsCovered n address v done Answers t
-        old e = was (is_unwritten n address t) refl
-          where
-            was : (b : Bool) → is_unwritten n address t ≡ b → IsCovered n address v done Answers t
-            was true f = covered f
-            was false f = absurd (let no : false ≡ true = sym e ∙ orderly.given_up_told f unwritten in cc)
-
         still_free : tells block y.1 past ≡ false → is_writable n address t ≡ true
             → is_writable n address (y ∷ t) ≡ true
         still_free e free = is (is_writable n address (y ∷ t)) refl
@@ -253,7 +245,7 @@ module _ {w : ℕ} (n address v : ℕ) (done : ℕ → ℕ → Type 0) (Answers 
             ]
 
         go : (b : Bool) → tells block y.1 past ≡ b → IsCovered n address v done Answers (y ∷ t)
-        go true e = inl (rw e (inl (orderly.tells_value unwritten e, late-after (length t) late-now)))
+        go true e = inl (rw e (inl (told_so e, late-after (length t) late-now)))
         go false e = elim (old e) [
           | inl told ↦ inl (rw e (told-after (after_beat n address y.0.0 y.1 t (may_be n address t)) (told-beat told)))
           | inr now ↦ written e now

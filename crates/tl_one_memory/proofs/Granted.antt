@@ -13,11 +13,12 @@ use Rattle.tl_params.specs.declared.perm.Perm.{Perm}
 use Rattle.tl_rules.{specs.code.Open.open_request, specs.declared.past.Request.Request}
 use Rattle.tl_rules.{specs.statement.Effect.bytes_from}
 use Rattle.tl_bytes.specs.statement.Bytes.{each_from, is_true_grant, may_grant, told_as, written_as}
-use Rattle.tl_one_memory.proofs.Covered.{IsToldLate, IsWrittenNow, is_unwritten}
+use Rattle.tl_one_memory.proofs.Covered.{IsToldLate, IsWrittenNow}
 use Rattle.tl_bytes.proofs.Finding.{Among, among-found, found-among}
-use Rattle.tl_one_memory.proofs.Known.{Answers, IsDone, IsKnown, known}
+use Rattle.tl_one_memory.proofs.Known.{Answers, IsDone, IsKnown, clean-free, known}
 use Rattle.tl_bytes.proofs.Pending.{IsAsked}
 use Rattle.tl_one_memory.{proofs.Spans.windowed-free, specs.statement.Run.IsGranted, specs.statement.Run.run_before}
+use Rattle.tl_one_memory.specs.statement.Run.{IsClean}
 
 -- ---- before the last beats of a response
 
@@ -88,9 +89,9 @@ may-grant {w} n address v done Answering t now =
         × (0 < windows_since n (block_at address) x.asked t)
 
 granted-known : {w : ℕ} (n : ℕ) (first : Memory) (address : ℕ) (run : Run w) → IsKnown n first address run
-    → is_unwritten n address (trace_in run) ≡ true
+    → IsClean n first address run
     → may_grant n (trace_in run) address (memory_in first run address) ≡ true
-granted-known {w} n first address run is unwritten = elim (is.covered unwritten) [
+granted-known {w} n first address run is clean = elim (is.covered clean) [
   | inl told ↦ or_left _ _ (told-as n address (memory_in first run address) (IsDone first run) (trace_in run) told)
   | inr now ↦ or_right _ _ (may-grant n address (memory_in first run address) (IsDone first run) (Answers first run)
       (trace_in run) now)
@@ -111,10 +112,10 @@ in-block block k w address le from to = omega (arith, le, from, to)
 
 pub granted : {w : ℕ} (n : ℕ) (first : Memory) (link : Link) (z : BeatD w) (run : Run w)
     → IsTaken n first link (Beat.D z) run → IsRun n first run → z.opcode ≡ OpD.GrantData
-    → (z.corrupt || is_true_grant n link.0 z (open_request z.source (on_link link.0 (trace_in run))) (trace_in run))
+    → ((z.corrupt || z.denied) || is_true_grant n link.0 z (open_request z.source (on_link link.0 (trace_in run))) (trace_in run))
     ≡ true
 granted {w} n first link z run taken is granting =
-    or_right z.corrupt _ (go (open_request z.source (on_link link.0 (trace_in run))) refl)
+    or_right (z.corrupt || z.denied) _ (go (open_request z.source (on_link link.0 (trace_in run))) refl)
   where
     k : ℕ
     k = length (unfinished Channel.D (on_link link.0 (trace_in run)))
@@ -130,8 +131,9 @@ granted {w} n first link z run taken is granting =
         (each-of (may_grant n (trace_in old)) (memory_in first old) (64 * asked.block + w * k) w
         (λ address from to. granted-known n first address old
         (known n first address old (is_run-before n first link.0 k run is))
+        (clean-free n first address old (is_run-before n first link.0 k run is)
         (ap (λ (b : ℕ). is_free n None Perm.Branch b (trace_in old))
-        (in-block asked.block k w address grant.within from to) ∙ grant.free)))
+        (in-block asked.block k w address grant.within from to) ∙ grant.free))))
       where
         grant : IsGranted n first link.0 z asked.block k run
         grant = taken.grants_rightly z asked refl granting e

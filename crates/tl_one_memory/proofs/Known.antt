@@ -1,4 +1,4 @@
--- After each run of one memory a byte of a block of which no link holds Trunk may be what memory has.
+-- After each run of one memory a byte may be what memory has, if no client has stored to its copy since it was told.
 use Rattle.tl_one_memory.proofs.Imports.{Beat, Link, Trace, on_link, Memory, effect, block_at, is_release_ack, is_free}
 use Rattle.tl_one_memory.proofs.Imports.{Access, access_writes, is_of, may_be, pending_accesses, same-some, IsPending}
 use Rattle.tl_one_memory.proofs.Imports.{asked-by_now, IsPerformed, IsRun, IsTaken, Performs, Run, Stores, Takes}
@@ -9,10 +9,12 @@ use Rattle.std.proofs.lemmas.Bool.{and_parts, eq-eqb, eqb-true, not-true}
 use Rattle.tl_params.specs.declared.perm.Perm.{Perm}
 use Rattle.tl_rules.{specs.statement.Effect.after, specs.statement.History.ends}
 use Rattle.tl_bytes.{specs.statement.Bytes.ends_request, proofs.Finding.find-left_out, proofs.Finding.none-some}
-use Rattle.tl_one_memory.proofs.Covered.{AreWindowed, IsCovered, IsOrderly, covered-after, covered-as, is_unwritten}
+use Rattle.tl_one_memory.proofs.Covered.{AreWindowed, IsCovered, IsOrderly, covered-after, covered-as}
 use Rattle.tl_one_memory.proofs.Covered.{windowed-after, windowed-as}
-use Rattle.tl_one_memory.{proofs.Spans.windowed-free, specs.statement.Run.is_answered_by}
-use Rattle.tl_one_memory.proofs.Values.{HasFound, after-unwritten, value-pending, value-told}
+use Rattle.tl_one_memory.{proofs.Spans.windowed-free, specs.statement.Run.is_answered_by, specs.statement.Run.TellsTrue}
+use Rattle.tl_one_memory.specs.statement.Run.{IsClean}
+use Rattle.tl_bytes.specs.statement.Bytes.{tells}
+use Rattle.tl_one_memory.proofs.Values.{HasFound, after-unwritten, value-left, value-pending}
 
 -- the access with this source was performed, and isn't answered whole
 abbrev pub IsDone : {w : ℕ} → Memory → Run w → ℕ → ℕ → Type 0
@@ -25,7 +27,7 @@ Answers first run c s access burst = (found : Memory) × (found_in first c s run
 
 pub record IsKnown {w : ℕ} (n : ℕ) (first : Memory) (address : ℕ) (run : Run w) : Type 0 where
   pub windowed : AreWindowed n address (IsDone first run) (trace_in run)
-  pub covered : is_unwritten n address (trace_in run) ≡ true
+  pub covered : IsClean n first address run
       → IsCovered n address (memory_in first run address) (IsDone first run) (Answers first run) (trace_in run)
 
 -- ---- a beat is taken
@@ -83,21 +85,59 @@ module _ {w : ℕ} (n : ℕ) (first : Memory) (address : ℕ) where
           (answer.found, answer.performed),
           (answer.found, answer.performed, λ reads k reached. answer.brings reads k reached (inr completes)),
         );
-    tells_value = λ unwritten told. taken.tells_rightly address unwritten told;
     closes_told = λ free closed. taken.closes_told (block_at address) free closed;
-    given_up_told = λ held given. taken.given_up_told (block_at address) held given;
   }
 
-  known-taken : (link : Link) (x : Beat w) (run : Run w) → IsTaken n first link x run
+  -- where no link holds Trunk of the block, nothing is stored
+  pub clean-free : (run : Run w) → IsRun n first run
+      → is_free n None Perm.Branch (block_at address) (trace_in run) ≡ true → IsClean n first address run
+  unfolding IsRun IsClean trace_in
+  clean-free [] is free = tt
+  clean-free (Takes link x ∷ run) is free = inl free
+  clean-free (Performs d i ∷ run) is free = clean-free run is.1 free
+  clean-free (Stores block bytes ∷ run) is free = (apart (block_at address == block) refl, clean-free run is.1 free)
+    where
+      apart : (b : Bool) → (block_at address == block) ≡ b → b ≡ false
+      apart false e = refl
+      apart true e = absurd (let no : false ≡ true =
+          sym is.0 ∙ ap (λ (k : ℕ). is_free n None Perm.Branch k (trace_in run))
+          (sym (eqb-true (block_at address) block e))
+          ∙ free in cc)
+
+  known-taken : (link : Link) (x : Beat w) (run : Run w) → IsTaken n first link x run → IsRun n first run
       → IsKnown n first address run → IsKnown n first address (Takes link x ∷ run)
-  unfolding trace_in memory_in
-  known-taken link x run taken known = record {
+  unfolding trace_in memory_in IsClean
+  known-taken link x run taken runs known = record {
     windowed = windowed-as n address value done done' answers answers' t' back
         (windowed-after n address value done answers t (link, x) order known.windowed);
-    covered = λ unwritten. covered-as n address value done done' answers answers' t' back forth
-        (covered-after n address value done answers t (link, x) order known.windowed known.covered unwritten);
+    covered = λ clean. covered-as n address value done done' answers answers' t' back forth
+        (covered-after n address value done answers t (link, x) order known.windowed (told-so clean) (old clean));
   }
     where
+      told-so : IsClean n first address (Takes link x ∷ run)
+          → tells (block_at address) x (on_link link.0 (trace_in run)) ≡ true → TellsTrue first address link x run
+      told-so clean e = elim clean [
+        | inl free ↦ taken.tells_rightly address free e
+        | inr by ↦ rw e at by
+      ]
+
+      old : IsClean n first address (Takes link x ∷ run)
+          → tells (block_at address) x (on_link link.0 (trace_in run)) ≡ false
+          → IsCovered n address (memory_in first run address) (IsDone first run) (Answers first run) (trace_in run)
+      old clean e = known.covered (elim clean [
+        | inr by ↦ rw e at by
+        | inl free ↦ was (is_free n None Perm.Branch (block_at address) (trace_in run)) refl free
+      ])
+        where
+          was : (b : Bool) → is_free n None Perm.Branch (block_at address) (trace_in run) ≡ b
+              → is_free n None Perm.Branch (block_at address) ((link, x) ∷ trace_in run) ≡ true
+              → IsClean n first address run
+          was true f free = clean-free run runs f
+          was false f free = elim (taken.given_up_rightly address f free) [
+            | inl told ↦ absurd (let no : false ≡ true = sym e ∙ told in cc)
+            | inr clean ↦ clean
+          ]
+
       t : Trace w
       t = trace_in run
 
@@ -143,10 +183,10 @@ module _ {w : ℕ} (n : ℕ) (first : Memory) (address : ℕ) where
 
   known-performed : (d i : ℕ) (run : Run w) → IsPerformed n first d i run
       → IsKnown n first address run → IsKnown n first address (Performs d i ∷ run)
-  unfolding trace_in memory_in found_in effect
+  unfolding trace_in memory_in found_in effect IsClean
   known-performed d i run is known = record {
     windowed = windows;
-    covered = λ unwritten. rw is.pending (covers unwritten (access_writes address is.access) refl);
+    covered = λ clean. rw is.pending (covers clean (access_writes address is.access) refl);
   }
     where
       t : Trace w
@@ -220,16 +260,16 @@ module _ {w : ℕ} (n : ℕ) (first : Memory) (address : ℕ) where
         λ burst answer. (answer.0, rw (other c s performed.0 performed.1) at answer.1, answer.2),
       )
 
-      covers : is_unwritten n address t ≡ true → (b : Bool) → access_writes address p ≡ b
+      covers : IsClean n first address run → (b : Bool) → access_writes address p ≡ b
           → IsCovered n address (after p.request.opcode p.request memory address) done' answers' t
-      covers unwritten true e = inr (record {
+      covers clean true e = inr (record {
         link = d;
         source = i;
         access = p;
         performed = (memory, found-here);
         pending = is.pending;
         writes = e;
-        value_is = λ burst answer. value-told p memory burst address
+        value_is = λ burst answer. value-left p memory burst address
             (λ reads k reached. answer.2 reads k reached ∙ ap (λ (f : Memory). Some (f k)) (mine answer.0 answer.1)) e;
         pending_is = value-pending p memory address e;
         free = is.writes_free address e;
@@ -240,28 +280,19 @@ module _ {w : ℕ} (n : ℕ) (first : Memory) (address : ℕ) where
 
           mine : (found : Memory) → found_in first d i (Performs d i ∷ run) ≡ Some found → found ≡ memory
           mine found f = same-some memory found (sym found-here ∙ f)
-      covers unwritten false e =
+      covers clean false e =
           rw (after-unwritten p.request.opcode p.request memory address e)
-          (covered-as n address (memory address) done done' answers answers' t (back e) forth (known.covered unwritten))
+          (covered-as n address (memory address) done done' answers answers' t (back e) forth (known.covered clean))
 
   -- ---- a client stores to its copy
 
-  known-stored : (block : ℕ) (bytes : Memory) (run : Run w) → is_free n None Perm.Branch block (trace_in run) ≡ false
-      → IsKnown n first address run → IsKnown n first address (Stores block bytes ∷ run)
-  unfolding trace_in memory_in found_in
-  known-stored block bytes run held known = record {
+  known-stored : (block : ℕ) (bytes : Memory) (run : Run w) → IsKnown n first address run
+      → IsKnown n first address (Stores block bytes ∷ run)
+  unfolding trace_in memory_in found_in IsClean
+  known-stored block bytes run known = record {
     windowed = known.windowed;
-    covered = λ unwritten. go (block_at address == block) refl unwritten;
+    covered = λ clean. rw clean.0 (known.covered clean.1);
   }
-    where
-      go : (b : Bool) → (block_at address == block) ≡ b → is_unwritten n address (trace_in run) ≡ true
-          → IsCovered n address (if b then bytes address else memory_in first run address) (IsDone first run)
-          (Answers first run) (trace_in run)
-      go true e unwritten = absurd (let no : false ≡ true =
-          sym held ∙ ap (λ (k : ℕ). is_free n None Perm.Branch k (trace_in run))
-          (sym (eqb-true (block_at address) block e))
-          ∙ unwritten in cc)
-      go false e unwritten = known.covered unwritten
 
   -- ---- all that has happened
 
@@ -269,12 +300,12 @@ module _ {w : ℕ} (n : ℕ) (first : Memory) (address : ℕ) where
   unfolding trace_in memory_in pending_accesses may_be
   known-first = record {
     windowed = λ c s p performed pending writes. absurd (none-some p pending);
-    covered = λ unwritten. inl (inl (refl, λ c s p performed pending writes free one. absurd (none-some p pending)));
+    covered = λ clean. inl (inl (refl, λ c s p performed pending writes free one. absurd (none-some p pending)));
   }
 
   pub known : (run : Run w) → IsRun n first run → IsKnown n first address run
   unfolding IsRun
   known [] is = known-first
-  known (Takes link x ∷ run) is = known-taken link x run is.0 (known run is.1)
+  known (Takes link x ∷ run) is = known-taken link x run is.0 is.1 (known run is.1)
   known (Performs d i ∷ run) is = known-performed d i run is.0 (known run is.1)
-  known (Stores block bytes ∷ run) is = known-stored block bytes run is.0 (known run is.1)
+  known (Stores block bytes ∷ run) is = known-stored block bytes run (known run is.1)

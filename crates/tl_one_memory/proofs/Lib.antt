@@ -5,5 +5,6 @@ pub mod Known
 pub mod Read
 pub mod Spans
 pub mod Values
+pub mod Wider
 pub mod Worked
 pub mod Imports

@@ -13,7 +13,9 @@ use Rattle.tl_burst.specs.statement.Messages.{History, burst_length, grown, on}
 use Rattle.tl_bytes.specs.statement.Bytes.{may_read, told_as, written_as}
 use Rattle.tl_one_memory.{proofs.Covered.IsWrittenNow, proofs.Granted.told-as, specs.statement.Run.is_answered_by}
 use Rattle.tl_bytes.proofs.Finding.{among-found, found-among, found-passes, none-some}
-use Rattle.tl_one_memory.proofs.Known.{Answers, IsDone, answered-gone, found-still, found-taken, known}
+use Rattle.tl_one_memory.proofs.Known.{Answers, IsDone, answered-gone, clean-free, found-still, found-taken}
+use Rattle.tl_one_memory.proofs.Known.{known}
+use Rattle.tl_one_memory.specs.statement.Run.{IsClean, MayBeRead}
 use Rattle.tl_bytes.proofs.Pending.{pending-before}
 
 -- ---- what a pending access may bring
@@ -89,13 +91,19 @@ module _ {w : ℕ} (n : ℕ) (first : Memory) where
     where
       now : (c ≡ d) × (s ≡ i) → found ≡ memory_in first run → may_read n p (trace_in run) address (found address) ≡ true
       now same e = rw e (read-now n c s p (trace_in run) address (memory_in first run address) pending
-          (elim ((known n first address run runs).covered (is.reads_free address
-          (ap (λ (q : Access w). reaches q.request.address q.request.size address) this ∙ reached))) [
+          (elim ((known n first address run runs).covered (clean (is.reads_free address
+          (ap (λ (q : Access w). reaches q.request.address q.request.size address) this ∙ reached)))) [
             | inl told ↦ inl (told-as n address (memory_in first run address) (IsDone first run) (trace_in run) told)
             | inr written ↦ inr (written-by n address (memory_in first run address) (IsDone first run)
                 (Answers first run) (trace_in run) p.link p.request.source written (other written))
           ]))
         where
+          clean : MayBeRead n first address run → IsClean n first address run
+          clean may = elim may [
+            | inl free ↦ clean-free n first address run runs free
+            | inr shown ↦ shown.1
+          ]
+
           this : is.access ≡ p
           this = same-some p is.access (sym pending ∙ rw (same.0, same.1) is.pending)
 

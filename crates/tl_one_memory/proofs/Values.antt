@@ -2,7 +2,7 @@
 use Rattle.tl_one_memory.proofs.Imports.{Beat, reaches, Memory, effect, Access, access_writes, carried_byte, could_be}
 use Rattle.tl_one_memory.proofs.Imports.{pending_value}
 use Rattle.std.proofs.Common.{◌≡◌, ℕ, zero, suc, Bool, true, false, ◌||◌, ◌+◌, ◌-◌, ◌*◌, ◌^◌, ◌<◌, ◌≤◌, List, [], refl}
-use Rattle.std.proofs.Common.{sym, ap, ◌∙◌, arith}
+use Rattle.std.proofs.Common.{sym, ap, ◌∙◌, arith, subst}
 use Rattle.std.specs.Prelude.{if◌then◌else◌, Option, Some, None, is_some, unwrap_or, find}
 use Rattle.std.proofs.lemmas.Bool.{and_from, eq-eqb, le-leb, lt-ltb}
 use Rattle.tl_beat.specs.declared.opcode.OpA.{OpA}
@@ -12,7 +12,7 @@ use Rattle.tl_params.specs.statement.Param.{arithmetic_of, logical_of}
 use Rattle.tl_rules.specs.statement.Admission.{is_spoiled}
 use Rattle.tl_rules.specs.statement.Effect.{after, arithmetic_result, byte_count, byte_of, by_param, logical_result}
 use Rattle.tl_rules.specs.statement.Effect.{number_from, number_stored, operand_of}
-use Rattle.tl_bytes.specs.statement.Bytes.{found_memory, value_written, writes}
+use Rattle.tl_bytes.specs.statement.Bytes.{found_memory, value_left, value_written, writes}
 use Rattle.tl_one_memory.specs.statement.Run.{place_in, returns}
 
 -- the burst has the bytes that the access found in this memory, where it returns them
@@ -112,3 +112,17 @@ value-pending {w} p found address writing = go p.request.opcode refl
     go OpA.PutFullData e = put (ap returns e)
     go OpA.PutPartialData e = put (ap returns e)
     go v e = refl
+
+-- and the one that it leaves with its answer
+pub value-left : {w : ℕ} (p : Access w) (found : Memory) (burst : List (Beat w)) (address : ℕ) → HasFound found p burst
+    → access_writes address p ≡ true
+    → could_be (after p.request.opcode p.request found address) (value_left p.request.opcode p burst address) ≡ true
+value-left {w} p found burst address has writing = go p.request.opcode refl
+  where
+    now : ℕ
+    now = after p.request.opcode p.request found address
+
+    go : (o : OpA) → p.request.opcode ≡ o → could_be now (value_left o p burst address) ≡ true
+    go OpA.PutFullData e = subst (λ o. could_be now (pending_value o p address) ≡ true) e (value-pending p found address writing)
+    go OpA.PutPartialData e = subst (λ o. could_be now (pending_value o p address) ≡ true) e (value-pending p found address writing)
+    go v e = value-told p found burst address has writing

@@ -3,7 +3,7 @@ use Rattle.tl_one_memory.proofs.Imports.{Beat, BeatD, Link, reaches, unfinished,
 use Rattle.tl_one_memory.proofs.Imports.{is_free, Access, carried_byte, is_of, pending_accesses, IsAnswer, IsPerformed}
 use Rattle.tl_one_memory.proofs.Imports.{IsRun, IsTaken, Performs, Run, Takes, found_in, memory_in, trace_in}
 use Rattle.std.proofs.Common.{◌≡◌, ◌+◌, ◌-◌, ◌*◌, ◌/◌, ℕ, zero, suc, true, false, List, [], ◌∷◌, refl, sym, ◌∙◌, subst}
-use Rattle.std.proofs.Common.{arith}
+use Rattle.std.proofs.Common.{arith, inl, ◌⊎◌}
 use Rattle.std.specs.Prelude.{find, nat_le, nat_lt, Some, None, unwrap_or}
 use Rattle.std.proofs.lemmas.Bool.{and_parts, ltb-true}
 use Rattle.tl_beat.{specs.declared.beat.BeatA.BeatA, specs.declared.channel.Channel.Channel}
@@ -14,13 +14,13 @@ use Rattle.tl_rules.specs.statement.Effect.{bytes_from, number_from}
 use Rattle.tl_rules.specs.statement.History.{held, request_of}
 use Rattle.tl_bytes.specs.statement.Bytes.{carried_mask, tells}
 use Rattle.tl_bytes.proofs.WorkedBeats.{done, eight, found, get, put}
-use Rattle.tl_one_memory.specs.statement.Run.{Happening}
+use Rattle.tl_one_memory.specs.statement.Run.{Happening, IsClean, TellsTrue}
 
-abbrev zeros : Memory
+abbrev pub zeros : Memory
 zeros address = 0
 
 -- the beat is taken on its link
-abbrev takes : Link × Beat 8 → Happening 8
+abbrev pub takes : Link × Beat 8 → Happening 8
 takes x = Takes x.0 x.1
 
 -- a Put of sevens is asked for, performed and answered
@@ -35,7 +35,7 @@ same_d : (x y : BeatD 8) → Beat.D x ≡ Beat.D y → x ≡ y
 same_d x y e = cc
 
 -- an answer to the access that is pending with its source
-answers-one : (first : Memory) (link : ℕ) (x : BeatD 8) (p : Access 8) (run : Run 8)
+pub answers-one : (first : Memory) (link : ℕ) (x : BeatD 8) (p : Access 8) (run : Run 8)
     → find (is_of link x.source) (pending_accesses (trace_in run)) ≡ Some p → IsAnswer first link x p run
     → (z : BeatD 8) (access : Access 8) → Beat.D x ≡ Beat.D z
     → find (is_of link z.source) (pending_accesses (trace_in run)) ≡ Some access → IsAnswer first link z access run
@@ -51,34 +51,54 @@ answers-one first link x p run is answer z access e =
 nil-cons : {X : Type 0} (x : X) (xs : List X) → [] ≡ x ∷ xs → ⊥
 nil-cons x xs e = cc
 
-unequal : true ≡ false → ⊥
+pub unequal : true ≡ false → ⊥
 unequal e = cc
 
--- a beat that begins where no response has, tells nothing and is no Grant, where no link holds anything
-plain : (link : Link) (x : Beat 8) (run : Run 8) → unfinished Channel.D (on_link link.0 (trace_in run)) ≡ []
+-- a beat that begins where no response has, and grants no data
+pub single : (link : Link) (x : Beat 8) (run : Run 8) → unfinished Channel.D (on_link link.0 (trace_in run)) ≡ []
+    → ((z : BeatA 8) → x ≡ Beat.A z → found_in zeros link.0 z.source run ≡ None)
+    → ((z : BeatD 8) (access : Access 8) → x ≡ Beat.D z → find (is_of link.0 z.source) (pending_accesses (trace_in run))
+    ≡ Some access → IsAnswer zeros link.0 z access run) → ((z : BeatD 8) → x ≡ Beat.D z → z.opcode ≡ OpD.GrantData → ⊥)
+    → ((address : ℕ) → is_free 2 None Perm.Branch (block_at address) ((link, x) ∷ trace_in run) ≡ true
+    → tells (block_at address) x (on_link link.0 (trace_in run)) ≡ true → TellsTrue zeros address link x run)
+    → ((block : ℕ) → is_free 2 None Perm.Trunk block (trace_in run) ≡ true
+    → is_free 2 None Perm.Trunk block ((link, x) ∷ trace_in run) ≡ false
+    → tells block x (on_link link.0 (trace_in run)) ≡ true)
+    → ((address : ℕ) → is_free 2 None Perm.Branch (block_at address) (trace_in run) ≡ false
+    → is_free 2 None Perm.Branch (block_at address) ((link, x) ∷ trace_in run) ≡ true
+    → (tells (block_at address) x (on_link link.0 (trace_in run)) ≡ true) ⊎ IsClean 2 zeros address run)
+    → IsTaken 2 zeros link x run
+single link x run fresh asks answers no_grant tells_so closes gives = record {
+  asks = λ z e both. asks z e;
+  asks_first = λ z y older e both begun no_ack same. nil-cons (Beat.D y) older (sym fresh ∙ begun);
+  continues = λ z y older e begun. absurd (nil-cons (Beat.D y) older (sym fresh ∙ begun));
+  answers_rightly = λ z access e no_ack pending. answers z access e pending;
+  grants_rightly = λ z asked e grant open_so. absurd (no_grant z e grant);
+  tells_rightly = λ address free told. tells_so address free told;
+  closes_told = λ block free closed. closes block free closed;
+  given_up_rightly = λ address held_so free. gives address held_so free;
+}
+
+-- one that tells nothing, where no link holds anything
+pub plain : (link : Link) (x : Beat 8) (run : Run 8) → unfinished Channel.D (on_link link.0 (trace_in run)) ≡ []
     → ((z : BeatA 8) → x ≡ Beat.A z → found_in zeros link.0 z.source run ≡ None)
     → ((z : BeatD 8) (access : Access 8) → x ≡ Beat.D z → find (is_of link.0 z.source) (pending_accesses (trace_in run))
     ≡ Some access → IsAnswer zeros link.0 z access run) → ((z : BeatD 8) → x ≡ Beat.D z → z.opcode ≡ OpD.GrantData → ⊥)
     → ((block : ℕ) → tells block x (on_link link.0 (trace_in run)) ≡ false)
     → ((block : ℕ) → is_free 2 None Perm.Branch block (trace_in run) ≡ true)
     → ((block : ℕ) → is_free 2 None Perm.Trunk block ((link, x) ∷ trace_in run) ≡ true) → IsTaken 2 zeros link x run
-plain link x run fresh asks answers no_grant untold before after = record {
-  asks = λ z e both. asks z e;
-  asks_first = λ z y older e both begun no_ack same. nil-cons (Beat.D y) older (sym fresh ∙ begun);
-  continues = λ z y older e begun. absurd (nil-cons (Beat.D y) older (sym fresh ∙ begun));
-  answers_rightly = λ z access e no_ack pending. answers z access e pending;
-  grants_rightly = λ z asked e grant open_so. absurd (no_grant z e grant);
-  tells_rightly = λ address free told. absurd (unequal (sym told ∙ untold (block_at address)));
-  closes_told = λ block free closed. absurd (unequal (sym (after block) ∙ closed));
-  given_up_told = λ block held_so free. absurd (unequal (sym (before block) ∙ held_so));
-}
+plain link x run fresh asks answers no_grant untold before after =
+    single link x run fresh asks answers no_grant
+    (λ address free told. absurd (unequal (sym told ∙ untold (block_at address))))
+    (λ block free closed. absurd (unequal (sym (after block) ∙ closed)))
+    (λ address held_so free. absurd (unequal (sym (before (block_at address)) ∙ held_so)))
 
 -- a response in a beat, and an access among those that are pending
-abbrev response : Beat 8 → BeatD 8 → BeatD 8
+abbrev pub response : Beat 8 → BeatD 8 → BeatD 8
 response (Beat.D x) other = x
 response _ other = other
 
-abbrev pending_of : ℕ → ℕ → Run 8 → Access 8 → Access 8
+abbrev pub pending_of : ℕ → ℕ → Run 8 → Access 8 → Access 8
 pending_of link source run other = unwrap_or (find (is_of link source) (pending_accesses (trace_in run))) other
 
 put-taken : IsTaken {w = 8} 2 zeros (record { 0 = 0 }) (put 0 0 3 (eight 7) 255).1 []
@@ -97,7 +117,7 @@ put-performed = record {
   access = _;
   pending = refl;
   once = refl;
-  reads_free = λ address reached. refl;
+  reads_free = λ address reached. inl refl;
   writes_free = λ address written. refl;
 }
 
@@ -139,7 +159,7 @@ get-performed = record {
   access = _;
   pending = refl;
   once = refl;
-  reads_free = λ address reached. refl;
+  reads_free = λ address reached. inl refl;
   writes_free = λ address writing. refl;
 }
 

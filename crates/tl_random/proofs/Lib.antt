@@ -1,3 +1,4 @@
 mod Events
+mod Played
 mod Schedules
 mod Written

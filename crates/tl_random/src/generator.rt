@@ -5,9 +5,10 @@ ghost use Rattle.tl_beat.specs.statement.Width.{IsWidth};
 ghost use Rattle.tl_schedule.specs.statement.EventLine.{drain_line};
 ghost use Rattle.tl_coherence.specs.statement.Log.{Log};
 ghost use Rattle.tl_engine.specs.code.PlayableWorld.{HasHappened};
+ghost use Rattle.tl_params.specs.declared.config.Config.{Config};
 ghost use Rattle.tl_random.specs.statement.Draw.{Draws, below, words_from, words_of};
-ghost use Rattle.tl_random.specs.statement.Drawn.{asking_line, block_below, block_of, delivery_line, is_idle};
-ghost use Rattle.tl_random.specs.statement.Drawn.{line_drawn, takes};
+ghost use Rattle.tl_random.specs.statement.Drawn.{GrowsByPlay, IsDrainedOf, IsFreshOf, asking_line, block_below, block_of};
+ghost use Rattle.tl_random.specs.statement.Drawn.{delivery_line, is_idle, line_drawn, takes};
 ghost use Rattle.tl_random.specs.statement.Random.{GrowsByLine};
 
 use crate::choose::{channel, request};
@@ -135,6 +136,7 @@ fn fresh_world<const W: usize>(
     options: &Options,
 ) -> Result<World<W, AnyClient<W>, BitDirectory>, AllocError>
     requires { IsWidth W }
+    ensures { IfOk result (λ world. IsFreshOf options.now.config world) }
 {
     let config = Config {
         blocks: options.config.blocks,
@@ -149,7 +151,8 @@ impl<const W: usize> Generator<W> {
     /// A generator of the options' seed, and the world that they name.
     pub(crate) fn new(alloc: Global, options: &Options) -> Result<Self, AllocError>
         requires { IsWidth W }
-        ensures { IfOk result (λ generator. words_from generator.rng ≡ words_of options.now.seed) }
+        ensures words { IfOk result (λ generator. words_from generator.rng ≡ words_of options.now.seed) }
+        ensures world { IfOk result (λ generator. IsFreshOf options.now.config generator.world) }
     {
         Ok(Generator {
             rng: Xoshiro256PlusPlus::seed_from_u64(options.seed),
@@ -181,20 +184,25 @@ impl<const W: usize> Generator<W> {
     /// Appends a line that drains the world, and drains it.
     fn append_drain(&mut self, out: &mut Vec<u8>) -> Result<(), AllocError>
         requires { IsWidth W }
-        ensures { OnOk result (out.new.items ≡ out.old.items ++ drain_line) }
+        ensures line { OnOk result (out.new.items ≡ out.old.items ++ drain_line) }
+        ensures drained { (config : Config) (log : Log W) → HasHappened config self.old.world log →
+            IsDrainedOf config log self.new.world }
     {
         self.world.drain();
         out.extend_from_slice(b"drain\n")
     }
 
-    /// Appends the next line: of an event of the world that the options name, or that drains it.
+    /// Appends the next line: of an event of the world that the options name, or that drains it. The world has then
+    /// gone on by the events that were tried in vain and by that line.
     pub(crate) fn append_line(
         &mut self,
         options: &Options,
         out: &mut Vec<u8>,
     ) -> Result<(), AllocError>
         requires { IsWidth W }
-        ensures { OnOk result (GrowsByLine W options.now.config out.old.items out.new.items) }
+        ensures line { OnOk result (GrowsByLine W options.now.config out.old.items out.new.items) }
+        ensures played { OnOk result ((config : Config) →
+            GrowsByPlay config self.old.world self.new.world out.old.items out.new.items) }
     {
         if is_one_in(&mut self.rng, DRAIN) {
             return self.append_drain(out);

@@ -1,6 +1,6 @@
 -- What is found in a trace, line by line.
 use Rattle.std.proofs.Common.{◌≡◌, ◌≢◌, ℕ, suc, ◌+◌, ◌-◌, Bool, true, false, List, [], ◌∷◌, ◌++◌, length, refl, ap, sym}
-use Rattle.std.proofs.Common.{◌∙◌, arith, append_assoc, eqb-true, length-append, inl, inr}
+use Rattle.std.proofs.Common.{◌∙◌, arith, append_assoc, eqb-true, length-append, inl, inr, subst}
 use Rattle.std.specs.Prelude.{IfOk, Option, Some, None, Result, Ok, Err, ◌||◌, ◌==◌, not, nat_lt, if◌then◌else◌}
 use Rattle.std.specs.Io.BufRead.{ends_with_byte}
 use Rattle.std.specs.Io.KnownBytes.{Consumes}
@@ -35,6 +35,7 @@ use Rattle.tl_report.specs.declared.search_lines.SearchLines.{SearchLines}
 use Rattle.tl_report.specs.declared.search_lines.SearchLines.TheVariants.{Waiting, Four, Eight, Sixteen}
 use Rattle.tl_report.specs.statement.Found.{Finds, FindsAfter, is_open, left_behind, most_of, no_header}
 use Rattle.tl_report.specs.statement.Said.{Searches}
+use Rattle.tl_report.specs.statement.Taken.{AreCounted, cell_of, cells_of}
 use Rattle.tl_report.specs.code.Searching.{EndsLines, EndsSearch, EndsWith, HasFound, IsBegun, IsElsewhereSame, JudgesLine}
 use Rattle.tl_report.specs.code.Searching.{KnowsLines, KnowsSearch, Notes, SearchesLine, TellsLines, aim_of}
 
@@ -70,6 +71,12 @@ some_behind line left behind many is more = go (is_open line) more
         let few = ltb-false behind (many + 1) e in
         (omega (arith, is, few), omega (arith, is, few))
 
+-- ---- the beats that are counted
+
+counted_alike : (f g : Findings) (taken : List ℕ) → f ≡ g → AreCounted g.beats g.cells.items taken
+    → AreCounted f.beats f.cells.items taken
+counted_alike f g taken same is = subst (λ (x : Findings). AreCounted x.beats x.cells.items taken) (sym same) is
+
 -- ---- a beat that is judged
 
 module _ {w : ℕ} (old new : Search w) (link : Link) (beat : Beat w) where
@@ -78,17 +85,19 @@ module _ {w : ℕ} (old new : Search w) (link : Link) (beat : Beat w) where
   Judges_so fault = (together : Bool) (levels : List Level) (p : Profile) (t : Trace w)
       → KnowsBeats together old.judge levels p t → JudgesBeat together new.judge levels p t (link, beat) fault
 
-  pub take_good : Judges_so None → new.findings.beats ≡ old.findings.beats + 1 → (line : List ℕ) → Spells line link beat
-      → JudgesLine old new line None
+  pub take_good : Judges_so None
+      → ((taken : List ℕ) → AreCounted old.findings.beats old.findings.cells.items taken
+      → AreCounted new.findings.beats new.findings.cells.items (cell_of link beat ∷ taken))
+      → (line : List ℕ) → Spells line link beat → JudgesLine old new line None
   take_good judged one line spells = λ levels p t known many.
       let (good, knows) = judged old.aim.together levels p t known in
-      (link, beat, spells, good, knows, one ∙ ap (λ (n : ℕ). n + 1) many)
+      (link, beat, spells, good, knows, one (cells_of t) many)
 
-  pub take_bad : (fault : Fault) → Judges_so (Some fault) → new.findings.beats ≡ old.findings.beats → (line : List ℕ)
+  pub take_bad : (fault : Fault) → Judges_so (Some fault) → new.findings ≡ old.findings → (line : List ℕ)
       → Spells line link beat → JudgesLine old new line (Some fault)
   take_bad fault judged same line spells = λ levels p t known many.
       let (bad, knows) = judged old.aim.together levels p t known in
-      (inr (link, beat, spells, bad), knows, same ∙ many)
+      (inr (link, beat, spells, bad), knows, counted_alike new.findings old.findings (cells_of t) same many)
 
 pub at_line : {w : ℕ} {E : Type 0} (old new : Search w) (line : List ℕ) (link : Link) (beat : Beat w)
     (r : Result (Option Fault) E) → IfOk r (λ fault. (line : List ℕ) → Spells line link beat → JudgesLine old new line fault)
@@ -112,19 +121,18 @@ module _ {w : ℕ} (old mid : Search w) (line : List ℕ) (same : IsElsewhereSam
       let aim_is : new.aim ≡ old.aim = aim ∙ same.aim_is in
       let found_is : new.findings.faults.items ≡ old.findings.faults.items =
       ap (λ (f : Findings). f.faults.items) findings ∙ same.found_is in
-      let beats_are : new.findings.beats ≡ mid.findings.beats = ap (λ (f : Findings). f.beats) findings in
       record {
         levels = k.levels;
         profile = k.profile;
         trace = (link, beat) ∷ k.trace;
         left = k.left;
         known = rw (aim_is, judge) known;
-        so_many = omega (arith, beats_are, many);
+        so_many = counted_alike new.findings mid.findings _ findings many;
         most_are = rw (aim_is, found_is) k.most_are;
         unended = over ∙ same.over_is ∙ k.unended;
         some = not_nothing before line;
-        before = λ more later beats found. rw (aim_is, found_is, append_assoc before (line ∷ []) more)
-            (k.before (line ∷ more) later beats (inl (link, beat, spells, good, rw (aim_is, lines) at found)));
+        before = λ more later beats cells found. rw (aim_is, found_is, append_assoc before (line ∷ []) more)
+            (k.before (line ∷ more) later beats cells (inl (link, beat, spells, good, rw (aim_is, lines) at found)));
       }
 
   module _ (at_line new : Search w) (number : ℕ) (fault : Fault) (judged : JudgesLine old mid line (Some fault))
@@ -141,8 +149,8 @@ module _ {w : ℕ} (old mid : Search w) (line : List ℕ) (same : IsElsewhereSam
         ap (λ (f : Findings). f.faults.items) findings ∙ same.found_is in
         let found_is : new.findings.faults.items ≡ old.findings.faults.items ++ record { line = old.lines + 1; fault = fault } ∷ [] =
         notes.found_is ∙ rw (had, number_is) refl in
-        let beats_are : new.findings.beats ≡ length k.trace =
-        notes.beats_are ∙ ap (λ (f : Findings). f.beats) findings ∙ many in
+        let counted : AreCounted new.findings.beats new.findings.cells.items (cells_of k.trace) =
+        rw (notes.beats_are, notes.cells_are) (counted_alike at_line.findings mid.findings _ findings many) in
         let unended : new.over ≡ false = unended_by new.over notes.more_is in
         let more_is : (is_open line || nat_lt old.aim.behind (length old.findings.faults.items + 1)) ≡ false =
         rw (aim ∙ same.aim_is, had) at (sym notes.over_is ∙ unended) in
@@ -153,18 +161,18 @@ module _ {w : ℕ} (old mid : Search w) (line : List ℕ) (same : IsElsewhereSam
           trace = k.trace;
           left = k.left - 1;
           known = rw (aim_is, judge_is) known;
-          so_many = beats_are;
+          so_many = counted;
           most_are = rw (aim_is, found_is, length-append old.findings.faults.items (record { line = old.lines + 1; fault = fault } ∷ []))
               room.1;
           unended = unended;
           some = not_nothing before line;
-          before = λ more later beats found. rw (
+          before = λ more later beats cells found. rw (
             aim_is,
             found_is,
             append_assoc before (line ∷ []) more,
             append_assoc old.findings.faults.items (record { line = old.lines + 1; fault = fault } ∷ []) later,
           )
-              (k.before (line ∷ more) (record { line = old.lines + 1; fault = fault } ∷ later) beats
+              (k.before (line ∷ more) (record { line = old.lines + 1; fault = fault } ∷ later) beats cells
               (inr (
                 fault,
                 later,
@@ -188,15 +196,15 @@ module _ {w : ℕ} (old mid : Search w) (line : List ℕ) (same : IsElsewhereSam
         ap (λ (f : Findings). f.faults.items) findings ∙ same.found_is in
         let found_is : new.findings.faults.items ≡ old.findings.faults.items ++ record { line = old.lines + 1; fault = fault } ∷ [] =
         notes.found_is ∙ rw (had, number_is) refl in
-        let beats_are : new.findings.beats ≡ length k.trace =
-        notes.beats_are ∙ ap (λ (f : Findings). f.beats) findings ∙ many in
+        let counted : AreCounted new.findings.beats new.findings.cells.items (cells_of k.trace) =
+        rw (notes.beats_are, notes.cells_are) (counted_alike at_line.findings mid.findings _ findings many) in
         let ended : new.over ≡ true = ended_by new.over notes.more_is in
         let last_is : (is_open line || nat_lt old.aim.behind (length old.findings.faults.items + 1)) ≡ true =
         rw (aim ∙ same.aim_is, had) at (sym notes.over_is ∙ ended) in
         let none = none_behind line k.left old.aim.behind (length old.findings.faults.items) k.most_are last_is in
         rw (aim_is, ended, found_is)
         (k.before (line ∷ more) (record { line = old.lines + 1; fault = fault } ∷ []) new.findings.beats
-        (inr (fault, [], is, refl, rw none (refl, beats_are))))
+        new.findings.cells.items (inr (fault, [], is, refl, rw none (refl, counted))))
       where
         ended_by : (over : Bool) → false ≡ not over → over ≡ true
         ended_by true e = refl
@@ -213,11 +221,11 @@ begun line wide p levels aim s spells is = record {
   trace = [];
   left = s.aim.behind;
   known = rw is.aim_is is.known;
-  so_many = is.no_beats;
+  so_many = is.none_taken;
   most_are = rw is.none_found (omega arith);
   unended = is.unended;
   some = λ e. cc;
-  before = λ more later beats found.
+  before = λ more later beats cells found.
       rw is.none_found (inl (wide, p, levels, spells, rw is.header at found));
 }
 
@@ -229,14 +237,14 @@ module _ (alloc : Global) (aim : Aim) (line : List ℕ)
     (none : (width : Width) (p : Profile) (levels : List Level) → ¬ SpellsHeader line width p levels) where
   pub no_header_ends : Ends KnowsLines EndsLines (Waiting alloc aim) (Waiting alloc aim) line
   unfolding Finds
-  no_header_ends = λ lines text known more. rw known (inr (none, refl, refl))
+  no_header_ends = λ lines text known more beats cells counted. rw known (inr (none, refl, counted))
 
 pub stops : (h : SearchLines) (line was is : List ℕ) (fault : Fault) → Stops KnowsLines TellsLines h line was is fault
 stops h line was is fault = λ lines before known more broken. unclean broken
 
 pub missing_ends : (alloc : Global) (aim : Aim) → EndsHere KnowsLines EndsLines (Waiting alloc aim)
 unfolding Finds
-missing_ends alloc aim = λ lines text known. rw known (refl, refl)
+missing_ends alloc aim = λ lines text known beats cells counted. rw known (refl, counted)
 
 -- ---- what the handler says of a line
 
@@ -274,7 +282,7 @@ opened : {w : ℕ} (s : Search w) (line : List ℕ) (lines : List (List ℕ)) �
 unfolding FindsAfter
 opened {w} s line lines k is more =
     rw k.unended (k.before (line ∷ more) (record { line = s.lines + 1; fault = Line F1 } ∷ []) s.findings.beats
-    (inr (Line F1, [], inl (F1, open_fault w line is, refl), refl, rw (open_is line is) (refl, k.so_many))))
+    s.findings.cells.items (inr (Line F1, [], inl (F1, open_fault w line is, refl), refl, rw (open_is line is) (refl, k.so_many))))
 
 abbrev IsRead : SearchLines → Type 0
 IsRead h = (alloc : Global) (aim : Aim) → h ≡ Waiting alloc aim → ⊥
@@ -296,21 +304,21 @@ read_clean (Sixteen s) read count was is = λ lines before k counted clean. k.so
 
 -- what was found, where all lines were read
 all_found : {w : ℕ} (s : Search w) (lines : List (List ℕ)) → KnowsSearch s lines
-    → Finds (faults_by s.aim.together) (most_of s.aim) lines s.findings.faults.items s.findings.beats
+    → Finds (faults_by s.aim.together) (most_of s.aim) lines s.findings.faults.items s.findings.beats s.findings.cells.items
 unfolding FindsAfter
 all_found s lines k = rw (append-nil lines, append-nil s.findings.faults.items) at
-    (k.before [] [] s.findings.beats (refl, k.so_many))
+    (k.before [] [] s.findings.beats s.findings.cells.items (refl, k.so_many))
 
 found_in : {w : ℕ} (s : Search w) (status : Status) (f : Findings) (lines : List (List ℕ)) → EndsWith status s.over s.findings s.lines f
     → ((status ≡ Clean) → KnowsSearch s lines) → ((status ≡ Broken) → EndsSearch s lines)
-    → Finds (faults_by s.aim.together) (most_of s.aim) lines f.faults.items f.beats
-found_in s Clean f lines is knows ends = rw (is.0, is.1) (all_found s lines (knows refl))
-found_in s Broken f lines is knows ends = rw (is.0, is.1) (ends refl)
+    → Finds (faults_by s.aim.together) (most_of s.aim) lines f.faults.items f.beats f.cells.items
+found_in s Clean f lines is knows ends = rw (is.0, is.1, is.2) (all_found s lines (knows refl))
+found_in s Broken f lines is knows ends = rw (is.0, is.1, is.2) (ends refl)
 
-pub no_lines : (alloc : Global) (aim : Aim) (status : Status) (f : Findings) → f.faults.items ≡ no_header → f.beats ≡ 0
-    → HasFound (Waiting alloc aim) status f
+pub no_lines : (alloc : Global) (aim : Aim) (status : Status) (f : Findings) → f.faults.items ≡ no_header
+    → AreCounted f.beats f.cells.items [] → HasFound (Waiting alloc aim) status f
 no_lines alloc aim Clean f found none lines has some = absurd (some refl has.1)
-no_lines alloc aim Broken f found none lines has some = rw (found, none) has
+no_lines alloc aim Broken f found none lines has some = rw found (has f.beats f.cells.items none)
 
 module _ {w : ℕ} (wrap : Search w → SearchLines)
     (into : (s : Search w) (lines : List (List ℕ)) (text : List ℕ) → KnowsLines (wrap s) lines text → KnowsSearch s lines)
@@ -330,7 +338,7 @@ pub searches : (had left : Option (List ℕ)) (h : SearchLines) (aim : Aim) (tex
     × EndsAs TellsLines left read text status × HasAll KnowsLines EndsLines h (lines_of read) status
     × Stands EndsLines left read h
     → HasFound h status f → aim_of h ≡ aim
-    → Searches aim.together (most_of aim) had left f.faults.items f.beats
+    → Searches aim.together (most_of aim) had left f.faults.items f.beats f.cells.items
 searches had left h aim text Clean f (read, consumed, told, ended, has, stands) found is = (
   read,
   consumed,

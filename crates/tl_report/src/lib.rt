@@ -4,6 +4,7 @@
 pub mod find;
 pub mod findings;
 pub mod law;
-mod say;
+pub mod say;
 pub mod search;
-mod search_lines;
+pub mod search_lines;
+pub mod taken;

@@ -9,6 +9,7 @@ ghost use Rattle.tl_report.specs.code.Searching.{EndsWith, IsBegun, IsElsewhereS
 ghost use Rattle.tl_report.specs.statement.Found.{is_open};
 
 use crate::findings::{Finding, Findings};
+use crate::taken::cell_of;
 use std::alloc::{AllocError, Global};
 use tl_beat::beat::{Beat, Link};
 use tl_beat::fault::LineFault;
@@ -47,10 +48,7 @@ impl<const W: usize> Search<W> {
         Ok(Search {
             aim,
             judge: BeatJudge::new(alloc, aim.together, header)?,
-            findings: Findings {
-                faults: Vec::new(alloc),
-                beats: 0,
-            },
+            findings: Findings::new(alloc)?,
             lines: 1,
             over: false,
         })
@@ -63,10 +61,9 @@ impl<const W: usize> Search<W> {
             JudgesLine self.old self.new line fault) }
         ensures same { IfOk result (λ _. IsElsewhereSame self.old self.new) }
     {
-        let next = self.findings.beats.checked_add(1).ok_or(AllocError)?;
         match self.judge.push(link, beat)? {
             None => {
-                self.findings.beats = next;
+                self.findings.count(cell_of(link, beat))?;
                 Ok(None)
             }
             Some(fault) => Ok(Some(fault)),

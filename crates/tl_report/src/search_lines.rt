@@ -1,9 +1,10 @@
 //! Searches the lines of an input for those at fault.
 
-ghost use Rattle.std.specs.Prelude.{◌≡◌, IfOk};
+ghost use Rattle.std.specs.Prelude.{◌≡◌, [], IfOk};
 ghost use Rattle.tl_engine.specs.declared.status.Status.{Status};
 ghost use Rattle.tl_report.specs.code.Searching.{Begins, EndsLines, HasFound, KnowsLines, TellsLines, aim_of};
 ghost use Rattle.tl_report.specs.statement.Found.{no_header};
+ghost use Rattle.tl_report.specs.statement.Taken.{AreCounted};
 
 use crate::findings::{Finding, Findings};
 use crate::search::Search;
@@ -44,14 +45,14 @@ fn begin(alloc: Global, aim: Aim, line: &[u8]) -> Result<Option<SearchLines>, Al
 
 /// What is found in a trace without a header.
 fn no_header(alloc: Global) -> Result<Findings, AllocError>
-    ensures { IfOk result (λ f. (f.faults.items ≡ no_header) × (f.beats ≡ 0)) }
+    ensures { IfOk result (λ f. (f.faults.items ≡ no_header) × AreCounted f.beats f.cells.items []) }
 {
-    let mut faults = Vec::new(alloc);
-    faults.push(Finding {
+    let mut findings = Findings::new(alloc)?;
+    findings.faults.push(Finding {
         line: 1,
         fault: Fault::Header,
     })?;
-    Ok(Findings { faults, beats: 0 })
+    Ok(findings)
 }
 
 impl SearchLines {

@@ -17,7 +17,8 @@ use Rattle.tl_rules.specs.statement.Conformance.{Trace, on_link}
 use Rattle.tl_rules.specs.statement.History.{begins, is_grant, held, capped}
 use Rattle.tl_monitor.specs.statement.Granting.{granted, granted_on}
 use Rattle.tl_monitor.specs.statement.Knows.{held_on, begins_on, request_on}
-use Rattle.tl_rules.specs.statement.Windows.{is_free, leaves, needs, has_window}
+use Rattle.tl_rules.specs.statement.Windows.{is_free, leaves, needs}
+use Rattle.tl_bytes.specs.statement.Shown.{had_window}
 use Rattle.tl_together.specs.statement.Coherence.{is_grantable, is_performed}
 use Rattle.tl_together.specs.statement.Coherence.{broken_grant, broken_access, broken_response, broken_memory}
 use Rattle.tl_together.specs.statement.Coherence.{broken_beginning, broken_bytes, memory_rule_or}
@@ -25,7 +26,7 @@ use Rattle.tl_memory.specs.code.Taking.{request_answered}
 use Rattle.tl_together.specs.declared.breach.MemoryRule.{MemoryRule}
 use Rattle.tl_together.specs.declared.breach.MemoryRule.TheVariants.{M1, M4}
 use Rattle.tl_together.specs.declared.windows.Window.{Window}
-use Rattle.tl_together.specs.code.Windows.{asked_at, last_free, last_in, window_in, KnowsWindows}
+use Rattle.tl_together.specs.code.Windows.{asked_at, window_at, last_in, window_in, KnowsWindows}
 use Rattle.tl_together.proofs.Windowed.{free_window, window-is}
 
 -- one link more
@@ -70,7 +71,7 @@ free_all n links block t reading writing e known = rw (sym e) known
 
 pub window_free : {w : ℕ} (links n link source : ℕ) (given : Perm) (block : ℕ) (t : Trace w) (r : Bool) → links ≡ n
     → is_some (open_request source (on_link link t)) ≡ true
-    → r ≡ is_free links None given block t → r ≡ true → true ≡ has_window n link source given block t
+    → r ≡ is_free links None given block t → r ≡ true → true ≡ had_window n link source given block t
 window_free links n link source given block t r links_is asked r_is free =
     sym (free_window n link source given block t asked (sym (r_is ∙ ap (λ m. is_free m None given block t) links_is)
     ∙ free))
@@ -80,13 +81,13 @@ pub window_asked : {w : ℕ} (links n link source : ℕ) (given : Perm) (block :
     → is_some (open_request source (on_link link t)) ≡ true
     → r ≡ is_free links None given block t → r ≡ false → Some a ≡ noted → noted ≡ Some (asked_at link source t)
     → last ≡ last_in given (window_in entries block)
-    → KnowsWindows entries n t → nat_le a last ≡ has_window n link source given block t
+    → KnowsWindows entries n t → nat_le a last ≡ had_window n link source given block t
 window_asked links n link source given block t r a last entries noted links_is asked r_is closed found known last_is
     windows =
     let same : a ≡ asked_at link source t = of_some (found ∙ known) in
     let gone : is_free n None given block t ≡ false = sym (r_is ∙ ap (λ m. is_free m None given block t) links_is)
     ∙ closed in
-    let then' : last ≡ last_free n given block t = last_is ∙ windows given block gone in
+    let then' : last ≡ window_at n given block t = last_is ∙ windows given block gone in
     rw (same, then') (sym (window-is n link source given block t ∙ rw asked refl))
   where
     of_some : {x y : ℕ} → Some x ≡ Some y → x ≡ y
@@ -123,7 +124,7 @@ grant_is links n link x given asked t r links_is given_is r_is b e =
 
 pub access_is : {w : ℕ} (n link : ℕ) (x : BeatD w) (given : Perm) (asked : Request) (t : Trace w) (r : Bool)
     → given ≡ needs asked.opcode
-    → r ≡ has_window n link x.source given asked.block t → (b : Bool) → r ≡ b
+    → r ≡ had_window n link x.source given asked.block t → (b : Bool) → r ≡ b
     → (if b then None else Some M4) ≡ broken_access n link x (Some asked) t
 access_is n link x given asked t r given_is r_is b e =
     ap (λ c. if c then None else Some M4) (sym e ∙ r_is ∙ rw given_is refl)

@@ -18,7 +18,8 @@ use Rattle.tl_rules.specs.statement.History.{request_of, release_of, probe_of, g
 use Rattle.tl_rules.specs.statement.Legality.{illegal, first_illegal, each_below}
 use Rattle.tl_together.specs.declared.breach.Breach.TheVariants.{OfLink, OfMemory}
 use Rattle.tl_together.specs.declared.breach.MemoryRule.TheVariants.{M1, M4}
-use Rattle.tl_rules.specs.statement.Windows.{is_free, has_window}
+use Rattle.tl_rules.specs.statement.Windows.{is_free}
+use Rattle.tl_bytes.specs.statement.Shown.{had_window}
 use Rattle.tl_bytes.specs.statement.Bytes.{before_last, carried_byte, each_from, may_be, may_read, pending_accesses}
 use Rattle.tl_together.specs.statement.Coherence.{breach_from, first_breach, is_grantable}
 
@@ -63,6 +64,22 @@ probe_perm link cap = (
   record { 0 = link },
   beat.B (record {
     opcode = b.ProbePerm;
+    param = cap;
+    size = 6;
+    source = 0;
+    address = 0;
+    mask = 255;
+    lanes = None;
+    corrupt = false;
+    carries = refl;
+  }),
+)
+
+abbrev probe_block : ℕ → ℕ → Link × Beat 8
+probe_block link cap = (
+  record { 0 = link },
+  beat.B (record {
+    opcode = b.ProbeBlock;
     param = cap;
     size = 6;
     source = 0;
@@ -151,7 +168,7 @@ one_writes rest = acquire_perm 0 1 ∷ grant 0 0 0 ∷ grant_ack 0 0 ∷ rest
 -- Trunk for both
 two_writers : first_breach two_caches profile.One (one_writes (acquire_perm 1 1 ∷ grant 1 0 1 ∷ [])) ≡ Some
     (4, OfMemory M1)
-unfolding breach_from is_free is_grantable has_window on_link unfinished request_of release_of probe_of grant_sink pending
+unfolding breach_from is_free is_grantable had_window on_link unfinished request_of release_of probe_of grant_sink pending
     held
     illegal first_illegal each_below broken_order broken_after pending_accesses each_from may_read before_last may_be
     carried_byte
@@ -160,7 +177,7 @@ two_writers = refl
 -- a copy beside Trunk
 a_reader_beside_a_writer : first_breach two_caches profile.One (one_writes (acquire_perm 1 0 ∷ grant 1 1 1 ∷ [])) ≡ Some
     (4, OfMemory M1)
-unfolding breach_from is_free is_grantable has_window on_link unfinished request_of release_of probe_of grant_sink pending
+unfolding breach_from is_free is_grantable had_window on_link unfinished request_of release_of probe_of grant_sink pending
     held
     illegal first_illegal each_below broken_order broken_after pending_accesses each_from may_read before_last may_be
     carried_byte
@@ -169,7 +186,7 @@ a_reader_beside_a_writer = refl
 -- the first has given all up
 one_after_the_other : first_breach two_caches profile.One
     (one_writes (acquire_perm 1 1 ∷ probe_perm 0 2 ∷ probe_ack 0 1 ∷ grant 1 0 1 ∷ [])) ≡ None
-unfolding breach_from is_free is_grantable has_window on_link unfinished request_of release_of probe_of grant_sink pending
+unfolding breach_from is_free is_grantable had_window on_link unfinished request_of release_of probe_of grant_sink pending
     held
     illegal first_illegal each_below broken_order broken_after pending_accesses each_from may_read before_last may_be
     carried_byte
@@ -178,7 +195,7 @@ one_after_the_other = refl
 -- the first has kept a copy, and the second has one
 two_readers : first_breach two_caches profile.One
     (one_writes (acquire_perm 1 0 ∷ probe_perm 0 1 ∷ probe_ack 0 0 ∷ grant 1 1 1 ∷ [])) ≡ None
-unfolding breach_from is_free is_grantable has_window on_link unfinished request_of release_of probe_of grant_sink pending
+unfolding breach_from is_free is_grantable had_window on_link unfinished request_of release_of probe_of grant_sink pending
     held
     illegal first_illegal each_below broken_order broken_after pending_accesses each_from may_read before_last may_be
     carried_byte
@@ -219,7 +236,7 @@ grant_data link cap sink = (
 
 granted_to_both : first_breach two_caches profile.One
     (acquire_block 0 1 ∷ acquire_block 1 1 ∷ grant_data 0 0 0 ∷ grant_data 1 0 1 ∷ []) ≡ Some (3, OfMemory M1)
-unfolding breach_from is_free is_grantable has_window on_link unfinished request_of release_of probe_of grant_sink pending
+unfolding breach_from is_free is_grantable had_window on_link unfinished request_of release_of probe_of grant_sink pending
     held illegal first_illegal each_below broken_order broken_after pending_accesses each_from may_read before_last may_be
     carried_byte
 granted_to_both = refl
@@ -227,14 +244,14 @@ granted_to_both = refl
 -- to read, both may
 granted_to_readers : first_breach two_caches profile.One
     (acquire_block 0 0 ∷ acquire_block 1 0 ∷ grant_data 0 1 0 ∷ grant_data 1 1 1 ∷ []) ≡ None
-unfolding breach_from is_free is_grantable has_window on_link unfinished request_of release_of probe_of grant_sink pending
+unfolding breach_from is_free is_grantable had_window on_link unfinished request_of release_of probe_of grant_sink pending
     held illegal first_illegal each_below broken_order broken_after pending_accesses each_from may_read before_last may_be
     carried_byte
 granted_to_readers = refl
 
 -- a Get that is answered while another link may write
 a_get_beside_a_writer : first_breach two_caches profile.One (one_writes (get 1 ∷ answer 1 ∷ [])) ≡ Some (4, OfMemory M4)
-unfolding breach_from is_free is_grantable has_window on_link unfinished request_of release_of probe_of grant_sink pending
+unfolding breach_from is_free is_grantable had_window on_link unfinished request_of release_of probe_of grant_sink pending
     held
     illegal first_illegal each_below broken_order broken_after pending_accesses each_from may_read before_last may_be
     carried_byte
@@ -242,7 +259,7 @@ a_get_beside_a_writer = refl
 
 -- an access that is denied isn't performed, and needs no moment
 a_denied_get_beside_a_writer : first_breach two_caches profile.One (one_writes (get 1 ∷ denial 1 ∷ [])) ≡ None
-unfolding breach_from is_free is_grantable has_window on_link unfinished request_of release_of probe_of grant_sink pending
+unfolding breach_from is_free is_grantable had_window on_link unfinished request_of release_of probe_of grant_sink pending
     held
     illegal first_illegal each_below broken_order broken_after pending_accesses each_from may_read before_last may_be
     carried_byte
@@ -251,15 +268,42 @@ a_denied_get_beside_a_writer = refl
 -- the other has become a reader first
 a_get_after_a_probe : first_breach two_caches profile.One
     (one_writes (get 1 ∷ probe_perm 0 1 ∷ probe_ack 0 0 ∷ answer 1 ∷ [])) ≡ None
-unfolding breach_from is_free is_grantable has_window on_link unfinished request_of release_of probe_of grant_sink pending
+unfolding breach_from is_free is_grantable had_window on_link unfinished request_of release_of probe_of grant_sink pending
     held
     illegal first_illegal each_below broken_order broken_after pending_accesses each_from may_read before_last may_be
     carried_byte
 a_get_after_a_probe = refl
 
+-- the other stays a writer, and its report says that it has written nothing
+a_get_that_is_shown : first_breach two_caches profile.One
+    (one_writes (get 1 ∷ probe_block 0 0 ∷ probe_ack 0 3 ∷ answer 1 ∷ [])) ≡ None
+unfolding breach_from is_free is_grantable had_window on_link unfinished request_of release_of probe_of grant_sink pending
+    held
+    illegal first_illegal each_below broken_order broken_after pending_accesses each_from may_read before_last may_be
+    carried_byte
+a_get_that_is_shown = refl
+
+-- the answer to a ProbePerm doesn't say so
+a_get_that_is_shown_nothing : first_breach two_caches profile.One
+    (one_writes (get 1 ∷ probe_perm 0 0 ∷ probe_ack 0 3 ∷ answer 1 ∷ [])) ≡ Some (6, OfMemory M4)
+unfolding breach_from is_free is_grantable had_window on_link unfinished request_of release_of probe_of grant_sink pending
+    held
+    illegal first_illegal each_below broken_order broken_after pending_accesses each_from may_read before_last may_be
+    carried_byte
+a_get_that_is_shown_nothing = refl
+
+-- and what it said before the Get is over
+a_get_that_is_shown_too_early : first_breach two_caches profile.One
+    (one_writes (probe_block 0 0 ∷ probe_ack 0 3 ∷ get 1 ∷ answer 1 ∷ [])) ≡ Some (6, OfMemory M4)
+unfolding breach_from is_free is_grantable had_window on_link unfinished request_of release_of probe_of grant_sink pending
+    held
+    illegal first_illegal each_below broken_order broken_after pending_accesses each_from may_read before_last may_be
+    carried_byte
+a_get_that_is_shown_too_early = refl
+
 -- the Get was performed before the other became a writer, and its answer comes later
 a_late_answer : first_breach two_caches profile.One (get 1 ∷ one_writes (answer 1 ∷ [])) ≡ None
-unfolding breach_from is_free is_grantable has_window on_link unfinished request_of release_of probe_of grant_sink pending
+unfolding breach_from is_free is_grantable had_window on_link unfinished request_of release_of probe_of grant_sink pending
     held
     illegal first_illegal each_below broken_order broken_after pending_accesses each_from may_read before_last may_be
     carried_byte
@@ -267,7 +311,7 @@ a_late_answer = refl
 
 -- a broken rule of the link comes first
 a_rule_of_the_link : first_breach two_caches profile.One (one_writes (grant 1 0 1 ∷ [])) ≡ Some (3, OfLink H2)
-unfolding breach_from is_free is_grantable has_window on_link unfinished request_of release_of probe_of grant_sink pending
+unfolding breach_from is_free is_grantable had_window on_link unfinished request_of release_of probe_of grant_sink pending
     held
     illegal first_illegal each_below broken_order broken_after pending_accesses each_from may_read before_last may_be
     carried_byte

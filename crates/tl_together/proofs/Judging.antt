@@ -25,7 +25,7 @@ use Rattle.tl_memory.specs.statement.Memory.{KnowsMemory}
 use Rattle.tl_together.specs.statement.Coherence.{broken_memory, first_broken}
 use Rattle.tl_together.specs.statement.Knows.{Knows, KnowsTrace, Answers, fault_of, broken, closed_after}
 use Rattle.tl_together.specs.code.Windows.{NotesRequest, NotesWindow, KnowsAsked, KnowsWindows}
-use Rattle.tl_together.specs.code.Windows.{fault_of_monitor, last_free}
+use Rattle.tl_together.specs.code.Windows.{fault_of_monitor, window_at, IsShown}
 
 pub open_still : {w : ℕ} (j : Judge w) (levels : List Level) (p : Profile) (t : Trace w) (closed : Bool)
     → Knows j levels p t closed → j.closed ≡ false → KnowsTrace j levels p t
@@ -90,16 +90,17 @@ still j j' levels p t closed link x next held k e e' links moment m asked window
 
 -- a beat was taken
 pub taken : {w : ℕ} (j j' : Judge w) (levels : List Level) (p : Profile) (t : Trace w) (closed : Bool) (link : Link)
-    (x : Beat w) (next : ℕ) (held : Option ℕ) → Knows j levels p t closed
+    (x : Beat w) (next : ℕ) (held : Option ℕ) (noted : List (ℕ × Window)) → Knows j levels p t closed
     → j.closed ≡ false → j'.closed ≡ false → j'.links ≡ j.links → next ≡ j.moment + 1 → j'.moment ≡ next
     → broken_on_link levels p (link, x) t ≡ None
     → of_link.Knows j'.monitor levels p ((link, x) ∷ t) false
     → NotesRequest j.monitor j.asked.items j'.asked.items link x next
-    → NotesWindow j.monitor j.links j.moment held j.windows j'.windows
+    → NotesWindow j.monitor j.links j.moment held j.windows noted
     → of_link.LeavesOthers held x (on_link link.0 t)
+    → IsShown next x (on_link link.0 t) noted j'.windows
     → KnowsMemory j'.memory (length levels) ((link, x) ∷ t)
     → Knows j' levels p ((link, x) ∷ t) closed
-taken j j' levels p t closed link x next held k e e' links next_is moment fine m asked windows others memory =
+taken j j' levels p t closed link x next held noted k e e' links next_is moment fine m asked windows others shown memory =
     let o = open_still j levels p t closed k e in
     let known = asked.1 levels p t o.monitor_is o.tables_are o.asked_are in
     let seen = windows levels p t o.monitor_is o.links_are o.moment_is o.windows_are in
@@ -112,7 +113,7 @@ taken j j' levels p t closed link x next held k e e' links next_is moment fine m
         monitor_is = m;
         tables_are = asked.0 ∙ o.tables_are;
         asked_are = known.1 more fine;
-        windows_are = seen.1 link x others;
+        windows_are = seen.1 link x j'.windows others (rw more at shown);
         memory_is = memory;
         legal = (fine, o.legal);
       };
@@ -203,7 +204,7 @@ refused_knows j j' levels p t closed judge.Closed k e links moment m asked windo
 refused_knows j j' levels p t closed (judge.Broken b) k e links moment m asked windows memory = shut j' levels p t e
 
 none_yet : (w : ℕ) (entries : List (ℕ × Window)) (n : ℕ) → entries ≡ [] → KnowsWindows {w = w} entries n []
-unfolding last_free
+unfolding window_at
 none_yet w entries n e perm.None b closed = rw e refl
 none_yet w entries n e perm.Branch b closed = rw e refl
 none_yet w entries n e perm.Trunk b closed = rw e refl

@@ -2,6 +2,8 @@ pub mod Answered
 pub mod Examples
 pub mod Judging
 pub mod Noted
+pub mod NotedWindows
 pub mod Stale
 pub mod Tracing
 pub mod Windowed
+pub mod Showing

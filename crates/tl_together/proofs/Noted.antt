@@ -12,15 +12,13 @@ use Rattle.tl_burst.specs.statement.Messages.{History, unfinished, breaks_burst,
 use Rattle.tl_burst.proofs.ControlFields.{control_a}
 use Rattle.tl_params.specs.declared.key.Key.TheVariants.{RequestSource}
 use Rattle.tl_params.specs.declared.level.Level.{Level}
-use Rattle.tl_params.specs.declared.perm.Perm.{Perm}
-use Rattle.tl_params.specs.declared.perm.Perm.TheVariants as perm
 use Rattle.tl_params.specs.declared.profile.Profile.{Profile}
 use Rattle.tl_rules.specs.code.Open.{open_request, request_fields}
 use Rattle.tl_rules.specs.code.Tables.{kept_request}
 use Rattle.tl_rules.specs.declared.past.Request.{Request}
 use Rattle.tl_rules.specs.statement.Conformance.{Trace, on_link, broken_after, broken_on_link, broken_at_level}
 use Rattle.tl_rules.specs.statement.Conformance.{comes_in_request}
-use Rattle.tl_rules.specs.statement.History.{begins, ends, held, pending, request_of, is_release_ack}
+use Rattle.tl_rules.specs.statement.History.{begins, ends, pending, request_of, is_release_ack}
 use Rattle.tl_rules.proofs.Tables.{request-next}
 use Rattle.tl_monitor.proofs.AtProfile.{continues}
 use Rattle.tl_memory.specs.code.Changing.{IsChange}
@@ -33,16 +31,14 @@ use Rattle.tl_monitor.specs.code.LinkState.{is_block}
 use Rattle.tl_monitor.specs.statement.Knows.{Knows, LeavesOthers, request_on}
 use Rattle.tl_monitor.specs.declared.monitor.Monitor.{Monitor}
 use Rattle.tl_monitor.proofs.Touching.{no_level}
-use Rattle.tl_rules.specs.statement.Windows.{is_free}
-use Rattle.tl_together.specs.declared.windows.Window.{Window}
-use Rattle.tl_together.specs.code.Windows.{asked_in, last_in, window_in, KnowsAsked, KnowsWindows}
-use Rattle.tl_together.specs.code.Windows.{NotesRequest, NotesWindow}
-use Rattle.tl_together.proofs.Windowed.{own_link, other_link, as_free, none_free, free_last, last_still, asked_now}
-use Rattle.tl_together.proofs.Windowed.{asked_still}
+use Rattle.tl_together.specs.code.Windows.{asked_in}
+use Rattle.tl_together.specs.code.Windows.{KnowsAsked, NotesRequest}
+use Rattle.tl_together.proofs.Windowed.{own_link, other_link}
+use Rattle.tl_together.proofs.Windowed.{asked_now, asked_still}
 
 -- ---- requests
 
-true_false : {X : Type 0} → true ≡ false → X
+pub true_false : {X : Type 0} → true ≡ false → X
 true_false e = absurd cc
 
 chosen : (p c : Bool) (o : Option Request)
@@ -173,35 +169,7 @@ asked_more n levels p tables link x t still fine noted l s lt now = elim (cases_
   ]
 ]
 
--- ---- windows
-
-same_after : {w : ℕ} (block : Option ℕ) (link : Link) (x : Beat w) (t : Trace w) (b : ℕ)
-    → LeavesOthers block x (on_link link.0 t) → is_block b block ≡ false
-    → (l : ℕ) → held b (on_link l ((link, x) ∷ t)) ≡ held b (on_link l t)
-same_after block link x t b leaves' apart l = elim (cases_eq link.0 l) [
-  | inl own ↦ ap (held b) (own_link l link x t own) ∙ ap (λ m. held b (x ∷ on_link m t)) (sym own) ∙ leaves' b
-      apart ∙ ap (λ m. held b (on_link m t)) own
-  | inr other ↦ ap (held b) (other_link l link x t other)
-]
-
--- the table of windows with one more beat
-pub windows_more : {w : ℕ} (n : ℕ) (block : Option ℕ) (entries : List (ℕ × Window)) (link : Link) (x : Beat w)
-    (t : Trace w) → KnowsWindows entries n t
-    → LeavesOthers block x (on_link link.0 t)
-    → ((given : Perm) (b : ℕ) → is_block b block ≡ true → is_free n None given b t ≡ true → given ≢ perm.None
-    → last_in given (window_in entries b) ≡ length t)
-    → KnowsWindows entries n ((link, x) ∷ t)
-windows_more n block entries link x t still leaves' noted given b gone = elim (cases_Bool (is_free n None given b t)) [
-  | inr closed ↦ still given b closed ∙ sym (last_still n given b (link, x) t gone)
-  | inl free ↦ elim (cases_Bool (is_block b block)) [
-    | inl here ↦
-        noted given b here free (λ none. true_false
-        (sym (none_free n b ((link, x) ∷ t)) ∙ ap (λ g. is_free n None g b ((link, x) ∷ t)) (sym none) ∙ gone))
-        ∙ sym (free_last n given b t free) ∙ sym (last_still n given b (link, x) t gone)
-    | inr apart ↦ true_false
-        (sym free ∙ sym (as_free n given b ((link, x) ∷ t) t (same_after block link x t b leaves' apart)) ∙ gone)
-  ]
-]
+-- ---- what is held
 
 -- where this is what a beat changes of what is kept of memory, it leaves what is held of the other blocks
 pub held_others : {w : ℕ} (change : Change w) (m : Memory w) (n : ℕ) (link : Link) (x : Beat w) (t : Trace w)
@@ -308,84 +276,3 @@ its_source {w} x y z levels link t e f some = ap (λ (v : BeatA w). is_some (req
   where
     of_a : {v u : BeatA w} → A v ≡ A u → v ≡ u
     of_a e = cc
-
--- the window of a block, set anew
-pub notes_window : {w : ℕ} (m : Monitor w) (links moment b r v : ℕ) (old new : List (ℕ × Window)) (rf wf : Bool)
-    → ((levels : List Level) (p : Profile) (t : Trace w) → Knows m levels p t false → links ≡ length levels
-    → rf ≡ is_free links None perm.Branch b t)
-    → ((levels : List Level) (p : Profile) (t : Trace w) → Knows m levels p t false → links ≡ length levels
-    → wf ≡ is_free links None perm.Trunk b t)
-    → r ≡ (if rf then moment else (window_in old b).reading) → v ≡ (if wf then moment else (window_in old b).writing)
-    → ((k : ℕ) → window_in new k ≡ (if k == b then record { reading = r; writing = v } else window_in old k))
-    → NotesWindow m links moment (Some b) old new
-notes_window {w} m links moment b r v old new rf wf reads writes r_is v_is set levels p t k links_is moment_is still = (
-  also,
-  λ link x leaves'. windows_more (length levels) (Some b) new link x t also leaves'
-      (λ given c here free some. own given c (eqb-true c b here) free some),
-)
-  where
-    free_is : (given : Perm) (f : Bool) → f ≡ is_free links None given b t → f ≡ is_free (length levels) None given b t
-    free_is given f e = e ∙ ap (λ n. is_free n None given b t) links_is
-
-    at_own : (c : ℕ) → c ≡ b → window_in new c ≡ record { reading = r; writing = v }
-    at_own c e = set c ∙ rw (eq-eqb c b e) refl
-
-    elsewhere : (c : ℕ) → c ≢ b → window_in new c ≡ window_in old c
-    elsewhere c ne = set c ∙ rw (ne_eqb c b ne) refl
-
-    at_reading : (c : ℕ) → c ≡ b → (window_in new c).reading ≡ r
-    at_reading c e = ap (λ (z : Window). z.reading) {y = record { reading = r; writing = v }} (at_own c e)
-
-    at_writing : (c : ℕ) → c ≡ b → (window_in new c).writing ≡ v
-    at_writing c e = ap (λ (z : Window). z.writing) {y = record { reading = r; writing = v }} (at_own c e)
-
-    before_reading : (c : ℕ) → c ≡ b → (window_in old b).reading ≡ (window_in old c).reading
-    before_reading c e = ap (λ d. (window_in old d).reading) (sym e)
-
-    before_writing : (c : ℕ) → c ≡ b → (window_in old b).writing ≡ (window_in old c).writing
-    before_writing c e = ap (λ d. (window_in old d).writing) (sym e)
-
-    if_true : (f : Bool) (a d : ℕ) → f ≡ true → (if f then a else d) ≡ a
-    if_true f a d e = rw e refl
-
-    if_false : (f : Bool) (a d : ℕ) → f ≡ false → (if f then a else d) ≡ d
-    if_false f a d e = rw e refl
-
-    own : (given : Perm) (c : ℕ) → c ≡ b → is_free (length levels) None given c t ≡ true → given ≢ perm.None
-        → last_in given (window_in new c) ≡ length t
-    own perm.None c e free some = absurd (some refl)
-    own perm.Branch c e free some =
-        let f : rf ≡ true = free_is perm.Branch rf (reads levels p t k links_is) ∙ ap
-        (λ d. is_free (length levels) None perm.Branch d t) (sym e) ∙ free in
-        at_reading c e ∙ r_is ∙ if_true rf moment (window_in old b).reading f ∙ moment_is
-    own perm.Trunk c e free some =
-        let f : wf ≡ true = free_is perm.Trunk wf (writes levels p t k links_is) ∙ ap
-        (λ d. is_free (length levels) None perm.Trunk d t) (sym e) ∙ free in
-        at_writing c e ∙ v_is ∙ if_true wf moment (window_in old b).writing f ∙ moment_is
-
-    also : KnowsWindows new (length levels) t
-    also perm.None c closed = true_false (sym (none_free (length levels) c t) ∙ closed)
-    also perm.Branch c closed = elim (cases_eq c b) [
-      | inl e ↦
-          let f : rf ≡ false = free_is perm.Branch rf (reads levels p t k links_is) ∙ ap
-          (λ d. is_free (length levels) None perm.Branch d t) (sym e) ∙ closed in
-          at_reading c e ∙ r_is ∙ if_false rf moment (window_in old b).reading f ∙ before_reading c e ∙ still
-          perm.Branch c closed
-      | inr ne ↦ ap (last_in perm.Branch) (elsewhere c ne) ∙ still perm.Branch c closed
-    ]
-    also perm.Trunk c closed = elim (cases_eq c b) [
-      | inl e ↦
-          let f : wf ≡ false = free_is perm.Trunk wf (writes levels p t k links_is) ∙ ap
-          (λ d. is_free (length levels) None perm.Trunk d t) (sym e) ∙ closed in
-          at_writing c e ∙ v_is ∙ if_false wf moment (window_in old b).writing f ∙ before_writing c e ∙ still perm.Trunk
-          c closed
-      | inr ne ↦ ap (last_in perm.Trunk) (elsewhere c ne) ∙ still perm.Trunk c closed
-    ]
-
-pub notes_no_window : {w : ℕ} (m : Monitor w) (links moment : ℕ) (old : List (ℕ × Window))
-    → NotesWindow m links moment None old old
-notes_no_window m links moment old levels p t k links_is moment_is still = (
-  still,
-  λ link x leaves'. windows_more (length levels) None old link x t still leaves'
-      (λ given c here free some. true_false (sym here)),
-)

@@ -1,33 +1,35 @@
--- When blocks were last free, and requests complete: what the tables say of a trace, and with one more beat.
+-- When blocks could last be accessed, and requests were complete: what the tables say of a trace, and with one more beat.
 use Rattle.std.proofs.Common.{◌≡◌, ℕ, zero, suc, Bool, true, false, ◌&&◌, ◌||◌, ◌<◌, ◌≤◌, ◌≢◌, [], ◌∷◌, length}
 use Rattle.std.proofs.Common.{refl, sym, ◌∙◌, arith}
 use Rattle.std.specs.Prelude.{if◌then◌else◌, not, Option, Some, None, is_some, is_none, nat_le}
-use Rattle.std.proofs.lemmas.Bool.{eq-eqb, ne_eqb}
+use Rattle.std.proofs.lemmas.Bool.{both_ways, eq-eqb, ne_eqb}
 use Rattle.tl_beat.specs.declared.beat.Beat.{Beat}
 use Rattle.tl_beat.specs.declared.beat.Link.{Link}
 use Rattle.tl_params.specs.declared.perm.Perm.{Perm}
 use Rattle.tl_params.specs.declared.perm.Perm.TheVariants as perm
 use Rattle.tl_rules.specs.code.Open.{open_request}
-use Rattle.tl_rules.specs.statement.Conformance.{Trace, on_link}
+use Rattle.tl_rules.specs.statement.Conformance.{Trace, on_link, same_perm}
 use Rattle.tl_rules.specs.statement.History.{held, pending}
-use Rattle.tl_rules.specs.statement.Windows.{is_free, has_window}
-use Rattle.tl_together.specs.code.Windows.{asked_at, last_free}
+use Rattle.tl_rules.specs.statement.Windows.{is_free}
+use Rattle.tl_bytes.specs.statement.Shown.{had_window, is_window, shows}
+use Rattle.tl_together.specs.code.Windows.{asked_at, last_in, shown_window, window_at}
+use Rattle.tl_together.specs.declared.windows.Window.{Window}
 
 -- ---- windows
 
 pub free_last : {w : ℕ} (n : ℕ) (given : Perm) (block : ℕ) (t : Trace w) → is_free n None given block t ≡ true
-    → last_free n given block t ≡ length t
-unfolding last_free
+    → window_at n given block t ≡ length t
+unfolding window_at
 free_last n given block [] e = refl
 free_last n given block (x ∷ t) e = rw e refl
 
-last_le : {w : ℕ} (n : ℕ) (given : Perm) (block : ℕ) (t : Trace w) → last_free n given block t ≤ length t
-unfolding last_free
+last_le : {w : ℕ} (n : ℕ) (given : Perm) (block : ℕ) (t : Trace w) → window_at n given block t ≤ length t
+unfolding window_at
 last_le n given block [] = omega arith
-last_le n given block (x ∷ t) = go (is_free n None given block (x ∷ t)) (last_le n given block t)
+last_le n given block (x ∷ t) = go (is_window n given block x t) (last_le n given block t)
   where
-    go : (b : Bool) → last_free n given block t ≤ length t
-        → (if b then suc (length t) else last_free n given block t) ≤ suc (length t)
+    go : (b : Bool) → window_at n given block t ≤ length t
+        → (if b then suc (length t) else window_at n given block t) ≤ suc (length t)
     go true le = omega arith
     go false le = omega (arith, le)
 
@@ -61,20 +63,20 @@ none_is : {X : Type 0} (o : Option X) → is_none o ≡ not (is_some o)
 none_is None = refl
 none_is (Some x) = refl
 
--- a request has had a window where its block was free when it was complete or later
+-- a request has had a window where one could access its block when it was complete or later
 pub window-is : {w : ℕ} (n link source : ℕ) (given : Perm) (block : ℕ) (t : Trace w)
-    → has_window n link source given block t ≡ (is_some (open_request source (on_link link t)) && nat_le
-    (asked_at link source t) (last_free n given block t))
-unfolding has_window asked_at last_free
+    → had_window n link source given block t ≡ (is_some (open_request source (on_link link t)) && nat_le
+    (asked_at link source t) (window_at n given block t))
+unfolding had_window asked_at window_at
 window-is {w} n link source given block [] =
     let none : is_some (open_request source (on_link {w = w} link [])) ≡ false =
     rw (no_beats w link) (none_open w source) in
     rw none refl
 window-is n link source given block (x ∷ t) =
     rw (window-is n link source given block t, none_is (open_request source (on_link link t)))
-    (go (is_some (open_request source (on_link link (x ∷ t)))) (is_free n None given block (x ∷ t))
+    (go (is_some (open_request source (on_link link (x ∷ t)))) (is_window n given block x t)
     (is_some (open_request source (on_link link t)))
-    (asked_at link source t) (last_free n given block t) (length t) (asked_le link source t) (last_le n given block t))
+    (asked_at link source t) (window_at n given block t) (length t) (asked_le link source t) (last_le n given block t))
   where
     go : (now free before : Bool) (asked last count : ℕ) → asked ≤ count → last ≤ count
         → (now && (free || (before && nat_le asked last)))
@@ -87,7 +89,7 @@ window-is n link source given block (x ∷ t) =
 
 pub free_window : {w : ℕ} (n link source : ℕ) (given : Perm) (block : ℕ) (t : Trace w)
     → is_some (open_request source (on_link link t)) ≡ true
-    → is_free n None given block t ≡ true → has_window n link source given block t ≡ true
+    → is_free n None given block t ≡ true → had_window n link source given block t ≡ true
 free_window n link source given block t asked free =
     window-is n link source given block t ∙ rw (asked, free_last n given block t free)
     (le_true (asked_at link source t) (length t) (asked_le link source t))
@@ -118,11 +120,25 @@ unfolding is_free
 none_free zero block t = refl
 none_free (suc n) block t = rw (none_free n block t) refl
 
+-- a block that isn't free is one that nobody may access, where its bytes aren't shown to who reads it
 pub last_still : {w : ℕ} (n : ℕ) (given : Perm) (block : ℕ) (y : Link × Beat w) (t : Trace w)
     → is_free n None given block (y ∷ t) ≡ false
-    → last_free n given block (y ∷ t) ≡ last_free n given block t
-unfolding last_free
-last_still n given block y t e = rw e refl
+    → (same_perm given perm.Branch && shows block y.1 (on_link y.0.0 t)) ≡ false
+    → window_at n given block (y ∷ t) ≡ window_at n given block t
+unfolding window_at
+last_still n given block y t closed hidden = rw (closed, hidden) refl
+
+-- where they are, it may be read; for who writes it nothing is new
+pub last_shown : {w : ℕ} (given : Perm) (n block moment : ℕ) (window : Window) (y : Link × Beat w) (t : Trace w)
+    → is_free n None given block (y ∷ t) ≡ false → shows block y.1 (on_link y.0.0 t) ≡ true → moment ≡ suc (length t)
+    → ((same_perm given perm.Branch && shows block y.1 (on_link y.0.0 t)) ≡ false
+    → last_in given window ≡ window_at n given block (y ∷ t))
+    → last_in given (shown_window moment window) ≡ window_at n given block (y ∷ t)
+unfolding window_at
+last_shown perm.Branch n block moment window y t closed shown now still = rw (closed, shown) now
+last_shown perm.Trunk n block moment window y t closed shown now still = still refl
+last_shown perm.None n block moment window y t closed shown now still =
+    absurd (both_ways (is_free n None perm.None block (y ∷ t)) closed (none_free n block (y ∷ t)))
 
 pub asked_now : {w : ℕ} (link source : ℕ) (y : Link × Beat w) (t : Trace w)
     → is_some (open_request source (on_link link (y ∷ t))) ≡ true

@@ -1,6 +1,6 @@
 //! What a judge answers of the trace that it knows.
 
-ghost use Rattle.std.specs.Prelude.{Bool, true, false, List, Some, IfOk, IfSome, length, is_some, option_copied};
+ghost use Rattle.std.specs.Prelude.{Bool, true, false, List, Some, IfOk, length, is_some, option_copied};
 ghost use Rattle.std.specs.Prelude.{◌≡◌, ◌<◌, ◌+◌, ◌*◌};
 ghost use Rattle.tl_beat.specs.declared.beat.Beat.TheVariants as beat;
 ghost use Rattle.tl_beat.specs.declared.beat.BeatD.{BeatD};
@@ -100,9 +100,8 @@ impl<const W: usize> Judge<W> {
     /// still.
     pub fn told_at(&self, block: u32, place: u8, byte: u8) -> Option<u64>
         ensures kept { result ≡ told_by (state_in self.now.memory.blocks block) place byte }
-        ensures told { IfSome result (λ moment. (levels : List Level) (p : Profile) (t : Trace W) →
-            Knows self.now levels p t false → place < 64 →
-            told_moment byte (may_be (length levels) (64 * block + place) t) ≡ Some moment) }
+        ensures told { (levels : List Level) (p : Profile) (t : Trace W) → Knows self.now levels p t false →
+            place < 64 → result ≡ told_moment byte (may_be (length levels) (64 * block + place) t) }
     {
         self.memory.told_at(block, place, byte)
     }

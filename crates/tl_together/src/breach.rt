@@ -14,7 +14,7 @@ pub enum MemoryRule {
     M2,
     /// An AccessAckData with a byte that the access can't have found.
     M3,
-    /// An answer to an access that had no moment, since it was asked, at which nobody held what excludes it.
+    /// An answer to an access that had no moment, since it was asked, at which it could be performed.
     M4,
 }
 

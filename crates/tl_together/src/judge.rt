@@ -10,6 +10,7 @@ ghost use Rattle.tl_params.specs.declared.profile.Profile.{Profile};
 ghost use Rattle.tl_rules.specs.code.Open.{open_request};
 ghost use Rattle.tl_rules.specs.statement.Conformance.{Trace, broken_on_link, on_link};
 ghost use Rattle.tl_rules.specs.statement.Windows as window;
+ghost use Rattle.tl_bytes.specs.statement.Shown;
 ghost use Rattle.tl_memory.specs.code.Changing.{IsChange};
 ghost use Rattle.tl_memory.specs.code.Taking.{request_answered};
 ghost use Rattle.tl_monitor.specs.statement.Knows as of_link;
@@ -20,7 +21,8 @@ ghost use Rattle.tl_together.specs.code.Windows.{asked_in, last_in, fault_of_mon
 use crate::breach::{Breach, MemoryRule};
 use crate::fault::JudgeFault;
 use crate::free::{freed, is_free, is_grantable};
-use crate::notes::{note_request, note_window};
+use crate::notes::{note_request, note_shown, note_window};
+use crate::shown::shown_by;
 use crate::windows::{Window, Windows};
 use std::alloc::{AllocError, Global};
 use tl_beat::beat::{Beat, BeatD, Link};
@@ -95,7 +97,7 @@ pub(crate) fn asked_in(asked: &Vec<ByteTable<u64>>, link: usize, source: u8) -> 
     asked[link].get(source)
 }
 
-/// The last moment at which a block was free for one who needs so much of it.
+/// The last moment at which one could access a block who needs so much of it.
 fn last_in(given: Perm, window: Window) -> u64
     ensures { result ≡ last_in given window }
 {
@@ -106,7 +108,7 @@ fn last_in(given: Perm, window: Window) -> u64
 }
 
 /// Judges the beats of up to 16 links of one manager, in the order in which they were taken. It keeps
-/// what is unfinished, pending and held on each link, and when blocks were last free, and no beat.
+/// what is unfinished, pending and held on each link, and when blocks could last be accessed, and no beat.
 #[derive(Drop)]
 pub struct Judge<const W: usize> {
     pub(crate) monitor: Monitor<W>,
@@ -186,12 +188,12 @@ impl<const W: usize> Judge<W> {
     }
 
     /// Whether the request with this source, which is pending on a link, has had a window.
-    fn has_window(&self, link: Link, source: u8, given: Perm, block: u32) -> bool
+    fn had_window(&self, link: Link, source: u8, given: Perm, block: u32) -> bool
         ensures { (levels : List Level) (p : Profile) (t : Trace W) →
             KnowsTrace self.now levels p t →
             link.0 < length levels →
             is_some (open_request source (on_link link.0 t)) ≡ true →
-            result ≡ window.has_window (length levels) link.0 source given block t }
+            result ≡ Shown.had_window (length levels) link.0 source given block t }
     {
         if is_free(&self.monitor, self.links, given, block) {
             return true;
@@ -224,7 +226,7 @@ impl<const W: usize> Judge<W> {
             is_some (open_request x.now.source (on_link link.0 t)) ≡ true →
             result ≡ Coherence.broken_access (length levels) link.0 x.now (Some asked) t }
     {
-        if self.has_window(link, x.source, needs(asked.opcode), asked.block) {
+        if self.had_window(link, x.source, needs(asked.opcode), asked.block) {
             None
         } else {
             Some(MemoryRule::M4)
@@ -336,12 +338,13 @@ impl<const W: usize> Judge<W> {
         if let Some(rule) = self.broken_memory(&change, link, beat) {
             return Err(JudgeFault::Broken(self.breach(rule, link, beat)));
         }
+        let shown = shown_by(&self.monitor, link, beat);
         let noted = note_window(
             &mut self.windows,
             &self.monitor,
             self.links,
             self.moment,
-            change.held,
+            shown.or(change.held),
         );
         let Ok(()) = noted else {
             return Err(JudgeFault::Memory);
@@ -351,6 +354,7 @@ impl<const W: usize> Judge<W> {
             Ok(()) => {}
             Err(fault) => return Err(of_monitor(fault)),
         }
+        note_shown(&mut self.windows, &self.monitor, shown, link, beat, next);
         let free = freed(&self.monitor, self.links, change.held);
         self.memory.take(change, link, beat, free, next);
         self.moment = next;

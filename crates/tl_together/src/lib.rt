@@ -7,5 +7,6 @@ pub mod fault;
 pub mod free;
 pub mod judge;
 mod notes;
+mod shown;
 pub mod trace;
 pub mod windows;

@@ -1,7 +1,7 @@
 //! What a judge notes of a beat before it is taken.
 
 ghost use Rattle.std.specs.Prelude.{ℕ, Some, OnOk, OnErr, length, nat_lt, if◌then◌else◌, ◌&&◌, ◌==◌, ◌≡◌};
-ghost use Rattle.tl_together.specs.code.Windows.{asked_in, NotesRequest, NotesWindow};
+ghost use Rattle.tl_together.specs.code.Windows.{asked_in, HasNoted, NotesRequest, NotesShown, NotesWindow};
 
 use crate::free::freedom_of;
 use crate::windows::Windows;
@@ -50,10 +50,30 @@ pub fn note_window<const W: usize>(
     held: Option<u32>,
 ) -> Result<(), AllocError>
     ensures noted { OnOk result (NotesWindow monitor.now links moment held windows.old windows.new) }
+    ensures entered { OnOk result (HasNoted held windows.new) }
     ensures unchanged { OnErr result (windows.new ≡ windows.old) }
 {
     let Some(block) = held else {
         return Ok(());
     };
     windows.note(block, freedom_of(monitor, links, block), moment)
+}
+
+/// Notes that a beat that was taken shows the bytes of this block, where there is one, if the beat completes its message.
+pub fn note_shown<const W: usize>(
+    windows: &mut Windows,
+    monitor: &Monitor<W>,
+    shown: Option<u32>,
+    link: Link,
+    beat: &Beat<W>,
+    moment: u64,
+)
+    ensures { NotesShown monitor.now shown link beat.now moment windows.old windows.new }
+{
+    let Some(block) = shown else {
+        return;
+    };
+    if monitor.begins(link, beat) {
+        windows.show(block, moment);
+    }
 }

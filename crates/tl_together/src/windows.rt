@@ -1,6 +1,6 @@
-//! When blocks were last free.
+//! When blocks could last be accessed.
 
-ghost use Rattle.std.specs.Prelude.{ℕ, [], OnOk, OnErr, if◌then◌else◌, ◌==◌, ◌≡◌};
+ghost use Rattle.std.specs.Prelude.{ℕ, [], true, OnOk, OnErr, if◌then◌else◌, ◌==◌, ◌&&◌, ◌≡◌};
 ghost use Rattle.tl_together.specs.code.Windows.{latest_window};
 
 use crate::free::Freedom;
@@ -8,8 +8,7 @@ use std::alloc::{AllocError, Global};
 use std::collections::BTreeMap;
 use std::marker::Model;
 
-/// The last moments at which a block was free, for reading and for writing: how many beats had been
-/// taken then.
+/// The last moments at which a block could be read, and written: how many beats had been taken then.
 #[derive(Clone, Copy)]
 pub struct Window {
     pub reading: u64,
@@ -39,7 +38,7 @@ fn latest_window(free: Freedom, moment: u64, before: Window) -> Window
     }
 }
 
-/// The last moments at which blocks were free; of a block that always was, none is kept.
+/// The last moments at which blocks could be accessed; of a block that always was free, none is kept.
 #[derive(Drop)]
 pub struct Windows {
     moments: BTreeMap<u32, Window>,
@@ -55,7 +54,7 @@ impl Model for Windows {
 }
 
 impl Windows {
-    ghost use Rattle.tl_together.specs.code.Windows.{window_in};
+    ghost use Rattle.tl_together.specs.code.Windows.{is_noted, shown_window, window_in};
 
     /// No moment of any block.
     pub fn new(alloc: Global) -> Self
@@ -80,6 +79,7 @@ impl Windows {
     pub fn note(&mut self, block: u32, free: Freedom, moment: u64) -> Result<(), AllocError>
         ensures changed { OnOk result ((k : ℕ) → window_in self.new k
             ≡ (if k == block then latest_window free moment (window_in self.old block) else window_in self.old k)) }
+        ensures noted { OnOk result (is_noted self.new block ≡ true) }
         ensures unchanged { OnErr result (self.new ≡ self.old) }
     {
         if let Some(window) = self.moments.get_mut(&block) {
@@ -90,6 +90,18 @@ impl Windows {
         match self.moments.insert(block, window) {
             Ok(_) => Ok(()),
             Err(_) => Err(AllocError),
+        }
+    }
+    /// Notes at this moment that the bytes of a block are shown, if something is noted of it.
+    pub fn show(&mut self, block: u32, moment: u64)
+        ensures { (k : ℕ) → window_in self.new k ≡ (if (k == block) && is_noted self.old k
+            then shown_window moment (window_in self.old k) else window_in self.old k) }
+    {
+        if let Some(window) = self.moments.get_mut(&block) {
+            *window = Window {
+                reading: moment,
+                writing: window.writing,
+            };
         }
     }
 }

@@ -105,9 +105,9 @@ performs-well {w} config log link ch o given n q source a one still opened acces
   once = none-found (found_in (λ address. 0) q source run)
       (result_in ((one_memory_after config log).opened q Requests source)) (ap result_in opened)
       (is.found_are q source);
-  reads_free = λ x reached. now Perm.Branch x
+  reads_free = λ x reached. inl (now Perm.Branch x
       (reached-here a.address a.size x (access-room (level_of config q) (sourced source a) given.width known.1)
-      (sym (reaching x) ∙ reached)) (needs-branch n (block_at a.address) t a.opcode accesses (free n));
+      (sym (reaching x) ∙ reached)) (needs-branch n (block_at a.address) t a.opcode accesses (free n)));
   writes_free = λ x writing.
       let here = written-here (sourced source a) (level_of config q) x given.width known.1 known.2
       (writes_sourced source a a.opcode x ∙ sym (writing_is x) ∙ writing) in

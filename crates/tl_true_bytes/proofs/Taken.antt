@@ -11,6 +11,7 @@ use Rattle.tl_burst.specs.declared.message.Message.{Message}
 use Rattle.tl_rules.{specs.code.Open.open_request, specs.statement.Conformance.answers}
 use Rattle.tl_rules.{specs.statement.Effect.answer_of}
 use Rattle.tl_bytes.specs.statement.Bytes.{could_be}
+use Rattle.tl_rules.specs.statement.History.{block_at}
 use Rattle.tl_manager.{specs.statement.Handing.access_answer, specs.statement.Service.is_access_answer}
 use Rattle.tl_concord.specs.statement.Accesses.{HasCome, IsAnswered, IsAsked}
 use Rattle.tl_concord.specs.statement.Told.{IsToldOf}
@@ -162,5 +163,5 @@ module _ {w : ℕ} (n : ℕ) (run : Run w) (m : Machine w) (width : IsWidth w) (
         (carried_byte (x ∷ unfinished (channel_of x) (on_link link.0 (trace_in run))) (address % 64)) ≡ true)
         (sym is.memory_is) (well.told.told address tells_so);
     closes_told = λ block free closed. well.told.got_told n block free closed;
-    given_up_told = λ block held free. well.told.given_up_told n block held free;
+    given_up_rightly = λ address held free. inl (well.told.given_up_told n (block_at address) held free);
   }

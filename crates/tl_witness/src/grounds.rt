@@ -1,23 +1,27 @@
 //! What each rule of memory rests on at a beat that breaks it.
 
-ghost use Rattle.std.specs.Prelude.{ℕ, Bool, false, List, Some, ◌<◌, ◌≡◌, ◌++◌, OnOk, length};
+ghost use Rattle.std.specs.Prelude.{ℕ, Bool, false, List, None, Some, ◌<◌, ◌≡◌, ◌≢◌, ◌++◌, OnOk, length};
+ghost use Rattle.tl_beat.specs.declared.beat.Beat.TheVariants as beat;
+ghost use Rattle.tl_beat.specs.declared.beat.BeatD.{BeatD};
 ghost use Rattle.tl_beat.specs.statement.Width.{IsWidth};
+ghost use Rattle.tl_memory.specs.code.Changing.{IsChange};
 ghost use Rattle.tl_params.specs.declared.level.Level.{Level};
 ghost use Rattle.tl_params.specs.declared.profile.Profile.{Profile};
 ghost use Rattle.tl_rules.specs.code.Open.{open_request};
 ghost use Rattle.tl_rules.specs.declared.past.Request.{Request};
-ghost use Rattle.tl_rules.specs.statement.Conformance.{Trace, on_link};
+ghost use Rattle.tl_rules.specs.statement.Conformance.{Trace, broken_on_link, on_link};
 ghost use Rattle.tl_rules.specs.statement.History as history;
 ghost use Rattle.tl_together.specs.statement.Knows.{Knows};
 ghost use Rattle.tl_witness.specs.code.Witness.{KnowsWitness};
 ghost use Rattle.tl_witness.specs.statement.Grounds.{access_text, conflicts_text};
+ghost use Rattle.tl_witness.specs.statement.Strays.{bytes_text};
 
 use crate::strays::tell_strays;
 use crate::text::append_asked;
 use crate::witness::Witness;
 use std::alloc::AllocError;
-use std::io;
 use tl_beat::beat::{Beat, BeatD, Link};
+use tl_memory::memory::Change;
 use tl_rules::kind::capped;
 use tl_together::breach::MemoryRule;
 use tl_together::judge::{Judge, needs};
@@ -46,27 +50,48 @@ fn tell_access<const W: usize>(
     witness.tell_holders(needs(asked.opcode), out)
 }
 
-/// Appends, of a beat of a response, the bytes that it may not bring. What the judge knows stays so.
+/// Appends a line for each of these bytes of a response's beat, its lanes, that it may not bring, where this is what the
+/// beat changes: for the first eight of them, and how many more there are.
+fn tell_lanes_of<const W: usize>(
+    judge: &Judge<W>,
+    change: &Change<W>,
+    link: Link,
+    lanes: &[u8; W],
+    out: &mut Vec<u8>,
+) -> Result<(), AllocError>
+    requires { IsWidth W }
+    ensures { OnOk result ((levels : List Level) (p : Profile) (x : BeatD W) (t : Trace W) → x.lanes ≡ Some lanes.now →
+        Knows judge.now levels p t false → broken_on_link levels p (link, beat.D x) t ≡ None →
+        IsChange change.now judge.now.memory (length levels) (link, beat.D x) t →
+        out.new.items ≡ out.old.items ++ bytes_text x.opcode (length levels) link.0 x t) }
+{
+    match judge.expected(change, link) {
+        None => Ok(()),
+        Some(expected) => tell_strays(expected, judge, judge.beats_come(link), lanes, out),
+    }
+}
+
+/// Appends a line for each byte of a response's beat that it may not bring: for the first eight of them, and how many
+/// more there are. What the judge knows stays so.
 fn tell_bytes<const W: usize>(
     judge: &mut Judge<W>,
     link: Link,
     x: &BeatD<W>,
     out: &mut Vec<u8>,
-) -> io::Result<()>
+) -> Result<(), AllocError>
     requires { IsWidth W }
-    ensures { (levels : List Level) (p : Profile) (t : Trace W) (closed : Bool) →
+    ensures knows { (levels : List Level) (p : Profile) (t : Trace W) (closed : Bool) →
         Knows judge.old levels p t closed → Knows judge.new levels p t closed }
+    ensures bytes { OnOk result ((levels : List Level) (p : Profile) (t : Trace W) → Knows judge.old levels p t false →
+        broken_on_link levels p (link, beat.D x.now) t ≡ None →
+        out.new.items ≡ out.old.items ++ bytes_text x.now.opcode (length levels) link.0 x.now t) }
 {
     let Some(lanes) = &x.lanes else {
         return Ok(());
     };
-    let change = judge.change(link, &Beat::D(*x)).map_err(|_| AllocError)?;
-    match judge.expected(&change, link) {
-        None => Ok(()),
-        Some(expected) => {
-            tell_strays(expected, judge, judge.beats_come(link), lanes, out)?;
-            Ok(())
-        }
+    match judge.change(link, &Beat::D(*x)) {
+        Ok(change) => tell_lanes_of(judge, &change, link, lanes, out),
+        Err(_) => Err(AllocError),
     }
 }
 
@@ -78,7 +103,7 @@ pub fn tell<const W: usize>(
     link: Link,
     x: &BeatD<W>,
     out: &mut Vec<u8>,
-) -> io::Result<()>
+) -> Result<(), AllocError>
     requires { IsWidth W }
     ensures knows { (levels : List Level) (p : Profile) (t : Trace W) (closed : Bool) →
         Knows judge.old levels p t closed → Knows judge.new levels p t closed }
@@ -91,16 +116,13 @@ pub fn tell<const W: usize>(
         KnowsWitness witness.now (length levels) block t → link.0 < length levels →
         open_request x.now.source (on_link link.0 t) ≡ Some asked →
         out.new.items ≡ out.old.items ++ access_text (length levels) link.0 x.now.source asked block t) }
+    ensures bytes { rule ≢ MemoryRule.M1 → rule ≢ MemoryRule.M4 → OnOk result ((levels : List Level) (p : Profile)
+        (t : Trace W) → Knows judge.old levels p t false → broken_on_link levels p (link, beat.D x.now) t ≡ None →
+        out.new.items ≡ out.old.items ++ bytes_text x.now.opcode (length levels) link.0 x.now t) }
 {
     match rule {
-        MemoryRule::M1 => {
-            witness.tell_conflicts(judge, link.0, capped(x.param), out)?;
-            Ok(())
-        }
-        MemoryRule::M4 => {
-            tell_access(witness, judge, link, x.source, out)?;
-            Ok(())
-        }
+        MemoryRule::M1 => witness.tell_conflicts(judge, link.0, capped(x.param), out),
+        MemoryRule::M4 => tell_access(witness, judge, link, x.source, out),
         _ => tell_bytes(judge, link, x, out),
     }
 }

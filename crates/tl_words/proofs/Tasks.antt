@@ -1,21 +1,25 @@
 -- What the words of a subcommand ask for.
-use Rattle.std.proofs.Common.{◌≡◌, true, false, List, refl, sym, subst, codes, inr, Result, Ok, Err}
-use Rattle.std.specs.Prelude.{IfErr, IfOk, Option, Some, None}
+use denote.Ref.{Bor}
+use Rattle.std.proofs.Common.{◌≡◌, ◌||◌, ◌∙◌, ℕ, ap, Bool, true, false, List, refl, sym, subst, codes, inr, Result, Ok, Err}
+use Rattle.std.specs.Prelude.{IfErr, IfOk, Option, Some, None, is_some, option_map}
 use Rattle.std.specs.Str.{bytes_eq}
 use Rattle.std.proofs.lemmas.Slice.Eq.{bytes_eq-Decides}
 use Rattle.clap.specs.Words.{Row, Text, first_of, subcommand_of}
 use Rattle.tl_command.specs.declared.random_words.RandomOption.{RandomOption}
 use Rattle.tl_command.specs.declared.task.Task.{Task}
-use Rattle.tl_command.specs.declared.task.Task.TheVariants.{Chart, Draw, Read, Search}
+use Rattle.tl_command.specs.declared.task.Task.TheVariants.{Chart, Draw, Read, Report, Search}
 use Rattle.tl_command.specs.declared.chart.Range.{Range}
 use Rattle.tl_command.specs.declared.search.Aim.{Aim}
+use Rattle.tl_command.specs.declared.search.Inquiry.{Inquiry}
 use Rattle.tl_command.specs.statement.ChartWords.{IsRange}
 use Rattle.tl_command.specs.statement.RandomWords.{IsWrong, Words}
+use Rattle.tl_command.specs.statement.SearchWords.{IsInquiry}
 use Rattle.tl_command.proofs.RandomOptions.{wrong_for_all}
 use Rattle.tl_words.specs.declared.words.WordsFault.{WordsFault}
 use Rattle.tl_words.specs.declared.words.WordsFault.TheVariants as fault
 use Rattle.tl_words.specs.Refused.{AsksNothing, IsFaultOf, IsRefusal}
-use Rattle.tl_words.specs.Tool.{IsAim, IsTaskOf, command_in, command_named, together_named, tool_of, words_in}
+use Rattle.tl_words.specs.Tool.{IsAim, IsInquiryOf, IsTaskOf, command_in, command_named, is_reported, together_named}
+use Rattle.tl_words.specs.Tool.{tool_of, words_in}
 
 -- the same words name the same command
 pub named_alike : (name : Text) {a b c d w x y z : Option Text} → a ≡ w → b ≡ x → c ≡ y → d ≡ z
@@ -45,11 +49,18 @@ no_search : (name : Text) (word : Option Text) (aim : Aim) → together_named na
 no_search name None aim none is = is
 no_search name (Some word) aim none is = let some = is.0 in absurd cc
 
+-- nor has its judgement a report
+pub no_inquiry : (name : Text) (word : Option Text) (inquiry : Inquiry) → together_named name ≡ None
+    → ¬ IsInquiryOf name word inquiry
+no_inquiry name word inquiry none is = let some = is.1 in absurd cc
+
 -- a word that stands for nothing asks for nothing
 pub no_draw : (rows : List Row) (option : RandomOption) → IsWrong (words_in rows) option → (task : Task)
     → ¬ IsTaskOf (codes "random") rows task
 no_draw rows option wrong (Read command file) is = let none = is.0 in absurd cc
 no_draw rows option wrong (Search aim file) is = no_search (codes "random") (first_of (codes "all") rows) aim refl is.0
+no_draw rows option wrong (Report inquiry file report junit) is =
+    no_inquiry (codes "random") (first_of (codes "all") rows) inquiry refl is.0
 no_draw rows option wrong (Chart range file) is = let none = is.0 in absurd cc
 no_draw rows option wrong (Draw options) is = wrong_for_all (words_in rows) option wrong options is.1
 
@@ -63,28 +74,46 @@ pub no_chart : (rows : List Row) → ((range : Range) → ¬ IsRange (first_of (
     (first_of (codes "block") rows) range) → (task : Task) → ¬ IsTaskOf (codes "chart") rows task
 no_chart rows wrong (Read command file) is = let none = is.0 in absurd cc
 no_chart rows wrong (Search aim file) is = no_search (codes "chart") (first_of (codes "all") rows) aim refl is.0
+no_chart rows wrong (Report inquiry file report junit) is =
+    no_inquiry (codes "chart") (first_of (codes "all") rows) inquiry refl is.0
 no_chart rows wrong (Chart range file) is = wrong range is.1
 no_chart rows wrong (Draw options) is = let none = is.0 in absurd cc
 
 -- a name that is no command's, and neither `chart` nor `random`, asks for nothing
 pub no_read : (name : Text) (rows : List Row) → command_in name rows ≡ None → first_of (codes "all") rows ≡ None
-    → bytes_eq name (codes "random") ≡ false → bytes_eq name (codes "chart") ≡ false → (task : Task)
-    → ¬ IsTaskOf name rows task
-no_read name rows none unsaid other another (Read command file) is = let some = is.0 in absurd cc
-no_read name rows none unsaid other another (Search aim file) is =
+    → bytes_eq name (codes "random") ≡ false → bytes_eq name (codes "chart") ≡ false → is_reported rows ≡ false
+    → (task : Task) → ¬ IsTaskOf name rows task
+no_read name rows none unsaid other another unreported (Read command file) is = let some = is.0 in absurd cc
+no_read name rows none unsaid other another unreported (Search aim file) is =
     subst (λ (word : Option Text). IsAim name word aim) unsaid is.0
-no_read name rows none unsaid other another (Chart range file) is = let same = is.0 in absurd cc
-no_read name rows none unsaid other another (Draw options) is = let same = is.0 in absurd cc
+no_read name rows none unsaid other another unreported (Report inquiry file report junit) is =
+    let reported = is.1 in absurd cc
+no_read name rows none unsaid other another unreported (Chart range file) is = let same = is.0 in absurd cc
+no_read name rows none unsaid other another unreported (Draw options) is = let same = is.0 in absurd cc
 
 -- a word of `--all` that asks a command which doesn't search, or that is no number, asks for nothing
 pub no_aim : (name word : Text) (rows : List Row) → ((aim : Aim) → ¬ IsAim name (Some word) aim)
     → first_of (codes "all") rows ≡ Some word → bytes_eq name (codes "random") ≡ false
-    → bytes_eq name (codes "chart") ≡ false → (task : Task) → ¬ IsTaskOf name rows task
-no_aim name word rows none said other another (Read command file) is = let unsaid = is.1 in absurd cc
-no_aim name word rows none said other another (Search aim file) is =
+    → bytes_eq name (codes "chart") ≡ false → is_reported rows ≡ false → (task : Task) → ¬ IsTaskOf name rows task
+no_aim name word rows none said other another unreported (Read command file) is = let unsaid = is.1 in absurd cc
+no_aim name word rows none said other another unreported (Search aim file) is =
     none aim (subst (λ (w : Option Text). IsAim name w aim) said is.0)
-no_aim name word rows none said other another (Chart range file) is = let same = is.0 in absurd cc
-no_aim name word rows none said other another (Draw options) is = let same = is.0 in absurd cc
+no_aim name word rows none said other another unreported (Report inquiry file report junit) is =
+    let reported = is.1 in absurd cc
+no_aim name word rows none said other another unreported (Chart range file) is = let same = is.0 in absurd cc
+no_aim name word rows none said other another unreported (Draw options) is = let same = is.0 in absurd cc
+
+-- words of a judgement that is reported, whose command judges nothing or whose word of `--all` is no number, ask for
+-- nothing
+pub no_report : (name : Text) (word : Option Text) (rows : List Row) → ((inquiry : Inquiry) → ¬ IsInquiryOf name word inquiry)
+    → first_of (codes "all") rows ≡ word → bytes_eq name (codes "random") ≡ false
+    → bytes_eq name (codes "chart") ≡ false → is_reported rows ≡ true → (task : Task) → ¬ IsTaskOf name rows task
+no_report name word rows none said other another reported (Read command file) is = let unreported = is.3 in absurd cc
+no_report name word rows none said other another reported (Search aim file) is = let unreported = is.2 in absurd cc
+no_report name word rows none said other another reported (Report inquiry file report junit) is =
+    none inquiry (subst (λ (w : Option Text). IsInquiryOf name w inquiry) said is.0)
+no_report name word rows none said other another reported (Chart range file) is = let same = is.0 in absurd cc
+no_report name word rows none said other another reported (Draw options) is = let same = is.0 in absurd cc
 
 module _ (texts : List Text) (name : Text) (rows : List Row) (is : subcommand_of tool_of texts ≡ Some (name, rows))
   where
@@ -100,6 +129,30 @@ module _ (texts : List Text) (name : Text) (rows : List Row) (is : subcommand_of
     task_refused (Ok task) none = tt
     task_refused (Err fault.Memory) none = tt
     task_refused (Err (fault.Usage error)) none = inr (subst AsksNothing (sym is) none.0, none.1)
+
+-- the entries have a word where one was found
+pub word_is_there : (found : Option (Bor (List ℕ))) (word : Option Text) → option_map (λ s. s.now) found ≡ word
+    → is_some found ≡ is_some word
+word_is_there found word is = go found ∙ ap is_some is
+  where
+    go : (o : Option (Bor (List ℕ))) → is_some o ≡ is_some (option_map (λ s. s.now) o)
+    go None = refl
+    go (Some s) = refl
+
+-- one of two words is there
+pub said_first : (x y : Option Text) (a : Bool) → a ≡ is_some x → a ≡ true → a ≡ (is_some x || is_some y)
+said_first x y a is there = rw (sym is ∙ there) there
+
+pub said_second : (x y : Option Text) (a b : Bool) → a ≡ is_some x → a ≡ false → b ≡ is_some y
+    → b ≡ (is_some x || is_some y)
+said_second x y a b is missing other = rw (sym is ∙ missing) other
+
+-- words that ask nothing of this command ask nothing of one of its name
+pub no_inquiry_of : (name : Text) (word : Option Text) (together : Bool) → Some together ≡ together_named name
+    → ((inquiry : Inquiry) → ¬ IsInquiry together word inquiry) → (inquiry : Inquiry) → ¬ IsInquiryOf name word inquiry
+no_inquiry_of name word together named none inquiry (other, is, asked) =
+    let same : other ≡ together = cc in
+    none inquiry (subst (λ (b : Bool). IsInquiry b word inquiry) same asked)
 
 -- the name that the words have is this one
 pub named_so : (name word : Text) → bytes_eq name word ≡ true → name ≡ word

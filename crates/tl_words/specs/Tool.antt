@@ -1,5 +1,6 @@
 -- The command line as `clap` sees it, and what its matches mean.
-use Rattle.std.specs.Prelude.{◌≡◌, Bool, List, Option, Some, None, codes, true, false, if◌then◌else◌, option_map}
+use Rattle.std.specs.Prelude.{◌≡◌, ◌||◌, Bool, List, Option, Some, None, codes, true, false, if◌then◌else◌, is_some}
+use Rattle.std.specs.Prelude.{option_map}
 use Rattle.std.specs.Str.{bytes_eq}
 use Rattle.std.specs.String.{string_bytes}
 use Rattle.clap.specs.declared.builder.action.ArgAction.TheVariants.{SetTrue}
@@ -7,11 +8,12 @@ use Rattle.clap.specs.Words.{App, Row, Rule, Text, first_of, new_app, new_rule, 
 use Rattle.tl_command.specs.declared.command.Command.{Command}
 use Rattle.tl_command.specs.declared.command.Command.TheVariants.{Coherent, Decode, Explain, Monitor, Run}
 use Rattle.tl_command.specs.declared.search.Aim.{Aim}
+use Rattle.tl_command.specs.declared.search.Inquiry.{Inquiry}
 use Rattle.tl_command.specs.declared.task.Task.{Task}
-use Rattle.tl_command.specs.declared.task.Task.TheVariants.{Chart, Draw, Read, Search}
+use Rattle.tl_command.specs.declared.task.Task.TheVariants.{Chart, Draw, Read, Report, Search}
 use Rattle.tl_command.specs.statement.ChartWords.{IsRange}
 use Rattle.tl_command.specs.statement.RandomWords.{AreOptions, Words}
-use Rattle.tl_command.specs.statement.SearchWords.{IsBehind}
+use Rattle.tl_command.specs.statement.SearchWords.{IsBehind, IsInquiry}
 use Rattle.tl_command.specs.statement.Words.{width_named}
 
 -- `--NAME VALUE`
@@ -30,13 +32,18 @@ decode_of = with_rule (with_rule (new_app (codes "decode")) width_rule) (new_rul
 abbrev pub all_rule : Rule
 all_rule = valued_rule (codes "all")
 
--- `monitor [--all N] [FILE]`
-abbrev pub monitor_of : App
-monitor_of = with_rule (with_rule (new_app (codes "monitor")) all_rule) (new_rule (codes "FILE"))
+-- `[--all N] [--report FILE] [--junit FILE]`
+abbrev pub with_reports : App → App
+with_reports a =
+    with_rule (with_rule (with_rule a all_rule) (valued_rule (codes "report"))) (valued_rule (codes "junit"))
 
--- `coherent [--all N] [FILE]`
+-- `monitor [--all N] [--report FILE] [--junit FILE] [FILE]`
+abbrev pub monitor_of : App
+monitor_of = with_rule (with_reports (new_app (codes "monitor"))) (new_rule (codes "FILE"))
+
+-- `coherent [--all N] [--report FILE] [--junit FILE] [FILE]`
 abbrev pub coherent_of : App
-coherent_of = with_rule (with_rule (new_app (codes "coherent")) all_rule) (new_rule (codes "FILE"))
+coherent_of = with_rule (with_reports (new_app (codes "coherent"))) (new_rule (codes "FILE"))
 
 -- `--NAME`
 abbrev pub flag_rule : Text → Rule
@@ -149,13 +156,28 @@ abbrev pub IsAim : Text → Option Text → Aim → Type 0
 IsAim name None aim = ⊥
 IsAim name (Some word) aim = (together_named name ≡ Some aim.together) × IsBehind word aim.behind
 
--- what a subcommand's name and entries ask for: a command over FILE, a search of it, a chart of it, or a random schedule
+-- what the word of `--all` says of the command of this name, where its judgement is reported
+abbrev pub IsInquiryOf : Text → Option Text → Inquiry → Type 0
+IsInquiryOf name word q = (together : Bool) × (together_named name ≡ Some together) × IsInquiry together word q
+
+-- the judgement is to be reported
+abbrev pub is_reported : List Row → Bool
+is_reported rows = is_some (first_of (codes "report") rows) || is_some (first_of (codes "junit") rows)
+
+-- What a subcommand's name and entries ask for: a command over FILE, a search of it, a judgement of it that is reported, a
+-- chart of it, or a random schedule.
 abbrev pub IsTaskOf : Text → List Row → Task → Type 0
 IsTaskOf name rows (Read command file) =
     (command_in name rows ≡ Some command) × (first_of (codes "all") rows ≡ None)
-    × (option_map string_bytes file ≡ file_in rows)
+    × (option_map string_bytes file ≡ file_in rows) × (is_reported rows ≡ false)
 IsTaskOf name rows (Search aim file) =
     IsAim name (first_of (codes "all") rows) aim × (option_map string_bytes file ≡ file_in rows)
+    × (is_reported rows ≡ false)
+IsTaskOf name rows (Report inquiry file report junit) =
+    IsInquiryOf name (first_of (codes "all") rows) inquiry × (is_reported rows ≡ true)
+    × (option_map string_bytes file ≡ file_in rows)
+    × (option_map string_bytes report ≡ first_of (codes "report") rows)
+    × (option_map string_bytes junit ≡ first_of (codes "junit") rows)
 IsTaskOf name rows (Chart range file) =
     (bytes_eq name (codes "chart") ≡ true)
     × IsRange (first_of (codes "lines") rows) (first_of (codes "block") rows) range

@@ -5,7 +5,7 @@ ghost use Rattle.clap.specs.Words.{app_of, rule_of};
 ghost use Rattle.clap.specs.declared.builder.command.Command.TheViews.{out-Command};
 ghost use Rattle.tl_words.specs.Tool.{chart_of, charting_of, coherent_of, decode_of, drawing_of, explain_of};
 ghost use Rattle.tl_words.specs.Tool.{explaining_of, judging_of, monitor_of, playing_of, random_of, reading_of, run_of};
-ghost use Rattle.tl_words.specs.Tool.{flag_rule, sizing_of, tool_of, valued_rule};
+ghost use Rattle.tl_words.specs.Tool.{flag_rule, sizing_of, tool_of, valued_rule, with_reports};
 
 use crate::help;
 use clap::{Arg, ArgAction};
@@ -36,18 +36,31 @@ pub fn decode<'a>(alloc: Global) -> Result<clap::Command<'a>, AllocError>
         .arg(file)
 }
 
+/// A command that judges, with what it may be asked to report.
+fn with_reports<'a>(
+    alloc: Global,
+    command: clap::Command<'a>,
+) -> Result<clap::Command<'a>, AllocError>
+    requires { (out-Command command).has_globals ≡ false }
+    ensures app { IfOk result (λ c. app_of c ≡ with_reports (app_of command.entry)) }
+    ensures local { IfOk result (λ c. (out-Command c).has_globals ≡ false) }
+{
+    let all = valued(alloc, "all", "N", help::ALL);
+    let report = valued(alloc, "report", "FILE", help::REPORT);
+    let junit = valued(alloc, "junit", "FILE", help::JUNIT);
+    command.arg(all)?.arg(report)?.arg(junit)
+}
+
 /// `tltool monitor`.
 pub fn monitor<'a>(alloc: Global) -> Result<clap::Command<'a>, AllocError>
     ensures app { IfOk result (λ c. app_of c ≡ monitor_of) }
     ensures local { IfOk result (λ c. (out-Command c).has_globals ≡ false) }
 {
-    let all = valued(alloc, "all", "N", help::ALL);
-    let file = Arg::new(alloc, "FILE").help(FILE_HELP);
-    clap::Command::new(alloc, "monitor")
+    let monitor = clap::Command::new(alloc, "monitor")
         .about("Judges a recorded trace: writes `clean N`, N its beats, or the first line at fault")
-        .after_help(help::TRACE)
-        .arg(all)?
-        .arg(file)
+        .after_help(help::TRACE);
+    let file = Arg::new(alloc, "FILE").help(FILE_HELP);
+    with_reports(alloc, monitor)?.arg(file)
 }
 
 /// `tltool coherent`.
@@ -55,15 +68,13 @@ pub fn coherent<'a>(alloc: Global) -> Result<clap::Command<'a>, AllocError>
     ensures app { IfOk result (λ c. app_of c ≡ coherent_of) }
     ensures local { IfOk result (λ c. (out-Command c).has_globals ≡ false) }
 {
-    let all = valued(alloc, "all", "N", help::ALL);
-    let file = Arg::new(alloc, "FILE").help(FILE_HELP);
-    clap::Command::new(alloc, "coherent")
+    let coherent = clap::Command::new(alloc, "coherent")
         .about(
             "Judges a trace of all links of a manager together: writes `coherent N`, or the first line at fault",
         )
-        .after_help(help::TOGETHER)
-        .arg(all)?
-        .arg(file)
+        .after_help(help::TOGETHER);
+    let file = Arg::new(alloc, "FILE").help(FILE_HELP);
+    with_reports(alloc, coherent)?.arg(file)
 }
 
 /// `tltool explain`.

@@ -156,7 +156,8 @@ macro_rules! outcomes_of_all_links {
             "  M3   a byte that was asked for isn't one that it may have been from the request's last beat to\n",
             "       the answer's first, by what was told of it and by the Puts and atomics that were pending\n",
             "  M4   all the while since the request was complete a link has held what excludes it: Trunk of\n",
-            "       the block for a Get, anything of it for a Put or an atomic\n",
+            "       the block for a Get, while no report has shown its bytes; anything of it for a Put or an\n",
+            "       atomic\n",
             ;
             $($example,)*
         )
@@ -188,6 +189,14 @@ pub const TOGETHER: &str = outcomes_of_all_links!(
 /// What help says of `--all`.
 pub const ALL: &str =
     "Go on behind a line at fault, whose beat isn't taken, up to N such lines; `faults N` says how many were found";
+
+/// What help says of `--report`.
+pub const REPORT: &str =
+    "Write a report in JSON to FILE: what is found, beats by link and message, and the input's SHA-256";
+
+/// What help says of `--junit`.
+pub const JUNIT: &str =
+    "Write a report in XML to FILE, as JUnit's: a test case for each line at fault";
 
 /// What help says of `--coherent`.
 pub const COHERENT: &str = "Judge all links of a manager together, as `coherent` does";

@@ -3,4 +3,5 @@
 
 mod commands;
 mod help;
+mod report;
 pub mod words;

@@ -1,5 +1,5 @@
-//! Reads the program's words: `tltool decode [--width 4|8|16] [FILE]`, `tltool monitor [--all N] [FILE]`,
-//! `tltool coherent [--all N] [FILE]`, `tltool explain [--coherent] FILE`, `tltool chart [--lines A-B] [--block BBB] [FILE]`,
+//! Reads the program's words: `tltool decode [--width 4|8|16] [FILE]`, `tltool monitor [--all N] [--report FILE]
+//! [--junit FILE] [FILE]`, `tltool coherent` with the same options, `tltool explain [--coherent] FILE`, `tltool chart [--lines A-B] [--block BBB] [FILE]`,
 //! `tltool run [--trace] [FILE]`, `tltool random --seed N` with its options, and those that ask for help or the
 //! version.
 
@@ -9,9 +9,11 @@ ghost use Rattle.clap.specs.Words.{Row, Text, first_of, found_of, is_simple_and_
 ghost use Rattle.clap.specs.Words.{kind_of, rows_of, subcommand_of};
 ghost use Rattle.tl_words.specs.Refused.{IsFaultOf, IsRefusal, status_of_usage, usage_status, words_fault};
 ghost use Rattle.tl_command.specs.statement.RandomWords.{words_of};
-ghost use Rattle.tl_words.specs.Tool.{IsTaskOf, command_named, flag_named, together_named, tool_of, words_in};
+ghost use Rattle.tl_words.specs.Tool.{IsTaskOf, command_named, flag_named, is_reported, together_named, tool_of};
+ghost use Rattle.tl_words.specs.Tool.{words_in};
 
 use crate::commands::{chart, coherent, decode, explain, monitor, random, tool};
+use crate::report::{is_reported, report};
 use clap::ArgMatches;
 use clap::error::ErrorKind;
 use std::alloc::{AllocError, Global};
@@ -103,7 +105,8 @@ fn command_named(
     }
 }
 
-fn copied(alloc: Global, text: Option<&str>) -> Result<Option<String>, AllocError>
+/// A text of one's own.
+pub(crate) fn copied(alloc: Global, text: Option<&str>) -> Result<Option<String>, AllocError>
     ensures { IfOk result (λ r. option_map string_bytes r ≡ option_map (λ s. s.now) text.entry) }
 {
     match text {
@@ -136,7 +139,11 @@ fn missing_file(alloc: Global) -> Result<clap::Error, AllocError>
 }
 
 /// The error of words that name no width, or no file to explain.
-fn wrong_words(alloc: Global, name: &str, width: Option<&str>) -> Result<clap::Error, AllocError>
+pub(crate) fn wrong_words(
+    alloc: Global,
+    name: &str,
+    width: Option<&str>,
+) -> Result<clap::Error, AllocError>
     ensures { IfOk result (λ error. status_of_usage error ≡ 2) }
 {
     if name == "explain" {
@@ -252,7 +259,11 @@ fn searching<'a>(alloc: Global, together: bool) -> Result<clap::Command<'a>, All
 }
 
 /// The error of a word of `--all` that is no number of lines.
-fn wrong_number(alloc: Global, together: bool, word: &str) -> Result<clap::Error, AllocError>
+pub(crate) fn wrong_number(
+    alloc: Global,
+    together: bool,
+    word: &str,
+) -> Result<clap::Error, AllocError>
     ensures { IfOk result (λ error. status_of_usage error ≡ 2) }
 {
     let message = format!(in alloc; "invalid value '{word}' for '--all <N>': {ALL_WANTED}")?;
@@ -261,7 +272,7 @@ fn wrong_number(alloc: Global, together: bool, word: &str) -> Result<clap::Error
 }
 
 /// Whether the command of this name judges all links together, or each by itself; others don't search.
-fn together_named(name: &str) -> Option<bool>
+pub(crate) fn together_named(name: &str) -> Option<bool>
     ensures { result ≡ together_named name.now }
 {
     match name {
@@ -279,10 +290,11 @@ fn search(
     name_of_file: Option<&str>,
 ) -> Result<Task, WordsFault>
     ensures read { IfOk result (λ task. (rows : List Row) → first_of (codes "all") rows ≡ Some word.now →
-        first_of (codes "FILE") rows ≡ option_map (λ s. s.now) name_of_file.entry → IsTaskOf name.now rows task) }
+        first_of (codes "FILE") rows ≡ option_map (λ s. s.now) name_of_file.entry → is_reported rows ≡ false →
+        IsTaskOf name.now rows task) }
     ensures wrong { IfErr result (λ fault. (rows : List Row) → first_of (codes "all") rows ≡ Some word.now →
         bytes_eq name.now (codes "random") ≡ false → bytes_eq name.now (codes "chart") ≡ false →
-        IsFaultOf name.now rows fault) }
+        is_reported rows ≡ false → IsFaultOf name.now rows fault) }
 {
     let Some(together) = together_named(name) else {
         return Err(WordsFault::Usage(wrong_width(alloc, None)?));
@@ -297,10 +309,11 @@ fn search(
     })
 }
 
-/// What the entries of a command ask for that reads.
+/// What the entries of a command ask for that reads, and reports nothing.
 fn read(alloc: Global, name: &str, found: &ArgMatches) -> Result<Task, WordsFault>
     requires random { bytes_eq name.now (codes "random") ≡ false }
     requires chart { bytes_eq name.now (codes "chart") ≡ false }
+    requires unreported { is_reported (rows_of (found_of found.now)) ≡ false }
     ensures read { IfOk result (IsTaskOf name.now (rows_of (found_of found.now))) }
     ensures wrong { IfErr result (IsFaultOf name.now (rows_of (found_of found.now))) }
 {
@@ -316,6 +329,20 @@ fn read(alloc: Global, name: &str, found: &ArgMatches) -> Result<Task, WordsFaul
     };
     let file = copied(alloc, name_of_file)?;
     Ok(Task::Read { command, file })
+}
+
+/// What the entries of a command ask for that reads.
+fn asked(alloc: Global, name: &str, found: &ArgMatches) -> Result<Task, WordsFault>
+    requires random { bytes_eq name.now (codes "random") ≡ false }
+    requires chart { bytes_eq name.now (codes "chart") ≡ false }
+    ensures read { IfOk result (IsTaskOf name.now (rows_of (found_of found.now))) }
+    ensures wrong { IfErr result (IsFaultOf name.now (rows_of (found_of found.now))) }
+{
+    if is_reported(found) {
+        report(alloc, name, found)
+    } else {
+        read(alloc, name, found)
+    }
 }
 
 /// What the program's words ask for, its own name first. Words of another form and a request for help
@@ -337,6 +364,6 @@ pub fn invocation(alloc: Global, words: &[String]) -> Result<Task, WordsFault>
     } else if name == "chart" {
         draw_chart(alloc, found)
     } else {
-        read(alloc, name, found)
+        asked(alloc, name, found)
     }
 }

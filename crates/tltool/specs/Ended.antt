@@ -1,10 +1,12 @@
 -- How the program ends, by its exit status.
 use Rattle.std.specs.Prelude.{◌≡◌, ◌⊎◌, ◌++◌, ℕ, Bool, List, Option, Result, Ok, Err, IfErr, IfOk, OnErr, OnOk}
-use Rattle.std.specs.Io.KnownBytes.{Appends}
+use Rattle.std.specs.Io.KnownBytes.{Appends, Consumes}
 use Rattle.tl_chart.specs.declared.window.Window.{Window}
 use Rattle.tl_command.specs.declared.command.Command.{Command}
+use Rattle.tl_command.specs.declared.command.Command.TheVariants.{Coherent, Decode, Explain, Monitor, Run}
 use Rattle.tl_command.specs.declared.random.Options.{Options}
 use Rattle.tl_command.specs.declared.search.Aim.{Aim}
+use Rattle.tl_params.specs.declared.liberties.Liberty.{Liberty}
 use Rattle.tl_params.specs.statement.Header.{width_of}
 use Rattle.tl_words.specs.declared.words.WordsFault.{WordsFault}
 use Rattle.tl_words.specs.declared.words.WordsFault.TheVariants as words
@@ -14,6 +16,7 @@ use Rattle.tl_engine.specs.declared.status.Status.{Status}
 use Rattle.tl_engine.specs.declared.status.ToolFault.{ToolFault}
 use Rattle.tl_engine.specs.declared.status.ToolFault.TheVariants.{Memory, Write}
 use Rattle.tl_engine.specs.code.GivenUp.{GivesUpFor}
+use Rattle.tl_engine.specs.code.Lines.{lines_of}
 use Rattle.tl_engine.specs.code.Run.{FailsAt, RunsTo}
 use Rattle.tl_engine.specs.statement.Charted.{Charts, GivesUpCharting}
 use Rattle.tl_engine.specs.statement.Exit.{exit_status}
@@ -21,18 +24,41 @@ use Rattle.tl_engine.specs.statement.Explained.{Explains}
 use Rattle.tl_engine.specs.statement.Told.{text_so_far, text_told}
 use Rattle.tl_engine.specs.statement.Unexplained.{GivesUpExplaining, Reaches}
 use Rattle.tl_engine.specs.statement.Width.{bytes_of}
+use Rattle.tl_links.specs.statement.Allowed.{Allowed, allowed_line}
+use Rattle.tl_links.specs.statement.Judged.{JudgedLinks, LinksSoFar}
 use Rattle.tl_random.specs.statement.Random.{WritesPart, WritesSchedule}
 use Rattle.tl_report.specs.declared.findings.Finding.{Finding}
 use Rattle.tl_report.specs.statement.Found.{most_of}
 use Rattle.tl_report.specs.statement.Said.{GivesUpSearching, Searches, all_text, status_of}
 
+-- a command's text of these lines, with the status at their end; `monitor` reads headers that name liberties too
+abbrev pub program_told : Command → List (List ℕ) → List ℕ → Status → Type 0
+program_told Monitor = JudgedLinks
+program_told (Decode width) = text_told (Decode width)
+program_told Coherent = text_told Coherent
+program_told (Explain together) = text_told (Explain together)
+program_told (Run trace) = text_told (Run trace)
+
+-- the text of these lines, of which none is at fault, before the end of the input
+abbrev pub program_so_far : Command → List (List ℕ) → List ℕ → Type 0
+program_so_far Monitor = LinksSoFar
+program_so_far (Decode width) = text_so_far (Decode width)
+program_so_far Coherent = text_so_far Coherent
+program_so_far (Explain together) = text_so_far (Explain together)
+program_so_far (Run trace) = text_so_far (Run trace)
+
+-- the outcome is one that these texts have over what was read and written
+abbrev pub IsOutcome : (List (List ℕ) → List ℕ → Status → Type 0) → (List (List ℕ) → List ℕ → Type 0)
+    → Option (List ℕ) → Option (List ℕ) → Option (List ℕ) → Option (List ℕ) → Result Status ToolFault → Type 0
+IsOutcome tells so_far had left held holds outcome =
+    IfOk outcome (RunsTo tells had left held holds) × OnErr outcome (FailsAt tells had left held holds)
+    × IfErr outcome (GivesUpFor so_far tells had left held holds)
+
 -- The status is that of an outcome which the command has over what was read and written.
 abbrev pub EndsAs : Command → Option (List ℕ) → Option (List ℕ) → Option (List ℕ) → Option (List ℕ) → ℕ → Type 0
 EndsAs command had left held holds status =
     (outcome : Result Status ToolFault) × (status ≡ exit_status outcome)
-    × IfOk outcome (RunsTo (text_told command) had left held holds)
-    × OnErr outcome (FailsAt (text_told command) had left held holds)
-    × IfErr outcome (GivesUpFor (text_so_far command) (text_told command) had left held holds)
+    × IsOutcome (program_told command) (program_so_far command) had left held holds outcome
 
 -- whatever was left of the input
 abbrev pub EndsOver : Command → Option (List ℕ) → Option (List ℕ) → Option (List ℕ) → ℕ → Type 0
@@ -61,6 +87,14 @@ EndsExplained together had left had_again left_again held holds status =
     × Explains had_again left_again verdict reasons judged × Appends held holds (verdict ++ reasons))
     × IfErr outcome (GivesUpExplaining together had left had_again left_again held holds)
 
+-- The status is that of the explanation, behind which stands the line that names the liberties which would allow what was
+-- found; or nothing more could be read or written.
+abbrev pub EndsAllowed : ℕ → Option (List ℕ) → Option (List ℕ) → Option (List ℕ) → Option (List ℕ) → ℕ → Type 0
+EndsAllowed explained had left held holds status =
+    ((read : List ℕ) × (allowing : List Liberty) × Consumes had left read × Allowed (lines_of read) allowing
+    × Appends held holds (allowed_line allowing) × (status ≡ explained))
+    ⊎ ((fault : ToolFault) × (status ≡ exit_status (Err fault)))
+
 -- The status is that of an outcome which a chart of a window has over what was read and written.
 abbrev pub EndsCharted : Window → Option (List ℕ) → Option (List ℕ) → Option (List ℕ) → Option (List ℕ) → ℕ → Type 0
 EndsCharted win had left held holds status =
@@ -72,8 +106,8 @@ EndsCharted win had left held holds status =
 abbrev pub EndsFound : Aim → Option (List ℕ) → Option (List ℕ) → Option (List ℕ) → Option (List ℕ) → ℕ → Type 0
 EndsFound aim had left held holds status =
     (outcome : Result Status ToolFault) × (status ≡ exit_status outcome)
-    × IfOk outcome (λ judged. (found : List Finding) × (beats : ℕ)
-    × Searches aim.together (most_of aim) had left found beats
+    × IfOk outcome (λ judged. (found : List Finding) × (beats : ℕ) × (cells : List ℕ)
+    × Searches aim.together (most_of aim) had left found beats cells
     × Appends held holds (all_text aim.together found beats) × (judged ≡ status_of found))
     × IfErr outcome (GivesUpSearching aim.together (most_of aim) had left held holds)
 

@@ -3,9 +3,12 @@
 
 ghost use Rattle.std.specs.Prelude.{◌≡◌, IfOk, OnOk, OnErr, Err};
 ghost use Rattle.tl_engine.specs.statement.Exit.{exit_status};
-ghost use Rattle.tltool.specs.Ended.{EndsAs, EndsCharted, EndsDrawn, EndsExplained, EndsFound, EndsOver, IsRefused};
+ghost use Rattle.tltool.specs.Ended.{EndsAllowed, EndsAs, EndsCharted, EndsDrawn, EndsExplained, EndsFound, EndsOver, IsRefused};
 ghost use Rattle.tltool.specs.Ended.{explain_status};
 
+mod report;
+
+use report::report;
 use std::fs::File;
 use std::io::{Read, Write};
 use std::process::ExitCode;
@@ -22,12 +25,14 @@ use tl_engine::named::tell_named;
 use tl_engine::output::{write_all, write_changed, write_once, write_open_fault};
 use tl_engine::status::{Status, ToolFault, exit_of};
 use tl_engine::tool::run_tool;
+use tl_links::allowing::append_allowed;
+use tl_links::run::run_links;
 use tl_random::schedule::write_schedule;
 use tl_report::find::find_all;
 use tl_words::words::{WordsFault, invocation, usage_status};
 
 /// The exit status of a run, whose fault is told on standard error.
-fn told(rt: &HostRuntime, outcome: Result<Status, ToolFault>) -> u8
+pub(crate) fn told(rt: &HostRuntime, outcome: Result<Status, ToolFault>) -> u8
     ensures { result ≡ exit_status outcome }
 {
     if let Err(fault) = outcome {
@@ -67,11 +72,14 @@ fn run_over<R: Read, W: Write>(
     ensures { EndsAs command (R.remaining input.old) (R.remaining input.new) (W.contents output.old)
         (W.contents output.new) result }
 {
-    told(rt, run_tool(rt.alloc(), command, input, output))
+    match command {
+        Command::Monitor => told(rt, run_links(rt.alloc(), input, output)),
+        _ => told(rt, run_tool(rt.alloc(), command, input, output)),
+    }
 }
 
 /// Says on standard error that a file can't be opened. Answers the exit status.
-fn unopened(rt: &HostRuntime, name: &str) -> u8
+pub(crate) fn unopened(rt: &HostRuntime, name: &str) -> u8
     ensures { result ≡ exit_status (Err ToolFault.Read) }
 {
     let _ = write_open_fault(name, &mut rt.stderr());
@@ -148,6 +156,26 @@ fn explain_over<R: Read, S: Read, W: Write>(
     told_explained(rt, name, outcome)
 }
 
+/// Writes behind an explanation, whose exit status this is, which liberties would allow what it found.
+fn allow_over<R: Read, W: Write>(
+    rt: &HostRuntime,
+    explained: u8,
+    input: &mut R,
+    output: &mut W,
+) -> u8
+    ensures { EndsAllowed explained (R.remaining input.old) (R.remaining input.new) (W.contents output.old)
+        (W.contents output.new) result }
+{
+    let mut text = Vec::new(rt.alloc());
+    if let Err(fault) = append_allowed(rt.alloc(), input, &mut text) {
+        return told(rt, Err(fault));
+    }
+    match write_all(output, &text) {
+        Ok(()) => explained,
+        Err(fault) => told(rt, Err(fault)),
+    }
+}
+
 /// Explains the file of this name, or the rule or fault where there is no such file.
 fn explain(rt: &HostRuntime, coherent: bool, name: &str) -> u8 {
     let Ok(mut first) = fs::open(rt, name) else {
@@ -160,14 +188,15 @@ fn explain(rt: &HostRuntime, coherent: bool, name: &str) -> u8 {
     let Ok(mut second) = fs::open(rt, name) else {
         return unopened(rt, name);
     };
-    explain_over(
-        rt,
-        coherent,
-        name,
-        &mut first,
-        &mut second,
-        &mut io::writer(rt),
-    )
+    let mut output = io::writer(rt);
+    let explained = explain_over(rt, coherent, name, &mut first, &mut second, &mut output);
+    if coherent || explained != 1 {
+        return explained;
+    }
+    match fs::open(rt, name) {
+        Ok(mut third) => allow_over(rt, explained, &mut third, &mut output),
+        Err(_) => unopened(rt, name),
+    }
 }
 
 /// Runs a command over standard input, or over the file of this name.
@@ -242,6 +271,12 @@ fn run(rt: &HostRuntime, task: Task) -> u8 {
     match task {
         Task::Read { command, file } => read(rt, command, file),
         Task::Search { aim, file } => find(rt, aim, file),
+        Task::Report {
+            inquiry,
+            file,
+            report: json,
+            junit,
+        } => report(rt, inquiry, file, json, junit),
         Task::Chart { range, file } => chart(rt, range, file),
         Task::Draw { options } => draw(rt, &options, &mut io::writer(rt)),
     }

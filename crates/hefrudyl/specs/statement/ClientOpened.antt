@@ -1,12 +1,13 @@
 -- What a client is made from, and what a new one knows.
-use Rattle.std.specs.Prelude.{ℕ, Bool, ◌&&◌, ◌≡◌, ◌⊎◌, [], nat_lt, nat_le, Result, Ok, Err}
+use Rattle.std.specs.Prelude.{ℕ, Bool, ◌&&◌, ◌≡◌, [], nat_lt, nat_le, None, Result, Ok, Err}
 use Rattle.tl_beat.specs.declared.channel.Channel.{Channel}
 use Rattle.tl_client.specs.code.KnowsAny.{KnowsAny, any_terms}
 use Rattle.tl_client.specs.statement.Endpoint.{fresh}
 use Rattle.tl_ports.specs.declared.client.ClientPort.{ClientPort}
 use Rattle.tl_ports.specs.statement.Client.{to_send}
 use Rattle.tl_pictures.specs.declared.answer.Answer.{Answer}
-use Rattle.tl_pictures.specs.statement.Answer.{bad, no_memory}
+use Rattle.tl_params.specs.statement.Config.{client_fault}
+use Rattle.hefrudyl.specs.statement.Opened.{IsRefusal}
 use Rattle.tl_pictures.specs.statement.Codes.{level_at, profile_at, is_width, is_profile}
 
 -- a level, 1 to 1,024 blocks, 1 to 8 sources, a width and a profile
@@ -25,4 +26,5 @@ IsFreshClient level blocks sources profile port =
 
 abbrev pub MakesClient : {w : ℕ} → ℕ → ℕ → ℕ → ℕ → Result (ClientPort w) Answer → Type 0
 MakesClient level blocks sources profile (Ok port) = IsFreshClient level blocks sources profile port
-MakesClient level blocks sources profile (Err answer) = (answer ≡ no_memory) ⊎ (answer ≡ bad)
+MakesClient level blocks sources profile (Err answer) =
+    IsRefusal (client_fault (record { level = level_at level; sources = sources }) blocks ≡ None) answer

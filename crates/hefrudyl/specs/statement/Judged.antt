@@ -7,11 +7,11 @@ use Rattle.tl_beat.specs.statement.Line.{Spells, line_fault}
 use Rattle.tl_params.specs.declared.level.Level.{Level}
 use Rattle.tl_params.specs.declared.liberties.Liberties.{Liberties}
 use Rattle.tl_params.specs.declared.profile.Profile.{Profile}
-use Rattle.tl_rules.specs.statement.Conformance.{Trace}
+use Rattle.tl_rules.specs.statement.Conformance.{Trace, on_link}
 use Rattle.tl_monitor.specs.declared.fault.MonitorFault.{MonitorFault}
 use Rattle.tl_monitor.specs.declared.monitor.Monitor.{Monitor}
 use Rattle.tl_monitor.specs.statement.Knows.{Knows, KnowsUnder, Answers, fault_of, fault_under, recorded_after, closed_after}
-use Rattle.tl_monitor.specs.statement.Numbers.{entry_count}
+use Rattle.tl_monitor.specs.statement.Numbers.{entry_count, entry_count_under, IsMoreUnder, IsMoreWhereRefused}
 use Rattle.tl_pictures.specs.declared.answer.Answer.{Answer}
 use Rattle.tl_pictures.specs.declared.picture.Picture.{Picture}
 use Rattle.tl_pictures.specs.statement.Answer.{answer_of, ok, IsBad}
@@ -19,7 +19,8 @@ use Rattle.tl_pictures.specs.statement.Codes.{link_at}
 use Rattle.tl_pictures.specs.statement.Picture.{shown}
 
 -- A beat was judged as the rules have it, after the trace that the monitor knew, and the monitor knows
--- the longer trace where the beat was taken.
+-- the longer trace where the beat was taken. Memory was wanting only where more keys of one kind are pending
+-- with the beat than before, or more blocks held.
 pub record Judged {w : ℕ} (old new : Monitor w) (x : Link × Beat w) (answer : Answer) : Type 0 where
   pub judged : Result ⊤ MonitorFault
   pub told : answer ≡ answer_of judged
@@ -27,11 +28,15 @@ pub record Judged {w : ℕ} (old new : Monitor w) (x : Link × Beat w) (answer :
       → Answers (fault_of levels p t closed x) judged
   pub knows : (levels : List Level) (p : Profile) (t : Trace w) (closed : Bool) → Knows old levels p t closed
       → Knows new levels p (recorded_after judged x t) (closed_after judged)
+  pub memory : (levels : List Level) (p : Profile) (t : Trace w) (closed : Bool) → Knows old levels p t closed
+      → IsMoreWhereRefused (on_link x.0.0 t) x.1 judged
   pub lawful_under : (levels : List Level) (l : Liberties) (t : Trace w) (closed : Bool)
       → KnowsUnder old levels l t closed → Answers (fault_under levels l t closed x) judged
   pub knows_under : (levels : List Level) (l : Liberties) (t : Trace w) (closed : Bool)
       → KnowsUnder old levels l t closed
       → KnowsUnder new levels l (recorded_after judged x t) (closed_after judged)
+  pub memory_under : (levels : List Level) (l : Liberties) (t : Trace w) (closed : Bool)
+      → KnowsUnder old levels l t closed → IsMoreUnder l (on_link x.0.0 t) x.1 judged
 
 abbrev pub ToldOfBeat : {w : ℕ} → Monitor w → Monitor w → Option Link → Option (Beat w) → Answer → Type 0
 ToldOfBeat old new (Some link) (Some beat) answer = Judged old new (link, beat) answer
@@ -53,6 +58,8 @@ EntriesOnLink m None was entries answer = IsBad answer was entries
 EntriesOnLink {w} m (Some link) was entries answer = (answer ≡ ok)
     × ((levels : List Level) (p : Profile) (t : Trace w) (closed : Bool) → Knows m levels p t closed
     → entries ≡ entry_count levels link t)
+    × ((levels : List Level) (l : Liberties) (t : Trace w) (closed : Bool) → KnowsUnder m levels l t closed
+    → entries ≡ entry_count_under l levels link t)
 
 -- how many keys are pending and blocks held on a link
 abbrev pub EntriesOf : {w : ℕ} → Monitor w → ℕ → ℕ → ℕ → Answer → Type 0

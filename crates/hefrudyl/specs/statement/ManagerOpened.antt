@@ -1,5 +1,5 @@
 -- What a manager is made from, and what a new one knows.
-use Rattle.std.specs.Prelude.{ℕ, Bool, ◌&&◌, ◌≡◌, ◌⊎◌, List, [], length, nat_le, Result, Ok, Err}
+use Rattle.std.specs.Prelude.{ℕ, Bool, ◌&&◌, ◌≡◌, List, [], length, nat_le, None, Result, Ok, Err}
 use Rattle.tl_beat.specs.declared.channel.Channel.{Channel}
 use Rattle.tl_params.specs.declared.config.Config.{Config}
 use Rattle.tl_manager.specs.statement.End.{fresh}
@@ -7,7 +7,8 @@ use Rattle.tl_ports.specs.declared.manager.ManagerPort.{ManagerPort}
 use Rattle.tl_ports.specs.statement.Manager.{KnowsEnd, to_send_on}
 use Rattle.tl_pictures.specs.declared.answer.Answer.{Answer}
 use Rattle.tl_pictures.specs.declared.config.LinkConfig.{LinkConfig}
-use Rattle.tl_pictures.specs.statement.Answer.{bad, no_memory}
+use Rattle.tl_params.specs.statement.Config.{config_fault}
+use Rattle.hefrudyl.specs.statement.Opened.{IsRefusal}
 use Rattle.tl_pictures.specs.statement.Codes.{is_width, is_profile}
 use Rattle.tl_pictures.specs.statement.Configured.{links_fit, IsConfigOf}
 
@@ -25,4 +26,5 @@ IsFreshManager links blocks trackers profile port =
 
 abbrev pub MakesManager : {w : ℕ} → List LinkConfig → ℕ → ℕ → ℕ → Result (ManagerPort w) Answer → Type 0
 MakesManager links blocks trackers profile (Ok port) = IsFreshManager links blocks trackers profile port
-MakesManager links blocks trackers profile (Err answer) = (answer ≡ no_memory) ⊎ (answer ≡ bad)
+MakesManager links blocks trackers profile (Err answer) =
+    (config : Config) × IsConfigOf links blocks trackers profile config × IsRefusal (config_fault config ≡ None) answer

@@ -1,6 +1,9 @@
 -- What a monitor is made from, and what a new one knows.
 use Rattle.std.specs.Prelude.{ℕ, Bool, true, false, ◌&&◌, ◌≡◌, ◌⊎◌, List, [], map, length, nat_le, Option, Some}
-use Rattle.std.specs.Prelude.{None, Result, Ok, Err}
+use Rattle.std.specs.Prelude.{None, Result, Ok, Err, if◌then◌else◌}
+use Rattle.tl_params.specs.declared.config.NewFault.{NewFault}
+use Rattle.tl_params.specs.declared.config.NewFault.TheVariants as fault
+use Rattle.tl_params.specs.statement.Config.{IsCount}
 use Rattle.tl_monitor.specs.declared.monitor.Monitor.{Monitor}
 use Rattle.tl_monitor.specs.statement.Knows.{Knows, KnowsUnder}
 use Rattle.tl_pictures.specs.declared.answer.Answer.{Answer}
@@ -20,9 +23,22 @@ may_open codes width profile =
 abbrev pub IsFresh : {w : ℕ} → List ℕ → ℕ → Monitor w → Type 0
 IsFresh codes profile m = Knows m (map level_at codes) (profile_at profile) [] false
 
+-- why nothing is opened: want of memory where what is asked for may be opened, else bad input
+abbrev pub refusal : Bool → Answer
+refusal may = if may then no_memory else bad
+
+-- why there is none of what was to be made: memory is wanting, or what was asked for doesn't fit
+abbrev pub IsRefusal : Type 0 → Answer → Type 0
+IsRefusal Fits answer = (answer ≡ no_memory) ⊎ ((answer ≡ bad) × ¬ Fits)
+
+-- the answer where a client or a manager can't be made for this reason
+abbrev pub new_answer : NewFault → Answer
+new_answer fault.Memory = no_memory
+new_answer _ = bad
+
 abbrev pub Makes : {w : ℕ} → List ℕ → ℕ → Result (Monitor w) Answer → Type 0
 Makes codes profile (Ok m) = IsFresh codes profile m
-Makes codes profile (Err answer) = (answer ≡ no_memory) ⊎ (answer ≡ bad)
+Makes codes profile (Err answer) = IsRefusal (IsCount (length codes)) answer
 
 -- the monitor is new, and of the width
 abbrev pub IsOpened : List ℕ → ℕ → ℕ → Session → Type 0
@@ -35,7 +51,7 @@ IsOpened codes width profile _ = ⊥
 abbrev pub OpensTo : List ℕ → ℕ → ℕ → Option Session → Answer → Type 0
 OpensTo codes width profile (Some s) answer = (answer ≡ ok) × (may_open codes width profile ≡ true)
     × IsOpened codes width profile s
-OpensTo codes width profile None answer = (answer ≡ no_memory) ⊎ (answer ≡ bad)
+OpensTo codes width profile None answer = answer ≡ refusal (may_open codes width profile)
 
 -- ---- under liberties
 
@@ -49,7 +65,7 @@ IsFreshUnder codes liberties m = KnowsUnder m (map level_at codes) (liberties_at
 
 abbrev pub MakesUnder : {w : ℕ} → List ℕ → ℕ → Result (Monitor w) Answer → Type 0
 MakesUnder codes liberties (Ok m) = IsFreshUnder codes liberties m
-MakesUnder codes liberties (Err answer) = (answer ≡ no_memory) ⊎ (answer ≡ bad)
+MakesUnder codes liberties (Err answer) = IsRefusal (IsCount (length codes)) answer
 
 abbrev pub IsOpenedUnder : List ℕ → ℕ → ℕ → Session → Type 0
 IsOpenedUnder codes width liberties (session.Monitor (any.Four m)) = (width ≡ 4) × IsFreshUnder codes liberties m
@@ -60,7 +76,7 @@ IsOpenedUnder codes width liberties _ = ⊥
 abbrev pub OpensUnder : List ℕ → ℕ → ℕ → Option Session → Answer → Type 0
 OpensUnder codes width liberties (Some s) answer = (answer ≡ ok) × (may_open_under codes width ≡ true)
     × IsOpenedUnder codes width liberties s
-OpensUnder codes width liberties None answer = (answer ≡ no_memory) ⊎ (answer ≡ bad)
+OpensUnder codes width liberties None answer = answer ≡ refusal (may_open_under codes width)
 
 -- what comes of making one
 abbrev pub ok_of : Result Session Answer → Option Session

@@ -1,5 +1,5 @@
 -- What C is told of a monitor, a judge, a client or a manager that a session holds.
-use Rattle.std.specs.Prelude.{ℕ, List, ◌≡◌, ◌⊎◌, true, Option, Some, None}
+use Rattle.std.specs.Prelude.{ℕ, List, ◌≡◌, true, Option, Some, None}
 use Rattle.tl_monitor.specs.declared.monitor.Monitor.{Monitor}
 use Rattle.tl_together.specs.declared.judge.Judge.{Judge}
 use Rattle.tl_ports.specs.declared.client.ClientPort.{ClientPort}
@@ -16,13 +16,13 @@ use Rattle.tl_pictures.specs.declared.outcome.Reception.{Reception}
 use Rattle.tl_pictures.specs.declared.picture.Picture.{Picture}
 use Rattle.hefrudyl.specs.declared.session.Session.{Session}
 use Rattle.hefrudyl.specs.declared.session.Session.TheVariants as session
-use Rattle.tl_pictures.specs.statement.Answer.{ok, bad, no_memory, IsBad}
+use Rattle.tl_pictures.specs.statement.Answer.{ok, bad, IsBad}
 use Rattle.hefrudyl.specs.statement.Client.{Asked, OfferedOf, Stalls, Shows, Pops, Holds, Copies, Closed}
 use Rattle.hefrudyl.specs.statement.ClientOpened.{may_open_client, IsFreshClient}
 use Rattle.hefrudyl.specs.statement.Judged.{ToldOf, ToldOfLine, EntriesOf}
 use Rattle.hefrudyl.specs.statement.Manager.{Admitted, StallsAt, ShowsAt, PopsAt, ClosedAt}
 use Rattle.hefrudyl.specs.statement.ManagerOpened.{may_open_manager, IsFreshManager}
-use Rattle.hefrudyl.specs.statement.Opened.{may_open}
+use Rattle.hefrudyl.specs.statement.Opened.{may_open, refusal}
 use Rattle.hefrudyl.specs.statement.Together.{ToldTogether, ToldOfLineTogether}
 use Rattle.hefrudyl.specs.statement.TogetherOpened.{IsFreshJudge}
 
@@ -62,7 +62,7 @@ IsOpenedJudge codes width profile _ = ⊥
 abbrev pub JudgeOpens : List ℕ → ℕ → ℕ → Option Session → Answer → Type 0
 JudgeOpens codes width profile (Some s) answer =
     (answer ≡ ok) × (may_open codes width profile ≡ true) × IsOpenedJudge codes width profile s
-JudgeOpens codes width profile None answer = (answer ≡ no_memory) ⊎ (answer ≡ bad)
+JudgeOpens codes width profile None answer = answer ≡ refusal (may_open codes width profile)
 
 -- this holds of the judge before and after, likewise
 abbrev pub OnJudge : ((w : ℕ) → Judge w → Judge w → Type 0) → Type 0 → Session → Session → Type 0
@@ -97,7 +97,8 @@ abbrev pub ClientOpens : ℕ → ℕ → ℕ → ℕ → ℕ → Option Session 
 ClientOpens level blocks sources width profile (Some s) answer =
     (answer ≡ ok) × (may_open_client level blocks sources width profile ≡ true) × IsOpenedClient level blocks sources
     width profile s
-ClientOpens level blocks sources width profile None answer = (answer ≡ no_memory) ⊎ (answer ≡ bad)
+ClientOpens level blocks sources width profile None answer =
+    answer ≡ refusal (may_open_client level blocks sources width profile)
 
 -- this holds of the client before and after, likewise
 abbrev pub OnClient : ((w : ℕ) → ClientPort w → ClientPort w → Type 0) → Type 0 → Session → Session → Type 0
@@ -156,7 +157,8 @@ abbrev pub ManagerOpens : List LinkConfig → ℕ → ℕ → ℕ → ℕ → Op
 ManagerOpens links blocks trackers width profile (Some s) answer =
     (answer ≡ ok) × (may_open_manager links blocks trackers width profile ≡ true) × IsOpenedManager links blocks
     trackers width profile s
-ManagerOpens links blocks trackers width profile None answer = (answer ≡ no_memory) ⊎ (answer ≡ bad)
+ManagerOpens links blocks trackers width profile None answer =
+    answer ≡ refusal (may_open_manager links blocks trackers width profile)
 
 -- this holds of the manager before and after, likewise
 abbrev pub OnManager : ((w : ℕ) → ManagerPort w → ManagerPort w → Type 0) → Type 0 → Session → Session → Type 0

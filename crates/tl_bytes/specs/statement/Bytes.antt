@@ -122,7 +122,7 @@ access_writes address access = writes access.request.opcode access.request addre
 abbrev pub found_memory : {w : ℕ} → MessageA w → List (Beat w) → Memory
 found_memory {w} m burst address = unwrap_or (carried_byte burst (address - w * (m.address / w))) 0
 
--- what a Put writes, and an atomic that has this answer; where a beat of them is corrupt, anything
+-- what a Put writes, and an atomic that has this answer; where a beat of them is corrupt, or denied, anything
 abbrev pub value_written : {w : ℕ} → Access w → List (Beat w) → ℕ → Option ℕ
 value_written access answer address =
     if access.spoiled || is_some (find is_spoiled answer) then None
@@ -133,6 +133,17 @@ abbrev pub pending_value : {w : ℕ} → OpA → Access w → ℕ → Option ℕ
 pending_value a.PutFullData access address = value_written access [] address
 pending_value a.PutPartialData access address = value_written access [] address
 pending_value _ access address = None
+
+-- what is left by an access that has this answer: a Put leaves what it writes, whatever is answered
+abbrev pub value_left : {w : ℕ} → OpA → Access w → List (Beat w) → ℕ → Option ℕ
+value_left a.PutFullData access answer address = value_written access [] address
+value_left a.PutPartialData access answer address = value_written access [] address
+value_left _ access answer address = value_written access answer address
+
+-- the answer with these beats, the newest first, is denied
+abbrev pub is_denied : {w : ℕ} → List (Beat w) → Bool
+is_denied (beat.D x ∷ older) = x.denied
+is_denied _ = false
 
 -- ---- windows for writing
 
@@ -200,11 +211,11 @@ told_too now before = now ∷ filter (λ e. not (same_value e.value now.value)) 
 -- What a byte may be when the answer to an access is complete that writes it. In one window that is still
 -- open it was performed, and what was told to be finished since that began may have come after it. Where
 -- the last window has closed and the bytes were told since, it is in what was told. Otherwise it may have
--- been performed before what was told last, or after.
-abbrev pub after_write : {w : ℕ} → ℕ → ℕ → Access w → Telling → Trace w → List Telling → List Telling
-after_write n block access now t before =
+-- been performed before what was told last, or after. One that is denied may not have been performed.
+abbrev pub after_write : {w : ℕ} → ℕ → ℕ → Access w → Bool → Telling → Trace w → List Telling → List Telling
+after_write n block access denied now t before =
     if is_free n None perm.Trunk block t
-    then if windows_since n block access.asked t == 1
+    then if (windows_since n block access.asked t == 1) && not denied
     then told_too now (filter (λ e. nat_le (window_began n block access.asked t) e.moment) before)
     else told_too now before
     else if nat_lt (last_window n block t) (last_told block t) then before else told_too now before
@@ -214,8 +225,8 @@ abbrev pub after_answer : {w : ℕ} → ℕ → ℕ → Option (Access w) → Li
 after_answer n address None answer t before = before
 after_answer n address (Some access) answer t before =
     if access_writes address access
-    then after_write n (block_at address) access
-    (record { value = value_written access answer address; moment = length t }) t before
+    then after_write n (block_at address) access (is_denied answer)
+    (record { value = value_left access.request.opcode access answer address; moment = length t }) t before
     else before
 
 abbrev pub after_beat : {w : ℕ} → ℕ → ℕ → ℕ → Beat w → Trace w → List Telling → List Telling
@@ -292,21 +303,21 @@ reads_truly {w} n (Some access) k x t =
     each_from (λ address v. not (reaches access.request.address access.request.size address) || may_read n access t
     address v) (w * (access.request.address / w) + w * k) (lanes_of (beat.D x))
 
--- M2: a beat of a GrantData that isn't corrupt has bytes that may be granted
+-- M2: a beat of a GrantData has bytes that may be granted
 abbrev pub is_true_grant : {w : ℕ} → ℕ → ℕ → BeatD w → Option Request → Trace w → Bool
 is_true_grant n link x None t = true
 is_true_grant n link x (Some asked) t =
     grants_truly n asked.block (length (unfinished channel.D (on_link link t))) x
     (before_last link (length (unfinished channel.D (on_link link t))) t)
 
--- M3: a beat of an AccessAckData that isn't corrupt has bytes that its request may bring
+-- M3: a beat of an AccessAckData has bytes that its request may bring
 abbrev pub is_true_read : {w : ℕ} → ℕ → ℕ → BeatD w → Trace w → Bool
 is_true_read n link x t =
     reads_truly n (find (is_of link x.source) (pending_accesses t)) (length (unfinished channel.D (on_link link t))) x
     (before_last link (length (unfinished channel.D (on_link link t))) t)
 
--- the bytes of a response are true after t
+-- the bytes of a response are true after t: those that are corrupt, or denied, aren't judged
 abbrev pub is_true : {w : ℕ} → OpD → ℕ → ℕ → BeatD w → Trace w → Bool
-is_true d.GrantData n link x t = x.corrupt || is_true_grant n link x (open_request x.source (on_link link t)) t
-is_true d.AccessAckData n link x t = x.corrupt || is_true_read n link x t
+is_true d.GrantData n link x t = is_spoiled (beat.D x) || is_true_grant n link x (open_request x.source (on_link link t)) t
+is_true d.AccessAckData n link x t = is_spoiled (beat.D x) || is_true_read n link x t
 is_true _ n link x t = true

@@ -22,7 +22,7 @@ use Rattle.tl_bytes.specs.declared.windows.WindowCount.{WindowCount}
 use Rattle.tl_bytes.specs.declared.windows.WindowCount.TheVariants as count
 use Rattle.tl_bytes.specs.declared.windows.WritingWindows.{WritingWindows}
 use Rattle.tl_bytes.specs.statement.Bytes.{could_be, is_of, may_grant, may_read, pending_accesses, written_as}
-use Rattle.tl_bytes.specs.statement.Bytes.{Access, access_writes, carried_byte, may_be, value_written}
+use Rattle.tl_bytes.specs.statement.Bytes.{Access, access_writes, carried_byte, may_be, value_left}
 use Rattle.tl_bytes.specs.statement.Bytes.{windows_since, window_began, last_window, last_told}
 
 -- what was told of the byte at a place, the last first
@@ -62,11 +62,11 @@ pub record KnowsCarried {w : ℕ} (carried : CarriedBytes) (burst : List (Beat w
 abbrev pub AreCarried : {w : ℕ} → List (Option ℕ) → Link × Beat w → Trace w → Type 0
 AreCarried values x t = HasBytes values (x.1 ∷ unfinished (channel_of x.1) (on_link x.0.0 t))
 
--- this is what an access with this answer writes in the block
+-- this is what an access with this answer leaves in the block
 abbrev pub IsWrite : {w : ℕ} → Write → ℕ → Access w → List (Beat w) → Type 0
 IsWrite write block access answer = (place : ℕ) → place < 64
     → (is_written write place ≡ access_writes (64 * block + place) access)
-    × (is_written write place ≡ true → value_at write place ≡ value_written access answer (64 * block + place))
+    × (is_written write place ≡ true → value_at write place ≡ value_left access.request.opcode access answer (64 * block + place))
 
 -- this is what these accesses may write in the block, of one that is pending
 abbrev pub MayWrite : {w : ℕ} → List Write → ℕ → List (Access w) → Type 0
@@ -100,11 +100,11 @@ abbrev pub KnowsGrant : {w : ℕ} → ReadBytes → ℕ → ℕ → Trace w → 
 KnowsGrant read n block t = (place byte : ℕ) → place < 64
     → may_bring read place byte ≡ may_grant n t (64 * block + place) byte
 
--- how an access to the block, which is answered, stands to its windows and to what was told of it
-abbrev pub standing_of : {w : ℕ} → ℕ → ℕ → Access w → Trace w → Standing
-standing_of n block access t =
+-- how an access to the block, which is answered, or denied, stands to its windows and to what was told of it
+abbrev pub standing_of : {w : ℕ} → ℕ → ℕ → Access w → Bool → Trace w → Standing
+standing_of n block access denied t =
     if is_free n None perm.Trunk block t
-    then if windows_since n block access.asked t == 1
+    then if (windows_since n block access.asked t == 1) && not denied
     then standing.Within (window_began n block access.asked t)
     else standing.Anywhere
     else if nat_lt (last_window n block t) (last_told block t) then standing.Told else standing.Anywhere

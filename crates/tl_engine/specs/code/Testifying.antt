@@ -1,33 +1,186 @@
 -- What is known while the lines of a trace are judged again, up to the line at fault.
-use Rattle.std.specs.Prelude.{◌≡◌, ◌⊎◌, ℕ, List, ◌∷◌, ◌++◌, length, true}
+use Rattle.std.specs.Prelude.{◌≡◌, ℕ, ◌+◌, Bool, true, false, List, [], ◌∷◌, ◌++◌, length, Option, Some, None, IfSome}
+use Rattle.tl_beat.specs.declared.beat.Beat.{Beat}
+use Rattle.tl_beat.specs.declared.beat.Beat.TheVariants as beat
+use Rattle.tl_beat.specs.declared.beat.BeatD.{BeatD}
+use Rattle.tl_beat.specs.declared.beat.Link.{Link}
+use Rattle.tl_beat.specs.statement.Line.{Spells}
+use Rattle.tl_params.specs.declared.level.Level.{Level}
+use Rattle.tl_params.specs.declared.profile.Profile.{Profile}
+use Rattle.tl_params.specs.declared.width.Width.{Width}
+use Rattle.tl_memory.specs.code.Elsewhere.{block_asked}
+use Rattle.tl_rules.specs.code.Open.{open_request}
+use Rattle.tl_rules.specs.statement.Conformance.{Trace, broken_on_link, on_link}
 use Rattle.tl_explain.specs.code.Spelled.{spelled}
-use Rattle.tl_engine.specs.code.Watching.{KnowsLines}
+use Rattle.tl_explain.specs.declared.told.Spelling.{Spelling}
+use Rattle.tl_explain.specs.statement.Evidence.{next_line}
+use Rattle.tl_together.specs.declared.breach.Breach.TheVariants.{OfMemory}
+use Rattle.tl_together.specs.declared.breach.MemoryRule.{MemoryRule}
+use Rattle.tl_together.specs.declared.judge.Judge.{Judge}
+use Rattle.tl_together.specs.statement.Coherence.{broken_together}
+use Rattle.tl_together.specs.statement.Knows.{Knows}
+use Rattle.tl_witness.specs.code.Witness.{KnowsWitness}
+use Rattle.tl_witness.specs.declared.witness.Witness.{Witness}
+use Rattle.tl_witness.specs.statement.Grounds.{grounds_text}
+use Rattle.tl_engine.specs.code.Tracing.{KnowsSpelled}
+use Rattle.tl_engine.specs.code.Watching.{KnowsBeats, KnowsLines}
+use Rattle.tl_engine.specs.declared.beat_judge.BeatJudge.{BeatJudge}
+use Rattle.tl_engine.specs.declared.examiner.Found.{Found}
+use Rattle.tl_engine.specs.declared.fault.Fault.{Fault}
+use Rattle.tl_engine.specs.declared.fault.Fault.TheVariants.{MemoryRule as BreaksTogether}
+use Rattle.tl_engine.specs.declared.monitor_lines.MonitorLines.{MonitorLines}
+use Rattle.tl_engine.specs.declared.monitor_lines.MonitorLines.TheVariants.{Waiting, Four, Eight, Sixteen}
 use Rattle.tl_engine.specs.declared.testimony.Inquiry.{Inquiry}
 use Rattle.tl_engine.specs.declared.testimony.Testimony.{Testimony}
+use Rattle.tl_engine.specs.statement.Explained.{SpellsTrace, memory_front_text}
+use Rattle.tl_engine.specs.statement.Trace.{SpellsHeader}
 
--- A line was heard, before it was counted. Where the line at fault was reached with it, it is that line, behind as many
--- as come before it.
-pub record HearsLine (old new : Inquiry) (line : List ℕ) : Type 0 where
-  pub count_is : new.count ≡ old.count
+-- ---- what is asked
+
+-- what no line changes that is heard
+pub record IsSameInquiry (old new : Inquiry) : Type 0 where
+  pub rule_is : new.rule ≡ old.rule
+  pub block_is : new.block ≡ old.block
   pub good_is : new.good ≡ old.good
   pub line_is : new.line ≡ old.line
-  pub reached_is : new.reached ≡ true
-      → (old.reached ≡ true) ⊎ ((line ≡ spelled old.line) × (old.count ≡ old.good))
 
--- where the line at fault was reached, it stands among these, behind as many as come before it
-abbrev pub StandsIn : Inquiry → List (List ℕ) → Type 0
-StandsIn i lines = i.reached ≡ true
-    → (before : List (List ℕ)) × (behind : List (List ℕ)) × (lines ≡ before ++ spelled i.line ∷ behind)
-    × (i.good ≡ length before)
+-- nothing was heard
+pub record IsUnheard (i : Inquiry) : Type 0 where
+  pub count_is : i.count ≡ 0
+  pub witness_is : i.witness ≡ None
+  pub reached_is : i.reached ≡ false
 
--- these lines have been heard
-abbrev pub KnowsInquiry : Inquiry → List (List ℕ) → Type 0
-KnowsInquiry i lines = (i.count ≡ length lines) × StandsIn i lines
+-- nothing was heard; it is asked about the rule that was found to be broken, the block that was found, and the line
+pub record AsksAbout (i : Inquiry) (found : Found) (rule : MemoryRule) (line : Spelling) : Type 0 where
+  pub unheard : IsUnheard i
+  pub rule_is : i.rule ≡ rule
+  pub block_is : Some i.block ≡ found.block
+  pub good_is : i.good ≡ found.good
+  pub line_is : i.line ≡ line
 
--- these lines have been judged and heard
-abbrev pub KnowsTestimony : Testimony → List (List ℕ) → List ℕ → Type 0
-KnowsTestimony h lines text = KnowsLines h.monitor_lines lines text × KnowsInquiry h.inquiry lines
+-- where all could be recorded, it is recorded what each of n links holds after t of the block that is asked about
+abbrev pub KnowsRecord : {w : ℕ} → Inquiry → ℕ → Trace w → Type 0
+KnowsRecord i n t = IfSome i.witness (λ h. KnowsWitness h n i.block t)
 
--- one of these lines is at fault
+-- ---- one line
+
+-- a header was heard, behind which nothing is recorded yet
+pub record HearsHeader (old new : Inquiry) (line : List ℕ) : Type 0 where
+  pub same : IsSameInquiry old new
+  pub recorded : old.witness ≡ None → (w : ℕ) (width : Width) (p : Profile) (levels : List Level)
+      → SpellsHeader line width p levels → KnowsRecord {w = w} new (length levels) []
+
+-- a line of this number was heard: where it spells a beat, that is recorded
+abbrev pub RecordsBeat : (w : ℕ) → Inquiry → Inquiry → ℕ → List ℕ → Type 0
+RecordsBeat w old new number line =
+    (n : ℕ) (t : Trace w) (link : Link) (x : Beat w) → Spells line link x → number ≡ next_line t
+    → KnowsRecord old n t → KnowsRecord new n ((link, x) ∷ t)
+
+-- of a response to a request of the block that is recorded, after the trace that the judge knows, a text grew by that
+-- of the definition
+abbrev pub TellsRecorded : {w : ℕ} → Option Witness → Judge w → MemoryRule → Link → BeatD w → List ℕ → List ℕ → Type 0
+TellsRecorded {w} witness judge rule link y was is =
+    (levels : List Level) (p : Profile) (block : ℕ) (t : Trace w) → Knows judge levels p t false
+    → IfSome witness (λ h. KnowsWitness h (length levels) block t)
+    → block_asked (open_request y.source (on_link link.0 t)) ≡ Some block
+    → broken_on_link levels p (link, beat.D y) t ≡ None
+    → is ≡ was ++ grounds_text rule (length levels) link.0 y t
+
+-- of a response in the line of this number, after the trace that the judge knows, the text of the definition was told
+abbrev pub TellsResponse : {w : ℕ} → Inquiry → Inquiry → Judge w → ℕ → List ℕ → Link → BeatD w → Type 0
+TellsResponse {w} old new judge number line link y =
+    (levels : List Level) (p : Profile) (t : Trace w) → Knows judge levels p t false → KnowsRecord old (length levels) t
+    → Spells line link (beat.D y) → broken_on_link levels p (link, beat.D y) t ≡ None
+    → new.reasons.items ≡ memory_front_text old.rule number link (beat.D y)
+    ++ grounds_text old.rule (length levels) link.0 y t
+
+-- the same of a beat, which is a response then
+abbrev pub TellsBeat : {w : ℕ} → Inquiry → Inquiry → BeatJudge w → ℕ → List ℕ → Link → Beat w → Type 0
+TellsBeat {w} old new judge number line link x =
+    (levels : List Level) (p : Profile) (t : Trace w) → KnowsBeats true judge levels p t
+    → KnowsRecord old (length levels) t → Spells line link x → broken_on_link levels p (link, x) t ≡ None
+    → (y : BeatD w) × (x ≡ beat.D y)
+    × (new.reasons.items ≡ memory_front_text old.rule number link x ++ grounds_text old.rule (length levels) link.0 y t)
+
+-- the line of this number is the one at fault, and of the response that it spells the text of the definition was told
+pub record TellsFault {w : ℕ} (old new : Inquiry) (judge : BeatJudge w) (number : ℕ) (line : List ℕ) : Type 0 where
+  pub is_line : line ≡ spelled old.line
+  pub is_next : number ≡ old.good + 1
+  pub tells : (levels : List Level) (p : Profile) (t : Trace w) (link : Link) (x : Beat w)
+      → KnowsBeats true judge levels p t → KnowsRecord old (length levels) t → Spells line link x
+      → broken_on_link levels p (link, x) t ≡ None
+      → (y : BeatD w) × (x ≡ beat.D y)
+      × (new.reasons.items ≡ memory_front_text old.rule number link x
+      ++ grounds_text old.rule (length levels) link.0 y t)
+
+-- a line behind the header was heard
+pub record HearsLine {w : ℕ} (old new : Inquiry) (judge : BeatJudge w) (number : ℕ) (line : List ℕ) (told : Bool)
+    : Type 0 where
+  pub same : IsSameInquiry old new
+  pub recorded : RecordsBeat w old new number line
+  pub tells : told ≡ true → TellsFault old new judge number line
+
+-- what a judge knew it knows still
+abbrev pub StillKnows : {w : ℕ} → BeatJudge w → BeatJudge w → Type 0
+StillKnows {w} old new = (levels : List Level) (p : Profile) (t : Trace w) → KnowsBeats true old levels p t
+    → KnowsBeats true new levels p t
+
+-- a line of this number was heard, before it was judged
+abbrev pub Hears : MonitorLines 1 → MonitorLines 1 → Inquiry → Inquiry → ℕ → List ℕ → Bool → Type 0
+Hears (Waiting alloc) new i j number line told = (new ≡ Waiting alloc) × (told ≡ false) × HearsHeader i j line
+Hears (Four old) (Four new) i j number line told = StillKnows old new × HearsLine i j old number line told
+Hears (Eight old) (Eight new) i j number line told = StillKnows old new × HearsLine i j old number line told
+Hears (Sixteen old) (Sixteen new) i j number line told = StillKnows old new × HearsLine i j old number line told
+Hears _ _ i j number line told = ⊥
+
+-- a line of this number was counted, which was told of or not, and is at fault for this or isn't
+pub record Concludes (old new : Inquiry) (number : ℕ) (told : Bool) (fault : Option Fault) : Type 0 where
+  pub same : IsSameInquiry old new
+  pub witness_is : new.witness ≡ old.witness
+  pub reasons_are : new.reasons ≡ old.reasons
+  pub count_is : new.count ≡ number
+  pub reached_is : new.reached ≡ true → (told ≡ true) × (fault ≡ Some (BreaksTogether old.rule))
+
+-- ---- all lines
+
+-- the judge knows the trace that these lines spell, and that is recorded
+pub record HasHeard {w : ℕ} (judge : BeatJudge w) (i : Inquiry) (lines : List (List ℕ)) : Type 0 where
+  pub traced : KnowsSpelled true judge lines
+  pub recorded : KnowsRecord i (length traced.levels) traced.trace
+
+-- these lines have been judged and heard: what each link holds is recorded, of the block that is asked about
+abbrev pub KnowsInquiry : MonitorLines 1 → Inquiry → List (List ℕ) → Type 0
+KnowsInquiry (Waiting alloc) i lines = (lines ≡ []) × (i.witness ≡ None)
+KnowsInquiry (Four judge) i lines = HasHeard judge i lines
+KnowsInquiry (Eight judge) i lines = HasHeard judge i lines
+KnowsInquiry (Sixteen judge) i lines = HasHeard judge i lines
+
+-- these lines have been judged and heard, and the line at fault wasn't reached
+pub record KnowsTestimony (h : Testimony) (lines : List (List ℕ)) (text : List ℕ) : Type 0 where
+  pub judged : KnowsLines h.monitor_lines lines text
+  pub heard : KnowsInquiry h.monitor_lines h.inquiry lines
+  pub counted : h.inquiry.count ≡ length lines
+  pub unreached : h.inquiry.reached ≡ false
+
+-- The line at fault stands among these, behind those of a trace. The response that it spells breaks the rule after that
+-- trace, and what it rests on was told by the definition.
+pub record HasTold (i : Inquiry) (lines : List (List ℕ)) : Type 0 where
+  pub before : List (List ℕ)
+  pub behind : List (List ℕ)
+  pub stands : lines ≡ before ++ spelled i.line ∷ behind
+  pub good_is : i.good ≡ length before
+  pub bytes : ℕ
+  pub levels : List Level
+  pub profile : Profile
+  pub trace : Trace bytes
+  pub spells_trace : SpellsTrace before levels profile trace
+  pub link : Link
+  pub response : BeatD bytes
+  pub spells : Spells (spelled i.line) link (beat.D response)
+  pub breaks : broken_together levels profile (link, beat.D response) trace ≡ Some (OfMemory i.rule)
+  pub says : i.reasons.items ≡ memory_front_text i.rule (i.good + 1) link (beat.D response)
+      ++ grounds_text i.rule (length levels) link.0 response trace
+
+-- where the line at fault was reached, it was told of
 abbrev pub EndsTestimony : Testimony → List (List ℕ) → Type 0
-EndsTestimony h lines = StandsIn h.inquiry lines
+EndsTestimony h lines = h.inquiry.reached ≡ true → HasTold h.inquiry lines

@@ -17,7 +17,8 @@ use Rattle.tl_engine.specs.declared.status.Status.{Status}
 use Rattle.tl_engine.specs.declared.monitor_lines.MonitorLines.{MonitorLines}
 use Rattle.tl_engine.specs.declared.monitor_lines.MonitorLines.TheVariants.{Waiting, Four, Eight, Sixteen}
 use Rattle.tl_engine.specs.statement.Coherent.{coherent_text, faults_together}
-use Rattle.tl_engine.specs.statement.Judged.{Faults, IsAtFault, JudgedAfter, JudgedBy, clean_text, faults_of_links}
+use Rattle.tl_engine.specs.statement.Judged.{Faults, FaultsOf, Headers, IsAtFault, JudgedAfter, JudgedBy, clean_text}
+use Rattle.tl_engine.specs.statement.Judged.{faults_of_links}
 use Rattle.tl_engine.specs.statement.Trace.{SpellsHeader}
 use Rattle.tl_params.specs.declared.width.Width.{Width}
 
@@ -46,7 +47,7 @@ end_by together n = word_by together ++ decimal n ++ codes "\n"
 
 -- a trace is judged so, all links together or each by itself
 abbrev pub JudgedSo : Bool → List (List ℕ) → List ℕ → Status → Type 0
-JudgedSo together = JudgedBy (faults_by together) (said_by together)
+JudgedSo together = JudgedBy SpellsHeader (faults_by together) (said_by together)
 
 -- a judge of these links knows the beats of a trace, none of which was at fault
 abbrev pub KnowsBeats : {w : ℕ} → Bool → BeatJudge w → List Level → Profile → Trace w → Type 0
@@ -77,16 +78,21 @@ Watches {w} together old new line (Some fault) =
 
 -- These lines, a header and beats that aren't at fault, are judged with this text so far, so that what
 -- follows is judged behind it; the judge knows the beats.
-pub record KnowsTrace {w : ℕ} (together : Bool) (judge : BeatJudge w) (lines : List (List ℕ)) (text : List ℕ)
-    : Type 0 where
+pub record KnowsTraceOf {May : Type 0} {w : ℕ} (Known : List Level → May → Trace w → Type 0) (heads : Headers May)
+    (faults : FaultsOf May) (said : ℕ → List ℕ) (lines : List (List ℕ)) (text : List ℕ) : Type 0 where
   pub levels : List Level
-  pub profile : Profile
+  pub may : May
   pub trace : Trace w
-  pub known : KnowsBeats together judge levels profile trace
+  pub known : Known levels may trace
   pub counted : length lines ≡ length trace + 1
   pub before : (more : List (List ℕ)) (rest : List ℕ) (status : Status)
-      → JudgedAfter (faults_by together) (said_by together) levels profile trace more rest status
-      → JudgedSo together (lines ++ more) (text ++ rest) status
+      → JudgedAfter faults said levels may trace more rest status
+      → JudgedBy heads faults said (lines ++ more) (text ++ rest) status
+
+-- the same of a judge of each link by itself, or of all together
+abbrev pub KnowsTrace : {w : ℕ} → Bool → BeatJudge w → List (List ℕ) → List ℕ → Type 0
+KnowsTrace together judge =
+    KnowsTraceOf (KnowsBeats together judge) SpellsHeader (faults_by together) (said_by together)
 
 -- after these lines, of which none was at fault, this text has been appended
 abbrev pub KnowsLines : {n : ℕ} → MonitorLines n → List (List ℕ) → List ℕ → Type 0

@@ -8,6 +8,7 @@ use Rattle.tl_engine.specs.declared.fault.Fault.{Fault}
 use Rattle.tl_engine.specs.declared.fault.Fault.TheVariants.{Rule as Breaks, MemoryRule}
 use Rattle.tl_engine.specs.declared.status.Status.{Status}
 use Rattle.tl_engine.specs.statement.Judged.{Faults, JudgedBy}
+use Rattle.tl_engine.specs.statement.Trace.{SpellsHeader}
 
 -- `coherent N`: none of N beats is at fault
 unfoldable pub coherent_text : ℕ → List ℕ
@@ -25,4 +26,4 @@ faults_together w levels p x t = option_map fault_of_breach (broken_together lev
 
 -- a trace is judged so, all its links together
 abbrev pub JudgedTogether : List (List ℕ) → List ℕ → Status → Type 0
-JudgedTogether = JudgedBy faults_together coherent_text
+JudgedTogether = JudgedBy SpellsHeader faults_together coherent_text

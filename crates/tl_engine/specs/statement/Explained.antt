@@ -2,6 +2,8 @@
 use Rattle.std.specs.Prelude.{◌≡◌, ℕ, ◌+◌, Bool, true, false, List, [], ◌∷◌, ◌++◌, length, Option, Some, None, ⊤, codes}
 use Rattle.std.specs.Io.KnownBytes.{Consumes}
 use Rattle.tl_beat.specs.declared.beat.Beat.{Beat}
+use Rattle.tl_beat.specs.declared.beat.Beat.TheVariants as beat
+use Rattle.tl_beat.specs.declared.beat.BeatD.{BeatD}
 use Rattle.tl_beat.specs.declared.beat.Link.{Link}
 use Rattle.tl_beat.specs.statement.Line.{Spells}
 use Rattle.tl_burst.specs.statement.Messages.{channel_of}
@@ -15,7 +17,10 @@ use Rattle.tl_rules.specs.statement.Legality.{illegal}
 use Rattle.tl_explain.specs.declared.reason.Reason.{Reason}
 use Rattle.tl_explain.specs.statement.Reasons.{IsEvidence, convicted}
 use Rattle.tl_explain.specs.statement.Sentences.{beat_line, memory_rule_line, rule_line}
+use Rattle.tl_together.specs.declared.breach.Breach.TheVariants.{OfMemory}
 use Rattle.tl_together.specs.declared.breach.MemoryRule.{MemoryRule}
+use Rattle.tl_together.specs.statement.Coherence.{broken_together}
+use Rattle.tl_witness.specs.statement.Grounds.{grounds_text}
 use Rattle.tl_engine.specs.code.Lines.{lines_of}
 use Rattle.tl_engine.specs.declared.fault.Fault.{Fault}
 use Rattle.tl_engine.specs.declared.fault.Fault.TheVariants.{Rule as Breaks, MemoryRule as BreaksTogether}
@@ -31,6 +36,17 @@ unfoldable pub AreLinesOf : {w : ℕ} → Trace w → List (List ℕ) → Type 0
 AreLinesOf [] lines = lines ≡ []
 AreLinesOf (x ∷ t) lines =
     (front : List (List ℕ)) × (line : List ℕ) × (lines ≡ front ++ line ∷ []) × Spells line x.0 x.1 × AreLinesOf t front
+
+-- the lines are a header of these links, in this profile and with beats of w bytes, and those of the beats of t
+pub record SpellsTrace {w : ℕ} (lines : List (List ℕ)) (levels : List Level) (profile : Profile) (t : Trace w) : Type 0
+  where
+    pub width : Width
+    pub of_width : bytes_of width ≡ w
+    pub header : List ℕ
+    pub names : SpellsHeader header width profile levels
+    pub beats : List (List ℕ)
+    pub lines_are : lines ≡ header ∷ beats
+    pub beats_are : AreLinesOf t beats
 
 -- what a rule says, and the beat of line n that breaks it: what stands first behind the verdict
 abbrev pub front_text : {w : ℕ} → Rule → ℕ → Link → Beat w → List ℕ
@@ -74,21 +90,33 @@ abbrev pub broken_alone : {w : ℕ} → Option Level → Beat w → Option Rule
 broken_alone None beat = Some L1
 broken_alone (Some level) beat = illegal level (channel_of beat) beat
 
--- Where a rule of legality is broken, what was read last spells a beat that breaks it by itself, and the text behind
--- the
--- verdict begins with what the rule says and that beat.
-abbrev pub IsNamed : ℕ → Rule → List ℕ → Type 0
-IsNamed n rule reasons =
-    (bytes : ℕ) × (line : List ℕ) × (link : Link) × (beat : Beat bytes) × (level : Option Level) × (grounds : List ℕ)
-    × Spells line link beat × (broken_alone level beat ≡ Some rule)
-    × (reasons ≡ front_text rule n link beat ++ grounds)
+-- Where a rule of legality is broken, line n of what was read of a file, from these bytes on, spells a beat that breaks
+-- it by itself, whatever follows what was read. The text behind the verdict begins with what the rule says and that
+-- beat.
+pub record IsNamed (old new : Option (List ℕ)) (n : ℕ) (rule : Rule) (reasons : List ℕ) : Type 0 where
+  pub read : List ℕ
+  pub consumed : Consumes old new read
+  pub before : List (List ℕ)
+  pub line : List ℕ
+  pub stands : (more : List ℕ) → (behind : List (List ℕ)) × (lines_of (read ++ more) ≡ before ++ line ∷ behind)
+  pub number : n ≡ length before + 1
+  pub bytes : ℕ
+  pub link : Link
+  pub beat : Beat bytes
+  pub spells : Spells line link beat
+  pub level : Option Level
+  pub breaks : broken_alone level beat ≡ Some rule
+  pub grounds : List ℕ
+  pub begins : reasons ≡ front_text rule n link beat ++ grounds
 
 -- the same of a rule of memory
 abbrev pub memory_front_text : {w : ℕ} → MemoryRule → ℕ → Link → Beat w → List ℕ
 memory_front_text rule n link beat = codes "  " ++ memory_rule_line rule ++ beat_line n link beat
 
--- What was read of a file again, from these bytes on, is judged as it was, all links together: its line n, which spells
--- the beat, breaks the rule of memory. The text behind the verdict begins with what the rule says and that beat.
+-- What was read of a file again, from these bytes on, is judged as it was, all links together: line n breaks the rule of
+-- memory. The lines before it are a header and those of the beats of a trace, and it spells a response, which after that
+-- trace breaks this rule and none of its link. The text behind the verdict is what the rule says, that response, and the
+-- lines that the breach rests on, by the definition.
 pub record IsWitnessed (old new : Option (List ℕ)) (n : ℕ) (rule : MemoryRule) (reasons : List ℕ) : Type 0 where
   pub read : List ℕ
   pub consumed : Consumes old new read
@@ -99,11 +127,16 @@ pub record IsWitnessed (old new : Option (List ℕ)) (n : ℕ) (rule : MemoryRul
   pub stands : lines_of read ≡ before ++ line ∷ behind
   pub number : n ≡ length before + 1
   pub bytes : ℕ
+  pub levels : List Level
+  pub profile : Profile
+  pub trace : Trace bytes
+  pub spelled : SpellsTrace before levels profile trace
   pub link : Link
-  pub beat : Beat bytes
-  pub spells : Spells line link beat
-  pub grounds : List ℕ
-  pub begins : reasons ≡ memory_front_text rule n link beat ++ grounds
+  pub response : BeatD bytes
+  pub spells : Spells line link (beat.D response)
+  pub breaks : broken_together levels profile (link, beat.D response) trace ≡ Some (OfMemory rule)
+  pub says : reasons ≡ memory_front_text rule n link (beat.D response)
+      ++ grounds_text rule (length levels) link.0 response trace
 
 -- the rule isn't one of legality, which a beat breaks by itself
 abbrev pub is_of_order : Rule → Bool
@@ -121,7 +154,7 @@ is_of_order _ = true
 abbrev pub ExplainsFault : Option (List ℕ) → Option (List ℕ) → ℕ → List ℕ → Fault → Type 0
 ExplainsFault old new n reasons (Breaks rule) =
     (is_of_order rule ≡ true → IsExplained old new n rule reasons)
-    × (is_of_order rule ≡ false → IsNamed n rule reasons)
+    × (is_of_order rule ≡ false → IsNamed old new n rule reasons)
 ExplainsFault old new n reasons (BreaksTogether rule) = IsWitnessed old new n rule reasons
 ExplainsFault old new n reasons _ = ⊤
 

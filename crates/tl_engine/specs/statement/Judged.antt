@@ -17,36 +17,45 @@ use Rattle.tl_engine.specs.statement.Fault.{fault_text}
 use Rattle.tl_engine.specs.statement.Trace.{SpellsHeader}
 use Rattle.tl_engine.specs.statement.Width.{bytes_of}
 
+-- What a header says: the bytes of a beat, what links may do, which is a profile or anything else that stands for it,
+-- and their levels.
+abbrev pub Headers : Type 0 → Type 1
+Headers May = List ℕ → Width → May → List Level → Type 0
+
 -- What a beat on links of these levels is at fault for, where it is, behind the beats of a trace, the
 -- newest of which is first.
+abbrev pub FaultsOf : Type 0 → Type 0
+FaultsOf May = (w : ℕ) → List Level → May → Link × Beat w → Trace w → Option Fault
+
 abbrev pub Faults : Type 0
-Faults = (w : ℕ) → List Level → Profile → Link × Beat w → Trace w → Option Fault
+Faults = FaultsOf Profile
 
 -- The line is at fault for this behind the beats of t: it spells no beat, or one that is at fault for it.
-abbrev pub IsAtFault : {w : ℕ} → Faults → List Level → Profile → Trace w → List ℕ → Fault → Type 0
-IsAtFault {w} faults levels p t line fault =
+abbrev pub IsAtFault : {May : Type 0} {w : ℕ} → FaultsOf May → List Level → May → Trace w → List ℕ → Fault → Type 0
+IsAtFault {w = w} faults levels p t line fault =
     ((of_line : LineFault) × (line_fault w line ≡ Some of_line) × (fault ≡ Line of_line))
     ⊎ ((link : Link) × (beat : Beat w) × Spells line link beat × (faults w levels p (link, beat) t ≡ Some fault))
 
 -- These lines, behind a header and the beats of t, are judged so: what is said of the number of all beats,
 -- where each line spells one that isn't at fault; otherwise `line N X` for the first line at fault,
 -- whatever follows it. The header is line 1.
-unfoldable pub JudgedAfter : {w : ℕ} → Faults → (ℕ → List ℕ) → List Level → Profile → Trace w → List (List ℕ)
-    → List ℕ → Status → Type 0
+unfoldable pub JudgedAfter : {May : Type 0} {w : ℕ} → FaultsOf May → (ℕ → List ℕ) → List Level → May → Trace w
+    → List (List ℕ) → List ℕ → Status → Type 0
 JudgedAfter faults said levels p t [] text status = (text ≡ said (length t)) × (status ≡ Clean)
-JudgedAfter {w} faults said levels p t (line ∷ lines) text status =
+JudgedAfter {w = w} faults said levels p t (line ∷ lines) text status =
     ((link : Link) × (beat : Beat w) × Spells line link beat × (faults w levels p (link, beat) t ≡ None)
     × JudgedAfter faults said levels p ((link, beat) ∷ t) lines text status)
     ⊎ ((fault : Fault) × IsAtFault faults levels p t line fault × (text ≡ fault_text (length t + 2) fault)
     × (status ≡ Broken))
 
 -- A whole trace is judged so. Where its first line isn't there or spells no header, that is its fault.
-unfoldable pub JudgedBy : Faults → (ℕ → List ℕ) → List (List ℕ) → List ℕ → Status → Type 0
-JudgedBy faults said [] text status = (text ≡ fault_text 1 Header) × (status ≡ Broken)
-JudgedBy faults said (line ∷ lines) text status =
-    ((width : Width) × (p : Profile) × (levels : List Level) × SpellsHeader line width p levels
+unfoldable pub JudgedBy : {May : Type 0} → Headers May → FaultsOf May → (ℕ → List ℕ) → List (List ℕ) → List ℕ → Status
+    → Type 0
+JudgedBy heads faults said [] text status = (text ≡ fault_text 1 Header) × (status ≡ Broken)
+JudgedBy {May} heads faults said (line ∷ lines) text status =
+    ((width : Width) × (p : May) × (levels : List Level) × heads line width p levels
     × JudgedAfter {w = bytes_of width} faults said levels p [] lines text status)
-    ⊎ (((width : Width) (p : Profile) (levels : List Level) → ¬ SpellsHeader line width p levels)
+    ⊎ (((width : Width) (p : May) (levels : List Level) → ¬ heads line width p levels)
     × (text ≡ fault_text 1 Header) × (status ≡ Broken))
 
 -- ---- each link by itself
@@ -61,4 +70,4 @@ faults_of_links w levels p x t = option_map Breaks (broken_on_link levels p x t)
 
 -- a trace is judged so, each link by itself
 abbrev pub Judged : List (List ℕ) → List ℕ → Status → Type 0
-Judged = JudgedBy faults_of_links clean_text
+Judged = JudgedBy SpellsHeader faults_of_links clean_text

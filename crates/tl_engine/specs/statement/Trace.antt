@@ -1,5 +1,6 @@
 -- The header of a trace.
-use Rattle.std.specs.Prelude.{◌≡◌, ℕ, List, [], ◌∷◌, ◌++◌, length, codes, Option, Some, None}
+use Rattle.std.specs.Prelude.{◌≡◌, ◌≤◌, ℕ, List, [], ◌∷◌, ◌++◌, length, codes, Option, Some, None}
+use Rattle.arrayvec.specs.ArrayVec.{ArrayVec}
 use Rattle.tl_params.specs.declared.header.Version.{Version}
 use Rattle.tl_params.specs.declared.level.Level.{Level}
 use Rattle.tl_params.specs.declared.profile.Profile.{Profile}
@@ -12,6 +13,15 @@ use Rattle.tl_engine.specs.declared.header.Header.{Header}
 abbrev pub levels_text : List Level → List ℕ
 levels_text [] = []
 levels_text (level ∷ levels) = codes " " ++ level_text level ++ levels_text levels
+
+-- the bytes are those of these levels, at most 16, and end a line
+abbrev pub SpellsLevels : List ℕ → List Level → Type 0
+SpellsLevels bytes levels = (bytes ≡ levels_text levels ++ codes "\n") × (length levels ≤ 16)
+
+-- these levels were read
+abbrev pub AreLevels : Option (ArrayVec Level) → List Level → Type 0
+AreLevels None levels = ⊥
+AreLevels (Some read) levels = read.items ≡ levels
 
 -- the word at the front of a trace
 abbrev pub trace_word : List ℕ

@@ -1,5 +1,5 @@
 -- What a reason tells of a trace, and which rule a beat breaks by what is told.
-use Rattle.std.specs.Prelude.{ℕ, Bool, true, false, not, List, [], ◌∷◌, ◌≡◌, ◌==◌, ◌&&◌, ◌||◌, ⊤, length}
+use Rattle.std.specs.Prelude.{ℕ, Bool, true, false, not, List, ◌∷◌, ◌≡◌, ◌==◌, ◌&&◌, ◌||◌, ⊤, length}
 use Rattle.std.specs.Prelude.{Option, Some, None, IfSome}
 use Rattle.tl_beat.specs.declared.beat.Beat.{Beat}
 use Rattle.tl_beat.specs.declared.beat.Beat.TheVariants as beat
@@ -8,7 +8,7 @@ use Rattle.tl_beat.specs.declared.channel.Channel.{Channel}
 use Rattle.tl_beat.specs.declared.channel.Channel.TheVariants as channel
 use Rattle.tl_beat.specs.statement.First.{first_if}
 use Rattle.tl_beat.specs.statement.Opcode.{c_carries_data}
-use Rattle.tl_burst.specs.statement.Messages.{History, breaks_burst, channel_of, unfinished}
+use Rattle.tl_burst.specs.statement.Messages.{History, channel_of, unfinished}
 use Rattle.tl_params.specs.declared.key.Key.{Key}
 use Rattle.tl_params.specs.declared.key.Key.TheVariants.{RequestSource, ReleaseSource, AcquireOf, ReleaseOf, GrantSink}
 use Rattle.tl_params.specs.declared.key.Key.TheVariants.{GrantAckOf, ProbeOf}
@@ -37,6 +37,7 @@ use Rattle.tl_explain.specs.declared.reason.Reason.TheVariants.{WrongProbe, Misr
 use Rattle.tl_explain.specs.declared.told.Mention.{Mention}
 use Rattle.tl_explain.specs.declared.turns.Subject.{Subject}
 use Rattle.tl_explain.specs.statement.Evidence.{mention_of}
+use Rattle.tl_explain.specs.statement.OrderRules.{BreaksBy, first_by}
 use Rattle.tl_explain.specs.statement.Since.{IsBurstSince, IsClosedBy, IsHeldSince, IsNeverOpened, IsPendingSince}
 
 -- ---- the rules of order, each by itself
@@ -67,19 +68,13 @@ breaks_at_first p H13 (beat.C x) t =
     (prunes_from (prune_of x.param) (held (block_at x.address) t))))
 breaks_at_first _ _ _ _ = false
 
--- the H rules in their order
-abbrev pub order_rules : List Rule
-order_rules = H1 ∷ H2 ∷ H3 ∷ H4 ∷ H5 ∷ H6 ∷ H7 ∷ H8 ∷ H9 ∷ H10 ∷ H11 ∷ H12 ∷ H13 ∷ []
-
 -- the first of these rules that the beat breaks
 abbrev pub first_broken : {w : ℕ} → Profile → List Rule → Beat w → History w → Option Rule
-first_broken p [] x t = None
-first_broken p (rule ∷ rules) x t = first_if (breaks_at_first p rule x t) rule (first_broken p rules x t)
+first_broken p rules x t = first_by (λ rule. breaks_at_first p rule x t) rules
 
 -- the beat breaks the rule of order after the history t, an H rule where it begins a message and S1 where it doesn't
 abbrev pub Breaks : {w : ℕ} → Profile → Rule → Beat w → History w → Type 0
-Breaks p S1 x t = (begins x t ≡ false) × (breaks_burst x (unfinished (channel_of x) t) ≡ true)
-Breaks p rule x t = (begins x t ≡ true) × (breaks_at_first p rule x t ≡ true)
+Breaks p rule x t = BreaksBy (λ r. breaks_at_first p r x t) rule x t
 
 -- ---- what is told of a trace
 

@@ -79,7 +79,7 @@ memory_sentence M2 = codes
 memory_sentence M3 = codes
     "a byte that was asked for isn't one that it may have been from the request's last beat to the answer's first, by what was told of it and by the Puts and atomics that were pending"
 memory_sentence M4 = codes
-    "all the while since the request was complete a link has held what excludes it: Trunk of the block for a Get, anything of it for a Put or an atomic"
+    "all the while since the request was complete a link has held what excludes it: Trunk of the block for a Get, while no report has shown its bytes; anything of it for a Put or an atomic"
 
 -- the messages in brackets, where there are some
 abbrev pub in_brackets : List ℕ → List ℕ

@@ -1,17 +1,23 @@
 -- What is known of all blocks, after what all links of a manager have carried.
-use Rattle.std.specs.Prelude.{ℕ, [], ◌≡◌, ◌<◌, length, Option, Some, None, slice_get}
+use Rattle.std.specs.Prelude.{ℕ, [], ◌≡◌, ◌<◌, ◌+◌, ◌*◌, length, Option, Some, None, slice_get}
 use Rattle.std.specs.BTreeMap.{get}
 use Rattle.std.specs.Ordering.{nat_cmp}
 use Rattle.tl_rules.specs.statement.Conformance.{Trace}
-use Rattle.tl_bytes.specs.statement.Bytes.{pending_accesses}
+use Rattle.tl_bytes.specs.statement.Bytes.{may_be, pending_accesses}
 use Rattle.tl_memory.specs.declared.block.BlockState.{BlockState}
 use Rattle.tl_memory.specs.declared.blocks.Blocks.{Blocks}
 use Rattle.tl_memory.specs.statement.Known.{AllWriteInside, KnowsState}
 
+-- each byte of the block may be what it may before anything is carried
+abbrev pub IsUntold : {w : ℕ} → ℕ → ℕ → Trace w → Type 0
+IsUntold {w} n block t = (place : ℕ) → place < 64
+    → may_be n (64 * block + place) t ≡ may_be {w = w} n (64 * block + place) []
+
 -- what is kept of a block after t: its state, or, where none is kept, what that of a block is of which nothing was
 -- carried
 abbrev pub KnowsKept : {w : ℕ} → Option (BlockState w) → ℕ → ℕ → Trace w → Type 0
-KnowsKept {w} None n block t = (s : BlockState w) → KnowsState s n block [] [] → KnowsState s n block t t
+KnowsKept {w} None n block t =
+    IsUntold n block t × ((s : BlockState w) → KnowsState s n block [] [] → KnowsState s n block t t)
 KnowsKept (Some s) n block t = KnowsState s n block t t
 
 -- the place of a block among the states, where one is kept

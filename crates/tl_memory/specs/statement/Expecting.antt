@@ -1,20 +1,27 @@
 -- What a response may bring, and a link's that has begun.
-use Rattle.std.specs.Prelude.{ℕ, suc, ◌∷◌, ◌*◌, ◌≡◌, List, length, find, Option, Some, None, ⊤}
+use Rattle.std.specs.Prelude.{ℕ, suc, Bool, not, ◌||◌, ◌∷◌, ◌*◌, ◌≡◌, List, length, find, Option, Some, None, ⊤}
 use Rattle.tl_beat.specs.declared.beat.Beat.{Beat}
 use Rattle.tl_beat.specs.declared.beat.Beat.TheVariants as beat
 use Rattle.tl_beat.specs.declared.beat.BeatD.{BeatD}
 use Rattle.tl_beat.specs.declared.channel.Channel.TheVariants as channel
 use Rattle.tl_beat.specs.declared.opcode.OpD.{OpD}
 use Rattle.tl_beat.specs.declared.opcode.OpD.TheVariants as d
+use Rattle.tl_burst.specs.statement.Burst.{reaches}
 use Rattle.tl_burst.specs.statement.Messages.{unfinished}
 use Rattle.tl_rules.specs.code.Open.{open_request}
 use Rattle.tl_rules.specs.declared.past.Request.{Request}
 use Rattle.tl_rules.specs.statement.Conformance.{Trace, on_link}
 use Rattle.tl_rules.specs.statement.History.{block_at}
-use Rattle.tl_bytes.specs.statement.Bytes.{Access, before_last, is_of, pending_accesses}
+use Rattle.tl_bytes.specs.statement.Bytes.{Access, before_last, is_of, may_read, pending_accesses}
 use Rattle.tl_bytes.specs.statement.Known.{KnowsGrant}
 use Rattle.tl_memory.specs.declared.expected.Expected.{Expected}
 use Rattle.tl_memory.specs.statement.Known.{Expects}
+
+-- the byte v may be brought by an AccessAckData that answers this access, and began after t: what may be read, and
+-- anything where the access doesn't reach
+abbrev pub may_answer : {w : ℕ} → ℕ → Access w → Trace w → ℕ → ℕ → Bool
+may_answer n access t address v =
+    not (reaches access.request.address access.request.size address) || may_read n access t address v
 
 -- this is what a GrantData may bring that answers a request, and began after t
 abbrev pub ExpectsGrant : {w : ℕ} → Option Expected → ℕ → Option Request → Trace w → Type 0

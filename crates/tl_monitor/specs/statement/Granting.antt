@@ -1,5 +1,5 @@
 -- What a link holds of a block where a Grant counts as held from its first beat on.
-use Rattle.std.specs.Prelude.{ℕ, not, ◌&&◌, if◌then◌else◌, List, [], ◌∷◌, Option, Some, None, unwrap_or, nat_lt, length}
+use Rattle.std.specs.Prelude.{ℕ, not, ◌&&◌, if◌then◌else◌, List, ◌∷◌, Option, Some, None, unwrap_or, nat_lt, length}
 use Rattle.tl_beat.specs.declared.beat.Beat.{Beat}
 use Rattle.tl_beat.specs.declared.beat.Beat.TheVariants as beat
 use Rattle.tl_beat.specs.declared.beat.Link.{Link}

@@ -15,7 +15,8 @@ use Rattle.tl_rules.specs.statement.Liberties.{broken_on_link_under, first_fault
 use Rattle.tl_rules.specs.statement.Conformance.{Trace, on_link, broken_on_link, first_fault}
 use Rattle.tl_rules.specs.statement.History.{begins, held}
 use Rattle.tl_burst.specs.statement.Messages.{History}
-use Rattle.tl_rules.specs.code.Open.{open_request}
+use Rattle.tl_rules.specs.code.Open.{open_probe, open_request}
+use Rattle.tl_rules.specs.declared.past.Probe.{Probe}
 use Rattle.tl_rules.specs.declared.past.Request.{Request}
 use Rattle.tl_monitor.specs.code.LinkState.{is_block, IsEmpty}
 use Rattle.tl_monitor.specs.code.Keeps.{Keeps}
@@ -47,6 +48,10 @@ Knows m levels p t closed = KnowsUnder m levels (liberties_of p) t closed
 -- the request with this source that is pending and complete on a link; none on a link without a level
 abbrev pub request_on : {w : ℕ} → List Level → Link → ℕ → Trace w → Option Request
 request_on levels link source t = if nat_lt link.0 (length levels) then open_request source (on_link link.0 t) else None
+
+-- the Probe of a block that is pending on a link; none on a link without a level
+abbrev pub probe_on : {w : ℕ} → List Level → Link → ℕ → Trace w → Option Probe
+probe_on levels link block t = if nat_lt link.0 (length levels) then open_probe block (on_link link.0 t) else None
 
 -- what is held of a block on a link; nothing on a link without a level
 abbrev pub held_on : {w : ℕ} → List Level → Link → ℕ → Trace w → Perm

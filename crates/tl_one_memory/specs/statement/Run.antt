@@ -24,6 +24,7 @@ use Rattle.tl_rules.specs.statement.History.{block_at, ends, is_release_ack}
 use Rattle.tl_rules.specs.statement.Windows.{is_free}
 use Rattle.tl_bytes.specs.statement.Bytes.{Access, access_writes, carried_byte, could_be, ends_request, is_access}
 use Rattle.tl_bytes.specs.statement.Bytes.{is_of, pending_accesses, tells}
+use Rattle.tl_bytes.specs.statement.Shown.{shows}
 
 -- What happens: a beat is taken on a link, the access with this source of a link is performed, or a client stores to
 -- its copy of a block, which has the bytes of this memory afterwards.
@@ -86,6 +87,41 @@ found_in first c s (Performs d i ∷ run) =
     if (d == c) && (i == s) then Some (memory_in first run) else found_in first c s run
 found_in first c s (Stores block bytes ∷ run) = found_in first c s run
 
+-- ---- copies to which nothing was stored
+
+-- what is told of the byte at an address with this beat, where its block is told of, is what memory has
+abbrev pub TellsTrue : {w : ℕ} → Memory → ℕ → Link → Beat w → Run w → Type 0
+TellsTrue first address link x run =
+    could_be (memory_in first run address)
+    (carried_byte (x ∷ unfinished (channel_of x) (on_link link.0 (trace_in run))) (address % 64)) ≡ true
+
+-- the first of the two, where a test is passed, and otherwise the second
+abbrev pub OneOf : Bool → Type 0 → Type 0 → Type 0
+OneOf true a b = a
+OneOf false a b = b
+
+-- The byte at an address is what was told of it last, or what it was when no link held Trunk of its block: no client has
+-- stored to its copy since.
+unfoldable pub IsClean : {w : ℕ} → ℕ → Memory → ℕ → Run w → Type 0
+IsClean n first address [] = ⊤
+IsClean n first address (Takes link x ∷ run) =
+    (is_free n None perm.Branch (block_at address) ((link, x) ∷ trace_in run) ≡ true)
+    ⊎ OneOf (tells (block_at address) x (on_link link.0 (trace_in run))) (TellsTrue first address link x run)
+    (IsClean n first address run)
+IsClean n first address (Performs link source ∷ run) = IsClean n first address run
+IsClean n first address (Stores block bytes ∷ run) = ((block_at address == block) ≡ false) × IsClean n first address run
+
+-- a report of the block is complete with the last beat that was taken, shows its bytes, and leaves its sender Trunk
+abbrev pub shown_last : {w : ℕ} → ℕ → Trace w → Bool
+shown_last block [] = false
+shown_last block (x ∷ t) = shows block x.1 (on_link x.0.0 t)
+
+-- the byte may be read: no link holds Trunk of its block, or a report shows a copy to which nothing was stored
+abbrev pub MayBeRead : {w : ℕ} → ℕ → Memory → ℕ → Run w → Type 0
+MayBeRead n first address run =
+    (is_free n None perm.Branch (block_at address) (trace_in run) ≡ true)
+    ⊎ ((shown_last (block_at address) (trace_in run) ≡ true) × IsClean n first address run)
+
 -- ---- what may happen
 
 -- the access is answered with the bytes that it finds
@@ -99,13 +135,13 @@ returns _ = false
 abbrev pub place_in : {w : ℕ} → Access w → ℕ → ℕ
 place_in {w} access address = address - w * (access.request.address / w)
 
--- A pending access may be performed, once: no link holds Trunk of what it reaches, nor anything of what it writes.
+-- A pending access may be performed, once: what it reaches may be read, and no link holds anything of what it writes.
 pub record IsPerformed {w : ℕ} (n : ℕ) (first : Memory) (link source : ℕ) (run : Run w) : Type 0 where
   pub access : Access w
   pub pending : find (is_of link source) (pending_accesses (trace_in run)) ≡ Some access
   pub once : found_in first link source run ≡ None
   pub reads_free : (address : ℕ) → reaches access.request.address access.request.size address ≡ true
-      → is_free n None perm.Branch (block_at address) (trace_in run) ≡ true
+      → MayBeRead n first address run
   pub writes_free : (address : ℕ) → access_writes address access ≡ true
       → is_free n None perm.Trunk (block_at address) (trace_in run) ≡ true
 
@@ -151,16 +187,15 @@ pub record IsTaken {w : ℕ} (n : ℕ) (first : Memory) (link : Link) (x : Beat 
       → IsGranted n first link.0 z asked.block (length (unfinished channel.D (on_link link.0 (trace_in run)))) run
   -- What is told of a block, with which no link holds Trunk, is what memory has.
   pub tells_rightly : (address : ℕ) → is_free n None perm.Branch (block_at address) ((link, x) ∷ trace_in run) ≡ true
-      → tells (block_at address) x (on_link link.0 (trace_in run)) ≡ true
-      → could_be (memory_in first run address)
-      (carried_byte (x ∷ unfinished (channel_of x) (on_link link.0 (trace_in run))) (address % 64)) ≡ true
-  -- who gets a block that no link holds is told what it has, and so is it told where Trunk is given up
+      → tells (block_at address) x (on_link link.0 (trace_in run)) ≡ true → TellsTrue first address link x run
+  -- who gets a block that no link holds is told what it has
   pub closes_told : (block : ℕ) → is_free n None perm.Trunk block (trace_in run) ≡ true
       → is_free n None perm.Trunk block ((link, x) ∷ trace_in run) ≡ false
       → tells block x (on_link link.0 (trace_in run)) ≡ true
-  pub given_up_told : (block : ℕ) → is_free n None perm.Branch block (trace_in run) ≡ false
-      → is_free n None perm.Branch block ((link, x) ∷ trace_in run) ≡ true
-      → tells block x (on_link link.0 (trace_in run)) ≡ true
+  -- where Trunk is given up it is told what the block has, or nothing was stored to the copy
+  pub given_up_rightly : (address : ℕ) → is_free n None perm.Branch (block_at address) (trace_in run) ≡ false
+      → is_free n None perm.Branch (block_at address) ((link, x) ∷ trace_in run) ≡ true
+      → (tells (block_at address) x (on_link link.0 (trace_in run)) ≡ true) ⊎ IsClean n first address run
 
 -- It may happen after a run. A client stores to its copy only where a link holds Trunk of it.
 abbrev pub Happens : {w : ℕ} → ℕ → Memory → Happening w → Run w → Type 0

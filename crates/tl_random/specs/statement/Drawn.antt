@@ -1,5 +1,6 @@
 -- The line that is drawn next, by its options and what has happened, and whether its event is taken.
-use Rattle.std.specs.Prelude.{ℕ, Bool, true, false, ◌==◌, List, length, nat_lt, slice_index_or, if◌then◌else◌}
+use Rattle.std.specs.Prelude.{ℕ, Bool, true, false, ◌≡◌, ◌==◌, ◌⊎◌, ◌∷◌, ◌++◌, [], All, List, length, nat_lt}
+use Rattle.std.specs.Prelude.{slice_index_or, if◌then◌else◌}
 use Rattle.tl_params.specs.declared.config.Config.{Config}
 use Rattle.tl_params.specs.declared.level.Level.{Level}
 use Rattle.tl_params.specs.declared.level.Level.TheVariants as level
@@ -7,10 +8,14 @@ use Rattle.tl_params.specs.declared.perm.Perm.{Perm}
 use Rattle.tl_client.specs.declared.reply.Reply.{Reply}
 use Rattle.tl_client.specs.declared.reply.Reply.TheVariants as reply
 use Rattle.tl_command.specs.declared.random.Options.{Options}
+use Rattle.tl_coherence.specs.declared.event.Event.{Event}
 use Rattle.tl_coherence.specs.declared.event.Outcome.{Outcome}
 use Rattle.tl_coherence.specs.declared.event.Outcome.TheVariants as outcome
+use Rattle.tl_coherence.specs.statement.Draining.{IsDrained}
 use Rattle.tl_coherence.specs.statement.Log.{Log, system_after}
-use Rattle.tl_schedule.specs.statement.EventLine.{Deliver, event_line}
+use Rattle.tl_coherence.specs.statement.Movable.{drained}
+use Rattle.tl_engine.specs.code.PlayableWorld.{Contained, HasHappened}
+use Rattle.tl_schedule.specs.statement.EventLine.{Deliver, SpellsEvent, drain_line, event_line}
 use Rattle.tl_world.specs.statement.World.{held_by}
 use Rattle.tl_random.specs.statement.Choose.{channel_of, request}
 use Rattle.tl_random.specs.statement.Draw.{Choice, ◌>>=◌, always, below, is_one_in}
@@ -63,3 +68,39 @@ is_idle _ = false
 -- an event is taken where something came of it, and once in 72 times where nothing did
 unfoldable pub takes : {w : ℕ} → Outcome w → Choice Bool
 takes o = if is_idle o then is_one_in 72 else always true
+
+-- ---- what is done in the world
+
+-- two configurations name one world
+pub record IsSameConfig (one other : Config) : Type 0 where
+  pub blocks_are : one.blocks ≡ other.blocks
+  pub trackers_are : one.trackers ≡ other.trackers
+  pub clients_are : one.clients.items ≡ other.clients.items
+  pub profile_is : one.profile ≡ other.profile
+
+-- nothing has happened to a world that a configuration names
+abbrev pub IsFreshOf : {w : ℕ} → Config → Contained w → Type 0
+IsFreshOf config world = (same : Config) × IsSameConfig same config × HasHappened same world []
+
+-- nothing came of any of these events
+abbrev pub AreIdle : {w : ℕ} → Log w → Type 0
+AreIdle log = All (λ x. is_idle x.1 ≡ true) log
+
+-- the world of this log was drained: some number of deliveries, each the next one, ended what was outstanding
+abbrev pub IsDrainedOf : {w : ℕ} → Config → Log w → Contained w → Type 0
+IsDrainedOf config log world =
+    (count : ℕ) × HasHappened config world (drained config count log) × IsDrained config log count
+
+-- in the world of this log the line was played, behind events that came to nothing: it says the last event, or that the
+-- world is drained, and it was
+abbrev pub PlaysLine : {w : ℕ} → Config → Log w → Contained w → List ℕ → Type 0
+PlaysLine {w} config log world line =
+    (tried : Log w) × AreIdle tried
+    × (((event : Event w) × (outcome : Outcome w) × SpellsEvent line event
+    × HasHappened config world ((event, outcome) ∷ (tried ++ log)))
+    ⊎ ((line ≡ drain_line) × IsDrainedOf config (tried ++ log) world))
+
+-- a text grew by such a line
+abbrev pub GrowsByPlay : {w : ℕ} → Config → Contained w → Contained w → List ℕ → List ℕ → Type 0
+GrowsByPlay {w} config was is old new =
+    (log : Log w) → HasHappened config was log → (line : List ℕ) × (new ≡ old ++ line) × PlaysLine config log is line

@@ -24,13 +24,14 @@ use Rattle.tl_report.specs.declared.search.Search.{Search}
 use Rattle.tl_report.specs.declared.search_lines.SearchLines.{SearchLines}
 use Rattle.tl_report.specs.declared.search_lines.SearchLines.TheVariants.{Waiting, Four, Eight, Sixteen}
 use Rattle.tl_report.specs.statement.Found.{Finds, FindsAfter, is_open, most_of, no_header}
+use Rattle.tl_report.specs.statement.Taken.{AreCounted, cells_of}
 
 -- nothing was read behind the header
 pub record IsBegun {w : ℕ} (s : Search w) (aim : Aim) (levels : List Level) (p : Profile) : Type 0 where
   pub aim_is : s.aim ≡ aim
   pub known : KnowsBeats aim.together s.judge levels p []
   pub none_found : s.findings.faults.items ≡ []
-  pub no_beats : s.findings.beats ≡ 0
+  pub none_taken : AreCounted s.findings.beats s.findings.cells.items []
   pub header : s.lines ≡ 1
   pub unended : s.over ≡ false
 
@@ -41,13 +42,13 @@ pub record KnowsSearch {w : ℕ} (s : Search w) (lines : List (List ℕ)) : Type
   pub trace : Trace w
   pub left : ℕ
   pub known : KnowsBeats s.aim.together s.judge levels profile trace
-  pub so_many : s.findings.beats ≡ length trace
+  pub so_many : AreCounted s.findings.beats s.findings.cells.items (cells_of trace)
   pub most_are : s.aim.behind ≡ length s.findings.faults.items + left
   pub unended : s.over ≡ false
   pub some : lines ≢ []
-  pub before : (more : List (List ℕ)) (later : List Finding) (beats : ℕ)
-      → FindsAfter (faults_by s.aim.together) levels profile trace (s.lines + 1) (suc left) more later beats
-      → Finds (faults_by s.aim.together) (most_of s.aim) (lines ++ more) (s.findings.faults.items ++ later) beats
+  pub before : (more : List (List ℕ)) (later : List Finding) (beats : ℕ) (cells : List ℕ)
+      → FindsAfter (faults_by s.aim.together) levels profile trace (s.lines + 1) (suc left) more later beats cells
+      → Finds (faults_by s.aim.together) (most_of s.aim) (lines ++ more) (s.findings.faults.items ++ later) beats cells
 
 -- what is found with a line that ends a search without being noted
 abbrev pub found_with : Bool → List Finding → ℕ → List Finding
@@ -57,7 +58,7 @@ found_with false found line = found ++ record { line = line; fault = Line F1 } �
 -- what was found is all that is found in these lines
 abbrev pub EndsSearch : {w : ℕ} → Search w → List (List ℕ) → Type 0
 EndsSearch s lines = Finds (faults_by s.aim.together) (most_of s.aim) lines
-    (found_with s.over s.findings.faults.items (s.lines + 1)) s.findings.beats
+    (found_with s.over s.findings.faults.items (s.lines + 1)) s.findings.beats s.findings.cells.items
 
 -- a line was read: more are looked for, or it ends the search, whatever follows it
 abbrev pub SearchesLine : {w : ℕ} → Search w → Search w → List ℕ → Option Fault → Type 0
@@ -69,15 +70,17 @@ SearchesLine old new line (Some fault) =
 abbrev pub JudgesLine : {w : ℕ} → Search w → Search w → List ℕ → Option Fault → Type 0
 JudgesLine {w} old new line None =
     (levels : List Level) (p : Profile) (t : Trace w) → KnowsBeats old.aim.together old.judge levels p t
-    → old.findings.beats ≡ length t
+    → AreCounted old.findings.beats old.findings.cells.items (cells_of t)
     → (link : Link) × (beat : Beat w) × Spells line link beat
     × (faults_by old.aim.together w levels p (link, beat) t ≡ None)
-    × KnowsBeats old.aim.together new.judge levels p ((link, beat) ∷ t) × (new.findings.beats ≡ length t + 1)
+    × KnowsBeats old.aim.together new.judge levels p ((link, beat) ∷ t)
+    × AreCounted new.findings.beats new.findings.cells.items (cells_of ((link, beat) ∷ t))
 JudgesLine {w} old new line (Some fault) =
     (levels : List Level) (p : Profile) (t : Trace w) → KnowsBeats old.aim.together old.judge levels p t
-    → old.findings.beats ≡ length t
+    → AreCounted old.findings.beats old.findings.cells.items (cells_of t)
     → IsAtFault (faults_by old.aim.together) levels p t line fault
-    × KnowsBeats old.aim.together new.judge levels p t × (new.findings.beats ≡ length t)
+    × KnowsBeats old.aim.together new.judge levels p t
+    × AreCounted new.findings.beats new.findings.cells.items (cells_of t)
 
 -- what a beat doesn't change of a search
 pub record IsElsewhereSame {w : ℕ} (old new : Search w) : Type 0 where
@@ -91,6 +94,7 @@ pub record Notes {w : ℕ} (old new : Search w) (line : List ℕ) (number : ℕ)
   pub aim_is : new.aim ≡ old.aim
   pub judge_is : new.judge ≡ old.judge
   pub beats_are : new.findings.beats ≡ old.findings.beats
+  pub cells_are : new.findings.cells.items ≡ old.findings.cells.items
   pub lines_are : new.lines ≡ old.lines
   pub found_is : new.findings.faults.items ≡ old.findings.faults.items ++ record { line = number; fault = fault } ∷ []
   pub over_is : new.over ≡ (is_open line || nat_lt old.aim.behind (length old.findings.faults.items + 1))
@@ -104,6 +108,7 @@ found_by Broken over found line = found_with over found line
 abbrev pub EndsWith : Status → Bool → Findings → ℕ → Findings → Type 0
 EndsWith status over had lines f =
     (f.faults.items ≡ found_by status over had.faults.items (lines + 1)) × (f.beats ≡ had.beats)
+    × (f.cells.items ≡ had.cells.items)
 
 -- what a search is for
 abbrev pub aim_of : SearchLines → Aim
@@ -125,7 +130,9 @@ TellsLines lines text status = status ≡ Clean → lines ≢ []
 
 -- what was found is all that is found in these lines
 abbrev pub EndsLines : SearchLines → List (List ℕ) → Type 0
-EndsLines (Waiting alloc aim) lines = Finds (faults_by aim.together) (most_of aim) lines no_header 0
+EndsLines (Waiting alloc aim) lines =
+    (beats : ℕ) (cells : List ℕ) → AreCounted beats cells []
+    → Finds (faults_by aim.together) (most_of aim) lines no_header beats cells
 EndsLines (Four s) lines = EndsSearch s lines
 EndsLines (Eight s) lines = EndsSearch s lines
 EndsLines (Sixteen s) lines = EndsSearch s lines
@@ -135,6 +142,7 @@ abbrev pub HasFound : SearchLines → Status → Findings → Type 0
 HasFound h status f =
     (lines : List (List ℕ)) → HasAll KnowsLines EndsLines h lines status → (status ≡ Clean → lines ≢ [])
     → Finds (faults_by (aim_of h).together) (most_of (aim_of h)) lines f.faults.items f.beats
+    f.cells.items
 
 -- what the first line begins: a search behind the header, or none where it spells none
 abbrev pub Begins : Aim → List ℕ → Option SearchLines → Type 0

@@ -46,17 +46,17 @@ status_of [] = Clean
 status_of found = Broken
 
 -- What was read, to its end or so that nothing that follows changes it, has these lines at fault, at most so many, and
--- so many beats are taken.
-abbrev pub Searches : Bool → ℕ → Option (List ℕ) → Option (List ℕ) → List Finding → ℕ → Type 0
-Searches together most had left found beats =
-    (read : List ℕ) × Consumes had left read × Finds (faults_by together) most (lines_of read) found beats
-    × (((more : List ℕ) → Finds (faults_by together) most (lines_of (read ++ more)) found beats) ⊎ IsAtEnd left)
+-- so many beats are taken, in each cell as many as are counted in it.
+abbrev pub Searches : Bool → ℕ → Option (List ℕ) → Option (List ℕ) → List Finding → ℕ → List ℕ → Type 0
+Searches together most had left found beats cells =
+    (read : List ℕ) × Consumes had left read × Finds (faults_by together) most (lines_of read) found beats cells
+    × (((more : List ℕ) → Finds (faults_by together) most (lines_of (read ++ more)) found beats cells) ⊎ IsAtEnd left)
 
 -- A search was given up for this. But for `Write` nothing was written. `Write`: the search came to its end, and some of
 -- the text is left to be written.
 abbrev pub GivesUpSearching : Bool → ℕ → Option (List ℕ) → Option (List ℕ) → Option (List ℕ) → Option (List ℕ)
     → ToolFault → Type 0
 GivesUpSearching together most had left held holds Write =
-    (found : List Finding) × (beats : ℕ) × Searches together most had left found beats
+    (found : List Finding) × (beats : ℕ) × (cells : List ℕ) × Searches together most had left found beats cells
     × AppendsShort held holds (all_text together found beats)
 GivesUpSearching together most had left held holds fault = holds ≡ held

@@ -1,4 +1,4 @@
--- When blocks were last free, and requests complete, counted in beats, and the tables of it.
+-- When blocks could last be accessed, and requests were complete, counted in beats, and the tables of it.
 use Rattle.std.specs.Prelude.{ℕ, suc, Bool, true, false, [], ◌∷◌, ◌&&◌, ◌≡◌, ◌<◌, if◌then◌else◌, List}
 use Rattle.std.specs.Prelude.{length, Option, Some, None, is_some, is_none, slice_index_or}
 use Rattle.std.specs.BTreeMap.{is_at}
@@ -14,6 +14,9 @@ use Rattle.tl_params.specs.declared.level.Level.{Level}
 use Rattle.tl_params.specs.declared.profile.Profile.{Profile}
 use Rattle.tl_monitor.specs.declared.monitor.Monitor.{Monitor}
 use Rattle.tl_monitor.specs.statement.Knows.{Knows, LeavesOthers}
+use Rattle.tl_monitor.specs.code.LinkState.{is_block}
+use Rattle.tl_burst.specs.statement.Messages.{History}
+use Rattle.tl_rules.specs.statement.History.{ends}
 use Rattle.tl_monitor.specs.code.Count.{at}
 use Rattle.tl_monitor.specs.declared.fault.MonitorFault.{MonitorFault}
 use Rattle.tl_monitor.specs.declared.fault.MonitorFault.TheVariants as monitor
@@ -23,6 +26,7 @@ use Rattle.tl_together.specs.declared.fault.JudgeFault.TheVariants as judge
 use Rattle.tl_together.specs.declared.free.Freedom.{Freedom}
 use Rattle.tl_together.specs.declared.windows.Window.{Window}
 use Rattle.tl_rules.specs.statement.Windows.{is_free}
+use Rattle.tl_bytes.specs.statement.Shown.{is_window, shows}
 
 -- how many beats had been taken when the request with this source was last complete and before wasn't
 unfoldable pub asked_at : {w : ℕ} → ℕ → ℕ → Trace w → ℕ
@@ -31,17 +35,20 @@ asked_at link source (x ∷ t) =
     if is_some (open_request source (on_link link (x ∷ t))) && is_none (open_request source (on_link link t)) then suc
     (length t) else asked_at link source t
 
--- how many beats had been taken when the block was last free for one who needs so much of it
-unfoldable pub last_free : {w : ℕ} → ℕ → Perm → ℕ → Trace w → ℕ
-last_free n given block [] = 0
-last_free n given block (x ∷ t) = if is_free n None given block (x ∷ t) then suc (length t) else last_free n given block
-    t
+-- how many beats had been taken when one could last access the block who needs so much of it
+unfoldable pub window_at : {w : ℕ} → ℕ → Perm → ℕ → Trace w → ℕ
+window_at n given block [] = 0
+window_at n given block (x ∷ t) = if is_window n given block x t then suc (length t) else window_at n given block t
 
 -- ---- the tables
 
 -- when the request with this source was complete
 abbrev pub asked_in : List (List (Option ℕ)) → ℕ → ℕ → Option ℕ
 asked_in tables link source = at (slice_index_or tables link []) source
+
+-- something is noted of the block
+abbrev pub is_noted : List (ℕ × Window) → ℕ → Bool
+is_noted entries block = is_some (lookup (is_at (nat_cmp block)) entries)
 
 abbrev pub window_or_none : Option Window → Window
 window_or_none None = record { reading = 0; writing = 0 }
@@ -57,7 +64,11 @@ latest_window free moment before = record {
   writing = if free.writing then moment else before.writing;
 }
 
--- the moment at which a block was last free for one who needs so much
+-- the last moments of a block whose bytes are shown at this one
+abbrev pub shown_window : ℕ → Window → Window
+shown_window moment before = record { reading = moment; writing = before.writing }
+
+-- the last of these moments for one who needs so much
 abbrev pub last_in : Perm → Window → ℕ
 last_in perm.Trunk window = window.writing
 last_in _ window = window.reading
@@ -67,10 +78,10 @@ abbrev pub KnowsAsked : {w : ℕ} → List (List (Option ℕ)) → ℕ → Trace
 KnowsAsked tables n t = (link source : ℕ) → link < n → is_some (open_request source (on_link link t)) ≡ true
     → asked_in tables link source ≡ Some (asked_at link source t)
 
--- of each block that isn't free the table has the last moment at which it was
+-- of each block that isn't free the table has the last moment at which one could access it
 abbrev pub KnowsWindows : {w : ℕ} → List (ℕ × Window) → ℕ → Trace w → Type 0
 KnowsWindows entries n t = (given : Perm) (block : ℕ) → is_free n None given block t ≡ false
-    → last_in given (window_in entries block) ≡ last_free n given block t
+    → last_in given (window_in entries block) ≡ window_at n given block t
 
 -- what a monitor's refusal is
 abbrev pub fault_of_monitor : MonitorFault → JudgeFault
@@ -90,11 +101,32 @@ NotesRequest {w} m old new link x next = (length new ≡ length old)
     × (next ≡ suc (length t) → broken_on_link levels p (link, x) t ≡ None
     → KnowsAsked new (length levels) ((link, x) ∷ t)))
 
+-- the table with the moment of a beat, where that shows the bytes of a block
+abbrev pub IsShown : {w : ℕ} → ℕ → Beat w → History w → List (ℕ × Window) → List (ℕ × Window) → Type 0
+IsShown moment x past old new = (block : ℕ) → window_in new block
+    ≡ (if shows block x past then shown_window moment (window_in old block) else window_in old block)
+
 -- The same of the table of windows, with a beat that changes what is held of no other block.
 abbrev pub NotesWindow : {w : ℕ} → Monitor w → ℕ → ℕ → Option ℕ → List (ℕ × Window) → List (ℕ × Window) → Type 0
 NotesWindow {w} m links moment held old new =
     (levels : List Level) (p : Profile) (t : Trace w) → Knows m levels p t false → links ≡ length levels
     → moment ≡ length t → KnowsWindows old (length levels) t
     → KnowsWindows new (length levels) t
-    × ((link : Link) (x : Beat w) → LeavesOthers held x (on_link link.0 t)
-    → KnowsWindows new (length levels) ((link, x) ∷ t))
+    × ((link : Link) (x : Beat w) (shown : List (ℕ × Window)) → LeavesOthers held x (on_link link.0 t)
+    → IsShown (suc (length t)) x (on_link link.0 t) new shown → KnowsWindows shown (length levels) ((link, x) ∷ t))
+
+-- something is noted of this block, where there is one
+abbrev pub HasNoted : Option ℕ → List (ℕ × Window) → Type 0
+HasNoted held entries = (block : ℕ) → is_block block held ≡ true → is_noted entries block ≡ true
+
+-- the beat shows the bytes of this block, where there is one, if its message is complete
+abbrev pub MayShow : {w : ℕ} → Option ℕ → Beat w → History w → Type 0
+MayShow shown x past = (block : ℕ) → shows block x past ≡ (ends x past && is_block block shown)
+
+-- the moment of a beat that was taken is noted, where that shows the bytes of a block of which something is noted
+abbrev pub NotesShown : {w : ℕ} → Monitor w → Option ℕ → Link → Beat w → ℕ → List (ℕ × Window) → List (ℕ × Window)
+    → Type 0
+NotesShown {w} m shown link x moment old new =
+    (levels : List Level) (p : Profile) (t : Trace w) → Knows m levels p ((link, x) ∷ t) false
+    → link.0 < length levels → MayShow shown x (on_link link.0 t)
+    → HasNoted shown old → IsShown moment x (on_link link.0 t) old new

@@ -15,9 +15,10 @@ use Rattle.tl_rules.specs.code.Open.{open_request}
 use Rattle.tl_rules.specs.declared.past.Request.{Request}
 use Rattle.tl_rules.specs.statement.Conformance.{Trace, on_link, broken_on_link}
 use Rattle.tl_rules.specs.statement.History.{begins, is_grant, capped}
-use Rattle.tl_rules.specs.statement.Windows.{leaves, needs, has_window}
+use Rattle.tl_rules.specs.statement.Windows.{leaves, needs}
 use Rattle.tl_monitor.specs.statement.Granting.{granted}
 use Rattle.tl_bytes.specs.statement.Bytes.{is_true}
+use Rattle.tl_bytes.specs.statement.Shown.{had_window}
 use Rattle.tl_together.specs.declared.breach.MemoryRule.{MemoryRule}
 use Rattle.tl_together.specs.declared.breach.MemoryRule.TheVariants.{M1, M2, M3, M4}
 use Rattle.tl_together.specs.declared.breach.Breach.{Breach}
@@ -52,7 +53,7 @@ broken_grant n link x (Some asked) t = if is_grantable n link (capped x.param) a
 -- M4, at the first beat of the answer to an access: it has had no window
 abbrev pub broken_access : {w : ℕ} → ℕ → ℕ → BeatD w → Option Request → Trace w → Option MemoryRule
 broken_access n link x None t = None
-broken_access n link x (Some asked) t = if has_window n link x.source (needs asked.opcode) asked.block t then None else
+broken_access n link x (Some asked) t = if had_window n link x.source (needs asked.opcode) asked.block t then None else
     Some M4
 
 -- the rule of memory that a response breaks which begins after t

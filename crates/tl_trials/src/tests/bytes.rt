@@ -32,7 +32,7 @@ fn put(
     windows: WritingWindows,
     moment: u64,
 ) -> Result<(), AllocError> {
-    let standing = block.standing(&windows);
+    let standing = block.standing(&windows, false);
     *block = block.with(alloc, &eight(byte), standing, moment)?;
     Ok(())
 }
@@ -95,15 +95,15 @@ fn of_two_puts_one_after_the_other_the_second_came_last(rt: HostRuntime) -> Resu
 fn a_put_beside_a_copy(rt: HostRuntime) -> Result<(), Fail> {
     let mut block = BlockBytes::told(rt.alloc(), &[Some(9); 64], 1)?;
     let windows = opened(3).after(false, 4);
-    assert_eq!(rt; block.standing(&windows), Standing::Anywhere);
+    assert_eq!(rt; block.standing(&windows, false), Standing::Anywhere);
     put(rt.alloc(), &mut block, 7, windows, 5)?;
     may_be(&rt, &block, 0, [false, true, true]);
     block = BlockBytes::told(rt.alloc(), &[Some(5); 64], 7)?;
-    assert_eq!(rt; block.standing(&windows), Standing::Told);
+    assert_eq!(rt; block.standing(&windows, false), Standing::Told);
     put(rt.alloc(), &mut block, 7, windows, 8)?;
     may_be(&rt, &block, 0, [true, false, false]);
     let again = windows.after(true, 9);
-    assert_eq!(rt; block.standing(&again), Standing::Anywhere);
+    assert_eq!(rt; block.standing(&again, false), Standing::Anywhere);
     put(rt.alloc(), &mut block, 7, again, 9)?;
     may_be(&rt, &block, 0, [true, true, false]);
     Ok(())

@@ -1,18 +1,23 @@
--- The lines that a breach of M1 or M4 rests on.
+-- The lines that a breach of a rule of memory rests on.
 use Rattle.std.specs.Prelude.{ℕ, zero, suc, [], ◌++◌, ◌+◌, ◌*◌, ◌==◌, if◌then◌else◌, codes, List, Option, Some, None}
 use Rattle.std.specs.Fmt.{decimal}
+use Rattle.tl_beat.specs.declared.beat.BeatD.{BeatD}
 use Rattle.tl_beat.specs.declared.channel.Channel.TheVariants as channel
 use Rattle.tl_beat.specs.statement.Digits.{digits}
 use Rattle.tl_params.specs.declared.perm.Perm.{Perm}
+use Rattle.tl_rules.specs.code.Open.{open_request}
 use Rattle.tl_rules.specs.declared.past.Request.{Request}
 use Rattle.tl_rules.specs.statement.Conformance.{Trace, on_link}
-use Rattle.tl_rules.specs.statement.History.{held}
+use Rattle.tl_rules.specs.statement.History.{capped, held}
 use Rattle.tl_rules.specs.statement.Windows.{leaves, needs}
 use Rattle.tl_monitor.specs.statement.Granting.{coming}
 use Rattle.tl_explain.specs.declared.told.Mention.{Mention}
 use Rattle.tl_explain.specs.statement.Evidence.{burst_opening, last_saying}
 use Rattle.tl_explain.specs.statement.Sentences.{perm_name}
 use Rattle.tl_together.specs.code.Windows.{asked_at}
+use Rattle.tl_together.specs.declared.breach.MemoryRule.{MemoryRule}
+use Rattle.tl_together.specs.declared.breach.MemoryRule.TheVariants.{M1, M4}
+use Rattle.tl_witness.specs.statement.Strays.{bytes_text}
 
 -- since which line it is so, where a message has left it so
 abbrev pub since_text : Option Mention → List ℕ
@@ -59,3 +64,21 @@ asked_line n = codes "  its request was complete in line " ++ decimal n ++ codes
 abbrev pub access_text : {w : ℕ} → ℕ → ℕ → ℕ → Request → ℕ → Trace w → List ℕ
 access_text n link source asked block t =
     asked_line (asked_at link source t + 1) ++ holders_text n (needs asked.opcode) block t
+
+-- ---- of each rule
+
+-- M1, of a Grant that answers this request
+abbrev pub grant_grounds : {w : ℕ} → ℕ → ℕ → BeatD w → Option Request → Trace w → List ℕ
+grant_grounds n link x None t = []
+grant_grounds n link x (Some asked) t = conflicts_text n link (capped x.param) asked.block t
+
+-- M4, of an answer to this request
+abbrev pub access_grounds : {w : ℕ} → ℕ → ℕ → BeatD w → Option Request → Trace w → List ℕ
+access_grounds n link x None t = []
+access_grounds n link x (Some asked) t = access_text n link x.source asked asked.block t
+
+-- what a breach of the rule rests on at a beat of a response, after t, on one of n links
+abbrev pub grounds_text : {w : ℕ} → MemoryRule → ℕ → ℕ → BeatD w → Trace w → List ℕ
+grounds_text M1 n link x t = grant_grounds n link x (open_request x.source (on_link link t)) t
+grounds_text M4 n link x t = access_grounds n link x (open_request x.source (on_link link t)) t
+grounds_text _ n link x t = bytes_text x.opcode n link x t

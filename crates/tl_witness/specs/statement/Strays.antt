@@ -1,8 +1,21 @@
 -- What is told of bytes that a response brings and may not bring.
 use Rattle.std.specs.Prelude.{ℕ, zero, suc, Bool, true, false, [], ◌∷◌, ◌++◌, ◌+◌, ◌-◌, if◌then◌else◌, codes, List}
-use Rattle.std.specs.Prelude.{nat_lt, Option, Some, None}
+use Rattle.std.specs.Prelude.{◌*◌, ◌/◌, find, length, nat_lt, Option, Some, None}
 use Rattle.std.specs.Fmt.{decimal}
+use Rattle.tl_beat.specs.declared.beat.Beat.TheVariants as beat
+use Rattle.tl_beat.specs.declared.beat.BeatD.{BeatD}
+use Rattle.tl_beat.specs.declared.channel.Channel.TheVariants as channel
+use Rattle.tl_beat.specs.declared.opcode.OpD.{OpD}
+use Rattle.tl_beat.specs.declared.opcode.OpD.TheVariants as d
 use Rattle.tl_beat.specs.statement.Digits.{digits}
+use Rattle.tl_burst.specs.statement.Messages.{unfinished}
+use Rattle.tl_bytes.specs.statement.Bytes.{Access, before_last, is_of, may_be, may_grant, pending_accesses}
+use Rattle.tl_bytes.specs.statement.Lines.{told_moment}
+use Rattle.tl_memory.specs.statement.Expecting.{may_answer}
+use Rattle.tl_rules.specs.code.Open.{open_request}
+use Rattle.tl_rules.specs.declared.past.Request.{Request}
+use Rattle.tl_rules.specs.statement.Admission.{lanes_of}
+use Rattle.tl_rules.specs.statement.Conformance.{Trace, on_link}
 
 -- what stands before a value, where others stand before it or none does
 abbrev pub lead_text : Bool → List ℕ
@@ -44,3 +57,34 @@ strays_text test told n address [] = more_text n
 strays_text test told n address (v ∷ bytes) =
     if test address v then strays_text test told n (address + 1) bytes else
     next_line n address v (test address) (told address) ++ strays_text test told (n + 1) (address + 1) bytes
+
+-- ---- by what all links have carried
+
+-- the number of beats before the one that told this value of the byte at an address, where it may be that still after t
+abbrev pub told_after : {w : ℕ} → ℕ → Trace w → ℕ → ℕ → Option ℕ
+told_after n t address v = told_moment v (may_be n address t)
+
+-- how many beats of the response have come whose beat is next on a link
+abbrev pub beats_come : {w : ℕ} → ℕ → Trace w → ℕ
+beats_come link t = length (unfinished channel.D (on_link link t))
+
+-- M2: the bytes of a beat of a Grant that answers this request, which may not be granted since its first beat
+abbrev pub granted_text : {w : ℕ} → ℕ → ℕ → BeatD w → Option Request → Trace w → List ℕ
+granted_text n link x None t = []
+granted_text {w} n link x (Some asked) t =
+    strays_text (may_grant n (before_last link (beats_come link t) t)) (told_after n t) 0
+    (64 * asked.block + w * beats_come link t) (lanes_of (beat.D x))
+
+-- M3: those of a beat of the answer to this access, which it may not bring
+abbrev pub answered_text : {w : ℕ} → ℕ → ℕ → BeatD w → Option (Access w) → Trace w → List ℕ
+answered_text n link x None t = []
+answered_text {w} n link x (Some access) t =
+    strays_text (may_answer n access (before_last link (beats_come link t) t)) (told_after n t) 0
+    (w * (access.request.address / w) + w * beats_come link t) (lanes_of (beat.D x))
+
+-- the bytes of a beat of a response with this opcode, which it may not bring after t
+abbrev pub bytes_text : {w : ℕ} → OpD → ℕ → ℕ → BeatD w → Trace w → List ℕ
+bytes_text d.GrantData n link x t = granted_text n link x (open_request x.source (on_link link t)) t
+bytes_text d.AccessAckData n link x t =
+    answered_text n link x (find (is_of link x.source) (pending_accesses t)) t
+bytes_text _ n link x t = []

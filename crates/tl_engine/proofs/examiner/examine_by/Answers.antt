@@ -1,3 +1,4 @@
+use Rattle.std.proofs.Common.{refl}
 use Rattle.std.specs.Prelude.{Some}
 use Rattle.std.proofs.lemmas.Result.{err_from_is_err_and}
 use Rattle.tl_engine.proofs.Judged.{judged_total}
@@ -5,7 +6,8 @@ use Rattle.tl_engine.proofs.Unexplained.{unjudged_for}
 use Rattle.tl_engine.proofs.examiner.examine_by.Goals as goal
 
 pub handle_input-requires-clause-total : goal.handle_input-requires-clause-total
-handle_input-requires-clause-total g c = λ e. judged_total g.row.TOGETHER e.monitor_lines
+handle_input-requires-clause-total g c = λ e lines text k more.
+    judged_total g.row.TOGETHER e.monitor_lines lines text k.judged more
 
 pub returns-in_err-status-clause-fault : goal.returns-in_err-status-clause-fault
 returns-in_err-status-clause-fault g c =
@@ -13,3 +15,6 @@ returns-in_err-status-clause-fault g c =
     rw (p.1, p.2) (unjudged_for g.row.TOGETHER c.in_err-status.field-0.0 c.handle_input.result _ _
     (Some c.args.verdict.now.items) (Some c.handle_input.new.writer.items) c.in_err-status.ensures.fault
     c.in_err-status.ensures.read c.handle_input.ensures.ok c.handle_input.ensures.err c.handle_input.ensures.fault)
+
+pub handle_input-requires-clause-begins : goal.handle_input-requires-clause-begins
+handle_input-requires-clause-begins g c = record { judged = (refl, refl); traced = refl; unfound = c.new-found.ensures }

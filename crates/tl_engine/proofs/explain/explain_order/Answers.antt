@@ -7,7 +7,7 @@ returns-clause-ok g c =
     explained _ _ c.in_ok-replay.replay c.args.rule c.args.found.now.good c.in-Ok.field-0-0 c.in-Ok.beat
     c.find_reason.result c.in-Some.reason c.in_ok-number.number
     c.args.out.now.items c.append_front.new.out.items c.extend_from_slice.new.self.items c.tell.new.out.items
-    (rw c.in_ok-replay.ensures.ok_part at c.in_ok-read_again.ensures.ok)
-    (search rules) (rw c.line-line.ensures at c.in-Ok.ensures.spelled) (λ t link. c.find_reason.ensures.told t link)
+    c.in_ok-replay.ensures.ok c.in_ok-replay.ensures.good (rw c.line-line.ensures at c.in-Ok.ensures.spelled)
+    (λ t link. c.find_reason.ensures.told t link)
     c.in-Some.is c.in_ok-number.ensures.number c.requires.empty
     (c.in_ok-append_front.ensures _ _ c.in-Ok.ensures.spelled) (search rules)

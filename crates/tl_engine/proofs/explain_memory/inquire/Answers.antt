@@ -1,5 +1,6 @@
+use Rattle.std.proofs.Common.{refl, rules}
 use Rattle.tl_engine.specs.code.Lines.{lines_of}
-use Rattle.tl_engine.proofs.Testifying.{stood}
+use Rattle.tl_engine.proofs.Testifying.{fresh-testimony, stood}
 use Rattle.tl_engine.proofs.explain_memory.inquire.Goals as goal
 
 pub returns-clause-ok : goal.returns-clause-ok

@@ -4,4 +4,4 @@ use Rattle.tl_together.proofs.judge.answered.Goals as goal
 pub returns-in-D : goal.returns-in-D
 returns-in-D g c = λ levels p t k lt.
     answered_is levels c.args.link c.args.beat.now c.in-D.x t c.request.result lt c.in-D.is
-    (c.request.ensures levels p t _ k)
+    (c.request.ensures.known levels p t _ k)

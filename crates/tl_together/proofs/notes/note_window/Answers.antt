@@ -2,7 +2,7 @@ use Rattle.std.proofs.Common.{refl, sym, subst}
 use Rattle.std.specs.Prelude.{if◌then◌else◌}
 use Rattle.std.proofs.lemmas.Result.{on_ok_weaker}
 use Rattle.tl_together.specs.code.Windows.{NotesWindow, window_in}
-use Rattle.tl_together.proofs.Noted.{notes_window, notes_no_window}
+use Rattle.tl_together.proofs.NotedWindows.{has_noted, notes_window, notes_no_window}
 use Rattle.tl_together.proofs.notes.note_window.Goals as goal
 
 pub returns-in_default-clause-noted : goal.returns-in_default-clause-noted
@@ -22,3 +22,10 @@ returns-clause-noted g c =
     (λ levels p t k links_is. (c.freedom_of.ensures levels p t k links_is).0)
     (λ levels p t k links_is. (c.freedom_of.ensures levels p t k links_is).1) refl refl h))
     c.note.ensures.changed
+
+pub returns-in_default-clause-entered : goal.returns-in_default-clause-entered
+returns-in_default-clause-entered g c = rw c.in_default.is (λ b here. absurd cc)
+
+pub returns-clause-entered : goal.returns-clause-entered
+returns-clause-entered g c =
+    on_ok_weaker c.note.result (λ h. rw c.in-Some.is (has_noted c.in-Some.block _ h)) c.note.ensures.noted

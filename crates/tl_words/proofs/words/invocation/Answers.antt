@@ -126,7 +126,7 @@ returns-clause-given c =
     let is = chosen texts _ c.in_ok-matches.matches c.in-Some.name.now rows c.in_ok-tool.ensures
     (c.in_ok-matches.ensures.ok.2 (ap is_simple c.in_ok-tool.ensures ∙ simple)).1 c.in-Some.ensures.name
     c.in-Some.ensures.rows in
-    task_given texts c.in-Some.name.now rows is c.read.result c.read.ensures.read
+    task_given texts c.in-Some.name.now rows is c.asked.result c.asked.ensures.read
 
 pub returns-clause-refused : goal.returns-clause-refused
 returns-clause-refused c =
@@ -135,4 +135,4 @@ returns-clause-refused c =
     let is = chosen texts _ c.in_ok-matches.matches c.in-Some.name.now rows c.in_ok-tool.ensures
     (c.in_ok-matches.ensures.ok.2 (ap is_simple c.in_ok-tool.ensures ∙ simple)).1 c.in-Some.ensures.name
     c.in-Some.ensures.rows in
-    task_refused texts c.in-Some.name.now rows is c.read.result c.read.ensures.wrong
+    task_refused texts c.in-Some.name.now rows is c.asked.result c.asked.ensures.wrong

@@ -17,7 +17,7 @@ returns-clause-gathers g c = on_ok c.take.result (λ gathers levels p t known wi
       link_is = refl;
       line_is = line;
       first_is = first;
-      last_is = c.begins.ensures levels p _ false known ∙ ends_within levels c.args.link within c.args.beat.now t;
+      last_is = c.begins.ensures.known levels p _ false known ∙ ends_within levels c.args.link within c.args.beat.now t;
     }) (rw many within)
     (subst (λ (b : Option ℕ). c.held_change-change.result ≡ change_of b (c.args.link, c.args.beat.now) t)
     c.watched.ensures (c.held_change-change.ensures levels p c.args.beat.now t known within

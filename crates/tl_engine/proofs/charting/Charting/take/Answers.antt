@@ -9,7 +9,7 @@ returns-in_ok-gather-in-Ok g c = λ line spells.
     reads_good c.args.self.now c.push.new.self c.args.link c.args.beat.now c.gather.new.self line c.in_ok-line.line
     c.begins-first.result c.held_before-before.result spells (search rules)
     (λ levels p t. c.in-Ok.ensures.answer levels p t false) (λ levels p t. c.in-Ok.ensures.knows levels p t false)
-    (λ levels p t. c.begins-first.ensures levels p t false)
+    (λ levels p t. c.begins-first.ensures.known levels p t false)
     (λ levels p t known within fine.
     subst (λ (b : Option ℕ). SaysBefore b (c.args.link, c.args.beat.now) t c.held_before-before.result)
     c.watched.ensures (c.held_before-before.ensures levels p t known within fine))

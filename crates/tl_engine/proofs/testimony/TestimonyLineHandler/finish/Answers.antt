@@ -1,5 +1,5 @@
 use Rattle.std.proofs.lemmas.Result.{IfOk-weaker}
-use Rattle.tl_engine.proofs.Testifying.{finishes-again}
+use Rattle.tl_engine.proofs.Testifying.{ends-here, finishes-again}
 use Rattle.tl_engine.proofs.testimony.TestimonyLineHandler.finish.Goals as goal
 
 pub returns-clause-finishes : goal.returns-clause-finishes
@@ -7,4 +7,4 @@ returns-clause-finishes c = IfOk-weaker c.finish.result _ _
     (λ fault h. finishes-again c.args.self.now c.args.count _ _ fault h) c.finish.ensures.finishes
 
 pub returns-clause-ends : goal.returns-clause-ends
-returns-clause-ends c = λ fault is lines text k. k.1.1
+returns-clause-ends c = λ fault is lines text k. ends-here c.args.self.now lines text k

@@ -1,17 +1,19 @@
-use Rattle.std.proofs.lemmas.Result.{IfOk-weaker}
+use Rattle.std.proofs.Common.{refl, rules, ◌≡◌}
+use Rattle.std.specs.Prelude.{Ok, Some}
+use Rattle.tl_engine.proofs.Examining.{ok_is}
 use Rattle.tl_engine.proofs.Testifying.{ended-again, judged-again}
 use Rattle.tl_engine.proofs.testimony.TestimonyLineHandler.handle_line.Goals as goal
 
 pub returns-clause-judges : goal.returns-clause-judges
-returns-clause-judges c = IfOk-weaker c.handle_line.result _ _
-    (λ fault h. judged-again c.args.self.now
-    (record { monitor_lines = c.handle_line.new.self; inquiry = c.hear_line.new.self }) c.hear_line.new.monitor_lines
-    c.args.line.now c.hear_line.ensures.known c.in_ok-hear_line.ensures.heard c.args.out.now.items
-    c.handle_line.new._out.items fault h)
-    c.handle_line.ensures.judges
+returns-clause-judges c =
+    judged-again c.args.self.now (record { monitor_lines = c.judge_line.new.self; inquiry = c.conclude.new.self })
+    c.hear.new.monitor_lines c.hear.new.self c.in_ok-number.number c.args.line.now c.in_ok-told.told (search rules)
+    c.in_ok-told.ensures c.args._out.now.items c.in_ok-fault.fault c.conclude.ensures
+    (c.in_ok-fault.ensures.judges c.args._out.now.items) c.in_ok-fault.ensures.watches
 
 pub returns-clause-ends : goal.returns-clause-ends
 returns-clause-ends c = λ fault is.
-    ended-again c.args.self.now
-    (record { monitor_lines = c.handle_line.new.self; inquiry = c.hear_line.new.self }) c.hear_line.new.monitor_lines
-    c.args.line.now c.hear_line.ensures.known c.in_ok-hear_line.ensures.heard
+    let same : c.in_ok-fault.fault ≡ Some fault = ok_is (Ok c.in_ok-fault.fault) c.in_ok-fault.fault (Some fault) refl is in
+    ended-again c.args.self.now (record { monitor_lines = c.judge_line.new.self; inquiry = c.conclude.new.self })
+    c.hear.new.monitor_lines c.hear.new.self c.in_ok-number.number c.args.line.now c.in_ok-told.told (search rules)
+    c.in_ok-told.ensures fault (rw same at c.conclude.ensures) (rw same at c.in_ok-fault.ensures.watches)

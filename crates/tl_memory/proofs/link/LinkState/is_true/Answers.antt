@@ -1,4 +1,4 @@
-use Rattle.std.proofs.Common.{rules, arith, refl, subst, true, false, ◌∙◌, ◌≡◌, length}
+use Rattle.std.proofs.Common.{rules, arith, refl, subst, true, false, ◌∙◌, ◌≡◌, ◌||◌, length}
 use Rattle.tl_beat.specs.declared.channel.Channel.{Channel}
 use Rattle.tl_burst.specs.statement.Messages.{unfinished}
 use Rattle.tl_rules.specs.statement.Conformance.{on_link}
@@ -13,7 +13,7 @@ returns-then-beats-eq0 g c = λ levels p n link t k legal fine first.
     let count : c.count-beats.result ≡ length burst =
     c.count-beats.ensures g.row.W burst k.messages_are.d_is.bytes_are in
     let none : length burst ≡ 0 = omega (arith, count, c.if-beats-eq0.true) in
-    let sound : x.corrupt ≡ false = search rules in
+    let sound : (x.corrupt || x.denied) ≡ false = search rules in
     let judged : is_judged x.opcode ≡ true = search rules in
     judged-true levels p n link x t c.requires legal fine c.args.begun.now x.opcode c.is_allowed.result refl
     (expects-begun levels p link n x t legal fine c.args.begun.now first none)
@@ -26,7 +26,7 @@ returns g c = λ levels p n link t k legal fine first.
     let expected = c.args.self.now.expected in
     let count : c.count-beats.result ≡ length burst =
     c.count-beats.ensures g.row.W burst k.messages_are.d_is.bytes_are in
-    let sound : x.corrupt ≡ false = search rules in
+    let sound : (x.corrupt || x.denied) ≡ false = search rules in
     let judged : is_judged x.opcode ≡ true = search rules in
     judged-true levels p n link x t c.requires legal fine expected x.opcode c.is_allowed-2.result refl
     (expects-later levels p link n x t legal fine expected k.expected_is (λ none. c.if-beats-eq0.false (count ∙ none)))

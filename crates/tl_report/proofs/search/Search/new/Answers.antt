@@ -6,7 +6,7 @@ returns g c = record {
   aim_is = refl;
   known = c.in_ok-new.ensures;
   none_found = search rules;
-  no_beats = refl;
+  none_taken = search rules;
   header = refl;
   unended = refl;
 }

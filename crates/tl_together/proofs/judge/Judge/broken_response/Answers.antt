@@ -6,12 +6,12 @@ use Rattle.tl_together.proofs.judge.Judge.broken_response.Goals as goal
 pub returns-in_err-asked : goal.returns-in_err-asked
 returns-in_err-asked g c = λ levels p t k lt.
     c.from_residual.ensures ∙ no_response levels (length levels) c.args.link c.args.x.now t lt
-    (sym c.in_err-asked.was ∙ c.request.ensures levels p t _ k.monitor_is)
+    (sym c.in_err-asked.was ∙ c.request.ensures.known levels p t _ k.monitor_is)
 
 pub returns-then-is_grant : goal.returns-then-is_grant
 returns-then-is_grant g c = λ levels p t k lt.
     let asked = asked_is levels c.args.link c.args.x.now.source t c.in_ok-asked.asked lt
-    (c.in_ok-asked.ensures levels p t _ k.monitor_is) in
+    (c.in_ok-asked.ensures.known levels p t _ k.monitor_is) in
     a_grant (length levels) c.args.link.0 c.args.x.now t c.in_ok-asked.asked c.is_grant.result c.broken_grant.result
     asked c.is_grant.ensures c.if-is_grant.true
     (c.broken_grant.ensures levels p t k)
@@ -25,7 +25,7 @@ returns-then-not-is_performed g c = λ levels p t k lt.
 pub returns : goal.returns
 returns g c = λ levels p t k lt.
     let asked = asked_is levels c.args.link c.args.x.now.source t c.in_ok-asked.asked lt
-    (c.in_ok-asked.ensures levels p t _ k.monitor_is) in
+    (c.in_ok-asked.ensures.known levels p t _ k.monitor_is) in
     an_access (length levels) c.args.link.0 c.args.x.now t c.in_ok-asked.asked c.is_grant.result c.is_performed.result
     c.broken_access.result asked
     c.is_grant.ensures c.if-is_grant.false c.is_performed.ensures c.if-not-is_performed.false

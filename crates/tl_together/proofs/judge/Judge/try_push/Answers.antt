@@ -5,6 +5,8 @@ use Rattle.tl_together.specs.statement.Knows.{broken}
 use Rattle.tl_together.proofs.Judging.{broken_so, fine_on_link, judged_fault, next_moment, open_still, refused}
 use Rattle.tl_together.proofs.Judging.{remembered, still, taken, unnoted}
 use Rattle.tl_together.proofs.Noted.{held_others, in_levels}
+use Rattle.tl_together.proofs.Showing.{either_leaves, first_noted}
+use Rattle.tl_rules.specs.statement.Conformance.{on_link}
 use Rattle.tl_together.proofs.judge.Judge.try_push.Goals as goal
 
 pub returns-in_default-change-clause-knows : goal.returns-in_default-change-clause-knows
@@ -43,7 +45,7 @@ returns-in-Err-clause-answer g c = λ levels p t closed k.
 pub returns-in-Err-clause-knows : goal.returns-in-Err-clause-knows
 returns-in-Err-clause-knows g c = λ levels p t closed k.
     let o = open_still c.args.self.now levels p t closed k c.if-self.false in
-    still c.args.self.now _ levels p t closed c.args.link c.args.beat.now c.in-Some.next c.in-Ok.change.held k
+    still c.args.self.now _ levels p t closed c.args.link c.args.beat.now c.in-Some.next c.or.result k
     c.if-self.false c.if-self.false refl refl (c.in-Err.ensures.knows levels p t _ o.monitor_is)
     c.note_request.ensures c.in-Ok-noted.ensures.noted c.change.ensures.known
 
@@ -73,8 +75,13 @@ returns-clause-knows g c = λ levels p t closed k.
     let change = c.in-Ok.ensures.change levels p t o.memory_is o.legal fine
     (c.answered-asked.ensures levels p t o.monitor_is lt) now in
     let pushed = c.in-Ok-try_push.ensures.knows levels p t _ o.monitor_is in
-    taken c.args.self.now _ levels p t closed c.args.link c.args.beat.now c.in-Some.next c.in-Ok.change.held k
+    let may = c.shown_by-shown.ensures.shown levels p t o.monitor_is lt in
+    taken c.args.self.now _ levels p t closed c.args.link c.args.beat.now c.in-Some.next c.or.result _ k
     c.if-self.false c.if-self.false refl next_is refl fine pushed c.note_request.ensures c.in-Ok-noted.ensures.noted
-    (held_others c.in-Ok.change _ (length levels) c.args.link c.args.beat.now t change)
+    (rw c.or.ensures (either_leaves c.shown_by-shown.result c.in-Ok.change.held c.args.beat.now (on_link c.args.link.0 t)
+    (λ b is. c.shown_by-shown.ensures.own b (on_link c.args.link.0 t) is)
+    (held_others c.in-Ok.change _ (length levels) c.args.link c.args.beat.now t change)))
+    (c.note_shown.ensures levels p t pushed lt may
+    (first_noted c.shown_by-shown.result c.in-Ok.change.held _ (rw c.or.ensures at c.in-Ok-noted.ensures.entered)))
     (c.take.ensures levels p t (c.change.ensures.known (length levels) t o.memory_is) o.legal fine now change
     (c.freed-free.ensures levels p _ pushed o.links_are))

@@ -1,0 +1,85 @@
+-- In which order what is pending at the end of a trace is told.
+use Rattle.std.specs.Prelude.{◌≡◌, ◌⊎◌, ℕ, zero, suc, Bool, true, not, ◌&&◌, ◌||◌, ◌==◌, nat_lt, List, [], ◌∷◌, ◌++◌}
+use Rattle.std.specs.Prelude.{length, if◌then◌else◌, ◌-◌, Option, Some, None, codes}
+use Rattle.std.specs.List.{AllPass, Contains}
+use Rattle.std.specs.Fmt.{decimal}
+use Rattle.tl_beat.specs.declared.beat.Beat.{Beat}
+use Rattle.tl_beat.specs.declared.beat.Link.{Link}
+use Rattle.tl_beat.specs.statement.Line.{Spells}
+use Rattle.tl_explain.specs.code.Spelled.{spelled}
+use Rattle.tl_explain.specs.declared.ledger.Kind.{Kind}
+use Rattle.tl_explain.specs.declared.ledger.Kind.TheVariants.{Request, Release, Grant, Probe, Burst}
+use Rattle.tl_explain.specs.declared.ledger.Pending.{Pending}
+use Rattle.tl_explain.specs.statement.Sentences.{beat_line}
+
+-- ---- the order
+
+-- in one line a burst stands behind what its first beat has opened
+abbrev pub rank : Kind → ℕ
+rank Request = 0
+rank Release = 1
+rank Grant = 2
+rank Probe = 3
+rank Burst = 4
+
+-- one message stands before another: in an earlier line, or in the same line by its kind
+abbrev pub is_before : Pending → Pending → Bool
+is_before one other =
+    nat_lt one.opening.line other.opening.line
+    || ((one.opening.line == other.opening.line) && nat_lt (rank one.kind) (rank other.kind))
+
+-- a message stands behind this one, where there is one
+abbrev pub is_behind : Option Pending → Pending → Bool
+is_behind None message = true
+is_behind (Some after) message = is_before after message
+
+-- the oldest of these messages that stand behind this one: none where none does
+abbrev pub IsNext : List Pending → Option Pending → Option Pending → Type 0
+IsNext pending after None = AllPass (λ message. not (is_behind after message)) pending
+IsNext pending after (Some next) =
+    Contains pending next × (is_behind after next ≡ true)
+    × AllPass (λ message. not (is_behind after message && is_before message next)) pending
+
+-- ---- the text
+
+-- what a message that is pending waits for
+abbrev pub missing : Kind → List ℕ
+missing Request = codes "a request without an answer"
+missing Release = codes "a Release without ReleaseAck"
+missing Grant = codes "a Grant without GrantAck"
+missing Probe = codes "a Probe without ProbeAck"
+missing Burst = codes "a burst that isn't complete"
+
+-- what it waits for, and the beat that opened it
+unfoldable pub pending_text : {w : ℕ} → Pending → Link → Beat w → List ℕ
+pending_text message link beat =
+    codes "  " ++ missing message.kind ++ codes ":\n" ++ beat_line message.opening.line link beat
+
+-- a text grows by what is told of a message, whose line spells a beat of w bytes
+abbrev pub TellsOne : ℕ → Pending → List ℕ → List ℕ → Type 0
+TellsOne w message old new = (link : Link) (beat : Beat w) → Spells (spelled message.opening.spelling) link beat
+    → new ≡ old ++ pending_text message link beat
+
+-- a text grows by the oldest of these messages that stand behind this one, each before the next, up to so many
+unfoldable pub TellsOldest : ℕ → List Pending → Option Pending → ℕ → List ℕ → List ℕ → Type 0
+TellsOldest w pending after zero old new = new ≡ old
+TellsOldest w pending after (suc n) old new =
+    (IsNext pending after None × (new ≡ old))
+    ⊎ ((next : Pending) × (mid : List ℕ) × IsNext pending after (Some next) × TellsOne w next old mid
+    × TellsOldest w pending (Some next) n mid new)
+
+-- how many are pending
+unfoldable pub pending_heading : ℕ → List ℕ
+pending_heading count = codes "  pending at the end: " ++ decimal count ++ codes ", the oldest first\n"
+
+-- how many more there are than the 20 that are told of
+unfoldable pub pending_rest : ℕ → List ℕ
+pending_rest count = if nat_lt 20 count then codes "  and " ++ decimal (count - 20) ++ codes " more\n" else []
+
+-- a text grows by what is told of these messages: how many they are, the oldest 20, and how many more there are
+abbrev pub TellsPending : ℕ → List Pending → List ℕ → List ℕ → Type 0
+TellsPending w [] old new = new ≡ old ++ codes "  nothing is pending at the end\n"
+TellsPending w (message ∷ more) old new =
+    (mid : List ℕ)
+    × TellsOldest w (message ∷ more) None 20 (old ++ pending_heading (length (message ∷ more))) mid
+    × (new ≡ mid ++ pending_rest (length (message ∷ more)))

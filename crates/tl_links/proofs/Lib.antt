@@ -1,0 +1,4 @@
+mod AllowedLines
+pub mod Headers
+pub mod JudgedLines
+pub mod ByProfile

@@ -1,0 +1,3 @@
+pub mod Allowing
+pub mod HeadReading
+pub mod Watching

@@ -1,0 +1,50 @@
+-- Under which single liberties the first beat at fault of a trace would break no rule.
+use Rattle.std.specs.Prelude.{◌≡◌, ◌⊎◌, ◌++◌, ℕ, List, [], ◌∷◌, codes, Some, None}
+use Rattle.tl_allowed.specs.statement.Allowed.{allowance_text, allowed_under}
+use Rattle.tl_beat.specs.declared.beat.Beat.{Beat}
+use Rattle.tl_beat.specs.declared.beat.Link.{Link}
+use Rattle.tl_beat.specs.declared.fault.LineFault.{LineFault}
+use Rattle.tl_beat.specs.statement.Line.{Spells, line_fault}
+use Rattle.tl_engine.specs.statement.Judged.{Headers}
+use Rattle.tl_engine.specs.statement.Trace.{SpellsHeader}
+use Rattle.tl_engine.specs.statement.Width.{bytes_of}
+use Rattle.tl_params.specs.declared.level.Level.{Level}
+use Rattle.tl_params.specs.declared.liberties.Liberties.{Liberties}
+use Rattle.tl_params.specs.declared.liberties.Liberty.{Liberty}
+use Rattle.tl_params.specs.declared.profile.Profile.{Profile}
+use Rattle.tl_params.specs.declared.rule.Rule.{Rule}
+use Rattle.tl_params.specs.declared.width.Width.{Width}
+use Rattle.tl_params.specs.statement.Liberties.{liberties_of}
+use Rattle.tl_rules.specs.statement.Conformance.{Trace}
+use Rattle.tl_rules.specs.statement.Liberties.{broken_on_link_under}
+
+-- the line is a header that names a profile, or stands for the first; these are the liberties of that profile
+abbrev pub NamesProfile : Headers Liberties
+NamesProfile line width may levels =
+    (p : Profile) × SpellsHeader line width p levels × (may ≡ liberties_of p)
+
+-- The first of these lines that is at fault, behind the beats of t, spells a beat that each of these liberties would
+-- allow. They are none where no line is at fault, or the first spells no beat.
+unfoldable pub AllowedAfter : {w : ℕ} → List Level → Liberties → Trace w → List (List ℕ) → List Liberty → Type 0
+AllowedAfter levels may t [] allowing = allowing ≡ []
+AllowedAfter {w} levels may t (line ∷ lines) allowing =
+    ((link : Link) × (beat : Beat w) × Spells line link beat × (broken_on_link_under may levels (link, beat) t ≡ None)
+    × AllowedAfter levels may ((link, beat) ∷ t) lines allowing)
+    ⊎ ((link : Link) × (beat : Beat w) × (rule : Rule) × Spells line link beat
+    × (broken_on_link_under may levels (link, beat) t ≡ Some rule)
+    × (allowing ≡ allowed_under may levels (link, beat) t))
+    ⊎ ((fault : LineFault) × (line_fault w line ≡ Some fault) × (allowing ≡ []))
+
+-- the same of a whole trace; none where its first line isn't there or is no header
+unfoldable pub Allowed : List (List ℕ) → List Liberty → Type 0
+Allowed [] allowing = allowing ≡ []
+Allowed (line ∷ lines) allowing =
+    ((width : Width) × (may : Liberties) × (levels : List Level) × NamesProfile line width may levels
+    × AllowedAfter {w = bytes_of width} levels may [] lines allowing)
+    ⊎ (((width : Width) (may : Liberties) (levels : List Level) → ¬ NamesProfile line width may levels)
+    × (allowing ≡ []))
+
+-- the line that names them, indented; nothing where there are none
+abbrev pub allowed_line : List Liberty → List ℕ
+allowed_line [] = []
+allowed_line (one ∷ more) = codes " " ++ (allowance_text (one ∷ more) ++ codes "\n")

@@ -1,0 +1,50 @@
+//! Says which liberties would allow the first beat at fault of a trace.
+
+ghost use Rattle.std.specs.Prelude.{◌≡◌, ◌≢◌, ◌++◌, ℕ, List, IfErr, IfOk, OnOk};
+ghost use Rattle.std.specs.Io.KnownBytes.{Consumes};
+ghost use Rattle.tl_engine.specs.code.Lines.{lines_of};
+ghost use Rattle.tl_engine.specs.declared.status.ToolFault.{ToolFault};
+ghost use Rattle.tl_links.specs.statement.Allowed.{Allowed, allowed_line};
+ghost use Rattle.tl_params.specs.declared.liberties.Liberty.{Liberty};
+
+use crate::allow_lines::AllowLines;
+use std::alloc::{AllocError, Global};
+use std::io::Read;
+use tl_allowed::text::append_allowance;
+use tl_engine::engine::judge_input;
+use tl_engine::lines::Lines;
+use tl_engine::status::ToolFault;
+use tl_params::liberties::Liberty;
+
+/// Appends the line that names these liberties; nothing where there are none. Without memory a part of it is appended.
+fn append_line(liberties: &[Liberty], out: &mut Vec<u8>) -> Result<(), AllocError>
+    ensures { OnOk result (out.new.items ≡ out.old.items ++ allowed_line liberties.now) }
+{
+    if liberties.is_empty() {
+        return Ok(());
+    }
+    out.push(b' ')?;
+    append_allowance(liberties, out)?;
+    out.push(b'\n')?;
+    Ok(())
+}
+
+/// Appends the line that names the liberties, each of which alone would allow the first beat at fault of what a reader
+/// gives; nothing where there are none, or the first line at fault spells no beat. The input is read to its end or to
+/// that line; a header of the fourth form is none here, as for `explain`. At a fault of memory or of the reader a part of it may be appended.
+pub fn append_allowed<R: Read>(
+    alloc: Global,
+    reader: &mut R,
+    out: &mut Vec<u8>,
+) -> Result<(), ToolFault>
+    ensures ok { OnOk result ((read : List ℕ) × (allowing : List Liberty)
+        × Consumes (R.remaining reader.old) (R.remaining reader.new) read × Allowed (lines_of read) allowing
+        × (out.new.items ≡ out.old.items ++ allowed_line allowing)) }
+    ensures fault { IfErr result (λ fault. fault ≢ ToolFault.Write) }
+{
+    let mut lines = Lines::new(AllowLines::Waiting(alloc));
+    let mut said = Vec::new(alloc);
+    judge_input(alloc, &mut lines, reader, &mut said)?;
+    append_line(lines.handler().allowing(), out)?;
+    Ok(())
+}

@@ -1,0 +1,17 @@
+//! What a header that names no liberties means, as a law.
+
+ghost use Rattle.std.specs.Prelude.{◌∷◌, ℕ, List};
+ghost use Rattle.tl_engine.specs.declared.status.Status.{Status};
+ghost use Rattle.tl_engine.specs.statement.Judged.{Judged};
+ghost use Rattle.tl_engine.specs.statement.Trace.{SpellsHeader};
+ghost use Rattle.tl_links.specs.statement.Judged.{JudgedLinks};
+ghost use Rattle.tl_params.specs.declared.level.Level.{Level};
+ghost use Rattle.tl_params.specs.declared.profile.Profile.{Profile};
+ghost use Rattle.tl_params.specs.declared.width.Width.{Width};
+
+/// A trace whose header is of the first three versions is judged as `monitor` judges it.
+pub fn judged_by_profile()
+    ensures { (line : List ℕ) (lines : List (List ℕ)) (text : List ℕ) (status : Status) (width : Width) (p : Profile)
+        (levels : List Level) → SpellsHeader line width p levels → JudgedLinks (line ∷ lines) text status →
+        Judged (line ∷ lines) text status }
+{}

@@ -1,0 +1,9 @@
+//! Judges recorded traces whose headers name what their links may do beyond the first profile.
+#![tactic(auto)]
+
+mod allow_lines;
+pub mod allowing;
+pub mod header;
+pub mod law;
+pub mod link_lines;
+pub mod run;

@@ -1,0 +1,32 @@
+//! Runs a monitor over an input whose header names what the links may do.
+
+ghost use Rattle.std.specs.Prelude.{IfErr, IfOk, OnErr};
+ghost use Rattle.tl_engine.specs.code.GivenUp.{GivesUpFor};
+ghost use Rattle.tl_engine.specs.code.Run.{FailsAt, RunsTo};
+ghost use Rattle.tl_links.specs.statement.Judged.{JudgedLinks, LinksSoFar};
+
+use crate::link_lines::LinkLines;
+use std::alloc::Global;
+use std::io::{Read, Write};
+use tl_engine::engine::handle_input;
+use tl_engine::status::{Status, ToolFault};
+
+/// Judges a recorded trace, each link by itself: reads the input to its end or to the first line at fault, and writes
+/// `clean N` or `line N X`. The header may be of any version: the fourth names what the links may do beyond the first
+/// profile (liberties). Of a header of the first three versions it writes what `monitor` does.
+///
+/// The status and the faults are those of `tl_engine::tool::run_tool`.
+pub fn run_links<R: Read, W: Write>(
+    alloc: Global,
+    reader: &mut R,
+    writer: &mut W,
+) -> Result<Status, ToolFault>
+    ensures ok { IfOk result (RunsTo JudgedLinks (R.remaining reader.old) (R.remaining reader.new)
+        (W.contents writer.old) (W.contents writer.new)) }
+    ensures err { OnErr result (FailsAt JudgedLinks (R.remaining reader.old) (R.remaining reader.new)
+        (W.contents writer.old) (W.contents writer.new)) }
+    ensures fault { IfErr result (GivesUpFor LinksSoFar JudgedLinks (R.remaining reader.old) (R.remaining reader.new)
+        (W.contents writer.old) (W.contents writer.new)) }
+{
+    handle_input(alloc, LinkLines::Waiting(alloc), reader, writer)
+}

@@ -1,0 +1,33 @@
+-- The beats that a search takes, counted by link and message.
+use Rattle.std.specs.Prelude.{◌≡◌, ◌<◌, ◌+◌, ◌*◌, ◌==◌, ℕ, List, map, length, count_by, slice_index_or}
+use Rattle.tl_beat.specs.declared.beat.Beat.{Beat}
+use Rattle.tl_beat.specs.declared.beat.Beat.TheVariants as beat
+use Rattle.tl_beat.specs.declared.beat.Link.{Link}
+use Rattle.tl_beat.specs.statement.Opcode.{a_code, b_code, c_code, d_code}
+use Rattle.tl_rules.specs.statement.Conformance.{Trace}
+
+-- the number of a message: eight for each channel from A to D, by the opcode, and GrantAck
+abbrev pub message_of : {w : ℕ} → Beat w → ℕ
+message_of (beat.A x) = a_code x.opcode
+message_of (beat.B x) = 8 + b_code x.opcode
+message_of (beat.C x) = 16 + c_code x.opcode
+message_of (beat.D x) = 24 + d_code x.opcode
+message_of (beat.E x) = 32
+
+-- the number of the cell in which a beat is counted: 33 cells for each link
+abbrev pub cell_of : {w : ℕ} → Link → Beat w → ℕ
+cell_of link beat = 33 * link.0 + message_of beat
+
+-- the cells of the beats of a trace
+abbrev pub cells_of : {w : ℕ} → Trace w → List ℕ
+cells_of t = map (λ x. cell_of x.0 x.1) t
+
+-- how many cells there are, those of 256 links
+abbrev pub most_cells : ℕ
+most_cells = 8448
+
+-- the beats that are taken, of which these are the cells, are so many, and each cell holds how many are counted in it
+pub record AreCounted (beats : ℕ) (cells taken : List ℕ) : Type 0 where
+  pub in_all : beats ≡ length taken
+  pub room : length cells ≡ most_cells
+  pub each : (i : ℕ) → i < most_cells → slice_index_or cells i 0 ≡ count_by (λ cell. cell == i) taken

@@ -1,0 +1,88 @@
+-- The cell of a beat names its link, channel and message.
+use Rattle.std.proofs.Common.{◌≡◌, ◌<◌, ◌+◌, ◌*◌, ◌/◌, ◌%◌, ℕ, List, [], ◌∷◌, arith, refl}
+use Rattle.tl_beat.specs.declared.beat.Beat.{Beat}
+use Rattle.tl_beat.specs.declared.beat.Beat.TheVariants as beat
+use Rattle.tl_beat.specs.declared.beat.Link.{Link}
+use Rattle.tl_beat.specs.declared.opcode.OpA.{OpA}
+use Rattle.tl_beat.specs.declared.opcode.OpA.TheVariants as a
+use Rattle.tl_beat.specs.declared.opcode.OpB.{OpB}
+use Rattle.tl_beat.specs.declared.opcode.OpB.TheVariants as b
+use Rattle.tl_beat.specs.declared.opcode.OpC.{OpC}
+use Rattle.tl_beat.specs.declared.opcode.OpC.TheVariants as c
+use Rattle.tl_beat.specs.declared.opcode.OpD.{OpD}
+use Rattle.tl_beat.specs.declared.opcode.OpD.TheVariants as d
+use Rattle.tl_beat.specs.statement.Control.{channel_of}
+use Rattle.tl_beat.specs.statement.Names.{a_name, b_name, c_name, d_name, letter_of}
+use Rattle.tl_beat.specs.statement.Opcode.{a_code, b_code, c_code, d_code}
+use Rattle.tl_report.proofs.Counted.{below_a, below_b, below_c, below_d}
+use Rattle.tl_report.specs.statement.Taken.{cell_of, message_of}
+use Rattle.tl_sign_off.specs.statement.Message.{channel_name, message_name, name_of}
+use Rattle.tl_sign_off.specs.statement.Report.{count_data, count_of}
+
+-- a number has this letter and this name
+record IsNamed (n : ℕ) (letter : ℕ) (name : List ℕ) : Type 0 where
+  lettered : channel_name n ≡ letter ∷ []
+  named : message_name n ≡ name
+
+on_a : (opcode : OpA) → IsNamed (a_code opcode) 65 (a_name opcode)
+on_a a.PutFullData = record { lettered = refl; named = refl }
+on_a a.PutPartialData = record { lettered = refl; named = refl }
+on_a a.ArithmeticData = record { lettered = refl; named = refl }
+on_a a.LogicalData = record { lettered = refl; named = refl }
+on_a a.Get = record { lettered = refl; named = refl }
+on_a a.Intent = record { lettered = refl; named = refl }
+on_a a.AcquireBlock = record { lettered = refl; named = refl }
+on_a a.AcquirePerm = record { lettered = refl; named = refl }
+
+on_b : (opcode : OpB) → IsNamed (8 + b_code opcode) 66 (b_name opcode)
+on_b b.PutFullData = record { lettered = refl; named = refl }
+on_b b.PutPartialData = record { lettered = refl; named = refl }
+on_b b.ArithmeticData = record { lettered = refl; named = refl }
+on_b b.LogicalData = record { lettered = refl; named = refl }
+on_b b.Get = record { lettered = refl; named = refl }
+on_b b.Intent = record { lettered = refl; named = refl }
+on_b b.ProbeBlock = record { lettered = refl; named = refl }
+on_b b.ProbePerm = record { lettered = refl; named = refl }
+
+on_c : (opcode : OpC) → IsNamed (16 + c_code opcode) 67 (c_name opcode)
+on_c c.AccessAck = record { lettered = refl; named = refl }
+on_c c.AccessAckData = record { lettered = refl; named = refl }
+on_c c.HintAck = record { lettered = refl; named = refl }
+on_c c.ProbeAck = record { lettered = refl; named = refl }
+on_c c.ProbeAckData = record { lettered = refl; named = refl }
+on_c c.Release = record { lettered = refl; named = refl }
+on_c c.ReleaseData = record { lettered = refl; named = refl }
+
+on_d : (opcode : OpD) → IsNamed (24 + d_code opcode) 68 (d_name opcode)
+on_d d.AccessAck = record { lettered = refl; named = refl }
+on_d d.AccessAckData = record { lettered = refl; named = refl }
+on_d d.HintAck = record { lettered = refl; named = refl }
+on_d d.Grant = record { lettered = refl; named = refl }
+on_d d.GrantData = record { lettered = refl; named = refl }
+on_d d.ReleaseAck = record { lettered = refl; named = refl }
+
+is_named : {w : ℕ} (x : Beat w) → IsNamed (message_of x) (letter_of (channel_of x)) (name_of x)
+is_named (beat.A x) = on_a x.opcode
+is_named (beat.B x) = on_b x.opcode
+is_named (beat.C x) = on_c x.opcode
+is_named (beat.D x) = on_d x.opcode
+is_named (beat.E x) = record { lettered = refl; named = refl }
+
+few_messages : {w : ℕ} (x : Beat w) → message_of x < 33
+few_messages (beat.A x) = let few = below_a x.opcode in omega (arith, few)
+few_messages (beat.B x) = let few = below_b x.opcode in omega (arith, few)
+few_messages (beat.C x) = let few = below_c x.opcode in omega (arith, few)
+few_messages (beat.D x) = let few = below_d x.opcode in omega (arith, few)
+few_messages (beat.E x) = omega arith
+
+link_back : (link message : ℕ) → message < 33 → (33 * link + message) / 33 ≡ link
+link_back link message few = omega (arith, few)
+
+message_back : (link message : ℕ) → message < 33 → (33 * link + message) % 33 ≡ message
+message_back link message few = omega (arith, few)
+
+pub counted_alike : {w : ℕ} (link : Link) (x : Beat w) (n : ℕ) → count_data (cell_of link x) n ≡ count_of link x n
+counted_alike link x n =
+    let few = few_messages x in
+    let is = is_named x in
+    rw (link_back link.0 (message_of x) few, message_back link.0 (message_of x) few, is.lettered, is.named) refl

@@ -1,0 +1,130 @@
+-- What a report holds, as JSON: the members of an object are in the order of their names.
+use Rattle.std.specs.Prelude.{◌≡◌, ◌+◌, ◌/◌, ◌%◌, ◌==◌, ◌++◌, ◌∷◌, ℕ, Bool, true, false, List, [], Option, Some, None}
+use Rattle.std.specs.Prelude.{codes, if◌then◌else◌, map, not, position, take}
+use Rattle.hex.specs.Hex.{encode_lower}
+use Rattle.serde_json.specs.Data.{Data, array, member, no_members, null, number, object, string, unsigned}
+use Rattle.serde_json.specs.View.{items_of}
+use Rattle.serde_json.specs.Written.{compact_text}
+use Rattle.tl_beat.specs.declared.beat.Beat.{Beat}
+use Rattle.tl_beat.specs.declared.beat.Link.{Link}
+use Rattle.tl_beat.specs.statement.Control.{channel_of}
+use Rattle.tl_beat.specs.statement.Names.{letter_of}
+use Rattle.tl_engine.specs.declared.fault.Fault.{Fault}
+use Rattle.tl_engine.specs.declared.fault.Fault.TheVariants.{Header}
+use Rattle.tl_engine.specs.statement.Fault.{fault_name}
+use Rattle.tl_report.specs.declared.findings.Finding.{Finding}
+use Rattle.tl_sign_off.specs.declared.account.Account.{Account}
+use Rattle.tl_sign_off.specs.declared.input.Input.{Input}
+use Rattle.tl_sign_off.specs.statement.Message.{channel_name, message_name, name_of}
+use Rattle.tl_sign_off.specs.statement.Sentence.{sentence_of}
+
+abbrev pub natural : ℕ → Data
+natural n = number (unsigned n)
+
+-- a line at fault: its number, the name of the rule or fault, and what that says
+abbrev pub fault_data : Finding → Data
+fault_data x = object
+    (member (codes "line") (natural x.line)
+    (member (codes "rule") (string (fault_name x.fault))
+    (member (codes "sentence") (string (sentence_of x.fault)) no_members)))
+
+abbrev pub faults_data : List Finding → Data
+faults_data found = array (items_of (map fault_data found))
+
+-- so many beats of a link and a message, which are counted in this cell
+abbrev pub count_data : ℕ → ℕ → Data
+count_data cell n = object
+    (member (codes "beats") (natural n)
+    (member (codes "channel") (string (channel_name (cell % 33)))
+    (member (codes "link") (natural (cell / 33))
+    (member (codes "message") (string (message_name (cell % 33))) no_members))))
+
+-- so many beats like this one
+abbrev pub count_of : {w : ℕ} → Link → Beat w → ℕ → Data
+count_of link beat n = object
+    (member (codes "beats") (natural n)
+    (member (codes "channel") (string (letter_of (channel_of beat) ∷ []))
+    (member (codes "link") (natural link.0)
+    (member (codes "message") (string (name_of beat)) no_members))))
+
+-- those of a cell, where there are some
+abbrev pub counted_in : ℕ → ℕ → List Data
+counted_in cell n = if n == 0 then [] else count_data cell n ∷ []
+
+-- those of these cells, the first of which has this number
+unfoldable pub counted_from : ℕ → List ℕ → List Data
+counted_from cell [] = []
+counted_from cell (n ∷ ns) = counted_in cell n ++ counted_from (cell + 1) ns
+
+abbrev pub counts_data : List ℕ → Data
+counts_data cells = array (items_of (counted_from 0 cells))
+
+-- the fault is that of a first line that is no header
+abbrev pub is_headless : Fault → Bool
+is_headless Header = true
+is_headless _ = false
+
+-- the first line is a header
+abbrev pub has_header : List Finding → Bool
+has_header [] = true
+has_header (x ∷ found) = not (is_headless x.fault)
+
+-- the bytes before an LF that is there
+abbrev pub before : Option ℕ → List ℕ → List ℕ
+before None front = front
+before (Some i) front = take i front
+
+-- the first of these lines
+abbrev pub line_in : List ℕ → List ℕ
+line_in front = before (position (λ b. b == 10) front) front
+
+-- the header as it stands, or null where the first line is none
+abbrev pub header_data : List Finding → List ℕ → Data
+header_data found front = if has_header found then string (line_in front) else null
+
+-- what was read: how many bytes, the header, and the SHA-256 of all
+abbrev pub input_data : List Finding → Input → Data
+input_data found input = object
+    (member (codes "bytes") (natural input.bytes)
+    (member (codes "header") (header_data found input.front.items)
+    (member (codes "sha256") (string (encode_lower input.sum)) no_members)))
+
+-- the version, and what it is proved with
+abbrev pub version_name : List ℕ
+version_name = codes "1.0.0"
+
+abbrev pub kit_name : List ℕ
+kit_name = codes "Rattle, logic dac8208d650f15bf"
+
+-- what has judged it
+abbrev pub tool_data : Data
+tool_data = object
+    (member (codes "name") (string (codes "tltool"))
+    (member (codes "proved_with") (string kit_name)
+    (member (codes "version") (string version_name) no_members)))
+
+-- the command that judges all links together, or each by itself
+abbrev pub command_name : Bool → List ℕ
+command_name false = codes "monitor"
+command_name true = codes "coherent"
+
+-- what is said of the whole
+abbrev pub verdict_name : Bool → List Finding → List ℕ
+verdict_name false [] = codes "clean"
+verdict_name true [] = codes "coherent"
+verdict_name together found = codes "broken"
+
+-- the report of an account, as a value
+abbrev pub report_of : Account → Data
+report_of a = object
+    (member (codes "beats") (natural a.findings.beats)
+    (member (codes "command") (string (command_name a.together))
+    (member (codes "counts") (counts_data a.findings.cells.items)
+    (member (codes "faults") (faults_data a.findings.faults.items)
+    (member (codes "input") (input_data a.findings.faults.items a.input)
+    (member (codes "tool") tool_data
+    (member (codes "verdict") (string (verdict_name a.together a.findings.faults.items)) no_members)))))))
+
+-- and as a line of text
+abbrev pub json_line : Account → List ℕ
+json_line a = compact_text (report_of a) ++ codes "\n"

@@ -1,0 +1,96 @@
+//! Judges an input to its end, and notes what it was.
+
+ghost use Rattle.std.specs.Prelude.{◌≡◌, ◌≢◌, ◌++◌, [], ℕ, List, IfErr, IfOk};
+ghost use Rattle.std.specs.Io.KnownBytes.{Consumes, IsAtEnd};
+ghost use Rattle.tl_engine.specs.declared.status.ToolFault.{ToolFault};
+ghost use Rattle.tl_engine.specs.code.Progress.{Progress};
+ghost use Rattle.tl_report.specs.code.Searching.{KnowsLines};
+ghost use Rattle.tl_sign_off.specs.code.Noting.{IsJudged, IsJudgedWhole, IsNoted};
+ghost use Rattle.tl_sign_off.specs.statement.Account.{IsOf};
+
+use crate::account::Account;
+use crate::input::Notes;
+use std::alloc::Global;
+use std::io::Read;
+use tl_command::search::Aim;
+use tl_engine::engine::{new_chunk, next_piece};
+use tl_engine::lines::Lines;
+use tl_engine::status::{Status, ToolFault};
+use tl_report::find::findings_of;
+use tl_report::search_lines::SearchLines;
+
+/// Judges the lines that end in a piece, unless a line before has ended the search.
+fn go_on(
+    lines: &mut Lines<SearchLines>,
+    status: Status,
+    piece: &[u8],
+    out: &mut Vec<u8>,
+) -> Result<Status, ToolFault>
+    ensures judged { IfOk result (λ now. (input : List ℕ) → IsJudged status lines.old input out.old.items →
+        IsJudged now lines.new (input ++ piece.now) out.new.items) }
+    ensures fault { IfErr result (λ fault. fault ≢ ToolFault.Write) }
+{
+    match status {
+        Status::Clean => lines.feed(piece, out),
+        Status::Broken => Ok(Status::Broken),
+    }
+}
+
+/// Judges the end of an input, unless a line before has ended the search.
+fn close(lines: &Lines<SearchLines>, status: Status, out: &mut Vec<u8>) -> Result<Status, ToolFault>
+    ensures judged { IfOk result (λ end. (input : List ℕ) → IsJudged status lines.now input out.old.items →
+        IsJudgedWhole lines.now.handler input end) }
+    ensures fault { IfErr result (λ fault. fault ≢ ToolFault.Write) }
+{
+    match status {
+        Status::Clean => lines.finish(out),
+        Status::Broken => Ok(Status::Broken),
+    }
+}
+
+/// Reads an input to its end, judges its lines up to the last that is looked for, and notes all its bytes.
+fn read_whole<R: Read>(
+    alloc: Global,
+    lines: &mut Lines<SearchLines>,
+    notes: &mut Notes,
+    reader: &mut R,
+) -> Result<Status, ToolFault>
+    requires begun { Progress KnowsLines lines.old [] [] }
+    requires unread { IsNoted notes.old [] }
+    ensures ok { IfOk result (λ status. (input : List ℕ)
+        × Consumes (R.remaining reader.old) (R.remaining reader.new) input × IsAtEnd (R.remaining reader.new)
+        × IsNoted notes.new input × IsJudgedWhole lines.new.handler input status) }
+    ensures fault { IfErr result (λ fault. fault ≢ ToolFault.Write) }
+{
+    let mut chunk = new_chunk(alloc)?;
+    let mut out = Vec::new(alloc);
+    let mut status = Status::Clean;
+    for _ in 0..u64::MAX {
+        let count = next_piece(reader, &mut chunk)?;
+        if count == 0 {
+            return close(lines, status, &mut out);
+        }
+        notes.add(&chunk[..count])?;
+        status = go_on(lines, status, &chunk[..count], &mut out)?;
+    }
+    Err(ToolFault::Read)
+}
+
+/// Reads an input to its end, and judges its lines up to the last that is looked for. What follows that line is read for
+/// the sum alone.
+pub fn judge_whole<R: Read>(alloc: Global, aim: Aim, reader: &mut R) -> Result<Account, ToolFault>
+    ensures ok { IfOk result (λ account. (input : List ℕ)
+        × Consumes (R.remaining reader.old) (R.remaining reader.new) input × IsAtEnd (R.remaining reader.new)
+        × IsOf aim account input) }
+    ensures fault { IfErr result (λ fault. fault ≢ ToolFault.Write) }
+{
+    let mut lines = Lines::new(SearchLines::Waiting(alloc, aim));
+    let mut notes = Notes::new();
+    let status = read_whole(alloc, &mut lines, &mut notes, reader)?;
+    let findings = findings_of(lines.into_handler(), aim, status)?;
+    Ok(Account {
+        together: aim.together,
+        findings,
+        input: notes.into_input(),
+    })
+}

@@ -1,0 +1,45 @@
+//! The messages in which beats are counted, by their numbers.
+
+ghost use Rattle.std.specs.Prelude.{◌≡◌};
+ghost use Rattle.tl_sign_off.specs.statement.Message.{channel_name, message_name};
+
+use tl_beat::opcode::{OpA, OpB, OpC, OpD};
+
+/// The letter of a message's channel.
+pub fn channel_name(message: u8) -> &'static str
+    ensures { result.now ≡ channel_name message }
+{
+    match message / 8 {
+        0 => "A",
+        1 => "B",
+        2 => "C",
+        3 => "D",
+        _ => "E",
+    }
+}
+
+/// The name of a message, which is empty where its number stands for none.
+pub fn message_name(message: u8) -> &'static str
+    ensures { result.now ≡ message_name message }
+{
+    let code = message % 8;
+    match message / 8 {
+        0 => match OpA::with_code(code) {
+            Some(opcode) => opcode.name(),
+            None => "",
+        },
+        1 => match OpB::with_code(code) {
+            Some(opcode) => opcode.name(),
+            None => "",
+        },
+        2 => match OpC::with_code(code) {
+            Some(opcode) => opcode.name(),
+            None => "",
+        },
+        3 => match OpD::with_code(code) {
+            Some(opcode) => opcode.name(),
+            None => "",
+        },
+        _ => "GrantAck",
+    }
+}

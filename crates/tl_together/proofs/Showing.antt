@@ -1,0 +1,98 @@
+-- Beats that show the bytes of a block, and what is noted of them.
+use Rattle.std.proofs.Common.{◌≡◌, ℕ, Bool, true, false, ◌&&◌, ◌||◌, ◌<◌, List, [], ◌∷◌, length, refl, sym, ◌∙◌}
+use Rattle.std.proofs.Common.{inl, inr, ◌+◌}
+use Rattle.std.specs.Prelude.{if◌then◌else◌, ◌==◌, Option, Some, None}
+use Rattle.std.specs.Option.{option_or}
+use Rattle.std.proofs.Math.Bool.{and-false}
+use Rattle.std.proofs.lemmas.Bool.{cases_eq, eq-eqb, lt-ltb, ne_eqb}
+use Rattle.tl_beat.specs.declared.beat.Beat.{Beat}
+use Rattle.tl_beat.specs.declared.beat.Beat.TheVariants.{A, B, C, D, E}
+use Rattle.tl_beat.specs.declared.beat.BeatC.{BeatC}
+use Rattle.tl_beat.specs.declared.beat.Link.{Link}
+use Rattle.tl_burst.specs.statement.Messages.{History, burst_length, channel_of, on, unfinished}
+use Rattle.tl_burst.specs.statement.Part.{is_empty}
+use Rattle.tl_memory.proofs.Bearing.{none_of_both}
+use Rattle.tl_memory.proofs.Elsewhere.{held-kept}
+use Rattle.tl_monitor.specs.statement.Knows.{begins_on, LeavesOthers}
+use Rattle.tl_params.specs.declared.level.Level.{Level}
+use Rattle.tl_rules.specs.statement.Conformance.{Trace, on_link}
+use Rattle.tl_rules.specs.statement.History.{begins, block_at, ends, is_probe_ack, is_release}
+use Rattle.tl_together.specs.code.Windows.{is_noted, shown_window, window_in, HasNoted, IsShown, MayShow}
+use Rattle.tl_together.specs.declared.windows.Window.{Window}
+use Rattle.tl_together.proofs.Windowed.{own_link}
+
+-- ---- the beat
+
+flipped : (a b : ℕ) → (a == b) ≡ (b == a)
+flipped a b = elim (cases_eq a b) [
+  | inl e ↦ rw (eq-eqb a b e, eq-eqb b a (sym e)) refl
+  | inr ne ↦ rw (ne_eqb a b ne, ne_eqb b a (λ e. ne (sym e))) refl
+]
+
+-- a report changes what is held of its own block alone
+pub report_leaves : {w : ℕ} (x : BeatC w) (past : History w) (k : ℕ) → k ≡ block_at x.address
+    → LeavesOthers (Some k) (C x) past
+report_leaves x past k k_is b apart = held-kept b (C x) past
+    (λ over. rw (none_of_both (is_probe_ack x.opcode || is_release x.opcode) (block_at x.address == b)
+    (rw (← k_is) (flipped k b ∙ apart))) refl)
+
+pub either_leaves : {w : ℕ} (shown held : Option ℕ) (x : Beat w) (past : History w)
+    → ((k : ℕ) → shown ≡ Some k → LeavesOthers shown x past) → LeavesOthers held x past
+    → LeavesOthers (option_or shown held) x past
+either_leaves None held x past own others = others
+either_leaves (Some k) held x past own others = own k refl
+
+-- where one of the two is noted, the first is
+pub first_noted : (shown held : Option ℕ) (entries : List (ℕ × Window)) → HasNoted (option_or shown held) entries
+    → HasNoted shown entries
+first_noted None held entries noted b here = absurd cc
+first_noted (Some k) held entries noted b here = noted b here
+
+-- ---- what is noted
+
+on_own : {w : ℕ} (x : Beat w) → on (channel_of x) x ≡ true
+on_own (A y) = refl
+on_own (B y) = refl
+on_own (C y) = refl
+on_own (D y) = refl
+on_own (E y) = refl
+
+-- where a beat's message is complete, another begins behind it
+begins_behind : {w : ℕ} (x : Beat w) (past : History w) → begins x (x ∷ past) ≡ ends x past
+unfolding unfinished
+begins_behind {w} x past =
+    rw (on_own x) (go (length (unfinished (channel_of x) past) + 1 == burst_length x))
+  where
+    go : (b : Bool) → is_empty (if b then [] else x ∷ unfinished (channel_of x) past) ≡ b
+    go true = refl
+    go false = refl
+
+pub complete_is : {w : ℕ} (levels : List Level) (link : Link) (x : Beat w) (t : Trace w) (b : Bool)
+    → link.0 < length levels → b ≡ begins_on levels link x ((link, x) ∷ t) → b ≡ ends x (on_link link.0 t)
+complete_is levels link x t b lt b_is =
+    b_is ∙ rw (lt-ltb link.0 (length levels) lt, own_link link.0 link x t refl) (begins_behind x (on_link link.0 t))
+
+-- no block is shown
+pub shown_none : {w : ℕ} (moment : ℕ) (x : Beat w) (past : History w) (entries : List (ℕ × Window))
+    → MayShow None x past → IsShown moment x past entries entries
+shown_none moment x past entries may block =
+    rw (may block ∙ and-false (ends x past)) refl
+
+-- none yet
+pub shown_later : {w : ℕ} (moment : ℕ) (x : Beat w) (past : History w) (shown : Option ℕ) (entries : List (ℕ × Window))
+    → MayShow shown x past → ends x past ≡ false → IsShown moment x past entries entries
+shown_later moment x past shown entries may goes_on block = rw (may block, goes_on) refl
+
+pub shown_now : {w : ℕ} (moment k : ℕ) (x : Beat w) (past : History w) (old new : List (ℕ × Window))
+    → MayShow (Some k) x past → ends x past ≡ true → HasNoted (Some k) old
+    → ((b : ℕ) → window_in new b
+    ≡ (if (b == k) && is_noted old b then shown_window moment (window_in old b) else window_in old b))
+    → IsShown moment x past old new
+shown_now moment k x past old new may over noted set block =
+    set block ∙ rw (may block, over) (go (block == k) refl)
+  where
+    go : (b : Bool) → (block == k) ≡ b
+        → (if b && is_noted old block then shown_window moment (window_in old block) else window_in old block)
+        ≡ (if b then shown_window moment (window_in old block) else window_in old block)
+    go true here = rw (noted block here) refl
+    go false apart = refl

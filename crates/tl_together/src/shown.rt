@@ -1,0 +1,64 @@
+//! Reports that tell what the bytes of a block are, and leave their sender Trunk.
+
+ghost use Rattle.std.specs.Prelude.{ℕ, false, List, Some, length, ◌≡◌, ◌<◌};
+ghost use Rattle.tl_bytes.specs.statement.Shown;
+ghost use Rattle.tl_burst.specs.statement.Messages.{History};
+ghost use Rattle.tl_monitor.specs.statement.Knows as of_link;
+ghost use Rattle.tl_params.specs.declared.level.Level.{Level};
+ghost use Rattle.tl_params.specs.declared.profile.Profile.{Profile};
+ghost use Rattle.tl_rules.specs.statement.Conformance.{Trace, on_link};
+ghost use Rattle.tl_together.specs.code.Windows.{MayShow};
+
+use tl_beat::beat::{Beat, BeatC, Link};
+use tl_beat::opcode::{OpB, OpC};
+use tl_monitor::monitor::Monitor;
+use tl_rules::key::block_at;
+use tl_rules::kind::reported;
+use tl_rules::past::Probe;
+use tl_rules::perm::Perm;
+
+/// Whether a Probe asks for the bytes of its block.
+fn asks_bytes(probe: Option<Probe>) -> bool
+    ensures { result ≡ Shown.asks_bytes probe }
+{
+    match probe {
+        None => false,
+        Some(probe) => probe.opcode == OpB::ProbeBlock,
+    }
+}
+
+/// Whether a report tells what the bytes of its block are, where it answers this Probe, if it answers one.
+fn tells_bytes(opcode: OpC, asked: Option<Probe>) -> bool
+    ensures { result ≡ Shown.tells_bytes opcode asked }
+{
+    match opcode {
+        OpC::ProbeAck => asks_bytes(asked),
+        OpC::ProbeAckData | OpC::Release | OpC::ReleaseData => true,
+        _ => false,
+    }
+}
+
+/// Whether a report leaves its sender Trunk of its block, and tells what the bytes are.
+fn shows_bytes<const W: usize>(monitor: &Monitor<W>, link: Link, x: &BeatC<W>) -> bool
+    ensures { (levels : List Level) (p : Profile) (t : Trace W) →
+        of_link.Knows monitor.now levels p t false → link.0 < length levels →
+        result ≡ Shown.shows_bytes x.now (on_link link.0 t) }
+{
+    if reported(x.param) != Perm::Trunk {
+        return false;
+    }
+    tells_bytes(x.opcode, monitor.probe(link, block_at(x.address)))
+}
+
+/// The block whose bytes a beat shows, if it completes its message.
+pub fn shown_by<const W: usize>(monitor: &Monitor<W>, link: Link, beat: &Beat<W>) -> Option<u32>
+    ensures shown { (levels : List Level) (p : Profile) (t : Trace W) →
+        of_link.Knows monitor.now levels p t false → link.0 < length levels →
+        MayShow result beat.now (on_link link.0 t) }
+    ensures own { (block : ℕ) (t : History W) → result ≡ Some block → of_link.LeavesOthers result beat.now t }
+{
+    match beat {
+        Beat::C(x) if shows_bytes(monitor, link, x) => Some(block_at(x.address)),
+        _ => None,
+    }
+}

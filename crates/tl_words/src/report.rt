@@ -1,0 +1,72 @@
+//! Reads the words of a judgement that is reported.
+
+ghost use Rattle.std.specs.Prelude.{◌≡◌, IfOk, IfErr, true, false, List, bytes_eq, codes, option_map};
+ghost use Rattle.clap.specs.Words.{Row, first_of, found_of, rows_of};
+ghost use Rattle.tl_words.specs.Refused.{IsFaultOf};
+ghost use Rattle.tl_words.specs.Reports.{AreGiven};
+ghost use Rattle.tl_words.specs.Tool.{IsTaskOf, is_reported};
+
+use crate::words::{WordsFault, copied, together_named, wrong_number, wrong_words};
+use clap::ArgMatches;
+use std::alloc::Global;
+use tl_command::search::inquiry_named;
+use tl_command::task::Task;
+
+/// The words of a judgement that is reported.
+#[derive(Clone, Copy)]
+struct ReportWords<'a> {
+    all: Option<&'a str>,
+    file: Option<&'a str>,
+    report: Option<&'a str>,
+    junit: Option<&'a str>,
+}
+
+/// Whether a judgement is to be reported.
+pub(crate) fn is_reported(found: &ArgMatches) -> bool
+    ensures { result ≡ is_reported (rows_of (found_of found.now)) }
+{
+    found.get_str("report").is_some() || found.get_str("junit").is_some()
+}
+
+/// The judgement and its reports that these words ask for.
+fn reported(alloc: Global, name: &str, words: &ReportWords) -> Result<Task, WordsFault>
+    ensures read { IfOk result (λ task. (rows : List Row) → AreGiven rows words.now → is_reported rows ≡ true →
+        IsTaskOf name.now rows task) }
+    ensures wrong { IfErr result (λ fault. (rows : List Row) → AreGiven rows words.now → is_reported rows ≡ true →
+        bytes_eq name.now (codes "random") ≡ false → bytes_eq name.now (codes "chart") ≡ false →
+        IsFaultOf name.now rows fault) }
+{
+    let Some(together) = together_named(name) else {
+        return Err(WordsFault::Usage(wrong_words(alloc, name, None)?));
+    };
+    let Some(inquiry) = inquiry_named(together, words.all) else {
+        let word = words.all.unwrap_or("");
+        return Err(WordsFault::Usage(wrong_number(alloc, together, word)?));
+    };
+    let file = copied(alloc, words.file)?;
+    let report = copied(alloc, words.report)?;
+    let junit = copied(alloc, words.junit)?;
+    Ok(Task::Report {
+        inquiry,
+        file,
+        report,
+        junit,
+    })
+}
+
+/// The judgement and its reports that the entries of a command ask for.
+pub(crate) fn report(alloc: Global, name: &str, found: &ArgMatches) -> Result<Task, WordsFault>
+    requires random { bytes_eq name.now (codes "random") ≡ false }
+    requires chart { bytes_eq name.now (codes "chart") ≡ false }
+    requires reported { is_reported (rows_of (found_of found.now)) ≡ true }
+    ensures read { IfOk result (IsTaskOf name.now (rows_of (found_of found.now))) }
+    ensures wrong { IfErr result (IsFaultOf name.now (rows_of (found_of found.now))) }
+{
+    let words = ReportWords {
+        all: found.get_str("all"),
+        file: found.get_str("FILE"),
+        report: found.get_str("report"),
+        junit: found.get_str("junit"),
+    };
+    reported(alloc, name, &words)
+}

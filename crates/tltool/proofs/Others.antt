@@ -1,0 +1,20 @@
+-- Commands but `monitor` say what the engine has them say.
+use Rattle.std.proofs.Common.{◌≡◌, List, ℕ, refl}
+use Rattle.std.specs.Prelude.{Option, Result}
+use Rattle.tl_command.specs.declared.command.Command.{Command}
+use Rattle.tl_command.specs.declared.command.Command.TheVariants.{Coherent, Decode, Explain, Monitor, Run}
+use Rattle.tl_engine.specs.declared.status.Status.{Status}
+use Rattle.tl_engine.specs.declared.status.ToolFault.{ToolFault}
+use Rattle.tl_engine.specs.statement.Exit.{exit_status}
+use Rattle.tl_engine.specs.statement.Told.{text_so_far, text_told}
+use Rattle.tltool.specs.Ended.{EndsAs, IsOutcome}
+
+pub ends_other : (command : Command) (outcome : Result Status ToolFault) (had left held holds : Option (List ℕ))
+    (status : ℕ) → (command ≡ Monitor → ⊥) → status ≡ exit_status outcome
+    → IsOutcome (text_told command) (text_so_far command) had left held holds outcome
+    → EndsAs command had left held holds status
+ends_other Monitor outcome had left held holds status other same so = absurd (other refl)
+ends_other (Decode width) outcome had left held holds status other same so = (outcome, same, so)
+ends_other Coherent outcome had left held holds status other same so = (outcome, same, so)
+ends_other (Explain together) outcome had left held holds status other same so = (outcome, same, so)
+ends_other (Run trace) outcome had left held holds status other same so = (outcome, same, so)

@@ -1,0 +1,17 @@
+use Rattle.tltool.proofs.Others.{ends_other}
+use Rattle.tltool.proofs.run_over.Goals as goal
+
+pub returns-in-Monitor : goal.returns-in-Monitor
+returns-in-Monitor g c = rw c.in-Monitor.is (
+  c.run_links.result,
+  c.told.ensures,
+  (
+    c.run_links.ensures.ok,
+    c.run_links.ensures.err,
+    c.run_links.ensures.fault,
+  ),
+)
+
+pub returns-in_default : goal.returns-in_default
+returns-in_default g c = ends_other c.args.command c.run_tool.result _ _ _ _ _ c.in_default.not-Monitor c.told-in_default.ensures
+    (c.run_tool.ensures.ok, c.run_tool.ensures.err, c.run_tool.ensures.fault)

@@ -19,6 +19,7 @@ COMMANDS = [
     "monitor two_caches.trace",
     "monitor rules/H9.trace",
     "monitor --all 3 three_faults.trace",
+    "monitor --all 3 --report /dev/null --junit /dev/null three_faults.trace",
     "coherent two_caches.trace",
     "coherent rules/M2.trace",
     "coherent rules/M4.trace",

@@ -28,6 +28,49 @@ LINES = "the numbers of the first line and of the last, without leading zeros, a
 BLOCK = "the number of a block in three digits or in seven, of 0 to 9 and a to f, as 00f"
 NUMBER = "a number from 0 to 18446744073709551615"
 LIST = "1 to 16 clients with commas between them, each UL, UH or C with its number of sources from 1 to 8, as C:2,C:2,UH:1"
+# What each liberty allows: the last beat of a trace breaks the rule without it, and none with it.
+ACQUIRE, PERM, GET = "A 6 0 6 00 00000000 ff - 0", "A 7 1 6 00 00000000 ff - 0", "A 4 0 3 00 00000000 ff - 0"
+PUT, DATA, GRANT = "A 0 0 4 00 00000000 ff 0000000000000000 0", "D 5 1 6 00 00 0 0000000000000000 0", "D 4 0 6 00 00 0 - 0"
+PROBE = "B 6 2 6 00 00000000 ff - 0"
+UNDER = [
+    ("ids", "L2", ["B 6 2 6 05 00000000 ff - 0"]),
+    ("sinks", "L2", [GET, "D 1 0 3 00 07 0 0000000000000000 0"]),
+    ("writer", "H6", [ACQUIRE, "D 5 0 6 00 00 0 0000000000000000 0"]),
+    ("early", "H2", [PUT, "D 0 0 4 00 00 0 - 0"]),
+    ("early", "H8", [ACQUIRE, DATA, "E 00"]),
+    ("drops", "H5", [PERM, GRANT, ACQUIRE]),
+    ("drops", "H12", [PERM, GRANT, "E 00", PROBE, "C 4 5 6 00 00000000 - 0"]),
+    ("reports", "L2", ["C 6 5 6 00 00000000 - 0"]),
+    ("denied", "L6", [ACQUIRE, "D 4 1 6 00 00 1 - 0"]),
+    ("uncorrupt", "L6", [GET, "D 1 0 3 00 00 1 0000000000000000 0"]),
+]
+# The nearest trace whose last beat breaks this rule with it too.
+STILL = [
+    ("ids", "H10", ["B 6 2 6 05 00000000 ff - 0", "C 4 5 6 00 00000000 - 0"]),
+    ("sinks", "L2", [GET, "D 1 1 3 00 07 0 0000000000000000 0"]),
+    ("writer", "H6", ["A 7 0 6 00 00000000 ff - 0", GRANT]),
+    ("early", "H2", [PUT, "D 0 0 4 00 00 0 - 0", "D 0 0 4 00 00 0 - 0"]),
+    ("early", "H8", [ACQUIRE, DATA, "E 01"]),
+    ("early", "H8", [ACQUIRE, "E 00"]),
+    ("drops", "H5", [PERM, GRANT, "A 6 2 6 00 00000000 ff - 0"]),
+    ("drops", "H12", [PERM, GRANT, "E 00", PROBE, "C 4 2 6 00 00000000 - 0"]),
+    ("drops", "H12", [PERM, GRANT, "E 00", PROBE, "C 4 4 6 00 00000000 - 0"]),
+    ("reports", "H13", ["C 6 4 6 00 00000000 - 0"]),
+    ("denied", "L6", [ACQUIRE, "D 5 1 6 00 00 1 0000000000000000 0"]),
+    ("uncorrupt", "L6", ["A 0 0 3 00 00000000 ff 0000000000000000 0", "D 0 0 3 00 00 1 - 1"]),
+]
+
+
+def judged(liberties, beats):
+    lines = " ".join(f"'00 {it}'" for it in beats)
+    return f"printf '%s\\n' 'tltrace 4 8 {liberties} C' {lines} | tltool monitor"
+
+
+def explained(beats):
+    lines = " ".join(f"'00 {it}'" for it in beats)
+    return f"printf '%s\\n' 'tltrace 1 C' {lines} >fault.trace; tltool explain fault.trace | tail -n 1"
+
+
 ROWS = [
     # words
     ("tltool", 2, "", "error: .."),
@@ -233,6 +276,27 @@ ROWS = [
     ("tltool decode schedules/nothing_happens.schedule", 1, F2.format(1), ""),
     ("printf 'tltrace 1 C' | tltool monitor", 1, F7.format(1), ""),
     ("printf 'tltrace 1 C\\n' | tltool monitor", 0, "clean 0\n", ""),
+    # what the links may do
+    *((f"printf 'tltrace 4 {it}\\n' | tltool monitor", 0, "clean 0\n", "") for it in (
+        "8 none C", "4 standard C", "16 standard,uncorrupt C UH UL", "8 drops C", "8 early,drops C",
+        "8 ids,sinks,writer,early,drops,reports,denied,uncorrupt C", "8 ids,sinks,writer,early,drops,reports,denied C",
+    )),
+    *((f"printf 'tltrace 4 {it}\\n' | tltool monitor", 1, F7.format(1), "") for it in (
+        "8 C", "8 none", "none C", "8 all C", "8 Drops C", "8 drops,drops C", "8 drops,early C", "8 none,drops C", "8 drops,none C",
+        "8 standard,drops C", "8 uncorrupt,standard C", "8 drops, C", "8 ,drops C", "8 early,,drops C", "8 early drops C", "8  none C",
+        "2 none C", "32 none C", "8 none" + 17 * " C",
+    )),
+    *((f"printf 'tltrace 4 8 early C\\n' | tltool {it}", 1, f"{F7.format(1)}{count}", "") for it, count in (
+        ("coherent", ""), ("monitor --all 3", "faults 1\n"), ("monitor --report r.json", ""), ("monitor --junit r.xml", ""),
+    )),
+    *((judged(it, beats), 0, f"clean {len(beats)}\n", "") for it, _, beats in UNDER),
+    *((judged("none", beats), 1, f"line {len(beats) + 1} {rule}\n", "") for _, rule, beats in UNDER),
+    *((judged(it, beats), 1, f"line {len(beats) + 1} {rule}\n", "") for it, rule, beats in STILL),
+    *((judged(it, beats), 0, f"clean {len(beats)}\n", "") for it in ("standard", "standard,uncorrupt") for _, _, beats in UNDER[:-1]),
+    # an explanation ends with the liberties that would allow the beat
+    *((explained(beats), 0, f"  (allowed under {it})\n", "") for it, _, beats in UNDER),
+    (explained([PERM, GRANT, "E 00", PROBE, "C 4 2 6 00 00000000 - 0"]) + " | grep -c allowed", 1, "0\n", ""),
+    ("tltool explain --coherent rules/M1.trace | grep -c allowed", 1, "0\n", ""),
     *((f"printf 'tltrace {it}\\n' | tltool monitor", 1, F7.format(1), "") for it in (
         "1 c", "1 TL-C", "1 C,C", "1", "1 C ", "1  C", "01 C", "4 8 C", "2 C", "2 32 C", "2 08 C", "3 8 3 C", "1" + 17 * " C",
     )),

@@ -29,7 +29,7 @@ def fault(told):
 @test
 def the_rules_for_formal_tools_agree_with_the_monitor():
     told = run(["python3", os.path.join(FORMAL, "agreement/agree.py"), "--tool", TLTOOL], timeout=PATIENCE)
-    want("39 of 39 wrong modules told apart" in told, told)
+    want("46 of 46 wrong modules told apart" in told, told)
 
 
 @test

@@ -16,8 +16,8 @@ _tltool() {
     fi
     case ${COMP_WORDS[1]} in
     decode) options='--width --help -h' ;;
-    monitor) options='--all --help -h' ;;
-    coherent) options='--all --help -h' ;;
+    monitor) options='--all --report --junit --help -h' ;;
+    coherent) options='--all --report --junit --help -h' ;;
     explain) options='--coherent --help -h' ;;
     chart) options='--lines --block --help -h' ;;
     run) options='--trace --help -h' ;;

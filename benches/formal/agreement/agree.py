@@ -1,7 +1,7 @@
 #!/usr/bin/env python3
 """agree.py [--long] [--tool TLTOOL]: replays traces into tl_link_properties, in Icarus, and compares the first fault, its
-line and its rule, with what is said of them: by `tltool monitor` under both profiles, and under liberties by
-reference.py, which is compared with the command too. M1 to M4 are compared with `tltool coherent`. Then the wrong modules
+line and its rule, with what `tltool monitor` says of them, under both profiles and under liberties, and with what
+reference.py says. M1 to M4 are compared with `tltool coherent`. Then the wrong modules
 of wrong.py have to be told apart.
 
 Traces: the examples, random worlds (`tltool random`) and these spoiled, and links drawn at random that end in a fault. Half of
@@ -106,15 +106,20 @@ SETS = [([it], (4, 8, 16)[place % 3]) for place, it in enumerate(LIBERTIES) if i
     (LIBERTIES[:7], 8), (LIBERTIES, 16), (["ids", "early", "drops"], 8), (["drops", "reports"], 4), (["early", "denied"], 8)]
 
 
+def named(liberties):
+    """The word of a header for liberties."""
+    return ",".join(it for it in LIBERTIES if it in liberties) or "none"
+
+
 def link(tool, seed, level, width, liberties, wanted):
-    """A link drawn at random. Under liberties that no profile has, or without the command, it is judged by the reference."""
+    """A link drawn at random. Without the command it is judged by the reference."""
     beats, rule = drawn(seed, level, width, liberties, random.Random(seed).choice([0, 5, 20, 60, 120]), wanted)
+    lines = "".join(f"{line_of(it, width)}\n" for it in beats)
     if tool and set(liberties) <= {"writer"}:
-        header = f"tltrace 3 {width} {2 if liberties else 1} {level}"
-        return case_of(tool, f"link {seed}", "\n".join([header, *(line_of(it, width) for it in beats)]) + "\n")
+        return case_of(tool, f"link {seed}", f"tltrace 3 {width} {2 if liberties else 1} {level}\n{lines}")
     numbered = [(line, 0, it) for line, it in enumerate(beats, 2)]
-    name = f"link {seed} {level} {width} {','.join(liberties)}"
-    return Case(name, width, [level], frozenset(liberties), numbered, (len(beats) + 1, rule))
+    said = monitored(tool, f"tltrace 4 {width} {named(liberties)} {level}\n{lines}") if tool else (len(beats) + 1, rule)
+    return Case(f"link {seed} {level} {width} {named(liberties)}", width, [level], frozenset(liberties), numbered, said)
 
 
 def links(tool, count):

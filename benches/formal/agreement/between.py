@@ -7,6 +7,7 @@ import subprocess
 
 from reference import WITH_DATA, name_of
 from traces import read_beat, read_header
+from wrong import DIRECTED_BETWEEN
 
 CHANNELS = "ABCDE"
 
@@ -60,6 +61,8 @@ def rows(lines, width):
 
 def traces(tool, count):
     rng = random.Random(count)
+    for _, text in DIRECTED_BETWEEN:
+        yield text.splitlines()
     for seed in range(count):
         words = ["--events", "60", "--width", str(rng.choice([4, 8, 16])), "--clients", "C:2,C:2,C:1,UH:2"]
         schedule = subprocess.run([tool, "random", "--seed", str(seed), *words], stdout=subprocess.PIPE).stdout

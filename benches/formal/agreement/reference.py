@@ -1,5 +1,5 @@
 """A judge of one link under liberties, apart from everything else of this repository: it keeps all messages and looks
-back over them. `tltool monitor` knows the two profiles alone; what it says is compared with this where both speak.
+back over them. What `tltool monitor` says is compared with this.
 
 A beat is a Beat; a link is a History with a level, a width and a set of liberties."""
 

@@ -13,8 +13,8 @@ WRONG = [
     ("H13 forgets the Acquire", "H13", (), BLOCK, "H13 = acquire || release_\n", "H13 = release_\n"),
     ("H3 comes before H2", "H2", (), SOURCE, "d_h3 = !d_h2 && H3(d.size, size_n);", "d_h3 = H3(d.size, size_n); d_h2 = d_h2 && !d_h3;"),
     ("a Release leaves nothing held", "H13", (), BLOCK, "{2'b11, c.source, right_end(c.param)}", "{2'b11, c.source, NONE}"),
-    ("what a ProbeAck leaves is held from its first beat on", "H5", (), BLOCK, "if (answers && c.last) {probe_n, held_n}",
-     "if (answers && c.first) held_n = right_end(c.param);\n    if (answers && c.last) {probe_n, held_n}"),
+    ("what a ProbeAck leaves is held from its first beat on", "H5", (), BLOCK, "if (answers && c.last) begin",
+     "if (answers && c.first) held_n = right_end(c.param);\n    if (answers && c.last) begin"),
     ("any GrantAck acknowledges the Grant of a block", "H9", (), BLOCK, "grant_ack_n && e.sink == grant_sink_n", "grant_ack_n"),
     ("any ReleaseAck ends the Release of a block", "H4", (), BLOCK, "release_n && d.source == release_source_n", "release_n"),
     ("a request may be answered before it is complete", "H2", (), SOURCE, "!(complete || |(LIBERTIES & LIBERTY_EARLY))", "1'b0"),
@@ -28,8 +28,8 @@ WRONG = [
      "D_GrantData: may_answer = acquires(request);"),
     ("a Release may be answered before it is complete", "H2", (), SOURCE, "H2(giving_n, given_n, 1'b1)", "H2(giving_n, 1'b1, 1'b1)"),
     ("an address is aligned to a beat alone", "L4", (), LEGALITY, "(33'd1 << size) - 33'd1", "(33'd1 << (size > BEAT_SIZE ? BEAT_SIZE : size)) - 33'd1"),
-    ("a Probe is answered when its answer begins", "H9", (), BLOCK, "if (answers && c.last) {probe_n, held_n}",
-     "if (answers && c.first) probe_n = 1'b0;\n    if (answers && c.last) {probe_n, held_n}"),
+    ("a Probe is answered when its answer begins", "H9", (), BLOCK, "if (answers && c.last) begin",
+     "if (answers && c.first) probe_n = 1'b0;\n    if (answers && c.last) begin"),
     ("a ProbeAck may have another source than its Probe", "H10", ("ids",), BLOCK, "answer_source != probe_source", "1'b0"),
     ("a Grant that was acknowledged is held from its last beat on", "H12", ("early",), BLOCK,
      "e.sink == grant_sink_n) begin\n      if (granting_n)", "e.sink == grant_sink_n) begin\n      if (1'b0)"),
@@ -46,6 +46,33 @@ WRONG_BETWEEN = [
     ("an access is excluded by writers alone", BETWEEN, "reads ? held == TRUNK : held != NONE", "held == TRUNK"),
     ("M4 looks at the moment of the answer alone", BETWEEN, "    m4_broken = access_n",
      "    window_n = is_free(held_after_c, reads_n);\n    m4_broken = access_n"),
+    ("no report shows bytes", BETWEEN, "(reads_n && |shows_here)", "1'b0"),
+    ("a report shows bytes to who writes", BETWEEN, "(reads_n && |shows_here)", "|shows_here"),
+    ("the answer to a ProbePerm shows bytes", BLOCK, "(c.opcode == C_ProbeAckData || probe_opcode_n == B_ProbeBlock)", "1'b1"),
+    ("a report that leaves Branch alone shows bytes", BLOCK, "shows_here = right_end(c.param) == TRUNK && (", "shows_here = right_end(c.param) == BRANCH && ("),
+]
+
+
+def beside_trunk(access, report):
+    """A trace of an access beside a link that holds Trunk."""
+    opened = ["tltrace 2 8 C UL", "00 A 7 1 6 00 00000000 ff - 0", "00 D 4 0 6 00 00 0 - 0", "00 E 00"]
+    return "\n".join([*opened, access[0], *report, access[1], ""])
+
+
+GET = "01 A 4 0 3 00 00000000 ff - 0", "01 D 1 0 3 00 00 0 0000000000000000 0"
+PUT = "01 A 0 0 3 00 00000000 ff 0000000000000000 0", "01 D 0 0 3 00 00 0 - 0"
+PROBE_BLOCK = "00 B 6 0 6 00 00000000 ff - 0"
+PROBE_PERM = "00 B 7 0 6 00 00000000 ff - 0"
+PROBE_ACK = "00 C 4 3 6 00 00000000 - 0"
+PROBE_ACK_DATA = ["00 C 5 3 6 00 00000000 0000000000000000 0"] * 8
+
+# Traces in which a report keeps Trunk: name and text.
+DIRECTED_BETWEEN = [
+    ("a Get behind the ProbeAck of a ProbeBlock", beside_trunk(GET, [PROBE_BLOCK, PROBE_ACK])),
+    ("a Get behind a ProbeAckData", beside_trunk(GET, [PROBE_BLOCK, *PROBE_ACK_DATA])),
+    ("a Get before the last beat of a ProbeAckData", beside_trunk(GET, [PROBE_BLOCK, *PROBE_ACK_DATA[:7]])),
+    ("a Get behind the ProbeAck of a ProbePerm", beside_trunk(GET, [PROBE_PERM, PROBE_ACK])),
+    ("a Put behind the ProbeAck of a ProbeBlock", beside_trunk(PUT, [PROBE_BLOCK, PROBE_ACK])),
 ]
 
 STEPS = "tl_memory_steps.sv"
@@ -60,11 +87,22 @@ WRONG_MEMORY = [
     ("a read looks at the last moment alone", STEPS, "wire read = it.read || it.may", "wire read = it.may"),
     ("a write leaves what was before", STEPS, "wire stays = !(was.free && once) || |(slot & was.since);", "wire stays = 1'b1;"),
     ("a write leaves nothing of what was said since its window began", STEPS, "|| |(slot & was.since);", "|| 1'b0;"),
+    ("a denied Put may leave anything", STEPS, "wire wrote = |", "wire wrote = it.denied || |"),
+    ("a denied Put was performed", STEPS, "(slot & was.window & ~was.again) && !it.denied;", "(slot & was.window & ~was.again);"),
+    ("a denied Put wasn't performed", STEPS, "it.last && (was.free || !was.told);", "it.last && (was.free || !was.told) && !it.denied;"),
     ("a read of the block brings bytes that it didn't ask for", STEPS, "assign reads = reaches;", "assign reads = here;"),
 ]
 
 # Traces in which a byte tells the modules apart: name and text.
 DIRECTED_MEMORY = [
+    *((f"a Put of 7 over 5 is denied, and a Get brings {value}", f"""tltrace 2 8 UL UL UL
+00 A 0 0 0 00 00000000 01 0000000000000005 0
+00 D 0 0 0 00 00 0 - 0
+00 A 0 0 0 00 00000000 01 0000000000000007 0
+00 D 0 0 0 00 00 1 - 0
+01 A 4 0 0 00 00000000 01 - 0
+01 D 1 0 0 00 00 0 000000000000000{value} 0
+""") for value in (5, 6, 7)),
     ("a Get brings what a Put writes that is pending", """tltrace 2 8 UL UL UL
 00 A 0 0 0 00 00000000 01 0000000000000005 0
 00 D 0 0 0 00 00 0 - 0

@@ -6,8 +6,6 @@ pub mod PartialMessages
 pub mod RankAfter
 pub mod RankByKind
 pub mod RankOfLog
-pub mod RankOfReports
-pub mod RankOfRequests
 pub mod ReportDecreases
 pub mod RequestDecreases
 pub mod ResponseDecreases

@@ -21,17 +21,18 @@ use Rattle.tl_client.specs.statement.Offer.{judged, judged_later, broken_before,
 use Rattle.tl_manager.specs.statement.Handing.{probe_of_block}
 use Rattle.tl_manager.specs.code.Kept as manager
 use Rattle.tl_coherence.specs.{refinement.Carried.IsCarried, refinement.ClientRelation.comes_granting}
-use Rattle.tl_coherence.specs.{protocol.Tokens.shown, protocol.Tokens.is_sent}
+use Rattle.tl_coherence.specs.{protocol.Tokens.is_sent}
 use Rattle.tl_coherence.specs.refinement.PacketMessages.{message_of, message_of_kind}
 use Rattle.tl_coherence.proofs.{queues.Carried.IsNext, client.ClientAsked.IsEndOf, client.ClientDelivered.shadow_of}
 use Rattle.tl_coherence.proofs.{client.ClientProbed.end-probe_taken, queues.Facts.granting_alone}
-use Rattle.tl_coherence.proofs.{client.KnownProbed.probe-taken, queues.Phases.and_left, queues.Tokens.holds-first}
+use Rattle.tl_coherence.proofs.{client.KnownProbed.probe-taken, queues.Phases.and_left}
 use Rattle.tl_coherence.proofs.{protocol.BothParts.not-sent, queues.Codes.access_kind}
 use Rattle.tl_coherence.proofs.client.ClientEnd.{IsWellKept, IsEnd, end-matched, asks-acquire}
 use Rattle.tl_coherence.proofs.client.ClientTakes.{AreTermsOf, terms-are, sound-beat}
 use Rattle.tl_coherence.proofs.protocol.HeadOfD.{answer-due, grant-due, grant_message, grant-rendered, ack_message}
 use Rattle.tl_coherence.proofs.protocol.HeadOfD.{own_view}
 use Rattle.tl_coherence.proofs.queues.FirstToken.{IsFirst, first-token, own_kind}
+use Rattle.tl_coherence.proofs.protocol.FirstTokens.{first-shown}
 
 -- ---- no Grant of a block that is probed has begun to come
 
@@ -191,8 +192,7 @@ pub probe-delivered : {w : ℕ} {config : Config} {log : Log w} {mail : AccessMe
     → IsProbed config terms tracker c n (shadow_of mail request s) x (sys.clients c)
 probe-delivered {w} {config} {log} {mail} {request} {s} {sys} terms tracker c n rest {ms} {x} {queue} width h at beats
     first next =
-    let sent : is_sent ((s.block n).pair c).probing ≡ true = holds-first Probe (s.link c).b rest (packet Probe n)
-    (λ i. shown Probe c (s.block i)) first refl (h.invariant.transfers c Probe refl) in
+    let sent : is_sent ((s.block n).pair c).probing ≡ true = first-shown h.invariant c Probe refl first in
     let before : x ≡ Beat.B (probe_beat n k) → broken_before terms Channel.B x e ≡ None =
     λ f. cc (f, passes_before terms Channel.B (Beat.B (probe_beat n k)) e (h.live c) refl lawful) in
     let pends : is_unreleased ((s.block n).pair c).letting ≡ false → waits (Beat.B (probe_beat n k)) e.past ≡ true =

@@ -2,7 +2,7 @@
 use Rattle.tl_coherence.proofs.deliveries.Imports.{IsWidth, Beat, Link, Channel, beat_of, unfinished, completes, Config}
 use Rattle.tl_coherence.proofs.deliveries.Imports.{on_link, reaction, Deliver, is_moving, AbstractState, kind_taken}
 use Rattle.tl_coherence.proofs.deliveries.Imports.{Log, system_after, ChannelRelation, MemoryRelation, GrantTaken}
-use Rattle.tl_coherence.proofs.deliveries.Imports.{packet, is_on, shown, one_memory_after, performing}
+use Rattle.tl_coherence.proofs.deliveries.Imports.{packet, is_on, one_memory_after, performing}
 use Rattle.tl_coherence.proofs.deliveries.Imports.{accesses_answered, block_message, stepped, System, terms_at}
 use Rattle.tl_coherence.proofs.deliveries.Imports.{with_channel, with_messages, Kind, GrantAck, SimulationRelation}
 use Rattle.std.proofs.Common.{◌≡◌, ℕ, Bool, true, false, List, [], ◌∷◌, Some, None, refl, sym, ◌∙◌, ap, subst}
@@ -12,11 +12,11 @@ use Rattle.tl_manager.proofs.calls.Events.{reaction-ack}
 use Rattle.tl_coherence.specs.protocol.Protocol.{freed_block, grant_ack_taken}
 use Rattle.tl_coherence.proofs.{memory.BesideKinds.beside_block, queues.Shown.carried-shown}
 use Rattle.tl_coherence.proofs.{simulation.CarriedResponses.grant_ack_taken-shown}
-use Rattle.tl_coherence.proofs.{deliveries.DeliverDUnmoved.IsDelivered, queues.Tokens.holds-first}
-use Rattle.tl_coherence.proofs.{protocol.BothParts.acknowledging-is}
+use Rattle.tl_coherence.proofs.{deliveries.DeliverDUnmoved.IsDelivered}
 use Rattle.tl_coherence.proofs.deliveries.ManagersAfter.{IsAtManager, at-manager, after_taken, delivered-last}
 use Rattle.tl_coherence.proofs.deliveries.ManagersAfter.{delivered-part}
 use Rattle.tl_coherence.proofs.manager.UnwaitedRequests.{next_tracker, invariant-taken}
+use Rattle.tl_coherence.proofs.protocol.FirstTokens.{first-grant_ack}
 
 ack_kind : (k : Kind) → is_on Channel.E k ≡ true → k ≡ GrantAck
 ack_kind GrantAck e = refl
@@ -58,9 +58,7 @@ delivered-e {w} {config} {log} link h terms x queue width matched known beats mo
         (reaction-ack config link y sys.manager)
 
     sent : (h.state.block n).service ≡ GrantTaken link.0
-    sent = acknowledging-is (h.state.block n).service link.0 (holds-first GrantAck (h.state.link link.0).e is.first.rest
-        (packet GrantAck n) (λ i. shown GrantAck link.0 (h.state.block i)) tokens refl
-        (matched.invariant.transfers link.0 GrantAck refl))
+    sent = first-grant_ack matched.invariant tokens
 
     go : (b : Bool) → completes x (unfinished Channel.E (on_link link.0 sys.manager.trace)) ≡ b
         → IsDelivered config log link Channel.E h

@@ -6,7 +6,7 @@ use Rattle.tl_coherence.proofs.deliveries.Imports.{IsWidth, Beat, Channel, Messa
 use Rattle.tl_coherence.proofs.deliveries.Imports.{AbstractState, ack_taken, answers, abstract_step, last_taken}
 use Rattle.tl_coherence.proofs.deliveries.Imports.{some_below, packet_taken, with_state, IsWell, IsInvariant}
 use Rattle.tl_coherence.proofs.deliveries.Imports.{ProbeAnswered, AcquirePhase, NoAcquire, AcquireOpen, is_granted_data}
-use Rattle.tl_coherence.proofs.deliveries.Imports.{Service, Waits, Block, shown, view, Free, GrantSent, GrantTaken}
+use Rattle.tl_coherence.proofs.deliveries.Imports.{Service, Waits, Block, view, Free, GrantSent, GrantTaken}
 use Rattle.tl_coherence.proofs.deliveries.Imports.{let_block, release_taken, report_taken, packet, prune_told}
 use Rattle.tl_coherence.proofs.deliveries.Imports.{block_message, report_told, ProbeAck, Release, Grant, ReleaseAck}
 use Rattle.tl_coherence.proofs.deliveries.Imports.{Packet}
@@ -28,10 +28,11 @@ use Rattle.std.specs.Prelude.{◌==◌, if◌then◌else◌}
 use Rattle.tl_coherence.specs.refinement.AbstractStep.{performs, granted_after}
 use Rattle.tl_coherence.specs.{protocol.Protocol.ended_block, protocol.Protocol.granted_block, protocol.Packet.set}
 use Rattle.tl_coherence.proofs.queues.Facts.{answered_other, is_other, own_wants}
-use Rattle.tl_coherence.proofs.queues.Tokens.{same_number, set-same, holds-first, set_at-same}
-use Rattle.tl_coherence.proofs.protocol.BothParts.{answered-is, taken-unseen, granted-unseen}
+use Rattle.tl_coherence.proofs.queues.Tokens.{same_number, set-same, set_at-same}
+use Rattle.tl_coherence.proofs.protocol.BothParts.{taken-unseen, granted-unseen}
 use Rattle.tl_coherence.proofs.deliveries.LandedReports.{ended-bytes, on_c, IsReceived, CarriesAfter, part-carried}
 use Rattle.tl_coherence.proofs.deliveries.LandedReports.{last-quietly, last-handing, answer_on_d, grant_on_d, ack_on_d}
+use Rattle.tl_coherence.proofs.protocol.FirstTokens.{first-report}
 
 -- ---- a ProbeAck
 
@@ -59,8 +60,7 @@ reports-last {w} {config} {log} {h} {sys} {c} n rest {x} {queue} at tokens whole
     after = (stepped config (Deliver (record { 0 = c }) Channel.C) sys).after
 
     answered : (b.pair c).probing ≡ ProbeAnswered r
-    answered = answered-is (b.pair c).probing (holds-first ProbeAck (h.state.link c).c rest (packet ProbeAck n)
-        (λ i. shown ProbeAck c (h.state.block i)) tokens refl (inv.transfers c ProbeAck refl))
+    answered = first-report inv tokens
 
     seen : is_other (view b.service c) ≡ true
     seen = answered_other r (b.pair c) (view b.service c) ((inv.blocks n).phases c) answered

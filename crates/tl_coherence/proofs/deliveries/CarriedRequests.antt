@@ -25,7 +25,7 @@ use Rattle.tl_coherence.specs.refinement.AbstractStep.{gift, is_unheld, acquire_
 use Rattle.tl_coherence.specs.protocol.Protocol.{is_probed, granted_at_once, acquire_served, acquire_granted}
 use Rattle.tl_coherence.proofs.{manager.Admitted.offered-taken, manager.AtRequests.end_after}
 use Rattle.tl_coherence.proofs.{manager.AtRequests.reaction-probing, queues.Shown.carried-shown}
-use Rattle.tl_coherence.proofs.{protocol.FollowKept.IsReady, protocol.RequestsKept.some-none}
+use Rattle.tl_coherence.proofs.{protocol.Events.IsReady, protocol.RequestsKept.some-none}
 use Rattle.tl_coherence.proofs.{protocol.RequestsKept.leaves-bytes, queues.Showing.carries, queues.Showing.none-carried}
 use Rattle.tl_coherence.proofs.{protocol.Heads.IsAsked, protocol.Heads.IsWanted, manager.ManagedServed.same_above}
 use Rattle.tl_coherence.proofs.{manager.Requests.recorded-beat, queues.Tokens.set-same, simulation.Moved.manager-heard}

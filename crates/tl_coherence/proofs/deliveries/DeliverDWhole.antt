@@ -2,7 +2,7 @@
 use Rattle.tl_coherence.proofs.deliveries.Imports.{IsWidth, Beat, Link, Channel, Message, beat_of, unfinished}
 use Rattle.tl_coherence.proofs.deliveries.Imports.{completes, Config, Deliver, MemoryRelation, is_moving, AbstractState}
 use Rattle.tl_coherence.proofs.deliveries.Imports.{abstract_step, packet_taken, kind_taken, Log, system_after, Machine}
-use Rattle.tl_coherence.proofs.deliveries.Imports.{moved, ChannelRelation, Block, packet, is_on, shown}
+use Rattle.tl_coherence.proofs.deliveries.Imports.{moved, ChannelRelation, Block, packet, is_on}
 use Rattle.tl_coherence.proofs.deliveries.Imports.{one_memory_after, performing, accesses_answered, block_message}
 use Rattle.tl_coherence.proofs.deliveries.Imports.{message_of, message_of_kind, Step, stepped, handing, handed_by}
 use Rattle.tl_coherence.proofs.deliveries.Imports.{System, terms_at, with_client, with_channel, Kind, Answer, Grant}
@@ -16,7 +16,7 @@ use Rattle.tl_client.specs.statement.Endpoint as client
 use Rattle.tl_client.specs.statement.Offer as offer
 use Rattle.tl_coherence.specs.declared.event.Outcome.{Outcome}
 use Rattle.tl_coherence.proofs.{queues.Carried.IsNext, queues.FirstToken.IsFirst, queues.FirstToken.first-token}
-use Rattle.tl_coherence.proofs.{manager.UnwaitedRequests.next_tracker, queues.Tokens.holds-first}
+use Rattle.tl_coherence.proofs.{manager.UnwaitedRequests.next_tracker}
 use Rattle.tl_coherence.proofs.{protocol.BothParts.acked-open}
 use Rattle.tl_coherence.proofs.protocol.HeadOfD.{grant_message, ack_message, answer-due, grant-due, grant-rendered}
 use Rattle.tl_coherence.proofs.client.DeliverD.{finish_at, acked, answer-last, answer-part, same_answers}
@@ -25,6 +25,7 @@ use Rattle.tl_coherence.proofs.deliveries.DeliverDAfter.{responded-answer, respo
 use Rattle.tl_coherence.proofs.queues.Landed.{pushes_of, IsOn, HasHeard, landed-client}
 use Rattle.tl_coherence.proofs.simulation.Moved.{IsTakenByClient, client-moves, client-heard, carried-part}
 use Rattle.tl_coherence.proofs.deliveries.DeliverDUnmoved.{bare, IsDelivered, delivered_as}
+use Rattle.tl_coherence.proofs.protocol.FirstTokens.{first-shown}
 
 -- ---- on channel D
 
@@ -202,8 +203,7 @@ delivered-d {w} {config} {log} link h terms x queue width is known beats moving 
         (h.state.block n).truth) tokens (grant-rendered c n h.state due) next
         (λ last. responded-grant h first.rest due width is tokens (bare h due is.invariant) last)
     kinds ReleaseAck n tokens own next =
-        let acked_there = holds-first ReleaseAck (h.state.link c).d first.rest (packet ReleaseAck n)
-        (λ i. shown ReleaseAck c (h.state.block i)) tokens refl (is.invariant.transfers c ReleaseAck refl) in
+        let acked_there = first-shown is.invariant c ReleaseAck refl tokens in
         by_message ReleaseAck n (ack_message ((h.state.block n).release_source c)) tokens
         (rendered_release_ack c n (h.state.block n)) next
         (λ last. responded-release_ack h n first.rest width is tokens

@@ -20,7 +20,7 @@ use Rattle.tl_coherence.proofs.manager.Admitted.{first_counts}
 use Rattle.tl_coherence.proofs.memory.BesideRequests.{IsOnce, acquire-accesses, beside-request_taken}
 use Rattle.tl_coherence.proofs.memory.BesideRequests.{beside-acquire_taken, request-once}
 use Rattle.tl_coherence.proofs.{manager.Arrivals.link_of, manager.Arrivals.IsComing, manager.AtRequests.end_after}
-use Rattle.tl_coherence.proofs.{queues.Carried.IsNext, protocol.FollowKept.IsReady, manager.Requests.IsUnwaited}
+use Rattle.tl_coherence.proofs.{queues.Carried.IsNext, protocol.Events.IsReady, manager.Requests.IsUnwaited}
 use Rattle.tl_coherence.proofs.{manager.UnwaitedRequests.next_tracker, manager.ManagerAfter.IsManagerOf}
 use Rattle.tl_coherence.proofs.deliveries.CarriedRequests.{system_after, carried-request_taken, carried-acquire_taken}
 use Rattle.tl_coherence.proofs.protocol.Heads.{IsAsked, asked-first, IsWanted, wanted-first, acquisition-blank}

@@ -10,7 +10,7 @@ use Rattle.std.proofs.Common.{ap, arith}
 use Rattle.std.proofs.lemmas.Bool.{eqb-true}
 use Rattle.tl_manager.specs.statement.End as manager_end
 use Rattle.tl_manager.specs.statement.Offer as manager
-use Rattle.tl_coherence.proofs.{client.ClientDelivered.shadow_of, protocol.FollowKept.IsReady}
+use Rattle.tl_coherence.proofs.{client.ClientDelivered.shadow_of, protocol.Events.IsReady}
 use Rattle.tl_coherence.proofs.{queues.Steps.stepped-to-manager}
 use Rattle.tl_coherence.proofs.simulation.FollowCases.{IsDelivery, taken_of, followed-cases, on-first}
 use Rattle.tl_coherence.proofs.simulation.InvariantAtClients.{invariant-asked, ready-client, nobody_moves}

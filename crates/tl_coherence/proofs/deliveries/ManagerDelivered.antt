@@ -4,11 +4,11 @@ use Rattle.tl_coherence.proofs.deliveries.Imports.{reaction-part, Reaction, Hand
 use Rattle.tl_coherence.proofs.deliveries.Imports.{beats_of, unfinished, completes, Config, Prune, Report, prune_left}
 use Rattle.tl_coherence.proofs.deliveries.Imports.{on_link, same_perm, IsFor, reaction, End, AbstractState, ack_taken}
 use Rattle.tl_coherence.proofs.deliveries.Imports.{packet_taken, with_state, Log, ProbeAnswered, GrantTaken, Block}
-use Rattle.tl_coherence.proofs.deliveries.Imports.{release_taken, shown, packet, let_block, prune_told, block_message}
+use Rattle.tl_coherence.proofs.deliveries.Imports.{release_taken, packet, let_block, prune_told, block_message}
 use Rattle.tl_coherence.proofs.deliveries.Imports.{report_told, System, Kind, ProbeAck, Release, GrantAck, Packet}
 use Rattle.tl_coherence.proofs.deliveries.Imports.{ReleaseAck, SimulationRelation, is_caching, Perm}
 use Rattle.tl_coherence.proofs.{queues.FirstToken.first-token, manager.ManagersEnd.at_manager-matched}
-use Rattle.tl_coherence.proofs.{queues.Carried.IsNext, manager.ManagedAcks.IsAcked, queues.Tokens.holds-first}
+use Rattle.tl_coherence.proofs.{queues.Carried.IsNext, manager.ManagedAcks.IsAcked}
 use Rattle.tl_coherence.proofs.{queues.Tokens.set-same, manager.Admitted.head_all}
 use Rattle.tl_manager.{proofs.calls.Events.reaction-ack, specs.statement.Handing.release_ack}
 use Rattle.tl_manager.{proofs.pending.LinkHistories.whole-e}
@@ -26,8 +26,8 @@ use Rattle.tl_coherence.proofs.manager.ManagerAfter.{acked-left, reaction-releas
 use Rattle.tl_coherence.proofs.manager.ManagerTakes.{IsTakenUp, ack-order, by-first_c, by-first_e, release-order}
 use Rattle.tl_coherence.proofs.manager.ManagerTakes.{report-order, takes}
 use Rattle.tl_coherence.proofs.manager.Reporting.{report-about, release-about}
-use Rattle.tl_coherence.proofs.protocol.BothParts.{answered-is, releasing-is, acknowledging-is}
 use Rattle.tl_coherence.proofs.deliveries.LastReportDelivered.{pushed, Does, reported-last}
+use Rattle.tl_coherence.proofs.protocol.FirstTokens.{first-grant_ack, first-release, first-report}
 
 -- ---- any beat of a message of channel C
 
@@ -105,8 +105,7 @@ reports-delivered {w} {config} {log} h {sys} c n rest {x} {queue} {ms} width is 
     let about = report-about r n (h.state.block n).truth width (is.sized n).truth in
     let m : MessageC w = about.0 in
     let answered : ((h.state.block n).pair c).probing ≡ ProbeAnswered r =
-    answered-is ((h.state.block n).pair c).probing (holds-first ProbeAck (h.state.link c).c rest (packet ProbeAck n)
-    (λ i. shown ProbeAck c (h.state.block i)) tokens refl (is.invariant.transfers c ProbeAck refl)) in
+    first-report is.invariant tokens in
     delivered-c config h _ ProbeAck c n m sys.manager width
     (at_manager-matched is)
     (head_all (λ y. manager.IsSound config (record { 0 = c }, y)) x queue (sys.channels c Channel.C) beats
@@ -134,8 +133,7 @@ releases-delivered {w} {config} {log} h {sys} c n rest {x} {queue} {ms} width is
     in
     let m : MessageC w = about.0 in
     let releasing : ((h.state.block n).pair c).letting ≡ ReleaseSent r =
-    releasing-is ((h.state.block n).pair c).letting (holds-first Release (h.state.link c).c rest (packet Release n)
-    (λ i. shown Release c (h.state.block i)) tokens refl (is.invariant.transfers c Release refl)) in
+    first-release is.invariant tokens in
     delivered-c config h _ Release c n m sys.manager width
     (at_manager-matched is)
     (head_all (λ y. manager.IsSound config (record { 0 = c }, y)) x queue (sys.channels c Channel.C) beats
@@ -184,9 +182,7 @@ acks-delivered {w} {config} {log} h {sys} c n rest {x} {queue} width is beats to
     y = record { sink = (h.state.block n).tracker }
 
     taken_is : (h.state.block n).service ≡ GrantTaken c
-    taken_is = acknowledging-is (h.state.block n).service c
-        (holds-first GrantAck (h.state.link c).e rest (packet GrantAck n) (λ i. shown GrantAck c (h.state.block i))
-        tokens refl (is.invariant.transfers c GrantAck refl))
+    taken_is = first-grant_ack is.invariant tokens
 
     order : (pending (GrantSink y.sink) (on_link c e.trace) ≡ true)
         × (broken_in_order {w = w} config.profile (Beat.E y) (on_link c e.trace) ≡ None)

@@ -3,7 +3,7 @@ use Rattle.tl_coherence.proofs.deliveries.Imports.{IsWidth, Beat, Link, Message,
 use Rattle.tl_coherence.proofs.deliveries.Imports.{report_left, block_at, same_perm, same_block, Deliver}
 use Rattle.tl_coherence.proofs.deliveries.Imports.{MemoryRelation, is_moving, AbstractState, abstract_step, kind_taken}
 use Rattle.tl_coherence.proofs.deliveries.Imports.{Log, system_after, Machine, moved, ChannelRelation, ClientBlock}
-use Rattle.tl_coherence.proofs.deliveries.Imports.{Block, packet, is_on, shown, one_memory_after, performing}
+use Rattle.tl_coherence.proofs.deliveries.Imports.{Block, packet, is_on, one_memory_after, performing}
 use Rattle.tl_coherence.proofs.deliveries.Imports.{accesses_answered, block_message, message_of, message_of_kind, Step}
 use Rattle.tl_coherence.proofs.deliveries.Imports.{stepped, handing, handed_by, System, terms_at, with_client}
 use Rattle.tl_coherence.proofs.deliveries.Imports.{with_channel, Kind, Probe, ProbeAck, SimulationRelation, is_caching}
@@ -28,12 +28,13 @@ use Rattle.tl_coherence.proofs.{queues.Channels.pushes_at, queues.FirstToken.IsF
 use Rattle.tl_coherence.proofs.{client.DeliverD.same_answers, deliveries.DeliverDAfter.followed-moving}
 use Rattle.tl_coherence.proofs.{deliveries.DeliverDWhole.remembered_after, client.ProbeDelivered.IsProbed}
 use Rattle.tl_coherence.proofs.{client.ProbeDelivered.probe-delivered, queues.Tokens.set-same}
-use Rattle.tl_coherence.proofs.{queues.Tokens.holds-first, protocol.BothParts.kept-is, protocol.BothParts.sent-is}
+use Rattle.tl_coherence.proofs.{protocol.BothParts.kept-is}
 use Rattle.tl_coherence.proofs.{client.KnownProbed.report_is, deliveries.ManagersAfter.ack_channel}
 use Rattle.tl_coherence.proofs.deliveries.DeliverDUnmoved.{IsDelivered, delivered_as}
 use Rattle.tl_coherence.proofs.queues.Landed.{pushes_of, IsOn, landed-client, taken-landed}
 use Rattle.tl_coherence.proofs.simulation.Moved.{IsTakenByClient, client-moves, client-heard}
 use Rattle.tl_coherence.proofs.manager.UnwaitedRequests.{next_tracker, invariant-taken}
+use Rattle.tl_coherence.proofs.protocol.FirstTokens.{first-probe}
 
 -- ---- the answer to a Probe
 
@@ -166,8 +167,7 @@ delivered-b {w} {config} {log} link h terms x queue width is known beats moving 
         step_is = cc (t.step_is, same_parts.0, message_is)
 
         sent : b_pair.probing ≡ ProbeSent k
-        sent = sent-is b_pair.probing (holds-first Probe (h.state.link c).b first.rest (packet Probe n)
-            (λ i. shown Probe c (h.state.block i)) tokens refl (is.invariant.transfers c Probe refl))
+        sent = first-probe is.invariant tokens
 
         taken : IsTaken c Channel.B x queue (pushes_at c (pushes_of (Some ack))) sys now.after
         taken = taken-landed (landed-client c Channel.B x queue (Some ack) (offer.taken x e).after sys refl beats

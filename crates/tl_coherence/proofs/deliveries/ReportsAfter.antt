@@ -4,7 +4,7 @@ use Rattle.tl_coherence.proofs.deliveries.Imports.{Report, on_link, Handed, reac
 use Rattle.tl_coherence.proofs.deliveries.Imports.{ack_taken, answers, kind_taken, last_taken, some_below, packet_taken}
 use Rattle.tl_coherence.proofs.deliveries.Imports.{with_state, Log, system_after, Machine, Requests, Service, Free}
 use Rattle.tl_coherence.proofs.deliveries.Imports.{Waits, GrantSent, GrantTaken, Block, SourceState, packet, let_block}
-use Rattle.tl_coherence.proofs.deliveries.Imports.{release_taken, report_taken, shown, performing, accesses_answered}
+use Rattle.tl_coherence.proofs.deliveries.Imports.{release_taken, report_taken, performing, accesses_answered}
 use Rattle.tl_coherence.proofs.deliveries.Imports.{prune_told, block_message, report_told, IsFor, System, ProbeAck}
 use Rattle.tl_coherence.proofs.deliveries.Imports.{Release, ReleaseAck, Grant, Packet, SimulationRelation, IsRequest}
 use Rattle.tl_coherence.proofs.deliveries.Imports.{is_caching, Channel}
@@ -23,11 +23,12 @@ use Rattle.tl_coherence.proofs.{queues.FirstToken.first-token, protocol.Requests
 use Rattle.tl_coherence.proofs.{deliveries.DeliverDWhole.remembered_after, deliveries.DeliverDUnmoved.IsDelivered}
 use Rattle.tl_coherence.proofs.{manager.ManagerAfter.others_probed, manager.ManagerTakes.by-first_c}
 use Rattle.tl_coherence.proofs.{manager.UnwaitedRequests.next_tracker, simulation.SourcedAfter.served-request}
-use Rattle.tl_coherence.proofs.{queues.Tokens.holds-first, queues.Tokens.set_at-same, protocol.BothParts.answered-is}
+use Rattle.tl_coherence.proofs.{queues.Tokens.set_at-same}
 use Rattle.tl_coherence.proofs.{rank.RankParts.serving-use}
 use Rattle.tl_coherence.proofs.deliveries.ManagerDelivered.{channel_c-delivered, releases-delivered, reports-delivered}
 use Rattle.tl_coherence.proofs.deliveries.LastReportDelivered.{pushed, pushed_last}
 use Rattle.tl_coherence.proofs.deliveries.ManagerFollowed.{client-of, followed-taken, step-taken}
+use Rattle.tl_coherence.proofs.protocol.FirstTokens.{first-report}
 
 -- ---- which accesses are answered by what is handed out
 
@@ -151,8 +152,7 @@ beside-followed_c {w} {config} {log} h {sys} c x queue {m} width is beats beside
     reported n rest tokens =
         let b : Block (List ℕ) = h.state.block n in
         let r : Report = report_told (b.pair c).probing in
-        let answered = answered-is (b.pair c).probing (holds-first ProbeAck (h.state.link c).c rest (packet ProbeAck n)
-        (λ i. shown ProbeAck c (h.state.block i)) tokens refl (is.invariant.transfers c ProbeAck refl)) in
+        let answered = first-report is.invariant tokens in
         subst (λ (l : List (ℕ × ℕ)). MemoryRelation (kind_taken config (next_tracker sys) c ProbeAck n rest h).mail
         (kind_taken config (next_tracker sys) c ProbeAck n rest h).state (performing l m))
         (sym (report-answered config c n r rest h (is.served.requests n)))

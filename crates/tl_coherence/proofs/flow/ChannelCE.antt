@@ -4,7 +4,7 @@ use Rattle.tl_coherence.proofs.flow.Imports.{completes, Config, Prune, Report, p
 use Rattle.tl_coherence.proofs.flow.Imports.{report_left, comes_in_release, same_perm, is_release, reported}
 use Rattle.tl_coherence.proofs.flow.Imports.{MonitorRelation, AbstractState, is_busy, Log, ClientBlock, View, Idle}
 use Rattle.tl_coherence.proofs.flow.Imports.{Granting, Acknowledging, ReleaseSent, is_unprobed, is_unreleased, ok}
-use Rattle.tl_coherence.proofs.flow.Imports.{Service, Free, Block, State, packet, shown, view, is_granting}
+use Rattle.tl_coherence.proofs.flow.Imports.{Service, Free, Block, State, packet, view, is_granting}
 use Rattle.tl_coherence.proofs.flow.Imports.{is_acknowledging, let_block, release_taken, report_taken, grant_ack_taken}
 use Rattle.tl_coherence.proofs.flow.Imports.{block_message, prune_told, report_told, System, ProbeAck, Release}
 use Rattle.tl_coherence.proofs.flow.Imports.{GrantAck, Packet, SimulationRelation, asked_by, Perm}
@@ -21,11 +21,11 @@ use Rattle.tl_coherence.proofs.{flow.FlowComing.coming-granting, flow.FlowLawful
 use Rattle.tl_coherence.proofs.{flow.FlowReleased.letting_after, flow.FlowReleased.flowed-release}
 use Rattle.tl_coherence.proofs.{flow.FlowReport.flowed-report_part, flow.FlowReported.flowed-report}
 use Rattle.tl_coherence.proofs.{flow.FlowStep.held_by, queues.Phases.and_left, queues.Phases.and_right}
-use Rattle.tl_coherence.proofs.{protocol.BothParts.answered-is, protocol.BothParts.releasing-is}
 use Rattle.tl_coherence.proofs.{simulation.Popped.unfinished_at}
 use Rattle.tl_coherence.proofs.flow.FlowBeats.{came-so, comes-so, one-beat, first_false}
 use Rattle.tl_coherence.proofs.manager.Reporting.{IsAbout, report-about, release-about, reported-prune}
-use Rattle.tl_coherence.proofs.queues.Tokens.{set-same, set-other, holds-first}
+use Rattle.tl_coherence.proofs.queues.Tokens.{set-same, set-other}
+use Rattle.tl_coherence.proofs.protocol.FirstTokens.{first-release, first-report, first-shown}
 
 -- ---- what the messages say
 
@@ -152,8 +152,7 @@ module _ {w : ℕ} {config : Config} {log : Log w} (h : AbstractState w) {sys : 
       alone : is_granting (view (s.block n).service c) ≡ false
       alone = other_ungranted (view (s.block n).service c)
           (answered_other r ((s.block n).pair c) (view (s.block n).service c) well
-          (answered-is ((s.block n).pair c).probing (holds-first ProbeAck (s.link c).c toks (packet ProbeAck n)
-          (λ i. shown ProbeAck c (s.block i)) tokens refl (is.invariant.transfers c ProbeAck refl))))
+          (first-report is.invariant tokens))
 
       same : (z : Bool) → completes x (unfinished_at sys c Channel.C) ≡ z → (i : ℕ)
           → comes_in_release i (rest' Channel.C) ≡ comes_in_release i (unfinished_at sys c Channel.C)
@@ -187,8 +186,7 @@ module _ {w : ℕ} {config : Config} {log : Log w} (h : AbstractState w) {sys : 
       else s) (x ∷ t)
   own-release tokens x ms queue next rests b last =
       let releasing : ((s.block n).pair c).letting ≡ ReleaseSent r =
-      releasing-is ((s.block n).pair c).letting (holds-first Release (s.link c).c toks (packet Release n)
-      (λ i. shown Release c (s.block i)) tokens refl (is.invariant.transfers c Release refl)) in
+      first-release is.invariant tokens in
       let ungranted : is_granting (view (s.block n).service c) ≡ false =
       released_ungranted r ((s.block n).pair c) (view (s.block n).service c) well releasing in
       let now : (z : Bool) → (released_if r z).block n ≡ block_if z =
@@ -284,8 +282,7 @@ module _ {w : ℕ} {config : Config} {log : Log w} (h : AbstractState w) {sys : 
       (λ k. comes-same k before asked' (unfinished_at sys c Channel.D) asks) flowed)
     where
       shows : is_acknowledging (view (s.block n).service c) ≡ true
-      shows = holds-first GrantAck (s.link c).e toks (packet GrantAck n) (λ i. shown GrantAck c (s.block i)) tokens refl
-          (is.invariant.transfers c GrantAck refl)
+      shows = first-shown is.invariant c GrantAck refl tokens
 
       seen : view (s.block n).service c ≡ Acknowledging
       seen =

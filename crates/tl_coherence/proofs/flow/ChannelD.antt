@@ -3,7 +3,7 @@ use Rattle.tl_coherence.proofs.flow.Imports.{Beat, BeatA, Channel, Message, Mess
 use Rattle.tl_coherence.proofs.flow.Imports.{completes, Config, Cap, comes_in_grant, is_grant, asks_for, same_block}
 use Rattle.tl_coherence.proofs.flow.Imports.{MonitorRelation, AbstractState, acquires_of, is_busy, comes_granting, Log}
 use Rattle.tl_coherence.proofs.flow.Imports.{ClientBlock, Granting, is_unprobed, is_unreleased, after_release_ack}
-use Rattle.tl_coherence.proofs.flow.Imports.{Block, State, SourceFree, Acquires, packet, shown, view, is_granting}
+use Rattle.tl_coherence.proofs.flow.Imports.{Block, State, SourceFree, Acquires, packet, view, is_granting}
 use Rattle.tl_coherence.proofs.flow.Imports.{is_answered, is_wanting, taken_block, let_go_block, release_ack_taken}
 use Rattle.tl_coherence.proofs.flow.Imports.{block_message, System, Answer, Grant, ReleaseAck, Packet}
 use Rattle.tl_coherence.proofs.flow.Imports.{SimulationRelation, is_caching, asked_by}
@@ -23,13 +23,14 @@ use Rattle.tl_coherence.proofs.{flow.FlowAlone.AreRests, flow.FlowAnswered.flowe
 use Rattle.tl_coherence.proofs.{flow.FlowAnswered.flowed-let_go, flow.FlowGranted.seen_after}
 use Rattle.tl_coherence.proofs.{flow.FlowGranted.flowed-grant, flow.FlowResponses.grant_quiet}
 use Rattle.tl_coherence.proofs.{flow.FlowResponses.grant_tracked, flow.FlowStep.held_by, queues.Phases.and_right}
-use Rattle.tl_coherence.proofs.{protocol.BothParts.acked-is, queues.Codes.access_kind, queues.Codes.grants-so}
+use Rattle.tl_coherence.proofs.{queues.Codes.access_kind, queues.Codes.grants-so}
 use Rattle.tl_coherence.proofs.{simulation.Popped.unfinished_at}
 use Rattle.tl_coherence.proofs.protocol.HeadOfD.{answer-due, IsGrantDue, grant-rendered, grant_message, ack_message}
 use Rattle.tl_coherence.proofs.protocol.HeadOfD.{own_view}
 use Rattle.tl_coherence.proofs.flow.FlowBeats.{came-so, comes-so, one-beat, set_at-if, same_perms, unused-else}
 use Rattle.tl_coherence.proofs.flow.FlowBeats.{first_false}
-use Rattle.tl_coherence.proofs.queues.Tokens.{same_number, set-same, set-other, holds-first}
+use Rattle.tl_coherence.proofs.queues.Tokens.{same_number, set-same, set-other}
+use Rattle.tl_coherence.proofs.protocol.FirstTokens.{first-release_ack}
 
 module _ {w : ℕ} {config : Config} {log : Log w} (h : AbstractState w) {sys : System w} {c : ℕ}
     (is : SimulationRelation config log h.mail h.request h.state sys) {t : History w}
@@ -174,8 +175,7 @@ module _ {w : ℕ} {config : Config} {log : Log w} (h : AbstractState w) {sys : 
         grant = refl;
         ack = refl;
         source = refl;
-        letting = acked-is ((s.block n).pair c).letting (holds-first ReleaseAck (s.link c).d toks (packet ReleaseAck n)
-            (λ i. shown ReleaseAck c (s.block i)) tokens refl (is.invariant.transfers c ReleaseAck refl));
+        letting = first-release_ack is.invariant tokens;
         comes = none_came m x ms queue here rests true one.2 refl;
         grants = none_granted m x ms queue here rests true one.2 refl asked';
         asked_is = asks;

@@ -4,7 +4,7 @@ use Rattle.tl_coherence.proofs.flow.Imports.{Beat, BeatA, Channel, Message, Mess
 use Rattle.tl_coherence.proofs.flow.Imports.{comes_in_grant, block_at, MonitorRelation, AbstractState, kind_taken, Log}
 use Rattle.tl_coherence.proofs.flow.Imports.{Own, Granting, Acknowledging, GrantedOther, ProbeAnswered, AcquirePhase}
 use Rattle.tl_coherence.proofs.flow.Imports.{NoAcquire, AcquireOpen, is_unprobed, is_unreleased, after_report, Service}
-use Rattle.tl_coherence.proofs.flow.Imports.{Free, Waits, GrantSent, GrantTaken, Block, State, packet, shown, view}
+use Rattle.tl_coherence.proofs.flow.Imports.{Free, Waits, GrantSent, GrantTaken, Block, State, packet, view}
 use Rattle.tl_coherence.proofs.flow.Imports.{is_answered, acquire_served, acquire_granted, report_taken, cap_sent}
 use Rattle.tl_coherence.proofs.flow.Imports.{report_told, prune_told, System, Kind, Request, Acquire, Probe, ProbeAck}
 use Rattle.tl_coherence.proofs.flow.Imports.{Release, Answer, Grant, ReleaseAck, GrantAck, Packet, set}
@@ -24,9 +24,9 @@ use Rattle.tl_coherence.proofs.client.AsideAll.{Leaves, is_for_manager, leaves-a
 use Rattle.tl_coherence.proofs.{manager.Choices.plain-past, protocol.HeadOfD.IsGrantDue, protocol.HeadOfD.grant-due}
 use Rattle.tl_coherence.proofs.{queues.PhaseFacts.quiet_at_rest, queues.PhaseFacts.own_alone, flow.FlowAsking.asks-left}
 use Rattle.tl_coherence.proofs.{flow.FlowBeats.same_perms, flow.FlowComing.coming-granting, flow.FlowComing.coming-sink}
-use Rattle.tl_coherence.proofs.{protocol.FollowKept.IsReady, protocol.RequestsKept.settled_all}
+use Rattle.tl_coherence.proofs.{protocol.Events.IsReady, protocol.RequestsKept.settled_all}
 use Rattle.tl_coherence.proofs.{manager.ManagedEndings.tracker-of, queues.Phases.and_right, queues.Tokens.same_number}
-use Rattle.tl_coherence.proofs.{queues.Tokens.holds-first, rank.RankParts.serving-use, simulation.Popped.unfinished_at}
+use Rattle.tl_coherence.proofs.{rank.RankParts.serving-use, simulation.Popped.unfinished_at}
 use Rattle.tl_coherence.proofs.queues.Facts.{own_wants, answered_other, is_other}
 use Rattle.tl_coherence.proofs.flow.FlowApart.{replied, left-replied, left-served, left-acquire_granted}
 use Rattle.tl_coherence.proofs.flow.FlowApart.{left-probe_taken, left-report_taken, left-release_taken}
@@ -34,7 +34,8 @@ use Rattle.tl_coherence.proofs.flow.FlowApart.{left-answer_taken, left-grant_tak
 use Rattle.tl_coherence.proofs.flow.FlowApart.{left-grant_ack_taken, left-access_answered, left-access_served}
 use Rattle.tl_coherence.proofs.flow.FlowApart.{left-report_answers, left-report_grants}
 use Rattle.tl_coherence.proofs.flow.FlowAside.{is_heard, IsComing, flowed-aside, flowed-asks}
-use Rattle.tl_coherence.proofs.protocol.BothParts.{answered-is, quiet_unanswered, acknowledging-is, not-other}
+use Rattle.tl_coherence.proofs.protocol.BothParts.{quiet_unanswered, not-other}
+use Rattle.tl_coherence.proofs.protocol.FirstTokens.{first-grant_ack, first-report}
 
 module _ {w : ℕ} {config : Config} {log : Log w} (h : AbstractState w) {sys : System w} (c : ℕ)
     (is : SimulationRelation config log h.mail h.request h.state sys) (tracker : ℕ) where
@@ -108,8 +109,7 @@ module _ {w : ℕ} {config : Config} {log : Log w} (h : AbstractState w) {sys : 
         r = report_told ((s.block n).pair c).probing
 
         answered : ((s.block n).pair c).probing ≡ ProbeAnswered r
-        answered = answered-is ((s.block n).pair c).probing (holds-first ProbeAck (s.link c).c toks (packet ProbeAck n)
-            (λ i. shown ProbeAck c (s.block i)) tokens refl (is.invariant.transfers c ProbeAck refl))
+        answered = first-report is.invariant tokens
 
         seen : is_other (view (s.block n).service c) ≡ true
         seen = answered_other r ((s.block n).pair c) (view (s.block n).service c) ((is.invariant.blocks n).phases c)
@@ -304,8 +304,7 @@ module _ {w : ℕ} {config : Config} {log : Log w} (h : AbstractState w) {sys : 
         (asks-left d h after l) comes c n toks ne) flowed
     by_kind GrantAck n toks first ready l flowed =
         let after = kind_taken config tracker c GrantAck n toks h in
-        let taken = acknowledging-is (s.block n).service c (holds-first GrantAck (s.link c).e toks (packet GrantAck n)
-        (λ i. shown GrantAck c (s.block i)) first refl (is.invariant.transfers c GrantAck refl)) in
+        let taken = first-grant_ack is.invariant first in
         flowed-aside
         (left-grant_ack_taken d then_asked (asked_by after.mail after.state d) (unfinished_at sys d) s
         (asks-left d h after l) comes c n toks ne taken (tracker-of n is.invariant.named (rw taken refl))) flowed

@@ -19,7 +19,7 @@ use Rattle.tl_coherence.proofs.{client.AsideAll.Leaves, client.AsideAll.leaves-a
 use Rattle.tl_coherence.proofs.{client.ClientDelivered.ack_next, client.ClientEnd.asks-same, flow.FlowAlone.AreRests}
 use Rattle.tl_coherence.proofs.{flow.FlowAside.flowed-asks, flow.FlowAsking.asks-left, flow.FlowBeats.one-beat}
 use Rattle.tl_coherence.proofs.{flow.FlowKinds.settled-request, flow.FlowKinds.settled-report, flow.ChannelB.own-probe}
-use Rattle.tl_coherence.proofs.{protocol.FollowKept.IsReady, client.ProbeDelivered.probe-beat}
+use Rattle.tl_coherence.proofs.{protocol.Events.IsReady, client.ProbeDelivered.probe-beat}
 use Rattle.tl_coherence.proofs.{manager.RequestsTaken.acquire_wanted, queues.Tokens.set-same, queues.Tokens.set-part}
 use Rattle.tl_coherence.proofs.{simulation.Popped.unfinished_at}
 use Rattle.tl_coherence.proofs.protocol.HeadOfD.{IsGrantDue, grant-due}

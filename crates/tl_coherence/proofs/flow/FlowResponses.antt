@@ -8,7 +8,7 @@ use Rattle.tl_coherence.proofs.flow.Imports.{request_of, same_block, IsCarried, 
 use Rattle.tl_coherence.proofs.flow.Imports.{is_release_pending, is_busy, Log, View, ReleasePhase, ReleaseSent}
 use Rattle.tl_coherence.proofs.flow.Imports.{ReleaseAcked, AcquirePhase, AcquireOpen, is_unreleased, Service, GrantSent}
 use Rattle.tl_coherence.proofs.flow.Imports.{is_answered, is_acked, is_granting, is_acknowledging, State, SourceState}
-use Rattle.tl_coherence.proofs.flow.Imports.{view, packet, shown, is_on, is_unserved, AccessMessages, report_told}
+use Rattle.tl_coherence.proofs.flow.Imports.{view, packet, is_on, is_unserved, AccessMessages, report_told}
 use Rattle.tl_coherence.proofs.flow.Imports.{prune_told, block_message, message_of, message_of_kind, System, Kind}
 use Rattle.tl_coherence.proofs.flow.Imports.{ProbeAck, Release, Answer, Grant, ReleaseAck, Packet, SimulationRelation}
 use Rattle.tl_coherence.proofs.flow.Imports.{MonitorRelations, is_caching, Channel}
@@ -27,7 +27,7 @@ use Rattle.tl_coherence.specs.{protocol.Tokens.is_releasing}
 use Rattle.tl_coherence.specs.refinement.SimulationRelation.{IsGivenAsked, gives_asked}
 use Rattle.tl_coherence.proofs.{queues.Carried.IsNext, client.ClientDelivered.ack_next, queues.Facts.granting_alone}
 use Rattle.tl_coherence.proofs.{flow.FlowLawful.lawful-beat, queues.Phases.and_left, queues.Tokens.same_number}
-use Rattle.tl_coherence.proofs.{queues.Tokens.holds-first, protocol.BothParts.is_of-is}
+use Rattle.tl_coherence.proofs.{protocol.BothParts.is_of-is}
 use Rattle.tl_coherence.proofs.{protocol.BothParts.quiet_unanswered, queues.Codes.access_kind}
 use Rattle.tl_coherence.proofs.{flow.ComingRequests.waits_on_a, flow.ComingRequests.not-coming_a}
 use Rattle.tl_coherence.proofs.client.ClientEnd.{is_access, asks-access, asks-acquire}
@@ -36,6 +36,7 @@ use Rattle.tl_coherence.proofs.protocol.HeadOfD.{IsAnswerDue, answer-due, IsGran
 use Rattle.tl_coherence.proofs.protocol.HeadOfD.{ack-due, grant_message, ack_message, own_view}
 use Rattle.tl_coherence.proofs.queues.FirstToken.{IsFirst, first-token, own_kind}
 use Rattle.tl_coherence.proofs.client.ResponseOrder.{answer-legal, grant-legal, ack-legal}
+use Rattle.tl_coherence.proofs.protocol.FirstTokens.{first-shown}
 
 -- ---- an answer
 
@@ -199,8 +200,7 @@ not-coming_c {w} {config} {mail} {s} {sys} c n h let_ acked = go (s.link c).c re
     each ProbeAck i rest first own = rendered_report w c i source s
     each Release i rest first own =
         rendered_release w c i source s
-        (differ i (holds-first Release (s.link c).c rest (packet Release i) (λ j. shown Release c (s.block j)) first
-        refl (h.invariant.transfers c Release refl)) ((s.block i).release_source c == source) refl)
+        (differ i (first-shown h.invariant c Release refl first) ((s.block i).release_source c == source) refl)
     each k i rest first own = absurd cc
 
     go : (xs : List Packet) → (s.link c).c ≡ xs → IsCarried rest_now (map (message_of mail s c) (s.link c).c)
@@ -298,8 +298,7 @@ legal_d {w} {config} {log} {mail} {request} {s} {sys} c x queue width h flowed b
         → broken_in_order config.profile x (flow c log) ≡ None
     ack n tokens next = legal_next c (ack_message ((s.block n).release_source c)) h flowed (ack_next c n s next)
         (flow-ack c n h flowed (ack-due c n first.rest h.invariant tokens)
-        (holds-first ReleaseAck (s.link c).d first.rest (packet ReleaseAck n) (λ i. shown ReleaseAck c (s.block i))
-        tokens refl (h.invariant.transfers c ReleaseAck refl)))
+        (first-shown h.invariant c ReleaseAck refl tokens))
 
     go : (k : Kind) (i : ℕ) → (s.link c).d ≡ packet k i ∷ first.rest → is_on Channel.D k ≡ true
         → IsNext x rest_now (message_of_kind k mail s c i) ms queue

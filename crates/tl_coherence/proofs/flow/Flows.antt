@@ -23,7 +23,7 @@ use Rattle.tl_coherence.proofs.{links.FifoOfChannels.flow_still, flow.FlowAlone.
 use Rattle.tl_coherence.proofs.{flow.FlowKinds.FlowsAs, flow.FlowKinds.other-kind, flow.FlowOwn.own-kind}
 use Rattle.tl_coherence.proofs.{flow.FlowLawful.flows-b, flow.FlowLawful.flows-c, flow.FlowRequests.flows-a}
 use Rattle.tl_coherence.proofs.{flow.FlowResponses.flows-d, flow.FlowSame.flowed-rests, flow.FlowSinks.flows-e}
-use Rattle.tl_coherence.proofs.{protocol.FollowKept.IsReady, deliveries.DeliverDAfter.followed-still}
+use Rattle.tl_coherence.proofs.{protocol.Events.IsReady, deliveries.DeliverDAfter.followed-still}
 use Rattle.tl_coherence.proofs.{deliveries.DeliverDUnmoved.unmoved, simulation.Fresh.fresh-flowed}
 use Rattle.tl_coherence.proofs.{deliveries.FirstRequest.arrival-first, queues.Landed.handed-client}
 use Rattle.tl_coherence.proofs.{outstanding.Outstanding.first-moved, manager.UnwaitedRequests.next_tracker}

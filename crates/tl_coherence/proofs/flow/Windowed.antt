@@ -37,7 +37,7 @@ use Rattle.tl_coherence.specs.refinement.SimulationRelation.{SimulationRelation,
 use Rattle.tl_coherence.specs.refinement.SimulationRelation.{block_used, first_of}
 use Rattle.tl_coherence.specs.protocol.Protocol.{Block, SourceState, SourceFree, Replied, view}
 use Rattle.tl_coherence.proofs.deliveries.Matching.{shadow, matched, stepped-nobody}
-use Rattle.tl_coherence.proofs.flow.Renewed.{AreRenewed, AreKept, IsSettledFor, kept-same, kept-asked, renewed-same}
+use Rattle.tl_coherence.proofs.flow.Renewed.{AreRenewed, AreKept, IsSettledFor, kept-asked}
 use Rattle.tl_coherence.proofs.flow.Renewed.{renewed-kind_taken}
 use Rattle.tl_coherence.proofs.simulation.FollowCases.{followed-cases, on-first}
 
@@ -142,7 +142,7 @@ kept-ask {w} config c o sys h = go (terms_at config c) refl
 
     go : (i : Option EndConfig) → terms_at config c ≡ i → After (stepped config (Ask c o) sys)
     go None none = subst After (sym (stepped-nobody config (Ask c o) sys none))
-        (kept-same h h (λ d j. refl) (λ d j. (refl, refl)))
+        (λ d j e. (e, (refl, refl)))
     go (Some terms) known = subst After (sym (stepped-asked config c o sys terms known))
         (kept-asked c o (ask.asked terms o (sys.clients c)).reply h)
 
@@ -152,7 +152,7 @@ pub renewed-followed : {w : ℕ} (config : Config) (log : Log w) (event : Event 
 renewed-followed {w} config log event h width is =
     let sys : System w = system_after config log in
     followed-cases event (λ (i : AbstractState w). AreRenewed h i) width is
-    (renewed-same h h (λ d j. refl) (λ d j. (refl, refl)))
+    (λ d j e. inl (e, (refl, refl)))
     (λ terms c o at d j e. inl (kept-asked c o (ask.asked terms o (sys.clients c)).reply h d j e))
     (λ link ch x queue d. renewed-kind_taken (next_tracker sys) link.0 d.first.kind d.first.number d.first.rest h is
     (on-first d) (ready-delivered ch width is d))

@@ -30,12 +30,13 @@ use Rattle.tl_manager.specs.statement.Offer.{open_level, before_stall, judged_at
 use Rattle.tl_coherence.specs.protocol.Phase.{Idle, AcquireOpen, ReleasePhase, NoRelease, is_unreleased, grow_fits}
 use Rattle.tl_coherence.specs.{protocol.Invariant.tracks_with, refinement.Carried.IsCarried, protocol.Packet.count}
 use Rattle.tl_coherence.specs.{protocol.Packet.is, refinement.SimulationRelation.AreLanes}
-use Rattle.tl_coherence.specs.protocol.Tokens.{is_releasing, is_unserved, shown}
+use Rattle.tl_coherence.specs.protocol.Tokens.{is_releasing, is_unserved}
 use Rattle.tl_coherence.specs.refinement.PacketMessages.{message_of, report_told, prune_told}
 use Rattle.tl_coherence.proofs.{manager.Arrivals.link_of, queues.Facts.acquire_fits, queues.PhaseFacts.asked_alone}
 use Rattle.tl_coherence.proofs.{protocol.Heads.IsWanted, manager.Orders.acquire-legal, queues.Phases.and_left}
 use Rattle.tl_coherence.proofs.{queues.Phases.and_right, queues.Rendered.same_kind_again, queues.Tokens.same_number}
-use Rattle.tl_coherence.proofs.{queues.Tokens.holds-first, queues.Codes.acquires-so}
+use Rattle.tl_coherence.proofs.{queues.Codes.acquires-so}
+use Rattle.tl_coherence.proofs.protocol.FirstTokens.{first-shown}
 
 -- ---- a Release that is unfinished at the manager is on its way
 
@@ -87,8 +88,7 @@ release-comes {w} {mail} {s} {sys} c n is kept = go (s.link c).c refl
         rw f (release_comes w (prune_told ((s.block x.number).pair c).letting) ((s.block x.number).release_source c)
         x.number n i (s.block x.number).truth (λ same.
         let first : (s.link c).c ≡ packet Release x.number ∷ xs = e ∙ ap (λ (k : Kind). packet k x.number ∷ xs) f in
-        let shows = holds-first Release (s.link c).c xs (packet Release x.number) (λ j. shown Release c (s.block j))
-        first refl (is.invariant.transfers c Release refl) in
+        let shows = first-shown is.invariant c Release refl first in
         let no : true ≡ false = sym shows ∙ ap (λ j. is_releasing ((s.block j).pair c).letting) same ∙ kept in
         cc))
     kinds k x xs e f i = absurd (apart x xs e (rw f refl))

@@ -16,7 +16,7 @@ use Rattle.tl_coherence.specs.protocol.Protocol.{is_probed, acquire_served, acqu
 use Rattle.tl_coherence.proofs.manager.Arrivals.{link_of, with_beat, IsComing, service_for}
 use Rattle.tl_coherence.proofs.manager.AtRequests.{end_after, at_manager-probing, at_manager-answered}
 use Rattle.tl_coherence.proofs.manager.AtRequests.{at_manager-granted}
-use Rattle.tl_coherence.proofs.{manager.Choices.waits-used, protocol.FollowKept.IsReady, protocol.Heads.IsAsked}
+use Rattle.tl_coherence.proofs.{manager.Choices.waits-used, protocol.Events.IsReady, protocol.Heads.IsAsked}
 use Rattle.tl_coherence.proofs.{protocol.Heads.IsWanted, manager.Performing.IsAnswering, manager.Requests.IsUnwaited}
 use Rattle.tl_coherence.proofs.{queues.Codes.acquires-so, manager.ManagerAfter.IsManagerOf}
 use Rattle.tl_coherence.proofs.manager.ManagersEnd.{IsAtManager, at_manager-matched}

@@ -10,7 +10,7 @@ use Rattle.std.proofs.lemmas.Bool.{cases_eq, eqb-true}
 use Rattle.tl_client.{specs.declared.operation.Op.Op, specs.declared.reply.Reply.Reply, specs.statement.Ask.copy_stored}
 use Rattle.tl_client.{specs.statement.Ask.whole_grow, specs.statement.Send.access}
 use Rattle.tl_coherence.specs.{refinement.AbstractStep.asked, refinement.AbstractStep.taken_by_client}
-use Rattle.tl_coherence.specs.{protocol.Phase.ProbeSent, protocol.Phase.is_whole, protocol.Tokens.shown}
+use Rattle.tl_coherence.specs.{protocol.Phase.ProbeSent, protocol.Phase.is_whole}
 use Rattle.tl_coherence.specs.{refinement.PacketMessages.cap_sent, protocol.Packet.set_at}
 use Rattle.tl_coherence.specs.protocol.PhaseSteps.{after_acquire, after_release, after_probe, after_grant}
 use Rattle.tl_coherence.specs.protocol.PhaseSteps.{after_release_ack}
@@ -19,8 +19,9 @@ use Rattle.tl_coherence.specs.protocol.Protocol.{taken_block, let_go_block}
 use Rattle.tl_coherence.proofs.{manager.Traces.IsSameToManager, manager.Traces.SameService, manager.Choices.waits-used}
 use Rattle.tl_coherence.proofs.{protocol.FollowKept.IsAskable, manager.ManagersEnd.IsAtManager}
 use Rattle.tl_coherence.proofs.{manager.ManagersEnd.at_manager-same, protocol.BothParts.granting-own}
-use Rattle.tl_coherence.proofs.{protocol.BothParts.sent-is, manager.ManagerAfter.IsManagerOf}
-use Rattle.tl_coherence.proofs.queues.Tokens.{set-same, set-other, set-part, holds-first}
+use Rattle.tl_coherence.proofs.{manager.ManagerAfter.IsManagerOf}
+use Rattle.tl_coherence.proofs.queues.Tokens.{set-same, set-other, set-part}
+use Rattle.tl_coherence.proofs.protocol.FirstTokens.{first-probe, first-shown}
 
 -- ---- one block changes, and not to the manager
 
@@ -197,8 +198,7 @@ at_manager-client_taken config tracker c Release n rest h e kind inv first is = 
 at_manager-client_taken config tracker c GrantAck n rest h e kind inv first is = absurd cc
 at_manager-client_taken config tracker c Probe n rest h e kind inv first is =
     let k = cap_sent ((h.state.block n).pair c).probing in
-    let sent = sent-is ((h.state.block n).pair c).probing (holds-first Probe (h.state.link c).b rest (packet Probe n)
-    (λ i. shown Probe c (h.state.block i)) first refl (inv.transfers c Probe refl)) in
+    let sent = first-probe inv first in
     at_manager-unseen n (λ i. refl) (same-probed c k k (h.state.block n) sent) is
 at_manager-client_taken config tracker c Answer n rest h e kind inv first is = at_manager-untouched (λ i. refl) is
 at_manager-client_taken config tracker c ReleaseAck n rest h e kind inv first is =
@@ -209,8 +209,7 @@ at_manager-client_taken {w} config tracker c Grant n rest h e kind inv first is 
         → IsManagerOf config (taken_by_client c n service rest h) e
     go (GrantSent q d k) f =
         let seen : is_granting (view (GrantSent q d k) c) ≡ true =
-        rw f at (holds-first Grant (h.state.link c).d rest (packet Grant n) (λ i. shown Grant c (h.state.block i))
-        first refl (inv.transfers c Grant refl)) in
+        rw f at (first-shown inv c Grant refl first) in
         let same : c ≡ q = eqb-true c q (granting-own (c == q) d k seen) in
         let whole = is_whole ((h.state.block n).pair c).acquiring in
         at_manager-unseen n (λ i. refl) (same-taken c whole d k k (h.state.block n) (f ∙ rw same refl)) is

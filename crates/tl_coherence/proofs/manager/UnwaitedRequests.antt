@@ -19,7 +19,7 @@ use Rattle.tl_coherence.proofs.{queues.PhaseFacts.quiet_at_rest, manager.Managed
 use Rattle.tl_coherence.proofs.{manager.Requests.recorded-beat}
 use Rattle.tl_coherence.proofs.manager.Arrivals.{link_of, with_beat, IsComing, ends-coming, service_for, served-last}
 use Rattle.tl_coherence.proofs.manager.Choices.{nobody-same, no-clients, plain-past}
-use Rattle.tl_coherence.proofs.protocol.FollowKept.{IsReady, IsServing, kind_taken-kept}
+use Rattle.tl_coherence.proofs.protocol.{Events.IsReady, FollowKept.IsServing, FollowKept.kind_taken-kept}
 
 -- ---- what a request that needn't wait finds
 

@@ -11,7 +11,7 @@ use Rattle.tl_client.specs.statement.Ask as ask
 use Rattle.tl_coherence.specs.{protocol.Phase.NoRelease, protocol.Phase.is_unreleased}
 use Rattle.tl_coherence.specs.{refinement.PacketMessages.message_of_kind, statement.Step.Step}
 use Rattle.tl_coherence.proofs.{client.Askable.askable, queues.Carried.IsNext, client.ClientDelivered.shadow_of}
-use Rattle.tl_coherence.proofs.{protocol.FollowKept.IsReady, protocol.FollowKept.asked-kept}
+use Rattle.tl_coherence.proofs.{protocol.Events.IsReady, protocol.FollowKept.asked-kept}
 use Rattle.tl_coherence.proofs.{client.ProbeDelivered.probe-delivered, manager.UnwaitedRequests.next_tracker}
 use Rattle.tl_coherence.proofs.{queues.Steps.stepped-to-client, protocol.BothParts.kept-letting}
 

@@ -10,12 +10,12 @@ use Rattle.std.proofs.lemmas.Bool.{cases_eq}
 use Rattle.tl_params.{specs.declared.param.Cap.Cap, specs.declared.param.Report.Report}
 use Rattle.tl_params.{specs.declared.profile.Profile.Profile, specs.statement.Param.cap_right}
 use Rattle.tl_rules.specs.statement.Conformance.{same_perm}
-use Rattle.tl_coherence.specs.{statement.Draining.grown_to, protocol.Tokens.shown, protocol.Tokens.is_sent}
+use Rattle.tl_coherence.specs.{statement.Draining.grown_to, protocol.Tokens.is_sent}
 use Rattle.tl_coherence.specs.{refinement.PacketMessages.report_told, protocol.Packet.Packet, protocol.Packet.set}
 use Rattle.tl_coherence.specs.{protocol.Packet.set_at}
 use Rattle.tl_coherence.specs.refinement.AbstractStep.{acquire_taken, gift, granted_after, is_unheld, kind_taken}
 use Rattle.tl_coherence.specs.refinement.AbstractStep.{last_taken, some_below, taken_by_client, with_state}
-use Rattle.tl_coherence.specs.protocol.Invariant.{IsInvariant, cap_asked, is_replied}
+use Rattle.tl_coherence.specs.protocol.Invariant.{IsInvariant, cap_asked}
 use Rattle.tl_coherence.specs.protocol.Phase.{ClientBlock, Own, Other, NoAcquire, cap_fits, grant_fits}
 use Rattle.tl_coherence.specs.protocol.PhaseSteps.{after_grant_sent, after_probe, after_report, is_granted_data}
 use Rattle.tl_coherence.specs.protocol.Protocol.{Service, Free, Waits, GrantSent, GrantTaken, Block, State, SourceFree}
@@ -31,8 +31,9 @@ use Rattle.tl_coherence.proofs.{manager.ManagerAfter.others_probed, queues.Phase
 use Rattle.tl_coherence.proofs.{simulation.Sized.each-set_at, simulation.SourcedAfter.first-asked}
 use Rattle.tl_coherence.proofs.{rank.RankParts.serving-use, queues.Facts.is_other}
 use Rattle.tl_coherence.proofs.protocol.QuiescentProtocol.{owns_ask, serves_another}
-use Rattle.tl_coherence.proofs.queues.Tokens.{same_number, set-each, set-other, set-same, holds-first, set_at-same}
-use Rattle.tl_coherence.proofs.protocol.BothParts.{is_replied-is, not-sent, taken-unseen, granted-unseen}
+use Rattle.tl_coherence.proofs.queues.Tokens.{same_number, set-each, set-other, set-same, set_at-same}
+use Rattle.tl_coherence.proofs.protocol.BothParts.{not-sent, taken-unseen, granted-unseen}
+use Rattle.tl_coherence.proofs.protocol.FirstTokens.{first-answer, first-shown}
 
 -- what may be held by one who wanted this, and of whom nothing else was asked
 abbrev pub grown : Profile → AcquirePhase → Perm → Bool
@@ -277,14 +278,11 @@ module _ (p : Profile) (c n source : ℕ) (a : AcquirePhase) where
   lone-kind_taken config tracker d Request i rest h inv given first is =
       absurd (no_access d i Asked is (first-asked d i rest h inv first) refl)
   lone-kind_taken config tracker d Answer i rest h inv given first is =
-      absurd (no_access d i Replied is (is_replied-is (h.state.uses d i)
-      (holds-first Answer (h.state.link d).d rest (packet Answer i) (λ j. is_replied (h.state.uses d j)) first refl
-      (inv.answers d))) refl)
+      absurd (no_access d i Replied is (first-answer inv first) refl)
   lone-kind_taken config tracker d Acquire i rest h inv given first is =
       lone_acquire _ config.profile d i ((h.state.block i).pair d).acquiring tracker rest h is
   lone-kind_taken {caching} config tracker d Probe i rest h inv given first is =
-      lone_probe d i _ rest inv (holds-first Probe (h.state.link d).b rest (packet Probe i)
-      (λ j. shown Probe d (h.state.block j)) first refl (inv.transfers d Probe refl)) is
+      lone_probe d i _ rest inv (first-shown inv d Probe refl first) is
   lone-kind_taken {w} {caching} config tracker d ProbeAck i rest h inv given first is =
       either (some_below (length config.clients.items) (others_probed d (h.state.block i).pair))
     where

@@ -1,7 +1,6 @@
 pub mod Beginnings
 pub mod DeliveriesDecrease
 pub mod EventDecreases
-pub mod Imports
 pub mod PartialMessages
 pub mod RankAfter
 pub mod RankByKind

@@ -16,7 +16,6 @@ pub mod Granted
 pub mod GrantedAll
 pub mod HeadOfD
 pub mod Heads
-pub mod Imports
 pub mod NeverIdle
 pub mod OpenCounts
 pub mod Probed

@@ -1,27 +1,21 @@
 -- What is owed in a world falls at every delivery that moves a beat, and rises at none.
-use Rattle.tl_coherence.proofs.bound.Imports.{IsWidth, Beat, Link, Channel, completes, Config, Deliver, is_moving}
-use Rattle.tl_coherence.proofs.bound.Imports.{AbstractState, kind_taken, Log, system_after, channel_for}
-use Rattle.tl_coherence.proofs.bound.Imports.{stepped, System, Kind}
-use Rattle.tl_coherence.proofs.bound.Imports.{SimulationRelation}
-use Rattle.tl_coherence.proofs.bound.Imports.{is_caching}
-use Rattle.std.proofs.Common.{◌≡◌, ℕ, ◌+◌, ◌<◌, ◌≤◌, Bool, true, false, List, ◌∷◌, refl, sym, subst, arith, ◌∙◌}
-use Rattle.std.specs.Prelude.{◌/◌, length, Some}
-use Rattle.tl_client.specs.statement.Endpoint.{EndConfig}
-use Rattle.tl_coherence.specs.{refinement.AbstractStep.abstract_step, statement.System.terms_at}
-use Rattle.tl_coherence.proofs.{bound.Beginnings.none-more, rank.RankDecreases.stays, simulation.FollowCases.IsDelivery}
-use Rattle.tl_coherence.proofs.{queues.FirstToken.first-token}
-use Rattle.tl_coherence.proofs.{deliveries.InvariantKept.ready-delivered, deliveries.Matching.matched-event}
-use Rattle.tl_coherence.proofs.{outstanding.Outstanding.first-moved, bound.RankOfLog.owed, bound.RankOfLog.owed-begun}
-use Rattle.tl_coherence.proofs.{bound.RankAfter.IsKeptAfter, bound.RankAfter.kept-matched}
-use Rattle.tl_coherence.proofs.client.ManagerStep.{on_same}
-use Rattle.tl_coherence.proofs.{rank.BeatsRemainingSums.answer_to, manager.UnwaitedRequests.next_tracker}
-use Rattle.tl_coherence.proofs.{queues.QuiescentQueues.client_below}
-use Rattle.tl_coherence.proofs.bound.PartialMessages.{grown-moved, grown-received, grown-begun}
-use Rattle.tl_coherence.proofs.deliveries.DeliverDAfter.{followed-moving, followed-still}
-use Rattle.tl_coherence.proofs.deliveries.DeliverDUnmoved.{IsUnmoved, unmoved}
-use Rattle.tl_coherence.proofs.protocol.BeatsRemaining.{beats_left}
-use Rattle.tl_coherence.proofs.bound.RankByKind.{kind-owed}
-use Rattle.tl_coherence.proofs.simulation.Popped.{unfinished_at, IsReceived, kind_channel}
+use Rattle.std.proofs.Common.{◌≡◌, ℕ, ◌+◌, ◌<◌, ◌≤◌, Bool, true, false, List, ◌∷◌, refl, sym, subst, arith, ◌∙◌, ◌/◌}
+use Rattle.std.proofs.Common.{length, Some}
+use Rattle.tl_coherence.proofs
+use proofs.Imports.{Beat, Link, Channel, IsWidth, completes, Config, EndConfig, Deliver, Kind, AbstractState}
+use proofs.Imports.{kind_taken, abstract_step, channel_for, SimulationRelation, is_caching, is_moving, Log}
+use proofs.Imports.{system_after, stepped, System, terms_at}
+use proofs.bound.{Beginnings.none-more, RankOfLog.owed, RankOfLog.owed-begun, RankAfter.IsKeptAfter}
+use proofs.bound.{RankAfter.kept-matched, PartialMessages.grown-moved, PartialMessages.grown-received}
+use proofs.bound.{PartialMessages.grown-begun, RankByKind.kind-owed}
+use proofs.rank.{RankDecreases.stays, BeatsRemainingSums.answer_to}
+use proofs.simulation.{FollowCases.IsDelivery, Popped.unfinished_at, Popped.IsReceived}
+use proofs.queues.{FirstToken.first-token, QuiescentQueues.client_below, KindMoves.on_same, KindMoves.kind_channel}
+use proofs.deliveries.{InvariantKept.ready-delivered, Matching.matched-event, DeliverDAfter.followed-moving}
+use proofs.deliveries.{DeliverDAfter.followed-still, DeliverDUnmoved.IsUnmoved, DeliverDUnmoved.unmoved}
+use proofs.outstanding.Outstanding.{first-moved}
+use proofs.manager.UnwaitedRequests.{next_tracker}
+use proofs.protocol.BeatsRemaining.{beats_left}
 
 module _ {w : ℕ} {config : Config} {log : Log w} (h : AbstractState w) (width : IsWidth w)
     (matched : SimulationRelation config log h.mail h.request h.state (system_after config log)) where

@@ -1,29 +1,26 @@
 -- What is owed in a world falls as the last beat of a message is taken.
-use Rattle.tl_coherence.proofs.bound.Imports.{IsWidth, Config, AbstractState, kind_taken, Log, system_after, Service}
-use Rattle.tl_coherence.proofs.bound.Imports.{Block, packet, ended_block, grant_taken, System, Kind, ProbeAck}
-use Rattle.tl_coherence.proofs.bound.Imports.{Grant, Packet, SimulationRelation, is_caching, channel_for, MessageA}
-use Rattle.tl_coherence.proofs.bound.Imports.{Waits, view, Report, Cap, IsInvariant}
-use Rattle.std.proofs.Common.{◌≡◌, ℕ, ◌+◌, ◌<◌, ◌≤◌, true, false, List, ◌∷◌, refl, ◌∙◌, ap, subst, sym}
-use Rattle.std.specs.Prelude.{length}
-use Rattle.tl_coherence.specs.{protocol.Invariant.IsWell}
-use Rattle.tl_coherence.specs.refinement.AbstractStep.{last_taken, performs, answers, taken_by_client}
-use Rattle.tl_coherence.specs.{protocol.Phase.AcquirePhase, protocol.Phase.is_whole, protocol.Protocol.on}
-use Rattle.tl_coherence.specs.refinement.SourceRelation.{IsFor}
-use Rattle.tl_coherence.proofs.bound.RankAfter.{IsKeptAfter, access_answered-owed, access_served-owed}
-use Rattle.tl_coherence.proofs.bound.RankAfter.{acquire_granted-owed, acquire_served-owed, probe_taken-owed}
-use Rattle.tl_coherence.proofs.bound.RankAfter.{report_taken-owed, report_answers-owed, report_grants-owed}
-use Rattle.tl_coherence.proofs.bound.RankAfter.{release_taken-owed, answer_taken-owed, grant_taken-owed}
-use Rattle.tl_coherence.proofs.bound.RankAfter.{release_ack_taken-owed, grant_ack_taken-owed}
-use Rattle.tl_coherence.proofs.{bound.RankOfLog.owed, rank.RankParts.serving-use, simulation.Popped.IsReceived}
-use Rattle.tl_coherence.proofs.deliveries.CarriedRequests.{unread-bytes, answer_on_d}
-use Rattle.tl_coherence.proofs.{deliveries.DeliverDUnmoved.bare, deliveries.LandedReports.ended-bytes}
-use Rattle.tl_coherence.proofs.{deliveries.LastReportDelivered.seen_apart, manager.Choices.plain-past}
-use Rattle.tl_coherence.proofs.{queues.Facts.answered_other}
-use Rattle.tl_coherence.proofs.{queues.Tokens.set-same, protocol.HeadOfD.IsGrantDue, protocol.HeadOfD.grant-due}
-use Rattle.tl_coherence.proofs.{protocol.NeverIdle.never-idle, protocol.RequestsKept.settled_all}
-use Rattle.tl_coherence.proofs.protocol.Events.{IsReady, ready-access, waits_for_others, told, true-taken}
-use Rattle.tl_coherence.proofs.protocol.FirstTokens.{first-request, first-probe, first-report, first-grant_ack}
+use Rattle.std.proofs.Common.{◌≡◌, ℕ, ◌+◌, ◌<◌, ◌≤◌, true, false, List, ◌∷◌, refl, ◌∙◌, ap, subst, sym, length}
+use Rattle.tl_coherence.proofs
+use proofs.Imports.{IsWidth, MessageA, Config, Cap, Report, IsInvariant, IsWell, Kind, ProbeAck, Grant, Packet}
+use proofs.Imports.{AcquirePhase, is_whole, Service, Block, packet, ended_block, grant_taken, Waits, view, on}
+use proofs.Imports.{AbstractState, kind_taken, last_taken, performs, answers, taken_by_client, channel_for}
+use proofs.Imports.{SimulationRelation, is_caching, IsFor, Log, system_after, System}
 use Rattle.tl_coherence.specs.protocol.Protocol as protocol
+use proofs.bound.RankAfter.{IsKeptAfter, access_answered-owed, access_served-owed, acquire_granted-owed}
+use proofs.bound.RankAfter.{acquire_served-owed, probe_taken-owed, report_taken-owed, report_answers-owed}
+use proofs.bound.RankAfter.{report_grants-owed, release_taken-owed, answer_taken-owed, grant_taken-owed}
+use proofs.bound.RankAfter.{release_ack_taken-owed, grant_ack_taken-owed}
+use proofs.bound.RankOfLog.{owed}
+use proofs.rank.RankParts.{serving-use}
+use proofs.simulation.Popped.{IsReceived}
+use proofs.deliveries.{CarriedRequests.unread-bytes, LandedReports.answer_on_d, LandedReports.ended-bytes}
+use proofs.deliveries.{DeliverDUnmoved.bare, LastReportDelivered.seen_apart}
+use proofs.manager.Choices.{plain-past}
+use proofs.queues.{Facts.answered_other, Tokens.set-same}
+use proofs.protocol.{HeadOfD.IsGrantDue, HeadOfD.grant-due, NeverIdle.never-idle, RequestsKept.settled_all}
+use proofs.protocol.{Events.IsReady, Events.ready-access, Events.waits_for_others, Events.told, Events.true-taken}
+use proofs.protocol.{FirstTokens.first-request, FirstTokens.first-probe, FirstTokens.first-report}
+use proofs.protocol.{FirstTokens.first-grant_ack}
 
 module _ {w : ℕ} {config : Config} {log : Log w} (h : AbstractState w) (sys' : System w) (width : IsWidth w)
     (matched : SimulationRelation config log h.mail h.request h.state (system_after config log)) (tracker c : ℕ)

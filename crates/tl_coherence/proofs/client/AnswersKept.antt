@@ -1,31 +1,19 @@
 -- Answers that are on their way answer their accesses: after every event.
-use Rattle.tl_coherence.proofs.client.Imports.{OpD, Message, MessageA, MessageD, Config, answers}
-use Rattle.tl_coherence.proofs.client.Imports.{block_at, is_acquire, Op, Reply, AbstractState}
-use Rattle.tl_coherence.proofs.client.Imports.{asked, access_taken}
-use Rattle.tl_coherence.proofs.client.Imports.{last_taken}
-use Rattle.tl_coherence.proofs.client.Imports.{taken_by_client, kind_taken, Log}
-use Rattle.tl_coherence.proofs.client.Imports.{Waits}
-use Rattle.tl_coherence.proofs.client.Imports.{GrantSent, State, SourceState, SourceFree, Asked}
-use Rattle.tl_coherence.proofs.client.Imports.{InService, Replied, Acquires, packet, on}
-use Rattle.tl_coherence.proofs.client.Imports.{AccessMessages, report_told, System, Kind}
-use Rattle.tl_coherence.proofs.client.Imports.{Answer}
-use Rattle.tl_coherence.proofs.client.Imports.{Packet, set_at, SimulationRelation}
-use Rattle.std.proofs.Common.{◌≡◌, subst, ℕ, Bool, true, false, List, ◌∷◌, Some, None, length, refl}
-use Rattle.std.proofs.Common.{sym, ◌∙◌, ap, ◌⊎◌, inl, inr}
-use Rattle.std.{specs.Prelude.◌%◌, proofs.lemmas.Bool.cases_eq}
-use Rattle.tl_beat.specs.declared.opcode.OpA.{OpA}
+use Rattle.std.proofs.Common.{◌≡◌, subst, ℕ, Bool, true, false, List, ◌∷◌, Some, None, length, refl, sym, ◌∙◌, ap, ◌⊎◌}
+use Rattle.std.proofs.Common.{inl, inr, ◌%◌}
+use Rattle.tl_coherence.proofs
+use proofs.Imports.{cases_eq, OpA, OpD, Message, MessageA, MessageD, Config, Memory, effect, answer_of, as_payload}
+use proofs.Imports.{bytes_from, block_at, is_acquire, Op, Reply, access, access_answer, no_payload, is_access_answer}
+use proofs.Imports.{Kind, Answer, Packet, set_at, Waits, GrantSent, State, SourceState, SourceFree, Asked, InService}
+use proofs.Imports.{Replied, Acquires, packet, on, AbstractState, asked, access_taken, last_taken, taken_by_client}
+use proofs.Imports.{kind_taken, bytes_at, AccessMessages, report_told, SimulationRelation, IsAnswer, IsAnswered, IsFor}
+use proofs.Imports.{Log, System}
+use Rattle.tl_rules.{specs.statement.Conformance.answers, specs.statement.Effect.byte_count}
 use Rattle.tl_rules.specs.statement.Effect as memory
-use Rattle.tl_rules.specs.statement.Effect.{Memory, effect, answer_of, as_payload, bytes_from, byte_count}
-use Rattle.tl_client.specs.statement.Send.{access}
-use Rattle.tl_manager.specs.statement.Handing.{access_answer, no_payload}
-use Rattle.tl_manager.specs.statement.Service.{is_access_answer}
 use Rattle.tl_coherence.specs.refinement.AbstractStep as follow
-use Rattle.tl_coherence.specs.{refinement.AbstractStep.bytes_at}
-use Rattle.tl_coherence.specs.{refinement.SourceRelation.IsFor}
-use Rattle.tl_coherence.specs.refinement.SimulationRelation.{IsAnswer, IsAnswered}
-use Rattle.tl_coherence.proofs.{client.Aside.set_at-else, client.Aside.set_at-other, protocol.Heads.asked-first}
-use Rattle.tl_coherence.proofs.{queues.Tokens.set_at-same}
-use Rattle.tl_coherence.proofs.protocol.Events.{true-taken}
+use proofs.client.Aside.{set_at-else, set_at-other}
+use proofs.protocol.{Heads.asked-first, Events.true-taken}
+use proofs.queues.Tokens.{set_at-same}
 
 abbrev pub AreAnswered : {w : ℕ} → AccessMessages w → State (List ℕ) → Type 0
 AreAnswered mail s = (c source : ℕ) → IsAnswered source (mail.request c source) (mail.answer c source) (s.uses c source)

@@ -1,30 +1,19 @@
 -- Which clients' ends are left alone as a message is taken, and as a client is asked: all of that is
 -- what `followed` does.
-use Rattle.tl_coherence.specs.protocol.PhaseSteps.{after_grant_sent, after_grant}
-use Rattle.tl_coherence.proofs.client.Imports.{after_release_taken, Grow, after_acquire, after_release, after_probe}
-use Rattle.tl_coherence.proofs.client.Imports.{after_release_ack, InService, Replied, SourceFree, Acquires, Message}
-use Rattle.tl_coherence.proofs.client.Imports.{Config, Cap, block_at, Op, Reply, copy_stored}
-use Rattle.tl_coherence.proofs.client.Imports.{whole_grow, AbstractState, with_state, asked}
-use Rattle.tl_coherence.proofs.client.Imports.{is_whole, taken_by_client}
-use Rattle.tl_coherence.proofs.client.Imports.{kind_taken, cap_asked, IsInvariant, AcquireOpen}
-use Rattle.tl_coherence.proofs.client.Imports.{after_report, Service, Waits, GrantSent}
-use Rattle.tl_coherence.proofs.client.Imports.{Block, SourceState, Asked, packet, on}
-use Rattle.tl_coherence.proofs.client.Imports.{cap_sent, Kind}
-use Rattle.tl_coherence.proofs.client.Imports.{Request, Acquire, Probe, ProbeAck, Release, Answer, Grant, ReleaseAck}
-use Rattle.tl_coherence.proofs.client.Imports.{GrantAck, Packet}
-use Rattle.tl_coherence.proofs.client.Aside.{aside-block, aside-blocks, pair-aside, others-aside, entry-aside}
-use Rattle.tl_coherence.proofs.client.Aside.{served-aside, granted-aside, set_at-other, uses-moved}
-use Rattle.tl_coherence.specs.protocol.Protocol.{granted_copy, acquire_asked}
-use Rattle.tl_coherence.proofs.queues.Tokens.{set-other}
-use Rattle.std.proofs.Common.{sym, None, ◌≡◌, ℕ, Bool, true, false, List, ◌∷◌, Some, refl, ◌∙◌, ap}
-use Rattle.std.proofs.Common.{inl}
-use Rattle.std.{proofs.lemmas.Bool.and_from, specs.Prelude.◌==◌}
-use Rattle.tl_client.specs.statement.Send.{access}
-use Rattle.tl_coherence.specs.protocol.Invariant.{is_asked, serves_of, is_serving}
-use Rattle.tl_coherence.proofs.{client.ClientEnd.is_access, client.ClientEnd.IsAside, queues.Tokens.same_number}
-use Rattle.tl_coherence.proofs.{protocol.BothParts.releasing-open}
-use Rattle.tl_coherence.proofs.protocol.FirstTokens.{first-shown, first-request}
-use Rattle.tl_coherence.proofs.protocol.Events.{true-taken}
+use Rattle.std.proofs.Common.{sym, None, ◌≡◌, ℕ, Bool, true, false, List, ◌∷◌, Some, refl, ◌∙◌, ap, inl, not, ◌==◌}
+use Rattle.tl_coherence.proofs
+use proofs.Imports.{and_from, Message, Config, Cap, Grow, block_at, Op, Reply, copy_stored, whole_grow, access}
+use proofs.Imports.{cap_asked, IsInvariant, is_asked, serves_of, is_serving, Kind, Request, Probe, Release, Answer}
+use proofs.Imports.{Grant, ReleaseAck, Packet, is_whole, AcquireOpen, after_grant_sent, after_grant}
+use proofs.Imports.{after_release_taken, after_acquire, after_release, after_probe, after_release_ack, after_report}
+use proofs.Imports.{InService, Replied, SourceFree, Acquires, Service, Waits, GrantSent, Block, SourceState, Asked}
+use proofs.Imports.{packet, on, granted_copy, acquire_asked, AbstractState, with_state, asked, taken_by_client}
+use proofs.Imports.{kind_taken, channel_for, cap_sent, is_to_client}
+use proofs.client.Aside.{aside-block, aside-blocks, pair-aside, others-aside, entry-aside, served-aside, granted-aside}
+use proofs.client.Aside.{set_at-other, uses-moved}
+use proofs.queues.Tokens.{set-other, same_number}
+use proofs.client.ClientEnd.{is_access, IsAside}
+use proofs.protocol.{BothParts.releasing-open, FirstTokens.first-shown, FirstTokens.first-request, Events.true-taken}
 
 -- the client's end is left alone
 abbrev pub Leaves : {w : ℕ} → ℕ → AbstractState w → AbstractState w → Type 0
@@ -46,12 +35,7 @@ served_access n u e = absurd cc
 -- ---- messages that the manager takes
 
 abbrev pub is_for_manager : Kind → Bool
-is_for_manager Request = true
-is_for_manager Acquire = true
-is_for_manager ProbeAck = true
-is_for_manager Release = true
-is_for_manager GrantAck = true
-is_for_manager _ = false
+is_for_manager k = not (is_to_client (channel_for k))
 
 pub leaves-at_manager : {w : ℕ} {caching : ℕ → Bool} (config : Config) (tracker c : ℕ) (k : Kind) (i : ℕ)
     (rest : List Packet) (h : AbstractState w) (d : ℕ) → is_for_manager k ≡ true → IsInvariant caching h.state

@@ -1,23 +1,13 @@
 -- Under the first profile a Grant that is on its way gives what was asked for: after every event.
-use Rattle.tl_coherence.proofs.client.Imports.{Message, Config, Cap, Grow, Profile, block_at, Op, Reply}
-use Rattle.tl_coherence.proofs.client.Imports.{copy_stored, whole_grow, AbstractState, asked}
-use Rattle.tl_coherence.proofs.client.Imports.{gift}
-use Rattle.tl_coherence.proofs.client.Imports.{kind_taken, IsInvariant}
-use Rattle.tl_coherence.proofs.client.Imports.{ClientBlock, AcquirePhase, NoAcquire, AcquireOpen}
-use Rattle.tl_coherence.proofs.client.Imports.{after_acquire, after_release, after_probe, after_report}
-use Rattle.tl_coherence.proofs.client.Imports.{after_release_taken, after_release_ack, Service}
-use Rattle.tl_coherence.proofs.client.Imports.{GrantSent, Block, State, view, acquiring_block}
-use Rattle.tl_coherence.proofs.client.Imports.{releasing_block, stored_block}
-use Rattle.tl_coherence.proofs.client.Imports.{Kind}
-use Rattle.tl_coherence.proofs.client.Imports.{Packet, set, gives_asked}
-use Rattle.std.proofs.Common.{◌≡◌, ℕ, Bool, true, false, not, List, refl, sym, ◌∙◌}
-use Rattle.std.proofs.Common.{ap}
-use Rattle.std.specs.Prelude.{⊤}
-use Rattle.tl_coherence.specs.{protocol.Phase.is_unacquired, protocol.PhaseSteps.after_grant_sent}
-use Rattle.tl_coherence.specs.{refinement.SimulationRelation.IsGivenAsked}
-use Rattle.tl_coherence.proofs.{protocol.HeadOfD.own_view, queues.Facts.granting_asks, protocol.FollowKept.IsAskable}
-use Rattle.tl_coherence.proofs.queues.Tokens.{set-same, set-other, set-part, set-each}
-use Rattle.tl_coherence.proofs.protocol.Events.{true-taken}
+use Rattle.std.proofs.Common.{◌≡◌, ℕ, Bool, true, false, not, List, refl, sym, ◌∙◌, ap}
+use Rattle.tl_coherence.proofs
+use proofs.Imports.{⊤, Message, Config, Cap, Grow, Profile, block_at, Op, Reply, copy_stored, whole_grow, IsInvariant}
+use proofs.Imports.{Kind, Packet, set, ClientBlock, AcquirePhase, NoAcquire, AcquireOpen, is_unacquired, after_acquire}
+use proofs.Imports.{after_release, after_probe, after_report, after_release_taken, after_release_ack, after_grant_sent}
+use proofs.Imports.{Service, GrantSent, Block, State, view, acquiring_block, releasing_block, stored_block}
+use proofs.Imports.{AbstractState, asked, gift, kind_taken, gives_asked, IsGivenAsked}
+use proofs.protocol.{HeadOfD.own_view, FollowKept.IsAskable, Events.true-taken}
+use proofs.queues.{Facts.granting_asks, Tokens.set-same, Tokens.set-other, Tokens.set-part, Tokens.set-each}
 
 abbrev pub AreGiven : Profile → State (List ℕ) → Type 0
 AreGiven p s = (n : ℕ) → IsGivenAsked p (s.block n).service (s.block n).pair
@@ -52,12 +42,8 @@ given-acquiring p c whole g service pair none h = tt
 gift_given : (p : Profile) (whole : Bool) (g : Grow) (unheld : Bool)
     → gives_asked p (AcquireOpen whole g) (gift p whole g unheld) ≡ true
 gift_given Profile.One true Grow.NtoB unheld = refl
-gift_given Profile.One true Grow.NtoT unheld = refl
-gift_given Profile.One true Grow.BtoT unheld = refl
 gift_given Profile.One false Grow.NtoB unheld = refl
-gift_given Profile.One false Grow.NtoT unheld = refl
-gift_given Profile.One false Grow.BtoT unheld = refl
-gift_given Profile.Two whole g unheld = refl
+gift_given p whole g unheld = refl
 
 -- ---- operations
 

@@ -1,25 +1,15 @@
 -- The Acquire that waits is the one that its client has open: after any event.
-use Rattle.tl_coherence.proofs.client.Imports.{Message, MessageA, Config, Cap, Grow, block_at, Op}
-use Rattle.tl_coherence.proofs.client.Imports.{Reply, copy_stored, whole_grow, acquisition, AbstractState}
-use Rattle.tl_coherence.proofs.client.Imports.{acquire_opcode, asked}
-use Rattle.tl_coherence.proofs.client.Imports.{kind_taken}
-use Rattle.tl_coherence.proofs.client.Imports.{IsInvariant, ClientBlock, NoAcquire}
-use Rattle.tl_coherence.proofs.client.Imports.{AcquireOpen, after_acquire, after_probe, after_release}
-use Rattle.tl_coherence.proofs.client.Imports.{after_release_ack, after_release_taken, after_report}
-use Rattle.tl_coherence.proofs.client.Imports.{Service, Waits, Block, acquiring_block}
-use Rattle.tl_coherence.proofs.client.Imports.{releasing_block}
-use Rattle.tl_coherence.proofs.client.Imports.{served_block, stored_block, view, acquire_of}
-use Rattle.tl_coherence.proofs.client.Imports.{block_message, Kind, Acquire}
-use Rattle.tl_coherence.proofs.client.Imports.{Packet, set}
-use Rattle.std.proofs.Common.{◌≡◌, ℕ, Bool, true, false, not, ◌&&◌, List, refl, sym, ◌∙◌, ap}
-use Rattle.std.proofs.Common.{subst, inl, inr}
-use Rattle.std.{specs.Prelude.◌==◌, specs.Prelude.if◌then◌else◌, proofs.lemmas.Bool.cases_eq}
-use Rattle.tl_coherence.specs.{protocol.Phase.is_unacquired, protocol.PhaseSteps.after_served}
-use Rattle.tl_coherence.specs.{refinement.SimulationRelation.IsAcquireOf}
-use Rattle.tl_coherence.proofs.{queues.Facts.own_wants, protocol.FollowKept.IsAskable}
-use Rattle.tl_coherence.proofs.queues.Tokens.{same_number, set-same, set-other, set-part}
-use Rattle.tl_coherence.proofs.protocol.Events.{true-taken}
-use Rattle.std.specs.Prelude.{⊤}
+use Rattle.std.proofs.Common.{◌≡◌, ℕ, Bool, true, false, not, ◌&&◌, List, refl, sym, ◌∙◌, ap, subst, inl, inr, ◌==◌}
+use Rattle.std.proofs.Common.{if◌then◌else◌}
+use Rattle.tl_coherence.proofs
+use proofs.Imports.{cases_eq, ⊤, Message, MessageA, Config, Cap, Grow, block_at, Op, Reply, copy_stored, whole_grow}
+use proofs.Imports.{acquisition, IsInvariant, Kind, Acquire, Packet, set, ClientBlock, NoAcquire, AcquireOpen}
+use proofs.Imports.{is_unacquired, after_acquire, after_probe, after_release, after_release_ack, after_release_taken}
+use proofs.Imports.{after_report, after_served, Service, Waits, Block, acquiring_block, releasing_block, served_block}
+use proofs.Imports.{stored_block, view, AbstractState, acquire_opcode, asked, kind_taken, acquire_of, block_message}
+use proofs.Imports.{IsAcquireOf}
+use proofs.queues.{Facts.own_wants, Tokens.same_number, Tokens.set-same, Tokens.set-other, Tokens.set-part}
+use proofs.protocol.{FollowKept.IsAskable, Events.true-taken}
 
 -- of all blocks
 abbrev pub AreAcquired : {w : ℕ} → (ℕ → MessageA w) → (ℕ → Block (List ℕ)) → Type 0

@@ -1,33 +1,24 @@
 -- The manager's end after any beat that is delivered on channel C or E: it takes the beat, and all that is kept of it
 -- is kept as the protocol follows.
-use Rattle.tl_coherence.proofs.deliveries.Imports.{reaction-part, Reaction, Handed, IsWidth, Beat, Channel, Message}
-use Rattle.tl_coherence.proofs.deliveries.Imports.{beats_of, unfinished, completes, Config, Prune, Report, prune_left}
-use Rattle.tl_coherence.proofs.deliveries.Imports.{on_link, same_perm, IsFor, reaction, End, AbstractState, ack_taken}
-use Rattle.tl_coherence.proofs.deliveries.Imports.{packet_taken, with_state, Log, ProbeAnswered, GrantTaken, Block}
-use Rattle.tl_coherence.proofs.deliveries.Imports.{release_taken, packet, let_block, prune_told, block_message}
-use Rattle.tl_coherence.proofs.deliveries.Imports.{report_told, System, Kind, ProbeAck, Release, GrantAck, Packet}
-use Rattle.tl_coherence.proofs.deliveries.Imports.{ReleaseAck, SimulationRelation, is_caching, Perm}
-use Rattle.tl_coherence.proofs.{queues.FirstToken.first-token, manager.ManagersEnd.at_manager-matched}
-use Rattle.tl_coherence.proofs.{queues.Carried.IsNext, manager.ManagedAcks.IsAcked}
-use Rattle.tl_coherence.proofs.{queues.Tokens.set-same, manager.Admitted.head_all}
-use Rattle.tl_manager.{proofs.calls.Events.reaction-ack, specs.statement.Handing.release_ack}
-use Rattle.tl_manager.{proofs.pending.LinkHistories.whole-e}
 use Rattle.std.proofs.Common.{[], ◌≡◌, ℕ, ◌+◌, Bool, true, false, List, ◌∷◌, None, length, refl, sym, ◌∙◌, ap, subst}
-use Rattle.std.{specs.Prelude.◌==◌, specs.Prelude.if◌then◌else◌, proofs.lemmas.Bool.eqb-true}
-use Rattle.tl_beat.specs.declared.beat.BeatE.{BeatE}
-use Rattle.tl_burst.specs.declared.message.MessageC.{MessageC}
-use Rattle.tl_burst.specs.statement.Burst.{begun, c_beat_of}
-use Rattle.tl_params.{specs.statement.Param.prune_code, specs.declared.key.Key.TheVariants.GrantSink}
-use Rattle.tl_rules.{specs.statement.Conformance.broken_in_order, specs.statement.History.pending}
+use Rattle.std.proofs.Common.{eqb-true, ◌==◌, if◌then◌else◌}
+use Rattle.tl_coherence.proofs
+use proofs.Imports.{Beat, BeatE, Channel, IsWidth, Message, MessageC, beats_of, begun, c_beat_of, unfinished, completes}
+use proofs.Imports.{Config, GrantSink, Prune, Report, Perm, prune_left, prune_code, on_link, same_perm, broken_in_order}
+use proofs.Imports.{pending, reaction-part, reaction-ack, whole-e, End, Reaction, Handed, release_ack, reaction, Kind}
+use proofs.Imports.{ProbeAck, Release, GrantAck, Packet, ReleaseAck, ProbeAnswered, ReleaseSent, GrantTaken, Block}
+use proofs.Imports.{release_taken, packet, let_block, grant_ack_taken, AbstractState, ack_taken, packet_taken}
+use proofs.Imports.{with_state, prune_told, block_message, report_told, SimulationRelation, is_caching, IsFor, Log}
+use proofs.Imports.{System}
 use Rattle.tl_manager.specs.code.Kept as manager
-use Rattle.tl_coherence.specs.{protocol.Phase.ReleaseSent, protocol.Protocol.grant_ack_taken}
-use Rattle.tl_coherence.proofs.manager.ManagerAfter.{IsManagerOf, left, IsEnd, report_part-left, released-left}
-use Rattle.tl_coherence.proofs.manager.ManagerAfter.{acked-left, reaction-released}
-use Rattle.tl_coherence.proofs.manager.ManagerTakes.{IsTakenUp, ack-order, by-first_c, by-first_e, release-order}
-use Rattle.tl_coherence.proofs.manager.ManagerTakes.{report-order, takes}
-use Rattle.tl_coherence.proofs.manager.Reporting.{report-about, release-about}
-use Rattle.tl_coherence.proofs.deliveries.LastReportDelivered.{pushed, Does, reported-last}
-use Rattle.tl_coherence.proofs.protocol.FirstTokens.{first-grant_ack, first-release, first-report}
+use proofs.queues.{FirstToken.first-token, Carried.IsNext, Tokens.set-same}
+use proofs.manager.{ManagersEnd.at_manager-matched, ManagedAcks.IsAcked, Admitted.head_all, Reporting.report-about}
+use proofs.manager.{Reporting.release-about}
+use proofs.manager.ManagerAfter.{IsManagerOf, left, IsEnd, report_part-left, released-left, acked-left}
+use proofs.manager.ManagerAfter.{reaction-released}
+use proofs.manager.ManagerTakes.{IsTakenUp, ack-order, by-first_c, by-first_e, release-order, report-order, takes}
+use proofs.deliveries.LastReportDelivered.{pushed, Does, reported-last}
+use proofs.protocol.FirstTokens.{first-grant_ack, first-release, first-report}
 
 -- ---- any beat of a message of channel C
 

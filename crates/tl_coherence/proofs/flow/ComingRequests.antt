@@ -1,17 +1,14 @@
 -- What is half taken on channel A while a response is on its way.
-use Rattle.tl_coherence.proofs.flow.Imports.{Beat, Message, MessageA, begun, unfinished, Config, on_link}
-use Rattle.tl_coherence.proofs.flow.Imports.{comes_in_request, IsCarried, Log, State, SourceState, Asked, Acquires}
-use Rattle.tl_coherence.proofs.flow.Imports.{view, packet, is_on, is_unserved, is_wanting, AccessMessages}
-use Rattle.tl_coherence.proofs.flow.Imports.{block_message, message_of, message_of_kind, System, Kind, Request, Acquire}
-use Rattle.tl_coherence.proofs.flow.Imports.{Packet, SimulationRelation, is_caching, Channel}
-use Rattle.std.proofs.Common.{◌≡◌, subst, ℕ, zero, suc, Bool, true, false, List, [], ◌∷◌, refl, sym, ◌∙◌, ap}
-use Rattle.std.{specs.Prelude.◌==◌, specs.Prelude.map, proofs.lemmas.Bool.eqb-true}
-use Rattle.tl_client.specs.statement.Send.{acquisition}
-use Rattle.tl_coherence.specs.refinement.AbstractStep.{acquire_opcode}
-use Rattle.tl_coherence.proofs.{protocol.HeadOfD.acquire-used, queues.FirstToken.own_kind, protocol.Heads.asked-first}
-use Rattle.tl_coherence.proofs.{protocol.Heads.rendered-acquire, queues.Phases.and_left, queues.Phases.and_right}
-use Rattle.tl_coherence.proofs.{protocol.BothParts.wanting-is}
-use Rattle.tl_coherence.proofs.protocol.FirstTokens.{first-shown}
+use Rattle.std.proofs.Common.{◌≡◌, subst, ℕ, zero, suc, Bool, true, false, List, [], ◌∷◌, refl, sym, ◌∙◌, ap, eqb-true}
+use Rattle.std.proofs.Common.{◌==◌, map}
+use Rattle.tl_coherence.proofs
+use proofs.Imports.{Beat, Channel, Message, MessageA, begun, unfinished, Config, on_link, comes_in_request, acquisition}
+use proofs.Imports.{Kind, Request, Acquire, Packet, State, SourceState, Asked, Acquires, view, packet, is_on}
+use proofs.Imports.{is_unserved, is_wanting, acquire_opcode, IsCarried, AccessMessages, block_message, message_of}
+use proofs.Imports.{message_of_kind, SimulationRelation, is_caching, Log, System}
+use proofs.protocol.{HeadOfD.acquire-used, Heads.asked-first, Heads.rendered-acquire, BothParts.wanting-is}
+use proofs.protocol.{FirstTokens.first-shown}
+use proofs.queues.{FirstToken.own_kind, Phases.and_left, Phases.and_right}
 
 -- ---- what is half taken on channel A
 

@@ -1,29 +1,23 @@
 -- A beat of channel B or C that is delivered breaks no rule after what was delivered before it.
-use Rattle.tl_coherence.proofs.flow.Imports.{IsWidth, Beat, Channel, Message, MessageA, MessageC, beat_of, History}
-use Rattle.tl_coherence.proofs.flow.Imports.{channel_of, unfinished, Config, Level, Prune, Report, Profile, on_link}
-use Rattle.tl_coherence.proofs.flow.Imports.{broken_in_order, broken_after, illegal, same_block, level_of, flow, Log}
-use Rattle.tl_coherence.proofs.flow.Imports.{View, Granting, Acknowledging, ProbeSent, ProbeAnswered, ReleasePhase}
-use Rattle.tl_coherence.proofs.flow.Imports.{ReleaseSent, ReleaseAcked, AcquirePhase, NoAcquire, AcquireOpen, ok}
-use Rattle.tl_coherence.proofs.flow.Imports.{is_unreleased, is_unprobed, Block, State, packet, view, is_granting}
-use Rattle.tl_coherence.proofs.flow.Imports.{is_acknowledging, is_answered, is_acked, is_on, AccessMessages, message_of}
-use Rattle.tl_coherence.proofs.flow.Imports.{message_of_kind, block_message, prune_told, report_told, cap_waited}
-use Rattle.tl_coherence.proofs.flow.Imports.{System, Kind, Probe, ProbeAck, Release, Packet, SimulationRelation}
-use Rattle.tl_coherence.proofs.flow.Imports.{MonitorRelations, is_caching}
-use Rattle.std.proofs.Common.{◌≡◌, ℕ, true, false, List, [], ◌∷◌, Some, None, refl, sym, ◌∙◌, ap, subst}
-use Rattle.std.specs.Prelude.{map}
-use Rattle.tl_burst.{specs.statement.Burst.c_beat_of, specs.statement.Messages.channel_in}
-use Rattle.tl_params.specs.statement.Param.{report_at}
-use Rattle.tl_coherence.specs.{protocol.Phase.ProbePhase, protocol.Phase.same_report, protocol.Tokens.is_sent}
-use Rattle.tl_coherence.proofs.{queues.Carried.IsNext, client.ClientTakes.sound-beat, queues.FirstToken.IsFirst}
-use Rattle.tl_coherence.proofs.{queues.FirstToken.first-token, queues.Phases.and_left, queues.Phases.and_right}
-use Rattle.tl_coherence.proofs.{client.ProbeDelivered.not_coming, queues.Tokens.same_number}
-use Rattle.tl_coherence.proofs.queues.Facts.{answered_other, granting_alone, is_other, release_begins}
-use Rattle.tl_coherence.proofs.queues.PhaseFacts.{acknowledging_quiet, release_alone, report_first, report_fits}
-use Rattle.tl_coherence.proofs.flow.FlowOrders.{beat-flows, probe-flows, report-flows, release-flows}
-use Rattle.tl_coherence.proofs.manager.ManagerTakes.{by-first_c, same_report-is, seen_cap, unanswered}
-use Rattle.tl_coherence.proofs.manager.Reporting.{report-about, release-about}
-use Rattle.tl_coherence.proofs.protocol.BothParts.{is_of-is}
-use Rattle.tl_coherence.proofs.protocol.FirstTokens.{first-release, first-report, first-shown}
+use Rattle.std.proofs.Common.{◌≡◌, ℕ, true, false, List, [], ◌∷◌, Some, None, refl, sym, ◌∙◌, ap, subst, map}
+use Rattle.tl_coherence.proofs
+use proofs.Imports.{Beat, Channel, IsWidth, Message, MessageA, MessageC, beat_of, c_beat_of, History, channel_of}
+use proofs.Imports.{unfinished, channel_in, Config, Level, Prune, Report, Profile, report_at, on_link, broken_in_order}
+use proofs.Imports.{broken_after, illegal, same_block, level_of, Kind, Probe, ProbeAck, Release, Packet, View, Granting}
+use proofs.Imports.{Acknowledging, ProbeSent, ProbeAnswered, ReleasePhase, ReleaseSent, ReleaseAcked, AcquirePhase}
+use proofs.Imports.{NoAcquire, AcquireOpen, ok, is_unreleased, is_unprobed, ProbePhase, same_report, Block, State}
+use proofs.Imports.{packet, view, is_on, is_granting, is_acknowledging, is_answered, is_acked, is_sent, AccessMessages}
+use proofs.Imports.{message_of, message_of_kind, block_message, prune_told, report_told, SimulationRelation}
+use proofs.Imports.{MonitorRelations, is_caching, cap_waited, flow, Log, System}
+use proofs.queues.{Carried.IsNext, FirstToken.IsFirst, FirstToken.first-token, Phases.and_left, Phases.and_right}
+use proofs.queues.{Tokens.same_number, Facts.answered_other, Facts.granting_alone, Facts.is_other, Facts.release_begins}
+use proofs.queues.{PhaseFacts.acknowledging_quiet, PhaseFacts.release_alone, PhaseFacts.report_first}
+use proofs.queues.{PhaseFacts.report_fits}
+use proofs.client.{ClientTakes.sound-beat, ProbeDelivered.not_coming}
+use proofs.flow.FlowOrders.{beat-flows, probe-flows, report-flows, release-flows}
+use proofs.manager.{ManagerTakes.by-first_c, ManagerTakes.same_report-is, ManagerTakes.seen_cap}
+use proofs.manager.{ManagerTakes.unanswered, Reporting.report-about, Reporting.release-about}
+use proofs.protocol.{BothParts.is_of-is, FirstTokens.first-release, FirstTokens.first-report, FirstTokens.first-shown}
 
 -- the next beat of a message whose first breaks no rule of order
 pub next-flows : {w : ℕ} (l : Level) (p : Profile) {m : Message w} {x : Beat w} {rest : List (Beat w)}

@@ -1,41 +1,23 @@
 -- What the protocol does at an event to the accesses that are answered: each was answered before, or nobody is recorded
 -- any more with what excludes it, and it is answered what the block had.
-use Rattle.std.proofs.Common.{◌≡◌, ℕ, true, false, not, ◌&&◌, List, ◌∷◌, ◌⊎◌, Option, Some, None, refl, sym, ◌∙◌}
-use Rattle.std.proofs.Common.{ap, inl, inr}
-use Rattle.std.{specs.Prelude.◌==◌, specs.Prelude.length, proofs.lemmas.Bool.cases_eq}
-use Rattle.tl_burst.{specs.declared.message.Message.Message, specs.declared.message.MessageA.MessageA}
-use Rattle.tl_params.{specs.declared.config.Config.Config, specs.declared.param.Cap.Cap}
-use Rattle.tl_params.{specs.declared.param.Report.Report}
-use Rattle.tl_params.{specs.statement.Param.cap_right}
-use Rattle.tl_rules.{specs.statement.History.block_at, specs.statement.History.is_acquire}
-use Rattle.tl_rules.{specs.statement.Windows.leaves, specs.statement.Windows.needs, specs.statement.Effect.answer_of}
-use Rattle.tl_client.{specs.declared.operation.Op.Op, specs.declared.reply.Reply.Reply, specs.statement.Send.access}
-use Rattle.tl_manager.{specs.statement.Handing.access_answer, specs.statement.Holders.cap_probed}
-use Rattle.tl_coherence.specs.refinement.AbstractStep.{AbstractState, asked, kind_taken, access_taken}
-use Rattle.tl_coherence.specs.refinement.AbstractStep.{last_taken}
-use Rattle.tl_coherence.specs.refinement.AbstractStep.{taken_by_client, some_below, probes_some}
-use Rattle.tl_coherence.specs.refinement.AbstractStep.{performs, answers, bytes_at}
-use Rattle.tl_coherence.specs.{refinement.PacketMessages.report_told, refinement.SourceRelation.IsFor}
-use Rattle.tl_coherence.specs.{statement.Log.Log, statement.System.System, statement.Permissions.perm_le}
-use Rattle.tl_coherence.specs.{protocol.PhaseSteps.after_report}
-use Rattle.tl_coherence.specs.refinement.SimulationRelation.{SimulationRelation, is_caching}
-use Rattle.tl_coherence.specs.protocol.Phase.{Other, ProbeAnswered}
-use Rattle.tl_coherence.specs.protocol.Phase.{is_unprobed}
-use Rattle.tl_coherence.specs.protocol.Protocol.{Block, Waits, GrantSent, State, SourceState, SourceFree}
-use Rattle.tl_coherence.specs.protocol.Protocol.{Asked, InService, Replied, Acquires, view, packet, on}
-use Rattle.tl_coherence.specs.protocol.Protocol.{written, performed_block, ended_block}
-use Rattle.tl_coherence.specs.protocol.Packet.{Kind, ProbeAck, Answer}
-use Rattle.tl_coherence.specs.protocol.Packet.{Packet, set, set_at}
-use Rattle.tl_coherence.proofs.{client.AnswersKept.set_at-apart, manager.Choices.plain-past, queues.Codes.low_cap}
-use Rattle.tl_coherence.proofs.{protocol.BothParts.quiet-is}
-use Rattle.tl_coherence.proofs.{protocol.Events.IsReady, protocol.RequestsKept.unprobed}
-use Rattle.tl_coherence.proofs.{protocol.RequestsKept.settled_all, queues.Facts.reported_within}
-use Rattle.tl_coherence.proofs.{queues.Facts.spared_within}
-use Rattle.tl_coherence.proofs.flow.Excluded.{above_le, leaves_within, leaves_all}
-use Rattle.tl_coherence.proofs.memory.BesideTaken.{intent-reply, memory-reported, memory-unprobed}
-use Rattle.tl_coherence.proofs.queues.Tokens.{set-same, set-other, set_at-same}
-use Rattle.tl_coherence.proofs.protocol.Events.{ready-access, true-taken}
-use Rattle.tl_coherence.proofs.protocol.FirstTokens.{first-report}
+use Rattle.std.proofs.Common.{◌≡◌, ℕ, true, false, not, ◌&&◌, List, ◌∷◌, ◌⊎◌, Option, Some, None, refl, sym, ◌∙◌, ap}
+use Rattle.std.proofs.Common.{inl, inr, length, ◌==◌}
+use Rattle.tl_coherence.proofs
+use proofs.Imports.{cases_eq, Message, MessageA, Config, Cap, Report, cap_right, answer_of, block_at, is_acquire}
+use proofs.Imports.{leaves, needs, Op, Reply, access, access_answer, cap_probed, Kind, ProbeAck, Answer, Packet, set}
+use proofs.Imports.{set_at, Other, ProbeAnswered, is_unprobed, after_report, Block, Waits, GrantSent, State}
+use proofs.Imports.{SourceState, SourceFree, Asked, InService, Replied, Acquires, view, packet, on, written}
+use proofs.Imports.{performed_block, ended_block, AbstractState, asked, kind_taken, access_taken, last_taken}
+use proofs.Imports.{taken_by_client, some_below, probes_some, performs, answers, bytes_at, report_told}
+use proofs.Imports.{SimulationRelation, is_caching, IsFor, Log, perm_le, System}
+use proofs.client.AnswersKept.{set_at-apart}
+use proofs.manager.Choices.{plain-past}
+use proofs.queues.{Codes.low_cap, Facts.reported_within, Facts.spared_within, Tokens.set-same, Tokens.set-other}
+use proofs.queues.{Tokens.set_at-same}
+use proofs.protocol.{BothParts.quiet-is, Events.IsReady, Events.ready-access, Events.true-taken, RequestsKept.unprobed}
+use proofs.protocol.{RequestsKept.settled_all, FirstTokens.first-report}
+use proofs.flow.Excluded.{above_le, leaves_within, leaves_all}
+use proofs.memory.BesideTaken.{intent-reply, memory-reported, memory-unprobed}
 
 -- ---- one place of two numbers
 

@@ -1,34 +1,24 @@
 -- What is open after the first token of a channel is taken: an answer ends a request, a Grant turns one into a
 -- GrantAck,
 -- a GrantAck ends it, a ReleaseAck ends a Release, and all else leaves what is open.
-use Rattle.tl_coherence.proofs.outstanding.Imports.{Config, AbstractState, Log, is_used}
-use Rattle.tl_coherence.proofs.outstanding.Imports.{is_let, State, SourceState, SourceFree, Asked, Acquires, packet}
-use Rattle.tl_coherence.proofs.outstanding.Imports.{System, ReleaseAck, Packet, one_if}
-use Rattle.tl_coherence.proofs.outstanding.Imports.{SimulationRelation, is_caching}
-use Rattle.std.proofs.Common.{◌≡◌, ℕ, suc, ◌<◌, Bool, true, false, List, [], ◌∷◌, ◌++◌, length, refl}
-use Rattle.std.proofs.Common.{sym, ◌∙◌, ap, arith, Option, Some, None}
-use Rattle.std.{specs.Prelude.◌==◌, specs.Prelude.if◌then◌else◌, proofs.lemmas.List.length-append}
-use Rattle.tl_params.{specs.declared.param.Cap.Cap, specs.declared.param.Prune.Prune}
-use Rattle.tl_params.{specs.declared.param.Report.Report}
+use Rattle.std.proofs.Common.{◌≡◌, ℕ, suc, ◌<◌, Bool, true, false, List, [], ◌∷◌, ◌++◌, length, refl, sym, ◌∙◌, ap}
+use Rattle.std.proofs.Common.{arith, Option, Some, None, length-append, ◌==◌, if◌then◌else◌}
+use Rattle.tl_coherence.proofs
+use proofs.Imports.{Config, Cap, Prune, Report, one_if, is_used, is_let, ReleaseAck, Packet, Kind, Answer, Grant}
+use proofs.Imports.{GrantAck, set, State, SourceState, SourceFree, Asked, Acquires, packet, Block, InService, Replied}
+use proofs.Imports.{on, is_probed, with_probe, answered_link, served_link, probed_link, popped_link, ended_link}
+use proofs.Imports.{granted_link, let_link, taken_link, access_answered, access_served, acquire_granted, acquire_served}
+use proofs.Imports.{probe_taken, report_taken, report_answers, report_grants, release_taken, GrantSent, answer_taken}
+use proofs.Imports.{grant_taken, release_ack_taken, grant_ack_taken, AbstractState, taken_by_client, kind_taken}
+use proofs.Imports.{SimulationRelation, is_caching, Log, System}
+use Rattle.tl_coherence.specs.protocol.Protocol.{Link}
 use Rattle.tl_coherence.specs.refinement.AbstractStep as follow
-use Rattle.tl_coherence.specs.refinement.AbstractStep.{with_state, some_below, probes_some, access_taken, request_taken}
-use Rattle.tl_coherence.specs.refinement.AbstractStep.{acquire_taken, is_unheld, gift, granted_after, last_taken}
-use Rattle.tl_coherence.specs.refinement.AbstractStep.{ack_taken, taken_by_client, kind_taken}
-use Rattle.tl_coherence.specs.protocol.Protocol.{Block, Link, InService, Replied, on, is_probed}
-use Rattle.tl_coherence.specs.protocol.Protocol.{with_probe, answered_link, served_link, probed_link, popped_link}
-use Rattle.tl_coherence.specs.protocol.Protocol.{ended_link, granted_link, let_link, taken_link, access_answered}
-use Rattle.tl_coherence.specs.protocol.Protocol.{access_served, acquire_granted, acquire_served, probe_taken}
-use Rattle.tl_coherence.specs.protocol.Protocol.{report_taken, report_answers, report_grants, release_taken, GrantSent}
-use Rattle.tl_coherence.specs.protocol.Protocol.{answer_taken, grant_taken, release_ack_taken, grant_ack_taken}
-use Rattle.tl_coherence.specs.protocol.Packet.{Kind, Answer, Grant, GrantAck, set}
-use Rattle.tl_coherence.proofs.{protocol.TokenNames.AreBounded}
-use Rattle.tl_coherence.proofs.{queues.Tokens.set-part}
-use Rattle.tl_coherence.proofs.protocol.HeadOfD.{answer-due, grant-due, ack-due}
-use Rattle.tl_coherence.proofs.protocol.OpenCounts.{marked-set, set_at-part, acks-set, acks-same, clients_in}
-use Rattle.tl_coherence.proofs.protocol.OpenCounts.{sources_in, IsBalance, requests-split, balance-same}
-use Rattle.tl_coherence.proofs.protocol.Events.{true-taken}
-use Rattle.tl_coherence.proofs.protocol.FirstTokens.{first-request}
-use Rattle.tl_coherence.proofs.rank.RankParts.{serving-use}
+use proofs.protocol.{TokenNames.AreBounded, HeadOfD.answer-due, HeadOfD.grant-due, HeadOfD.ack-due, Events.true-taken}
+use proofs.protocol.{FirstTokens.first-request}
+use proofs.queues.Tokens.{set-part}
+use proofs.protocol.OpenCounts.{marked-set, set_at-part, acks-set, acks-same, clients_in, sources_in, IsBalance}
+use proofs.protocol.OpenCounts.{requests-split, balance-same}
+use proofs.rank.RankParts.{serving-use}
 
 -- ---- links whose channel E stays
 

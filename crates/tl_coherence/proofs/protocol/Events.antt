@@ -1,20 +1,15 @@
 -- Each message that is taken is one event of the protocol, or does nothing: what holds after each of them holds.
-use Rattle.tl_coherence.proofs.protocol.Imports.{Message, MessageA, Config, Cap, Grow, Report, Kind, Request}
-use Rattle.tl_coherence.proofs.protocol.Imports.{Acquire, Probe, ProbeAck, Release, Answer, Grant, ReleaseAck, GrantAck}
-use Rattle.tl_coherence.proofs.protocol.Imports.{Packet, cap_asked, AcquirePhase, AcquireOpen, NoAcquire, is_unprobed}
-use Rattle.tl_coherence.proofs.protocol.Imports.{is_granted_data, is_unacquired, ClientBlock, Block, Service, Waits, GrantSent, Free}
-use Rattle.tl_coherence.proofs.protocol.Imports.{NoRelease}
 use Rattle.std.proofs.Common.{◌≡◌, ℕ, Bool, true, false, not, ◌&&◌, List, Option, Some, None, length, refl, sym, ◌∙◌}
-use Rattle.std.specs.Prelude.{◌==◌, if◌then◌else◌, ⊤}
-use Rattle.tl_rules.specs.statement.History.{block_at, is_acquire}
-use Rattle.tl_manager.specs.statement.Holders.{cap_probed}
-use Rattle.tl_coherence.specs.refinement.AbstractStep.{AbstractState, with_state, with_served, some_below, gift}
-use Rattle.tl_coherence.specs.refinement.AbstractStep.{is_unheld, probes_some, acquire_opcode, access_taken}
-use Rattle.tl_coherence.specs.refinement.AbstractStep.{request_taken, acquire_taken, granted_after, last_taken}
-use Rattle.tl_coherence.specs.refinement.AbstractStep.{taken_by_client, kind_taken}
-use Rattle.tl_coherence.specs.protocol.Protocol.{is_probed, acquire_served, acquire_granted, report_taken}
-use Rattle.tl_coherence.specs.refinement.PacketMessages.{report_told}
-use Rattle.tl_client.specs.statement.Send.{acquisition}
+use Rattle.std.proofs.Common.{◌==◌, if◌then◌else◌}
+use Rattle.tl_coherence.proofs
+use proofs.Imports.{⊤, Message, MessageA, Config, Cap, Grow, Report, block_at, is_acquire, acquisition, cap_probed}
+use proofs.Imports.{cap_asked, Kind, Request, Acquire, Probe, ProbeAck, Release, Answer, Grant, ReleaseAck, GrantAck}
+use proofs.Imports.{Packet, AcquirePhase, AcquireOpen, NoAcquire, is_unprobed, is_unacquired, ClientBlock, NoRelease}
+use proofs.Imports.{is_granted_data, Block, Service, Waits, GrantSent, Free, is_probed, acquire_served, acquire_granted}
+use proofs.Imports.{report_taken, AbstractState, with_state, some_below, gift, is_unheld, probes_some, acquire_opcode}
+use proofs.Imports.{access_taken, request_taken, acquire_taken, granted_after, last_taken, taken_by_client, kind_taken}
+use proofs.Imports.{report_told}
+use Rattle.tl_coherence.specs.refinement.AbstractStep.{with_served}
 
 -- what isn't told by the token alone: a request isn't stalled, and has a tracker that no block has; nor is a Probe
 abbrev pub IsReady : {w : ℕ} → ℕ → ℕ → Kind → ℕ → AbstractState w → Type 0

@@ -1,13 +1,12 @@
 -- What the first token of a channel says of its block, or of the source of its access.
-use Rattle.tl_coherence.proofs.protocol.Imports.{is_asked, is_replied, IsInvariant, ProbeSent, ProbeAnswered}
-use Rattle.tl_coherence.proofs.protocol.Imports.{ReleaseSent, ReleaseAcked, State, Asked, Replied, GrantTaken, on}
-use Rattle.tl_coherence.proofs.protocol.Imports.{is_transfer, shown, packet, Kind, Request, Probe, ProbeAck, Release}
-use Rattle.tl_coherence.proofs.protocol.Imports.{Answer, ReleaseAck, GrantAck, Packet}
 use Rattle.std.proofs.Common.{◌≡◌, ℕ, Bool, true, List, ◌∷◌, refl}
-use Rattle.tl_coherence.specs.refinement.PacketMessages.{cap_sent, report_told, prune_told}
-use Rattle.tl_coherence.proofs.queues.{Rendered.same_kind_again, Tokens.holds-first}
-use Rattle.tl_coherence.proofs.protocol.BothParts.{is_asked-is, is_replied-is, sent-is, answered-is, releasing-is}
-use Rattle.tl_coherence.proofs.protocol.BothParts.{acked-is, acknowledging-is}
+use Rattle.tl_coherence.proofs
+use proofs.Imports.{is_asked, is_replied, IsInvariant, Kind, Request, Probe, ProbeAck, Release, Answer, ReleaseAck}
+use proofs.Imports.{GrantAck, Packet, ProbeSent, ProbeAnswered, ReleaseSent, ReleaseAcked, State, Asked, Replied}
+use proofs.Imports.{GrantTaken, on, packet, is_transfer, shown, cap_sent, report_told, prune_told}
+use proofs.queues.{Rendered.same_kind_again, Tokens.holds-first}
+use proofs.protocol.BothParts.{is_asked-is, is_replied-is, sent-is, answered-is, releasing-is, acked-is}
+use proofs.protocol.BothParts.{acknowledging-is}
 
 pub first-shown : {X : Type 0} {caching : ℕ → Bool} {s : State X} → IsInvariant caching s → (c : ℕ) (k : Kind) {n : ℕ}
     {rest : List Packet} → is_transfer k ≡ true → on k (s.link c) ≡ packet k n ∷ rest → shown k c (s.block n) ≡ true

@@ -1,45 +1,26 @@
 -- The protocol keeps its invariant as it follows the world: at each message that is taken, the first token and the
 -- invariant give what its event asks for.
-use Rattle.tl_coherence.proofs.protocol.Imports.{MessageA, Config, Cap, Grow, Report, Perm, prune_left, same_perm}
-use Rattle.tl_coherence.proofs.protocol.Imports.{IsInvariant, ClientBlock}
-use Rattle.tl_coherence.proofs.protocol.Imports.{ProbeAnswered, NoRelease}
-use Rattle.tl_coherence.proofs.protocol.Imports.{NoAcquire, AcquireOpen, is_unprobed, after_report, Service}
-use Rattle.tl_coherence.proofs.protocol.Imports.{Waits, GrantSent, Block, SourceFree, view, packet}
-use Rattle.tl_coherence.proofs.protocol.Imports.{is_granting, is_answered, on, Kind}
-use Rattle.tl_coherence.proofs.protocol.Imports.{ProbeAck, Grant, Packet}
-use Rattle.tl_coherence.proofs.protocol.Imports.{set, Message}
-use Rattle.std.proofs.Common.{◌≡◌, ℕ, ◌≤◌, Bool, true, false, not, ◌&&◌, List, ◌∷◌, Some, None, length, refl}
-use Rattle.std.proofs.Common.{sym, ◌∙◌, inl, inr}
-use Rattle.std.{specs.Prelude.◌==◌, specs.Prelude.⊤, proofs.lemmas.Bool.eqb-true}
-use Rattle.std.{proofs.lemmas.Bool.not-true, proofs.lemmas.Option.same_Some}
-use Rattle.tl_params.{specs.statement.Param.grow_left}
-use Rattle.tl_rules.specs.statement.History.{block_at, is_acquire}
-use Rattle.tl_client.{specs.declared.operation.Op.Op, specs.declared.reply.Reply.Reply, specs.statement.Ask.copy_stored}
-use Rattle.tl_client.{specs.statement.Ask.whole_grow}
-use Rattle.tl_manager.specs.statement.Holders.{cap_probed}
-use Rattle.tl_coherence.specs.refinement.AbstractStep.{AbstractState, asked, some_below, performs}
-use Rattle.tl_coherence.specs.refinement.AbstractStep.{is_unheld, granted_after}
-use Rattle.tl_coherence.specs.refinement.AbstractStep.{kind_taken}
-use Rattle.tl_coherence.specs.protocol.Phase.{grow_fits, is_whole}
-use Rattle.tl_coherence.specs.protocol.Protocol.{report_taken, grant_taken, report_answers}
-use Rattle.tl_coherence.specs.refinement.PacketMessages.{report_told}
-use Rattle.tl_coherence.proofs.{queues.Phases.and_right, queues.Tokens.same_number}
-use Rattle.tl_coherence.proofs.{protocol.Blocks.outside-set, protocol.Blocks.busy-inside}
-use Rattle.tl_coherence.proofs.{protocol.Probed.probe_taken-kept, protocol.Answered.answer_taken-kept}
-use Rattle.tl_coherence.proofs.{protocol.Granted.room-trunk, protocol.GrantedAll.report_grants-kept}
-use Rattle.tl_coherence.proofs.{protocol.Ended.report_answers-kept, protocol.TakenAll.grant_taken-kept}
-use Rattle.tl_coherence.proofs.queues.Facts.{acquire_fits, answered_other, granting_asks}
-use Rattle.tl_coherence.proofs.protocol.Asked.{access_asked-kept, acquire_asked-kept, release_asked-kept}
-use Rattle.tl_coherence.proofs.protocol.Asked.{block_stored-kept}
-use Rattle.tl_coherence.proofs.protocol.Reported.{report_taken-kept, release_taken-kept}
-use Rattle.tl_coherence.proofs.protocol.Acknowledged.{release_ack_taken-kept, grant_ack_taken-kept}
-use Rattle.tl_coherence.proofs.protocol.BothParts.{wanting-is}
-use Rattle.tl_coherence.proofs.protocol.BothParts.{not-calm, granting-own}
-use Rattle.tl_coherence.proofs.protocol.RequestsKept.{some-one, settled_all, leaves-bytes, gift_fits, gift_trunk}
-use Rattle.tl_coherence.proofs.protocol.RequestsKept.{unheld_none, access_answered-followed, access_served-followed}
-use Rattle.tl_coherence.proofs.protocol.RequestsKept.{acquire_granted-followed, acquire_served-followed}
-use Rattle.tl_coherence.proofs.protocol.Events.{IsReady, ready-access, true-taken}
-use Rattle.tl_coherence.proofs.protocol.FirstTokens.{first-answer, first-grant_ack, first-probe, first-release, first-release_ack, first-report, first-shown}
+use Rattle.std.proofs.Common.{◌≡◌, ℕ, ◌≤◌, Bool, true, false, not, ◌&&◌, List, ◌∷◌, Some, None, length, refl, sym, ◌∙◌}
+use Rattle.std.proofs.Common.{inl, inr, eqb-true, ◌==◌}
+use Rattle.tl_coherence.proofs
+use proofs.Imports.{not-true, same_Some, ⊤, Message, MessageA, Config, Cap, Grow, Report, Perm, prune_left, grow_left}
+use proofs.Imports.{same_perm, block_at, is_acquire, Op, Reply, copy_stored, whole_grow, cap_probed, IsInvariant, Kind}
+use proofs.Imports.{ProbeAck, Grant, Packet, set, ClientBlock, ProbeAnswered, NoRelease, NoAcquire, AcquireOpen}
+use proofs.Imports.{is_unprobed, grow_fits, is_whole, after_report, Service, Waits, GrantSent, Block, SourceFree, view}
+use proofs.Imports.{packet, on, report_taken, grant_taken, report_answers, is_granting, is_answered, AbstractState}
+use proofs.Imports.{asked, some_below, performs, is_unheld, granted_after, kind_taken, report_told}
+use proofs.queues.{Phases.and_right, Tokens.same_number, Facts.acquire_fits, Facts.answered_other, Facts.granting_asks}
+use proofs.protocol.{Blocks.outside-set, Blocks.busy-inside, Probed.probe_taken-kept, Answered.answer_taken-kept}
+use proofs.protocol.{Granted.room-trunk, GrantedAll.report_grants-kept, Ended.report_answers-kept}
+use proofs.protocol.{TakenAll.grant_taken-kept, Reported.report_taken-kept, Reported.release_taken-kept}
+use proofs.protocol.{Acknowledged.release_ack_taken-kept, Acknowledged.grant_ack_taken-kept, BothParts.wanting-is}
+use proofs.protocol.{BothParts.not-calm, BothParts.granting-own, Events.IsReady, Events.ready-access, Events.true-taken}
+use proofs.protocol.Asked.{access_asked-kept, acquire_asked-kept, release_asked-kept, block_stored-kept}
+use proofs.protocol.RequestsKept.{some-one, settled_all, leaves-bytes, gift_fits, gift_trunk, unheld_none}
+use proofs.protocol.RequestsKept.{access_answered-followed, access_served-followed, acquire_granted-followed}
+use proofs.protocol.RequestsKept.{acquire_served-followed}
+use proofs.protocol.FirstTokens.{first-answer, first-grant_ack, first-probe, first-release, first-release_ack}
+use proofs.protocol.FirstTokens.{first-report, first-shown}
 
 -- ---- Probes, ProbeAcks and Releases
 

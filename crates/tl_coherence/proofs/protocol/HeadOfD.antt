@@ -1,24 +1,16 @@
 -- What is due to a client: the message of the first token of channel D, and what it answers.
-use Rattle.tl_coherence.proofs.protocol.Imports.{Message, MessageA, Cap, Grow, IsInvariant, Own, Other}
-use Rattle.tl_coherence.proofs.protocol.Imports.{Granting, Acknowledging, GrantedOther, ReleasePhase, ReleaseAcked}
-use Rattle.tl_coherence.proofs.protocol.Imports.{AcquirePhase, NoAcquire, AcquireOpen, is_unacquired, is_unreleased}
-use Rattle.tl_coherence.proofs.protocol.Imports.{Service, Free, Waits, GrantSent, GrantTaken, State, Replied, Acquires}
-use Rattle.tl_coherence.proofs.protocol.Imports.{view, packet, is_wanting, is_granting, is_acked, AccessMessages}
-use Rattle.tl_coherence.proofs.protocol.Imports.{block_message, Answer, Grant, ReleaseAck, Packet}
-use Rattle.std.proofs.Common.{◌≡◌, ℕ, Bool, true, false, not, ◌&&◌, List, ◌∷◌, Some, refl, ◌∙◌, ap, lit≤}
-use Rattle.std.specs.Prelude.{◌==◌, if◌then◌else◌}
-use Rattle.std.proofs.lemmas.Bool.{eqb-true, and_from}
-use Rattle.tl_beat.specs.declared.opcode.OpD.{OpD}
-use Rattle.tl_burst.specs.declared.message.MessageD.{MessageD}
-use Rattle.tl_params.specs.statement.Param.{cap_code}
+use Rattle.std.proofs.Common.{◌≡◌, ℕ, Bool, true, false, not, ◌&&◌, List, ◌∷◌, Some, refl, ◌∙◌, ap, lit≤, eqb-true}
+use Rattle.std.proofs.Common.{◌==◌, if◌then◌else◌}
+use Rattle.tl_coherence.proofs
+use proofs.Imports.{and_from, OpD, Message, MessageA, MessageD, Cap, Grow, cap_code, grant_opcode, no_payload}
+use proofs.Imports.{is_access_answer, IsInvariant, Answer, Grant, ReleaseAck, Packet, Own, Other, Granting}
+use proofs.Imports.{Acknowledging, GrantedOther, ReleasePhase, ReleaseAcked, AcquirePhase, NoAcquire, AcquireOpen}
+use proofs.Imports.{is_unacquired, is_unreleased, grant_fits, Service, Free, Waits, GrantSent, GrantTaken, State}
+use proofs.Imports.{Replied, Acquires, view, packet, is_wanting, is_granting, is_acked, AccessMessages, block_message}
+use proofs.Imports.{IsAnswered}
 use Rattle.tl_rules.specs.statement.Conformance.{answers}
-use Rattle.tl_manager.specs.statement.Handing.{grant_opcode, no_payload}
-use Rattle.tl_manager.specs.statement.Service.{is_access_answer}
-use Rattle.tl_coherence.specs.{protocol.Phase.grant_fits, refinement.SimulationRelation.IsAnswered}
-use Rattle.tl_coherence.proofs.queues.Facts.{grant_is_fit, granting_asks}
-use Rattle.tl_coherence.proofs.queues.Tokens.{same_number}
-use Rattle.tl_coherence.proofs.protocol.BothParts.{is_of-is, acquires_of-is}
-use Rattle.tl_coherence.proofs.protocol.FirstTokens.{first-answer, first-shown}
+use proofs.queues.{Facts.grant_is_fit, Facts.granting_asks, Tokens.same_number}
+use proofs.protocol.{BothParts.is_of-is, BothParts.acquires_of-is, FirstTokens.first-answer, FirstTokens.first-shown}
 
 -- ---- an answer
 

@@ -1,16 +1,12 @@
 -- The first token of a channel always asks for something: what is ready to be taken is an event of the protocol.
-use Rattle.tl_coherence.proofs.protocol.Imports.{Config, Kind, Request, Acquire, ProbeAck}
-use Rattle.tl_coherence.proofs.protocol.Imports.{Grant, Packet, IsInvariant, Block, Service, Free}
-use Rattle.tl_coherence.proofs.protocol.Imports.{Waits, GrantSent, GrantTaken, on, packet, view, is_wanting, is_unserved}
-use Rattle.std.proofs.Common.{◌≡◌, ℕ, Bool, true, false, List, ◌∷◌, refl}
-use Rattle.std.{specs.Prelude.◌==◌, proofs.lemmas.Bool.not-true}
-use Rattle.tl_coherence.specs.refinement.AbstractStep.{AbstractState}
-use Rattle.tl_coherence.proofs.queues.{Phases.and_left, Tokens.same_number}
-use Rattle.tl_coherence.proofs.queues.Facts.{answered_other, own_wants, is_other}
-use Rattle.tl_coherence.proofs.protocol.BothParts.{granted-unseen, taken-unseen, wanting-is}
-use Rattle.tl_coherence.proofs.protocol.Events.{IsReady, is_idle, serves_nobody}
-use Rattle.tl_coherence.proofs.protocol.FirstTokens.{first-report, first-shown}
-use Rattle.tl_coherence.proofs.protocol.HeadOfD.{granting-service}
+use Rattle.std.proofs.Common.{◌≡◌, ℕ, Bool, true, false, List, ◌∷◌, refl, ◌==◌}
+use Rattle.tl_coherence.proofs
+use proofs.Imports.{not-true, Config, IsInvariant, Kind, Request, Acquire, ProbeAck, Grant, Packet, Block, Service}
+use proofs.Imports.{Free, Waits, GrantSent, GrantTaken, on, packet, view, is_wanting, is_unserved, AbstractState}
+use proofs.queues.{Phases.and_left, Tokens.same_number, Facts.answered_other, Facts.own_wants, Facts.is_other}
+use proofs.protocol.{BothParts.granted-unseen, BothParts.taken-unseen, BothParts.wanting-is, Events.IsReady}
+use proofs.protocol.{Events.is_idle, Events.serves_nobody, FirstTokens.first-report, FirstTokens.first-shown}
+use proofs.protocol.{HeadOfD.granting-service}
 
 pub never-idle : {w : ℕ} {caching : ℕ → Bool} (config : Config) (tracker c : ℕ) (k : Kind) (i : ℕ) (rest : List Packet)
     (h : AbstractState w) → IsInvariant caching h.state → on k (h.state.link c) ≡ packet k i ∷ rest

@@ -1,30 +1,17 @@
 -- Each request that is taken keeps the invariant of the protocol, and what that needs of the clients that are probed.
-use Rattle.tl_coherence.proofs.protocol.Imports.{MessageA, Cap, Grow, Perm, same_perm, cap_asked, IsInvariant}
-use Rattle.tl_coherence.proofs.protocol.Imports.{ClientBlock, AcquireOpen, same_cap, is_unprobed, cap_fits, is_above}
-use Rattle.tl_coherence.proofs.protocol.Imports.{is_granted_data, Free, Block, view, packet}
-use Rattle.tl_coherence.proofs.protocol.Imports.{Request, Acquire, Packet, Message, Config}
 use Rattle.std.proofs.Common.{◌≡◌, ℕ, zero, suc, ◌*◌, ◌<◌, ◌≤◌, Bool, true, false, not, ◌&&◌, ◌||◌, List, ◌∷◌, Option}
-use Rattle.std.proofs.Common.{Some, None, length, refl, sym, ◌∙◌, ap, ◌⊎◌, inl, inr, arith}
-use Rattle.std.specs.Prelude.{◌==◌, slice_index}
-use Rattle.std.proofs.lemmas.Bool.{cases_lt, ne_eqb, not-true, not-false}
-use Rattle.tl_beat.specs.declared.opcode.OpA.{OpA}
-use Rattle.tl_params.specs.declared.profile.Profile.{Profile}
-use Rattle.tl_rules.specs.statement.Effect.{Memory, bytes_from, effect}
-use Rattle.tl_rules.specs.statement.History.{block_at, is_acquire}
-use Rattle.tl_manager.{specs.statement.Holders.cap_probed, proofs.blocks.Written.bytes_are}
-use Rattle.tl_coherence.specs.refinement.AbstractStep.{AbstractState, some_below, bytes_at, performs, probes_some}
-use Rattle.tl_coherence.specs.refinement.AbstractStep.{is_unheld, gift}
-use Rattle.tl_coherence.specs.{protocol.Invariant.AreOutside, protocol.Phase.grow_fits}
-use Rattle.tl_coherence.specs.protocol.Protocol.{is_probed, acquire_served, acquire_granted, access_answered}
-use Rattle.tl_coherence.proofs.{queues.Facts.acquire_fits}
-use Rattle.tl_coherence.proofs.{protocol.Answered.access_answered-kept}
-use Rattle.tl_coherence.proofs.{protocol.Granted.grows_to_trunk}
-use Rattle.tl_coherence.proofs.{queues.Codes.low_cap, queues.Perms.none-above}
-use Rattle.tl_coherence.proofs.{queues.Perms.nothing-above}
-use Rattle.tl_coherence.proofs.protocol.Served.{access_served-kept, acquire_served-kept}
-use Rattle.tl_coherence.proofs.protocol.AtOnce.{low-unprobed, none-unprobed, acquire_granted-kept}
-use Rattle.tl_coherence.proofs.protocol.FirstTokens.{first-request}
-use Rattle.tl_coherence.specs.protocol.Protocol.{access_served}
+use Rattle.std.proofs.Common.{Some, None, length, refl, sym, ◌∙◌, ap, ◌⊎◌, inl, inr, arith, ne_eqb, ◌==◌, slice_index}
+use Rattle.tl_coherence.proofs
+use proofs.Imports.{cases_lt, not-true, not-false, OpA, Message, MessageA, Config, Cap, Grow, Perm, Profile, same_perm}
+use proofs.Imports.{Memory, bytes_from, effect, block_at, is_acquire, bytes_are, cap_probed, cap_asked, IsInvariant}
+use proofs.Imports.{AreOutside, Request, Acquire, Packet, ClientBlock, AcquireOpen, same_cap, is_unprobed, cap_fits}
+use proofs.Imports.{grow_fits, is_above, is_granted_data, Free, Block, view, packet, is_probed, acquire_served}
+use proofs.Imports.{acquire_granted, access_answered, access_served, AbstractState, some_below, bytes_at, performs}
+use proofs.Imports.{probes_some, is_unheld, gift}
+use proofs.queues.{Facts.acquire_fits, Codes.low_cap, Perms.none-above, Perms.nothing-above}
+use proofs.protocol.{Answered.access_answered-kept, Granted.grows_to_trunk, Served.access_served-kept}
+use proofs.protocol.{Served.acquire_served-kept, AtOnce.low-unprobed, AtOnce.none-unprobed, AtOnce.acquire_granted-kept}
+use proofs.protocol.{FirstTokens.first-request}
 
 -- ---- clients that pass a test
 
@@ -113,13 +100,9 @@ gift_fits Profile.One true Grow.BtoT held unheld e = refl
 gift_fits Profile.Two true Grow.BtoT held unheld e = refl
 gift_fits Profile.One false Grow.NtoB held unheld e = refl
 gift_fits Profile.Two false Grow.NtoB held true e = refl
-gift_fits Profile.Two false Grow.NtoB held false e = refl
-gift_fits Profile.One false Grow.NtoT held unheld e = refl
 gift_fits Profile.Two false Grow.NtoT held true e = refl
-gift_fits Profile.Two false Grow.NtoT held false e = refl
-gift_fits Profile.One false Grow.BtoT held unheld e = refl
 gift_fits Profile.Two false Grow.BtoT held true e = refl
-gift_fits Profile.Two false Grow.BtoT held false e = refl
+gift_fits p whole g held unheld e = refl
 
 -- Trunk is granted to who asked for it, or where nobody has a copy
 pub gift_trunk : (p : Profile) (whole : Bool) (g : Grow) (held : Perm) (unheld : Bool)

@@ -1,16 +1,13 @@
 -- The bytes of each block are 64, who isn't a client has nothing open, and each access that is under way has its
 -- source: after every event.
-use Rattle.tl_coherence.proofs.simulation.Imports.{Message, Config, block_at, Op, EndConfig}
-use Rattle.tl_coherence.proofs.simulation.Imports.{AbstractState, asked, kind_taken, IsInvariant}
-use Rattle.tl_coherence.proofs.simulation.Imports.{SourceState, SourceFree, Asked, InService}
-use Rattle.tl_coherence.proofs.simulation.Imports.{Replied, Acquires, terms_at, Kind}
-use Rattle.tl_coherence.proofs.simulation.Imports.{Packet, set_at}
-use Rattle.std.proofs.Common.{◌≡◌, ℕ, Bool, List, Some, None, refl, sym, ◌∙◌, inl, inr}
-use Rattle.std.{proofs.lemmas.Bool.cases_eq, proofs.lemmas.Bool.ne_eqb}
-use Rattle.tl_client.specs.declared.reply.Reply.{Reply}
-use Rattle.tl_coherence.proofs.{queues.Tokens.same_number, queues.Tokens.set-each, rank.RankParts.serving-use}
-use Rattle.tl_coherence.proofs.protocol.Events.{true-taken}
-use Rattle.std.specs.Prelude.{⊤}
+use Rattle.std.proofs.Common.{◌≡◌, ℕ, Bool, List, Some, None, refl, sym, ◌∙◌, inl, inr, ne_eqb}
+use Rattle.tl_coherence.proofs
+use proofs.Imports.{cases_eq, ⊤, Message, Config, block_at, Op, Reply, EndConfig, IsInvariant, Kind, Packet, set_at}
+use proofs.Imports.{SourceState, SourceFree, Asked, InService, Replied, Acquires, AbstractState, asked, kind_taken}
+use proofs.Imports.{terms_at}
+use proofs.queues.Tokens.{same_number, set-each}
+use proofs.rank.RankParts.{serving-use}
+use proofs.protocol.Events.{true-taken}
 
 -- ---- one place of two numbers
 

@@ -1,28 +1,15 @@
 -- The bytes of each block are 64, and each access that is under way has its source, after every event.
-use Rattle.tl_coherence.proofs.simulation.Imports.{Message, Config, Cap, Report, block_at, Op, AbstractState}
-use Rattle.tl_coherence.proofs.simulation.Imports.{asked, kind_taken, IsTypedOp, IsInvariant}
-use Rattle.tl_coherence.proofs.simulation.Imports.{Block, State, Kind}
-use Rattle.tl_coherence.proofs.simulation.Imports.{Packet, set}
-use Rattle.std.proofs.Common.{◌≡◌, ℕ, ◌*◌, Bool, true, false, ◌&&◌, List, refl, sym, ◌∙◌, ap, ◌⊎◌, inl}
-use Rattle.std.proofs.Common.{inr}
-use Rattle.std.specs.Prelude.{◌==◌, if◌then◌else◌, length, ⊤}
-use Rattle.std.proofs.lemmas.Bool.{cases_eq}
-use Rattle.tl_params.{specs.declared.param.Grow.Grow}
-use Rattle.tl_params.{specs.declared.perm.Perm.Perm}
-use Rattle.tl_rules.specs.statement.Conformance.{same_perm}
-use Rattle.tl_client.{specs.declared.reply.Reply.Reply, specs.statement.Ask.copy_stored, specs.statement.Ask.is_word}
-use Rattle.tl_client.proofs.caching_client.Stores.{word_room, length-stored}
-use Rattle.tl_manager.proofs.messages.Filled.{length-bytes}
-use Rattle.tl_coherence.specs.protocol.Phase.{ClientBlock, AcquirePhase, AcquireOpen, is_whole}
-use Rattle.tl_coherence.specs.protocol.PhaseSteps.{after_acquire, after_release, after_served, after_grant_sent}
-use Rattle.tl_coherence.specs.protocol.PhaseSteps.{after_probe, after_report, after_release_taken, after_release_ack}
-use Rattle.tl_coherence.specs.protocol.PhaseSteps.{after_grant}
-use Rattle.tl_coherence.specs.protocol.Protocol.{acquiring_block, stored_block, served_block}
-use Rattle.tl_coherence.specs.protocol.Protocol.{granted_block, granted_pair, taken_block, granted_truth}
-use Rattle.tl_coherence.specs.refinement.SimulationRelation.{AreSized}
-use Rattle.tl_coherence.proofs.queues.Tokens.{set-same, set-other, set-each, set-part}
-use Rattle.tl_coherence.proofs.queues.Perms.{trunk-some}
-use Rattle.tl_coherence.proofs.protocol.Events.{true-taken}
+use Rattle.std.proofs.Common.{◌≡◌, ℕ, ◌*◌, Bool, true, false, ◌&&◌, List, refl, sym, ◌∙◌, ap, ◌⊎◌, inl, inr, length}
+use Rattle.std.proofs.Common.{◌==◌, if◌then◌else◌}
+use Rattle.tl_coherence.proofs
+use proofs.Imports.{cases_eq, ⊤, Message, Config, Cap, Grow, Report, Perm, same_perm, block_at, word_room}
+use proofs.Imports.{length-stored, Op, Reply, copy_stored, is_word, length-bytes, IsInvariant, Kind, Packet, set}
+use proofs.Imports.{ClientBlock, AcquirePhase, AcquireOpen, is_whole, after_acquire, after_release, after_served}
+use proofs.Imports.{after_grant_sent, after_probe, after_report, after_release_taken, after_release_ack, after_grant}
+use proofs.Imports.{Block, State, acquiring_block, stored_block, served_block, granted_block, granted_pair, taken_block}
+use proofs.Imports.{granted_truth, AbstractState, asked, kind_taken, AreSized, IsTypedOp}
+use proofs.queues.{Tokens.set-same, Tokens.set-other, Tokens.set-each, Tokens.set-part, Perms.trunk-some}
+use proofs.protocol.Events.{true-taken}
 
 -- ---- bytes
 

@@ -1,18 +1,13 @@
 -- Accesses and their sources fit each other after each event.
-use Rattle.tl_coherence.proofs.simulation.Imports.{Message, Config, block_at, Op, AbstractState}
-use Rattle.tl_coherence.proofs.simulation.Imports.{asked, kind_taken, IsInvariant}
-use Rattle.tl_coherence.proofs.simulation.Imports.{SourceState, SourceFree, Asked, InService, Replied, Acquires}
-use Rattle.tl_coherence.proofs.simulation.Imports.{packet, on, Kind, Request}
-use Rattle.tl_coherence.proofs.simulation.Imports.{Packet, set, set_at}
-use Rattle.std.proofs.Common.{◌≡◌, ℕ, Bool, List, ◌∷◌, ◌∙◌, ap, inl, inr}
-use Rattle.std.{specs.Prelude.⊤, proofs.lemmas.Bool.cases_eq, proofs.lemmas.Bool.ne_eqb}
-use Rattle.tl_client.{specs.declared.reply.Reply.Reply, specs.statement.Send.access}
-use Rattle.tl_coherence.specs.refinement.SimulationRelation.{IsRequest, IsSourced}
-use Rattle.tl_coherence.proofs.{simulation.Sized.each-set_at}
-use Rattle.tl_coherence.proofs.{rank.RankParts.serving-use}
-use Rattle.tl_coherence.proofs.queues.Tokens.{same_number, set-same}
-use Rattle.tl_coherence.proofs.protocol.Events.{true-taken}
-use Rattle.tl_coherence.proofs.protocol.FirstTokens.{first-request}
+use Rattle.std.proofs.Common.{◌≡◌, ℕ, Bool, List, ◌∷◌, ◌∙◌, ap, inl, inr, ne_eqb}
+use Rattle.tl_coherence.proofs
+use proofs.Imports.{cases_eq, ⊤, Message, Config, block_at, Op, Reply, access, IsInvariant, Kind, Request, Packet, set}
+use proofs.Imports.{set_at, SourceState, SourceFree, Asked, InService, Replied, Acquires, packet, on, AbstractState}
+use proofs.Imports.{asked, kind_taken, IsRequest, IsSourced}
+use proofs.simulation.Sized.{each-set_at}
+use proofs.rank.RankParts.{serving-use}
+use proofs.queues.Tokens.{same_number, set-same}
+use proofs.protocol.{Events.true-taken, FirstTokens.first-request}
 
 -- ---- accesses and their sources
 
